@@ -1,0 +1,4 @@
+pub mod Values
+pub mod Matching
+pub mod Testing
+pub mod Codes

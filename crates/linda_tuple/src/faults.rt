@@ -1,0 +1,14 @@
+//! Why a value is refused.
+
+use thiserror::Error;
+
+/// Why a tuple or a template was refused. The count of fields is judged first, then the texts from the left.
+#[derive(Clone, Copy, Debug, PartialEq, Eq, Error)]
+pub enum ValueFault {
+    /// More than 16 fields follow the tag.
+    #[error("more than 16 fields")]
+    TooManyFields,
+    /// A text has more than 255 bytes.
+    #[error("a text of more than 255 bytes")]
+    TextTooLong,
+}

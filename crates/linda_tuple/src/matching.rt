@@ -1,0 +1,52 @@
+//! Which tuples a template matches, and what it binds there.
+
+ghost use Rattle.std.specs.Prelude.{◌≡◌, ◌↔◌, IfOk, IsTrue};
+ghost use Rattle.std.specs.List.{AllZip};
+ghost use Rattle.linda_tuple.specs.Matching.{Fits, Matches, bindings_of};
+ghost use Rattle.linda_tuple.specs.Testing.{is_match};
+
+use crate::atoms::Atom;
+use crate::patterns::Pattern;
+use crate::templates::Template;
+use crate::tuples::Tuple;
+use std::alloc::{AllocError, Global};
+
+/// Whether the template matches the tuple: the tags are equal, there are as many fields as patterns,
+/// and each pattern fits the field at its place. Takes no memory.
+pub fn matches(template: &Template, tuple: &Tuple) -> bool
+    ensures exact { IsTrue result ↔ Matches template.now tuple.now }
+    ensures test { result ≡ is_match template.now tuple.now }
+{
+    *template.tag() == *tuple.tag() && all_fit(template.fields(), tuple.fields())
+}
+
+fn all_fit(patterns: &[Pattern], atoms: &[Atom]) -> bool
+    ensures { IsTrue result ↔ AllZip Fits patterns.now atoms.now }
+{
+    match patterns {
+        [] => atoms.is_empty(),
+        [pattern, patterns @ ..] => match atoms {
+            [] => false,
+            [atom, atoms @ ..] => pattern.fits(atom) && all_fit(patterns, atoms),
+        },
+    }
+}
+
+/// The values at the formals of a template, in order, at a tuple that it matches. Wildcards and
+/// values bind nothing.
+///
+/// # Errors
+///
+/// `AllocError` where memory runs out.
+pub fn bindings(alloc: Global, template: &Template, tuple: &Tuple) -> Result<Vec<Atom>, AllocError>
+    requires { Matches template.now tuple.now }
+    ensures { IfOk result (λ v. v.items ≡ bindings_of template.now tuple.now) }
+{
+    let mut bound = Vec::new(alloc);
+    for (pattern, atom) in template.fields().iter().zip(tuple.fields()) {
+        if pattern.is_formal() {
+            bound.push(atom.try_clone(alloc)?)?;
+        }
+    }
+    Ok(bound)
+}

@@ -1,0 +1,101 @@
+//! Templates, which keep their limits.
+
+ghost use Rattle.std.specs.Prelude.{◌≡◌, ◌↔◌, ◌<◌, All, length, IfOk, IsOk, IsErrOf, IsTrue};
+ghost use Rattle.linda_tuple.specs.Matching.{IsSoundPattern, IsWithinShape};
+
+use crate::atoms::Atom;
+use crate::faults::ValueFault;
+use crate::patterns::Pattern;
+use crate::tuples::MAX_FIELDS;
+use std::alloc::{AllocError, Global};
+use std::marker::Model;
+
+/// A tag and the patterns that follow it: at most 16, with texts of at most 255 bytes.
+#[derive(Debug, Drop)]
+pub struct Template {
+    tag: Atom,
+    fields: Vec<Pattern>,
+}
+
+impl Model for Template {
+    ghost use Rattle.linda_tuple.specs.Matching.{Shape, IsWithinShape};
+
+    ghost Value = { Shape };
+
+    ghost view = { λ t. record { tag = t.tag; fields = t.fields.items } };
+
+    ghost invariant = { λ t. IsWithinShape (record { tag = t.tag; fields = t.fields.items }) };
+}
+
+impl Template {
+    /// The template of a tag and patterns, which it keeps: no memory is taken. Where it is refused,
+    /// they are dropped.
+    ///
+    /// # Errors
+    ///
+    /// `TooManyFields` where more than 16 patterns follow the tag, else `TextTooLong` where the tag
+    /// or a value among the patterns is a text of more than 255 bytes.
+    pub fn new(tag: Atom, fields: Vec<Pattern>) -> Result<Template, ValueFault>
+        ensures made { IfOk result (λ t. t ≡ record { tag = tag; fields = fields.items }) }
+        ensures within { IsOk result ↔ IsWithinShape (record { tag = tag; fields = fields.items }) }
+        ensures many { IsErrOf result ValueFault.TooManyFields ↔ (16 < length fields.items) }
+    {
+        if fields.len() > MAX_FIELDS {
+            return Err(ValueFault::TooManyFields);
+        }
+        if !tag.is_sound() || !all_sound(&fields) {
+            return Err(ValueFault::TextTooLong);
+        }
+        Ok(Template { tag, fields })
+    }
+
+    /// The template of a tag and patterns that are within the limits, which it keeps: no memory is taken. It is for
+    /// callers that have tested the limits already; others call `new`.
+    pub fn from_parts(tag: Atom, fields: Vec<Pattern>) -> Template
+        requires { IsWithinShape (record { tag = tag; fields = fields.items }) }
+        ensures { result ≡ record { tag = tag; fields = fields.items } }
+    {
+        Template { tag, fields }
+    }
+
+    /// The value that a tuple's tag must equal.
+    pub fn tag(&self) -> &Atom
+        ensures value { result.now ≡ self.now.tag }
+        ensures within { IsWithinShape self.now }
+    {
+        &self.tag
+    }
+
+    /// The patterns after the tag, in order; at most 16.
+    pub fn fields(&self) -> &[Pattern]
+        ensures value { result.now ≡ self.now.fields }
+        ensures within { IsWithinShape self.now }
+    {
+        &self.fields
+    }
+
+    /// A copy with memory of its own.
+    pub fn try_clone(&self, alloc: Global) -> Result<Template, AllocError>
+        ensures { IfOk result (λ t. t ≡ self.now) }
+    {
+        let tag = self.tag.try_clone(alloc)?;
+        let fields = copies(alloc, &self.fields)?;
+        Ok(Template { tag, fields })
+    }
+}
+
+fn all_sound(patterns: &[Pattern]) -> bool
+    ensures { IsTrue result ↔ All IsSoundPattern patterns.now }
+{
+    patterns.iter().all(|p| p.is_sound())
+}
+
+fn copies(alloc: Global, patterns: &[Pattern]) -> Result<Vec<Pattern>, AllocError>
+    ensures { IfOk result (λ v. v.items ≡ patterns.now) }
+{
+    let mut copies = Vec::with_capacity(alloc, patterns.len())?;
+    for pattern in patterns {
+        copies.push(pattern.try_clone(alloc)?)?;
+    }
+    Ok(copies)
+}

@@ -1,0 +1,102 @@
+//! Tuples, which keep their limits.
+
+ghost use Rattle.std.specs.Prelude.{◌≡◌, ◌↔◌, ◌<◌, All, length, IfOk, IsOk, IsErrOf, IsTrue};
+ghost use Rattle.linda_tuple.specs.Values.{IsSound, IsWithin};
+
+use crate::atoms::Atom;
+use crate::faults::ValueFault;
+use std::alloc::{AllocError, Global};
+use std::marker::Model;
+
+/// The most fields, or patterns, that may follow a tag.
+pub const MAX_FIELDS: usize = 16;
+
+/// A tag and the fields that follow it: at most 16, with texts of at most 255 bytes.
+#[derive(Debug, Drop)]
+pub struct Tuple {
+    tag: Atom,
+    fields: Vec<Atom>,
+}
+
+impl Model for Tuple {
+    ghost use Rattle.linda_tuple.specs.Values.{Row, IsWithin};
+
+    ghost Value = { Row };
+
+    ghost view = { λ t. record { tag = t.tag; fields = t.fields.items } };
+
+    ghost invariant = { λ t. IsWithin (record { tag = t.tag; fields = t.fields.items }) };
+}
+
+impl Tuple {
+    /// The tuple of a tag and fields, which it keeps: no memory is taken. Where it is refused, they
+    /// are dropped.
+    ///
+    /// # Errors
+    ///
+    /// `TooManyFields` where more than 16 fields follow the tag, else `TextTooLong` where the tag or
+    /// a field is a text of more than 255 bytes.
+    pub fn new(tag: Atom, fields: Vec<Atom>) -> Result<Tuple, ValueFault>
+        ensures made { IfOk result (λ t. t ≡ record { tag = tag; fields = fields.items }) }
+        ensures within { IsOk result ↔ IsWithin (record { tag = tag; fields = fields.items }) }
+        ensures many { IsErrOf result ValueFault.TooManyFields ↔ (16 < length fields.items) }
+    {
+        if fields.len() > MAX_FIELDS {
+            return Err(ValueFault::TooManyFields);
+        }
+        if !tag.is_sound() || !all_sound(&fields) {
+            return Err(ValueFault::TextTooLong);
+        }
+        Ok(Tuple { tag, fields })
+    }
+
+    /// The tuple of a tag and fields that are within the limits, which it keeps: no memory is taken. It is for
+    /// callers that have tested the limits already; others call `new`.
+    pub fn from_parts(tag: Atom, fields: Vec<Atom>) -> Tuple
+        requires { IsWithin (record { tag = tag; fields = fields.items }) }
+        ensures { result ≡ record { tag = tag; fields = fields.items } }
+    {
+        Tuple { tag, fields }
+    }
+
+    /// The value that comes first.
+    pub fn tag(&self) -> &Atom
+        ensures value { result.now ≡ self.now.tag }
+        ensures within { IsWithin self.now }
+    {
+        &self.tag
+    }
+
+    /// The values after the tag, in order; at most 16.
+    pub fn fields(&self) -> &[Atom]
+        ensures value { result.now ≡ self.now.fields }
+        ensures within { IsWithin self.now }
+    {
+        &self.fields
+    }
+
+    /// A copy with memory of its own.
+    pub fn try_clone(&self, alloc: Global) -> Result<Tuple, AllocError>
+        ensures { IfOk result (λ t. t ≡ self.now) }
+    {
+        let tag = self.tag.try_clone(alloc)?;
+        let fields = copies(alloc, &self.fields)?;
+        Ok(Tuple { tag, fields })
+    }
+}
+
+fn all_sound(atoms: &[Atom]) -> bool
+    ensures { IsTrue result ↔ All IsSound atoms.now }
+{
+    atoms.iter().all(|a| a.is_sound())
+}
+
+fn copies(alloc: Global, atoms: &[Atom]) -> Result<Vec<Atom>, AllocError>
+    ensures { IfOk result (λ v. v.items ≡ atoms.now) }
+{
+    let mut copies = Vec::with_capacity(alloc, atoms.len())?;
+    for atom in atoms {
+        copies.push(atom.try_clone(alloc)?)?;
+    }
+    Ok(copies)
+}
