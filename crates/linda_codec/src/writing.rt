@@ -1,0 +1,157 @@
+//! Writing atoms, tuples and templates: each has one spelling.
+
+ghost use Rattle.std.specs.Prelude.{◌≡◌, ◌++◌, All, length, take, OnOk, OnErr};
+ghost use Rattle.std.specs.List.{flat_map};
+ghost use Rattle.linda_tuple.specs.Values.{IsSound};
+ghost use Rattle.linda_tuple.specs.Matching.{IsSoundPattern};
+ghost use Rattle.linda_codec.specs.Spelling.{spell_atom, spell_tuple, spell_pattern, spell_template};
+
+use crate::kinds::{BOOL_FORMAL, INT_FORMAL, INTEGER, TEXT, TEXT_FORMAL, TRUTH, WILDCARD};
+use linda_tuple::{Atom, Pattern, Template, Tuple};
+use std::alloc::AllocError;
+
+/// Appends the spelling of the atom.
+///
+/// # Errors
+///
+/// Where memory runs out, `out` is left as it was.
+pub fn put_atom(out: &mut Vec<u8>, atom: &Atom) -> Result<(), AllocError>
+    requires { IsSound atom.now }
+    ensures ok { OnOk result (out.new.items ≡ out.old.items ++ spell_atom atom.now) }
+    ensures err { OnErr result (out.new.items ≡ out.old.items) }
+{
+    let len = out.len();
+    let pushed = push_atom(out, atom);
+    kept_or_cut(out, len, pushed)
+}
+
+/// Appends the spelling of the tuple.
+///
+/// # Errors
+///
+/// Where memory runs out, `out` is left as it was.
+pub fn put_tuple(out: &mut Vec<u8>, tuple: &Tuple) -> Result<(), AllocError>
+    ensures ok { OnOk result (out.new.items ≡ out.old.items ++ spell_tuple tuple.now) }
+    ensures err { OnErr result (out.new.items ≡ out.old.items) }
+{
+    let len = out.len();
+    let pushed = push_tuple(out, tuple);
+    kept_or_cut(out, len, pushed)
+}
+
+/// Appends the spelling of the template.
+///
+/// # Errors
+///
+/// Where memory runs out, `out` is left as it was.
+pub fn put_template(out: &mut Vec<u8>, template: &Template) -> Result<(), AllocError>
+    ensures ok { OnOk result (out.new.items ≡ out.old.items ++ spell_template template.now) }
+    ensures err { OnErr result (out.new.items ≡ out.old.items) }
+{
+    let len = out.len();
+    let pushed = push_template(out, template);
+    kept_or_cut(out, len, pushed)
+}
+
+// Cuts the bytes back to that length where what was pushed is not whole.
+fn kept_or_cut(
+    out: &mut Vec<u8>,
+    len: usize,
+    pushed: Result<(), AllocError>,
+) -> Result<(), AllocError>
+    ensures same { result ≡ pushed }
+    ensures ok { OnOk pushed (out.new.items ≡ out.old.items) }
+    ensures err { OnErr pushed (out.new.items ≡ take len out.old.items) }
+{
+    if pushed.is_err() {
+        out.truncate(len);
+    }
+    pushed
+}
+
+// Appends the spelling of the tuple; where memory runs out, a part of it may stand behind the old bytes.
+fn push_tuple(out: &mut Vec<u8>, tuple: &Tuple) -> Result<(), AllocError>
+    ensures ok { OnOk result (out.new.items ≡ out.old.items ++ spell_tuple tuple.now) }
+    ensures front { take (length out.old.items) out.new.items ≡ out.old.items }
+{
+    let fields = tuple.fields();
+    push_atom(out, tuple.tag())?;
+    out.push(fields.len() as u8)?;
+    push_atoms(out, fields)
+}
+
+// Appends the spelling of the template; likewise.
+fn push_template(out: &mut Vec<u8>, template: &Template) -> Result<(), AllocError>
+    ensures ok { OnOk result (out.new.items ≡ out.old.items ++ spell_template template.now) }
+    ensures front { take (length out.old.items) out.new.items ≡ out.old.items }
+{
+    let patterns = template.fields();
+    push_atom(out, template.tag())?;
+    out.push(patterns.len() as u8)?;
+    push_patterns(out, patterns)
+}
+
+// Appends the spellings of the atoms, one after the other; likewise.
+fn push_atoms(out: &mut Vec<u8>, atoms: &[Atom]) -> Result<(), AllocError>
+    requires { All IsSound atoms.now }
+    ensures ok { OnOk result (out.new.items ≡ out.old.items ++ flat_map spell_atom atoms.now) }
+    ensures front { take (length out.old.items) out.new.items ≡ out.old.items }
+{
+    for atom in atoms {
+        push_atom(out, atom)?;
+    }
+    Ok(())
+}
+
+// Appends the spellings of the patterns, one after the other; likewise.
+fn push_patterns(out: &mut Vec<u8>, patterns: &[Pattern]) -> Result<(), AllocError>
+    requires { All IsSoundPattern patterns.now }
+    ensures ok { OnOk result (out.new.items ≡ out.old.items ++ flat_map spell_pattern patterns.now) }
+    ensures front { take (length out.old.items) out.new.items ≡ out.old.items }
+{
+    for pattern in patterns {
+        push_pattern(out, pattern)?;
+    }
+    Ok(())
+}
+
+// Appends the spelling of the pattern; likewise.
+fn push_pattern(out: &mut Vec<u8>, pattern: &Pattern) -> Result<(), AllocError>
+    requires { IsSoundPattern pattern.now }
+    ensures ok { OnOk result (out.new.items ≡ out.old.items ++ spell_pattern pattern.now) }
+    ensures front { take (length out.old.items) out.new.items ≡ out.old.items }
+{
+    let kind = match pattern {
+        Pattern::Value(value) => return push_atom(out, value),
+        Pattern::IntFormal => INT_FORMAL,
+        Pattern::TextFormal => TEXT_FORMAL,
+        Pattern::BoolFormal => BOOL_FORMAL,
+        Pattern::Any => WILDCARD,
+    };
+    out.push(kind)?;
+    Ok(())
+}
+
+// Appends the spelling of the atom; likewise.
+fn push_atom(out: &mut Vec<u8>, atom: &Atom) -> Result<(), AllocError>
+    requires { IsSound atom.now }
+    ensures ok { OnOk result (out.new.items ≡ out.old.items ++ spell_atom atom.now) }
+    ensures front { take (length out.old.items) out.new.items ≡ out.old.items }
+{
+    match atom {
+        Atom::Int(number) => {
+            out.push(INTEGER)?;
+            out.extend_from_slice(&number.to_be_bytes())
+        }
+        Atom::Text(text) => {
+            out.push(TEXT)?;
+            out.push(text.len() as u8)?;
+            out.extend_from_slice(text.as_str().as_bytes())
+        }
+        Atom::Bool(truth) => {
+            out.push(TRUTH)?;
+            out.push(u8::from(*truth))?;
+            Ok(())
+        }
+    }
+}
