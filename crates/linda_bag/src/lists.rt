@@ -1,0 +1,80 @@
+//! The plain bag: an ordered list of ids with their tuples.
+
+ghost use Rattle.std.specs.Prelude.{◌≡◌, ◌↔◌, false, IsTrue};
+ghost use Rattle.std.specs.Ordering.{nat_cmp};
+ghost use Rattle.std.specs.BTreeSet.{contains};
+ghost use Rattle.std.specs.FinMap as map;
+ghost use Rattle.linda_tuple.specs.Matching.{Matches};
+
+use crate::bags::Bag;
+use linda_tuple::{Template, Tuple, matches};
+use std::alloc::{AllocError, Global};
+use std::collections::{BTreeMap, BTreeSet};
+
+/// A bag that keeps its tuples in the order of their ids.
+#[derive(Drop)]
+pub struct ListBag {
+    tuples: BTreeMap<u64, Tuple>,
+}
+
+impl ListBag {
+    /// A bag of no tuples, which takes no memory until one is inserted.
+    pub fn new(alloc: Global) -> ListBag
+        ensures { ⟦<ListBag as Bag>⟧.contents result ≡ map.empty }
+    {
+        ListBag {
+            tuples: BTreeMap::new(alloc),
+        }
+    }
+}
+
+impl Bag for ListBag {
+    ghost contents = { λ b. map.from_entries {R = nat_cmp} b.tuples.entries };
+
+    fn empty(alloc: Global) -> ListBag {
+        ListBag::new(alloc)
+    }
+
+    #[tactic(auto, using(crate::proofs::Maps::one_set, crate::proofs::Maps::get_is_lookup))]
+    fn insert(&mut self, id: u64, tuple: Tuple) -> Result<(), AllocError> {
+        self.tuples.insert(id, tuple)?;
+        Ok(())
+    }
+
+    #[tactic(auto, using(crate::proofs::Maps::one_gone, crate::proofs::Maps::get_is_lookup))]
+    fn remove(&mut self, id: u64) -> Option<Tuple> {
+        self.tuples.remove(&id)
+    }
+
+    #[tactic(auto, using(crate::proofs::Maps::get_is_lookup))]
+    fn get(&self, id: u64) -> Option<&Tuple> {
+        self.tuples.get(&id)
+    }
+
+    fn least_match(&self, template: &Template, passed: &BTreeSet<u64>) -> Option<u64> {
+        for (id, tuple) in &self.tuples {
+            if is_free_match(template, passed, *id, tuple) {
+                return Some(*id);
+            }
+        }
+        None
+    }
+
+    #[tactic(auto, using(crate::proofs::Maps::len_entries))]
+    fn len(&self) -> usize {
+        self.tuples.len()
+    }
+
+    #[tactic(auto, using(crate::proofs::Maps::get_is_lookup))]
+    fn next_from(&self, id: u64) -> Option<u64> {
+        let (next, _) = self.tuples.range(id..).next()?;
+        Some(*next)
+    }
+}
+
+// Whether the template matches the tuple of this id and the id is not passed over.
+fn is_free_match(template: &Template, passed: &BTreeSet<u64>, id: u64, tuple: &Tuple) -> bool
+    ensures { IsTrue result ↔ (Matches template.now tuple.now × (contains nat_cmp passed.now id ≡ false)) }
+{
+    matches(template, tuple) && !passed.contains(&id)
+}

@@ -1,0 +1,120 @@
+//! Each method of a bag once, at the plain bag: what is expected was worked by hand.
+
+use crate::bags::Bag;
+use crate::lists::ListBag;
+use linda_tuple::{Atom, Pattern, Template, Text, Tuple};
+use std::alloc::Global;
+use std::collections::BTreeSet;
+use std::process::Abort;
+use std::test::Fail;
+
+/// The tuple `("job", number)`.
+fn job(alloc: Global, number: i64) -> Result<Tuple, Fail> {
+    let tag = Atom::Text(Text::new(String::from_str(alloc, "job")?));
+    let mut fields = Vec::new(alloc);
+    fields.push(Atom::Int(number))?;
+    Ok(Tuple::new(tag, fields)?)
+}
+
+/// The template `("job", pattern)`.
+fn jobs(alloc: Global, pattern: Pattern) -> Result<Template, Fail> {
+    let tag = Atom::Text(Text::new(String::from_str(alloc, "job")?));
+    let mut fields = Vec::new(alloc);
+    fields.push(pattern)?;
+    Ok(Template::new(tag, fields)?)
+}
+
+/// The number of a tuple `("job", number)`; nothing of any other.
+fn number_of(tuple: &Tuple) -> Option<i64> {
+    let Atom::Text(tag) = tuple.tag() else {
+        return None;
+    };
+    match tuple.fields() {
+        [Atom::Int(number)] if tag.as_str() == "job" => Some(*number),
+        _ => None,
+    }
+}
+
+fn number_at<B: Bag>(bag: &B, id: u64) -> Option<i64> {
+    match bag.get(id) {
+        Some(tuple) => number_of(tuple),
+        None => None,
+    }
+}
+
+fn number_taken<B: Bag>(bag: &mut B, id: u64) -> Option<i64> {
+    match bag.remove(id) {
+        Some(tuple) => number_of(&tuple),
+        None => None,
+    }
+}
+
+fn exercise<B: Bag>(rt: &impl Abort, alloc: Global) -> Result<(), Fail> {
+    let mut bag = B::empty(alloc);
+    assert!(rt; bag.get(1).is_none());
+    assert!(rt; bag.remove(1).is_none());
+
+    bag.insert(7, job(alloc, 70)?)?;
+    bag.insert(1, job(alloc, 10)?)?;
+    bag.insert(u64::MAX, job(alloc, -1)?)?;
+    bag.insert(7, job(alloc, 71)?)?;
+    assert_eq!(rt; number_at(&bag, 7), Some(71));
+    assert_eq!(rt; number_at(&bag, u64::MAX), Some(-1));
+    assert!(rt; bag.get(0).is_none());
+
+    assert_eq!(rt; number_taken(&mut bag, 1), Some(10));
+    assert!(rt; bag.remove(1).is_none());
+    assert!(rt; bag.get(1).is_none());
+    assert_eq!(rt; number_at(&bag, 7), Some(71));
+    Ok(())
+}
+
+fn look_up<B: Bag>(rt: &impl Abort, alloc: Global) -> Result<(), Fail> {
+    let any_job = jobs(alloc, Pattern::IntFormal)?;
+    let job_30 = jobs(alloc, Pattern::Value(Atom::Int(30)))?;
+    let mut passed = BTreeSet::new(alloc);
+    let mut bag = B::empty(alloc);
+    assert_eq!(rt; bag.len(), 0);
+    assert_eq!(rt; bag.next_from(0), None);
+    assert_eq!(rt; bag.least_match(&any_job, &passed), None);
+
+    bag.insert(9, job(alloc, 90)?)?;
+    bag.insert(3, job(alloc, 30)?)?;
+    bag.insert(6, job(alloc, 30)?)?;
+    bag.insert(1, Tuple::new(Atom::Int(30), Vec::new(alloc))?)?;
+    assert_eq!(rt; bag.len(), 4);
+    assert_eq!(rt; bag.least_match(&any_job, &passed), Some(3));
+    passed.insert(3)?;
+    assert_eq!(rt; bag.least_match(&any_job, &passed), Some(6));
+    assert_eq!(rt; bag.least_match(&job_30, &passed), Some(6));
+    passed.insert(6)?;
+    assert_eq!(rt; bag.least_match(&any_job, &passed), Some(9));
+    assert_eq!(rt; bag.least_match(&job_30, &passed), None);
+
+    assert_eq!(rt; bag.next_from(0), Some(1));
+    assert_eq!(rt; bag.next_from(1), Some(1));
+    assert_eq!(rt; bag.next_from(4), Some(6));
+    assert_eq!(rt; bag.next_from(10), None);
+    assert_eq!(rt; bag.next_from(u64::MAX), None);
+
+    assert!(rt; bag.remove(6).is_some());
+    assert_eq!(rt; bag.len(), 3);
+    assert_eq!(rt; bag.next_from(4), Some(9));
+    Ok(())
+}
+
+#[test]
+fn plain_bag_look_ups(rt: HostRuntime) -> Result<(), Fail> {
+    look_up::<ListBag>(&rt, rt.alloc())
+}
+
+#[test]
+fn plain_bag(rt: HostRuntime) -> Result<(), Fail> {
+    exercise::<ListBag>(&rt, rt.alloc())
+}
+
+#[test]
+fn new_is_empty(rt: HostRuntime) {
+    let bag = ListBag::new(rt.alloc());
+    assert!(rt; bag.get(1).is_none());
+}
