@@ -1,0 +1,55 @@
+-- Waits: the requests that no tuple has answered yet, in order of arrival, and what is picked from them.
+use Rattle.std.specs.Prelude.{ℕ, ◌==◌, Bool, ◌&&◌, not, List, Option, filter, find}
+use Rattle.std.specs.List.{list_any, IsDistinct}
+use Rattle.std.specs.Map.{keys_of}
+use Rattle.linda_tuple.specs.Values.{Row}
+use Rattle.linda_tuple.specs.Testing.{is_match}
+use Rattle.linda_hold.specs.declared.asks.Asked.{Asked}
+
+-- A wait: the client and the ticket of a request, and what it asked.
+abbrev pub Wait : Type 0
+Wait = (ℕ × ℕ) × Asked
+
+-- whether two pairs of client and ticket are the same
+abbrev pub same_pair : ℕ × ℕ → ℕ × ℕ → Bool
+same_pair p q = (p.0 == q.0) && (p.1 == q.1)
+
+-- whether the client and the ticket wait
+abbrev pub is_waiting : ℕ × ℕ → List Wait → Bool
+is_waiting pair waits = list_any (λ w. same_pair pair w.0) waits
+
+-- whether the wait is a read that the tuple answers
+abbrev pub is_reader : Row → Wait → Bool
+is_reader row w = not w.1.remove && is_match w.1.template row
+
+-- whether the wait is an input that the tuple answers
+abbrev pub is_taker : Row → Wait → Bool
+is_taker row w = w.1.remove && is_match w.1.template row
+
+-- the reads that the tuple answers, in order of arrival
+abbrev pub readers : Row → List Wait → List Wait
+readers row waits = filter (is_reader row) waits
+
+-- the other waits, in order of arrival
+abbrev pub without_readers : Row → List Wait → List Wait
+without_readers row waits = filter (λ w. not (is_reader row w)) waits
+
+-- the first input to arrive that the tuple answers
+abbrev pub longest : Row → List Wait → Option Wait
+longest row waits = find (is_taker row) waits
+
+-- the waits of a client
+abbrev pub waits_of : ℕ → List Wait → List Wait
+waits_of client waits = filter (λ w. client == w.0.0) waits
+
+-- the waits of the other clients
+abbrev pub without_client : ℕ → List Wait → List Wait
+without_client client waits = filter (λ w. not (client == w.0.0)) waits
+
+-- the waits but that of one client and ticket
+abbrev pub without : ℕ × ℕ → List Wait → List Wait
+without pair waits = filter (λ w. not (same_pair pair w.0)) waits
+
+-- No client waits twice with one ticket.
+abbrev pub AreDistinct : List Wait → Type 0
+AreDistinct waits = IsDistinct same_pair (keys_of waits)

@@ -1,0 +1,30 @@
+//! What a request asks of the space.
+
+ghost use Rattle.std.specs.Prelude.{◌≡◌, ◌&&◌, not};
+ghost use Rattle.linda_tuple.specs.Testing.{is_match};
+
+use linda_tuple::{Template, Tuple, matches};
+
+/// What a request asks for: a tuple that the template matches, to take it away or to copy it.
+#[derive(Debug, Drop)]
+pub struct Asked {
+    /// Whether the request is an input, which takes the tuple; else it is a read, which copies it.
+    pub remove: bool,
+    pub template: Template,
+}
+
+impl Asked {
+    /// Whether this is a read that the tuple answers. Takes no memory.
+    pub(crate) fn is_read_of(&self, tuple: &Tuple) -> bool
+        ensures { result ≡ (not self.now.remove && is_match self.now.template tuple.now) }
+    {
+        !self.remove && matches(&self.template, tuple)
+    }
+
+    /// Whether this is an input that the tuple answers. Takes no memory.
+    pub(crate) fn is_input_of(&self, tuple: &Tuple) -> bool
+        ensures { result ≡ (self.now.remove && is_match self.now.template tuple.now) }
+    {
+        self.remove && matches(&self.template, tuple)
+    }
+}
