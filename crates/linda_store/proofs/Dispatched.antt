@@ -1,0 +1,110 @@
+-- What a dispatch does, said by the pairs that the waits are asked for: the readers' and that of the longest waiting input.
+use Rattle.std.proofs.Common.{◌≡◌, ℕ, true, false, List, [], ◌∷◌, ◌++◌, map, Option, Some, None, option_map, option_to_list, refl, sym, ap, ◌∙◌, subst, append-nil, append_assoc, cond}
+use Rattle.std.proofs.lemmas.Option.{none-some, same_Some}
+use Rattle.std.specs.FinMap.{get, insert, remove}
+use Rattle.linda_tuple.specs.Values.{Row}
+use Rattle.linda_bag.proofs.Maps.{same_map_by_key, get_same, get_other, get_removed_other}
+use Rattle.linda_hold.specs.Waits.{Wait, is_waiting, is_taker, readers, without_readers, longest, without}
+use Rattle.linda_hold.specs.Holds.{HeldFor, IsHeldAt}
+use Rattle.linda_wire.specs.declared.replies.Reply.{Reply}
+use Rattle.linda_wire.specs.declared.replies.Reply.TheVariants as replies
+use Rattle.linda_store.specs.Soft.{Soft, Bagged, AreApart}
+use Rattle.linda_store.specs.Dispatch.{Told, untold, read_to, offer_to, held_for, dispatch, freed, freed_row, freed_if, cancelling, all_freed}
+use Rattle.linda_store.proofs.Picked.{found_has}
+
+-- A tuple as the answer to the read of a pair, and as the offer to its input.
+abbrev pub read_for : ℕ → Row → ℕ × ℕ → ℕ × Reply
+read_for id row pair = (pair.0, replies.Read pair.1 id row)
+
+abbrev pub offer_for : ℕ → Row → ℕ × ℕ → ℕ × Reply
+offer_for id row pair = (pair.0, replies.Offer pair.1 id row)
+
+reads_by_pairs : (id : ℕ) (row : Row) (waits : List Wait) → map (read_for id row) (map (λ w. w.0) waits) ≡ map (read_to id row) waits
+reads_by_pairs id row [] = refl
+reads_by_pairs id row (w ∷ waits) = ap (λ sends. read_to id row w ∷ sends) (reads_by_pairs id row waits)
+
+-- A hold over an old one is a hold where there was none.
+pub held_over : (holds : HeldFor) (id : ℕ) (pair : ℕ × ℕ) → insert (remove holds id) id pair ≡ insert holds id pair
+held_over holds id pair =
+    same_map_by_key _ _ id
+    (get_same (remove holds id) id pair ∙ sym (get_same holds id pair))
+    (λ q other. get_other (remove holds id) id pair q other ∙ get_removed_other holds id q other ∙ sym (get_other holds id pair q other))
+
+-- Whether an input takes the tuple, and with what pair.
+pub record Offered (row : Row) (waits : List Wait) (pair : ℕ × ℕ) : Type 0 where
+  pub first : Wait
+  pub found : longest row waits ≡ Some first
+  pub pair_is : first.0 ≡ pair
+
+pub no_longest : (row : Row) (waits : List Wait) → option_map (λ (w : Wait). w.0) (longest row waits) ≡ None → longest row waits ≡ None
+no_longest row waits none = by (longest row waits) none
+  where
+    by : (o : Option Wait) → option_map (λ (w : Wait). w.0) o ≡ None → o ≡ None
+    by None e = refl
+    by (Some w) e = absurd (none-some w.0 (sym e))
+
+pub one_longest : (row : Row) (waits : List Wait) (pair : ℕ × ℕ) → option_map (λ (w : Wait). w.0) (longest row waits) ≡ Some pair → Offered row waits pair
+one_longest row waits pair some = by (longest row waits) refl some
+  where
+    by : (o : Option Wait) → longest row waits ≡ o → option_map (λ (w : Wait). w.0) o ≡ Some pair → Offered row waits pair
+    by None e is = absurd (none-some pair is)
+    by (Some w) e is = record { first = w; found = e; pair_is = same_Some w.0 pair is }
+
+module _ (id : ℕ) (row : Row) (soft : Soft) where
+  -- No input takes the tuple: the reads are told, and wait no longer.
+  pub told_reads : option_map (λ (w : Wait). w.0) (longest row soft.waits) ≡ None
+      → dispatch id row soft ≡ record { sends = map (read_for id row) (map (λ w. w.0) (readers row soft.waits)); soft = record { holds = soft.holds; waits = without_readers row soft.waits } }
+  told_reads none =
+      ap (λ (o : Option Wait). let t : Told = record { sends = map (read_to id row) (readers row soft.waits) ++ map (offer_to id row) (option_to_list o); soft = held_for id o (record { holds = soft.holds; waits = without_readers row soft.waits }) } in t) (no_longest row soft.waits none)
+      ∙ ap (λ sends. let t : Told = record { sends = sends; soft = record { holds = soft.holds; waits = without_readers row soft.waits } } in t) (append-nil (map (read_to id row) (readers row soft.waits)) ∙ sym (reads_by_pairs id row (readers row soft.waits)))
+
+  -- An input takes it: the reads are told, it is offered, and what was told waits no longer.
+  pub told_offer : (pair : ℕ × ℕ) → option_map (λ (w : Wait). w.0) (longest row soft.waits) ≡ Some pair
+      → dispatch id row soft ≡ record { sends = map (read_for id row) (map (λ w. w.0) (readers row soft.waits)) ++ offer_for id row pair ∷ []; soft = record { holds = insert soft.holds id pair; waits = without pair (without_readers row soft.waits) } }
+  told_offer pair some =
+      let offered = one_longest row soft.waits pair some in
+      ap (λ (o : Option Wait). let t : Told = record { sends = map (read_to id row) (readers row soft.waits) ++ map (offer_to id row) (option_to_list o); soft = held_for id o (record { holds = soft.holds; waits = without_readers row soft.waits }) } in t) offered.found
+      ∙ ap (λ (p : ℕ × ℕ). let t : Told = record { sends = map (read_to id row) (readers row soft.waits) ++ offer_for id row p ∷ []; soft = record { holds = insert soft.holds id p; waits = without p (without_readers row soft.waits) } } in t) offered.pair_is
+      ∙ ap (λ sends. let t : Told = record { sends = sends ++ offer_for id row pair ∷ []; soft = record { holds = insert soft.holds id pair; waits = without pair (without_readers row soft.waits) } } in t) (sym (reads_by_pairs id row (readers row soft.waits)))
+
+  -- Who takes it holds nothing, where tickets are apart.
+  pub longest_holds_nothing : (pair : ℕ × ℕ) → AreApart soft → option_map (λ (w : Wait). w.0) (longest row soft.waits) ≡ Some pair → IsHeldAt soft.holds pair None
+  longest_holds_nothing pair apart some =
+      let offered = one_longest row soft.waits pair some in
+      subst (λ p. IsHeldAt soft.holds p None) offered.pair_is
+      (found_has (is_taker row) (λ w. (k : ℕ) → get soft.holds k ≡ Some w.0 → ⊥) soft.waits offered.first offered.found apart)
+
+-- A hold is released: nobody takes the tuple, or it is held for another from now on.
+module _ (bag : Bagged) (id : ℕ) (row : Row) (stored : get bag id ≡ Some row) (soft : Soft) where
+  freed_is : freed bag id soft ≡ dispatch id row (record { holds = remove soft.holds id; waits = soft.waits })
+  freed_is = ap (λ there. freed_row id there soft) stored
+
+  pub freed_to_nobody : option_map (λ (w : Wait). w.0) (longest row soft.waits) ≡ None
+      → freed bag id soft ≡ record { sends = map (read_for id row) (map (λ w. w.0) (readers row soft.waits)); soft = record { holds = remove soft.holds id; waits = without_readers row soft.waits } }
+  freed_to_nobody none = freed_is ∙ told_reads id row (record { holds = remove soft.holds id; waits = soft.waits }) none
+
+  pub freed_to_next : (pair : ℕ × ℕ) → option_map (λ (w : Wait). w.0) (longest row soft.waits) ≡ Some pair
+      → freed bag id soft ≡ record { sends = map (read_for id row) (map (λ w. w.0) (readers row soft.waits)) ++ offer_for id row pair ∷ []; soft = record { holds = insert soft.holds id pair; waits = without pair (without_readers row soft.waits) } }
+  freed_to_next pair some =
+      freed_is
+      ∙ told_offer id row (record { holds = remove soft.holds id; waits = soft.waits }) pair some
+      ∙ ap (λ holds. let t : Told = record { sends = map (read_for id row) (map (λ w. w.0) (readers row soft.waits)) ++ offer_for id row pair ∷ []; soft = record { holds = holds; waits = without pair (without_readers row soft.waits) } } in t) (held_over soft.holds id pair)
+
+-- An id that the bag lacks is released with nothing told.
+pub freed_absent : (bag : Bagged) (id : ℕ) (soft : Soft) → get bag id ≡ None → freed bag id soft ≡ untold soft
+freed_absent bag id soft none = ap (λ there. freed_row id there soft) none
+
+-- A request that waits is given up; one that doesn't has its hold released, if it has one.
+pub cancelling_wait : (bag : Bagged) (pair : ℕ × ℕ) (held : Option ℕ) (soft : Soft) → is_waiting pair soft.waits ≡ true → cancelling bag pair held soft ≡ untold (record { holds = soft.holds; waits = without pair soft.waits })
+cancelling_wait bag pair held soft waits = ap (λ b. cond b (untold (record { holds = soft.holds; waits = without pair soft.waits })) (freed_if bag held soft)) waits
+
+pub cancelling_hold : (bag : Bagged) (pair : ℕ × ℕ) (held : Option ℕ) (soft : Soft) → is_waiting pair soft.waits ≡ false → cancelling bag pair held soft ≡ freed_if bag held soft
+cancelling_hold bag pair held soft waits = ap (λ b. cond b (untold (record { holds = soft.holds; waits = without pair soft.waits })) (freed_if bag held soft)) waits
+
+-- What was told before, and what releasing one and then the others tells.
+pub freed_then_sends : (bag : Bagged) (id : ℕ) (ids : List ℕ) (soft : Soft) (before : List (ℕ × Reply))
+    → before ++ (all_freed bag (id ∷ ids) soft).sends ≡ (before ++ (freed bag id soft).sends) ++ (all_freed bag ids (freed bag id soft).soft).sends
+freed_then_sends bag id ids soft before = sym (append_assoc before (freed bag id soft).sends (all_freed bag ids (freed bag id soft).soft).sends)
+
+pub freed_then_soft : (bag : Bagged) (id : ℕ) (ids : List ℕ) (soft : Soft) → (all_freed bag (id ∷ ids) soft).soft ≡ (all_freed bag ids (freed bag id soft).soft).soft
+freed_then_soft bag id ids soft = refl

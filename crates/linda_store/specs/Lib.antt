@@ -1,0 +1,16 @@
+pub mod State
+pub mod Deeds
+pub mod After
+pub mod Proper
+pub mod Refusals
+pub mod Answer
+pub mod Codes
+pub mod Stores
+pub mod Nodes
+pub mod Talk
+pub mod Sending
+pub mod Conversation
+pub mod Conversing
+pub mod Soft
+pub mod Dispatch
+pub mod Looking

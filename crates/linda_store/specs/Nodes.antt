@@ -1,0 +1,64 @@
+-- What contracts see of a node, and what it may answer.
+use Rattle.std.specs.Prelude.{◌≡◌, ℕ, Bool, true, false, List, [], Result, Ok, Err, IsSome}
+use Rattle.std.specs.Global.{Vec}
+use Rattle.linda_wire.specs.declared.messages.Message.{Message}
+use Rattle.linda_wire.specs.declared.replies.Reply.{Reply}
+use Rattle.linda_store.specs.declared.nodes.NodeFault.{NodeFault}
+use Rattle.linda_store.specs.declared.nodes.NodeFault.TheVariants as faults
+use Rattle.linda_store.specs.State.{State}
+use Rattle.linda_store.specs.Answer.{answer, IsStep}
+
+-- A node: its state, whether it is down, and whether it is of a kind that may be full.
+pub record Shown : Type 0 where
+  pub state : State
+  pub is_down : Bool
+  pub may_fill : Bool
+
+-- What a node answers: what it sends and to whom; or that it has no room, or that it is down.
+pub data NodeAnswer : Type 0 where
+  Sent : (sends : List (ℕ × Reply)) → NodeAnswer
+  IsFull : NodeAnswer
+  IsDown : NodeAnswer
+
+-- what a call of a node answered
+abbrev pub node_answer : Result (Vec (ℕ × Reply)) NodeFault → NodeAnswer
+node_answer (Ok sends) = Sent sends.items
+node_answer (Err faults.Full) = IsFull
+node_answer (Err faults.Down) = IsDown
+
+-- A node that was up did this step, and is up.
+pub record IsDone (old : Shown) (c : ℕ) (m : Message) (sends : List (ℕ × Reply)) (new : Shown) : Type 0 where
+  pub was_up : old.is_down ≡ false
+  pub is_up : new.is_down ≡ false
+  pub kind : new.may_fill ≡ old.may_fill
+  pub step : IsStep old.state c m (answer old.state c m).deed sends new.state
+
+-- A node that was up had no room for the deed of this message, and did nothing.
+pub record HadNoRoom (old : Shown) (c : ℕ) (m : Message) (new : Shown) : Type 0 where
+  pub was_up : old.is_down ≡ false
+  pub kind : old.may_fill ≡ true
+  pub deed : IsSome (answer old.state c m).deed
+  pub unchanged : new ≡ old
+
+-- The node is down now, and sent nothing.
+pub record WentDown (old new : Shown) : Type 0 where
+  pub is_down : new.is_down ≡ true
+  pub kind : new.may_fill ≡ old.may_fill
+
+-- What a node may answer to a message of a client, and where that leaves it.
+abbrev pub Handles : Shown → ℕ → Message → NodeAnswer → Shown → Type 0
+Handles old c m (Sent sends) new = IsDone old c m sends new
+Handles old c m IsFull new = HadNoRoom old c m new
+Handles old c m IsDown new = WentDown old new
+
+-- A node that was up has closed a client: nothing waits and nothing is held, so nothing changes.
+pub record IsClosed (old : Shown) (sends : List (ℕ × Reply)) (new : Shown) : Type 0 where
+  pub was_up : old.is_down ≡ false
+  pub nothing_sent : sends ≡ []
+  pub unchanged : new ≡ old
+
+-- What a node may answer to the closing of a client, and where that leaves it; it is never full.
+abbrev pub Closes : Shown → ℕ → NodeAnswer → Shown → Type 0
+Closes old c (Sent sends) new = IsClosed old sends new
+Closes old c IsFull new = ⊥
+Closes old c IsDown new = WentDown old new

@@ -1,0 +1,20 @@
+-- What has gone out of a buffer that was sent.
+use Rattle.std.specs.Prelude.{ℕ, List, [], take, Option, Result, Ok, Err}
+use Rattle.std.specs.Io.KnownBytes.{Appends}
+use Rattle.linda_store.specs.declared.ends.ConverseFault.{ConverseFault}
+use Rattle.linda_store.specs.declared.ends.ConverseFault.TheVariants as faults
+
+-- All of the bytes where all went well, and else some first ones.
+abbrev pub HasSent : {A E : Type 0} → Option (List ℕ) → Option (List ℕ) → List ℕ → Result A E → Type 0
+HasSent old new bytes (Ok done) = Appends old new bytes
+HasSent old new bytes (Err fault) = (k : ℕ) × Appends old new (take k bytes)
+
+-- The same of bytes that are made before they are sent: where memory runs out nothing has gone out, and no other fault
+-- comes.
+abbrev pub HasWritten : {A : Type 0} → Option (List ℕ) → Option (List ℕ) → List ℕ → Result A ConverseFault → Type 0
+HasWritten old new bytes (Ok done) = Appends old new bytes
+HasWritten old new bytes (Err faults.Write) = (k : ℕ) × Appends old new (take k bytes)
+HasWritten old new bytes (Err faults.Memory) = Appends old new []
+HasWritten old new bytes (Err faults.Read) = ⊥
+HasWritten old new bytes (Err faults.Turns) = ⊥
+HasWritten old new bytes (Err faults.Down) = ⊥

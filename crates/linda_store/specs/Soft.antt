@@ -1,0 +1,53 @@
+-- What a server keeps in memory alone: which tuple is held for which request, and the requests that wait.
+use Rattle.std.specs.Prelude.{◌≡◌, ℕ, ◌+◌, ◌≤◌, true, List, [], length, Some, None, All, IsSome}
+use Rattle.std.specs.Ordering.{nat_cmp}
+use Rattle.std.specs.FinMap as map
+use Rattle.linda_tuple.specs.Values.{Row}
+use Rattle.linda_tuple.specs.Testing.{is_match}
+use Rattle.linda_hold.specs.Waits.{Wait, AreDistinct, waits_of}
+use Rattle.linda_hold.specs.Holds.{HeldFor, IsOneEach, held_in}
+
+-- tuples by id
+abbrev pub Bagged : Type 0
+Bagged = map.FinMap nat_cmp Row
+
+-- The tuples that are held, by id, each for a client and a ticket; and the requests that wait, in order of arrival.
+pub record Soft : Type 0 where
+  pub holds : HeldFor
+  pub waits : List Wait
+
+-- nothing is held and nobody waits
+abbrev pub no_asks : Soft
+no_asks = record { holds = map.empty; waits = [] }
+
+-- The most open asks of a client.
+abbrev pub ask_limit : ℕ
+ask_limit = 64
+
+-- how many asks of a client are open: those that wait and those for which a tuple is held
+abbrev pub open_asks : ℕ → Soft → ℕ
+open_asks client soft = length (waits_of client soft.waits) + length (held_in client (map.entries soft.holds))
+
+-- Nobody waits and holds with the same ticket.
+abbrev pub AreApart : Soft → Type 0
+AreApart soft = All (λ (w : Wait). (id : ℕ) → map.get soft.holds id ≡ Some w.0 → ⊥) soft.waits
+
+-- The ranges that holds and waits keep beside a bag: no client and ticket stand twice in them, no client has more open
+-- asks than the limit, and what is held is in the bag.
+pub record IsSoft (bag : Bagged) (soft : Soft) : Type 0 where
+  pub distinct : AreDistinct soft.waits
+  pub one_each : IsOneEach soft.holds
+  pub apart : AreApart soft
+  pub few : (client : ℕ) → open_asks client soft ≤ ask_limit
+  pub there : (id : ℕ) → IsSome (map.get soft.holds id) → IsSome (map.get bag id)
+
+-- A tuple of the bag that a waiting request may have: a read any that matches, an input one that is not held.
+pub record MayHave (bag : Bagged) (holds : HeldFor) (w : Wait) (id : ℕ) : Type 0 where
+  pub row : Row
+  pub stored : map.get bag id ≡ Some row
+  pub matches : is_match w.1.template row ≡ true
+  pub free : w.1.remove ≡ true → map.get holds id ≡ None
+
+-- Nobody waits in vain: there is nothing that a waiting request may have.
+abbrev pub IsAtRest : Bagged → Soft → Type 0
+IsAtRest bag soft = All (λ (w : Wait). (id : ℕ) → MayHave bag soft.holds w id → ⊥) soft.waits
