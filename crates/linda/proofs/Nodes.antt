@@ -1,0 +1,7 @@
+-- What contracts see of the volatile server.
+use Rattle.std.proofs.Common.{false}
+use Rattle.linda_store.specs.declared.volatiles.Volatile.{Volatile}
+use Rattle.linda_store.specs.Nodes.{Shown}
+
+abbrev pub shown : Volatile → Shown
+shown node = record { state = node.store.state; is_down = node.store.is_spent; may_fill = false }

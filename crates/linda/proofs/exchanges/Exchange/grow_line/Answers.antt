@@ -1,0 +1,20 @@
+use Rattle.std.proofs.Common.{ℕ, List, Option, Some, None, refl}
+use Rattle.std.specs.Option.{option_copied}
+use Rattle.linda.specs.Lines.{Extends}
+use Rattle.linda.specs.Exchanges.{Grows}
+use Rattle.linda.specs.declared.exchanges.Exchange.{Exchange}
+use Rattle.linda.proofs.Steps.{grown, memory_ends}
+use Rattle.linda.proofs.exchanges.Exchange.grow_line.Goals as goal
+use Rattle.linda_store.specs.Nodes.{Shown}
+use Rattle.std.specs.Global.{Vec}
+
+grows : (text : List ℕ) (old : Exchange) (node : Shown) (longer : Vec ℕ) (rest : Option (List ℕ)) → Extends old.line.items text longer.items rest
+    → Grows text old node (record old { line = longer }) node rest
+grows text old node longer None h = λ read sent u. grown read sent text old node longer h.0 h.1 u
+grows text old node longer (Some rest) h = (h.0, (h.1.1.0, λ read sent u. grown read sent h.0 old node longer h.1.0 h.1.1.1 u))
+
+pub returns-in-Ok-clause-ok : goal.returns-in-Ok-clause-ok
+returns-in-Ok-clause-ok c = grows c.args.text.now c.args.self.now _ c.extend_line.new.line (option_copied c.in-Ok.rest) c.in-Ok.ensures.ok
+
+pub returns-in-Err-clause-err : goal.returns-in-Err-clause-err
+returns-in-Err-clause-err c = λ read sent u. memory_ends read sent c.args.self.now _ _ refl u

@@ -1,0 +1,81 @@
+//! The programs of the tuple space, behind one command line.
+//!
+//! `linda pipe` serves one connection to a new server in memory. Each line of standard input is a piece of
+//! the client's stream in hexadecimal digits; each reply is such a line on standard output.
+//!
+//! The exit status is 0 at the end; 2 for a fault of the command line, with the parser's text on standard
+//! error; 3 with one line there, `io` or `memory`, where standard input or output fails or memory runs out;
+//! 4 with one line there for a fault of a line of the input.
+#![tactic(auto)]
+
+mod command;
+mod decoding;
+mod exchanges;
+mod faults;
+mod lines;
+mod piping;
+mod spelling;
+#[cfg(test)]
+mod tests;
+
+use crate::command::{Task, read_task};
+use crate::faults::REFUSED;
+use crate::piping::pipe;
+use std::fmt::Display;
+use std::io::ErrorKind;
+use std::process::ExitCode;
+use std::{env, io};
+
+// The exit status for a fault of the command line.
+const USAGE: u8 = 2;
+
+fn main(rt: HostRuntime) -> ExitCode {
+    let words = match words(&rt) {
+        Ok(words) => words,
+        Err(error) => {
+            if error.kind() == ErrorKind::OutOfMemory {
+                return end(&rt, "memory", REFUSED);
+            }
+            return end(&rt, "error: an argument is not UTF-8", USAGE);
+        }
+    };
+    match read_task(rt.alloc(), &words) {
+        Ok(Task::Pipe) => run_pipe(&rt),
+        Err(error) => show(&rt, &error),
+    }
+}
+
+// The words of the command line.
+fn words(rt: &HostRuntime) -> io::Result<Vec<String>> {
+    let words = env::args(rt)?.collect(rt.alloc())?;
+    Ok(words)
+}
+
+// Serves standard input and output.
+fn run_pipe(rt: &HostRuntime) -> ExitCode {
+    match pipe(rt.alloc(), &mut rt.stdin(), &mut rt.stdout()) {
+        Ok(()) => ExitCode::SUCCESS,
+        Err(fault) => end(rt, fault, fault.status()),
+    }
+}
+
+// Shows the text of the parser of the command line.
+fn show(rt: &HostRuntime, error: &clap::Error) -> ExitCode {
+    if error.kind() == clap::error::ErrorKind::OutOfMemory {
+        return end(rt, "memory", REFUSED);
+    }
+    let printed = error.print(rt);
+    if error.use_stderr() {
+        return ExitCode::from(USAGE);
+    }
+    if printed.is_err() {
+        return end(rt, "io", REFUSED);
+    }
+    ExitCode::SUCCESS
+}
+
+// Ends with a line on standard error.
+fn end<D: Display + Drop>(rt: &HostRuntime, line: D, status: u8) -> ExitCode {
+    let _ = rt.eprintln(line);
+    ExitCode::from(status)
+}
