@@ -1,0 +1,7 @@
+pub mod Trees
+pub mod Paths
+pub mod Limits
+pub mod Bases
+pub mod Asks
+pub mod Ways
+pub mod Codes
