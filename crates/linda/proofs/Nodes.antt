@@ -4,4 +4,4 @@ use Rattle.linda_store.specs.declared.volatiles.Volatile.{Volatile}
 use Rattle.linda_store.specs.Nodes.{Shown}
 
 abbrev pub shown : Volatile → Shown
-shown node = record { state = node.store.state; is_down = node.store.is_spent; may_fill = false }
+shown node = record { state = node.store.state; soft = node.store.soft; is_down = node.store.is_spent; may_fill = false }

@@ -10,6 +10,7 @@ use Rattle.linda_wire.specs.Frames.{reply_frame}
 use Rattle.linda_store.specs.declared.stages.Stage.{Stage}
 use Rattle.linda_store.specs.declared.stages.Stage.TheVariants as stages
 use Rattle.linda_store.specs.State.{empty_state}
+use Rattle.linda_store.specs.Soft.{no_asks}
 use Rattle.linda_store.specs.Nodes.{Shown}
 use Rattle.linda_store.specs.Talk.{Point, beginning}
 use Rattle.linda_store.specs.Conversation.{IsConversation}
@@ -22,7 +23,7 @@ reply_line reply = ended (encode_lower (reply_frame reply))
 
 -- a volatile server that was never used
 abbrev pub unused : Shown
-unused = record { state = empty_state; is_down = false; may_fill = false }
+unused = record { state = empty_state; soft = no_asks; is_down = false; may_fill = false }
 
 -- The lines say pieces of a stream, and these replies are all that is said to it.
 pub record IsAnswered (lines : List (List ℕ)) (said : List Reply) (stage : Stage) : Type 0 where

@@ -88,6 +88,23 @@ fn answers_a_client(rt: HostRuntime) -> Result<(), Fail> {
     check(&rt, rt.alloc(), STREAM.as_bytes(), Ok(()), REPLIES)
 }
 
+// The client asks for ("a", ?i), accepts what it is offered, and says so again; a ticket that is not open is given up.
+#[test]
+fn asks_for_a_tuple_and_takes_it(rt: HostRuntime) -> Result<(), Fail> {
+    let text = b"0000000701010000000701\n\
+        0000001602000000000000000102016101010000000000000003\n\
+        00000009050000000000000009\n\
+        0000000f030000000000000001010201610104\n\
+        0000001904000000000000000200000000000000010000000000000001\n\
+        0000001904000000000000000200000000000000010000000000000001\n";
+    let replies = "00000009110000000000000000\n\
+        000000111200000000000000010000000000000001\n\
+        0000001e130000000000000001000000000000000102016101010000000000000003\n\
+        0000001e150000000000000002000000000000000102016101010000000000000003\n\
+        0000001e150000000000000002000000000000000102016101010000000000000003\n";
+    check(&rt, rt.alloc(), text, Ok(()), replies)
+}
+
 #[test]
 fn takes_a_line_without_its_end(rt: HostRuntime) -> Result<(), Fail> {
     check(&rt, rt.alloc(), b"", Ok(()), "")?;

@@ -1,24 +1,20 @@
 -- Finite maps whose keys are numbers: what a look-up gives after a change, which maps are equal, how
 -- many entries there are, and that a `BTreeMap` changes as the map of its entries does. The values
 -- are of any type, so that one fact serves tuples, kept replies and whatever else has a number.
-use Rattle.std.proofs.Common.{◌≡◌, ◌≢◌, ℕ, ◌+◌, ◌-◌, ◌≤◌, arith, IfSome, Bool, true, false, cond, ◌&&◌, ◌==◌, T, List, [], ◌∷◌, Option, Some, None, IsSome, is_some, length, refl, sym, ap, subst, ◌∙◌, nat_cmp, is_lt, Less, btree_map_len, BTreeMap, eq-eqb, ne_eqb, true≢false}
+use Rattle.std.proofs.Common.{◌≡◌, ◌≢◌, ℕ, ◌+◌, Bool, true, false, cond, ◌&&◌, ◌==◌, T, List, [], ◌∷◌, Option, Some, None, IsSome, is_some, length, refl, sym, ap, subst, ◌∙◌, nat_cmp, is_lt, Less, btree_map_len, BTreeMap, eq-eqb, ne_eqb, true≢false}
 use Rattle.std.specs.Ordering.{eq_by_cmp}
 use Rattle.std.specs.Cmp.{nat_cmp_total, eq_by_cmp_equiv, unsigned_ties, unsigned_Decides}
 use Rattle.std.specs.Map.{lookup, keys_of}
 use Rattle.std.specs.List.{AllByRecursion}
 use Rattle.std.specs.List.Sorted.{IsStrictlySortedBy}
 use Rattle.std.specs.BTreeMap as tree
-use Rattle.std.specs.FinMap.{FinMap, empty, get, insert, remove, len, entries, find, from_entries, from_sorted, is_sorted, nat_cmp-IsAntisymmetric, get-empty, get-insert, get-remove, get-from_entries, get-from_sorted, entries-from_sorted, len-entries, len-insert, len-remove}
+use Rattle.std.specs.FinMap.{FinMap, empty, get, insert, remove, len, entries, find, from_entries, from_sorted, is_sorted, nat_cmp-IsAntisymmetric, get-empty, get-insert, get-remove, get-from_entries, get-from_sorted, entries-from_sorted, len-entries, len-insert}
 use Rattle.std.specs.FinMap.Entries.{below_all}
 use Rattle.std.specs.FinMap as map
 
 both_hold : (a b : Bool) → T a → T b → T (a && b)
 both_hold true b p q = q
 both_hold false b p q = p
-
-alike : {A : Type 0} (b : Bool) (x : A) → cond b x x ≡ x
-alike true x = refl
-alike false x = refl
 
 module _ {X : Type 0} where
   -- What a look-up gives after a change, by a test of the keys.
@@ -59,10 +55,6 @@ module _ {X : Type 0} where
             | false ↦ λ e. apart q (λ is. true≢false (sym ((unsigned_Decides q k).1 is) ∙ e))
           ] refl
 
-  -- A map with nothing at any key is the empty one.
-  pub empty_from_none : (m : FinMap nat_cmp X) → ((q : ℕ) → get m q ≡ None) → m ≡ empty
-  empty_from_none m none = same_map m empty (λ q. none q ∙ sym (get_empty q))
-
   -- An insertion under a new key is undone by its removal.
   pub undone : (m : FinMap nat_cmp X) (k : ℕ) (v : X) → get m k ≡ None → remove (insert m k v) k ≡ m
   undone m k v none =
@@ -70,79 +62,12 @@ module _ {X : Type 0} where
       (get_removed_same (insert m k v) k ∙ sym none)
       (λ q apart. get_removed_other (insert m k v) k q apart ∙ get_other m k v q apart)
 
-  -- A removal is undone when what was there is inserted again.
-  pub put_back : (m : FinMap nat_cmp X) (k : ℕ) (v : X) → get m k ≡ Some v → insert (remove m k) k v ≡ m
-  put_back m k v was =
-      same_map_by_key _ _ k
-      (get_same (remove m k) k v ∙ sym was)
-      (λ q apart. get_other (remove m k) k v q apart ∙ get_removed_other m k q apart)
-
-  -- The later of two insertions under one key stays.
-  pub replaced : (m : FinMap nat_cmp X) (k : ℕ) (v w : X) → insert (insert m k v) k w ≡ insert m k w
-  replaced m k v w =
-      same_map_by_key _ _ k
-      (get_same (insert m k v) k w ∙ sym (get_same m k w))
-      (λ q apart. get_other (insert m k v) k w q apart ∙ get_other m k v q apart ∙ sym (get_other m k w q apart))
-
-  -- To remove what is not there changes nothing.
-  pub nothing_gone : (m : FinMap nat_cmp X) (k : ℕ) → get m k ≡ None → remove m k ≡ m
-  nothing_gone m k none = same_map_by_key _ _ k (get_removed_same m k ∙ sym none) (λ q apart. get_removed_other m k q apart)
-
-  -- To insert what is there changes nothing.
-  pub nothing_new : (m : FinMap nat_cmp X) (k : ℕ) (v : X) → get m k ≡ Some v → insert m k v ≡ m
-  nothing_new m k v was = same_map_by_key _ _ k (get_same m k v ∙ sym was) (λ q apart. get_other m k v q apart)
-
-  -- Changes at two keys that differ can be made in either order.
-  pub inserts_swap : (m : FinMap nat_cmp X) (j k : ℕ) (v w : X) → j ≢ k → insert (insert m j v) k w ≡ insert (insert m k w) j v
-  inserts_swap m j k v w apart =
-      let kept : get (insert m j v) j ≡ get (insert (insert m k w) j v) j = get_same m j v ∙ sym (get_same (insert m k w) j v) in
-      same_map_by_key _ _ j
-      (get_other (insert m j v) k w j apart ∙ kept)
-      (λ q other. get_inserted (insert m j v) k w q
-      ∙ ap (cond (q == k) (Some w)) (get_other m j v q other)
-      ∙ sym (get_inserted m k w q)
-      ∙ sym (get_other (insert m k w) j v q other))
-
-  pub insert_remove_swap : (m : FinMap nat_cmp X) (j k : ℕ) (v : X) → j ≢ k → remove (insert m j v) k ≡ insert (remove m k) j v
-  insert_remove_swap m j k v apart =
-      same_map_by_key _ _ j
-      (get_removed_other (insert m j v) k j apart ∙ get_same m j v ∙ sym (get_same (remove m k) j v))
-      (λ q other. get_removed (insert m j v) k q
-      ∙ ap (cond (q == k) None) (get_other m j v q other)
-      ∙ sym (get_removed m k q)
-      ∙ sym (get_other (remove m k) j v q other))
-
-  -- What has nothing has nothing after a removal, and after an insertion elsewhere.
-  pub none_removed : (m : FinMap nat_cmp X) (k q : ℕ) → get m q ≡ None → get (remove m k) q ≡ None
-  none_removed m k q none = get_removed m k q ∙ ap (cond (q == k) None) none ∙ alike (q == k) None
-
-  pub none_above : (m : FinMap nat_cmp X) (next : ℕ) (v : X) → ((q : ℕ) → next ≤ q → get m q ≡ None) → (q : ℕ) → next + 1 ≤ q → get (insert m next v) q ≡ None
-  none_above m next v free q above = get_other m next v q (omega arith) ∙ free q (omega arith)
-
-  -- What holds of each entry, and of one more, holds of each after that one's insertion.
-  pub each_inserted : (P : ℕ → X → Type 0) (m : FinMap nat_cmp X) (k : ℕ) (v : X) → ((q : ℕ) → IfSome (get m q) (P q)) → P k v → (q : ℕ) → IfSome (get (insert m k v) q) (P q)
-  each_inserted P m k v each one q =
-      elim (q == k) as (λ b. (q == k) ≡ b → IfSome (get (insert m k v) q) (P q)) [
-        | true ↦ λ e. let same = (unsigned_Decides q k).0 e in subst (λ x. IfSome (get (insert m k v) x) (P x)) (sym same) (subst (λ o. IfSome o (P k)) (sym (get_same m k v)) one)
-        | false ↦ λ e. subst (λ o. IfSome o (P q)) (sym (get_inserted m k v q ∙ ap (λ b. cond b (Some v) (get m q)) e)) (each q)
-      ] refl
-
-  pub each_removed : (P : ℕ → X → Type 0) (m : FinMap nat_cmp X) (k : ℕ) → ((q : ℕ) → IfSome (get m q) (P q)) → (q : ℕ) → IfSome (get (remove m k) q) (P q)
-  each_removed P m k each q = subst (λ o. IfSome o (P q)) (sym (get_removed m k q)) (either (q == k))
-    where
-      either : (b : Bool) → IfSome (cond b None (get m q)) (P q)
-      either true = tt
-      either false = each q
-
-  -- How many entries there are after an insertion and after a removal.
+  -- How many entries there are after an insertion.
   pub len_new : (m : FinMap nat_cmp X) (k : ℕ) (v : X) → get m k ≡ None → len (insert m k v) ≡ len m + 1
   len_new m k v none = len-insert nat_cmp_total m k v ∙ ap (λ o. cond (is_some o) (len m) (len m + 1)) none
 
   pub len_old : (m : FinMap nat_cmp X) (k : ℕ) (v : X) → IsSome (get m k) → len (insert m k v) ≡ len m
   len_old m k v some = len-insert nat_cmp_total m k v ∙ ap (λ b. cond b (len m) (len m + 1)) some
-
-  pub len_gone : (m : FinMap nat_cmp X) (k : ℕ) → IsSome (get m k) → len (remove m k) ≡ len m - 1
-  len_gone m k some = len-remove nat_cmp_total m k ∙ ap (λ b. cond b (len m - 1) (len m)) some
 
   below_tested : (k : ℕ) (es : List (ℕ × X)) → AllByRecursion (λ y. nat_cmp k y ≡ Less) (keys_of es) → T (below_all nat_cmp k es)
   below_tested k [] below = tt

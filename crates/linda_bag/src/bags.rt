@@ -2,6 +2,7 @@
 
 ghost use Rattle.std.specs.Prelude.{◌≡◌, ◌≤◌, ◌<◌, ℕ, None, IfNone, IfSome, IsSome, OnOk, OnErr, option_copied};
 ghost use Rattle.std.specs.Ordering.{nat_cmp};
+ghost use Rattle.std.specs.BTreeSet.{contains};
 ghost use Rattle.std.specs.FinMap as map;
 ghost use Rattle.linda_tuple.specs.Values.{Row};
 ghost use Rattle.linda_bag.specs.FreeMatch.{IsFreeMatch};
@@ -43,9 +44,9 @@ pub trait Bag: Drop {
     /// The least id outside `passed` whose tuple the template matches; nothing only where there is
     /// none. Takes no memory.
     fn least_match(&self, template: &Template, passed: &BTreeSet<u64>) -> Option<u64>
-        ensures found { IfSome result (IsFreeMatch (contents self.now) template.now passed.now) }
-        ensures least { IfSome result (λ id. (k : ℕ) → k < id → IsFreeMatch (contents self.now) template.now passed.now k → ⊥) }
-        ensures none { IfNone result ((k : ℕ) → IsFreeMatch (contents self.now) template.now passed.now k → ⊥) };
+        ensures found { IfSome result (IsFreeMatch (contents self.now) template.now (contains nat_cmp passed.now)) }
+        ensures least { IfSome result (λ id. (k : ℕ) → k < id → IsFreeMatch (contents self.now) template.now (contains nat_cmp passed.now) k → ⊥) }
+        ensures none { IfNone result ((k : ℕ) → IsFreeMatch (contents self.now) template.now (contains nat_cmp passed.now) k → ⊥) };
 
     /// How many tuples there are. Takes no memory.
     fn len(&self) -> usize

@@ -22,6 +22,11 @@ abbrev pub Gives : {X Y : Type 0} → (X → Y) → Result X ReadFault → Resul
 Gives view (Ok x) read = read ≡ Ok (view x)
 Gives view (Err fault) read = fault ≢ Memory → read ≡ Err fault
 
+-- What the code returned, seen by view, is what reading gives; it takes no memory, so none can run out.
+abbrev pub GivesAlways : {X Y : Type 0} → (X → Y) → Result X ReadFault → Result Y ReadFault → Type 0
+GivesAlways view (Ok x) read = read ≡ Ok (view x)
+GivesAlways view (Err fault) read = (fault ≢ Memory) × (read ≡ Err fault)
+
 -- That many values, one after the other.
 unfoldable pub many_at : {A : Type 0} → Reader A → ℕ → Reader (List A)
 many_at read zero bytes = Ok ([], bytes)

@@ -2,7 +2,7 @@
 
 ghost use Rattle.std.specs.Prelude.{◌≡◌};
 ghost use Rattle.std.specs.Int.{w32, w64};
-ghost use Rattle.linda_codec.specs.Steps.{Gives};
+ghost use Rattle.linda_codec.specs.Steps.{GivesAlways};
 ghost use Rattle.linda_codec.specs.Reading.{byte_at, number_at, bool_at, integer_at};
 
 use crate::faults::ReadFault;
@@ -13,7 +13,7 @@ use crate::faults::ReadFault;
 ///
 /// `Short` where there is none.
 pub fn read_u8(bytes: &[u8]) -> Result<(u8, &[u8]), ReadFault>
-    ensures { Gives (λ x. (x.0, x.1.now)) result (byte_at bytes.now) }
+    ensures { GivesAlways (λ x. (x.0, x.1.now)) result (byte_at bytes.now) }
 {
     match bytes {
         [] => Err(ReadFault::Short),
@@ -27,7 +27,7 @@ pub fn read_u8(bytes: &[u8]) -> Result<(u8, &[u8]), ReadFault>
 ///
 /// `Short` where there are fewer.
 pub fn read_u32(bytes: &[u8]) -> Result<(u32, &[u8]), ReadFault>
-    ensures { Gives (λ x. (x.0, x.1.now)) result (number_at w32 bytes.now) }
+    ensures { GivesAlways (λ x. (x.0, x.1.now)) result (number_at w32 bytes.now) }
 {
     if bytes.len() < 4 {
         return Err(ReadFault::Short);
@@ -43,7 +43,7 @@ pub fn read_u32(bytes: &[u8]) -> Result<(u32, &[u8]), ReadFault>
 ///
 /// `Short` where there are fewer.
 pub fn read_u64(bytes: &[u8]) -> Result<(u64, &[u8]), ReadFault>
-    ensures { Gives (λ x. (x.0, x.1.now)) result (number_at w64 bytes.now) }
+    ensures { GivesAlways (λ x. (x.0, x.1.now)) result (number_at w64 bytes.now) }
 {
     if bytes.len() < 8 {
         return Err(ReadFault::Short);
@@ -62,7 +62,7 @@ pub fn read_u64(bytes: &[u8]) -> Result<(u64, &[u8]), ReadFault>
 /// `Short` where there is none, `BadBool` where it is another one.
 #[tactic(auto, unfolding(crate::specs::Reading::bool_at))]
 pub fn read_bool(bytes: &[u8]) -> Result<(bool, &[u8]), ReadFault>
-    ensures { Gives (λ x. (x.0, x.1.now)) result (bool_at bytes.now) }
+    ensures { GivesAlways (λ x. (x.0, x.1.now)) result (bool_at bytes.now) }
 {
     match bytes {
         [] => Err(ReadFault::Short),
@@ -75,7 +75,7 @@ pub fn read_bool(bytes: &[u8]) -> Result<(bool, &[u8]), ReadFault>
 /// Reads eight bytes of two's complement.
 #[tactic(auto, unfolding(crate::specs::Reading::integer_at))]
 pub(crate) fn read_i64(bytes: &[u8]) -> Result<(i64, &[u8]), ReadFault>
-    ensures { Gives (λ x. (x.0, x.1.now)) result (integer_at bytes.now) }
+    ensures { GivesAlways (λ x. (x.0, x.1.now)) result (integer_at bytes.now) }
 {
     let (number, rest) = read_u64(bytes)?;
     Ok((number.cast_signed(), rest))

@@ -1,6 +1,6 @@
 //! Readers of atoms, tuples and templates at an offset, which give the value and the offset of the byte after it.
 
-ghost use Rattle.std.specs.Prelude.{◌≡◌, ◌≤◌, ◌-◌, ◌++◌, ℕ, List, length, drop, IfOk, IfErr, Ok};
+ghost use Rattle.std.specs.Prelude.{◌≡◌, ◌≤◌, ◌-◌, ◌++◌, ℕ, List, length, drop, IsOk, IsErrOf, IfOk, IfErr, Ok};
 ghost use Rattle.linda_tuple.specs.declared.atoms.Atom as atoms;
 ghost use Rattle.linda_tuple.specs.Values.{Row, IsSound, IsWithin};
 ghost use Rattle.linda_tuple.specs.Matching.{Shape, IsWithinShape};
@@ -28,6 +28,8 @@ pub fn get_atom(alloc: Global, bytes: &[u8], at: usize) -> Result<(Atom, usize),
     ensures exact { Gives (λ x. x) result (read_at atom_at bytes.now at) }
     // The offset of a fault is within what was read.
     ensures place { IfErr result (IsPlace at (length bytes.now)) }
+    // Memory runs out only where an atom stands at the offset.
+    ensures memory { IsErrOf result ReadFault.Memory → IsOk (atom_at (drop at bytes.now)) }
 {
     match read_atom(alloc, tail(bytes, at)) {
         Ok((atom, rest)) => Ok((atom, bytes.len() - rest.len())),
@@ -50,6 +52,8 @@ pub fn get_tuple(alloc: Global, bytes: &[u8], at: usize) -> Result<(Tuple, usize
     ensures exact { Gives (λ x. x) result (read_at tuple_at bytes.now at) }
     // The offset of a fault is within what was read.
     ensures place { IfErr result (IsPlace at (length bytes.now)) }
+    // Memory runs out only where a tag stands at the offset.
+    ensures memory { IsErrOf result ReadFault.Memory → IsOk (atom_at (drop at bytes.now)) }
 {
     match read_tuple(alloc, tail(bytes, at)) {
         Ok((tuple, rest)) => Ok((tuple, bytes.len() - rest.len())),
@@ -72,6 +76,8 @@ pub fn get_template(alloc: Global, bytes: &[u8], at: usize) -> Result<(Template,
     ensures exact { Gives (λ x. x) result (read_at template_at bytes.now at) }
     // The offset of a fault is within what was read.
     ensures place { IfErr result (IsPlace at (length bytes.now)) }
+    // Memory runs out only where a tag stands at the offset.
+    ensures memory { IsErrOf result ReadFault.Memory → IsOk (atom_at (drop at bytes.now)) }
 {
     match read_template(alloc, tail(bytes, at)) {
         Ok((template, rest)) => Ok((template, bytes.len() - rest.len())),
@@ -92,7 +98,8 @@ fn tail(bytes: &[u8], at: usize) -> &[u8]
 impl ReadFault {
     // The fault told by its offset, where it counts the bytes left of so many.
     fn placed(self, len: usize) -> ReadFault
-        ensures { result ≡ placed len self }
+        ensures value { result ≡ placed len self }
+        ensures memory { result ≡ ReadFault.Memory → self ≡ ReadFault.Memory }
     {
         match self {
             ReadFault::Memory => ReadFault::Memory,

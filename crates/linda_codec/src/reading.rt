@@ -1,8 +1,8 @@
 //! Readers of atoms, tuples and templates, each of which gives the value and the bytes after it.
 
-ghost use Rattle.std.specs.Prelude.{◌≡◌, true, false, MatchOption};
+ghost use Rattle.std.specs.Prelude.{◌≡◌, true, false, IsOk, IsErrOf, MatchOption};
 ghost use Rattle.std.specs.Str.{is_utf8};
-ghost use Rattle.linda_codec.specs.Steps.{Gives, many_at};
+ghost use Rattle.linda_codec.specs.Steps.{Gives, GivesAlways, many_at};
 ghost use Rattle.linda_codec.specs.Reading.{text_at, atom_at, pattern_at, count_at, tuple_at, template_at};
 
 use crate::faults::ReadFault;
@@ -18,7 +18,9 @@ use std::alloc::Global;
 /// The first fault from the left, told by the count of bytes left; `Memory` where a text finds none.
 #[tactic(auto, unfolding(crate::specs::Reading::atom_at))]
 pub fn read_atom(alloc: Global, bytes: &[u8]) -> Result<(Atom, &[u8]), ReadFault>
-    ensures { Gives (λ x. (x.0, x.1.now)) result (atom_at bytes.now) }
+    ensures value { Gives (λ x. (x.0, x.1.now)) result (atom_at bytes.now) }
+    // Memory runs out only where an atom stands there.
+    ensures memory { IsErrOf result ReadFault.Memory → IsOk (atom_at bytes.now) }
 {
     match bytes {
         [] => Err(ReadFault::Short),
@@ -45,7 +47,9 @@ pub fn read_atom(alloc: Global, bytes: &[u8]) -> Result<(Atom, &[u8]), ReadFault
 /// The first fault from the left, told by the count of bytes left; `Memory` where the values find none.
 #[tactic(auto, unfolding(crate::specs::Reading::tuple_at))]
 pub fn read_tuple(alloc: Global, bytes: &[u8]) -> Result<(Tuple, &[u8]), ReadFault>
-    ensures { Gives (λ x. (x.0, x.1.now)) result (tuple_at bytes.now) }
+    ensures value { Gives (λ x. (x.0, x.1.now)) result (tuple_at bytes.now) }
+    // Memory runs out only where a tag stands there.
+    ensures memory { IsErrOf result ReadFault.Memory → IsOk (atom_at bytes.now) }
 {
     let (tag, rest) = read_atom(alloc, bytes)?;
     let (count, rest) = read_count(rest)?;
@@ -60,7 +64,9 @@ pub fn read_tuple(alloc: Global, bytes: &[u8]) -> Result<(Tuple, &[u8]), ReadFau
 /// The first fault from the left, told by the count of bytes left; `Memory` where the values find none.
 #[tactic(auto, unfolding(crate::specs::Reading::template_at))]
 pub fn read_template(alloc: Global, bytes: &[u8]) -> Result<(Template, &[u8]), ReadFault>
-    ensures { Gives (λ x. (x.0, x.1.now)) result (template_at bytes.now) }
+    ensures value { Gives (λ x. (x.0, x.1.now)) result (template_at bytes.now) }
+    // Memory runs out only where a tag stands there.
+    ensures memory { IsErrOf result ReadFault.Memory → IsOk (atom_at bytes.now) }
 {
     let (tag, rest) = read_atom(alloc, bytes)?;
     let (count, rest) = read_count(rest)?;
@@ -89,7 +95,9 @@ fn read_pattern(alloc: Global, bytes: &[u8]) -> Result<(Pattern, &[u8]), ReadFau
 // A length byte and that many bytes of UTF-8.
 #[tactic(auto, unfolding(crate::specs::Reading::text_at))]
 fn read_text(alloc: Global, bytes: &[u8]) -> Result<(Text, &[u8]), ReadFault>
-    ensures { Gives (λ x. (x.0, x.1.now)) result (text_at bytes.now) }
+    ensures value { Gives (λ x. (x.0, x.1.now)) result (text_at bytes.now) }
+    // Memory runs out only where a text stands there.
+    ensures memory { IsErrOf result ReadFault.Memory → IsOk (text_at bytes.now) }
 {
     match bytes {
         [] => Err(ReadFault::Short),
@@ -119,7 +127,7 @@ fn as_text(bytes: &[u8]) -> Option<&str>
 // The count of the fields or patterns, at most 16.
 #[tactic(auto, unfolding(crate::specs::Reading::count_at))]
 fn read_count(bytes: &[u8]) -> Result<(u8, &[u8]), ReadFault>
-    ensures { Gives (λ x. (x.0, x.1.now)) result (count_at bytes.now) }
+    ensures { GivesAlways (λ x. (x.0, x.1.now)) result (count_at bytes.now) }
 {
     match bytes {
         [] => Err(ReadFault::Short),

@@ -1,3 +1,4 @@
 pub mod Waits
 pub mod Holds
 pub mod Linked
+pub mod Codes

@@ -18,6 +18,10 @@ same_pair p q = (p.0 == q.0) && (p.1 == q.1)
 abbrev pub is_waiting : ℕ × ℕ → List Wait → Bool
 is_waiting pair waits = list_any (λ w. same_pair pair w.0) waits
 
+-- whether some wait is answered by the tuple
+abbrev pub is_awaited : Row → List Wait → Bool
+is_awaited row waits = list_any (λ w. is_match w.1.template row) waits
+
 -- whether the wait is a read that the tuple answers
 abbrev pub is_reader : Row → Wait → Bool
 is_reader row w = not w.1.remove && is_match w.1.template row

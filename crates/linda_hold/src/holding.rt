@@ -84,7 +84,6 @@ impl Holds {
     pub fn of_client(&self, alloc: Global, client: u32) -> Result<Vec<u64>, AllocError>
         ensures { IfOk result (λ v. v.items ≡ held_in client (map.entries self.now)) }
     {
-        let _count = self.by_id.len();
         held_ids(alloc, &self.by_id, client)
     }
 
@@ -183,7 +182,8 @@ fn held_ids(
     by_id: &BTreeMap<u64, (u32, u64)>,
     client: u32,
 ) -> Result<Vec<u64>, AllocError>
-    ensures { IfOk result (λ v. v.items ≡ held_in client by_id.now.entries) }
+    ensures held { IfOk result (λ v. v.items ≡ held_in client by_id.now.entries) }
+    ensures ordered { tree.IsOrdered nat_cmp by_id.now }
 {
     let mut held = Vec::new(alloc);
     for (id, pair) in by_id {

@@ -3,11 +3,11 @@
 ghost use Rattle.std.specs.Prelude.{◌≡◌, ◌==◌, ◌&&◌, ◌++◌, ◌∷◌, [], false, not, length, map, IfOk, OnOk, OnErr};
 ghost use Rattle.std.specs.Option.{option_map};
 ghost use Rattle.linda_tuple.specs.Testing.{is_match};
-ghost use Rattle.linda_hold.specs.Waits.{AreDistinct, is_waiting, longest, readers, same_pair, waits_of, without, without_client, without_readers};
+ghost use Rattle.linda_hold.specs.Waits.{AreDistinct, is_awaited, is_waiting, longest, readers, same_pair, waits_of, without, without_client, without_readers};
 
 use crate::asks::Asked;
 use indexmap::IndexMap;
-use linda_tuple::Tuple;
+use linda_tuple::{Tuple, matches};
 use std::alloc::{AllocError, Global};
 use std::marker::Model;
 
@@ -100,6 +100,18 @@ impl Waits {
                 ensures { (result ≡ not (not asked.old.remove && is_match asked.old.template tuple.entry.now)) × (asked.new ≡ asked.old) }
             { !asked.is_read_of(tuple) },
         );
+    }
+
+    /// Whether some request waits that the tuple answers. Takes no memory.
+    pub fn is_awaited(&self, tuple: &Tuple) -> bool
+        ensures { result ≡ is_awaited tuple.now self.now }
+    {
+        for (_, asked) in &self.asks {
+            if matches(&asked.template, tuple) {
+                return true;
+            }
+        }
+        false
     }
 
     /// The client and the ticket of the input that has waited longest of those that the tuple

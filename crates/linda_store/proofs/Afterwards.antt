@@ -8,7 +8,7 @@ use Rattle.linda_tuple.specs.Values.{Row}
 use Rattle.linda_bag.proofs.Maps.{get_inserted, same_map}
 use Rattle.linda_store.specs.declared.deeds.Deed.{Deed}
 use Rattle.linda_store.specs.declared.deeds.Deed.TheVariants.{Out, Take, Pass}
-use Rattle.linda_store.specs.declared.kept.KeptReply.TheVariants as kept
+use Rattle.linda_book.specs.declared.kept.KeptReply.TheVariants as kept
 use Rattle.linda_store.specs.Deeds.{client_of, number_of, outs_of, is_taken, last_of}
 use Rattle.linda_store.specs.State.{State, IsState}
 use Rattle.linda_store.specs.After.{IsAfter, bag_after, taken_reply, reply_of_deed, entry_after, book_after}

@@ -3,7 +3,8 @@ use Rattle.std.proofs.Common.{◌<◌, ◌≤◌, IfSome, sym, subst, nat_cmp, a
 use Rattle.std.specs.FinMap.{len-empty}
 use Rattle.linda_tuple.specs.Values.{Row}
 use Rattle.linda_bag.proofs.Maps.{get_empty}
-use Rattle.linda_store.specs.State.{Entry, IsState, empty_state, client_limit, number_limit}
+use Rattle.linda_book.specs.Entries.{Entry}
+use Rattle.linda_store.specs.State.{IsState, empty_state, client_limit, number_limit}
 
 pub empty_is_state : IsState empty_state
 empty_is_state =

@@ -3,7 +3,7 @@ pub mod Joined
 pub mod Afterwards
 pub mod OneDeed
 pub mod ProperLists
-pub mod AllowedOut
+pub mod Numbered
 pub mod Stepping
 pub mod Known
 pub mod Said
@@ -24,3 +24,9 @@ pub mod Ranges
 pub mod Dispatched
 pub mod GivenUp
 pub mod Addressed
+pub mod Orderly
+pub mod Least
+pub mod Asked
+pub mod Once
+pub mod KeptReplies
+pub mod Unawaited

@@ -1,7 +1,6 @@
 -- Look-ups have one answer each, and a request that finds nothing has nothing that it may have.
-use Rattle.std.proofs.Common.{◌≡◌, ℕ, ◌<◌, Bool, true, false, ◌&&◌, Option, Some, None, IfSome, IfNone, is_some, nat_cmp, inl, inr, refl, sym, ap, ◌∙◌, true≢false, arith}
+use Rattle.std.proofs.Common.{◌≡◌, ℕ, ◌<◌, Bool, true, false, ◌&&◌, Option, Some, None, IfSome, IfNone, is_some, inl, inr, refl, sym, ap, ◌∙◌, true≢false, arith}
 use Rattle.std.proofs.lemmas.Bool.{cases_lt, cases_eq}
-use Rattle.std.specs.BTreeSet.{BTreeSet, contains}
 use Rattle.std.specs.FinMap.{get}
 use Rattle.linda_tuple.specs.Matching.{Shape}
 use Rattle.linda_tuple.proofs.Deciding.{is_match_decides}
@@ -9,7 +8,7 @@ use Rattle.linda_bag.specs.FreeMatch.{IsFreeMatch}
 use Rattle.linda_hold.specs.Waits.{Wait}
 use Rattle.linda_hold.specs.Holds.{HeldFor, IsHeldAt, IsOneEach}
 use Rattle.linda_store.specs.Soft.{Bagged, MayHave}
-use Rattle.linda_store.specs.Looking.{CanHave, IsLeast, passed_over}
+use Rattle.linda_store.specs.Looking.{IsLeast, passed_over}
 
 -- Two answers to the look-up of the least id are one.
 pub one_least : (bag : Bagged) (shape : Shape) (passed : ℕ → Bool) (a b : Option ℕ) → IsLeast bag shape passed a → IsLeast bag shape passed b → a ≡ b
@@ -42,29 +41,27 @@ not_held true None free is = refl
 not_held true (Some x) free is = absurd (true≢false free)
 not_held false o free is = absurd (true≢false (sym is))
 
--- What a waiting request may have is what it can have, passing over what it may not take.
-pub can_from_may : (bag : Bagged) (holds : HeldFor) (w : Wait) (id : ℕ) → MayHave bag holds w id → CanHave bag w.1.template (passed_over w.1.remove holds) id
-can_from_may bag holds w id may = record { row = may.row; stored = may.stored; matches = may.matches; free = not_passed w.1.remove (get holds id) may.free }
-
-pub may_from_can : (bag : Bagged) (holds : HeldFor) (w : Wait) (id : ℕ) → CanHave bag w.1.template (passed_over w.1.remove holds) id → MayHave bag holds w id
-may_from_can bag holds w id can = record { row = can.row; stored = can.stored; matches = can.matches; free = not_held w.1.remove (get holds id) can.free }
+-- What a waiting request may have is a free match, where what it may not take is passed over.
+pub free_from_may : (bag : Bagged) (holds : HeldFor) (w : Wait) (id : ℕ) → MayHave bag holds w id → IsFreeMatch bag w.1.template (passed_over w.1.remove holds) id
+free_from_may bag holds w id may = record { row = may.row; stored = may.stored; matches = (is_match_decides w.1.template may.row).0 may.matches; free = not_passed w.1.remove (get holds id) may.free }
 
 -- A request that finds nothing has nothing that it may have.
 pub nothing_found : (bag : Bagged) (holds : HeldFor) (w : Wait) → IsLeast bag w.1.template (passed_over w.1.remove holds) None → (id : ℕ) → MayHave bag holds w id → ⊥
-nothing_found bag holds w none id may = none id (can_from_may bag holds w id may)
+nothing_found bag holds w none id may = none id (free_from_may bag holds w id may)
 
 -- What is found is in the bag; and where it was found for an input, it is not held.
 pub found_free : (bag : Bagged) (holds : HeldFor) (shape : Shape) (id : ℕ) → IsLeast bag shape (passed_over true holds) (Some id) → get holds id ≡ None
 found_free bag holds shape id least = not_held true (get holds id) least.0.free refl
 
--- What a bag finds is the least id, where the set that it is given has just the ids that are passed over.
-module _ (bag : Bagged) (shape : Shape) (ids : BTreeSet ℕ) (passed : ℕ → Bool) (same : (k : ℕ) → contains nat_cmp ids k ≡ passed k) where
-  free_from_can : (id : ℕ) → CanHave bag shape passed id → IsFreeMatch bag shape ids id
-  free_from_can id can = record { row = can.row; stored = can.stored; matches = (is_match_decides shape can.row).0 can.matches; free = same id ∙ can.free }
+-- Tests that answer alike leave the same ids free.
+same_free : (bag : Bagged) (shape : Shape) (p q : ℕ → Bool) (id : ℕ) → p id ≡ q id → IsFreeMatch bag shape p id → IsFreeMatch bag shape q id
+same_free bag shape p q id alike is = record { row = is.row; stored = is.stored; matches = is.matches; free = sym alike ∙ is.free }
 
-  can_from_free : (id : ℕ) → IsFreeMatch bag shape ids id → CanHave bag shape passed id
-  can_from_free id free = record { row = free.row; stored = free.stored; matches = (is_match_decides shape free.row).1 free.matches; free = sym (same id) ∙ free.free }
+-- What a bag finds is the least id, where the set that it is given has just the ids that are passed over.
+module _ (bag : Bagged) (shape : Shape) (ids passed : ℕ → Bool) (same : (k : ℕ) → ids k ≡ passed k) where
+  in_set : (k : ℕ) → IsFreeMatch bag shape passed k → IsFreeMatch bag shape ids k
+  in_set k is = same_free bag shape passed ids k (sym (same k)) is
 
   pub least_found : (result : Option ℕ) → IfSome result (IsFreeMatch bag shape ids) → IfSome result (λ id. (k : ℕ) → k < id → IsFreeMatch bag shape ids k → ⊥) → IfNone result ((k : ℕ) → IsFreeMatch bag shape ids k → ⊥) → IsLeast bag shape passed result
-  least_found (Some id) found least none = (can_from_free id found, λ k below can. least k below (free_from_can k can))
-  least_found None found least none = λ k can. none k (free_from_can k can)
+  least_found (Some id) found least none = (same_free bag shape ids passed id (same id) found, λ k below is. least k below (in_set k is))
+  least_found None found least none = λ k is. none k (in_set k is)

@@ -6,12 +6,13 @@ use Rattle.linda_tuple.specs.Values.{Row}
 use Rattle.linda_bag.proofs.Maps.{get_inserted, get_same, get_other, get_removed, get_removed_same, get_removed_other, len_new, len_old}
 use Rattle.linda_store.specs.declared.deeds.Deed.{Deed}
 use Rattle.linda_store.specs.declared.deeds.Deed.TheVariants.{Out, Take, Pass}
-use Rattle.linda_store.specs.declared.kept.KeptReply.TheVariants as kept
+use Rattle.linda_book.specs.declared.kept.KeptReply.TheVariants as kept
 use Rattle.linda_store.specs.Deeds.{client_of, number_of, outs_of, is_taken}
-use Rattle.linda_store.specs.State.{State, Entry, IsState, client_limit, number_limit}
-use Rattle.linda_store.specs.After.{IsAfter, bag_after, reply_of_deed}
-use Rattle.linda_store.specs.Proper.{number_in, HasRoom, IsAllowed}
-use Rattle.linda_store.proofs.Afterwards.{one_after, put_after, none_from_next, old_id, new_id, taken_id, tuple_after_put, entry_after_one}
+use Rattle.linda_book.specs.Entries.{Entry, number_in}
+use Rattle.linda_store.specs.State.{State, IsState, client_limit, number_limit}
+use Rattle.linda_store.specs.After.{IsAfter, bag_after, taken_reply, reply_of_deed}
+use Rattle.linda_store.specs.Proper.{HasRoom, IsAllowed}
+use Rattle.linda_store.proofs.Afterwards.{none_after, one_after, put_after, none_from_next, old_id, new_id, taken_id, tuple_after_put, entry_after_one}
 
 -- The bag and the next id after a deed, as changes of maps and numbers.
 abbrev pub bag_done : State → Deed → FinMap nat_cmp Row
@@ -140,3 +141,30 @@ one_state st new d is allowed after = subst IsState (one_after st (d ∷ []) (do
 pub put_at : (old st new : State) (c n : ℕ) (tuple : Row) → old ≡ st → IsState st → new.bag ≡ insert old.bag old.next tuple → new.book ≡ insert old.book c (n, kept.Stored old.next) → new.next ≡ old.next + 1 → IsAfter st (Out c n tuple ∷ []) new
 put_at old st new c n tuple same is bag book next =
     subst (λ s. IsAfter s (Out c n tuple ∷ []) new) same (put_after old new c n tuple (subst IsState (sym same) is) bag book next)
+
+-- A Take and a Pass as changes of maps, where the old state is known by another name.
+taken_kept : (st : State) (id : ℕ) (row : Row) → IsState st → get st.bag id ≡ Some row → taken_reply id (bag_after st [] id) ≡ kept.Taken id row
+taken_kept st id row is there = ap (taken_reply id) (sym ((none_after st is).bag id) ∙ there)
+
+take_after : (st new : State) (c n id : ℕ) (row : Row) → IsState st → get st.bag id ≡ Some row → new.bag ≡ remove st.bag id → new.book ≡ insert st.book c (n, kept.Taken id row) → new.next ≡ st.next → IsAfter st (Take c n id ∷ []) new
+take_after st new c n id row is there bag book next =
+    let d = done_after st (Take c n id) is in
+    record {
+      bag = λ k. ap (λ m. get m k) bag ∙ d.bag k;
+      book = λ q. ap (λ m. get m q) (book ∙ ap (λ r. insert st.book c (n, r)) (sym (taken_kept st id row is there))) ∙ d.book q;
+      next = next ∙ d.next;
+    }
+
+pub take_at : (old st new : State) (c n id : ℕ) (row : Row) → old ≡ st → IsState st → get st.bag id ≡ Some row → new.bag ≡ remove old.bag id → new.book ≡ insert old.book c (n, kept.Taken id row) → new.next ≡ old.next → IsAfter st (Take c n id ∷ []) new
+take_at old st new c n id row same is there bag book next =
+    subst (λ s. IsAfter s (Take c n id ∷ []) new) same (take_after old new c n id row (subst IsState (sym same) is) (subst (λ s. get s.bag id ≡ Some row) (sym same) there) bag book next)
+
+pub pass_at : (old st new : State) (c n id : ℕ) → old ≡ st → IsState st → new.bag ≡ old.bag → new.book ≡ insert old.book c (n, kept.Gone) → new.next ≡ old.next → IsAfter st (Pass c n id ∷ []) new
+pass_at old st new c n id same is bag book next =
+    subst (λ s. IsAfter s (Pass c n id ∷ []) new) same
+    (let d = done_after old (Pass c n id) (subst IsState (sym same) is) in
+    record {
+      bag = λ k. ap (λ m. get m k) bag ∙ d.bag k;
+      book = λ q. ap (λ m. get m q) book ∙ d.book q;
+      next = next ∙ d.next;
+    })

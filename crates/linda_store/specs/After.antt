@@ -3,12 +3,13 @@ use Rattle.std.specs.Prelude.{◌≡◌, ℕ, ◌+◌, ◌-◌, nat_lt, if◌the
 use Rattle.std.specs.List.{slice_get}
 use Rattle.std.specs.FinMap as map
 use Rattle.linda_tuple.specs.Values.{Row}
+use Rattle.linda_book.specs.declared.kept.KeptReply.{KeptReply}
+use Rattle.linda_book.specs.declared.kept.KeptReply.TheVariants as kept
+use Rattle.linda_book.specs.Entries.{Entry}
 use Rattle.linda_store.specs.declared.deeds.Deed.{Deed}
 use Rattle.linda_store.specs.declared.deeds.Deed.TheVariants.{Out, Take, Pass}
-use Rattle.linda_store.specs.declared.kept.KeptReply.{KeptReply}
-use Rattle.linda_store.specs.declared.kept.KeptReply.TheVariants as kept
 use Rattle.linda_store.specs.Deeds.{outs_of, is_taken, last_of, number_of}
-use Rattle.linda_store.specs.State.{State, Entry}
+use Rattle.linda_store.specs.State.{State}
 
 -- The bag: the tuples of before and those put, the k-th of them under the next id plus k, less what some deed takes.
 abbrev pub bag_after : State → List Deed → ℕ → Option Row

@@ -1,20 +1,41 @@
--- What a server answers to one message: the deed, if it does one, and what it sends.
-use Rattle.std.specs.Prelude.{◌≡◌, ℕ, ◌+◌, Bool, ◌==◌, nat_lt, nat_le, not, ◌&&◌, ◌||◌, if◌then◌else◌, List, [], ◌∷◌, Option, Some, None, option_to_list}
+-- What a server answers to one message: the deed, if it does one, what it sends, and what it holds and lets wait then.
+use Rattle.std.specs.Prelude.{◌≡◌, ℕ, Bool, ◌==◌, false, nat_lt, nat_le, not, ◌&&◌, ◌||◌, if◌then◌else◌, List, [], ◌∷◌, Option, Some, None, option_to_list}
 use Rattle.std.specs.FinMap as map
 use Rattle.std.specs.Option.{option_map}
 use Rattle.linda_tuple.specs.Values.{Row}
+use Rattle.linda_hold.specs.Waits.{same_pair}
 use Rattle.linda_wire.specs.declared.messages.Message.{Message}
 use Rattle.linda_wire.specs.declared.messages.Message.TheVariants as messages
 use Rattle.linda_wire.specs.declared.replies.Reply.{Reply}
 use Rattle.linda_wire.specs.declared.replies.Reply.TheVariants as replies
+use Rattle.linda_book.specs.declared.classes.Class.{Class}
+use Rattle.linda_book.specs.declared.classes.Class.TheVariants as classes
+use Rattle.linda_book.specs.declared.kept.KeptReply.{KeptReply}
+use Rattle.linda_book.specs.declared.kept.KeptReply.TheVariants as kept
+use Rattle.linda_book.specs.Entries.{Entry, number_in}
+use Rattle.linda_book.specs.Classes.{class_of}
 use Rattle.linda_store.specs.declared.deeds.Deed.{Deed}
 use Rattle.linda_store.specs.declared.deeds.Deed.TheVariants as deeds
-use Rattle.linda_store.specs.declared.kept.KeptReply.{KeptReply}
-use Rattle.linda_store.specs.declared.kept.KeptReply.TheVariants as kept
-use Rattle.linda_store.specs.State.{State, Entry, client_limit, number_limit}
+use Rattle.linda_store.specs.State.{State, client_limit, number_limit}
 use Rattle.linda_store.specs.After.{IsAfter}
-use Rattle.linda_store.specs.Proper.{number_in}
 use Rattle.linda_store.specs.Refusals.{refused_version, refused_known, refused_old, refused_gap, refused_spent, refused_clients}
+use Rattle.linda_store.specs.Soft.{Soft}
+use Rattle.linda_store.specs.Dispatch.{Told, dispatch}
+use Rattle.linda_store.specs.Asking.{AnswersAsk, AnswersCancel}
+
+-- A deed or none; the replies with the clients that they go to, in order; and the holds and waits behind it.
+pub record Answered : Type 0 where
+  pub deed : Option Deed
+  pub sends : List (ℕ × Reply)
+  pub soft : Soft
+
+-- no deed
+abbrev pub only_told : Told → Answered
+only_told told = record { deed = None; sends = told.sends; soft = told.soft }
+
+-- only a reply to the client
+abbrev pub only_reply : ℕ → Reply → Soft → Answered
+only_reply c reply soft = record { deed = None; sends = (c, reply) ∷ []; soft = soft }
 
 -- a kept reply as it goes to the client, with the number that it answers
 abbrev pub reply_of_kept : ℕ → KeptReply → Reply
@@ -38,44 +59,71 @@ greeting st c version fresh =
     else (if is_one_too_many st c then refused_clients
     else replies.Welcome (last_number st c)))
 
--- The reply to an Out that makes no deed: the first case that holds; none where the deed is done.
+-- The reply to a numbered message that makes no deed, by the class of its number; none where the deed is done. A fresh one is
+-- refused where its client is one too many, or else where numbers or ids are spent for it.
+abbrev pub without_deed : State → ℕ → ℕ → Bool → Class → Option Reply
+without_deed st c n is_spent (classes.Old last) = Some (refused_old last)
+without_deed st c n is_spent classes.Kept = option_map (λ (e : Entry). reply_of_kept n e.1) (map.get st.book c)
+without_deed st c n is_spent (classes.Gap last) = Some (refused_gap last)
+without_deed st c n is_spent classes.Fresh =
+    if is_one_too_many st c then Some refused_clients
+    else (if is_spent then Some refused_spent
+    else None)
+
+-- the class of a message's number for its client
+abbrev pub class_in : State → ℕ → ℕ → Class
+class_in st c n = class_of (last_number st c) n
+
+-- the reply to an Out that makes no deed: an Out needs a number and an id
 abbrev pub out_without_deed : State → ℕ → ℕ → Option Reply
-out_without_deed st c n =
-    if (n == 0) || nat_lt n (last_number st c) then Some (refused_old (last_number st c))
-    else (if n == last_number st c then option_map (λ (e : Entry). reply_of_kept n e.1) (map.get st.book c)
-    else (if nat_lt (last_number st c + 1) n then Some (refused_gap (last_number st c))
-    else (if is_one_too_many st c then Some refused_clients
-    else (if (n == number_limit) || (st.next == number_limit) then Some refused_spent
-    else None))))
+out_without_deed st c n = without_deed st c n ((n == number_limit) || (st.next == number_limit)) (class_in st c n)
 
--- a deed or none, and the replies with the clients that they go to, in order
-pub record Answered : Type 0 where
-  pub deed : Option Deed
-  pub sends : List (ℕ × Reply)
+-- the reply to an Accept that makes no deed: an Accept needs a number
+abbrev pub accept_without_deed : State → ℕ → ℕ → Option Reply
+accept_without_deed st c n = without_deed st c n (n == number_limit) (class_in st c n)
 
--- only a reply
-abbrev pub only_replies : ℕ → Reply → Answered
-only_replies c reply = record { deed = None; sends = (c, reply) ∷ [] }
+-- The answer to an Out, given the reply where it makes no deed. Where it does, the tuple is put under the next id, and the
+-- client's reply comes before those to others.
+abbrev pub out_answered : State → ℕ → ℕ → Row → Option Reply → Soft → Answered
+out_answered st c n tuple (Some reply) soft = only_reply c reply soft
+out_answered st c n tuple None soft =
+    let told : Told = dispatch st.next tuple soft in
+    record { deed = Some (deeds.Out c n tuple); sends = (c, replies.Stored n st.next) ∷ told.sends; soft = told.soft }
 
--- the answer to an Out, given the reply where it makes no deed
-abbrev pub out_answered : State → ℕ → ℕ → Row → Option Reply → Answered
-out_answered st c n tuple (Some reply) = only_replies c reply
-out_answered st c n tuple None = record { deed = Some (deeds.Out c n tuple); sends = (c, replies.Stored n st.next) ∷ [] }
+-- whether this is the pair that a tuple is held for
+abbrev pub is_for : ℕ × ℕ → Option (ℕ × ℕ) → Bool
+is_for pair None = false
+is_for pair (Some other) = same_pair other pair
 
--- nothing is done and nothing is sent
-abbrev pub no_answer : Answered
-no_answer = record { deed = None; sends = [] }
+-- the tuple under this id, where it is held for this client and ticket
+abbrev pub held_row : State → ℕ × ℕ → ℕ → Soft → Option Row
+held_row st pair id soft = if is_for pair (map.get soft.holds id) then map.get st.bag id else None
 
--- The answer to a message of a client. Nothing is asked for yet: an Ask, an Accept and a Cancel have no answer.
-abbrev pub answer : State → ℕ → Message → Answered
-answer st c (messages.Hello version client fresh) = only_replies c (greeting st c version fresh)
-answer st c (messages.Out n tuple) = out_answered st c n tuple (out_without_deed st c n)
-answer st c (messages.Ask ticket remove template) = no_answer
-answer st c (messages.Accept n ticket id) = no_answer
-answer st c (messages.Cancel ticket) = no_answer
+-- An accepted offer, given its tuple where it is held for the client: the tuple is taken and its hold is gone; or the offer is gone,
+-- and nothing else changes.
+abbrev pub taken_or_gone : ℕ → ℕ → ℕ → Option Row → Soft → Answered
+taken_or_gone c n id (Some row) soft =
+    record { deed = Some (deeds.Take c n id); sends = (c, replies.Taken n id row) ∷ []; soft = record { holds = map.remove soft.holds id; waits = soft.waits } }
+taken_or_gone c n id None soft = record { deed = Some (deeds.Pass c n id); sends = (c, replies.Gone n) ∷ []; soft = soft }
 
--- One step of a server: deed and sends are the answer's, and the new state is the old one after the deed.
-pub record IsStep (st : State) (c : ℕ) (m : Message) (deed : Option Deed) (sends : List (ℕ × Reply)) (new : State) : Type 0 where
-  pub deed_is : deed ≡ (answer st c m).deed
-  pub sends_are : sends ≡ (answer st c m).sends
-  pub state_is : IsAfter st (option_to_list deed) new
+-- the answer to an Accept, given the reply where it makes no deed
+abbrev pub accept_answered : State → ℕ → ℕ → ℕ → ℕ → Option Reply → Soft → Answered
+accept_answered st c n ticket id (Some reply) soft = only_reply c reply soft
+accept_answered st c n ticket id None soft = taken_or_gone c n id (held_row st (c, ticket) id soft) soft
+
+-- an answer without a deed that tells what this says
+abbrev pub Tells : (Told → Type 0) → Answered → Type 0
+Tells says answered = (told : Told) × (says told × (answered ≡ only_told told))
+
+-- The answer to a message of a client.
+abbrev pub IsAnswer : State → Soft → ℕ → Message → Answered → Type 0
+IsAnswer st soft c (messages.Hello version client fresh) answered = answered ≡ only_reply c (greeting st c version fresh) soft
+IsAnswer st soft c (messages.Out n tuple) answered = answered ≡ out_answered st c n tuple (out_without_deed st c n) soft
+IsAnswer st soft c (messages.Accept n ticket id) answered = answered ≡ accept_answered st c n ticket id (accept_without_deed st c n) soft
+IsAnswer st soft c (messages.Ask ticket remove template) answered = Tells (AnswersAsk st.bag (c, ticket) remove template soft) answered
+IsAnswer st soft c (messages.Cancel ticket) answered = Tells (AnswersCancel st.bag (c, ticket) soft) answered
+
+-- One step of a server: this is the answer, and the new state is the old one after its deed.
+pub record IsStep (st : State) (soft : Soft) (c : ℕ) (m : Message) (answered : Answered) (new : State) : Type 0 where
+  pub answer : IsAnswer st soft c m answered
+  pub state_is : IsAfter st (option_to_list answered.deed) new

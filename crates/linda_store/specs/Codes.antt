@@ -1,39 +1,24 @@
--- How states and what they keep are stored where a model's value holds one.
-use Rattle.std.specs.Prelude.{◌≡◌, ℕ, ◌⊎◌, Option, Some, None, refl}
-use Rattle.std.specs.Coded.{Coded, code_by, coded×, coded⊎, coded_ℕ, coded_option}
+-- How states, holds and waits are stored where a model's value holds one.
+use Rattle.std.specs.Prelude.{ℕ, List, refl}
+use Rattle.std.specs.Coded.{Coded, code_by, coded×, coded_ℕ, coded_list}
 use Rattle.std.specs.FinMap as map
 use Rattle.std.specs.Ordering.{nat_cmp}
-use Rattle.std.proofs.Common.{inl, inr}
 use Rattle.linda_tuple.specs.Values.{Row}
 use Rattle.linda_tuple.specs.Codes.{row_code}
-use Rattle.linda_store.specs.declared.kept.KeptReply.{KeptReply}
-use Rattle.linda_store.specs.declared.kept.KeptReply.TheVariants as kept
-use Rattle.linda_store.specs.State.{State, Entry}
-
-abbrev pub kept_parts : KeptReply → Option (ℕ ⊎ (ℕ × Row))
-kept_parts (kept.Stored id) = Some (inl id)
-kept_parts (kept.Taken id tuple) = Some (inr (id, tuple))
-kept_parts kept.Gone = None
-
-abbrev pub kept_of_parts : Option (ℕ ⊎ (ℕ × Row)) → KeptReply
-kept_of_parts (Some (inl id)) = kept.Stored id
-kept_of_parts (Some (inr taken)) = kept.Taken taken.0 taken.1
-kept_of_parts None = kept.Gone
-
-abbrev pub kept_again : (k : KeptReply) → kept_of_parts (kept_parts k) ≡ k
-kept_again (kept.Stored id) = refl
-kept_again (kept.Taken id tuple) = refl
-kept_again kept.Gone = refl
-
--- the code of a kept reply
-abbrev pub kept_code : Coded KeptReply
-kept_code = code_by (Option (ℕ ⊎ (ℕ × Row))) (coded_option (coded⊎ coded_ℕ (coded× coded_ℕ row_code))) kept_parts kept_of_parts kept_again
-
--- the code of a book
-abbrev pub book_code : Coded (map.FinMap nat_cmp Entry)
-book_code = map.code coded_ℕ (coded× coded_ℕ kept_code)
+use Rattle.linda_book.specs.Entries.{Entry}
+use Rattle.linda_book.specs.Codes.{book_code}
+use Rattle.linda_hold.specs.Waits.{Wait}
+use Rattle.linda_hold.specs.Holds.{HeldFor}
+use Rattle.linda_hold.specs.Codes.{wait_code}
+use Rattle.linda_store.specs.State.{State}
+use Rattle.linda_store.specs.Soft.{Soft}
 
 -- the code of a state
 abbrev pub state_code : Coded State
 state_code =
     code_by (map.FinMap nat_cmp Row × (map.FinMap nat_cmp Entry × ℕ)) (coded× (map.code coded_ℕ row_code) (coded× book_code coded_ℕ)) (λ s. (s.bag, (s.book, s.next))) (λ p. record { bag = p.0; book = p.1.0; next = p.1.1 }) (λ _. refl)
+
+-- the code of holds and waits
+abbrev pub soft_code : Coded Soft
+soft_code =
+    code_by (HeldFor × List Wait) (coded× (map.code coded_ℕ (coded× coded_ℕ coded_ℕ)) (coded_list wait_code)) (λ s. (s.holds, s.waits)) (λ p. record { holds = p.0; waits = p.1 }) (λ _. refl)

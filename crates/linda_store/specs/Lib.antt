@@ -14,3 +14,6 @@ pub mod Conversing
 pub mod Soft
 pub mod Dispatch
 pub mod Looking
+pub mod Asking
+pub mod Answers
+pub mod Promises

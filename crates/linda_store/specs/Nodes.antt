@@ -1,16 +1,20 @@
 -- What contracts see of a node, and what it may answer.
-use Rattle.std.specs.Prelude.{◌≡◌, ℕ, Bool, true, false, List, [], Result, Ok, Err, IsSome}
+use Rattle.std.specs.Prelude.{◌≡◌, ℕ, Bool, true, false, List, Option, Result, Ok, Err, IsSome}
 use Rattle.std.specs.Global.{Vec}
 use Rattle.linda_wire.specs.declared.messages.Message.{Message}
 use Rattle.linda_wire.specs.declared.replies.Reply.{Reply}
+use Rattle.linda_store.specs.declared.deeds.Deed.{Deed}
 use Rattle.linda_store.specs.declared.nodes.NodeFault.{NodeFault}
 use Rattle.linda_store.specs.declared.nodes.NodeFault.TheVariants as faults
 use Rattle.linda_store.specs.State.{State}
-use Rattle.linda_store.specs.Answer.{answer, IsStep}
+use Rattle.linda_store.specs.Soft.{Soft}
+use Rattle.linda_store.specs.Dispatch.{closing}
+use Rattle.linda_store.specs.Answer.{Answered, IsAnswer, IsStep}
 
--- A node: its state, whether it is down, and whether it is of a kind that may be full.
+-- A node: its state, what it holds and lets wait, whether it is down, and whether it is of a kind that may be full.
 pub record Shown : Type 0 where
   pub state : State
+  pub soft : Soft
   pub is_down : Bool
   pub may_fill : Bool
 
@@ -31,13 +35,16 @@ pub record IsDone (old : Shown) (c : ℕ) (m : Message) (sends : List (ℕ × Re
   pub was_up : old.is_down ≡ false
   pub is_up : new.is_down ≡ false
   pub kind : new.may_fill ≡ old.may_fill
-  pub step : IsStep old.state c m (answer old.state c m).deed sends new.state
+  pub deed : Option Deed
+  pub step : IsStep old.state old.soft c m (record { deed = deed; sends = sends; soft = new.soft }) new.state
 
 -- A node that was up had no room for the deed of this message, and did nothing.
 pub record HadNoRoom (old : Shown) (c : ℕ) (m : Message) (new : Shown) : Type 0 where
   pub was_up : old.is_down ≡ false
   pub kind : old.may_fill ≡ true
-  pub deed : IsSome (answer old.state c m).deed
+  pub answered : Answered
+  pub answer : IsAnswer old.state old.soft c m answered
+  pub deed : IsSome answered.deed
   pub unchanged : new ≡ old
 
 -- The node is down now, and sent nothing.
@@ -51,14 +58,16 @@ Handles old c m (Sent sends) new = IsDone old c m sends new
 Handles old c m IsFull new = HadNoRoom old c m new
 Handles old c m IsDown new = WentDown old new
 
--- A node that was up has closed a client: nothing waits and nothing is held, so nothing changes.
-pub record IsClosed (old : Shown) (sends : List (ℕ × Reply)) (new : Shown) : Type 0 where
+-- A node that was up has closed a client, which makes no deed, and is up.
+pub record IsClosed (old : Shown) (c : ℕ) (sends : List (ℕ × Reply)) (new : Shown) : Type 0 where
   pub was_up : old.is_down ≡ false
-  pub nothing_sent : sends ≡ []
-  pub unchanged : new ≡ old
+  pub is_up : new.is_down ≡ false
+  pub kind : new.may_fill ≡ old.may_fill
+  pub state_same : new.state ≡ old.state
+  pub told : record { sends = sends; soft = new.soft } ≡ closing old.state.bag c old.soft
 
 -- What a node may answer to the closing of a client, and where that leaves it; it is never full.
 abbrev pub Closes : Shown → ℕ → NodeAnswer → Shown → Type 0
-Closes old c (Sent sends) new = IsClosed old sends new
+Closes old c (Sent sends) new = IsClosed old c sends new
 Closes old c IsFull new = ⊥
 Closes old c IsDown new = WentDown old new

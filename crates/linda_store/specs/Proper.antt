@@ -1,16 +1,12 @@
 -- Which lists of deeds a server can do.
-use Rattle.std.specs.Prelude.{◌≡◌, ℕ, ◌+◌, ◌<◌, List, ◌∷◌, ◌++◌, Option, Some, None, IsSome}
+use Rattle.std.specs.Prelude.{◌≡◌, ◌+◌, ◌<◌, List, ◌∷◌, ◌++◌, None, IsSome}
 use Rattle.std.specs.FinMap as map
+use Rattle.linda_book.specs.Entries.{number_in}
 use Rattle.linda_store.specs.declared.deeds.Deed.{Deed}
 use Rattle.linda_store.specs.declared.deeds.Deed.TheVariants.{Out, Take, Pass}
 use Rattle.linda_store.specs.Deeds.{client_of, number_of}
-use Rattle.linda_store.specs.State.{State, Entry, client_limit, number_limit}
+use Rattle.linda_store.specs.State.{State, client_limit, number_limit}
 use Rattle.linda_store.specs.After.{IsAfter}
-
--- the number in an entry, 0 where there is none
-abbrev pub number_in : Option Entry → ℕ
-number_in None = 0
-number_in (Some entry) = entry.0
 
 -- what a deed asks of the bag and of the next id
 abbrev pub HasRoom : State → Deed → Type 0

@@ -44,6 +44,10 @@ refused_down = Refused 8 0
 abbrev pub refused_malformed : ℕ → Reply
 refused_malformed offset = Refused 9 offset
 
+-- the client has as many open asks as it may have
+abbrev pub refused_asks : ℕ → Reply
+refused_asks ticket = Refused 10 ticket
+
 -- a connection begins with a Hello
 abbrev pub refused_no_hello : Reply
 refused_no_hello = Refused 12 0

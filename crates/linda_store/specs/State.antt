@@ -3,11 +3,7 @@ use Rattle.std.specs.Prelude.{ℕ, ◌^◌, ◌<◌, ◌≤◌, IfSome}
 use Rattle.std.specs.Ordering.{nat_cmp}
 use Rattle.std.specs.FinMap as map
 use Rattle.linda_tuple.specs.Values.{Row}
-use Rattle.linda_store.specs.declared.kept.KeptReply.{KeptReply}
-
--- What a server keeps for a client: the number of its last numbered message, and the reply to it.
-abbrev pub Entry : Type 0
-Entry = ℕ × KeptReply
+use Rattle.linda_book.specs.Entries.{Entry}
 
 -- Tuples by id, the last kept reply by client, and the id that the next tuple gets.
 pub record State : Type 0 where

@@ -1,14 +1,23 @@
 -- A store as contracts see it.
 use Rattle.std.specs.Prelude.{Bool, refl}
 use Rattle.std.specs.Coded.{Coded, code_by, coded×, coded_bool}
-use Rattle.linda_store.specs.State.{State}
-use Rattle.linda_store.specs.Codes.{state_code}
+use Rattle.linda_store.specs.State.{State, IsState}
+use Rattle.linda_store.specs.Soft.{Soft, IsSoft, IsAtRest}
+use Rattle.linda_store.specs.Codes.{state_code, soft_code}
 
--- The state of a server, and whether the store came to want of memory, after which it does nothing more.
+-- What every store keeps: its state, its holds and its waits are in their ranges, and nobody waits in vain.
+pub record IsOrderly (st : State) (soft : Soft) : Type 0 where
+  pub state_is : IsState st
+  pub soft_is : IsSoft st.bag soft
+  pub rest : IsAtRest st.bag soft
+
+-- The state of a server, what it holds and lets wait, and whether the store came to want of memory, after which it does
+-- nothing more.
 pub record StoreView : Type 0 where
   pub state : State
+  pub soft : Soft
   pub is_spent : Bool
 
 -- the code of a store
 abbrev pub store_code : Coded StoreView
-store_code = code_by (State × Bool) (coded× state_code coded_bool) (λ s. (s.state, s.is_spent)) (λ p. record { state = p.0; is_spent = p.1 }) (λ _. refl)
+store_code = code_by (State × (Soft × Bool)) (coded× state_code (coded× soft_code coded_bool)) (λ s. (s.state, (s.soft, s.is_spent))) (λ p. record { state = p.0; soft = p.1.0; is_spent = p.1.1 }) (λ _. refl)

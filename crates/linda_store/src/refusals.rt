@@ -91,6 +91,16 @@ pub(crate) fn malformed_frame(offset: u32) -> Reply
     }
 }
 
+/// The client has as many open asks as it may have.
+pub(crate) fn too_many_asks(ticket: u64) -> Reply
+    ensures { result ≡ spec.refused_asks ticket }
+{
+    Reply::Refused {
+        code: 10,
+        detail: ticket,
+    }
+}
+
 /// A connection begins with a Hello.
 pub(crate) fn no_hello() -> Reply
     ensures { result ≡ spec.refused_no_hello }

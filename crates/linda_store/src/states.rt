@@ -4,8 +4,8 @@ ghost use Rattle.std.specs.Prelude.{◌≡◌};
 ghost use Rattle.std.specs.FinMap as map;
 ghost use Rattle.linda_store.specs.State.{empty_state};
 
-use crate::books::Book;
 use linda_bag::Bag;
+use linda_book::Book;
 use std::alloc::Global;
 use std::marker::Model;
 

@@ -1,23 +1,25 @@
-//! What a server does for one message: the reply, and the deed where there is one.
+//! What a server does for one message: the replies, and the deed where there is one.
 
-ghost use Rattle.std.specs.Prelude.{◌≡◌, [], ◌∷◌, None, Some, IfOk, OnOk, OnErr};
+ghost use Rattle.std.specs.Prelude.{◌≡◌, ◌∷◌, [], None, Some, IfOk, OnErr, option_copied, option_to_list};
 ghost use Rattle.std.specs.Option.{option_map};
 ghost use Rattle.std.specs.FinMap as map;
 ghost use Rattle.linda_wire.specs.declared.replies.Reply.TheVariants as replies;
+ghost use Rattle.linda_book.specs.Entries.{Entry};
 ghost use Rattle.linda_store.specs.declared.deeds.Deed.TheVariants as deeds;
-ghost use Rattle.linda_store.specs.declared.kept.KeptReply.TheVariants as kept_replies;
-ghost use Rattle.linda_store.specs.State.{Entry, IsState};
+ghost use Rattle.linda_store.specs.State.{IsState, number_limit};
 ghost use Rattle.linda_store.specs.After.{IsAfter};
 ghost use Rattle.linda_store.specs.Proper.{IsAllowed};
+ghost use Rattle.linda_store.specs.Soft.{AreApart};
+ghost use Rattle.linda_store.specs.Stores.{IsOrderly};
 ghost use Rattle.linda_store.specs.Answer as spec;
-ghost use Rattle.linda_store.specs.Answer.{IsStep, reply_of_kept};
+ghost use Rattle.linda_store.specs.Answer.{IsStep, class_in, reply_of_kept, without_deed};
 
-use crate::books::Book;
 use crate::deeds::Deed;
-use crate::kept::KeptReply;
-use crate::refusals;
+use crate::softs::Soft;
 use crate::states::{CLIENT_LIMIT, NUMBER_LIMIT, State};
+use crate::{kept, refusals};
 use linda_bag::Bag;
+use linda_book::Class;
 use linda_tuple::Tuple;
 use linda_wire::{Message, Reply};
 use std::alloc::{AllocError, Global};
@@ -39,16 +41,17 @@ impl<B: Bag> State<B> {
     ///
     /// # Errors
     ///
-    /// `AllocError` where memory runs out, and then the state is as before.
+    /// `AllocError` where memory runs out, and then the state is as before; nothing is said of what is
+    /// held and waits.
     pub(crate) fn step(
         &mut self,
+        soft: &mut Soft,
         alloc: Global,
         client: u32,
         message: &Message,
     ) -> Result<Step, AllocError>
-        requires { IsState self.old }
-        ensures ok { IfOk result (λ s. IsStep self.old client message.now s.deed s.sends.items self.new) }
-        ensures kept { OnOk result (IsState self.new) }
+        requires { IsOrderly self.old soft.old }
+        ensures ok { IfOk result (λ s. IsStep self.old soft.old client message.now (record { deed = s.deed; sends = s.sends.items; soft = soft.new }) self.new) }
         ensures err { OnErr result (self.new ≡ self.old) }
     {
         match message {
@@ -57,11 +60,22 @@ impl<B: Bag> State<B> {
             }
             Message::Out { n, tuple } => match self.out_without_deed(alloc, client, *n)? {
                 Some(reply) => only_reply(alloc, client, reply),
-                None => self.put(alloc, client, *n, tuple),
+                None => self.put(soft, alloc, client, *n, tuple),
             },
-            Message::Ask { .. } => Ok(no_answer(alloc)),
-            Message::Accept { .. } => Ok(no_answer(alloc)),
-            Message::Cancel { .. } => Ok(no_answer(alloc)),
+            Message::Accept { n, ticket, id } => match self.accept_without_deed(
+                alloc, client, *n,
+            )? {
+                Some(reply) => only_reply(alloc, client, reply),
+                None => self.accept(soft, alloc, client, *n, *ticket, *id),
+            },
+            Message::Ask {
+                ticket,
+                remove,
+                template,
+            } => Ok(only_sends(soft.ask(alloc, &self.bag, client, *ticket, *remove, template)?)),
+            Message::Cancel { ticket } => {
+                Ok(only_sends(soft.cancel(alloc, &self.bag, client, *ticket)?))
+            }
         }
     }
 
@@ -90,19 +104,46 @@ impl<B: Bag> State<B> {
     ) -> Result<Option<Reply>, AllocError>
         ensures { IfOk result (λ r. r ≡ spec.out_without_deed self.now client n) }
     {
-        let last = self.book.last(client);
-        if n == 0 || n < last {
-            Ok(Some(refusals::old_number(last)))
-        } else if n == last {
-            self.kept_reply(alloc, client, n)
-        } else if n - last > 1 {
-            Ok(Some(refusals::number_gap(last)))
-        } else if self.is_one_too_many(client) {
-            Ok(Some(refusals::too_many_clients()))
-        } else if n == NUMBER_LIMIT || self.next == NUMBER_LIMIT {
-            Ok(Some(refusals::spent_numbers()))
-        } else {
-            Ok(None)
+        let is_spent = n == NUMBER_LIMIT || self.next == NUMBER_LIMIT;
+        self.without_deed(alloc, client, n, is_spent)
+    }
+
+    // The reply to an Accept that makes no deed, which changes nothing; none where a deed is to be done.
+    fn accept_without_deed(
+        &self,
+        alloc: Global,
+        client: u32,
+        n: u64,
+    ) -> Result<Option<Reply>, AllocError>
+        ensures { IfOk result (λ r. r ≡ spec.accept_without_deed self.now client n) }
+    {
+        self.without_deed(alloc, client, n, n == NUMBER_LIMIT)
+    }
+
+    // The reply to a numbered message that makes no deed; none where the deed is to be done. Whether the
+    // numbers or ids that it needs are spent is told by the caller.
+    fn without_deed(
+        &self,
+        alloc: Global,
+        client: u32,
+        n: u64,
+        is_spent: bool,
+    ) -> Result<Option<Reply>, AllocError>
+        ensures { IfOk result (λ r. r ≡ without_deed self.now client n is_spent (class_in self.now client n)) }
+    {
+        match self.book.classify(client, n) {
+            Class::Old(last) => Ok(Some(refusals::old_number(last))),
+            Class::Kept => self.kept_reply(alloc, client, n),
+            Class::Gap(last) => Ok(Some(refusals::number_gap(last))),
+            Class::Fresh => {
+                if self.is_one_too_many(client) {
+                    Ok(Some(refusals::too_many_clients()))
+                } else if is_spent {
+                    Ok(Some(refusals::spent_numbers()))
+                } else {
+                    Ok(None)
+                }
+            }
         }
     }
 
@@ -111,7 +152,7 @@ impl<B: Bag> State<B> {
         ensures { IfOk result (λ r. r ≡ option_map (λ (e : Entry). reply_of_kept n e.1) (map.get self.now.book client)) }
     {
         match self.book.kept(client) {
-            Some((_, kept)) => Ok(Some(kept.to_reply(alloc, n)?)),
+            Some((_, kept)) => Ok(Some(kept::to_reply(kept, alloc, n)?)),
             None => Ok(None),
         }
     }
@@ -122,68 +163,14 @@ impl<B: Bag> State<B> {
     {
         self.book.last(client) == 0 && self.book.len() >= CLIENT_LIMIT
     }
-
-    // Puts the tuple under the next id. All that may fail comes before the first change.
-    fn put(&mut self, alloc: Global, client: u32, n: u64, tuple: &Tuple) -> Result<Step, AllocError>
-        requires state { IsState self.old }
-        requires allowed { IsAllowed self.old (deeds.Out client n tuple.now) }
-        ensures deed { IfOk result (λ s. s.deed ≡ Some (deeds.Out client n tuple.now)) }
-        ensures sends { IfOk result (λ s. s.sends.items ≡ (client, replies.Stored n self.old.next) ∷ []) }
-        ensures after { OnOk result (IsAfter self.old (deeds.Out client n tuple.now ∷ []) self.new) }
-        ensures kept { OnOk result (IsState self.new) }
-        ensures err { OnErr result (self.new ≡ self.old) }
-    {
-        let id = self.next;
-        let sends = one_send(alloc, client, Reply::Stored { n, id })?;
-        let noted = tuple.try_clone(alloc)?;
-        let stored = tuple.try_clone(alloc)?;
-        keep_tuple(&mut self.bag, &mut self.book, client, n, id, stored)?;
-        self.next += 1;
-        Ok(Step {
-            deed: Some(Deed::Out {
-                client,
-                n,
-                tuple: noted,
-            }),
-            sends,
-        })
-    }
 }
 
-// Puts the tuple into the bag under a new id, and the reply to it into the book; or changes nothing.
-fn keep_tuple<B: Bag>(
-    bag: &mut B,
-    book: &mut Book,
-    client: u32,
-    n: u64,
-    id: u64,
-    tuple: Tuple,
-) -> Result<(), AllocError>
-    requires { map.get (B.contents bag.old) id ≡ None }
-    ensures bag { OnOk result (B.contents bag.new ≡ map.insert (B.contents bag.old) id tuple) }
-    ensures book { OnOk result (book.new ≡ map.insert book.old client (n, kept_replies.Stored id)) }
-    ensures bag_err { OnErr result (B.contents bag.new ≡ B.contents bag.old) }
-    ensures book_err { OnErr result (book.new ≡ book.old) }
-{
-    bag.insert(id, tuple)?;
-    match book.keep(client, n, KeptReply::Stored(id)) {
-        Ok(()) => Ok(()),
-        Err(error) => {
-            bag.remove(id);
-            Err(error)
-        }
-    }
-}
-
-// A step that changes nothing and sends nothing.
-fn no_answer(alloc: Global) -> Step
+// A step that makes no deed.
+fn only_sends(sends: Vec<(u32, Reply)>) -> Step
     ensures deed { result.deed ≡ None }
-    ensures sends { result.sends.items ≡ [] }
+    ensures sends { result.sends.items ≡ sends.items }
 {
-    Step {
-        deed: None,
-        sends: Vec::new(alloc),
-    }
+    Step { deed: None, sends }
 }
 
 // A step that changes nothing and sends one reply.
@@ -191,13 +178,15 @@ fn only_reply(alloc: Global, client: u32, reply: Reply) -> Result<Step, AllocErr
     ensures deed { IfOk result (λ s. s.deed ≡ None) }
     ensures sends { IfOk result (λ s. s.sends.items ≡ (client, reply) ∷ []) }
 {
-    Ok(Step {
-        deed: None,
-        sends: one_send(alloc, client, reply)?,
-    })
+    Ok(only_sends(one_send(alloc, client, reply)?))
 }
 
-fn one_send(alloc: Global, client: u32, reply: Reply) -> Result<Vec<(u32, Reply)>, AllocError>
+/// One reply to a client.
+pub(crate) fn one_send(
+    alloc: Global,
+    client: u32,
+    reply: Reply,
+) -> Result<Vec<(u32, Reply)>, AllocError>
     ensures { IfOk result (λ v. v.items ≡ (client, reply) ∷ []) }
 {
     let mut sends = Vec::with_capacity(alloc, 1)?;

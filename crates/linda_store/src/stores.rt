@@ -1,56 +1,69 @@
 //! The store of a server: a state that keeps its ranges, changed by one message after another.
 
-ghost use Rattle.std.specs.Prelude.{◌≡◌, ◌↔◌, true, false, [], IfOk, OnOk, OnErr, IsErr};
+ghost use Rattle.std.specs.Prelude.{◌≡◌, true, false, IfOk, OnOk, OnErr, IsErr};
 ghost use Rattle.linda_store.specs.State.{IsState, empty_state};
+ghost use Rattle.linda_store.specs.Soft.{no_asks};
+ghost use Rattle.linda_store.specs.Dispatch.{closing};
 ghost use Rattle.linda_store.specs.Answer.{IsStep};
+ghost use Rattle.linda_store.specs.Stores.{IsOrderly};
 
+use crate::softs::Soft;
 use crate::states::State;
 use crate::steps::Step;
 use linda_bag::Bag;
+use linda_hold::{Holds, Waits};
 use linda_wire::{Message, Reply};
 use std::alloc::{AllocError, Global};
 use std::marker::Model;
 
-/// A server's state in its ranges: ids below the next id, which is from 1 to 2^63; kept numbers from
-/// 1 to 2^63 - 1; at most 1,024 clients. Once memory ran out the store is spent: it keeps its state
-/// and answers each call with that error.
+/// The state of a server, what it holds for requests and which requests wait.
+///
+/// It keeps its ranges: ids below the next id, which is from 1 to 2^63; kept numbers from 1 to
+/// 2^63 - 1; at most 1,024 clients; at most 64 open asks a client, each under a ticket of its own; and
+/// what is held is in the bag. Nobody waits in vain: no tuple that is there matches a read that waits,
+/// and none that is not held an input.
+///
+/// Once memory ran out the store is spent: it keeps its state, holds nothing, lets nobody wait, and
+/// answers each call with that error.
 #[derive(Drop)]
 pub struct Store<B: Bag> {
     state: State<B>,
+    soft: Soft,
     spent: bool,
 }
 
 impl<B: Bag> Model for Store<B> {
-    ghost use Rattle.linda_store.specs.State.{IsState};
-    ghost use Rattle.linda_store.specs.Stores.{StoreView, store_code};
+    ghost use Rattle.linda_store.specs.Stores.{StoreView, IsOrderly, store_code};
 
     ghost Value = { StoreView };
 
     ghost coded = { store_code };
 
-    ghost view = { λ s. record { state = s.state; is_spent = s.spent } };
+    ghost view = { λ s. record { state = s.state; soft = s.soft; is_spent = s.spent } };
 
-    ghost invariant = { λ s. IsState s.state };
+    ghost invariant = { λ s. IsOrderly s.state s.soft };
 }
 
 impl<B: Bag> Store<B> {
     /// The store of a server that was never used. Takes no memory.
     pub fn new(alloc: Global) -> Store<B>
-        ensures { result ≡ record { state = empty_state; is_spent = false } }
+        ensures { result ≡ record { state = empty_state; soft = no_asks; is_spent = false } }
     {
         Store {
             state: State::new(alloc),
+            soft: Soft::new(alloc),
             spent: false,
         }
     }
 
-    /// The store of this state, which it keeps: no memory is taken.
-    pub fn from_state(state: State<B>) -> Store<B>
+    /// The store of this state, which it keeps; nothing is held and nobody waits. Takes no memory.
+    pub fn from_state(alloc: Global, state: State<B>) -> Store<B>
         requires { IsState state }
-        ensures { result ≡ record { state = state; is_spent = false } }
+        ensures { result ≡ record { state = state; soft = no_asks; is_spent = false } }
     {
         Store {
             state,
+            soft: Soft::new(alloc),
             spent: false,
         }
     }
@@ -67,34 +80,51 @@ impl<B: Bag> Store<B> {
         client: u32,
         message: &Message,
     ) -> Result<Step, AllocError>
-        ensures ok { IfOk result (λ s. IsStep self.old.state client message.now s.deed s.sends.items self.new.state) }
+        ensures ok { IfOk result (λ s. IsStep self.old.state self.old.soft client message.now (record { deed = s.deed; sends = s.sends.items; soft = self.new.soft }) self.new.state) }
         ensures unspent { OnOk result ((self.old.is_spent ≡ false) × (self.new.is_spent ≡ false)) }
         ensures err { OnErr result ((self.new.state ≡ self.old.state) × (self.new.is_spent ≡ true)) }
-        ensures spent { self.old.is_spent ≡ true → IsErr result }
+        ensures dropped { OnErr result (self.old.is_spent ≡ false → self.new.soft ≡ no_asks) }
+        ensures spent { self.old.is_spent ≡ true → IsErr result × (self.new ≡ self.old) }
     {
         if self.spent {
             return Err(AllocError);
         }
-        let step = self.state.step(alloc, client, message);
-        self.spent = step.is_err();
-        step
+        match self.state.step(&mut self.soft, alloc, client, message) {
+            Ok(step) => Ok(step),
+            Err(error) => {
+                self.soft = Soft::new(alloc);
+                self.spent = true;
+                Err(error)
+            }
+        }
     }
 
-    /// The connection of the client has closed: what it waits for and holds is given up. Nothing is
-    /// held and nobody waits yet, so no replies come of it.
+    /// Gives up all that the client asked: its waits, and then its holds by rising id, each of which is
+    /// free at once for those that wait. The state is as before.
     ///
     /// # Errors
     ///
-    /// `AllocError` exactly where the store is spent. In each case it is as before.
+    /// `AllocError` where memory runs out, and then the store is spent; and always where it is spent
+    /// already.
     pub fn close(&mut self, alloc: Global, client: u32) -> Result<Vec<(u32, Reply)>, AllocError>
-        ensures ok { IfOk result (λ sends. sends.items ≡ []) }
-        ensures err { IsErr result ↔ (self.old.is_spent ≡ true) }
-        ensures unchanged { self.new ≡ self.old }
+        ensures ok { IfOk result (λ sends. record { sends = sends.items; soft = self.new.soft } ≡ closing self.old.state.bag client self.old.soft) }
+        ensures unspent { OnOk result ((self.old.is_spent ≡ false) × (self.new.is_spent ≡ false)) }
+        ensures state { self.new.state ≡ self.old.state }
+        ensures err { OnErr result (self.new.is_spent ≡ true) }
+        ensures dropped { OnErr result (self.old.is_spent ≡ false → self.new.soft ≡ no_asks) }
+        ensures spent { self.old.is_spent ≡ true → IsErr result × (self.new ≡ self.old) }
     {
         if self.spent {
             return Err(AllocError);
         }
-        Ok(Vec::new(alloc))
+        match self.soft.close(alloc, &self.state.bag, client) {
+            Ok(sends) => Ok(sends),
+            Err(error) => {
+                self.soft = Soft::new(alloc);
+                self.spent = true;
+                Err(error)
+            }
+        }
     }
 
     /// The state, which keeps its ranges. Takes no memory.
@@ -103,6 +133,22 @@ impl<B: Bag> Store<B> {
         ensures ranges { IsState result.now }
     {
         &self.state
+    }
+
+    /// Which tuple is held for which request. Takes no memory.
+    pub fn holds(&self) -> &Holds
+        ensures holds { result.now ≡ self.now.soft.holds }
+        ensures orderly { IsOrderly self.now.state self.now.soft }
+    {
+        &self.soft.holds
+    }
+
+    /// The requests that wait, in order of arrival. Takes no memory.
+    pub fn waits(&self) -> &Waits
+        ensures waits { result.now ≡ self.now.soft.waits }
+        ensures orderly { IsOrderly self.now.state self.now.soft }
+    {
+        &self.soft.waits
     }
 
     /// Whether memory ran out. Takes no memory.

@@ -2,12 +2,14 @@
 
 ghost use Rattle.std.specs.Prelude.{◌≡◌, false};
 ghost use Rattle.linda_store.specs.State.{IsState, empty_state};
+ghost use Rattle.linda_store.specs.Soft.{no_asks};
 
 use crate::nodes::{Node, NodeFault};
 use crate::states::State;
 use crate::steps::Step;
 use crate::stores::Store;
 use linda_bag::ListBag;
+use linda_hold::Holds;
 use linda_wire::{Message, Reply};
 use std::alloc::Global;
 
@@ -21,7 +23,7 @@ pub struct Volatile {
 impl Volatile {
     /// A server that was never used. Takes no memory.
     pub fn new(alloc: Global) -> Volatile
-        ensures { ⟦<Volatile as Node>⟧.shown result ≡ record { state = empty_state; is_down = false; may_fill = false } }
+        ensures { ⟦<Volatile as Node>⟧.shown result ≡ record { state = empty_state; soft = no_asks; is_down = false; may_fill = false } }
     {
         Volatile {
             store: Store::new(alloc),
@@ -35,12 +37,19 @@ impl Volatile {
     {
         self.store.state()
     }
+
+    /// Which tuple is held for which request. Takes no memory.
+    pub fn holds(&self) -> &Holds
+        ensures { result.now ≡ (⟦<Volatile as Node>⟧.shown self.now).soft.holds }
+    {
+        self.store.holds()
+    }
 }
 
 impl Node for Volatile {
     ghost use Rattle.std.specs.Prelude.{false};
 
-    ghost shown = { λ v. record { state = v.store.state; is_down = v.store.is_spent; may_fill = false } };
+    ghost shown = { λ v. record { state = v.store.state; soft = v.store.soft; is_down = v.store.is_spent; may_fill = false } };
 
     fn handle(
         &mut self,

@@ -1,7 +1,7 @@
 //! Templates, which keep their limits.
 
-ghost use Rattle.std.specs.Prelude.{◌≡◌, ◌↔◌, ◌<◌, All, length, IfOk, IsOk, IsErrOf, IsTrue};
-ghost use Rattle.linda_tuple.specs.Matching.{IsSoundPattern, IsWithinShape};
+ghost use Rattle.std.specs.Prelude.{◌≡◌, ◌↔◌, ◌<◌, length, IfOk, IsOk, IsErrOf};
+ghost use Rattle.linda_tuple.specs.Matching.{IsWithinShape};
 
 use crate::atoms::Atom;
 use crate::faults::ValueFault;
@@ -43,7 +43,7 @@ impl Template {
         if fields.len() > MAX_FIELDS {
             return Err(ValueFault::TooManyFields);
         }
-        if !tag.is_sound() || !all_sound(&fields) {
+        if !tag.is_sound() || !fields.iter().all(|f| f.is_sound()) {
             return Err(ValueFault::TextTooLong);
         }
         Ok(Template { tag, fields })
@@ -82,12 +82,6 @@ impl Template {
         let fields = copies(alloc, &self.fields)?;
         Ok(Template { tag, fields })
     }
-}
-
-fn all_sound(patterns: &[Pattern]) -> bool
-    ensures { IsTrue result ↔ All IsSoundPattern patterns.now }
-{
-    patterns.iter().all(|p| p.is_sound())
 }
 
 fn copies(alloc: Global, patterns: &[Pattern]) -> Result<Vec<Pattern>, AllocError>

@@ -1,7 +1,7 @@
 //! Tuples, which keep their limits.
 
-ghost use Rattle.std.specs.Prelude.{◌≡◌, ◌↔◌, ◌<◌, All, length, IfOk, IsOk, IsErrOf, IsTrue};
-ghost use Rattle.linda_tuple.specs.Values.{IsSound, IsWithin};
+ghost use Rattle.std.specs.Prelude.{◌≡◌, ◌↔◌, ◌<◌, length, IfOk, IsOk, IsErrOf};
+ghost use Rattle.linda_tuple.specs.Values.{IsWithin};
 
 use crate::atoms::Atom;
 use crate::faults::ValueFault;
@@ -44,7 +44,7 @@ impl Tuple {
         if fields.len() > MAX_FIELDS {
             return Err(ValueFault::TooManyFields);
         }
-        if !tag.is_sound() || !all_sound(&fields) {
+        if !tag.is_sound() || !fields.iter().all(|f| f.is_sound()) {
             return Err(ValueFault::TextTooLong);
         }
         Ok(Tuple { tag, fields })
@@ -83,12 +83,6 @@ impl Tuple {
         let fields = copies(alloc, &self.fields)?;
         Ok(Tuple { tag, fields })
     }
-}
-
-fn all_sound(atoms: &[Atom]) -> bool
-    ensures { IsTrue result ↔ All IsSound atoms.now }
-{
-    atoms.iter().all(|a| a.is_sound())
 }
 
 fn copies(alloc: Global, atoms: &[Atom]) -> Result<Vec<Atom>, AllocError>

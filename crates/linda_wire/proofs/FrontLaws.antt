@@ -1,6 +1,6 @@
 -- Laws of the front of a stream, for any values whose payloads are read as they are spelled.
 use Rattle.std.proofs.Common.{◌≡◌, ℕ, ◌+◌, ◌<◌, ◌≤◌, List, [], ◌∷◌, ◌++◌, length, take, drop, Option, Some, None, Result, Ok, Err, refl, sym, ap, subst, ◌∙◌, append_assoc, arith}
-use Rattle.std.specs.Prelude.{◌≢◌, IfOk, IfErr, IfSome}
+use Rattle.std.specs.Prelude.{IfOk, IfErr, IfSome, IsErrOf}
 use Rattle.std.specs.List.{flat_map, AllByRecursion}
 use Rattle.std.proofs.lemmas.List.{take_at, drop_at, take-append-drop, take-append-le, drop-append-le, drop-drop, length-drop, length-take}
 use Rattle.std.proofs.lemmas.List.Elements.{recursion_from_All}
@@ -8,8 +8,8 @@ use Rattle.linda_codec.proofs.Takes.{IsBytes, IsBytes-drop, IsBytes-take}
 use Rattle.linda_wire.specs.declared.faults.FrameFault.{FrameFault}
 use Rattle.linda_wire.specs.declared.faults.FrameFault.TheVariants.{Memory, EmptyFrame, FrameTooLong, Malformed}
 use Rattle.linda_wire.specs.Frames.{length_field, told_length, frame}
-use Rattle.linda_wire.specs.Stream.{payload_len, Front, Whole, Broken, front_with, front_by, front_of, Answers, IsFaultOf, HasNoValue, stream_of, FaultsStay, HasOneReading}
-use Rattle.linda_wire.proofs.LengthLaws.{IsFaultOfLength, payload_len-fault, IsThere, length_field-length, length_field-told, payload_there, payload_len-append, payload_len-broken, payload_len-frame}
+use Rattle.linda_wire.specs.Stream.{payload_len, Front, Whole, Broken, front_with, front_by, front_of, Answers, HasFrame, IsFaultOf, HasNoValue, stream_of, FaultsStay, HasOneReading}
+use Rattle.linda_wire.proofs.LengthLaws.{IsFaultOfLength, payload_len-fault, payload_len-long, IsThere, length_field-length, length_field-told, payload_there, payload_len-append, payload_len-broken, payload_len-frame}
 
 -- A reader of payloads and their spelling: what is read is so spelled, what fits is read again, and its payload fits a frame.
 pub record Reads {A : Type 0} (spell : A → List ℕ) (Fits : A → Type 0) (read : List ℕ → Result A FrameFault) : Type 0 where
@@ -60,17 +60,17 @@ IsFaultOfPayload len EmptyFrame = ⊥
 IsFaultOfPayload len (FrameTooLong n) = ⊥
 IsFaultOfPayload len (Malformed at) = (4 ≤ at) × (at ≤ 4 + len)
 
-fault_of_length : (bytes : List ℕ) (fault : FrameFault) → IsFaultOfLength (told_length bytes) fault → IsFaultOf bytes fault
-fault_of_length bytes Memory h = h
-fault_of_length bytes EmptyFrame h = h
-fault_of_length bytes (FrameTooLong n) h = h
-fault_of_length bytes (Malformed at) h = absurd h
+fault_of_length : (bytes : List ℕ) (fault : FrameFault) → 4 ≤ length bytes → IsFaultOfLength (told_length bytes) fault → IsFaultOf bytes fault
+fault_of_length bytes Memory long h = absurd h
+fault_of_length bytes EmptyFrame long h = (long, h)
+fault_of_length bytes (FrameTooLong n) long h = (long, h.0, h.1)
+fault_of_length bytes (Malformed at) long h = absurd h
 
-fault_of_payload : (bytes : List ℕ) (fault : FrameFault) → 4 + told_length bytes ≤ length bytes → IsFaultOfPayload (told_length bytes) fault → IsFaultOf bytes fault
-fault_of_payload bytes Memory all h = h
-fault_of_payload bytes EmptyFrame all h = absurd h
-fault_of_payload bytes (FrameTooLong n) all h = absurd h
-fault_of_payload bytes (Malformed at) all h = (h.0, h.1, all)
+fault_of_payload : (bytes : List ℕ) (fault : FrameFault) → HasFrame bytes → IsFaultOfPayload (told_length bytes) fault → IsFaultOf bytes fault
+fault_of_payload bytes Memory there h = absurd h
+fault_of_payload bytes EmptyFrame there h = absurd h
+fault_of_payload bytes (FrameTooLong n) there h = absurd h
+fault_of_payload bytes (Malformed at) there h = (there, h.0, h.1)
 
 -- ---- the laws
 
@@ -124,21 +124,25 @@ is_fault_of : {A : Type 0} (read : List ℕ → Result A FrameFault) → ((paylo
     → (bytes : List ℕ) (fault : FrameFault) → front_of read bytes ≡ Broken fault → IsFaultOf bytes fault
 is_fault_of read faults bytes fault e =
     elim (front_broken read bytes (payload_len bytes) fault e) [
-      | in_length h ↦ fault_of_length bytes fault (payload_len-fault bytes fault h)
+      | in_length h ↦ fault_of_length bytes fault (payload_len-long bytes fault h) (payload_len-fault bytes fault h)
       | in_payload len h f ↦
           let there = payload_there bytes len h in
           let payload : List ℕ = take len (drop 4 bytes) in
           let count : length payload ≡ told_length bytes = omega (arith, there.all, there.told-is, length-take len (drop 4 bytes), length-drop 4 bytes) in
-          fault_of_payload bytes fault (omega (arith, there.all, there.told-is)) (subst (λ (n : ℕ). IsFaultOfPayload n fault) count (faults payload fault f))
+          let whole : HasFrame bytes = (omega (arith, there.some, there.told-is), omega (arith, there.short, there.told-is), omega (arith, there.all, there.told-is)) in
+          fault_of_payload bytes fault whole (subst (λ (n : ℕ). IsFaultOfPayload n fault) count (faults payload fault f))
     ]
 
 -- ---- the answers of a feed
 
 -- A fault that is answered is one of the frame at the front.
 pub told_of_front : {A : Type 0} (read : List ℕ → Result A FrameFault) → ((payload : List ℕ) (fault : FrameFault) → read payload ≡ Err fault → IsFaultOfPayload (length payload) fault)
-    → (old : List ℕ) (answer : Result (Option A) FrameFault) (new : List ℕ) → Answers (front_of read) old answer new → IfErr answer (λ fault. fault ≢ Memory → IsFaultOf old fault)
-told_of_front read faults old (Ok o) new e = tt
-told_of_front read faults old (Err fault) new e = λ not_memory. is_fault_of read faults old fault (e.0 not_memory)
+    → (old : List ℕ) (answer : Result (Option A) FrameFault) (new : List ℕ) → (IsErrOf answer Memory → HasFrame old) → Answers (front_of read) old answer new → IfErr answer (λ fault. IsFaultOf old fault)
+told_of_front read faults old (Ok o) new there e = tt
+told_of_front read faults old (Err Memory) new there e = there refl
+told_of_front read faults old (Err EmptyFrame) new there e = is_fault_of read faults old EmptyFrame (e.0 (λ m. cc))
+told_of_front read faults old (Err (FrameTooLong n)) new there e = is_fault_of read faults old (FrameTooLong n) (e.0 (λ m. cc))
+told_of_front read faults old (Err (Malformed at)) new there e = is_fault_of read faults old (Malformed at) (e.0 (λ m. cc))
 
 -- A value that was read stood at the front as it is spelled.
 pub found_at_front : {A : Type 0} (spell : A → List ℕ) (Fits : A → Type 0) (read : List ℕ → Result A FrameFault) → Reads spell Fits read

@@ -82,6 +82,9 @@ payload_len-fault bytes fault e =
     fault_by (ltb (length bytes) 4) (eqb (told_length bytes) 0) (ltb 65535 (told_length bytes)) (ltb (length bytes) (4 + told_length bytes)) (told_length bytes) fault
     (eqb-true (told_length bytes) 0) (ltb-true 65535 (told_length bytes)) (sym (payload_len-judged bytes) ∙ e)
 
+pub payload_len-long : (bytes : List ℕ) (fault : FrameFault) → payload_len bytes ≡ Err fault → 4 ≤ length bytes
+payload_len-long bytes fault e = (judged_broken (length bytes) 0 (told_length bytes) fault (sym (payload_len-judged bytes) ∙ e)).0
+
 pub payload_there : (bytes : List ℕ) (len : ℕ) → payload_len bytes ≡ Ok (Some len) → IsThere (length bytes) (told_length bytes) len
 payload_there bytes len e = judged_there (length bytes) (told_length bytes) len (sym (payload_len-judged bytes) ∙ e)
 

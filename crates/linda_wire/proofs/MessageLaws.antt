@@ -1,6 +1,6 @@
 -- The laws of messages: what is read is so spelled, and what has a spelling is read again.
 use Rattle.std.proofs.Common.{◌≡◌, ℕ, ◌^◌, ◌<◌, Bool, List, [], ◌∷◌, ◌++◌, length, Option, Result, Ok, refl, arith}
-use Rattle.std.specs.Prelude.{◌≢◌, IfOk, IfErr, IfSome}
+use Rattle.std.specs.Prelude.{IfOk, IfErr, IfSome, IsErrOf}
 use Rattle.std.specs.List.{AllByRecursion}
 use Rattle.std.specs.Int.{w32, w64, to_be_bytes}
 use Rattle.linda_tuple.specs.Values.{Row, IsWithin}
@@ -16,7 +16,7 @@ use Rattle.linda_wire.specs.declared.faults.FrameFault.TheVariants.{Memory}
 use Rattle.linda_wire.specs.declared.messages.Message.{Message}
 use Rattle.linda_wire.specs.declared.messages.Message.TheVariants.{Hello, Out, Ask, Accept, Cancel}
 use Rattle.linda_wire.specs.Frames.{spell_message, message_frame, FitsMessage}
-use Rattle.linda_wire.specs.Stream.{Answers, IsFaultOf}
+use Rattle.linda_wire.specs.Stream.{Answers, HasFrame, IsFaultOf}
 use Rattle.linda_wire.specs.Payloads.{hello_at, out_at, ask_at, accept_at, cancel_at, message_kinds, message_at, message_of, message_front}
 use Rattle.linda_wire.proofs.BodyLaws.{IsSpelled, pair, spelled_as, IsBody, kinds_take, kinds_bounded, byte_bounded, number_body, number_as_again}
 use Rattle.linda_wire.proofs.FrontLaws.{Reads, told_of_front, found_at_front}
@@ -186,9 +186,9 @@ message_reads = whole_reads spell_message FitsMessage message_at reads_front mes
 -- ---- the answers of a feed
 
 -- A fault that is answered is one of the frame at the front.
-pub is_told : (old : List ℕ) (answer : Result (Option Message) FrameFault) (new : List ℕ) → Answers message_front old answer new
-    → IfErr answer (λ fault. fault ≢ Memory → IsFaultOf old fault)
-is_told old answer new e = told_of_front message_of (whole_place spell_message FitsMessage message_at reads_front) old answer new e
+pub is_told : (old : List ℕ) (answer : Result (Option Message) FrameFault) (new : List ℕ) → (IsErrOf answer Memory → HasFrame old) → Answers message_front old answer new
+    → IfErr answer (λ fault. IsFaultOf old fault)
+is_told old answer new there e = told_of_front message_of (whole_place spell_message FitsMessage message_at reads_front) old answer new there e
 
 -- A message that was read stood at the front as it is spelled.
 pub is_found : (old : List ℕ) (answer : Result (Option Message) FrameFault) (new : List ℕ) → IsBytes old → Answers message_front old answer new

@@ -1,6 +1,6 @@
 -- The laws of replies: what is read is so spelled, and what has a spelling is read again.
 use Rattle.std.proofs.Common.{◌≡◌, ℕ, ◌^◌, ◌<◌, List, [], ◌∷◌, ◌++◌, length, Option, Result, Ok, refl, arith}
-use Rattle.std.specs.Prelude.{◌≢◌, IfOk, IfErr, IfSome}
+use Rattle.std.specs.Prelude.{IfOk, IfErr, IfSome, IsErrOf}
 use Rattle.std.specs.List.{AllByRecursion}
 use Rattle.std.specs.Int.{w64, to_be_bytes}
 use Rattle.linda_codec.specs.Steps.{◌>>=◌}
@@ -12,7 +12,7 @@ use Rattle.linda_wire.specs.declared.faults.FrameFault.TheVariants.{Memory}
 use Rattle.linda_wire.specs.declared.replies.Reply.{Reply}
 use Rattle.linda_wire.specs.declared.replies.Reply.TheVariants.{Welcome, Stored, Offer, Read, Taken, Gone, Refused}
 use Rattle.linda_wire.specs.Frames.{spell_reply, reply_frame, FitsReply}
-use Rattle.linda_wire.specs.Stream.{Answers, IsFaultOf}
+use Rattle.linda_wire.specs.Stream.{Answers, HasFrame, IsFaultOf}
 use Rattle.linda_wire.specs.Payloads.{welcome_at, stored_at, offer_at, read_at, taken_at, gone_at, refused_at, reply_kinds, reply_at, reply_of, reply_front}
 use Rattle.linda_wire.proofs.BodyLaws.{IsSpelled, pair, spelled_as, IsBody, kinds_take, kinds_bounded, byte_bounded, number_body, number_as_again, entry_body, entry_as_again}
 use Rattle.linda_wire.proofs.FrontLaws.{Reads, told_of_front, found_at_front}
@@ -145,9 +145,9 @@ reply_reads = whole_reads spell_reply FitsReply reply_at reads_front reply_some 
 -- ---- the answers of a feed
 
 -- A fault that is answered is one of the frame at the front.
-pub is_told : (old : List ℕ) (answer : Result (Option Reply) FrameFault) (new : List ℕ) → Answers reply_front old answer new
-    → IfErr answer (λ fault. fault ≢ Memory → IsFaultOf old fault)
-is_told old answer new e = told_of_front reply_of (whole_place spell_reply FitsReply reply_at reads_front) old answer new e
+pub is_told : (old : List ℕ) (answer : Result (Option Reply) FrameFault) (new : List ℕ) → (IsErrOf answer Memory → HasFrame old) → Answers reply_front old answer new
+    → IfErr answer (λ fault. IsFaultOf old fault)
+is_told old answer new there e = told_of_front reply_of (whole_place spell_reply FitsReply reply_at reads_front) old answer new there e
 
 -- A reply that was read stood at the front as it is spelled.
 pub is_found : (old : List ℕ) (answer : Result (Option Reply) FrameFault) (new : List ℕ) → IsBytes old → Answers reply_front old answer new

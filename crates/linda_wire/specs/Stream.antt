@@ -41,12 +41,16 @@ Answers front old (Ok (Some value)) new = front old ≡ Whole value new
 Answers front old (Ok None) new = (front old ≡ Partial) × (new ≡ old)
 Answers front old (Err fault) new = (fault ≢ Memory → front old ≡ Broken fault) × (new ≡ old)
 
--- What a fault tells of the frame at the front: that its length is 0, or above 65,535, or an offset from its kind to its end, all of it being there.
+-- All of a frame is at the front, and its length is within its limits.
+abbrev pub HasFrame : List ℕ → Type 0
+HasFrame bytes = (0 < told_length bytes) × (told_length bytes ≤ 65535) × (4 + told_length bytes ≤ length bytes)
+
+-- What a fault tells of the frame at the front: of its length, once that is there, that it is 0 or above 65,535; else, once all of the frame is there, that it finds no memory, or an offset from its kind to its end.
 abbrev pub IsFaultOf : List ℕ → FrameFault → Type 0
-IsFaultOf bytes Memory = ⊥
-IsFaultOf bytes EmptyFrame = told_length bytes ≡ 0
-IsFaultOf bytes (FrameTooLong len) = (told_length bytes ≡ len) × (65535 < len)
-IsFaultOf bytes (Malformed at) = (4 ≤ at) × (at ≤ 4 + told_length bytes) × (4 + told_length bytes ≤ length bytes)
+IsFaultOf bytes Memory = HasFrame bytes
+IsFaultOf bytes EmptyFrame = (4 ≤ length bytes) × (told_length bytes ≡ 0)
+IsFaultOf bytes (FrameTooLong len) = (4 ≤ length bytes) × (told_length bytes ≡ len) × (65535 < len)
+IsFaultOf bytes (Malformed at) = HasFrame bytes × (4 ≤ at) × (at ≤ 4 + told_length bytes)
 
 -- No value stands at the front.
 abbrev pub HasNoValue : {A : Type 0} → Front A → Type 0

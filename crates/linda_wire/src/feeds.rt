@@ -1,8 +1,8 @@
 //! A stream of messages, whose bytes come in pieces.
 
-ghost use Rattle.std.specs.Prelude.{◌≡◌, ◌≢◌, ◌↔◌, ◌++◌, [], length, IfOk, IfErr, IfSome, OnOk, OnErr};
+ghost use Rattle.std.specs.Prelude.{◌≡◌, ◌↔◌, ◌++◌, [], length, IfOk, IfErr, IfSome, IsErrOf, OnOk, OnErr};
 ghost use Rattle.linda_wire.specs.Frames.{message_frame, FitsMessage};
-ghost use Rattle.linda_wire.specs.Stream.{Partial, Answers, IsFaultOf};
+ghost use Rattle.linda_wire.specs.Stream.{Partial, Answers, HasFrame, IsFaultOf};
 ghost use Rattle.linda_wire.specs.Payloads.{message_front};
 
 use crate::faults::FrameFault;
@@ -58,11 +58,11 @@ impl Feed {
     ///
     /// The fault of the frame at the front, once it can be told: of its length with its first four
     /// bytes, else with its last byte. It stays at the front, so the same fault is answered from then
-    /// on. `Memory` where the message finds none. An error changes nothing.
+    /// on. `Memory` where the message finds none, once all of its frame is there. An error changes nothing.
     pub fn next(&mut self, alloc: Global) -> Result<Option<Message>, FrameFault>
         ensures found { IfOk result (λ o. IfSome o (λ m. (self.old ≡ message_frame m ++ self.new) × FitsMessage m)) }
         ensures partial { (result ≡ Ok None) ↔ (message_front self.old ≡ Partial) }
-        ensures told { IfErr result (λ fault. fault ≢ FrameFault.Memory → IsFaultOf self.old fault) }
+        ensures told { IfErr result (λ fault. IsFaultOf self.old fault) }
         ensures exact { Answers message_front self.old result self.new }
     {
         self.unread.are_bytes();
@@ -79,6 +79,7 @@ impl Feed {
     // What `next` answers.
     fn take_message(&mut self, alloc: Global) -> Result<Option<Message>, FrameFault>
         ensures partial { (result ≡ Ok None) ↔ (message_front self.old ≡ Partial) }
+        ensures memory { IsErrOf result FrameFault.Memory → HasFrame self.old }
         ensures exact { Answers message_front self.old result self.new }
     {
         let bytes = self.unread.as_slice();

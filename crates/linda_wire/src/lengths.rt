@@ -1,8 +1,8 @@
 //! The length that stands before a frame's kind and body.
 
-ghost use Rattle.std.specs.Prelude.{◌≡◌, ◌+◌, ◌≤◌, length, IfOk, IfSome};
+ghost use Rattle.std.specs.Prelude.{◌≡◌, ◌≢◌, ◌≤◌, length, IfOk, IfSome, Err};
 ghost use Rattle.linda_wire.specs.Frames.{told_length};
-ghost use Rattle.linda_wire.specs.Stream.{payload_len};
+ghost use Rattle.linda_wire.specs.Stream.{payload_len, HasFrame};
 
 use crate::faults::FrameFault;
 
@@ -16,7 +16,8 @@ const MAX_PAYLOAD: usize = 65535;
 #[tactic(auto, unfolding(crate::specs::Stream::payload_len))]
 pub(crate) fn len_of_payload(bytes: &[u8]) -> Result<Option<usize>, FrameFault>
     ensures value { result ≡ payload_len bytes.now }
-    ensures within { IfOk result (λ told. IfSome told (λ len. (len ≤ 65535) × (4 + len ≤ length bytes.now))) }
+    ensures within { IfOk result (λ told. IfSome told (λ len. (len ≡ told_length bytes.now) × HasFrame bytes.now)) }
+    ensures always { result ≢ Err FrameFault.Memory }
 {
     if bytes.len() < LENGTH_BYTES {
         return Ok(None);

@@ -1,7 +1,7 @@
 //! Reading a message from the payload of its frame.
 
 ghost use Rattle.std.specs.Prelude.{◌≤◌, length};
-ghost use Rattle.linda_codec.specs.Steps.{Gives};
+ghost use Rattle.linda_codec.specs.Steps.{Gives, GivesAlways};
 ghost use Rattle.linda_wire.specs.Payloads.{GivesWhole, hello_at, out_at, ask_at, accept_at, cancel_at, message_at, message_of};
 
 use crate::faults::FrameFault;
@@ -45,7 +45,7 @@ fn message_from(alloc: Global, payload: &[u8]) -> Result<(Message, &[u8]), ReadF
 
 #[tactic(auto, unfolding(crate::specs::Payloads::hello_at))]
 fn hello_from(body: &[u8]) -> Result<(Message, &[u8]), ReadFault>
-    ensures { Gives (λ x. (x.0, x.1.now)) result (hello_at body.now) }
+    ensures { GivesAlways (λ x. (x.0, x.1.now)) result (hello_at body.now) }
 {
     let (version, rest) = read_u8(body)?;
     let (client, rest) = read_u32(rest)?;
@@ -84,7 +84,7 @@ fn ask_from(alloc: Global, body: &[u8]) -> Result<(Message, &[u8]), ReadFault>
 
 #[tactic(auto, unfolding(crate::specs::Payloads::accept_at))]
 fn accept_from(body: &[u8]) -> Result<(Message, &[u8]), ReadFault>
-    ensures { Gives (λ x. (x.0, x.1.now)) result (accept_at body.now) }
+    ensures { GivesAlways (λ x. (x.0, x.1.now)) result (accept_at body.now) }
 {
     let (n, rest) = read_u64(body)?;
     let (ticket, rest) = read_u64(rest)?;
@@ -94,7 +94,7 @@ fn accept_from(body: &[u8]) -> Result<(Message, &[u8]), ReadFault>
 
 #[tactic(auto, unfolding(crate::specs::Payloads::cancel_at))]
 fn cancel_from(body: &[u8]) -> Result<(Message, &[u8]), ReadFault>
-    ensures { Gives (λ x. (x.0, x.1.now)) result (cancel_at body.now) }
+    ensures { GivesAlways (λ x. (x.0, x.1.now)) result (cancel_at body.now) }
 {
     let (ticket, rest) = read_u64(body)?;
     Ok((Message::Cancel { ticket }, rest))

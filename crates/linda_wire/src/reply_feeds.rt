@@ -1,8 +1,8 @@
 //! A stream of replies, whose bytes come in pieces.
 
-ghost use Rattle.std.specs.Prelude.{◌≡◌, ◌≢◌, ◌↔◌, ◌++◌, [], length, IfOk, IfErr, IfSome, OnOk, OnErr};
+ghost use Rattle.std.specs.Prelude.{◌≡◌, ◌↔◌, ◌++◌, [], length, IfOk, IfErr, IfSome, IsErrOf, OnOk, OnErr};
 ghost use Rattle.linda_wire.specs.Frames.{reply_frame, FitsReply};
-ghost use Rattle.linda_wire.specs.Stream.{Partial, Answers, IsFaultOf};
+ghost use Rattle.linda_wire.specs.Stream.{Partial, Answers, HasFrame, IsFaultOf};
 ghost use Rattle.linda_wire.specs.Payloads.{reply_front};
 
 use crate::faults::FrameFault;
@@ -58,11 +58,11 @@ impl ReplyFeed {
     ///
     /// The fault of the frame at the front, once it can be told: of its length with its first four
     /// bytes, else with its last byte. It stays at the front, so the same fault is answered from then
-    /// on. `Memory` where the reply finds none. An error changes nothing.
+    /// on. `Memory` where the reply finds none, once all of its frame is there. An error changes nothing.
     pub fn next(&mut self, alloc: Global) -> Result<Option<Reply>, FrameFault>
         ensures found { IfOk result (λ o. IfSome o (λ r. (self.old ≡ reply_frame r ++ self.new) × FitsReply r)) }
         ensures partial { (result ≡ Ok None) ↔ (reply_front self.old ≡ Partial) }
-        ensures told { IfErr result (λ fault. fault ≢ FrameFault.Memory → IsFaultOf self.old fault) }
+        ensures told { IfErr result (λ fault. IsFaultOf self.old fault) }
         ensures exact { Answers reply_front self.old result self.new }
     {
         self.unread.are_bytes();
@@ -79,6 +79,7 @@ impl ReplyFeed {
     // What `next` answers.
     fn take_reply(&mut self, alloc: Global) -> Result<Option<Reply>, FrameFault>
         ensures partial { (result ≡ Ok None) ↔ (reply_front self.old ≡ Partial) }
+        ensures memory { IsErrOf result FrameFault.Memory → HasFrame self.old }
         ensures exact { Answers reply_front self.old result self.new }
     {
         let bytes = self.unread.as_slice();

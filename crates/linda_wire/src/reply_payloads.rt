@@ -1,7 +1,7 @@
 //! Reading a reply from the payload of its frame.
 
 ghost use Rattle.std.specs.Prelude.{◌≤◌, length};
-ghost use Rattle.linda_codec.specs.Steps.{Gives};
+ghost use Rattle.linda_codec.specs.Steps.{Gives, GivesAlways};
 ghost use Rattle.linda_wire.specs.Payloads.{GivesWhole, welcome_at, stored_at, offer_at, read_at, taken_at, gone_at, refused_at, reply_at, reply_of};
 
 use crate::faults::FrameFault;
@@ -47,7 +47,7 @@ fn reply_from(alloc: Global, payload: &[u8]) -> Result<(Reply, &[u8]), ReadFault
 
 #[tactic(auto, unfolding(crate::specs::Payloads::welcome_at))]
 fn welcome_from(body: &[u8]) -> Result<(Reply, &[u8]), ReadFault>
-    ensures { Gives (λ x. (x.0, x.1.now)) result (welcome_at body.now) }
+    ensures { GivesAlways (λ x. (x.0, x.1.now)) result (welcome_at body.now) }
 {
     let (last, rest) = read_u64(body)?;
     Ok((Reply::Welcome { last }, rest))
@@ -55,7 +55,7 @@ fn welcome_from(body: &[u8]) -> Result<(Reply, &[u8]), ReadFault>
 
 #[tactic(auto, unfolding(crate::specs::Payloads::stored_at))]
 fn stored_from(body: &[u8]) -> Result<(Reply, &[u8]), ReadFault>
-    ensures { Gives (λ x. (x.0, x.1.now)) result (stored_at body.now) }
+    ensures { GivesAlways (λ x. (x.0, x.1.now)) result (stored_at body.now) }
 {
     let (n, rest) = read_u64(body)?;
     let (id, rest) = read_u64(rest)?;
@@ -88,7 +88,7 @@ fn taken_from(alloc: Global, body: &[u8]) -> Result<(Reply, &[u8]), ReadFault>
 
 #[tactic(auto, unfolding(crate::specs::Payloads::gone_at))]
 fn gone_from(body: &[u8]) -> Result<(Reply, &[u8]), ReadFault>
-    ensures { Gives (λ x. (x.0, x.1.now)) result (gone_at body.now) }
+    ensures { GivesAlways (λ x. (x.0, x.1.now)) result (gone_at body.now) }
 {
     let (n, rest) = read_u64(body)?;
     Ok((Reply::Gone { n }, rest))
@@ -96,7 +96,7 @@ fn gone_from(body: &[u8]) -> Result<(Reply, &[u8]), ReadFault>
 
 #[tactic(auto, unfolding(crate::specs::Payloads::refused_at))]
 fn refused_from(body: &[u8]) -> Result<(Reply, &[u8]), ReadFault>
-    ensures { Gives (λ x. (x.0, x.1.now)) result (refused_at body.now) }
+    ensures { GivesAlways (λ x. (x.0, x.1.now)) result (refused_at body.now) }
 {
     let (code, rest) = read_u8(body)?;
     let (detail, rest) = read_u64(rest)?;

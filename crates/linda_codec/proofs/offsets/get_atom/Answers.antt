@@ -9,22 +9,22 @@ use Rattle.linda_codec.proofs.offsets.get_atom.Goals as goal
 
 pub overflow_sub-result : goal.overflow_sub-result
 overflow_sub-result c =
-    (is_found atom_at spell_atom IsSound atom_takes c.args.bytes.now c.tail.result.now c.args.at (c.in-Ok.atom, c.in-Ok.rest.now) (λ i. omega (arith, c.type_inv.bytes i)) c.tail.ensures c.in-Ok.ensures).1
+    (is_found atom_at spell_atom IsSound atom_takes c.args.bytes.now c.tail.result.now c.args.at (c.in-Ok.atom, c.in-Ok.rest.now) (λ i. omega (arith, c.type_inv.bytes i)) c.tail.ensures c.in-Ok.ensures.value).1
 
 pub returns-in-Ok-clause-found : goal.returns-in-Ok-clause-found
 returns-in-Ok-clause-found c =
-    let f = is_found atom_at spell_atom IsSound atom_takes c.args.bytes.now c.tail.result.now c.args.at (c.in-Ok.atom, c.in-Ok.rest.now) (λ i. omega (arith, c.type_inv.bytes i)) c.tail.ensures c.in-Ok.ensures in
+    let f = is_found atom_at spell_atom IsSound atom_takes c.args.bytes.now c.tail.result.now c.args.at (c.in-Ok.atom, c.in-Ok.rest.now) (λ i. omega (arith, c.type_inv.bytes i)) c.tail.ensures c.in-Ok.ensures.value in
     (f.0, omega arith, f.2)
 
 pub returns-in-Ok-clause-only : goal.returns-in-Ok-clause-only
 returns-in-Ok-clause-only c = λ a rest fits spelled.
-    let same = is_only atom_at spell_atom IsSound atom_again c.args.bytes.now c.tail.result.now c.args.at (c.in-Ok.atom, c.in-Ok.rest.now) c.tail.ensures c.in-Ok.ensures a rest fits spelled in
+    let same = is_only atom_at spell_atom IsSound atom_again c.args.bytes.now c.tail.result.now c.args.at (c.in-Ok.atom, c.in-Ok.rest.now) c.tail.ensures c.in-Ok.ensures.value a rest fits spelled in
     cc
 
 pub returns-in-Err-clause-only : goal.returns-in-Err-clause-only
 returns-in-Err-clause-only c = λ a rest fits spelled not_memory.
-    absurd (no_fault atom_at spell_atom IsSound atom_again c.args.bytes.now c.tail.result.now c.args.at _ c.in-Err.fault c.placed.result c.tail.ensures c.in-Err.ensures c.placed.ensures a rest fits spelled not_memory)
+    absurd (no_fault atom_at spell_atom IsSound atom_again c.args.bytes.now c.tail.result.now c.args.at _ c.in-Err.fault c.placed.result c.tail.ensures c.in-Err.ensures.value c.placed.ensures.value a rest fits spelled not_memory)
 
 pub returns-in-Err-clause-place : goal.returns-in-Err-clause-place
 returns-in-Err-clause-place c =
-    is_place atom_at atom_bounded c.args.bytes.now c.tail.result.now c.args.at c.in-Err.fault c.placed.result c.tail.ensures c.in-Err.ensures c.placed.ensures
+    is_place atom_at atom_bounded c.args.bytes.now c.tail.result.now c.args.at c.in-Err.fault c.placed.result c.tail.ensures c.in-Err.ensures.value c.placed.ensures.value

@@ -5,7 +5,8 @@ use Rattle.std.specs.FinMap.{FinMap, get, insert, len, len-empty}
 use Rattle.std.specs.FinMap as map
 use Rattle.linda_tuple.specs.Values.{Row}
 use Rattle.linda_bag.proofs.Maps.{get_empty, get_same, get_other, len_new}
-use Rattle.linda_store.specs.State.{State, Entry, IsState, client_limit, number_limit}
+use Rattle.linda_book.specs.Entries.{Entry}
+use Rattle.linda_store.specs.State.{State, IsState, client_limit, number_limit}
 use Rattle.linda_store.proofs.tests.state_of_one.Goals as goal
 
 no_tuples : (bag : FinMap nat_cmp Row) (next id : ℕ) → bag ≡ map.empty → IfSome (get bag id) (λ _. (1 ≤ id) × (id < next))

@@ -1,4 +1,5 @@
 use Rattle.std.proofs.Common.{nat_cmp}
+use Rattle.std.specs.BTreeSet.{contains}
 use Rattle.std.specs.FinMap.{from_entries}
 use Rattle.linda_bag.specs.FreeMatch.{IsFreeMatch}
 use Rattle.linda_bag.proofs.Left.{IsLeft}
@@ -8,4 +9,4 @@ use Rattle.linda_bag.proofs.lists.ListBagBag.least_match.Given as goal
 abbrev pub invariant-loop-id : goal.invariant-loop-id
 invariant-loop-id l =
     let contents = from_entries {R = nat_cmp} l.self.tuples.entries in
-    IsLeft contents (IsFreeMatch contents l.template l.passed) l.id-iterator
+    IsLeft contents (IsFreeMatch contents l.template (contains nat_cmp l.passed)) l.id-iterator

@@ -8,5 +8,5 @@ pub returns : goal.returns
 returns c =
     subst
     (λ es. IfOk c.held_ids.result (λ v. v.items ≡ held_in c.args.client es))
-    (sym (same_entries c.self.inside.by_id c.len-count.ensures.ordered) ∙ ap map.entries c.self.view_is)
-    c.held_ids.ensures
+    (sym (same_entries c.self.inside.by_id c.held_ids.ensures.ordered) ∙ ap map.entries c.self.view_is)
+    c.held_ids.ensures.held

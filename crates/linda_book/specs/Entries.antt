@@ -1,0 +1,19 @@
+-- What a book keeps for a client.
+use Rattle.std.specs.Prelude.{ℕ, Option, Some, None}
+use Rattle.linda_book.specs.declared.kept.KeptReply.{KeptReply}
+use Rattle.linda_book.specs.declared.kept.KeptReply.TheVariants.{Stored, Taken, Gone}
+
+-- The reply has a tuple.
+abbrev pub HasTuple : KeptReply → Type 0
+HasTuple (Stored id) = ⊥
+HasTuple (Taken id tuple) = Unit {0}
+HasTuple Gone = ⊥
+
+-- An entry: the number of the client's last numbered message, and the reply to it.
+abbrev pub Entry : Type 0
+Entry = ℕ × KeptReply
+
+-- the number in an entry, 0 where there is none
+abbrev pub number_in : Option Entry → ℕ
+number_in None = 0
+number_in (Some entry) = entry.0

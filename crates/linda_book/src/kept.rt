@@ -1,0 +1,36 @@
+//! The reply to a client's last numbered message, kept so that a repeated message gets it again.
+
+ghost use Rattle.std.specs.Prelude.{◌≡◌, IfOk, OnErr};
+ghost use Rattle.linda_book.specs.Entries.{HasTuple};
+
+use linda_tuple::Tuple;
+use std::alloc::{AllocError, Global};
+
+/// What a numbered message was answered with.
+#[derive(Debug, Drop)]
+pub enum KeptReply {
+    /// The tuple was put, under this id.
+    Stored(u64),
+    /// The tuple was taken, with its id.
+    Taken(u64, Tuple),
+    /// The offer was gone, and nothing was taken.
+    Gone,
+}
+
+impl KeptReply {
+    /// A copy with memory of its own.
+    ///
+    /// # Errors
+    ///
+    /// `AllocError` where memory runs out. It comes only for a reply with a tuple: the others take no memory.
+    pub fn try_clone(&self, alloc: Global) -> Result<KeptReply, AllocError>
+        ensures ok { IfOk result (λ copy. copy ≡ self.now) }
+        ensures err { OnErr result (HasTuple self.now) }
+    {
+        match self {
+            KeptReply::Stored(id) => Ok(KeptReply::Stored(*id)),
+            KeptReply::Taken(id, tuple) => Ok(KeptReply::Taken(*id, tuple.try_clone(alloc)?)),
+            KeptReply::Gone => Ok(KeptReply::Gone),
+        }
+    }
+}

@@ -1,0 +1,45 @@
+//! What the definitions of states, deeds and steps come to, each told by the contract of a function that does nothing.
+
+ghost use Rattle.std.specs.Prelude.{◌≡◌, ℕ, ◌++◌, List, IsSome, option_to_list};
+ghost use Rattle.linda_hold.specs.Holds.{IsOneEach};
+ghost use Rattle.linda_wire.specs.declared.messages.Message.{Message};
+ghost use Rattle.linda_store.specs.declared.deeds.Deed.{Deed};
+ghost use Rattle.linda_store.specs.State.{State, IsState};
+ghost use Rattle.linda_store.specs.Soft.{Soft};
+ghost use Rattle.linda_store.specs.After.{IsAfter};
+ghost use Rattle.linda_store.specs.Proper.{IsProper};
+ghost use Rattle.linda_store.specs.Answer.{Answered, IsAnswer, IsStep};
+ghost use Rattle.linda_store.specs.Stores.{IsOrderly};
+ghost use Rattle.linda_store.specs.Promises.{IsTakenOnce, IsAnsweredAsKept};
+
+/// Over every proper list of deeds no tuple is taken by two of them.
+pub fn no_tuple_is_taken_twice()
+    ensures { (st : State) (ds : List Deed) → IsState st → IsProper st ds → IsTakenOnce ds }
+{}
+
+/// The state after a proper list of deeds is in its ranges: so the ids of its bag are below its next id.
+pub fn proper_lists_keep_the_ranges()
+    ensures { (st new : State) (ds : List Deed) → IsState st → IsProper st ds → IsAfter st ds new → IsState new }
+{}
+
+/// The deeds of steps, one after another, are a proper list, and the state is the one after them.
+pub fn steps_do_proper_lists()
+    ensures { (st mid new : State) (soft : Soft) (ds : List Deed) (c : ℕ) (m : Message) (answered : Answered) → IsState st → IsProper st ds → IsAfter st ds mid
+        → IsStep mid soft c m answered new → IsProper st (ds ++ option_to_list answered.deed) × IsAfter st (ds ++ option_to_list answered.deed) new }
+{}
+
+/// A step that does a deed is answered with the reply that the book then keeps.
+pub fn deeds_are_answered_as_kept()
+    ensures { (st new : State) (soft : Soft) (c : ℕ) (m : Message) (answered : Answered) → IsState st → IsStep st soft c m answered new → IsSome answered.deed
+        → IsAnsweredAsKept c answered.sends new }
+{}
+
+/// A message has one answer, where no request holds two tuples.
+pub fn one_answer()
+    ensures { (st : State) (soft : Soft) (c : ℕ) (m : Message) (a b : Answered) → IsOneEach soft.holds → IsAnswer st soft c m a → IsAnswer st soft c m b → a ≡ b }
+{}
+
+/// Each step leaves a server as every store is: in its ranges, and with nobody who waits in vain.
+pub fn steps_keep_order()
+    ensures { (st new : State) (soft : Soft) (c : ℕ) (m : Message) (answered : Answered) → IsOrderly st soft → IsStep st soft c m answered new → IsOrderly new answered.soft }
+{}
