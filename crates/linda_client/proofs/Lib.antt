@@ -1,0 +1,10 @@
+pub mod Rows
+pub mod Readiness
+pub mod Counting
+pub mod Cancelling
+pub mod Numbering
+pub mod Rising
+pub mod Lawful
+pub mod Replies
+pub mod Doing
+pub mod Beginnings

@@ -1,0 +1,11 @@
+pub mod Asks
+pub mod Syncs
+pub mod Clients
+pub mod Codes
+pub mod ClientCodes
+pub mod Viewing
+pub mod Committing
+pub mod Reacting
+pub mod Answers
+pub mod Laws
+pub mod Changes
