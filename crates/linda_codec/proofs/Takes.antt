@@ -121,9 +121,6 @@ byte_takes [] x fits e = absurd cc
 byte_takes (b ∷ bytes) x fits e =
     rw (← ok_is (b, bytes) x e) (Takes-byte b bytes [] bytes (Takes-none bytes (IsBytes-rest b bytes fits)), fits 0)
 
-pub byte_again : (b : ℕ) (rest : List ℕ) → byte_at ((b ∷ []) ++ rest) ≡ Ok (b, rest)
-byte_again b rest = refl
-
 -- ---- texts
 
 not_true : (b : Bool) → (b ≡ true → ⊥) → b ≡ false

@@ -1,5 +1,5 @@
 -- Reading atoms, tuples and templates from left to right, with the first fault that is met.
-use Rattle.std.specs.Prelude.{ℕ, zero, suc, ◌-◌, ◌<◌, ◌≤◌, ℤ, Bool, true, false, List, [], ◌∷◌, length, take, drop, Result, Ok, Err, nat_lt, if◌then◌else◌}
+use Rattle.std.specs.Prelude.{ℕ, zero, suc, ◌-◌, ◌<◌, ◌≤◌, ◌⊎◌, ℤ, Bool, true, false, List, [], ◌∷◌, length, take, drop, Result, Ok, Err, IsOkAnd, nat_lt, if◌then◌else◌}
 use Rattle.std.specs.Int.{Width, w64, byte_len, from_be_bytes, cast_signed}
 use Rattle.std.specs.Str.{is_utf8}
 use Rattle.linda_tuple.specs.declared.atoms.Atom.{Atom}
@@ -7,7 +7,7 @@ use Rattle.linda_tuple.specs.declared.atoms.Atom.TheVariants as atoms
 use Rattle.linda_tuple.specs.declared.patterns.Pattern.{Pattern}
 use Rattle.linda_tuple.specs.declared.patterns.Pattern.TheVariants as patterns
 use Rattle.linda_tuple.specs.Values.{Row}
-use Rattle.linda_tuple.specs.Matching.{Shape}
+use Rattle.linda_tuple.specs.Matching.{Shape, IsText}
 use Rattle.linda_codec.specs.declared.faults.ReadFault.{ReadFault}
 use Rattle.linda_codec.specs.declared.faults.ReadFault.TheVariants.{Memory, Short, BadKind, BadBool, BadText, TooMany}
 use Rattle.linda_codec.specs.Steps.{Read, Reader, ◌>>=◌, many_at}
@@ -57,6 +57,10 @@ atom_at (kind ∷ rest) = Err (BadKind (suc (length rest)))
 unfoldable pub count_at : Reader ℕ
 count_at [] = Err Short
 count_at (n ∷ rest) = if nat_lt 16 n then Err (TooMany (suc (length rest))) else Ok (n, rest)
+
+-- What begins with this tag, before these bytes, takes memory: the tag is a text, or the count behind it is above 0.
+abbrev pub TakesMemory : Atom × List ℕ → Type 0
+TakesMemory tag = IsText tag.0 ⊎ IsOkAnd (count_at tag.1) (λ count. 0 < count.0)
 
 -- A tag, the count of the fields, the fields.
 unfoldable pub tuple_at : Reader Row

@@ -1,12 +1,12 @@
 //! Readers of atoms, tuples and templates at an offset, which give the value and the offset of the byte after it.
 
-ghost use Rattle.std.specs.Prelude.{◌≡◌, ◌≤◌, ◌-◌, ◌++◌, ℕ, List, length, drop, IsOk, IsErrOf, IfOk, IfErr, Ok};
+ghost use Rattle.std.specs.Prelude.{◌≡◌, ◌≤◌, ◌-◌, ◌++◌, ℕ, List, length, drop, IsOkAnd, IsErrOf, IfOk, IfErr, Ok};
 ghost use Rattle.linda_tuple.specs.declared.atoms.Atom as atoms;
 ghost use Rattle.linda_tuple.specs.Values.{Row, IsSound, IsWithin};
-ghost use Rattle.linda_tuple.specs.Matching.{Shape, IsWithinShape};
+ghost use Rattle.linda_tuple.specs.Matching.{Shape, IsWithinShape, IsText};
 ghost use Rattle.linda_codec.specs.Spelling.{spell_atom, spell_tuple, spell_template};
 ghost use Rattle.linda_codec.specs.Steps.{Gives};
-ghost use Rattle.linda_codec.specs.Reading.{atom_at, tuple_at, template_at, placed, read_at, IsPlace};
+ghost use Rattle.linda_codec.specs.Reading.{atom_at, tuple_at, template_at, placed, read_at, IsPlace, TakesMemory};
 
 use crate::faults::ReadFault;
 use crate::reading::{read_atom, read_template, read_tuple};
@@ -28,8 +28,8 @@ pub fn get_atom(alloc: Global, bytes: &[u8], at: usize) -> Result<(Atom, usize),
     ensures exact { Gives (λ x. x) result (read_at atom_at bytes.now at) }
     // The offset of a fault is within what was read.
     ensures place { IfErr result (IsPlace at (length bytes.now)) }
-    // Memory runs out only where an atom stands at the offset.
-    ensures memory { IsErrOf result ReadFault.Memory → IsOk (atom_at (drop at bytes.now)) }
+    // Memory runs out only where a text stands at the offset.
+    ensures memory { IsErrOf result ReadFault.Memory → IsOkAnd (atom_at (drop at bytes.now)) (λ atom. IsText atom.0) }
 {
     match read_atom(alloc, tail(bytes, at)) {
         Ok((atom, rest)) => Ok((atom, bytes.len() - rest.len())),
@@ -52,8 +52,8 @@ pub fn get_tuple(alloc: Global, bytes: &[u8], at: usize) -> Result<(Tuple, usize
     ensures exact { Gives (λ x. x) result (read_at tuple_at bytes.now at) }
     // The offset of a fault is within what was read.
     ensures place { IfErr result (IsPlace at (length bytes.now)) }
-    // Memory runs out only where a tag stands at the offset.
-    ensures memory { IsErrOf result ReadFault.Memory → IsOk (atom_at (drop at bytes.now)) }
+    // Memory runs out only where the tag at the offset is a text, or a count above 0 stands behind it.
+    ensures memory { IsErrOf result ReadFault.Memory → IsOkAnd (atom_at (drop at bytes.now)) TakesMemory }
 {
     match read_tuple(alloc, tail(bytes, at)) {
         Ok((tuple, rest)) => Ok((tuple, bytes.len() - rest.len())),
@@ -76,8 +76,8 @@ pub fn get_template(alloc: Global, bytes: &[u8], at: usize) -> Result<(Template,
     ensures exact { Gives (λ x. x) result (read_at template_at bytes.now at) }
     // The offset of a fault is within what was read.
     ensures place { IfErr result (IsPlace at (length bytes.now)) }
-    // Memory runs out only where a tag stands at the offset.
-    ensures memory { IsErrOf result ReadFault.Memory → IsOk (atom_at (drop at bytes.now)) }
+    // Memory runs out only where the tag at the offset is a text, or a count above 0 stands behind it.
+    ensures memory { IsErrOf result ReadFault.Memory → IsOkAnd (atom_at (drop at bytes.now)) TakesMemory }
 {
     match read_template(alloc, tail(bytes, at)) {
         Ok((template, rest)) => Ok((template, bytes.len() - rest.len())),

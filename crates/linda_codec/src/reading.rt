@@ -1,9 +1,10 @@
 //! Readers of atoms, tuples and templates, each of which gives the value and the bytes after it.
 
-ghost use Rattle.std.specs.Prelude.{◌≡◌, true, false, IsOk, IsErrOf, MatchOption};
+ghost use Rattle.std.specs.Prelude.{◌≡◌, ◌<◌, true, false, IsOk, IsOkAnd, IsErrOf, MatchOption};
 ghost use Rattle.std.specs.Str.{is_utf8};
+ghost use Rattle.linda_tuple.specs.Matching.{IsText};
 ghost use Rattle.linda_codec.specs.Steps.{Gives, GivesAlways, many_at};
-ghost use Rattle.linda_codec.specs.Reading.{text_at, atom_at, pattern_at, count_at, tuple_at, template_at};
+ghost use Rattle.linda_codec.specs.Reading.{text_at, atom_at, pattern_at, count_at, tuple_at, template_at, TakesMemory};
 
 use crate::faults::ReadFault;
 use crate::kinds::{BOOL_FORMAL, INT_FORMAL, INTEGER, TEXT, TEXT_FORMAL, TRUTH, WILDCARD};
@@ -19,8 +20,8 @@ use std::alloc::Global;
 #[tactic(auto, unfolding(crate::specs::Reading::atom_at))]
 pub fn read_atom(alloc: Global, bytes: &[u8]) -> Result<(Atom, &[u8]), ReadFault>
     ensures value { Gives (λ x. (x.0, x.1.now)) result (atom_at bytes.now) }
-    // Memory runs out only where an atom stands there.
-    ensures memory { IsErrOf result ReadFault.Memory → IsOk (atom_at bytes.now) }
+    // Memory runs out only where a text stands there.
+    ensures memory { IsErrOf result ReadFault.Memory → IsOkAnd (atom_at bytes.now) (λ atom. IsText atom.0) }
 {
     match bytes {
         [] => Err(ReadFault::Short),
@@ -48,8 +49,8 @@ pub fn read_atom(alloc: Global, bytes: &[u8]) -> Result<(Atom, &[u8]), ReadFault
 #[tactic(auto, unfolding(crate::specs::Reading::tuple_at))]
 pub fn read_tuple(alloc: Global, bytes: &[u8]) -> Result<(Tuple, &[u8]), ReadFault>
     ensures value { Gives (λ x. (x.0, x.1.now)) result (tuple_at bytes.now) }
-    // Memory runs out only where a tag stands there.
-    ensures memory { IsErrOf result ReadFault.Memory → IsOk (atom_at bytes.now) }
+    // Memory runs out only where the tag there is a text, or a count above 0 stands behind it.
+    ensures memory { IsErrOf result ReadFault.Memory → IsOkAnd (atom_at bytes.now) TakesMemory }
 {
     let (tag, rest) = read_atom(alloc, bytes)?;
     let (count, rest) = read_count(rest)?;
@@ -65,8 +66,8 @@ pub fn read_tuple(alloc: Global, bytes: &[u8]) -> Result<(Tuple, &[u8]), ReadFau
 #[tactic(auto, unfolding(crate::specs::Reading::template_at))]
 pub fn read_template(alloc: Global, bytes: &[u8]) -> Result<(Template, &[u8]), ReadFault>
     ensures value { Gives (λ x. (x.0, x.1.now)) result (template_at bytes.now) }
-    // Memory runs out only where a tag stands there.
-    ensures memory { IsErrOf result ReadFault.Memory → IsOk (atom_at bytes.now) }
+    // Memory runs out only where the tag there is a text, or a count above 0 stands behind it.
+    ensures memory { IsErrOf result ReadFault.Memory → IsOkAnd (atom_at bytes.now) TakesMemory }
 {
     let (tag, rest) = read_atom(alloc, bytes)?;
     let (count, rest) = read_count(rest)?;
@@ -141,7 +142,8 @@ fn read_count(bytes: &[u8]) -> Result<(u8, &[u8]), ReadFault>
 }
 
 fn read_atoms(alloc: Global, count: u8, bytes: &[u8]) -> Result<(Vec<Atom>, &[u8]), ReadFault>
-    ensures { Gives (λ x. (x.0.items, x.1.now)) result (many_at atom_at count bytes.now) }
+    ensures value { Gives (λ x. (x.0.items, x.1.now)) result (many_at atom_at count bytes.now) }
+    ensures memory { IsErrOf result ReadFault.Memory → 0 < count }
 {
     let mut atoms = Vec::new(alloc);
     let mut rest = bytes;
@@ -154,7 +156,8 @@ fn read_atoms(alloc: Global, count: u8, bytes: &[u8]) -> Result<(Vec<Atom>, &[u8
 }
 
 fn read_patterns(alloc: Global, count: u8, bytes: &[u8]) -> Result<(Vec<Pattern>, &[u8]), ReadFault>
-    ensures { Gives (λ x. (x.0.items, x.1.now)) result (many_at pattern_at count bytes.now) }
+    ensures value { Gives (λ x. (x.0.items, x.1.now)) result (many_at pattern_at count bytes.now) }
+    ensures memory { IsErrOf result ReadFault.Memory → 0 < count }
 {
     let mut patterns = Vec::new(alloc);
     let mut rest = bytes;

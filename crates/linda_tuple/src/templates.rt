@@ -6,7 +6,7 @@ ghost use Rattle.linda_tuple.specs.Matching.{IsWithinShape};
 use crate::atoms::Atom;
 use crate::faults::ValueFault;
 use crate::patterns::Pattern;
-use crate::tuples::MAX_FIELDS;
+use crate::tuples::{MAX_FIELDS, copies};
 use std::alloc::{AllocError, Global};
 use std::marker::Model;
 
@@ -79,17 +79,7 @@ impl Template {
         ensures { IfOk result (λ t. t ≡ self.now) }
     {
         let tag = self.tag.try_clone(alloc)?;
-        let fields = copies(alloc, &self.fields)?;
+        let fields = copies(alloc, &self.fields, |f| f.try_clone(alloc))?;
         Ok(Template { tag, fields })
     }
-}
-
-fn copies(alloc: Global, patterns: &[Pattern]) -> Result<Vec<Pattern>, AllocError>
-    ensures { IfOk result (λ v. v.items ≡ patterns.now) }
-{
-    let mut copies = Vec::with_capacity(alloc, patterns.len())?;
-    for pattern in patterns {
-        copies.push(pattern.try_clone(alloc)?)?;
-    }
-    Ok(copies)
 }

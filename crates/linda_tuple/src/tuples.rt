@@ -80,17 +80,24 @@ impl Tuple {
         ensures { IfOk result (λ t. t ≡ self.now) }
     {
         let tag = self.tag.try_clone(alloc)?;
-        let fields = copies(alloc, &self.fields)?;
+        let fields = copies(alloc, &self.fields, |f| f.try_clone(alloc))?;
         Ok(Tuple { tag, fields })
     }
 }
 
-fn copies(alloc: Global, atoms: &[Atom]) -> Result<Vec<Atom>, AllocError>
-    ensures { IfOk result (λ v. v.items ≡ atoms.now) }
+/// The copies that `copy` makes of the values, in order.
+pub(crate) fn copies<T: Drop, F: Fn(&T) -> Result<T, AllocError>>(
+    alloc: Global,
+    values: &[T],
+    copy: F,
+) -> Result<Vec<T>, AllocError>
+    requires can { F.IsAlwaysCallable copy }
+    requires same { (v : _) (r : _) → F.post copy v r → IfOk r (λ c. c ≡ v.now) }
+    ensures { IfOk result (λ v. v.items ≡ values.now) }
 {
-    let mut copies = Vec::with_capacity(alloc, atoms.len())?;
-    for atom in atoms {
-        copies.push(atom.try_clone(alloc)?)?;
+    let mut copies = Vec::with_capacity(alloc, values.len())?;
+    for value in values {
+        copies.push(copy(value)?)?;
     }
     Ok(copies)
 }

@@ -1,11 +1,12 @@
 -- Reading the payload of a frame, a kind byte and a body, with the first fault that is met.
 use Rattle.std.specs.Prelude.{◌≡◌, ◌≢◌, ℕ, suc, ◌+◌, ◌-◌, List, [], ◌∷◌, length, Result, Ok, Err, ◌==◌, if◌then◌else◌}
 use Rattle.std.specs.Int.{w32, w64}
+use Rattle.linda_tuple.specs.declared.atoms.Atom.{Atom}
 use Rattle.linda_tuple.specs.Values.{Row}
 use Rattle.linda_codec.specs.declared.faults.ReadFault.{ReadFault}
 use Rattle.linda_codec.specs.declared.faults.ReadFault.TheVariants as reading
 use Rattle.linda_codec.specs.Steps.{Read, Reader, ◌>>=◌}
-use Rattle.linda_codec.specs.Reading.{byte_at, number_at, bool_at, tuple_at, template_at}
+use Rattle.linda_codec.specs.Reading.{byte_at, number_at, bool_at, atom_at, tuple_at, template_at}
 use Rattle.linda_wire.specs.declared.faults.FrameFault.{FrameFault}
 use Rattle.linda_wire.specs.declared.faults.FrameFault.TheVariants.{Memory, Malformed}
 use Rattle.linda_wire.specs.declared.messages.Message.{Message}
@@ -125,6 +126,36 @@ reply_kinds = (17, welcome_at) ∷ (18, stored_at) ∷ (19, offer_at) ∷ (20, r
 unfoldable pub reply_at : Reader Reply
 reply_at [] = Err reading.Short
 reply_at (kind ∷ rest) = body_at reply_kinds kind rest
+
+-- The tag of the tuple in an Out's body.
+unfoldable pub out_tag_at : Reader Atom
+out_tag_at bytes = do
+  n ← number_at w64 bytes
+  atom_at n.1
+
+-- The tag of the template in an Ask's body.
+unfoldable pub ask_tag_at : Reader Atom
+ask_tag_at bytes = do
+  ticket ← number_at w64 bytes
+  remove ← bool_at ticket.1
+  atom_at remove.1
+
+-- The tag of the tuple behind two numbers.
+unfoldable pub entry_tag_at : Reader Atom
+entry_tag_at bytes = do
+  number ← number_at w64 bytes
+  id ← number_at w64 number.1
+  atom_at id.1
+
+-- The tag of the tuple or of the template in a message's payload; other kinds than Out and Ask have none.
+unfoldable pub message_tag_at : Reader Atom
+message_tag_at [] = Err reading.Short
+message_tag_at (kind ∷ rest) = body_at ((2, out_tag_at) ∷ (3, ask_tag_at) ∷ []) kind rest
+
+-- The tag of the tuple in a reply's payload; other kinds than Offer, Read and Taken have none.
+unfoldable pub reply_tag_at : Reader Atom
+reply_tag_at [] = Err reading.Short
+reply_tag_at (kind ∷ rest) = body_at ((19, entry_tag_at) ∷ (20, entry_tag_at) ∷ (21, entry_tag_at) ∷ []) kind rest
 
 -- A fault in a payload of so many bytes, told by how many of them are left from it on: its offset in the frame.
 abbrev pub malformed_with : ℕ → ℕ → FrameFault

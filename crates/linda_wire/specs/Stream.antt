@@ -20,6 +20,10 @@ pub data Front (A : Type 0) : Type 0 where
   Whole : (value : A) → (rest : List ℕ) → Front A
   Broken : (fault : FrameFault) → Front A
 
+-- The payload of the frame at the front.
+abbrev pub front_payload : List ℕ → List ℕ
+front_payload bytes = take (told_length bytes) (drop 4 bytes)
+
 -- What a payload's reading and the bytes after the payload make of the front.
 abbrev pub front_with : {A : Type 0} → Result A FrameFault → List ℕ → Front A
 front_with (Ok value) rest = Whole value rest

@@ -1,9 +1,10 @@
 //! A stream of messages, whose bytes come in pieces.
 
-ghost use Rattle.std.specs.Prelude.{◌≡◌, ◌↔◌, ◌++◌, [], length, IfOk, IfErr, IfSome, IsErrOf, OnOk, OnErr};
+ghost use Rattle.std.specs.Prelude.{◌≡◌, ◌↔◌, ◌++◌, [], length, IfOk, IfErr, IfSome, IsOkAnd, IsErrOf, OnOk, OnErr};
+ghost use Rattle.linda_codec.specs.Reading.{TakesMemory};
 ghost use Rattle.linda_wire.specs.Frames.{message_frame, FitsMessage};
-ghost use Rattle.linda_wire.specs.Stream.{Partial, Answers, HasFrame, IsFaultOf};
-ghost use Rattle.linda_wire.specs.Payloads.{message_front};
+ghost use Rattle.linda_wire.specs.Stream.{Partial, Answers, HasFrame, IsFaultOf, front_payload};
+ghost use Rattle.linda_wire.specs.Payloads.{message_front, message_tag_at};
 
 use crate::faults::FrameFault;
 use crate::lengths::{LENGTH_BYTES, len_of_payload};
@@ -63,6 +64,8 @@ impl Feed {
         ensures found { IfOk result (λ o. IfSome o (λ m. (self.old ≡ message_frame m ++ self.new) × FitsMessage m)) }
         ensures partial { (result ≡ Ok None) ↔ (message_front self.old ≡ Partial) }
         ensures told { IfErr result (λ fault. IsFaultOf self.old fault) }
+        // Memory runs out only where a tuple or a template that takes memory begins in the frame.
+        ensures memory { IsErrOf result FrameFault.Memory → IsOkAnd (message_tag_at (front_payload self.old)) TakesMemory }
         ensures exact { Answers message_front self.old result self.new }
     {
         self.unread.are_bytes();
@@ -79,7 +82,8 @@ impl Feed {
     // What `next` answers.
     fn take_message(&mut self, alloc: Global) -> Result<Option<Message>, FrameFault>
         ensures partial { (result ≡ Ok None) ↔ (message_front self.old ≡ Partial) }
-        ensures memory { IsErrOf result FrameFault.Memory → HasFrame self.old }
+        ensures frame { IsErrOf result FrameFault.Memory → HasFrame self.old }
+        ensures memory { IsErrOf result FrameFault.Memory → IsOkAnd (message_tag_at (front_payload self.old)) TakesMemory }
         ensures exact { Answers message_front self.old result self.new }
     {
         let bytes = self.unread.as_slice();

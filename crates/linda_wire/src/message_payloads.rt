@@ -1,8 +1,9 @@
 //! Reading a message from the payload of its frame.
 
-ghost use Rattle.std.specs.Prelude.{◌≤◌, length};
+ghost use Rattle.std.specs.Prelude.{◌≤◌, length, IsOkAnd, IsErrOf};
 ghost use Rattle.linda_codec.specs.Steps.{Gives, GivesAlways};
-ghost use Rattle.linda_wire.specs.Payloads.{GivesWhole, hello_at, out_at, ask_at, accept_at, cancel_at, message_at, message_of};
+ghost use Rattle.linda_codec.specs.Reading.{TakesMemory};
+ghost use Rattle.linda_wire.specs.Payloads.{GivesWhole, hello_at, out_at, ask_at, accept_at, cancel_at, message_at, message_of, out_tag_at, ask_tag_at, message_tag_at};
 
 use crate::faults::FrameFault;
 use crate::kinds::{ACCEPT, ASK, CANCEL, HELLO, OUT};
@@ -14,7 +15,9 @@ use std::alloc::Global;
 /// The message that a payload spells, all of it.
 pub(crate) fn read_message(alloc: Global, payload: &[u8]) -> Result<Message, FrameFault>
     requires { length payload.now ≤ 65535 }
-    ensures { GivesWhole result (message_of payload.now) }
+    ensures value { GivesWhole result (message_of payload.now) }
+    // Memory runs out only where a tuple or a template that takes memory begins there.
+    ensures memory { IsErrOf result FrameFault.Memory → IsOkAnd (message_tag_at payload.now) TakesMemory }
 {
     match message_from(alloc, payload) {
         Ok((message, rest)) => {
@@ -28,9 +31,10 @@ pub(crate) fn read_message(alloc: Global, payload: &[u8]) -> Result<Message, Fra
 }
 
 // A kind byte and the body of that kind, and the bytes after them.
-#[tactic(auto, unfolding(crate::specs::Payloads::message_at))]
+#[tactic(auto, unfolding(crate::specs::Payloads::message_at, crate::specs::Payloads::message_tag_at))]
 fn message_from(alloc: Global, payload: &[u8]) -> Result<(Message, &[u8]), ReadFault>
-    ensures { Gives (λ x. (x.0, x.1.now)) result (message_at payload.now) }
+    ensures value { Gives (λ x. (x.0, x.1.now)) result (message_at payload.now) }
+    ensures memory { IsErrOf result ReadFault.Memory → IsOkAnd (message_tag_at payload.now) TakesMemory }
 {
     match payload {
         [] => Err(ReadFault::Short),
@@ -58,18 +62,20 @@ fn hello_from(body: &[u8]) -> Result<(Message, &[u8]), ReadFault>
     Ok((hello, rest))
 }
 
-#[tactic(auto, unfolding(crate::specs::Payloads::out_at))]
+#[tactic(auto, unfolding(crate::specs::Payloads::out_at, crate::specs::Payloads::out_tag_at))]
 fn out_from(alloc: Global, body: &[u8]) -> Result<(Message, &[u8]), ReadFault>
-    ensures { Gives (λ x. (x.0, x.1.now)) result (out_at body.now) }
+    ensures value { Gives (λ x. (x.0, x.1.now)) result (out_at body.now) }
+    ensures memory { IsErrOf result ReadFault.Memory → IsOkAnd (out_tag_at body.now) TakesMemory }
 {
     let (n, rest) = read_u64(body)?;
     let (tuple, rest) = read_tuple(alloc, rest)?;
     Ok((Message::Out { n, tuple }, rest))
 }
 
-#[tactic(auto, unfolding(crate::specs::Payloads::ask_at))]
+#[tactic(auto, unfolding(crate::specs::Payloads::ask_at, crate::specs::Payloads::ask_tag_at))]
 fn ask_from(alloc: Global, body: &[u8]) -> Result<(Message, &[u8]), ReadFault>
-    ensures { Gives (λ x. (x.0, x.1.now)) result (ask_at body.now) }
+    ensures value { Gives (λ x. (x.0, x.1.now)) result (ask_at body.now) }
+    ensures memory { IsErrOf result ReadFault.Memory → IsOkAnd (ask_tag_at body.now) TakesMemory }
 {
     let (ticket, rest) = read_u64(body)?;
     let (remove, rest) = read_bool(rest)?;

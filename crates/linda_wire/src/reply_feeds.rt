@@ -1,9 +1,10 @@
 //! A stream of replies, whose bytes come in pieces.
 
-ghost use Rattle.std.specs.Prelude.{◌≡◌, ◌↔◌, ◌++◌, [], length, IfOk, IfErr, IfSome, IsErrOf, OnOk, OnErr};
+ghost use Rattle.std.specs.Prelude.{◌≡◌, ◌↔◌, ◌++◌, [], length, IfOk, IfErr, IfSome, IsOkAnd, IsErrOf, OnOk, OnErr};
+ghost use Rattle.linda_codec.specs.Reading.{TakesMemory};
 ghost use Rattle.linda_wire.specs.Frames.{reply_frame, FitsReply};
-ghost use Rattle.linda_wire.specs.Stream.{Partial, Answers, HasFrame, IsFaultOf};
-ghost use Rattle.linda_wire.specs.Payloads.{reply_front};
+ghost use Rattle.linda_wire.specs.Stream.{Partial, Answers, HasFrame, IsFaultOf, front_payload};
+ghost use Rattle.linda_wire.specs.Payloads.{reply_front, reply_tag_at};
 
 use crate::faults::FrameFault;
 use crate::lengths::{LENGTH_BYTES, len_of_payload};
@@ -63,6 +64,8 @@ impl ReplyFeed {
         ensures found { IfOk result (λ o. IfSome o (λ r. (self.old ≡ reply_frame r ++ self.new) × FitsReply r)) }
         ensures partial { (result ≡ Ok None) ↔ (reply_front self.old ≡ Partial) }
         ensures told { IfErr result (λ fault. IsFaultOf self.old fault) }
+        // Memory runs out only where a tuple that takes memory begins in the frame.
+        ensures memory { IsErrOf result FrameFault.Memory → IsOkAnd (reply_tag_at (front_payload self.old)) TakesMemory }
         ensures exact { Answers reply_front self.old result self.new }
     {
         self.unread.are_bytes();
@@ -79,7 +82,8 @@ impl ReplyFeed {
     // What `next` answers.
     fn take_reply(&mut self, alloc: Global) -> Result<Option<Reply>, FrameFault>
         ensures partial { (result ≡ Ok None) ↔ (reply_front self.old ≡ Partial) }
-        ensures memory { IsErrOf result FrameFault.Memory → HasFrame self.old }
+        ensures frame { IsErrOf result FrameFault.Memory → HasFrame self.old }
+        ensures memory { IsErrOf result FrameFault.Memory → IsOkAnd (reply_tag_at (front_payload self.old)) TakesMemory }
         ensures exact { Answers reply_front self.old result self.new }
     {
         let bytes = self.unread.as_slice();

@@ -1,8 +1,9 @@
 //! Reading a reply from the payload of its frame.
 
-ghost use Rattle.std.specs.Prelude.{◌≤◌, length};
+ghost use Rattle.std.specs.Prelude.{◌≤◌, length, IsOkAnd, IsErrOf};
 ghost use Rattle.linda_codec.specs.Steps.{Gives, GivesAlways};
-ghost use Rattle.linda_wire.specs.Payloads.{GivesWhole, welcome_at, stored_at, offer_at, read_at, taken_at, gone_at, refused_at, reply_at, reply_of};
+ghost use Rattle.linda_codec.specs.Reading.{TakesMemory};
+ghost use Rattle.linda_wire.specs.Payloads.{GivesWhole, welcome_at, stored_at, offer_at, read_at, taken_at, gone_at, refused_at, reply_at, reply_of, entry_tag_at, reply_tag_at};
 
 use crate::faults::FrameFault;
 use crate::kinds::{GONE, OFFER, READ, REFUSED, STORED, TAKEN, WELCOME};
@@ -14,7 +15,9 @@ use std::alloc::Global;
 /// The reply that a payload spells, all of it.
 pub(crate) fn read_reply(alloc: Global, payload: &[u8]) -> Result<Reply, FrameFault>
     requires { length payload.now ≤ 65535 }
-    ensures { GivesWhole result (reply_of payload.now) }
+    ensures value { GivesWhole result (reply_of payload.now) }
+    // Memory runs out only where a tuple that takes memory begins there.
+    ensures memory { IsErrOf result FrameFault.Memory → IsOkAnd (reply_tag_at payload.now) TakesMemory }
 {
     match reply_from(alloc, payload) {
         Ok((reply, rest)) => {
@@ -28,9 +31,10 @@ pub(crate) fn read_reply(alloc: Global, payload: &[u8]) -> Result<Reply, FrameFa
 }
 
 // A kind byte and the body of that kind, and the bytes after them.
-#[tactic(auto, unfolding(crate::specs::Payloads::reply_at))]
+#[tactic(auto, unfolding(crate::specs::Payloads::reply_at, crate::specs::Payloads::reply_tag_at))]
 fn reply_from(alloc: Global, payload: &[u8]) -> Result<(Reply, &[u8]), ReadFault>
-    ensures { Gives (λ x. (x.0, x.1.now)) result (reply_at payload.now) }
+    ensures value { Gives (λ x. (x.0, x.1.now)) result (reply_at payload.now) }
+    ensures memory { IsErrOf result ReadFault.Memory → IsOkAnd (reply_tag_at payload.now) TakesMemory }
 {
     match payload {
         [] => Err(ReadFault::Short),
@@ -62,25 +66,28 @@ fn stored_from(body: &[u8]) -> Result<(Reply, &[u8]), ReadFault>
     Ok((Reply::Stored { n, id }, rest))
 }
 
-#[tactic(auto, unfolding(crate::specs::Payloads::offer_at))]
+#[tactic(auto, unfolding(crate::specs::Payloads::offer_at, crate::specs::Payloads::entry_tag_at))]
 fn offer_from(alloc: Global, body: &[u8]) -> Result<(Reply, &[u8]), ReadFault>
-    ensures { Gives (λ x. (x.0, x.1.now)) result (offer_at body.now) }
+    ensures value { Gives (λ x. (x.0, x.1.now)) result (offer_at body.now) }
+    ensures memory { IsErrOf result ReadFault.Memory → IsOkAnd (entry_tag_at body.now) TakesMemory }
 {
     let (ticket, id, tuple, rest) = read_entry(alloc, body)?;
     Ok((Reply::Offer { ticket, id, tuple }, rest))
 }
 
-#[tactic(auto, unfolding(crate::specs::Payloads::read_at))]
+#[tactic(auto, unfolding(crate::specs::Payloads::read_at, crate::specs::Payloads::entry_tag_at))]
 fn read_from(alloc: Global, body: &[u8]) -> Result<(Reply, &[u8]), ReadFault>
-    ensures { Gives (λ x. (x.0, x.1.now)) result (read_at body.now) }
+    ensures value { Gives (λ x. (x.0, x.1.now)) result (read_at body.now) }
+    ensures memory { IsErrOf result ReadFault.Memory → IsOkAnd (entry_tag_at body.now) TakesMemory }
 {
     let (ticket, id, tuple, rest) = read_entry(alloc, body)?;
     Ok((Reply::Read { ticket, id, tuple }, rest))
 }
 
-#[tactic(auto, unfolding(crate::specs::Payloads::taken_at))]
+#[tactic(auto, unfolding(crate::specs::Payloads::taken_at, crate::specs::Payloads::entry_tag_at))]
 fn taken_from(alloc: Global, body: &[u8]) -> Result<(Reply, &[u8]), ReadFault>
-    ensures { Gives (λ x. (x.0, x.1.now)) result (taken_at body.now) }
+    ensures value { Gives (λ x. (x.0, x.1.now)) result (taken_at body.now) }
+    ensures memory { IsErrOf result ReadFault.Memory → IsOkAnd (entry_tag_at body.now) TakesMemory }
 {
     let (n, id, tuple, rest) = read_entry(alloc, body)?;
     Ok((Reply::Taken { n, id, tuple }, rest))

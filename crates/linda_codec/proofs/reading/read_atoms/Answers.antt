@@ -12,11 +12,11 @@ loop-preserved c =
     rw (c.in_ok-push.ensures.items)
     (goes_on atom_at c.loop.atoms.items c.args.count c.loop.counter c.loop.rest.now c.in_ok-atom.atom c.in_ok-atom.after.now (many_at atom_at c.args.count c.args.bytes.now) c.loop-test.true c.in_ok-atom.ensures.value c.loop.invariant)
 
-pub returns-in_err-atom : goal.returns-in_err-atom
-returns-in_err-atom c =
+pub returns-in_err-atom-clause-value : goal.returns-in_err-atom-clause-value
+returns-in_err-atom-clause-value c =
     let p = err_from_is_err_and c.from_residual.result c.from_residual.ensures.1 in
     rw (p.1, p.2)
     (ends atom_at c.in_err-atom.field-0.0 c.loop.atoms.items c.args.count c.loop.counter c.loop.rest.now (many_at atom_at c.args.count c.args.bytes.now) c.loop-test.true c.in_err-atom.ensures.value c.loop.invariant)
 
-pub returns : goal.returns
-returns c = is_done atom_at c.loop.atoms.items c.args.count c.loop.counter c.loop.rest.now (many_at atom_at c.args.count c.args.bytes.now) c.loop-test.false c.loop.invariant
+pub returns-clause-value : goal.returns-clause-value
+returns-clause-value c = is_done atom_at c.loop.atoms.items c.args.count c.loop.counter c.loop.rest.now (many_at atom_at c.args.count c.args.bytes.now) c.loop-test.false c.loop.invariant

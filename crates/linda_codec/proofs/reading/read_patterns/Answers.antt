@@ -12,11 +12,11 @@ loop-preserved c =
     rw (c.in_ok-push.ensures.items)
     (goes_on pattern_at c.loop.patterns.items c.args.count c.loop.counter c.loop.rest.now c.in_ok-pattern.pattern c.in_ok-pattern.after.now (many_at pattern_at c.args.count c.args.bytes.now) c.loop-test.true c.in_ok-pattern.ensures c.loop.invariant)
 
-pub returns-in_err-pattern : goal.returns-in_err-pattern
-returns-in_err-pattern c =
+pub returns-in_err-pattern-clause-value : goal.returns-in_err-pattern-clause-value
+returns-in_err-pattern-clause-value c =
     let p = err_from_is_err_and c.from_residual.result c.from_residual.ensures.1 in
     rw (p.1, p.2)
     (ends pattern_at c.in_err-pattern.field-0.0 c.loop.patterns.items c.args.count c.loop.counter c.loop.rest.now (many_at pattern_at c.args.count c.args.bytes.now) c.loop-test.true c.in_err-pattern.ensures c.loop.invariant)
 
-pub returns : goal.returns
-returns c = is_done pattern_at c.loop.patterns.items c.args.count c.loop.counter c.loop.rest.now (many_at pattern_at c.args.count c.args.bytes.now) c.loop-test.false c.loop.invariant
+pub returns-clause-value : goal.returns-clause-value
+returns-clause-value c = is_done pattern_at c.loop.patterns.items c.args.count c.loop.counter c.loop.rest.now (many_at pattern_at c.args.count c.args.bytes.now) c.loop-test.false c.loop.invariant

@@ -7,4 +7,4 @@ pub returns-clause-found : goal.returns-clause-found
 returns-clause-found c = is_found _ _ _ (subst IsBytes c.self.view_is c.are_bytes.ensures) c.take_reply.ensures.exact
 
 pub returns-clause-told : goal.returns-clause-told
-returns-clause-told c = is_told _ _ _ c.take_reply.ensures.memory c.take_reply.ensures.exact
+returns-clause-told c = is_told _ _ _ c.take_reply.ensures.frame c.take_reply.ensures.exact
