@@ -1,9 +1,8 @@
--- What an out and the beginning of a synchronization come to.
-use Rattle.std.proofs.Common.{◌≡◌, ℕ, ◌+◌, ◌==◌, ◌≤◌, ◌<◌, ◌||◌, not, List, [], ◌∷◌, length, refl, arith}
+-- What the beginning of a synchronization comes to.
+use Rattle.std.proofs.Common.{◌≡◌, ℕ, ◌+◌, ◌≤◌, ◌<◌, not, List, [], ◌∷◌, length, refl, arith}
 use Rattle.std.specs.Prelude.{All, Option, Some, None, Ok, Err, IfOk, flat_map, nat_lt}
 use Rattle.std.specs.List.{enumerate_from, range_with_len}
 use Rattle.std.proofs.lemmas.List.Elements.{All-nil, All-append, All-map}
-use Rattle.linda_tuple.specs.Values.{Row}
 use Rattle.linda_event.specs.Trees.{Tree}
 use Rattle.linda_event.specs.Limits.{is_too_deep}
 use Rattle.linda_wire.specs.declared.messages.Message.TheVariants as messages
@@ -12,21 +11,14 @@ use Rattle.linda_client.specs.declared.outcomes.Got.{Got}
 use Rattle.linda_client.specs.declared.tasks.Task.TheVariants.{Idle}
 use Rattle.linda_client.specs.Asks.{asks, first_ready}
 use Rattle.linda_client.specs.Syncs.{number_limit}
-use Rattle.linda_client.specs.Clients.{Client, is_idle, next_at, servers}
+use Rattle.linda_client.specs.Clients.{Client, is_idle, servers}
 use Rattle.linda_client.specs.Committing.{Reacted, asked}
 use Rattle.linda_client.specs.Laws.{EndsSync, IsAtOnce, IsNewAsk, Rises}
 use Rattle.linda_client.specs.Reacting as call
 use Rattle.linda_client.specs.Reacting.{Answer}
 use Rattle.linda_client.proofs.Lawful.{by_test}
 use Rattle.linda_client.proofs.Numbering.{ready_gives}
-use Rattle.linda_client.proofs.Rising.{rises_same, rises_tickets, rises_used}
-
--- What an out keeps: numbers never fall, and it ends nothing.
-pub out_keeps : (c : Client) (row : Row) → IfOk (call.out c row) (λ r. Rises c r.client)
-out_keeps c row =
-    by_test (λ a. IfOk a (λ r. Rises c r.client)) (not (is_idle c.task)) _ _ (λ _. tt)
-    (λ _. by_test (λ a. IfOk a (λ r. Rises c r.client)) ((next_at c (call.out_server c) == number_limit) || (c.outs + 1 == number_limit)) _ _ (λ _. tt)
-    (λ _. rises_used c _ (call.out_server c) refl refl))
+use Rattle.linda_client.proofs.Rising.{rises_same, rises_tickets}
 
 -- What the beginning of a synchronization keeps.
 pub record Begins (c : Client) (event : Tree) (r : Reacted) : Type 0 where

@@ -1,9 +1,8 @@
 -- The first base that is ready, found base by base.
-use Rattle.std.proofs.Common.{◌≡◌, ℕ, zero, suc, ◌+◌, ◌<◌, ◌≤◌, true, false, List, [], ◌∷◌, length, drop, refl, sym, ap, ◌∙◌, add-one, arith}
+use Rattle.std.proofs.Common.{◌≡◌, ℕ, zero, suc, ◌+◌, ◌<◌, true, false, List, [], ◌∷◌, length, drop, refl, sym, ap, ◌∙◌, add-one, arith}
 use Rattle.std.specs.Prelude.{Option, Some, None, is_some, option_map, option_and_then, filter_map, slice_get}
 use Rattle.std.specs.List.{enumerate_from, cons_option}
 use Rattle.std.proofs.lemmas.Bool.{false≢true}
-use Rattle.std.proofs.lemmas.List.{drop_all}
 use Rattle.linda_event.specs.Trees.{Kind}
 use Rattle.linda_client.specs.declared.outcomes.Got.{Got}
 use Rattle.linda_client.specs.Asks.{given_by, ready_at}
@@ -40,7 +39,3 @@ ready_later clock kinds n lt e = sym (passed_at clock n kinds n lt e ∙ ap (λ 
 -- the base of this number is ready
 pub ready_here : (clock : ℕ) (kinds : List Kind) (n : ℕ) → is_some (option_and_then (given_by clock) (slice_get kinds n)) ≡ true → is_some (slice_get (ready_from clock kinds n) 0) ≡ true
 ready_here clock kinds n e = found_at clock n kinds n e
-
--- no base is left
-pub none_ready : (clock : ℕ) (kinds : List Kind) (n : ℕ) → length kinds ≤ n → is_some (slice_get (ready_from clock kinds n) 0) ≡ false
-none_ready clock kinds n le = ap (λ ks. is_some (slice_get (filter_map (ready_at clock) (enumerate_from n ks)) 0)) (drop_all n kinds le)

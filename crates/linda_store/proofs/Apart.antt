@@ -1,5 +1,5 @@
 -- Nobody waits and holds with the same ticket, after each move.
-use Rattle.std.proofs.Common.{◌≡◌, ◌≢◌, ℕ, Bool, true, false, not, ◌==◌, ◌⊎◌, List, [], ◌∷◌, ◌++◌, Option, Some, None, All, inl, inr, refl, sym, ◌∙◌, subst, true≢false, eq-eqb, eqb-true}
+use Rattle.std.proofs.Common.{◌≡◌, ◌≢◌, ℕ, Bool, true, false, not, ◌==◌, ◌⊎◌, [], ◌∷◌, ◌++◌, Option, Some, None, All, inl, inr, refl, sym, ◌∙◌, subst, true≢false, eq-eqb, eqb-true}
 use Rattle.std.proofs.lemmas.Bool.{cases_eq, and_from, and_parts}
 use Rattle.std.proofs.lemmas.Option.{none-some, same_Some}
 use Rattle.std.proofs.lemmas.List.Elements.{All-filter, All-push}
@@ -8,10 +8,10 @@ use Rattle.linda_tuple.specs.Values.{Row}
 use Rattle.linda_bag.proofs.Maps.{get_same, get_other, get_removed_same, get_removed_other}
 use Rattle.linda_hold.specs.Waits.{Wait, same_pair, is_waiting, is_reader, without_readers, longest}
 use Rattle.linda_hold.specs.Holds.{HeldFor, IsHeldAt}
-use Rattle.linda_store.specs.Soft.{Soft, Bagged, AreApart}
-use Rattle.linda_store.specs.Dispatch.{dispatch, held_for, freed, freed_row, cancelling, all_freed, closing}
+use Rattle.linda_store.specs.Soft.{Soft, AreApart}
+use Rattle.linda_store.specs.Dispatch.{dispatch, held_for}
 use Rattle.linda_store.proofs.Picked.{all_kept, none_passes}
-use Rattle.linda_store.proofs.Moves.{kept_waits, cancelling_keeps, all_freed_keeps, closing_keeps}
+use Rattle.linda_store.proofs.Moves.{kept_waits}
 
 -- Pairs that are the same pass the test.
 pub same_pair_yes : (p q : ℕ × ℕ) → p ≡ q → same_pair p q ≡ true
@@ -85,14 +85,6 @@ dispatch_apart id row soft apart = by (longest row soft.waits)
 pub taken_apart : (id : ℕ) (soft : Soft) → AreApart soft → AreApart (record { holds = remove soft.holds id; waits = soft.waits })
 taken_apart id soft apart k d within j held = apart k d within j (held_before soft.holds id j _ held)
 
--- A hold is released.
-pub freed_apart : (bag : Bagged) (id : ℕ) (soft : Soft) → AreApart soft → AreApart (freed bag id soft).soft
-freed_apart bag id soft apart = by (get bag id)
-  where
-    by : (there : Option Row) → AreApart (freed_row id there soft).soft
-    by None = apart
-    by (Some row) = dispatch_apart id row (record { holds = remove soft.holds id; waits = soft.waits }) (taken_apart id soft apart)
-
 -- A request that holds nothing waits.
 pub waiting_apart : (w : Wait) (soft : Soft) → IsHeldAt soft.holds w.0 None → AreApart soft → AreApart (record { holds = soft.holds; waits = soft.waits ++ w ∷ [] })
 waiting_apart w soft nothing apart = All-push (λ (v : Wait). (id : ℕ) → get soft.holds id ≡ Some v.0 → ⊥) soft.waits w apart nothing
@@ -100,13 +92,3 @@ waiting_apart w soft nothing apart = All-push (λ (v : Wait). (id : ℕ) → get
 -- A request that doesn't wait gets an offer.
 pub offer_apart : (id : ℕ) (pair : ℕ × ℕ) (soft : Soft) → is_waiting pair soft.waits ≡ false → AreApart soft → AreApart (record { holds = insert soft.holds id pair; waits = soft.waits })
 offer_apart id pair soft never = held_apart id pair soft (none_passes (λ w. same_pair pair w.0) soft.waits never)
-
--- A request is given up; holds are released; a client is closed.
-pub cancelling_apart : (bag : Bagged) (pair : ℕ × ℕ) (held : Option ℕ) (soft : Soft) → AreApart soft → AreApart (cancelling bag pair held soft).soft
-cancelling_apart bag = cancelling_keeps bag AreApart (freed_apart bag) fewer_apart
-
-pub all_freed_apart : (bag : Bagged) (ids : List ℕ) (soft : Soft) → AreApart soft → AreApart (all_freed bag ids soft).soft
-all_freed_apart bag = all_freed_keeps bag AreApart (freed_apart bag) fewer_apart
-
-pub closing_apart : (bag : Bagged) (client : ℕ) (soft : Soft) → AreApart soft → AreApart (closing bag client soft).soft
-closing_apart bag = closing_keeps bag AreApart (freed_apart bag) fewer_apart

@@ -1,15 +1,14 @@
 -- What a dispatch does, said by the pairs that the waits are asked for: the readers' and that of the longest waiting input.
-use Rattle.std.proofs.Common.{◌≡◌, ℕ, true, false, List, [], ◌∷◌, ◌++◌, map, Option, Some, None, option_map, option_to_list, refl, sym, ap, ◌∙◌, subst, append-nil, append_assoc, cond}
+use Rattle.std.proofs.Common.{◌≡◌, ℕ, List, [], ◌∷◌, ◌++◌, map, Option, Some, None, option_map, option_to_list, refl, sym, ap, ◌∙◌, subst, append-nil}
 use Rattle.std.proofs.lemmas.Option.{none-some, same_Some}
-use Rattle.std.specs.FinMap.{get, insert, remove}
+use Rattle.std.specs.FinMap.{get, insert}
 use Rattle.linda_tuple.specs.Values.{Row}
-use Rattle.linda_bag.proofs.Maps.{same_map_by_key, get_same, get_other, get_removed_other}
-use Rattle.linda_hold.specs.Waits.{Wait, is_waiting, is_taker, readers, without_readers, longest, without}
-use Rattle.linda_hold.specs.Holds.{HeldFor, IsHeldAt}
+use Rattle.linda_hold.specs.Waits.{Wait, is_taker, readers, without_readers, longest, without}
+use Rattle.linda_hold.specs.Holds.{IsHeldAt}
 use Rattle.linda_wire.specs.declared.replies.Reply.{Reply}
 use Rattle.linda_wire.specs.declared.replies.Reply.TheVariants as replies
-use Rattle.linda_store.specs.Soft.{Soft, Bagged, AreApart}
-use Rattle.linda_store.specs.Dispatch.{Told, untold, read_to, offer_to, held_for, dispatch, freed, freed_row, freed_if, cancelling, all_freed}
+use Rattle.linda_store.specs.Soft.{Soft, AreApart}
+use Rattle.linda_store.specs.Dispatch.{Told, read_to, offer_to, held_for, dispatch}
 use Rattle.linda_store.proofs.Picked.{found_has}
 
 -- A tuple as the answer to the read of a pair, and as the offer to its input.
@@ -22,13 +21,6 @@ offer_for id row pair = (pair.0, replies.Offer pair.1 id row)
 reads_by_pairs : (id : ℕ) (row : Row) (waits : List Wait) → map (read_for id row) (map (λ w. w.0) waits) ≡ map (read_to id row) waits
 reads_by_pairs id row [] = refl
 reads_by_pairs id row (w ∷ waits) = ap (λ sends. read_to id row w ∷ sends) (reads_by_pairs id row waits)
-
--- A hold over an old one is a hold where there was none.
-pub held_over : (holds : HeldFor) (id : ℕ) (pair : ℕ × ℕ) → insert (remove holds id) id pair ≡ insert holds id pair
-held_over holds id pair =
-    same_map_by_key _ _ id
-    (get_same (remove holds id) id pair ∙ sym (get_same holds id pair))
-    (λ q other. get_other (remove holds id) id pair q other ∙ get_removed_other holds id q other ∙ sym (get_other holds id pair q other))
 
 -- Whether an input takes the tuple, and with what pair.
 pub record Offered (row : Row) (waits : List Wait) (pair : ℕ × ℕ) : Type 0 where
@@ -73,38 +65,3 @@ module _ (id : ℕ) (row : Row) (soft : Soft) where
       let offered = one_longest row soft.waits pair some in
       subst (λ p. IsHeldAt soft.holds p None) offered.pair_is
       (found_has (is_taker row) (λ w. (k : ℕ) → get soft.holds k ≡ Some w.0 → ⊥) soft.waits offered.first offered.found apart)
-
--- A hold is released: nobody takes the tuple, or it is held for another from now on.
-module _ (bag : Bagged) (id : ℕ) (row : Row) (stored : get bag id ≡ Some row) (soft : Soft) where
-  freed_is : freed bag id soft ≡ dispatch id row (record { holds = remove soft.holds id; waits = soft.waits })
-  freed_is = ap (λ there. freed_row id there soft) stored
-
-  pub freed_to_nobody : option_map (λ (w : Wait). w.0) (longest row soft.waits) ≡ None
-      → freed bag id soft ≡ record { sends = map (read_for id row) (map (λ w. w.0) (readers row soft.waits)); soft = record { holds = remove soft.holds id; waits = without_readers row soft.waits } }
-  freed_to_nobody none = freed_is ∙ told_reads id row (record { holds = remove soft.holds id; waits = soft.waits }) none
-
-  pub freed_to_next : (pair : ℕ × ℕ) → option_map (λ (w : Wait). w.0) (longest row soft.waits) ≡ Some pair
-      → freed bag id soft ≡ record { sends = map (read_for id row) (map (λ w. w.0) (readers row soft.waits)) ++ offer_for id row pair ∷ []; soft = record { holds = insert soft.holds id pair; waits = without pair (without_readers row soft.waits) } }
-  freed_to_next pair some =
-      freed_is
-      ∙ told_offer id row (record { holds = remove soft.holds id; waits = soft.waits }) pair some
-      ∙ ap (λ holds. let t : Told = record { sends = map (read_for id row) (map (λ w. w.0) (readers row soft.waits)) ++ offer_for id row pair ∷ []; soft = record { holds = holds; waits = without pair (without_readers row soft.waits) } } in t) (held_over soft.holds id pair)
-
--- An id that the bag lacks is released with nothing told.
-pub freed_absent : (bag : Bagged) (id : ℕ) (soft : Soft) → get bag id ≡ None → freed bag id soft ≡ untold soft
-freed_absent bag id soft none = ap (λ there. freed_row id there soft) none
-
--- A request that waits is given up; one that doesn't has its hold released, if it has one.
-pub cancelling_wait : (bag : Bagged) (pair : ℕ × ℕ) (held : Option ℕ) (soft : Soft) → is_waiting pair soft.waits ≡ true → cancelling bag pair held soft ≡ untold (record { holds = soft.holds; waits = without pair soft.waits })
-cancelling_wait bag pair held soft waits = ap (λ b. cond b (untold (record { holds = soft.holds; waits = without pair soft.waits })) (freed_if bag held soft)) waits
-
-pub cancelling_hold : (bag : Bagged) (pair : ℕ × ℕ) (held : Option ℕ) (soft : Soft) → is_waiting pair soft.waits ≡ false → cancelling bag pair held soft ≡ freed_if bag held soft
-cancelling_hold bag pair held soft waits = ap (λ b. cond b (untold (record { holds = soft.holds; waits = without pair soft.waits })) (freed_if bag held soft)) waits
-
--- What was told before, and what releasing one and then the others tells.
-pub freed_then_sends : (bag : Bagged) (id : ℕ) (ids : List ℕ) (soft : Soft) (before : List (ℕ × Reply))
-    → before ++ (all_freed bag (id ∷ ids) soft).sends ≡ (before ++ (freed bag id soft).sends) ++ (all_freed bag ids (freed bag id soft).soft).sends
-freed_then_sends bag id ids soft before = sym (append_assoc before (freed bag id soft).sends (all_freed bag ids (freed bag id soft).soft).sends)
-
-pub freed_then_soft : (bag : Bagged) (id : ℕ) (ids : List ℕ) (soft : Soft) → (all_freed bag (id ∷ ids) soft).soft ≡ (all_freed bag ids (freed bag id soft).soft).soft
-freed_then_soft bag id ids soft = refl

@@ -12,7 +12,7 @@ use Rattle.linda_store.specs.Nodes.{Shown}
 use Rattle.linda_store.specs.Talk.{point_at, beginning}
 use Rattle.linda_store.specs.Conversation.{Talker, beginner, point_of, is_up}
 use Rattle.linda_store.specs.Conversing.{IsWritten, HasReplied, HasEndedAt}
-use Rattle.linda_store.proofs.Known.{appends_none, appends_then, consumes_none, consumes_then, consumes_kept}
+use Rattle.std.proofs.KnownBytes.{Appends-nil, Appends-trans, Consumes-nil, Consumes-trans, Consumes-kept}
 use Rattle.linda_store.proofs.Written.{nothing_written, written_then, part_then, broken_then}
 
 -- All that came is answered and written, and the session is open; each read gave a byte at least.
@@ -31,8 +31,8 @@ talking_begins node input output talker begins =
     subst (λ (talker : Talker). IsTalking node input input output output talker node 0) (sym begins) (record {
       read = [];
       written = [];
-      consumed = consumes_none input;
-      appended = appends_none output;
+      consumed = Consumes-nil input;
+      appended = Appends-nil output;
       done = nothing_written (beginning node) refl;
       is_open = refl;
       not_spent = refl;
@@ -48,7 +48,7 @@ read_failed reads node input left after output now talker new talking kept = (
   record {
     read = talking.read;
     written = talking.written;
-    consumed = consumes_kept input left after talking.read talking.consumed kept;
+    consumed = Consumes-kept input left after talking.read talking.consumed kept;
     appended = talking.appended;
     ends = (talker.unread, talking.done);
   },
@@ -71,9 +71,9 @@ piece_answered reads node input left after output now later talker was piece sta
     (
       replied.is_open,
       (
-        consumes_then input left after talking.read piece talking.consumed consumed,
+        Consumes-trans input left after talking.read piece talking.consumed consumed,
         (
-          appends_then output now later talking.written replied.written talking.appended replied.appended,
+          Appends-trans output now later talking.written replied.written talking.appended replied.appended,
           written_then (beginning node) (point_at was talker.greeted true) (point_at new next.greeted replied.is_open) talking.read piece talker.unread next.unread talking.written replied.written stage talking.done
               (rw (open_point talker was talking.is_open) at replied.answers),
         ),
@@ -129,8 +129,8 @@ piece_failed reads node input left after output now later talker was piece fault
   record {
     read = talking.read ++ piece;
     written = talking.written ++ replied.written;
-    consumed = consumes_then input left after talking.read piece talking.consumed consumed;
-    appended = appends_then output now later talking.written replied.written talking.appended replied.appended;
+    consumed = Consumes-trans input left after talking.read piece talking.consumed consumed;
+    appended = Appends-trans output now later talking.written replied.written talking.appended replied.appended;
     ends = part_then (beginning node) (point_at was talker.greeted true) (point_at new next.greeted replied.is_open) talking.read piece talker.unread talking.written replied.written talking.done
         (rw (open_point talker was talking.is_open) at replied.answers);
   },
@@ -140,8 +140,8 @@ piece_failed reads node input left after output now later talker was piece fault
   record {
     read = talking.read ++ piece;
     written = talking.written ++ replied.written;
-    consumed = consumes_then input left after talking.read piece talking.consumed consumed;
-    appended = appends_then output now later talking.written replied.written talking.appended replied.appended;
+    consumed = Consumes-trans input left after talking.read piece talking.consumed consumed;
+    appended = Appends-trans output now later talking.written replied.written talking.appended replied.appended;
     ends = broken_then (beginning node) (point_at was talker.greeted true) (point_at new next.greeted replied.is_open) talking.read piece talker.unread talking.written replied.written talking.done
         (rw (open_point talker was talking.is_open) at replied.answers);
   },

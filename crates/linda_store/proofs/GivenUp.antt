@@ -1,5 +1,5 @@
 -- A request that was given up neither waits nor holds, and so it is with all requests of a client that was closed.
-use Rattle.std.proofs.Common.{◌≡◌, ◌≢◌, ℕ, Bool, true, false, cond, not, ◌||◌, ◌==◌, List, [], ◌∷◌, map, Option, Some, None, IsSome, is_some, All, filter, inl, inr, refl, sym, ap, ◌∙◌, subst, true≢false, eq-eqb, ne_eqb, nat_cmp, get_or}
+use Rattle.std.proofs.Common.{◌≡◌, ◌≢◌, ℕ, Bool, true, false, cond, not, ◌&&◌, ◌||◌, ◌==◌, List, [], ◌∷◌, map, Option, Some, None, IsSome, is_some, All, filter, inl, inr, refl, sym, ap, ◌∙◌, subst, true≢false, eq-eqb, ne_eqb, nat_cmp, get_or}
 use Rattle.std.proofs.lemmas.Option.{none-some, same_Some}
 use Rattle.std.proofs.lemmas.List.Folds.{list_any_none}
 use Rattle.std.specs.List.{list_any}
@@ -138,7 +138,7 @@ among client k pair owned (e ∷ es) found =
     or_right false b is = is
 
 -- No wait of a client is left when it is closed.
-pub closed_waits : (bag : Bagged) (client : ℕ) (soft : Soft) → list_any (λ w. client == w.0.0) (closing bag client soft).soft.waits ≡ false
+closed_waits : (bag : Bagged) (client : ℕ) (soft : Soft) → list_any (λ w. client == w.0.0) (closing bag client soft).soft.waits ≡ false
 closed_waits bag client soft =
     all_freed_keeps bag (λ s. list_any (λ (w : Wait). client == w.0.0) s.waits ≡ false)
     (λ id s none. freed_waits (λ w. client == w.0.0) bag id s none)
@@ -166,3 +166,12 @@ module _ (bag : Bagged) (client : ℕ) (pair : ℕ × ℕ) (owned : pair.0 ≡ c
       all_released (held_in client (entries soft.holds)) (kept_waits (λ w. not (client == w.0.0)) soft)
       (fewer_soft bag (λ w. not (client == w.0.0)) soft is) (none_left (λ w. client == w.0.0) soft.waits)
       (λ k held. among client k pair (eq-eqb pair.0 client owned) (entries soft.holds) (sym (get-entries soft.holds k) ∙ held))
+
+  -- No ticket of the client waits when it is closed.
+  pub closed_waits_not : (soft : Soft) → is_waiting pair (closing bag client soft).soft.waits ≡ false
+  closed_waits_not soft =
+      list_any_none (λ (w : Wait). same_pair pair w.0) (closing bag client soft).soft.waits
+      (λ k d within. other_client (get_or (closing bag client soft).soft.waits k d) (none_passes (λ w. client == w.0.0) (closing bag client soft).soft.waits (closed_waits bag client soft) k d within))
+    where
+      other_client : (w : Wait) → (client == w.0.0) ≡ false → same_pair pair w.0 ≡ false
+      other_client w other = ap (λ b. b && (pair.1 == w.0.1)) (ap (λ c. c == w.0.0) owned ∙ other)

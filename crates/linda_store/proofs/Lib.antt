@@ -5,7 +5,6 @@ pub mod OneDeed
 pub mod ProperLists
 pub mod Numbered
 pub mod Stepping
-pub mod Known
 pub mod Said
 pub mod Treated
 pub mod Running
@@ -24,9 +23,12 @@ pub mod Ranges
 pub mod Dispatched
 pub mod GivenUp
 pub mod Addressed
+pub mod Left
 pub mod Orderly
 pub mod Least
 pub mod Asked
 pub mod Once
 pub mod KeptReplies
+pub mod Repeated
+pub mod Happened
 pub mod Unawaited

@@ -1,14 +1,11 @@
--- Look-ups have one answer each, and a request that finds nothing has nothing that it may have.
+-- Look-ups have one answer each; what is passed over.
 use Rattle.std.proofs.Common.{◌≡◌, ℕ, ◌<◌, Bool, true, false, ◌&&◌, Option, Some, None, IfSome, IfNone, is_some, inl, inr, refl, sym, ap, ◌∙◌, true≢false, arith}
 use Rattle.std.proofs.lemmas.Bool.{cases_lt, cases_eq}
-use Rattle.std.specs.FinMap.{get}
 use Rattle.linda_tuple.specs.Matching.{Shape}
-use Rattle.linda_tuple.proofs.Deciding.{is_match_decides}
 use Rattle.linda_bag.specs.FreeMatch.{IsFreeMatch}
-use Rattle.linda_hold.specs.Waits.{Wait}
 use Rattle.linda_hold.specs.Holds.{HeldFor, IsHeldAt, IsOneEach}
-use Rattle.linda_store.specs.Soft.{Bagged, MayHave}
-use Rattle.linda_store.specs.Looking.{IsLeast, passed_over}
+use Rattle.linda_store.specs.Soft.{Bagged}
+use Rattle.linda_store.specs.Looking.{IsLeast}
 
 -- Two answers to the look-up of the least id are one.
 pub one_least : (bag : Bagged) (shape : Shape) (passed : ℕ → Bool) (a b : Option ℕ) → IsLeast bag shape passed a → IsLeast bag shape passed b → a ≡ b
@@ -32,26 +29,11 @@ one_held holds pair (Some i) None each first second = absurd (second i first)
 one_held holds pair None (Some k) each first second = absurd (first k second)
 one_held holds pair None None each first second = refl
 
-not_passed : (takes : Bool) {X : Type 0} (o : Option X) → (takes ≡ true → o ≡ None) → (takes && is_some o) ≡ false
-not_passed true o free = ap is_some (free refl)
-not_passed false o free = refl
-
-not_held : (takes : Bool) {X : Type 0} (o : Option X) → (takes && is_some o) ≡ false → takes ≡ true → o ≡ None
+-- What an input does not pass over is not held.
+pub not_held : (takes : Bool) {X : Type 0} (o : Option X) → (takes && is_some o) ≡ false → takes ≡ true → o ≡ None
 not_held true None free is = refl
 not_held true (Some x) free is = absurd (true≢false free)
 not_held false o free is = absurd (true≢false (sym is))
-
--- What a waiting request may have is a free match, where what it may not take is passed over.
-pub free_from_may : (bag : Bagged) (holds : HeldFor) (w : Wait) (id : ℕ) → MayHave bag holds w id → IsFreeMatch bag w.1.template (passed_over w.1.remove holds) id
-free_from_may bag holds w id may = record { row = may.row; stored = may.stored; matches = (is_match_decides w.1.template may.row).0 may.matches; free = not_passed w.1.remove (get holds id) may.free }
-
--- A request that finds nothing has nothing that it may have.
-pub nothing_found : (bag : Bagged) (holds : HeldFor) (w : Wait) → IsLeast bag w.1.template (passed_over w.1.remove holds) None → (id : ℕ) → MayHave bag holds w id → ⊥
-nothing_found bag holds w none id may = none id (free_from_may bag holds w id may)
-
--- What is found is in the bag; and where it was found for an input, it is not held.
-pub found_free : (bag : Bagged) (holds : HeldFor) (shape : Shape) (id : ℕ) → IsLeast bag shape (passed_over true holds) (Some id) → get holds id ≡ None
-found_free bag holds shape id least = not_held true (get holds id) least.0.free refl
 
 -- Tests that answer alike leave the same ids free.
 same_free : (bag : Bagged) (shape : Shape) (p q : ℕ → Bool) (id : ℕ) → p id ≡ q id → IsFreeMatch bag shape p id → IsFreeMatch bag shape q id

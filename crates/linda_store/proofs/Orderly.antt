@@ -10,9 +10,9 @@ use Rattle.linda_wire.specs.declared.messages.Message.TheVariants.{Hello, Out, A
 use Rattle.linda_wire.specs.declared.replies.Reply.{Reply}
 use Rattle.linda_store.specs.declared.deeds.Deed.TheVariants as deeds
 use Rattle.linda_store.specs.State.{State, IsState}
-use Rattle.linda_store.specs.Soft.{Soft, Bagged, IsSoft, IsAtRest, no_asks, open_asks, ask_limit}
+use Rattle.linda_store.specs.Soft.{Soft, Bagged, IsSoft, no_asks, open_asks, ask_limit}
 use Rattle.linda_store.specs.Refusals.{refused_asks}
-use Rattle.linda_store.specs.Looking.{IsLeast, passed_over}
+use Rattle.linda_store.specs.Looking.{IsLeast, passed_over, IsAtRest}
 use Rattle.linda_store.specs.Dispatch.{Told, untold, dispatch, cancelling, closing}
 use Rattle.linda_store.specs.Asking.{only_sent, served, asking, wait_of}
 use Rattle.linda_store.specs.After.{IsAfter}
@@ -20,7 +20,6 @@ use Rattle.linda_store.specs.Answer.{Answered, only_told, out_answered, out_with
 use Rattle.linda_store.specs.Stores.{IsOrderly}
 use Rattle.linda_store.proofs.Afterwards.{none_after, one_after}
 use Rattle.linda_store.proofs.OneDeed.{done, done_after}
-use Rattle.linda_store.proofs.Looked.{nothing_found}
 use Rattle.linda_store.proofs.Resting.{put_rests, taken_rests, held_rests, waiting_rests, no_asks_rest, cancelling_rests, closing_rests}
 use Rattle.linda_store.proofs.Ranges.{put_soft, taken_soft, offer_soft, waiting_soft, no_asks_soft, cancelling_soft, closing_soft}
 use Rattle.linda_store.proofs.Stepping.{step_state}
@@ -40,7 +39,7 @@ served_settled bag pair true shape (Some id) soft least never nothing room is = 
 served_settled bag pair false shape (Some id) soft least never nothing room is = is
 served_settled bag pair remove shape None soft least never nothing room is = record {
   soft_is = waiting_soft bag (wait_of pair remove shape) soft never nothing room is.soft_is;
-  rest = waiting_rests bag (wait_of pair remove shape) soft (nothing_found bag soft.holds (wait_of pair remove shape) least) is.rest;
+  rest = waiting_rests bag (wait_of pair remove shape) soft least is.rest;
 }
 
 asking_settled : (bag : Bagged) (pair : ℕ × ℕ) (remove : Bool) (shape : Shape) (held least : Option ℕ) (soft : Soft) → IsHeldAt soft.holds pair held → IsLeast bag shape (passed_over remove soft.holds) least

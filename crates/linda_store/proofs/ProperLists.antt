@@ -38,6 +38,10 @@ last_or_before (a ∷ xs) (b ∷ before) later x y same =
       | inr there ↦ inr (there.0, cc (same_head a b (xs ++ x ∷ []) (before ++ y ∷ later) same, there.1))
     ]
 
+-- No deeds are a proper list.
+pub none_proper : (st : State) → IsProper st []
+none_proper st before d later mid parts after = absurd (not_empty before d later parts)
+
 -- A proper list with one more deed that is allowed after it is proper.
 pub more_proper : (st mid : State) (ds : List Deed) (d : Deed) → IsProper st ds → IsAfter st ds mid → IsAllowed mid d → IsProper st (ds ++ d ∷ [])
 more_proper st mid ds d proper after allowed before e later other parts other_after =

@@ -13,9 +13,9 @@ use Rattle.linda_bag.proofs.Maps.{get_same, get_other, get_removed_same, get_rem
 use Rattle.linda_hold.specs.Waits.{Wait, AreDistinct, same_pair, is_waiting, is_reader, is_taker, without_readers, longest, waits_of}
 use Rattle.linda_hold.specs.Holds.{HeldFor, IsHeldAt, IsOneEach, held_in}
 use Rattle.linda_store.specs.Soft.{Soft, Bagged, IsSoft, AreApart, open_asks, ask_limit, no_asks}
-use Rattle.linda_store.specs.Dispatch.{dispatch, held_for, freed, freed_row, cancelling, all_freed, closing}
+use Rattle.linda_store.specs.Dispatch.{dispatch, held_for, freed, freed_row, cancelling, closing}
 use Rattle.linda_store.proofs.Picked.{or_none, found_has}
-use Rattle.linda_store.proofs.Moves.{kept_waits, cancelling_keeps, all_freed_keeps, closing_keeps}
+use Rattle.linda_store.proofs.Moves.{kept_waits, cancelling_keeps, closing_keeps}
 use Rattle.linda_store.proofs.Apart.{same_pair_yes, turned_no, held_before, new_or_before, fewer_apart, dispatch_apart, taken_apart, waiting_apart, offer_apart}
 use Rattle.linda_store.proofs.Counted.{fewer_pass, found_gone, insert_counted, remove_counted}
 
@@ -259,20 +259,9 @@ no_asks_soft bag = record {
         let none = sym (len-entries no_asks.holds) ∙ len-empty nat_cmp (ℕ × ℕ) in
         omega (arith, counted, fewer, whole, left, none)
 
--- What is not in the bag is not held.
-pub free_outside : (bag : Bagged) (soft : Soft) (id : ℕ) → IsSoft bag soft → get bag id ≡ None → get soft.holds id ≡ None
-free_outside bag soft id is none = by (get soft.holds id) refl
-  where
-    by : (held : Option (ℕ × ℕ)) → get soft.holds id ≡ held → held ≡ None
-    by None e = refl
-    by (Some pair) e = absurd (true≢false (sym (is.there id (ap is_some e)) ∙ ap is_some none))
-
--- A request is given up; holds are released; a client is closed.
+-- A request is given up; a client is closed.
 pub cancelling_soft : (bag : Bagged) (pair : ℕ × ℕ) (held : Option ℕ) (soft : Soft) → IsSoft bag soft → IsSoft bag (cancelling bag pair held soft).soft
 cancelling_soft bag = cancelling_keeps bag (IsSoft bag) (freed_soft bag) (fewer_soft bag)
-
-pub all_freed_soft : (bag : Bagged) (ids : List ℕ) (soft : Soft) → IsSoft bag soft → IsSoft bag (all_freed bag ids soft).soft
-all_freed_soft bag = all_freed_keeps bag (IsSoft bag) (freed_soft bag) (fewer_soft bag)
 
 pub closing_soft : (bag : Bagged) (client : ℕ) (soft : Soft) → IsSoft bag soft → IsSoft bag (closing bag client soft).soft
 closing_soft bag = closing_keeps bag (IsSoft bag) (freed_soft bag) (fewer_soft bag)

@@ -11,7 +11,7 @@ use Rattle.linda_store.specs.Nodes.{Shown}
 use Rattle.linda_store.specs.Sending.{HasWritten}
 use Rattle.linda_store.specs.Conversation.{Talker, is_up, HasTaken, HasGivenUp}
 use Rattle.linda_store.specs.Conversing.{HasReplied}
-use Rattle.linda_store.proofs.Known.{appends_none}
+use Rattle.std.proofs.KnownBytes.{Appends-nil}
 
 -- memory ran out in the session
 pub gave_up_replied : (old : Talker) (was : Shown) (piece : List ℕ) (output : Option (List ℕ)) (new : Talker) (node : Shown)
@@ -20,7 +20,7 @@ gave_up_replied old was piece output new node given_up =
     record {
       written = [];
       is_open = given_up.talk.1.1.0;
-      appended = appends_none output;
+      appended = Appends-nil output;
       answers = record { said = given_up.talk.0; rest = given_up.talk.1.0; count = 0; talk = given_up.talk.1.1.1; spelled = refl };
       stage = tt;
       not_spent = tt;

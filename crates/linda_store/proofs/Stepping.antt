@@ -1,5 +1,4 @@
--- Steps of a server: their deeds are allowed, so a run of steps does a proper list of deeds; and from one place a message leads
--- to one place alone.
+-- Steps of a server: their deeds are allowed, so a run of steps does a proper list of deeds; and a message has one answer.
 use Rattle.std.proofs.Common.{◌≡◌, ℕ, Bool, true, false, cond, List, [], ◌++◌, Option, Some, None, is_some, option_to_list, refl, sym, ap, ◌∙◌, subst, append-nil}
 use Rattle.std.proofs.lemmas.Option.{none-some, same_Some}
 use Rattle.std.specs.FinMap.{get}
@@ -90,12 +89,6 @@ one_answer st soft c (Ask ticket remove template) a b one_each first second =
     first.1.1 ∙ ap only_told (one_ask st (c, ticket) remove soft template first.0 second.0 one_each first.1.0 second.1.0) ∙ sym second.1.1
 one_answer st soft c (Cancel ticket) a b one_each first second =
     first.1.1 ∙ ap only_told (one_cancel st (c, ticket) soft first.0 second.0 one_each first.1.0 second.1.0) ∙ sym second.1.1
-
--- A message leads to one state alone.
-pub one_step : (st a b : State) (soft : Soft) (c : ℕ) (m : Message) (answered other : Answered) → IsOneEach soft.holds → IsStep st soft c m answered a → IsStep st soft c m other b → a ≡ b
-one_step st a b soft c m answered other one_each first second =
-    one_after st (option_to_list answered.deed) a b first.state_is
-    (subst (λ (x : Answered). IsAfter st (option_to_list x.deed) b) (one_answer st soft c m other answered one_each second.answer first.answer) second.state_is)
 
 -- The deed of a step, if it has one, makes a proper list longer, and the new state is the state after that.
 pub step_proper : (st mid new : State) (soft : Soft) (ds : List Deed) (c : ℕ) (m : Message) (answered : Answered) → IsState st → IsProper st ds → IsAfter st ds mid → IsStep mid soft c m answered new

@@ -15,5 +15,5 @@ pub mod Soft
 pub mod Dispatch
 pub mod Looking
 pub mod Asking
-pub mod Answers
+pub mod Histories
 pub mod Promises

@@ -1,9 +1,8 @@
 -- What a server keeps in memory alone: which tuple is held for which request, and the requests that wait.
-use Rattle.std.specs.Prelude.{◌≡◌, ℕ, ◌+◌, ◌≤◌, true, List, [], length, Some, None, All, IsSome}
+use Rattle.std.specs.Prelude.{◌≡◌, ℕ, ◌+◌, ◌≤◌, List, [], length, Some, All, IsSome}
 use Rattle.std.specs.Ordering.{nat_cmp}
 use Rattle.std.specs.FinMap as map
 use Rattle.linda_tuple.specs.Values.{Row}
-use Rattle.linda_tuple.specs.Testing.{is_match}
 use Rattle.linda_hold.specs.Waits.{Wait, AreDistinct, waits_of}
 use Rattle.linda_hold.specs.Holds.{HeldFor, IsOneEach, held_in}
 
@@ -40,14 +39,3 @@ pub record IsSoft (bag : Bagged) (soft : Soft) : Type 0 where
   pub apart : AreApart soft
   pub few : (client : ℕ) → open_asks client soft ≤ ask_limit
   pub there : (id : ℕ) → IsSome (map.get soft.holds id) → IsSome (map.get bag id)
-
--- A tuple of the bag that a waiting request may have: a read any that matches, an input one that is not held.
-pub record MayHave (bag : Bagged) (holds : HeldFor) (w : Wait) (id : ℕ) : Type 0 where
-  pub row : Row
-  pub stored : map.get bag id ≡ Some row
-  pub matches : is_match w.1.template row ≡ true
-  pub free : w.1.remove ≡ true → map.get holds id ≡ None
-
--- Nobody waits in vain: there is nothing that a waiting request may have.
-abbrev pub IsAtRest : Bagged → Soft → Type 0
-IsAtRest bag soft = All (λ (w : Wait). (id : ℕ) → MayHave bag soft.holds w id → ⊥) soft.waits

@@ -2,7 +2,8 @@
 use Rattle.std.specs.Prelude.{Bool, refl}
 use Rattle.std.specs.Coded.{Coded, code_by, coded×, coded_bool}
 use Rattle.linda_store.specs.State.{State, IsState}
-use Rattle.linda_store.specs.Soft.{Soft, IsSoft, IsAtRest}
+use Rattle.linda_store.specs.Soft.{Soft, IsSoft}
+use Rattle.linda_store.specs.Looking.{IsAtRest}
 use Rattle.linda_store.specs.Codes.{state_code, soft_code}
 
 -- What every store keeps: its state, its holds and its waits are in their ranges, and nobody waits in vain.

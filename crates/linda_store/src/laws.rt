@@ -1,16 +1,19 @@
 //! What the definitions of states, deeds and steps come to, each told by the contract of a function that does nothing.
 
-ghost use Rattle.std.specs.Prelude.{◌≡◌, ℕ, ◌++◌, List, IsSome, option_to_list};
-ghost use Rattle.linda_hold.specs.Holds.{IsOneEach};
+ghost use Rattle.std.specs.Prelude.{◌≡◌, ℕ, ◌++◌, List, Option, IsSome, option_to_list};
+ghost use Rattle.std.specs.FinMap as map;
+ghost use Rattle.linda_hold.specs.Holds.{IsHeldAt, IsOneEach};
 ghost use Rattle.linda_wire.specs.declared.messages.Message.{Message};
 ghost use Rattle.linda_store.specs.declared.deeds.Deed.{Deed};
 ghost use Rattle.linda_store.specs.State.{State, IsState};
-ghost use Rattle.linda_store.specs.Soft.{Soft};
+ghost use Rattle.linda_store.specs.Soft.{Soft, Bagged, IsSoft};
+ghost use Rattle.linda_store.specs.Dispatch.{cancelling, closing};
 ghost use Rattle.linda_store.specs.After.{IsAfter};
 ghost use Rattle.linda_store.specs.Proper.{IsProper};
 ghost use Rattle.linda_store.specs.Answer.{Answered, IsAnswer, IsStep};
+ghost use Rattle.linda_store.specs.Histories.{Coming, History, Happens};
 ghost use Rattle.linda_store.specs.Stores.{IsOrderly};
-ghost use Rattle.linda_store.specs.Promises.{IsTakenOnce, IsAnsweredAsKept};
+ghost use Rattle.linda_store.specs.Promises.{IsTakenOnce, IsAnsweredAsKept, IsAnsweredAgain, IsSafe, IsOver, HasLeft};
 
 /// Over every proper list of deeds no tuple is taken by two of them.
 pub fn no_tuple_is_taken_twice()
@@ -42,4 +45,27 @@ pub fn one_answer()
 /// Each step leaves a server as every store is: in its ranges, and with nobody who waits in vain.
 pub fn steps_keep_order()
     ensures { (st new : State) (soft : Soft) (c : ℕ) (m : Message) (answered : Answered) → IsOrderly st soft → IsStep st soft c m answered new → IsOrderly new answered.soft }
+{}
+
+/// Whatever comes to a server, messages of whatever clients and ends of their connections, in whatever order and however often: the
+/// deeds are a proper list, so no tuple is taken twice, and the server is in order in the state after them.
+pub fn no_history_takes_a_tuple_twice()
+    ensures { (st : State) (soft : Soft) (xs : List Coming) (all : History) → IsOrderly st soft → Happens st soft xs all → IsSafe st all }
+{}
+
+/// A message that did a deed, and comes again while the client's entry is as that left it, gets the same reply again, whatever
+/// else has happened; and nothing else is done or told.
+pub fn a_repeated_message_gets_the_same_reply()
+    ensures { (st new later : State) (soft asks : Soft) (c : ℕ) (m : Message) (first again : Answered) → IsState st → IsStep st soft c m first new → IsSome first.deed
+        → map.get later.book c ≡ map.get new.book c → IsAnswer later asks c m again → IsAnsweredAgain c first again asks }
+{}
+
+/// A request that is given up neither waits nor holds.
+pub fn a_cancelled_request_is_over()
+    ensures { (bag : Bagged) (pair : ℕ × ℕ) (held : Option ℕ) (soft : Soft) → IsSoft bag soft → IsHeldAt soft.holds pair held → IsOver pair (cancelling bag pair held soft).soft }
+{}
+
+/// A client that is closed has no request that waits or holds, and nothing is sent to it.
+pub fn a_closed_client_has_left()
+    ensures { (bag : Bagged) (client : ℕ) (soft : Soft) → IsSoft bag soft → HasLeft client (closing bag client soft) }
 {}

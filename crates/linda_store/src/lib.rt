@@ -34,8 +34,9 @@ pub use conversing::converse;
 pub use deeds::Deed;
 pub use ends::{ConverseFault, End};
 pub use laws::{
-    deeds_are_answered_as_kept, no_tuple_is_taken_twice, one_answer, proper_lists_keep_the_ranges,
-    steps_do_proper_lists, steps_keep_order,
+    a_cancelled_request_is_over, a_closed_client_has_left, a_repeated_message_gets_the_same_reply,
+    deeds_are_answered_as_kept, no_history_takes_a_tuple_twice, no_tuple_is_taken_twice,
+    one_answer, proper_lists_keep_the_ranges, steps_do_proper_lists, steps_keep_order,
 };
 pub use linda_book::{Book, Class, KeptReply};
 pub use nodes::{Node, NodeFault};

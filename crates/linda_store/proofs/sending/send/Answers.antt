@@ -1,7 +1,7 @@
 use Rattle.std.proofs.Common.{arith}
 use Rattle.std.proofs.Math.Seq.{take-add}
 use Rattle.std.proofs.lemmas.List.{take_rest, length-drop}
-use Rattle.linda_store.proofs.Known.{appends_then}
+use Rattle.std.proofs.KnownBytes.{Appends-trans}
 use Rattle.linda_store.proofs.sending.send.Goals as goal
 
 pub loop-sent-preserved : goal.loop-sent-preserved
@@ -10,5 +10,5 @@ loop-sent-preserved g c =
     let bound = rw take_rest at c.in_ok-sent.ensures.bound in
     record {
       within = omega (arith, length-drop c.loop-sent.sent c.args.bytes.now);
-      out = rw take-add (appends_then _ _ _ _ _ c.loop-sent.invariant.out some);
+      out = rw take-add (Appends-trans _ _ _ _ _ c.loop-sent.invariant.out some);
     }
