@@ -1,5 +1,5 @@
 -- How an exchange ends, and what one read leads to.
-use Rattle.std.proofs.Common.{◌≡◌, ℕ, ◌+◌, Bool, true, false, List, [], ◌++◌, length, take, Option, Result, Ok, Err, refl, sym, ap, ◌∙◌, subst, append-nil, arith, inl, inr}
+use Rattle.std.proofs.Common.{◌≡◌, ℕ, ◌+◌, ◌<◌, ◌≤◌, Bool, true, false, List, [], ◌++◌, length, length-append, le_trans, take, Option, Result, Ok, Err, refl, sym, ap, ◌∙◌, subst, append-nil, arith, inl, inr}
 use Rattle.std.specs.List.{flat_map, concat}
 use Rattle.std.specs.Global.{Vec}
 use Rattle.std.specs.Io.KnownBytes.{Appends, Consumes, IsAtEnd, Keeps}
@@ -15,6 +15,7 @@ use Rattle.linda_store.specs.declared.stages.Stage.TheVariants as stages
 use Rattle.linda_store.specs.Nodes.{Shown}
 use Rattle.linda_store.specs.Talk.{beginning}
 use Rattle.linda_store.specs.Conversation.{IsConversation, point_of}
+use Rattle.linda_store.specs.Conversing.{read_limit}
 use Rattle.linda.specs.declared.faults.PipeFault.{PipeFault}
 use Rattle.linda.specs.declared.faults.PipeFault.TheVariants as faults
 use Rattle.linda.specs.declared.exchanges.Exchange.{Exchange}
@@ -141,20 +142,20 @@ all_sent text sent x node empty e u = record {
 
 -- between reads nothing is in the buffer, so what has gone out is all
 pub fault_between : (text sent : List ℕ) (x : Exchange) (node : Shown) (left : Option (List ℕ)) → x.replies.items ≡ [] → IsUnderway text sent x node
-    → HasEnded text sent left (Err faults.Read) × HasEnded text sent left (Err faults.Turns)
+    → HasEnded text sent left (Err faults.Read) × (read_limit ≤ length text → HasEnded text sent left (Err faults.Turns))
 fault_between text sent x node left e u =
     let out : sent ≡ flat_map reply_line u.said = sym (u.out ∙ ap (λ l. sent ++ l) e ∙ append-nil sent) in
     let answered : IsAnswered u.lines u.said x.session.stage =
     record { pieces = u.pieces; unread = x.session.unread; to = point_of x.session node; decoded = u.decoded; talk = u.talk } in (
       record { lines = u.lines; more = x.line.items; said = u.said; stage = x.session.stage; cut = u.cut; answered = answered; ending = (u.unfinished, u.is_open.0); out = out },
-      record { lines = u.lines; more = x.line.items; said = u.said; stage = x.session.stage; cut = u.cut; answered = answered; ending = (u.unfinished, u.is_open.0); out = out },
+      λ many. record { lines = u.lines; more = x.line.items; said = u.said; stage = x.session.stage; cut = u.cut; answered = answered; ending = ((u.unfinished, u.is_open.0), many); out = out },
     )
 
 -- ---- one read
 
 -- the read failed
-pub read_failed : (first_left old_left new_left first_written written : Option (List ℕ)) (x : Exchange) (node : Shown) → Keeps old_left new_left
-    → IsPiping first_left old_left first_written written x node → IsPiped first_left new_left first_written written (Err faults.Read)
+pub read_failed : {reads : ℕ} (first_left old_left new_left first_written written : Option (List ℕ)) (x : Exchange) (node : Shown) → Keeps old_left new_left
+    → IsPiping reads first_left old_left first_written written x node → IsPiped first_left new_left first_written written (Err faults.Read)
 read_failed first_left old_left new_left first_written written x node kept p = record {
   read = p.read;
   text = p.read;
@@ -166,21 +167,21 @@ read_failed first_left old_left new_left first_written written x node kept p = r
 }
 
 -- there were too many reads
-pub turns_spent : (first_left left first_written written : Option (List ℕ)) (x : Exchange) (node : Shown) → IsPiping first_left left first_written written x node
+pub turns_spent : {reads : ℕ} (first_left left first_written written : Option (List ℕ)) (x : Exchange) (node : Shown) → read_limit ≤ reads → IsPiping reads first_left left first_written written x node
     → IsPiped first_left left first_written written (Err faults.Turns)
-turns_spent first_left left first_written written x node p = record {
+turns_spent first_left left first_written written x node all p = record {
   read = p.read;
   text = p.read;
   written = p.written;
   consumed = p.consumed;
   appended = p.appended;
   text_is = inl refl;
-  ended_so = (fault_between p.read p.written x node left p.sent p.underway).1;
+  ended_so = (fault_between p.read p.written x node left p.sent p.underway).1 (le_trans all p.many);
 }
 
 -- what was read was taken, and sending the replies failed
-pub send_failed : (first_left old_left left first_written old_written written : Option (List ℕ)) (chunk : List ℕ) (old x : Exchange) (was now : Shown)
-    → (result : Result Bool PipeFault) (k : ℕ) (p : IsPiping first_left old_left first_written old_written old was) → Consumes old_left left chunk
+pub send_failed : {reads : ℕ} (first_left old_left left first_written old_written written : Option (List ℕ)) (chunk : List ℕ) (old x : Exchange) (was now : Shown)
+    → (result : Result Bool PipeFault) (k : ℕ) (p : IsPiping reads first_left old_left first_written old_written old was) → Consumes old_left left chunk
     → ReadsTo (p.read ++ chunk) p.written left x now result → Appends old_written written (take k x.replies.items)
     → IsPiped first_left left first_written written (Err faults.Write)
 send_failed first_left old_left left first_written old_written written chunk old x was now (Ok true) k p c r a = record {
@@ -211,20 +212,25 @@ send_failed first_left old_left left first_written old_written written chunk old
   ended_so = part_sent r.text p.written x.replies.items left (Err fault) k r.ends;
 }
 
+-- one read more
+one_more : (reads : ℕ) (read chunk : List ℕ) → reads ≤ length read → 0 < length chunk → reads + 1 ≤ length (read ++ chunk)
+one_more reads read chunk many some = omega (arith, length-append read chunk)
+
 -- what was read was taken, and all replies were sent
-pub send_done : (first_left old_left left first_written old_written written : Option (List ℕ)) (chunk : List ℕ) (old x : Exchange) (was now : Shown) (empty : Vec ℕ)
-    → (result : Result Bool PipeFault) (p : IsPiping first_left old_left first_written old_written old was) → empty.items ≡ [] → Consumes old_left left chunk
+pub send_done : {reads : ℕ} (first_left old_left left first_written old_written written : Option (List ℕ)) (chunk : List ℕ) (old x : Exchange) (was now : Shown) (empty : Vec ℕ)
+    → (result : Result Bool PipeFault) (p : IsPiping reads first_left old_left first_written old_written old was) → empty.items ≡ [] → Consumes old_left left chunk → (result ≡ Ok true → 0 < length chunk)
     → ReadsTo (p.read ++ chunk) p.written left x now result → Appends old_written written x.replies.items
-    → TurnsTo first_left left first_written written (record x { replies = empty }) now result
-send_done first_left old_left left first_written old_written written chunk old x was now empty (Ok true) p e c r a = record {
+    → TurnsTo (reads + 1) first_left left first_written written (record x { replies = empty }) now result
+send_done first_left old_left left first_written old_written written chunk old x was now empty (Ok true) p e c some r a = record {
   read = p.read ++ chunk;
+  many = one_more _ p.read chunk p.many (some refl);
   written = p.written ++ x.replies.items;
   consumed = Consumes-trans _ _ _ _ _ p.consumed c;
   appended = Appends-trans _ _ _ _ _ p.appended a;
   underway = all_sent (p.read ++ chunk) p.written x now empty e r;
   sent = e;
 }
-send_done first_left old_left left first_written old_written written chunk old x was now empty (Ok false) p e c r a = record {
+send_done first_left old_left left first_written old_written written chunk old x was now empty (Ok false) p e c some r a = record {
   read = p.read ++ chunk;
   text = r.text;
   written = p.written ++ x.replies.items;
@@ -233,7 +239,7 @@ send_done first_left old_left left first_written old_written written chunk old x
   text_is = r.text_is;
   ended_so = r.ends;
 }
-send_done first_left old_left left first_written old_written written chunk old x was now empty (Err fault) p e c r a = record {
+send_done first_left old_left left first_written old_written written chunk old x was now empty (Err fault) p e c some r a = record {
   read = p.read ++ chunk;
   text = r.text;
   written = p.written ++ x.replies.items;
@@ -245,10 +251,11 @@ send_done first_left old_left left first_written old_written written chunk old x
 
 -- ---- before the first read
 
-pub none_read : (left written : Option (List ℕ)) (x : Exchange) (node : Shown) → x.replies.items ≡ [] → IsUnderway [] [] x node → IsPiping left left written written x node
+pub none_read : (left written : Option (List ℕ)) (x : Exchange) (node : Shown) → x.replies.items ≡ [] → IsUnderway [] [] x node → IsPiping 0 left left written written x node
 none_read left written x node empty u = record {
   read = [];
   written = [];
+  many = omega arith;
   consumed = Consumes-nil left;
   appended = Appends-nil written;
   underway = u;
@@ -256,8 +263,8 @@ none_read left written x node empty u = record {
 }
 
 -- memory ran out between two reads
-pub memory_between : (first_left left first_written written : Option (List ℕ)) (x : Exchange) (node : Shown) (n : ℕ) → n ≡ x.lines + 1
-    → IsPiping first_left left first_written written x node → IsPiped first_left left first_written written (Err (faults.Memory n))
+pub memory_between : {reads : ℕ} (first_left left first_written written : Option (List ℕ)) (x : Exchange) (node : Shown) (n : ℕ) → n ≡ x.lines + 1
+    → IsPiping reads first_left left first_written written x node → IsPiped first_left left first_written written (Err (faults.Memory n))
 memory_between first_left left first_written written x node n e p =
     let ended_so : HasEnded (p.read ++ []) (p.written ++ x.replies.items) left (Err (faults.Memory n)) = memory_ends p.read p.written x node n e p.underway [] left in
     record {

@@ -1,3 +1,4 @@
 pub mod Nodes
 pub mod Steps
 pub mod Ends
+pub mod Parsing

@@ -1,5 +1,5 @@
 -- How an exchange of lines stands, and what its steps lead to.
-use Rattle.std.specs.Prelude.{◌≡◌, ℕ, Bool, true, false, List, [], ◌∷◌, ◌++◌, map, length, Option, Some, None, Result, Ok, Err}
+use Rattle.std.specs.Prelude.{◌≡◌, ℕ, ◌≤◌, Bool, true, false, List, [], ◌∷◌, ◌++◌, map, length, Option, Some, None, Result, Ok, Err}
 use Rattle.std.specs.List.{flat_map, concat}
 use Rattle.std.specs.Io.KnownBytes.{Appends, Consumes}
 use Rattle.linda.specs.Lines.{HasNoFeed, IsCut}
@@ -81,17 +81,18 @@ ReadsTo read sent left x node (Ok true) = IsUnderway read sent x node
 ReadsTo read sent left x node (Ok false) = IsEnded read sent left x (Ok tt)
 ReadsTo read sent left x node (Err fault) = IsEnded read sent left x (Err fault)
 
--- Between two reads: what was read is under way, and all reply lines were written.
-pub record IsPiping (reader_old reader_new writer_old writer_new : Option (List ℕ)) (x : Exchange) (node : Shown) : Type 0 where
+-- After so many reads, each of which gave a byte at least: what was read is under way, and all reply lines were written.
+pub record IsPiping (reads : ℕ) (reader_old reader_new writer_old writer_new : Option (List ℕ)) (x : Exchange) (node : Shown) : Type 0 where
   pub read : List ℕ
   pub written : List ℕ
+  pub many : reads ≤ length read
   pub consumed : Consumes reader_old reader_new read
   pub appended : Appends writer_old writer_new written
   pub underway : IsUnderway read written x node
   pub sent : x.replies.items ≡ []
 
--- What one read leads to.
-abbrev pub TurnsTo : Option (List ℕ) → Option (List ℕ) → Option (List ℕ) → Option (List ℕ) → Exchange → Shown → Result Bool PipeFault → Type 0
-TurnsTo reader_old reader_new writer_old writer_new x node (Ok true) = IsPiping reader_old reader_new writer_old writer_new x node
-TurnsTo reader_old reader_new writer_old writer_new x node (Ok false) = IsPiped reader_old reader_new writer_old writer_new (Ok tt)
-TurnsTo reader_old reader_new writer_old writer_new x node (Err fault) = IsPiped reader_old reader_new writer_old writer_new (Err fault)
+-- What one read leads to, with which there were so many.
+abbrev pub TurnsTo : ℕ → Option (List ℕ) → Option (List ℕ) → Option (List ℕ) → Option (List ℕ) → Exchange → Shown → Result Bool PipeFault → Type 0
+TurnsTo reads reader_old reader_new writer_old writer_new x node (Ok true) = IsPiping reads reader_old reader_new writer_old writer_new x node
+TurnsTo reads reader_old reader_new writer_old writer_new x node (Ok false) = IsPiped reader_old reader_new writer_old writer_new (Ok tt)
+TurnsTo reads reader_old reader_new writer_old writer_new x node (Err fault) = IsPiped reader_old reader_new writer_old writer_new (Err fault)

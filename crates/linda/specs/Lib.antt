@@ -1,3 +1,4 @@
+pub mod Commands
 pub mod Exchanges
 pub mod Hex
 pub mod Lines

@@ -1,5 +1,5 @@
 -- What the pipe does: from lines to pieces, from pieces to a conversation, from replies to lines.
-use Rattle.std.specs.Prelude.{◌≡◌, ℕ, ◌+◌, false, List, [], ◌++◌, map, length, take, ◌⊎◌, Option, Some, None, Result, Ok, Err}
+use Rattle.std.specs.Prelude.{◌≡◌, ℕ, ◌+◌, ◌≤◌, false, List, [], ◌++◌, map, length, take, ◌⊎◌, Option, Some, None, Result, Ok, Err}
 use Rattle.std.specs.List.{flat_map, concat}
 use Rattle.std.specs.Io.KnownBytes.{Appends, Consumes, IsAtEnd}
 use Rattle.hex.specs.Hex.{encode_lower}
@@ -14,6 +14,7 @@ use Rattle.linda_store.specs.Soft.{no_asks}
 use Rattle.linda_store.specs.Nodes.{Shown}
 use Rattle.linda_store.specs.Talk.{Point, beginning}
 use Rattle.linda_store.specs.Conversation.{IsConversation}
+use Rattle.linda_store.specs.Conversing.{read_limit}
 use Rattle.linda.specs.declared.faults.PipeFault.{PipeFault}
 use Rattle.linda.specs.declared.faults.PipeFault.TheVariants as faults
 
@@ -47,15 +48,15 @@ IsDone stages.Open more left = (more ≡ []) × IsAtEnd left
 IsDone (stages.Malformed detail) more left = Unit {0}
 IsDone stages.Down more left = ⊥
 
--- How the pipe ends, after so many lines, with so much of the text behind them and such bytes left to the reader. Where
--- reading failed, all whole lines were taken.
-abbrev pub EndsAs : Result Unit PipeFault → ℕ → List ℕ → Option (List ℕ) → Stage → Type 0
-EndsAs (Ok done) count more left stage = IsDone stage more left
-EndsAs (Err (faults.NotHexadecimal n)) count more left stage = (n ≡ count + 1) × HasBadLine more × (stage ≡ stages.Open)
-EndsAs (Err (faults.Memory n)) count more left stage = (n ≡ count + 1) × (stage ≡ stages.Open)
-EndsAs (Err faults.Read) count more left stage = HasNoFeed more × (stage ≡ stages.Open)
-EndsAs (Err faults.Write) count more left stage = Unit {0}
-EndsAs (Err faults.Turns) count more left stage = HasNoFeed more × (stage ≡ stages.Open)
+-- How the pipe ends, after so many lines of a text of so many bytes, with so much of the text behind them and such bytes left to
+-- the reader. Where reading failed, all whole lines were taken.
+abbrev pub EndsAs : Result Unit PipeFault → ℕ → ℕ → List ℕ → Option (List ℕ) → Stage → Type 0
+EndsAs (Ok done) count size more left stage = IsDone stage more left
+EndsAs (Err (faults.NotHexadecimal n)) count size more left stage = (n ≡ count + 1) × HasBadLine more × (stage ≡ stages.Open)
+EndsAs (Err (faults.Memory n)) count size more left stage = (n ≡ count + 1) × (stage ≡ stages.Open)
+EndsAs (Err faults.Read) count size more left stage = HasNoFeed more × (stage ≡ stages.Open)
+EndsAs (Err faults.Write) count size more left stage = Unit {0}
+EndsAs (Err faults.Turns) count size more left stage = (HasNoFeed more × (stage ≡ stages.Open)) × (read_limit ≤ size)
 
 -- What has gone out: all reply lines, or, where writing failed, some first bytes of them.
 abbrev pub GoesOut : Result Unit PipeFault → List ℕ → List ℕ → Type 0
@@ -74,7 +75,7 @@ pub record HasEnded (text written : List ℕ) (left : Option (List ℕ)) (result
   pub stage : Stage
   pub cut : IsCut text lines more
   pub answered : IsAnswered lines said stage
-  pub ending : EndsAs result (length lines) more left stage
+  pub ending : EndsAs result (length lines) (length text) more left stage
   pub out : GoesOut result (flat_map reply_line said) written
 
 -- The text that was read; where the input has ended, its last line may lack the line feed, which is then added.

@@ -1,6 +1,6 @@
 //! One connection to a server whose stream comes as lines of hexadecimal digits.
 
-ghost use Rattle.std.specs.Prelude.{◌≡◌, ◌+◌, ◌<◌, ◌≤◌, ◌^◌, ◌++◌, [], ℕ, List, Option, length, IfOk, IfErr, OnOk, OnErr};
+ghost use Rattle.std.specs.Prelude.{◌≡◌, ◌+◌, ◌<◌, ◌≤◌, ◌^◌, ◌++◌, true, [], ℕ, List, Option, Ok, length, IfOk, IfErr, OnOk, OnErr};
 ghost use Rattle.std.specs.Option.{option_copied};
 ghost use Rattle.std.specs.Io.KnownBytes.{IsAtEnd};
 ghost use Rattle.linda.specs.Lines.{ended};
@@ -54,6 +54,7 @@ impl Exchange {
             → IsUnderway read sent self.old (⟦<Volatile as Node>⟧.shown self.old.node)
             → ReadsTo (read ++ bytes.now) sent left self.new (⟦<Volatile as Node>⟧.shown self.new.node) result }
         ensures count { OnOk result (self.new.lines ≤ self.old.lines + length bytes.now + 1) }
+        ensures some { result ≡ Ok true → 0 < length bytes.now }
     {
         if bytes.is_empty() {
             self.finish(alloc)?;

@@ -8,6 +8,11 @@
 //! 4 with one line there for a fault of a line of the input.
 #![tactic(auto)]
 
+ghost use Rattle.std.specs.Prelude.{◌≡◌, ◌≢◌, ◌⊎◌};
+ghost use Rattle.std.specs.Process.{exit_status};
+ghost use Rattle.clap.specs.Words.{kind_of};
+ghost use Rattle.clap.specs.declared.error.kind.ErrorKind.TheVariants as kinds;
+
 mod command;
 mod decoding;
 mod exchanges;
@@ -52,7 +57,9 @@ fn words(rt: &HostRuntime) -> io::Result<Vec<String>> {
 }
 
 // Serves standard input and output.
-fn run_pipe(rt: &HostRuntime) -> ExitCode {
+fn run_pipe(rt: &HostRuntime) -> ExitCode
+    ensures { (exit_status result ≡ 0) ⊎ ((exit_status result ≡ 3) ⊎ (exit_status result ≡ 4)) }
+{
     match pipe(rt.alloc(), &mut rt.stdin(), &mut rt.stdout()) {
         Ok(()) => ExitCode::SUCCESS,
         Err(fault) => end(rt, fault, fault.status()),
@@ -60,7 +67,13 @@ fn run_pipe(rt: &HostRuntime) -> ExitCode {
 }
 
 // Shows the text of the parser of the command line.
-fn show(rt: &HostRuntime, error: &clap::Error) -> ExitCode {
+fn show(rt: &HostRuntime, error: &clap::Error) -> ExitCode
+    ensures memory { kind_of error.now ≡ kinds.OutOfMemory → exit_status result ≡ 3 }
+    ensures mistake { kind_of error.now ≢ kinds.OutOfMemory → kind_of error.now ≢ kinds.DisplayHelp
+        → kind_of error.now ≢ kinds.DisplayVersion → exit_status result ≡ 2 }
+    ensures help { (kind_of error.now ≡ kinds.DisplayHelp) ⊎ (kind_of error.now ≡ kinds.DisplayVersion)
+        → (exit_status result ≡ 0) ⊎ (exit_status result ≡ 3) }
+{
     if error.kind() == clap::error::ErrorKind::OutOfMemory {
         return end(rt, "memory", REFUSED);
     }
@@ -75,7 +88,9 @@ fn show(rt: &HostRuntime, error: &clap::Error) -> ExitCode {
 }
 
 // Ends with a line on standard error.
-fn end<D: Display + Drop>(rt: &HostRuntime, line: D, status: u8) -> ExitCode {
+fn end<D: Display + Drop>(rt: &HostRuntime, line: D, status: u8) -> ExitCode
+    ensures { exit_status result ≡ status }
+{
     let _ = rt.eprintln(line);
     ExitCode::from(status)
 }

@@ -61,10 +61,10 @@ fn read_once<R: Read, W: Write>(
 ) -> Result<bool, PipeFault>
     requires room { 0 < length buffer.old }
     requires count { exchange.old.lines + length buffer.old + 1 < 2 ^ 64 }
-    ensures turns { (first_left first_written : Option (List ℕ)) →
-        IsPiping first_left (R.remaining reader.old) first_written (W.contents writer.old)
+    ensures turns { (reads : ℕ) (first_left first_written : Option (List ℕ)) →
+        IsPiping reads first_left (R.remaining reader.old) first_written (W.contents writer.old)
         exchange.old (⟦<Volatile as Node>⟧.shown exchange.old.node) →
-        TurnsTo first_left (R.remaining reader.new) first_written (W.contents writer.new)
+        TurnsTo (reads + 1) first_left (R.remaining reader.new) first_written (W.contents writer.new)
         exchange.new (⟦<Volatile as Node>⟧.shown exchange.new.node) result }
     ensures count { OnOk result (exchange.new.lines ≤ exchange.old.lines + length buffer.old + 1) }
 {

@@ -322,3 +322,10 @@ fn reads_the_command_line(rt: HostRuntime) -> Result<(), AllocError> {
     assert_eq!(rt; task(&rt, &["linda", "--help"])?, None);
     Ok(())
 }
+
+#[test]
+fn takes_the_end_of_options(rt: HostRuntime) -> Result<(), AllocError> {
+    assert_eq!(rt; task(&rt, &["linda", "pipe", "--"])?, Some(Task::Pipe));
+    assert_eq!(rt; task(&rt, &["linda", "--", "pipe"])?, None);
+    Ok(())
+}

@@ -23,26 +23,26 @@ loop-turn-init g c = record {
 pub returns-in_err-read_once : goal.returns-in_err-read_once
 returns-in_err-read_once g c =
     let p = err_from_is_err_and c.from_residual.result c.from_residual.ensures.1 in
-    rw (p.1, p.2) (c.in_err-read_once.ensures.turns _ _ c.loop-turn.invariant.piping)
+    rw (p.1, p.2) (c.in_err-read_once.ensures.turns _ _ _ c.loop-turn.invariant.piping)
 
 pub returns-then-not-branch : goal.returns-then-not-branch
 returns-then-not-branch g c =
-    let h = c.in_ok-read_once.ensures.turns _ _ c.loop-turn.invariant.piping in
+    let h = c.in_ok-read_once.ensures.turns _ _ _ c.loop-turn.invariant.piping in
     subst
-    (λ (b : Bool). TurnsTo (g.R.Read.remaining c.args.reader.now) (g.R.Read.remaining c.read_once.new.reader) (g.W.Write.contents c.args.writer.now)
+    (λ (b : Bool). TurnsTo (c.loop-turn._turn + 1) (g.R.Read.remaining c.args.reader.now) (g.R.Read.remaining c.read_once.new.reader) (g.W.Write.contents c.args.writer.now)
     (g.W.Write.contents c.read_once.new.writer) c.read_once.new.exchange (shown c.read_once.new.exchange.node) (Ok b))
     c.if-not-branch.true h
 
 pub loop-turn-preserved : goal.loop-turn-preserved
 loop-turn-preserved g c =
-    let h = c.in_ok-read_once.ensures.turns _ _ c.loop-turn.invariant.piping in
+    let h = c.in_ok-read_once.ensures.turns _ _ _ c.loop-turn.invariant.piping in
     let room : length c.read_once.new.buffer ≡ length c.loop-turn.buffer.items = c.read_once.auto.buffer ∙ ap length c.deref_mut.ensures.value in
     record {
       room = kept_room c.loop-turn.buffer.len 65536 c.read_once.new.buffer c.loop-turn.buffer.items c.loop-turn.buffer.ok.0 room c.loop-turn.invariant.room;
       count = more_lines c.loop-turn._turn _ _ 65537 c.loop-turn.invariant.count (omega (arith, c.in_ok-read_once.ensures.count, room, c.loop-turn.invariant.room));
       piping =
           subst
-          (λ (b : Bool). TurnsTo (g.R.Read.remaining c.args.reader.now) (g.R.Read.remaining c.read_once.new.reader) (g.W.Write.contents c.args.writer.now)
+          (λ (b : Bool). TurnsTo (c.loop-turn._turn + 1) (g.R.Read.remaining c.args.reader.now) (g.R.Read.remaining c.read_once.new.reader) (g.W.Write.contents c.args.writer.now)
           (g.W.Write.contents c.read_once.new.writer) c.read_once.new.exchange (shown c.read_once.new.exchange.node) (Ok b))
           c.if-not-branch.false h;
     }
@@ -53,4 +53,4 @@ returns-in_default g c =
     (none_read _ _ c.new-exchange.result _ c.new-exchange.ensures.replies c.new-exchange.ensures.underway)
 
 pub returns : goal.returns
-returns g c = turns_spent _ _ _ _ c.loop-turn.exchange _ c.loop-turn.invariant.piping
+returns g c = turns_spent _ _ _ _ c.loop-turn.exchange _ (omega (arith, c.loop-turn-test.false)) c.loop-turn.invariant.piping

@@ -8,5 +8,5 @@ abbrev pub invariant-loop-turn : goal.invariant-loop-turn
 invariant-loop-turn g l = record {
   room : length l.buffer.items ≡ 65536;
   count : l.exchange.lines ≤ l._turn * 65537;
-  piping : IsPiping (g.R.Read.remaining l.initial.reader) (g.R.Read.remaining l.reader) (g.W.Write.contents l.initial.writer) (g.W.Write.contents l.writer) l.exchange (shown l.exchange.node);
+  piping : IsPiping l._turn (g.R.Read.remaining l.initial.reader) (g.R.Read.remaining l.reader) (g.W.Write.contents l.initial.writer) (g.W.Write.contents l.writer) l.exchange (shown l.exchange.node);
 }
