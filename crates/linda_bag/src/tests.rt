@@ -69,37 +69,73 @@ fn exercise<B: Bag>(rt: &impl Abort, alloc: Global) -> Result<(), Fail> {
     Ok(())
 }
 
-fn look_up<B: Bag>(rt: &impl Abort, alloc: Global) -> Result<(), Fail> {
-    let any_job = jobs(alloc, Pattern::IntFormal)?;
-    let job_30 = jobs(alloc, Pattern::Value(Atom::Int(30)))?;
-    let mut passed = BTreeSet::new(alloc);
-    let mut bag = B::empty(alloc);
-    assert_eq!(rt; bag.len(), 0);
-    assert_eq!(rt; bag.next_from(0), None);
-    assert_eq!(rt; bag.least_match(&any_job, &passed), None);
-
+/// Puts `("job", 90)`, `("job", 30)` twice, and a tuple that is no job.
+fn fill<B: Bag>(alloc: Global, bag: &mut B) -> Result<(), Fail> {
     bag.insert(9, job(alloc, 90)?)?;
     bag.insert(3, job(alloc, 30)?)?;
     bag.insert(6, job(alloc, 30)?)?;
     bag.insert(1, Tuple::new(Atom::Int(30), Vec::new(alloc))?)?;
-    assert_eq!(rt; bag.len(), 4);
-    assert_eq!(rt; bag.least_match(&any_job, &passed), Some(3));
-    passed.insert(3)?;
-    assert_eq!(rt; bag.least_match(&any_job, &passed), Some(6));
-    assert_eq!(rt; bag.least_match(&job_30, &passed), Some(6));
-    passed.insert(6)?;
-    assert_eq!(rt; bag.least_match(&any_job, &passed), Some(9));
-    assert_eq!(rt; bag.least_match(&job_30, &passed), None);
+    Ok(())
+}
 
+/// Sees that nothing is in the bag.
+fn see_nothing<B: Bag>(rt: &impl Abort, alloc: Global, bag: &B) -> Result<(), Fail> {
+    let any_job = jobs(alloc, Pattern::IntFormal)?;
+    assert_eq!(rt; bag.len(), 0);
+    assert_eq!(rt; bag.next_from(0), None);
+    assert_eq!(rt; bag.least_match(&any_job, &BTreeSet::new(alloc)), None);
+    Ok(())
+}
+
+/// Sees the least id of any job, and of `("job", 30)`, that is not passed over.
+fn see_least<B: Bag>(
+    rt: &impl Abort,
+    alloc: Global,
+    bag: &B,
+    passed: &BTreeSet<u64>,
+    any: Option<u64>,
+    thirty: Option<u64>,
+) -> Result<(), Fail> {
+    let any_job = jobs(alloc, Pattern::IntFormal)?;
+    assert_eq!(rt; bag.least_match(&any_job, passed), any);
+    let job_30 = jobs(alloc, Pattern::Value(Atom::Int(30)))?;
+    assert_eq!(rt; bag.least_match(&job_30, passed), thirty);
+    Ok(())
+}
+
+/// Passes over one id after another, and sees the least of the others.
+fn pass_over<B: Bag>(
+    rt: &impl Abort,
+    alloc: Global,
+    bag: &B,
+    passed: &mut BTreeSet<u64>,
+) -> Result<(), Fail> {
+    see_least(rt, alloc, bag, passed, Some(3), Some(3))?;
+    passed.insert(3)?;
+    see_least(rt, alloc, bag, passed, Some(6), Some(6))?;
+    passed.insert(6)?;
+    see_least(rt, alloc, bag, passed, Some(9), None)
+}
+
+/// Sees which ids come next, before and after one is taken out.
+fn go_through<B: Bag>(rt: &impl Abort, bag: &mut B) {
+    assert_eq!(rt; bag.len(), 4);
     assert_eq!(rt; bag.next_from(0), Some(1));
     assert_eq!(rt; bag.next_from(1), Some(1));
     assert_eq!(rt; bag.next_from(4), Some(6));
     assert_eq!(rt; bag.next_from(10), None);
     assert_eq!(rt; bag.next_from(u64::MAX), None);
-
-    assert!(rt; bag.remove(6).is_some());
+    assert_eq!(rt; number_taken(bag, 6), Some(30));
     assert_eq!(rt; bag.len(), 3);
     assert_eq!(rt; bag.next_from(4), Some(9));
+}
+
+fn look_up<B: Bag>(rt: &impl Abort, alloc: Global) -> Result<(), Fail> {
+    let mut bag = B::empty(alloc);
+    see_nothing(rt, alloc, &bag)?;
+    fill(alloc, &mut bag)?;
+    pass_over(rt, alloc, &bag, &mut BTreeSet::new(alloc))?;
+    go_through(rt, &mut bag);
     Ok(())
 }
 

@@ -3,6 +3,7 @@
 use crate::{Asked, Holds, Waits};
 use linda_tuple::{Atom, Template, Tuple};
 use std::alloc::Global;
+use std::process::Abort;
 use std::test::Fail;
 
 /// The tuple `(kind)`.
@@ -36,32 +37,90 @@ fn hold(holds: &mut Holds, id: u64, client: u32, ticket: u64) -> Result<bool, Fa
     }
 }
 
+/// Adds one request for `(kind)` after another: each row has the client, the ticket, whether it is an input, the kind, and
+/// whether it can be added.
+fn add_rows(
+    rt: &impl Abort,
+    alloc: Global,
+    waits: &mut Waits,
+    rows: &[(u32, u64, bool, i64, bool)],
+) -> Result<(), Fail> {
+    for (client, ticket, remove, kind, added) in rows {
+        let request = asked(alloc, *remove, *kind)?;
+        assert_eq!(rt;
+            wait(waits, *client, *ticket, request)?,
+            *added,
+            "client {client}, ticket {ticket}"
+        );
+    }
+    Ok(())
+}
+
+/// Sees which input has waited longest of those that take the tuple `(kind)`.
+fn see_longest(
+    rt: &impl Abort,
+    alloc: Global,
+    waits: &Waits,
+    kind: i64,
+    want: Option<(u32, u64)>,
+) -> Result<(), Fail> {
+    let tuple = tuple(alloc, kind)?;
+    assert_eq!(rt; waits.longest(&tuple), want);
+    Ok(())
+}
+
+/// Sees which reads the tuple `(kind)` answers, in order.
+fn see_readers(
+    rt: &impl Abort,
+    alloc: Global,
+    waits: &Waits,
+    kind: i64,
+    want: &[(u32, u64)],
+) -> Result<(), Fail> {
+    let tuple = tuple(alloc, kind)?;
+    let readers = waits.readers(alloc, &tuple)?;
+    assert_eq!(rt; readers.as_slice(), want);
+    Ok(())
+}
+
+/// Sees the five requests of `requests_wait_in_order_of_arrival`.
+fn see_five(rt: &impl Abort, alloc: Global, waits: &Waits) -> Result<(), Fail> {
+    assert_eq!(rt; waits.len(), 5);
+    assert!(rt; waits.contains(3, 9));
+    assert!(rt; !waits.contains(9, 3));
+    assert_eq!(rt; waits.count_of(1), 2);
+    assert_eq!(rt; waits.count_of(4), 0);
+    see_longest(rt, alloc, waits, 7, Some((3, 9)))?;
+    see_longest(rt, alloc, waits, 8, None)?;
+    see_readers(rt, alloc, waits, 7, [(2, 1), (1, 2)].as_slice())?;
+    see_readers(rt, alloc, waits, 8, [(2, 2)].as_slice())
+}
+
 #[test]
 fn requests_wait_in_order_of_arrival(rt: HostRuntime) -> Result<(), Fail> {
     let alloc = rt.alloc();
     let mut waits = Waits::new(alloc);
-    assert!(rt; wait(&mut waits, 2, 1, asked(alloc, false, 7)?)?);
-    assert!(rt; wait(&mut waits, 3, 9, asked(alloc, true, 7)?)?);
-    assert!(rt; wait(&mut waits, 1, 1, asked(alloc, true, 7)?)?);
-    assert!(rt; wait(&mut waits, 1, 2, asked(alloc, false, 7)?)?);
-    assert!(rt; wait(&mut waits, 2, 2, asked(alloc, false, 8)?)?);
-    assert!(rt; !wait(&mut waits, 1, 2, asked(alloc, true, 8)?)?);
+    let rows = [
+        (2, 1, false, 7, true),
+        (3, 9, true, 7, true),
+        (1, 1, true, 7, true),
+        (1, 2, false, 7, true),
+        (2, 2, false, 8, true),
+        (1, 2, true, 8, false),
+    ];
+    add_rows(&rt, alloc, &mut waits, rows.as_slice())?;
+    see_five(&rt, alloc, &waits)
+}
 
-    assert_eq!(rt; waits.len(), 5);
-    assert!(rt; waits.contains(3, 9));
-    assert!(rt; !waits.contains(9, 3));
-    assert_eq!(rt; waits.longest(&tuple(alloc, 7)?), Some((3, 9)));
-    assert_eq!(rt; waits.longest(&tuple(alloc, 8)?), None);
-    assert_eq!(rt;
-        waits.readers(alloc, &tuple(alloc, 7)?)?.as_slice(),
-        [(2, 1), (1, 2)].as_slice()
-    );
-    assert_eq!(rt;
-        waits.readers(alloc, &tuple(alloc, 8)?)?.as_slice(),
-        [(2, 2)].as_slice()
-    );
-    assert_eq!(rt; waits.count_of(1), 2);
-    assert_eq!(rt; waits.count_of(4), 0);
+/// Removes one request after another and sees who waits longest then.
+fn remove_in_turn(rt: &impl Abort, alloc: Global, waits: &mut Waits) -> Result<(), Fail> {
+    waits.remove(1, 5);
+    see_longest(rt, alloc, waits, 7, Some((1, 6)))?;
+    waits.remove(1, 6);
+    see_longest(rt, alloc, waits, 7, Some((2, 6)))?;
+    waits.remove_client(2);
+    see_longest(rt, alloc, waits, 7, Some((3, 6)))?;
+    assert_eq!(rt; waits.len(), 2);
     Ok(())
 }
 
@@ -69,28 +128,20 @@ fn requests_wait_in_order_of_arrival(rt: HostRuntime) -> Result<(), Fail> {
 fn removal_keeps_the_order_of_the_rest(rt: HostRuntime) -> Result<(), Fail> {
     let alloc = rt.alloc();
     let mut waits = Waits::new(alloc);
-    for client in 1..5 {
-        assert!(rt; wait(&mut waits, client, 6, asked(alloc, true, 7)?)?);
-    }
-    waits.remove(1, 5);
-    assert_eq!(rt; waits.longest(&tuple(alloc, 7)?), Some((1, 6)));
-    waits.remove(1, 6);
-    assert_eq!(rt; waits.longest(&tuple(alloc, 7)?), Some((2, 6)));
-    waits.remove_client(2);
-    assert_eq!(rt; waits.longest(&tuple(alloc, 7)?), Some((3, 6)));
-    assert_eq!(rt; waits.len(), 2);
-    Ok(())
+    let rows = [
+        (1, 6, true, 7, true),
+        (2, 6, true, 7, true),
+        (3, 6, true, 7, true),
+        (4, 6, true, 7, true),
+    ];
+    add_rows(&rt, alloc, &mut waits, rows.as_slice())?;
+    remove_in_turn(&rt, alloc, &mut waits)
 }
 
-#[test]
-fn a_tuple_takes_out_the_reads_that_it_answers(rt: HostRuntime) -> Result<(), Fail> {
-    let alloc = rt.alloc();
-    let mut waits = Waits::new(alloc);
-    assert!(rt; wait(&mut waits, 1, 1, asked(alloc, false, 7)?)?);
-    assert!(rt; wait(&mut waits, 1, 2, asked(alloc, true, 7)?)?);
-    assert!(rt; wait(&mut waits, 2, 1, asked(alloc, false, 8)?)?);
-    assert!(rt; wait(&mut waits, 2, 2, asked(alloc, false, 7)?)?);
-    waits.remove_readers(&tuple(alloc, 7)?);
+/// Takes out the reads of `(7)`, and sees the two requests that are left.
+fn take_out_reads(rt: &impl Abort, alloc: Global, waits: &mut Waits) -> Result<(), Fail> {
+    let seven = tuple(alloc, 7)?;
+    waits.remove_readers(&seven);
     assert_eq!(rt; waits.len(), 2);
     assert!(rt; waits.contains(1, 2));
     assert!(rt; waits.contains(2, 1));
@@ -98,41 +149,87 @@ fn a_tuple_takes_out_the_reads_that_it_answers(rt: HostRuntime) -> Result<(), Fa
 }
 
 #[test]
-fn tuples_are_held_for_requests(rt: HostRuntime) -> Result<(), Fail> {
+fn a_tuple_takes_out_the_reads_that_it_answers(rt: HostRuntime) -> Result<(), Fail> {
     let alloc = rt.alloc();
-    let mut holds = Holds::new(alloc);
-    assert_eq!(rt; holds.get(8), None);
-    assert!(rt; hold(&mut holds, 8, 1, 40)?);
-    assert!(rt; hold(&mut holds, 5, 2, 40)?);
-    assert!(rt; hold(&mut holds, 3, 1, 41)?);
-    assert!(rt; !hold(&mut holds, 9, 1, 40)?);
+    let mut waits = Waits::new(alloc);
+    let rows = [
+        (1, 1, false, 7, true),
+        (1, 2, true, 7, true),
+        (2, 1, false, 8, true),
+        (2, 2, false, 7, true),
+    ];
+    add_rows(&rt, alloc, &mut waits, rows.as_slice())?;
+    take_out_reads(&rt, alloc, &mut waits)
+}
 
+/// Lets tuples be held, one after another: each row has the id, the client, the ticket, and whether that can be.
+fn hold_rows(
+    rt: &impl Abort,
+    holds: &mut Holds,
+    rows: &[(u64, u32, u64, bool)],
+) -> Result<(), Fail> {
+    for (id, client, ticket, held) in rows {
+        assert_eq!(rt; hold(holds, *id, *client, *ticket)?, *held, "id {id}");
+    }
+    Ok(())
+}
+
+/// Sees the three holds of `tuples_are_held_for_requests`.
+fn see_three(rt: &impl Abort, alloc: Global, holds: &Holds) -> Result<(), Fail> {
     assert_eq!(rt; holds.get(5), Some((2, 40)));
     assert_eq!(rt; holds.find(1, 41), Some(3));
     assert_eq!(rt; holds.find(2, 41), None);
-    assert_eq!(rt; holds.of_client(alloc, 1)?.as_slice(), [3, 8].as_slice());
     assert_eq!(rt; holds.count_of(1), 2);
     assert_eq!(rt; holds.count_of(3), 0);
     assert!(rt; holds.ids().contains(&5));
+    let held = holds.of_client(alloc, 1)?;
+    assert_eq!(rt; held.as_slice(), [3, 8].as_slice());
+    Ok(())
+}
 
-    holds.remove(5);
-    holds.remove(6);
+/// Sees that the hold of 5 is gone, and two are left.
+fn see_two(rt: &impl Abort, holds: &Holds) {
     assert_eq!(rt; holds.get(5), None);
     assert_eq!(rt; holds.find(2, 40), None);
     assert!(rt; !holds.ids().contains(&5));
     assert_eq!(rt; holds.ids().len(), 2);
+}
+
+#[test]
+fn tuples_are_held_for_requests(rt: HostRuntime) -> Result<(), Fail> {
+    let alloc = rt.alloc();
+    let mut holds = Holds::new(alloc);
+    assert_eq!(rt; holds.get(8), None);
+    let rows = [
+        (8, 1, 40, true),
+        (5, 2, 40, true),
+        (3, 1, 41, true),
+        (9, 1, 40, false),
+    ];
+    hold_rows(&rt, &mut holds, rows.as_slice())?;
+    see_three(&rt, alloc, &holds)?;
+    holds.remove(5);
+    holds.remove(6);
+    see_two(&rt, &holds);
     Ok(())
+}
+
+/// Sees that 5 is held for its second request alone.
+fn see_handed_over(rt: &impl Abort, holds: &Holds) {
+    assert_eq!(rt; holds.get(5), Some((2, 4)));
+    assert_eq!(rt; holds.find(1, 1), None);
+    assert_eq!(rt; holds.find(2, 4), Some(5));
+    assert_eq!(rt; holds.ids().len(), 1);
 }
 
 #[test]
 fn a_held_tuple_is_handed_over(rt: HostRuntime) -> Result<(), Fail> {
     let mut holds = Holds::new(rt.alloc());
-    assert!(rt; hold(&mut holds, 5, 1, 1)?);
-    assert!(rt; hold(&mut holds, 5, 2, 4)?);
-    assert_eq!(rt; holds.get(5), Some((2, 4)));
-    assert_eq!(rt; holds.find(1, 1), None);
-    assert_eq!(rt; holds.find(2, 4), Some(5));
-    assert_eq!(rt; holds.ids().len(), 1);
-    assert!(rt; hold(&mut holds, 6, 1, 1)?);
-    Ok(())
+    hold_rows(
+        &rt,
+        &mut holds,
+        [(5, 1, 1, true), (5, 2, 4, true)].as_slice(),
+    )?;
+    see_handed_over(&rt, &holds);
+    hold_rows(&rt, &mut holds, [(6, 1, 1, true)].as_slice())
 }
