@@ -11,6 +11,7 @@
 ghost use Rattle.std.specs.Prelude.{◌≡◌, ◌≢◌, ◌⊎◌};
 ghost use Rattle.std.specs.Process.{exit_status};
 ghost use Rattle.clap.specs.Words.{kind_of};
+ghost use Rattle.linda.specs.Statuses.{status_after};
 ghost use Rattle.clap.specs.declared.error.kind.ErrorKind.TheVariants as kinds;
 
 mod command;
@@ -24,7 +25,7 @@ mod spelling;
 mod tests;
 
 use crate::command::{Task, read_task};
-use crate::faults::REFUSED;
+use crate::faults::{PipeFault, REFUSED};
 use crate::piping::pipe;
 use std::fmt::Display;
 use std::io::ErrorKind;
@@ -60,7 +61,15 @@ fn words(rt: &HostRuntime) -> io::Result<Vec<String>> {
 fn run_pipe(rt: &HostRuntime) -> ExitCode
     ensures { (exit_status result ≡ 0) ⊎ ((exit_status result ≡ 3) ⊎ (exit_status result ≡ 4)) }
 {
-    match pipe(rt.alloc(), &mut rt.stdin(), &mut rt.stdout()) {
+    end_of_pipe(rt, pipe(rt.alloc(), &mut rt.stdin(), &mut rt.stdout()))
+}
+
+// Ends as the pipe ended: well, or with its fault's line on standard error.
+fn end_of_pipe(rt: &HostRuntime, ended: Result<(), PipeFault>) -> ExitCode
+    ensures status { exit_status result ≡ status_after ended }
+    ensures range { (exit_status result ≡ 0) ⊎ ((exit_status result ≡ 3) ⊎ (exit_status result ≡ 4)) }
+{
+    match ended {
         Ok(()) => ExitCode::SUCCESS,
         Err(fault) => end(rt, fault, fault.status()),
     }
