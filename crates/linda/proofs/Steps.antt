@@ -10,7 +10,7 @@ use Rattle.linda.specs.Lines.{HasNoFeed, ended, IsCut}
 use Rattle.linda.specs.Hex.{piece_of}
 use Rattle.linda.specs.Piping.{unused, reply_line, HasEnded}
 use Rattle.linda.specs.Exchanges.{HasTalked, IsOpen, GoesOn, Continues, IsContinued, IsUnderway, IsOver, LeadsTo}
-use Rattle.linda_wire.specs.declared.replies.Reply.{Reply}
+use Rattle.linda_wire.specs.declared.reply.Reply.{Reply}
 use Rattle.linda_store.specs.declared.stages.Stage.TheVariants as stages
 use Rattle.linda_store.specs.Nodes.{Shown}
 use Rattle.linda_store.specs.Talk.{beginning}
@@ -22,6 +22,7 @@ use Rattle.linda_store.proofs.Ongoing.{conversation_begins, conversation_goes_on
 use Rattle.linda.specs.declared.faults.PipeFault.{PipeFault}
 use Rattle.linda.specs.declared.faults.PipeFault.TheVariants as faults
 use Rattle.linda.specs.declared.exchanges.Exchange.{Exchange}
+use Rattle.linda.specs.declared.lines.TheConstants.{LINE_FEED}
 
 -- more text behind the lines
 pub cut_more : (text more later : List ℕ) (lines : List (List ℕ)) → IsCut text lines more → IsCut (text ++ later) lines (more ++ later)
@@ -34,7 +35,7 @@ cut_more text more later lines c = record {
 pub cut_line : (text line : List ℕ) (lines : List (List ℕ)) → IsCut text lines line → HasNoFeed line → IsCut (ended text) (lines ++ line ∷ []) []
 cut_line text line lines c h = record {
   spelled =
-      ap ended c.spelled ∙ append_assoc (flat_map ended lines) line (10 ∷ [])
+      ap ended c.spelled ∙ append_assoc (flat_map ended lines) line (LINE_FEED ∷ [])
       ∙ ap (λ t. flat_map ended lines ++ t) (sym (append-nil (ended line)))
       ∙ sym (flat_map-append ended lines (line ∷ []))
       ∙ sym (append-nil (flat_map ended (lines ++ line ∷ [])));
@@ -49,7 +50,7 @@ grown read sent front x node longer h e u = record {
   pieces = u.pieces;
   said = u.said;
   cut = subst (IsCut (read ++ front) u.lines) (sym e) (cut_more read x.line.items front u.lines u.cut);
-  unfinished = subst HasNoFeed (sym e) (All-append (λ b. b ≢ 10) x.line.items front u.unfinished h);
+  unfinished = subst HasNoFeed (sym e) (All-append (λ b. b ≢ LINE_FEED) x.line.items front u.unfinished h);
   counted = u.counted;
   decoded = u.decoded;
   talk = u.talk;
@@ -74,8 +75,8 @@ memory_ends text sent x node n e u = λ later left. record {
 pub memory_ends_line : (text sent : List ℕ) (x : Exchange) (node : Shown) (n : ℕ) → n ≡ x.lines + 1 → IsUnderway text sent x node
     → IsOver (ended text) (sent ++ x.replies.items) (Err (faults.Memory n))
 memory_ends_line text sent x node n e u =
-    λ later left. subst (λ t. HasEnded t (sent ++ x.replies.items) left (Err (faults.Memory n))) (sym (append_assoc text (10 ∷ []) later))
-    (memory_ends text sent x node n e u ((10 ∷ []) ++ later) left)
+    λ later left. subst (λ t. HasEnded t (sent ++ x.replies.items) left (Err (faults.Memory n))) (sym (append_assoc text (LINE_FEED ∷ []) later))
+    (memory_ends text sent x node n e u ((LINE_FEED ∷ []) ++ later) left)
 
 -- the unfinished line is whole, and is not hexadecimal
 pub bad_ends : (text sent : List ℕ) (x : Exchange) (node : Shown) → piece_of x.line.items ≡ None → IsUnderway text sent x node
@@ -86,9 +87,9 @@ bad_ends text sent x node bad u = λ later left. record {
   said = u.said;
   stage = x.session.stage;
   cut =
-      subst (λ t. IsCut t u.lines (ended x.line.items ++ later)) (sym (append_assoc text (10 ∷ []) later))
-      (subst (IsCut (text ++ ((10 ∷ []) ++ later)) u.lines) (sym (append_assoc x.line.items (10 ∷ []) later))
-      (cut_more text x.line.items ((10 ∷ []) ++ later) u.lines u.cut));
+      subst (λ t. IsCut t u.lines (ended x.line.items ++ later)) (sym (append_assoc text (LINE_FEED ∷ []) later))
+      (subst (IsCut (text ++ ((LINE_FEED ∷ []) ++ later)) u.lines) (sym (append_assoc x.line.items (LINE_FEED ∷ []) later))
+      (cut_more text x.line.items ((LINE_FEED ∷ []) ++ later) u.lines u.cut));
   answered = record { pieces = u.pieces; unread = x.session.unread; to = point_of x.session node; decoded = u.decoded; talk = u.talk };
   ending = (
     ap (λ k. k + 1) u.counted,
@@ -143,7 +144,7 @@ line_taken text sent piece old new was now true e counted empty goes u =
       pieces = u.pieces ++ piece ∷ [];
       said = u.said ++ m.later;
       cut = subst (IsCut (ended text) (u.lines ++ old.line.items ∷ [])) (sym empty) more.cut;
-      unfinished = subst HasNoFeed (sym empty) (All-nil (λ b. b ≢ 10));
+      unfinished = subst HasNoFeed (sym empty) (All-nil (λ b. b ≢ LINE_FEED));
       counted = more.counted;
       decoded = more.decoded;
       talk = more.talk;
@@ -183,16 +184,16 @@ continued_with piece goes_on old new was now line lines h = λ bytes said o t.
     record { later = m.later; talk = m.talk; out = m.out; goes = m.goes }
 
 -- a line was found behind the front of a text
-pub line_found : (front part later rest text : List ℕ) → text ≡ front ++ rest → rest ≡ part ++ 10 ∷ later → text ≡ (front ++ ended part) ++ later
+pub line_found : (front part later rest text : List ℕ) → text ≡ front ++ rest → rest ≡ part ++ LINE_FEED ∷ later → text ≡ (front ++ ended part) ++ later
 line_found front part later rest text e f =
-    e ∙ ap (λ t. front ++ t) (f ∙ sym (append_assoc part (10 ∷ []) later)) ∙ sym (append_assoc front (ended part) later)
+    e ∙ ap (λ t. front ++ t) (f ∙ sym (append_assoc part (LINE_FEED ∷ []) later)) ∙ sym (append_assoc front (ended part) later)
 
 pub read_line : (read front part : List ℕ) → ended ((read ++ front) ++ part) ≡ read ++ (front ++ ended part)
 read_line read front part =
-    append_assoc (read ++ front) part (10 ∷ []) ∙ append_assoc read front (ended part)
+    append_assoc (read ++ front) part (LINE_FEED ∷ []) ∙ append_assoc read front (ended part)
 
 -- it was over behind a line of the text
-pub over_line : (read front part later rest text written : List ℕ) (result : Result Unit PipeFault) → text ≡ front ++ rest → rest ≡ part ++ 10 ∷ later
+pub over_line : (read front part later rest text written : List ℕ) (result : Result Unit PipeFault) → text ≡ front ++ rest → rest ≡ part ++ LINE_FEED ∷ later
     → IsOver (ended ((read ++ front) ++ part)) written result → IsOver (read ++ text) written result
 over_line read front part later rest text written result e f o =
     subst (λ t. IsOver t written result)
@@ -215,7 +216,7 @@ first node session line replies new begins no_line no_replies = record {
   pieces = [];
   said = [];
   cut = record { spelled = sym no_line; whole = All-nil HasNoFeed };
-  unfinished = subst HasNoFeed (sym no_line) (All-nil (λ b. b ≢ 10));
+  unfinished = subst HasNoFeed (sym no_line) (All-nil (λ b. b ≢ LINE_FEED));
   counted = refl;
   decoded = refl;
   talk =

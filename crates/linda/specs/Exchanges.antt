@@ -5,13 +5,14 @@ use Rattle.std.specs.Io.KnownBytes.{Appends, Consumes}
 use Rattle.linda.specs.Lines.{HasNoFeed, IsCut}
 use Rattle.linda.specs.Hex.{piece_of}
 use Rattle.linda.specs.Piping.{reply_line, unused, HasEnded, IsPiped, IsTextOf}
-use Rattle.linda_wire.specs.declared.replies.Reply.{Reply}
+use Rattle.linda_wire.specs.declared.reply.Reply.{Reply}
 use Rattle.linda_store.specs.declared.stages.Stage.TheVariants as stages
 use Rattle.linda_store.specs.Nodes.{Shown}
 use Rattle.linda_store.specs.Talk.{beginning}
 use Rattle.linda_store.specs.Conversation.{IsConversation, Talker, point_of}
 use Rattle.linda.specs.declared.faults.PipeFault.{PipeFault}
 use Rattle.linda.specs.declared.exchanges.Exchange.{Exchange}
+use Rattle.linda.specs.declared.lines.TheConstants.{LINE_FEED}
 
 -- The conversation over these bytes, in which this is said, stands as the exchange and its server have it.
 abbrev pub HasTalked : List ℕ → List Reply → Exchange → Shown → Type 0
@@ -67,7 +68,7 @@ LeadsTo text sent x node (Err fault) = IsOver text (sent ++ x.replies.items) (Er
 abbrev pub Grows : List ℕ → Exchange → Shown → Exchange → Shown → Option (List ℕ) → Type 0
 Grows text old was new now None = (read sent : List ℕ) → IsUnderway read sent old was → IsUnderway (read ++ text) sent new now
 Grows text old was new now (Some rest) =
-    (front : List ℕ) × ((text ≡ front ++ 10 ∷ rest) × ((read sent : List ℕ) → IsUnderway read sent old was → IsUnderway (read ++ front) sent new now))
+    (front : List ℕ) × ((text ≡ front ++ LINE_FEED ∷ rest) × ((read sent : List ℕ) → IsUnderway read sent old was → IsUnderway (read ++ front) sent new now))
 
 -- It ends with what was read so far, given what is left to the reader; reply lines may be in the buffer still.
 pub record IsEnded (read sent : List ℕ) (left : Option (List ℕ)) (x : Exchange) (result : Result Unit PipeFault) : Type 0 where

@@ -5,7 +5,7 @@ use Rattle.std.specs.Io.KnownBytes.{Appends, Consumes, IsAtEnd}
 use Rattle.hex.specs.Hex.{encode_lower}
 use Rattle.linda.specs.Lines.{HasNoFeed, ended, IsCut}
 use Rattle.linda.specs.Hex.{piece_of}
-use Rattle.linda_wire.specs.declared.replies.Reply.{Reply}
+use Rattle.linda_wire.specs.declared.reply.Reply.{Reply}
 use Rattle.linda_wire.specs.Frames.{reply_frame}
 use Rattle.linda_store.specs.declared.stages.Stage.{Stage}
 use Rattle.linda_store.specs.declared.stages.Stage.TheVariants as stages

@@ -9,7 +9,8 @@ ghost use Rattle.linda.specs.Lines.{Extends};
 
 use std::alloc::AllocError;
 
-const LINE_FEED: u8 = b'\n';
+/// What ends a line.
+pub(crate) const LINE_FEED: u8 = b'\n';
 
 /// Moves the front of a text to the end of an unfinished line: all bytes before the first line feed.
 ///

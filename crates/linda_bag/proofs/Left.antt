@@ -9,8 +9,9 @@ use Rattle.std.specs.List.Sorted.{IsStrictlySortedBy}
 use Rattle.std.specs.BTreeMap as tree
 use Rattle.std.specs.FinMap.{FinMap, get, from_entries}
 use Rattle.std.proofs.lemmas.Map.Keys.{sorted_head, sorted_tail}
-use Rattle.linda_tuple.specs.Values.{Row}
-use Rattle.linda_tuple.specs.Matching.{Shape, Matches}
+use Rattle.linda_tuple.specs.Tuple.{Tuple}
+use Rattle.linda_tuple.specs.Template.{Template}
+use Rattle.linda_tuple.specs.Matching.{Matches}
 use Rattle.linda_bag.specs.FreeMatch.{IsFreeMatch}
 use Rattle.linda_bag.proofs.Maps.{get_is_lookup}
 
@@ -79,7 +80,7 @@ pub none_wanted : {X : Type 0} (m : FinMap nat_cmp X) (Wanted : ℕ → Type 0) 
 none_wanted m Wanted left is_left ended k wanted = (subst (IsLeft m Wanted) ended is_left).each k wanted
 
 -- An entry that fails the test is no free match.
-pub not_free : (m : FinMap nat_cmp Row) (shape : Shape) (passed : ℕ → Bool) (e : ℕ × Row) (test : Bool) → get m e.0 ≡ Some e.1 → (IsTrue test ↔ (Matches shape e.1 × (passed e.0 ≡ false))) → test ≡ false → IsFreeMatch m shape passed e.0 → ⊥
+pub not_free : (m : FinMap nat_cmp Tuple) (shape : Template) (passed : ℕ → Bool) (e : ℕ × Tuple) (test : Bool) → get m e.0 ≡ Some e.1 → (IsTrue test ↔ (Matches shape e.1 × (passed e.0 ≡ false))) → test ≡ false → IsFreeMatch m shape passed e.0 → ⊥
 not_free m shape passed e test stored decides fails is_match =
     let same : is_match.row ≡ e.1 = some_same (sym is_match.stored ∙ stored) in
     true≢false (sym (decides.1 (subst (Matches shape) same is_match.matches, is_match.free)) ∙ fails)

@@ -2,12 +2,13 @@
 use Rattle.std.specs.Prelude.{◌≡◌, ℕ, Bool, false, Some}
 use Rattle.std.specs.Ordering.{nat_cmp}
 use Rattle.std.specs.FinMap.{FinMap, get}
-use Rattle.linda_tuple.specs.Values.{Row}
-use Rattle.linda_tuple.specs.Matching.{Shape, Matches}
+use Rattle.linda_tuple.specs.Tuple.{Tuple}
+use Rattle.linda_tuple.specs.Template.{Template}
+use Rattle.linda_tuple.specs.Matching.{Matches}
 
 -- The bag has a tuple under the id, the template matches it, and the id is not passed over.
-pub record IsFreeMatch (bag : FinMap nat_cmp Row) (shape : Shape) (passed : ℕ → Bool) (id : ℕ) : Type 0 where
-  pub row : Row
+pub record IsFreeMatch (bag : FinMap nat_cmp Tuple) (shape : Template) (passed : ℕ → Bool) (id : ℕ) : Type 0 where
+  pub row : Tuple
   pub stored : get bag id ≡ Some row
   pub matches : Matches shape row
   pub free : passed id ≡ false

@@ -4,7 +4,7 @@ ghost use Rattle.std.specs.Prelude.{◌≡◌, ◌≤◌, ◌<◌, ℕ, None, If
 ghost use Rattle.std.specs.Ordering.{nat_cmp};
 ghost use Rattle.std.specs.BTreeSet.{contains};
 ghost use Rattle.std.specs.FinMap as map;
-ghost use Rattle.linda_tuple.specs.Values.{Row};
+ghost use Rattle.linda_tuple.specs.Tuple.{Tuple};
 ghost use Rattle.linda_bag.specs.FreeMatch.{IsFreeMatch};
 
 use linda_tuple::{Template, Tuple};
@@ -14,7 +14,7 @@ use std::collections::BTreeSet;
 /// Tuples under ids, at most one under each. Any 64-bit number may be an id.
 pub trait Bag: Drop {
     // the tuples by their ids
-    ghost contents: { Self → map.FinMap nat_cmp Row };
+    ghost contents: { Self → map.FinMap nat_cmp Tuple };
 
     /// A bag of no tuples, which takes no memory until one is inserted.
     fn empty(alloc: Global) -> Self
@@ -25,11 +25,9 @@ pub trait Bag: Drop {
     /// # Errors
     ///
     /// `AllocError` where memory runs out, and then the bag is as before and the tuple is dropped.
-    /// It comes only where no tuple is under the id: to replace one takes no memory.
     fn insert(&mut self, id: u64, tuple: Tuple) -> Result<(), AllocError>
         ensures ok { OnOk result (contents self.new ≡ map.insert (contents self.old) id tuple) }
-        ensures err { OnErr result (contents self.new ≡ contents self.old) }
-        ensures absent { OnErr result (map.get (contents self.old) id ≡ None) };
+        ensures err { OnErr result (contents self.new ≡ contents self.old) };
 
     /// Takes out the tuple under the id and gives it; where there is none, nothing changes. Takes no
     /// memory.

@@ -5,7 +5,7 @@ use Rattle.std.specs.List.{enumerate_from, range_with_len}
 use Rattle.std.proofs.lemmas.List.Elements.{All-nil, All-append, All-map}
 use Rattle.linda_event.specs.Trees.{Tree}
 use Rattle.linda_event.specs.Limits.{is_too_deep}
-use Rattle.linda_wire.specs.declared.messages.Message.TheVariants as messages
+use Rattle.linda_wire.specs.declared.message.Message.TheVariants as messages
 use Rattle.linda_client.specs.declared.asks.Ask.{Ask}
 use Rattle.linda_client.specs.declared.outcomes.Got.{Got}
 use Rattle.linda_client.specs.declared.tasks.Task.TheVariants.{Idle}

@@ -4,7 +4,7 @@ use Rattle.std.specs.Prelude.{All, Contains, filter, flat_map, Option}
 use Rattle.std.specs.List.{range_with_len}
 use Rattle.std.proofs.lemmas.Bool.{cases_eq}
 use Rattle.std.proofs.lemmas.List.Elements.{All-nil, All-cons, All-append, All-contains, All-weaker, Contains-append_left, Contains-append_right}
-use Rattle.linda_wire.specs.declared.messages.Message.TheVariants as messages
+use Rattle.linda_wire.specs.declared.message.Message.TheVariants as messages
 use Rattle.linda_client.specs.Syncs.{Sync, ticket_count}
 use Rattle.linda_client.specs.Committing.{Packet, cancelled, cancels_but, is_spared}
 use Rattle.linda_client.specs.Laws.{IsDue, IsCancel}

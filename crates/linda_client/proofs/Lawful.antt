@@ -3,7 +3,7 @@ use Rattle.std.proofs.Common.{◌≡◌, ℕ, ◌==◌, max, Bool, true, false, 
 use Rattle.std.specs.Prelude.{Option, Some, None, is_some, Ok, Err, IfOk, Contains}
 use Rattle.std.proofs.lemmas.Bool.{false≢true}
 use Rattle.linda_tuple.specs.Matching.{bindings_of}
-use Rattle.linda_wire.specs.declared.messages.Message.TheVariants as messages
+use Rattle.linda_wire.specs.declared.message.Message.TheVariants as messages
 use Rattle.linda_client.specs.declared.arrivals.Accepted.{Accepted}
 use Rattle.linda_client.specs.declared.arrivals.Arrival.{Arrival}
 use Rattle.linda_client.specs.declared.asks.Ask.{Ask}

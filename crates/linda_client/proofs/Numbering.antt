@@ -7,8 +7,8 @@ use Rattle.std.proofs.lemmas.Option.{none-some, same_Some}
 use Rattle.std.proofs.lemmas.List.Folds.{find_at}
 use Rattle.linda_event.specs.Trees.{Tree, Kind, input, read, alarm, always, never}
 use Rattle.linda_event.specs.Paths.{bases_of}
-use Rattle.linda_tuple.specs.declared.atoms.Atom.{Atom}
-use Rattle.linda_tuple.specs.Values.{Row}
+use Rattle.linda_tuple.specs.declared.atom.Atom.{Atom}
+use Rattle.linda_tuple.specs.Tuple.{Tuple}
 use Rattle.linda_client.specs.declared.asks.Ask.{Ask}
 use Rattle.linda_client.specs.declared.asks.Alarm.{Alarm}
 use Rattle.linda_client.specs.declared.outcomes.Got.{Got}
@@ -50,7 +50,7 @@ gives_there : (event : Tree) (base place : ℕ) (kind : Kind) (got : Got) → ba
 gives_there event base place kind got at there gives =
     subst (λ o. IsSomeAnd o (λ k. Gives k got)) (sym (ap (slice_get (bases_of event)) at ∙ there)) gives
 
-asked_input : (base : ℕ) (kind : Kind) (ask : Ask) (server id : ℕ) (row : Row) (bindings : List Atom)
+asked_input : (base : ℕ) (kind : Kind) (ask : Ask) (server id : ℕ) (row : Tuple) (bindings : List Atom)
     → ask_of base kind ≡ Some ask → ask.remove ≡ true → (ask.base ≡ base) × Gives kind (gots.Took server id row bindings)
 asked_input base (input template) ask server id row bindings e r = let same = same_Some _ ask e in (sym (ap (λ a. a.base) same), tt)
 asked_input base (read template) ask server id row bindings e r = let same = same_Some _ ask e in absurd (false≢true (ap (λ a. a.remove) same ∙ r))
@@ -58,7 +58,7 @@ asked_input base (alarm time) ask server id row bindings e r = absurd (none-some
 asked_input base (always value) ask server id row bindings e r = absurd (none-some ask e)
 asked_input base never ask server id row bindings e r = absurd (none-some ask e)
 
-asked_read : (base : ℕ) (kind : Kind) (ask : Ask) (server id : ℕ) (row : Row) (bindings : List Atom)
+asked_read : (base : ℕ) (kind : Kind) (ask : Ask) (server id : ℕ) (row : Tuple) (bindings : List Atom)
     → ask_of base kind ≡ Some ask → ask.remove ≡ false → (ask.base ≡ base) × Gives kind (gots.Copied server id row bindings)
 asked_read base (input template) ask server id row bindings e r = let same = same_Some _ ask e in absurd (false≢true (sym r ∙ sym (ap (λ a. a.remove) same)))
 asked_read base (read template) ask server id row bindings e r = let same = same_Some _ ask e in (sym (ap (λ a. a.base) same), tt)
@@ -73,7 +73,7 @@ open_ask sync ticket ask e = open_by (nat_lt ticket sync.first) e where
   open_by false f = made_of (λ b. ask_of b.0 b.1) 0 (bases_of sync.event) (ticket - sync.first) ask f
 
 -- What an open ticket of an input asks is an input base.
-pub input_gives : (sync : Sync) (ticket : ℕ) (ask : Ask) (server id : ℕ) (row : Row) (bindings : List Atom)
+pub input_gives : (sync : Sync) (ticket : ℕ) (ask : Ask) (server id : ℕ) (row : Tuple) (bindings : List Atom)
     → ask_at sync ticket ≡ Some ask → ask.remove ≡ true → BaseGives sync.event ask.base (gots.Took server id row bindings)
 input_gives sync ticket ask server id row bindings e r =
     let m = open_ask sync ticket ask e in
@@ -82,7 +82,7 @@ input_gives sync ticket ask server id row bindings e r =
     gives_there sync.event ask.base m.place m.kind (gots.Took server id row bindings) at m.there g.1
 
 -- What an open ticket of a read asks is a read base.
-pub read_gives : (sync : Sync) (ticket : ℕ) (ask : Ask) (server id : ℕ) (row : Row) (bindings : List Atom)
+pub read_gives : (sync : Sync) (ticket : ℕ) (ask : Ask) (server id : ℕ) (row : Tuple) (bindings : List Atom)
     → ask_at sync ticket ≡ Some ask → ask.remove ≡ false → BaseGives sync.event ask.base (gots.Copied server id row bindings)
 read_gives sync ticket ask server id row bindings e r =
     let m = open_ask sync ticket ask e in

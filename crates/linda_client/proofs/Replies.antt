@@ -2,11 +2,11 @@
 use Rattle.std.proofs.Common.{◌≡◌, ℕ, ◌==◌, Bool, true, false, ◌&&◌, refl, sym, ap, subst, ◌∙◌}
 use Rattle.std.specs.Prelude.{Option, Some, None, IsSomeAnd, nat_lt}
 use Rattle.std.proofs.lemmas.Bool.Decides.{Decides-eqb}
-use Rattle.linda_tuple.specs.Values.{Row}
+use Rattle.linda_tuple.specs.Tuple.{Tuple}
 use Rattle.linda_tuple.specs.Matching.{bindings_of}
 use Rattle.linda_tuple.specs.Testing.{is_match}
-use Rattle.linda_wire.specs.declared.replies.Reply.{Reply}
-use Rattle.linda_wire.specs.declared.replies.Reply.TheVariants as replies
+use Rattle.linda_wire.specs.declared.reply.Reply.{Reply}
+use Rattle.linda_wire.specs.declared.reply.Reply.TheVariants as replies
 use Rattle.linda_client.specs.declared.arrivals.Accepted.{Accepted}
 use Rattle.linda_client.specs.declared.asks.Ask.{Ask}
 use Rattle.linda_client.specs.declared.outcomes.Got.TheVariants.{Took, Copied, Alarm, Always}
@@ -39,7 +39,7 @@ equal : (x y : ℕ) → (x == y) ≡ true → x ≡ y
 equal x y e = (Decides-eqb x y).0 e
 
 -- the tests say that the reply is for the accepted offer
-taking : (c : Client) (sync : Sync) (a : Accepted) (ask : Ask) (server n id : ℕ) (row : Row) → pending_sync c.task ≡ Some sync → sync.accepted ≡ Some a
+taking : (c : Client) (sync : Sync) (a : Accepted) (ask : Ask) (server n id : ℕ) (row : Tuple) → pending_sync c.task ≡ Some sync → sync.accepted ≡ Some a
     → (call.is_answer a server n && (a.id == id)) ≡ true → ask_at sync a.ticket ≡ Some ask → ask.remove ≡ true
     → IsTaking c server (replies.Taken n id row) ask.base server id row
 taking c sync a ask server n id row pending accepted answers asked input =
@@ -60,13 +60,13 @@ taking c sync a ask server n id row pending accepted answers asked input =
     }
 
 -- what a Taken comes to
-abbrev Here : Client → ℕ → ℕ → ℕ → Row → Sync → Reacted → Type 0
+abbrev Here : Client → ℕ → ℕ → ℕ → Tuple → Sync → Reacted → Type 0
 Here c server n id row sync = Keeps (TakenBy c server (replies.Taken n id row)) c (Some sync)
 
-ignored : (c : Client) (server n id : ℕ) (row : Row) (sync : Sync) → Here c server n id row sync (quiet c)
+ignored : (c : Client) (server n id : ℕ) (row : Tuple) (sync : Sync) → Here c server n id row sync (quiet c)
 ignored c server n id row sync = silent (TakenBy c server (replies.Taken n id row)) (untaken c server (replies.Taken n id row)) c (Some sync) (quiet c) refl refl refl
 
-taken_fit : (c : Client) (sync : Sync) (a : Accepted) (ask : Ask) (server n id : ℕ) (row : Row) → pending_sync c.task ≡ Some sync → sync.accepted ≡ Some a
+taken_fit : (c : Client) (sync : Sync) (a : Accepted) (ask : Ask) (server n id : ℕ) (row : Tuple) → pending_sync c.task ≡ Some sync → sync.accepted ≡ Some a
     → (call.is_answer a server n && (a.id == id)) ≡ true → ask_at sync a.ticket ≡ Some ask → Here c server n id row sync (call.taken_for c sync server id row (Some ask))
 taken_fit c sync a ask server n id row pending accepted answers asked =
     by_test (Here c server n id row sync) (is_fit ask true row) _ _
@@ -76,12 +76,12 @@ taken_fit c sync a ask server n id row pending accepted answers asked =
     (taking c sync a ask server n id row pending accepted answers asked input))
     (λ _. ignored c server n id row sync)
 
-taken_at : (c : Client) (sync : Sync) (a : Accepted) (server n id : ℕ) (row : Row) (o : Option Ask) → pending_sync c.task ≡ Some sync → sync.accepted ≡ Some a
+taken_at : (c : Client) (sync : Sync) (a : Accepted) (server n id : ℕ) (row : Tuple) (o : Option Ask) → pending_sync c.task ≡ Some sync → sync.accepted ≡ Some a
     → (call.is_answer a server n && (a.id == id)) ≡ true → ask_at sync a.ticket ≡ o → Here c server n id row sync (call.taken_for c sync server id row o)
 taken_at c sync a server n id row None pending accepted answers asked = ignored c server n id row sync
 taken_at c sync a server n id row (Some ask) pending accepted answers asked = taken_fit c sync a ask server n id row pending accepted answers asked
 
-taken_own : (c : Client) (sync : Sync) (o : Option Accepted) (server n id : ℕ) (row : Row) → pending_sync c.task ≡ Some sync → sync.accepted ≡ o
+taken_own : (c : Client) (sync : Sync) (o : Option Accepted) (server n id : ℕ) (row : Tuple) → pending_sync c.task ≡ Some sync → sync.accepted ≡ o
     → Here c server n id row sync (call.taken_for c sync server id row (call.ask_taken sync o server n id))
 taken_own c sync None server n id row pending accepted = ignored c server n id row sync
 taken_own c sync (Some a) server n id row pending accepted =
@@ -89,7 +89,7 @@ taken_own c sync (Some a) server n id row pending accepted =
     (λ answers. taken_at c sync a server n id row (ask_at sync a.ticket) pending accepted answers refl)
     (λ _. ignored c server n id row sync)
 
-taken_keeps : (c : Client) (o : Option Sync) (server n id : ℕ) (row : Row) → pending_sync c.task ≡ o
+taken_keeps : (c : Client) (o : Option Sync) (server n id : ℕ) (row : Tuple) → pending_sync c.task ≡ o
     → Keeps (TakenBy c server (replies.Taken n id row)) c o (call.taken c o server n id row)
 taken_keeps c None server n id row pending =
     silent (TakenBy c server (replies.Taken n id row)) (untaken c server (replies.Taken n id row)) c None (quiet c) refl refl refl

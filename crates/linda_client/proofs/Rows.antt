@@ -6,7 +6,7 @@ use Rattle.std.proofs.lemmas.List.{map-append}
 use Rattle.std.proofs.lemmas.List.Concat.{flat_map-append}
 use Rattle.std.proofs.lemmas.List.Elements.{filter-append}
 use Rattle.std.proofs.lemmas.List.FromFn.{map-range_with_len_more}
-use Rattle.linda_wire.specs.declared.messages.Message.TheVariants as messages
+use Rattle.linda_wire.specs.declared.message.Message.TheVariants as messages
 use Rattle.linda_client.specs.declared.asks.Ask.{Ask}
 use Rattle.linda_client.specs.Committing.{asked, cancelled, is_spared}
 

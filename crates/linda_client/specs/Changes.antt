@@ -5,7 +5,7 @@ use Rattle.linda_client.specs.declared.arrivals.Arrival.{Arrival}
 use Rattle.linda_client.specs.declared.arrivals.Arriving.{Arriving}
 use Rattle.linda_client.specs.declared.tasks.Task.{Task}
 use Rattle.linda_client.specs.declared.tasks.Task.TheVariants.{Idle, Putting, Syncing}
-use Rattle.linda_wire.specs.declared.messages.Message.TheVariants as messages
+use Rattle.linda_wire.specs.declared.message.Message.TheVariants as messages
 use Rattle.linda_event.specs.Trees.{Tree}
 use Rattle.linda_event.specs.Limits.{is_too_deep}
 use Rattle.linda_client.specs.declared.faults.ClientFault.{ClientFault}

@@ -2,8 +2,8 @@
 use Rattle.std.specs.Prelude.{◌≡◌, ℕ, ◌⊎◌, List, Option, Some, None, refl}
 use Rattle.std.specs.Coded.{Coded, code_by, coded×, coded⊎, coded_ℕ, coded_option, coded_list}
 use Rattle.std.proofs.Common.{inl, inr}
-use Rattle.linda_tuple.specs.Values.{Row}
-use Rattle.linda_tuple.specs.Codes.{row_code}
+use Rattle.linda_tuple.specs.Tuple.{Tuple}
+use Rattle.linda_tuple.specs.Codes.{tuple_code}
 use Rattle.linda_client.specs.declared.tasks.Task.{Task}
 use Rattle.linda_client.specs.declared.tasks.Task.TheVariants.{Idle, Putting, Syncing}
 use Rattle.linda_client.specs.Syncs.{Sync}
@@ -12,7 +12,7 @@ use Rattle.linda_client.specs.Clients.{Client}
 
 -- the parts of a task
 abbrev pub TaskParts : Type 0
-TaskParts = Option ((ℕ × (ℕ × Row)) ⊎ Sync)
+TaskParts = Option ((ℕ × (ℕ × Tuple)) ⊎ Sync)
 
 abbrev pub task_parts : Task → TaskParts
 task_parts Idle = None
@@ -31,7 +31,7 @@ task_again (Syncing sync) = refl
 
 -- the code of a task
 abbrev pub task_code : Coded Task
-task_code = code_by TaskParts (coded_option (coded⊎ (coded× coded_ℕ (coded× coded_ℕ row_code)) sync_code)) task_parts task_of_parts task_again
+task_code = code_by TaskParts (coded_option (coded⊎ (coded× coded_ℕ (coded× coded_ℕ tuple_code)) sync_code)) task_parts task_of_parts task_again
 
 -- the code of a client
 abbrev pub client_code : Coded Client

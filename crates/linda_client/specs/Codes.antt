@@ -1,8 +1,8 @@
 -- How a pending synchronization is stored where a model's value holds one.
 use Rattle.std.specs.Prelude.{ℕ, List, Option, refl}
 use Rattle.std.specs.Coded.{Coded, code_by, coded×, coded_ℕ, coded_option, coded_list}
-use Rattle.linda_tuple.specs.Values.{Row}
-use Rattle.linda_tuple.specs.Codes.{row_code}
+use Rattle.linda_tuple.specs.Tuple.{Tuple}
+use Rattle.linda_tuple.specs.Codes.{tuple_code}
 use Rattle.linda_event.specs.Trees.{Tree}
 use Rattle.linda_event.specs.Codes.{tree_code}
 use Rattle.linda_client.specs.declared.arrivals.Arrival.{Arrival}
@@ -17,7 +17,7 @@ accepted_code =
 -- the code of an arrival
 abbrev pub arrival_code : Coded Arrival
 arrival_code =
-    code_by (ℕ × (ℕ × (ℕ × Row))) (coded× coded_ℕ (coded× coded_ℕ (coded× coded_ℕ row_code))) (λ a. (a.server, (a.ticket, (a.id, a.tuple)))) (λ p. record { server = p.0; ticket = p.1.0; id = p.1.1.0; tuple = p.1.1.1 }) (λ _. refl)
+    code_by (ℕ × (ℕ × (ℕ × Tuple))) (coded× coded_ℕ (coded× coded_ℕ (coded× coded_ℕ tuple_code))) (λ a. (a.server, (a.ticket, (a.id, a.tuple)))) (λ p. record { server = p.0; ticket = p.1.0; id = p.1.1.0; tuple = p.1.1.1 }) (λ _. refl)
 
 -- the code of a pending synchronization
 abbrev pub sync_code : Coded Sync

@@ -3,8 +3,8 @@ use Rattle.std.specs.Prelude.{ℕ, ◌==◌, Bool, false, ◌&&◌, not, if◌th
 use Rattle.std.specs.List.{enumerate_from, list_any, range_with_len}
 use Rattle.linda_event.specs.Trees.{Tree}
 use Rattle.linda_event.specs.Paths as paths
-use Rattle.linda_wire.specs.declared.messages.Message.{Message}
-use Rattle.linda_wire.specs.declared.messages.Message.TheVariants as messages
+use Rattle.linda_wire.specs.declared.message.Message.{Message}
+use Rattle.linda_wire.specs.declared.message.Message.TheVariants as messages
 use Rattle.linda_client.specs.declared.arrivals.Accepted.{Accepted}
 use Rattle.linda_client.specs.declared.arrivals.Arrival.{Arrival}
 use Rattle.linda_client.specs.declared.asks.Ask.{Ask}

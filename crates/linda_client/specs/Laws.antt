@@ -1,11 +1,11 @@
 -- What follows from the reactions: what a synchronization ends with, whom it cancels, and that no number is used twice.
 use Rattle.std.specs.Prelude.{◌≡◌, ℕ, ◌+◌, ◌<◌, ◌≤◌, true, false, ◌↔◌, List, [], Option, Some, None, All, Contains, IsSomeAnd, slice_get}
-use Rattle.linda_tuple.specs.Values.{Row}
+use Rattle.linda_tuple.specs.Tuple.{Tuple}
 use Rattle.linda_event.specs.Trees.{Tree, Kind, input, read, alarm, always}
 use Rattle.linda_event.specs.Paths as paths
-use Rattle.linda_wire.specs.declared.messages.Message.TheVariants as messages
-use Rattle.linda_wire.specs.declared.replies.Reply.{Reply}
-use Rattle.linda_wire.specs.declared.replies.Reply.TheVariants as replies
+use Rattle.linda_wire.specs.declared.message.Message.TheVariants as messages
+use Rattle.linda_wire.specs.declared.reply.Reply.{Reply}
+use Rattle.linda_wire.specs.declared.reply.Reply.TheVariants as replies
 use Rattle.linda_client.specs.declared.arrivals.Accepted.{Accepted}
 use Rattle.linda_client.specs.declared.outcomes.Got.{Got}
 use Rattle.linda_client.specs.declared.outcomes.Got.TheVariants.{Took, Copied, Alarm, Always}
@@ -104,7 +104,7 @@ pub record Rises (old new : Client) : Type 0 where
   pub same_servers : servers new ≡ servers old
 
 -- A Taken that answers the unanswered Accept by server, number and id, whose tuple an input base of this number gets.
-pub record IsTaking (c : Client) (server : ℕ) (reply : Reply) (base from id : ℕ) (row : Row) : Type 0 where
+pub record IsTaking (c : Client) (server : ℕ) (reply : Reply) (base from id : ℕ) (row : Tuple) : Type 0 where
   pub sync : Sync
   pub own : Accepted
   pub pending : pending_sync c.task ≡ Some sync

@@ -1,13 +1,13 @@
 -- What each call of a client comes to, or why it is refused.
 use Rattle.std.specs.Prelude.{ℕ, ◌+◌, ◌%◌, ◌==◌, nat_lt, max, Bool, true, false, ◌&&◌, ◌||◌, not, if◌then◌else◌, List, [], ◌∷◌, ◌++◌, length, Option, Some, None, is_some, Result, Ok, Err, count_by, filter, replicate, slice_set}
-use Rattle.linda_tuple.specs.Values.{Row}
+use Rattle.linda_tuple.specs.Tuple.{Tuple}
 use Rattle.linda_tuple.specs.Matching.{bindings_of}
 use Rattle.linda_event.specs.Trees.{Tree}
 use Rattle.linda_event.specs.Paths as paths
 use Rattle.linda_event.specs.Limits.{is_ask, is_too_deep}
-use Rattle.linda_wire.specs.declared.messages.Message.TheVariants as messages
-use Rattle.linda_wire.specs.declared.replies.Reply.{Reply}
-use Rattle.linda_wire.specs.declared.replies.Reply.TheVariants as replies
+use Rattle.linda_wire.specs.declared.message.Message.TheVariants as messages
+use Rattle.linda_wire.specs.declared.reply.Reply.{Reply}
+use Rattle.linda_wire.specs.declared.reply.Reply.TheVariants as replies
 use Rattle.linda_client.specs.declared.arrivals.Accepted.{Accepted}
 use Rattle.linda_client.specs.declared.arrivals.Arrival.{Arrival}
 use Rattle.linda_client.specs.declared.asks.Ask.{Ask}
@@ -41,11 +41,11 @@ abbrev pub used_at : Client → ℕ → List ℕ
 used_at c server = slice_set c.next server (next_at c server + 1)
 
 -- The tuple is put: it goes to the server of the next out under the next number there.
-abbrev pub putting : Client → ℕ → Row → Reacted
+abbrev pub putting : Client → ℕ → Tuple → Reacted
 putting c server row = sending ((server, messages.Out (next_at c server) row) ∷ []) (record c { next = used_at c server; outs = c.outs + 1; task = Putting server (next_at c server) row })
 
 -- `out`
-abbrev pub out : Client → Row → Answer
+abbrev pub out : Client → Tuple → Answer
 out c row =
     if not (is_idle c.task) then Err faults.Busy
     else (if (next_at c (out_server c) == number_limit) || (c.outs + 1 == number_limit) then Err faults.Spent
@@ -130,7 +130,7 @@ abbrev pub is_answer : Accepted → ℕ → ℕ → Bool
 is_answer a server n = (a.server == server) && (a.n == n)
 
 -- what a base gets by an input
-abbrev pub got_taken : Ask → ℕ → ℕ → Row → Got
+abbrev pub got_taken : Ask → ℕ → ℕ → Tuple → Got
 got_taken ask server id row = gots.Took server id row (bindings_of ask.template row)
 
 -- what the offer that is taken was asked by, if it is that of the unanswered Accept: the same server, number and id
@@ -139,12 +139,12 @@ ask_taken sync None server n id = None
 ask_taken sync (Some a) server n id = (if is_answer a server n && (a.id == id) then ask_at sync a.ticket else None)
 
 -- a tuple was taken, given what it was asked by: it commits where it fits
-abbrev pub taken_for : Client → Sync → ℕ → ℕ → Row → Option Ask → Reacted
+abbrev pub taken_for : Client → Sync → ℕ → ℕ → Tuple → Option Ask → Reacted
 taken_for c sync server id row None = quiet c
 taken_for c sync server id row (Some ask) = (if is_fit ask true row then committed c sync.event (cancels (servers c) sync) ask.base (got_taken ask server id row) else quiet c)
 
 -- a tuple was taken, given the synchronization that is pending
-abbrev pub taken : Client → Option Sync → ℕ → ℕ → ℕ → Row → Reacted
+abbrev pub taken : Client → Option Sync → ℕ → ℕ → ℕ → Tuple → Reacted
 taken c None server n id row = quiet c
 taken c (Some sync) server n id row = taken_for c sync server id row (ask_taken sync sync.accepted server n id)
 

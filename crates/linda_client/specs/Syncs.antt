@@ -1,7 +1,7 @@
 -- A synchronization that is pending: its tickets, what it accepted and what it saved.
 use Rattle.std.specs.Prelude.{◌≡◌, ℕ, ◌+◌, ◌-◌, ◌^◌, ◌≤◌, ◌==◌, nat_lt, Bool, true, false, ◌&&◌, not, if◌then◌else◌, List, [], length, Option, None, All, IfSome, IsSomeAnd, slice_get}
 use Rattle.std.specs.List.{list_any}
-use Rattle.linda_tuple.specs.Values.{Row}
+use Rattle.linda_tuple.specs.Tuple.{Tuple}
 use Rattle.linda_tuple.specs.Matching.{Matches}
 use Rattle.linda_tuple.specs.Testing.{is_match}
 use Rattle.linda_event.specs.Trees.{Tree}
@@ -27,7 +27,7 @@ abbrev pub ticket_count : Sync → ℕ
 ticket_count sync = length (asks sync.event)
 
 -- Whether what a server sends for an ask fits it: an offer for an input, or a copy for a read, of a tuple that the template matches.
-abbrev pub is_fit : Ask → Bool → Row → Bool
+abbrev pub is_fit : Ask → Bool → Tuple → Bool
 is_fit ask true row = ask.remove && is_match ask.template row
 is_fit ask false row = not ask.remove && is_match ask.template row
 

@@ -1,7 +1,7 @@
 //! What servers sent for the tickets of a synchronization.
 
 ghost use Rattle.std.specs.Prelude.{◌≡◌, IfOk};
-ghost use Rattle.linda_wire.specs.declared.messages.Message.TheVariants as messages;
+ghost use Rattle.linda_wire.specs.declared.message.Message.TheVariants as messages;
 ghost use Rattle.linda_client.specs.Changes.{arrival_of};
 ghost use Rattle.linda_client.specs.Committing.{is_of};
 ghost use Rattle.linda_client.specs.Reacting.{is_answer};

@@ -3,7 +3,7 @@
 ghost use Rattle.std.specs.Prelude.{◌≡◌, ◌++◌, nat_le, true, option_to_list, IfOk, OnOk, find, filter_map, map};
 ghost use Rattle.std.specs.List.{enumerate_from};
 ghost use Rattle.linda_tuple.specs.Matching.{Matches};
-ghost use Rattle.linda_wire.specs.declared.messages.Message.TheVariants as messages;
+ghost use Rattle.linda_wire.specs.declared.message.Message.TheVariants as messages;
 ghost use Rattle.linda_event.specs.Bases.{kind_of};
 ghost use Rattle.linda_event.specs.Trees.{tree_of};
 ghost use Rattle.linda_client.specs.Asks.{ask_of, alarm_of, asks as asks_of, alarms as alarms_of};

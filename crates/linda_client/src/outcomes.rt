@@ -56,7 +56,7 @@ pub struct Bindings {
 
 impl Model for Bindings {
     ghost use Rattle.std.specs.Prelude.{List};
-    ghost use Rattle.linda_tuple.specs.declared.atoms.Atom.{Atom};
+    ghost use Rattle.linda_tuple.specs.declared.atom.Atom.{Atom};
 
     ghost Value = { List Atom };
 

@@ -1,7 +1,7 @@
 //! Packets: messages with the servers that they go to.
 
 ghost use Rattle.std.specs.Prelude.{◌≡◌, [], ◌∷◌, ◌++◌, ◌==◌, filter, IfOk, OnOk};
-ghost use Rattle.linda_wire.specs.declared.messages.Message.TheVariants as messages;
+ghost use Rattle.linda_wire.specs.declared.message.Message.TheVariants as messages;
 ghost use Rattle.linda_client.specs.Committing.{asked, cancelled, is_spared};
 
 use crate::asks::Ask;

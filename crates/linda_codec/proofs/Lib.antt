@@ -1,7 +1,9 @@
 pub mod Takes
 pub mod Loop
 pub mod Many
-pub mod Laws
-pub mod Places
 pub mod Bounds
+pub mod FormatLaws
+pub mod ValueLaws
+pub mod PlaceLaws
+pub mod SkipLaws
 pub mod Fronts

@@ -1,8 +1,8 @@
 -- Reading values one after the other, as a loop does, for any reader of a value.
 use Rattle.std.proofs.Common.{◌≡◌, ◌≢◌, ℕ, suc, ◌-◌, ◌+◌, ◌≤◌, ◌<◌, List, [], ◌∷◌, ◌++◌, Ok, Err, refl, sym, ap, ◌∙◌, append_assoc, arith}
 use Rattle.std.proofs.lemmas.List.{append-nil}
-use Rattle.linda_codec.specs.declared.faults.ReadFault.{ReadFault}
-use Rattle.linda_codec.specs.declared.faults.ReadFault.TheVariants.{Memory}
+use Rattle.linda_codec.specs.declared.fault.ReadFault.{ReadFault}
+use Rattle.linda_codec.specs.declared.fault.ReadFault.TheVariants.{Memory}
 use Rattle.linda_codec.specs.Steps.{Read, Reader, ◌>>=◌, many_at}
 
 -- What was read before, and what is still read.

@@ -4,7 +4,8 @@ use Rattle.std.specs.List.{flat_map, AllByRecursion}
 use Rattle.std.proofs.lemmas.List.Elements.{All-from_recursion, recursion_from_All}
 use Rattle.std.proofs.lemmas.List.Concat.{flat_map-cons}
 use Rattle.linda_codec.specs.Steps.{Reader, ◌>>=◌, many_at}
-use Rattle.linda_codec.proofs.Takes.{IsBytes, bind_ok, ok_is, Takes, Takes-then, Takes-none}
+use Rattle.linda_codec.specs.Lawful.{IsBytes, Takes}
+use Rattle.linda_codec.proofs.Takes.{bind_ok, ok_is, Takes-then, Takes-none}
 
 -- What the reader takes is spelled so, and fits.
 abbrev pub IsTaken : {A : Type 0} → Reader A → (A → List ℕ) → (A → Type 0) → Type 0

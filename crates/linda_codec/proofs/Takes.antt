@@ -6,14 +6,11 @@ use Rattle.std.proofs.lemmas.List.{take_at, drop_at, take-append-drop, length-ap
 use Rattle.std.specs.Str.{IsUtf8, is_utf8}
 use Rattle.std.proofs.lemmas.Str.{IsUtf8-from_is_utf8}
 use Rattle.std.proofs.lemmas.Nat.{be_bytes_4, be_bytes_8, from_be_bytes-to_be_bytes_4, from_be_bytes-to_be_bytes_8}
-use Rattle.linda_codec.specs.declared.faults.ReadFault.{ReadFault}
-use Rattle.linda_codec.specs.declared.faults.ReadFault.TheVariants.{Short}
+use Rattle.linda_codec.specs.declared.fault.ReadFault.{ReadFault}
+use Rattle.linda_codec.specs.declared.fault.ReadFault.TheVariants.{Short}
 use Rattle.linda_codec.specs.Steps.{◌>>=◌}
-use Rattle.linda_codec.specs.Reading.{byte_at, number_at}
-
--- Each item is a byte.
-abbrev pub IsBytes : List ℕ → Type 0
-IsBytes bytes = (i : ℕ) → get_or bytes i 0 < 256
+use Rattle.linda_codec.specs.Formats.{byte_at, number_at}
+use Rattle.linda_codec.specs.Lawful.{IsBytes, Takes}
 
 pub IsBytes-drop : (n : ℕ) (bytes : List ℕ) → IsBytes bytes → IsBytes (drop n bytes)
 IsBytes-drop n bytes fits i = rw get_or-drop (fits (n + i))
@@ -54,11 +51,6 @@ done x = Ok x
 pub ok_is : {A : Type 0} (x y : A) → done x ≡ done y → x ≡ y
 ok_is x y e = cc
 
--- What was taken from the front of bytes, and the rest.
-pub record Takes (bytes text rest : List ℕ) : Type 0 where
-  pub parts : bytes ≡ text ++ rest
-  pub rest_fits : IsBytes rest
-
 pub Takes-then : (a x b y c : List ℕ) → Takes a x b → Takes b y c → Takes a (x ++ y) c
 Takes-then a x b y c p q = record { parts = p.parts ∙ ap (λ (t : List ℕ). x ++ t) q.parts ∙ sym (append_assoc x y c); rest_fits = q.rest_fits }
 
@@ -68,6 +60,10 @@ Takes-none bytes fits = record { parts = refl; rest_fits = fits }
 -- One byte, and what was taken after it.
 pub Takes-byte : (b : ℕ) (bytes text rest : List ℕ) → Takes bytes text rest → Takes (b ∷ bytes) (b ∷ text) rest
 Takes-byte b bytes text rest t = record { parts = ap (λ (w : List ℕ). b ∷ w) t.parts; rest_fits = t.rest_fits }
+
+-- What was taken, behind bytes that stand in front.
+pub Takes-behind : (front bytes text rest : List ℕ) → Takes bytes text rest → Takes (front ++ bytes) (front ++ text) rest
+Takes-behind front bytes text rest t = record { parts = ap (λ (w : List ℕ). front ++ w) t.parts ∙ sym (append_assoc front text rest); rest_fits = t.rest_fits }
 
 -- The first n of bytes that are there.
 pub Takes-front : (n : ℕ) (bytes : List ℕ) → IsBytes bytes → Takes bytes (take n bytes) (drop n bytes)

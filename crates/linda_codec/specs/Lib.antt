@@ -1,3 +1,5 @@
 pub mod Steps
-pub mod Spelling
-pub mod Reading
+pub mod Formats
+pub mod Lawful
+pub mod Values
+pub mod Places

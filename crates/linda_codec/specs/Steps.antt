@@ -1,7 +1,7 @@
 -- Reading bytes from left to right: the steps that the readers of all formats are made of.
 use Rattle.std.specs.Prelude.{◌≡◌, ◌≢◌, ℕ, zero, suc, List, [], ◌∷◌, Result, Ok, Err}
-use Rattle.linda_codec.specs.declared.faults.ReadFault.{ReadFault}
-use Rattle.linda_codec.specs.declared.faults.ReadFault.TheVariants.{Memory}
+use Rattle.linda_codec.specs.declared.fault.ReadFault.{ReadFault}
+use Rattle.linda_codec.specs.declared.fault.ReadFault.TheVariants.{Memory}
 
 -- What reading gives: the value and the bytes after it, or the first fault. A fault's number counts the bytes left, from the byte at fault to the end.
 abbrev pub Read : Type 0 → Type 0
@@ -16,6 +16,11 @@ infixl 10 ◌>>=◌
 abbrev pub ◌>>=◌ : {A B : Type 0} → Result A ReadFault → (A → Result B ReadFault) → Result B ReadFault
 (Ok x) >>= f = f x
 (Err fault) >>= f = Err fault
+
+-- The bytes that reading leaves after the value, or the fault.
+abbrev pub left_by : {A : Type 0} → Read A → Result (List ℕ) ReadFault
+left_by (Ok x) = Ok x.1
+left_by (Err fault) = Err fault
 
 -- What the code returned, seen by view, is what reading gives, unless memory ran out.
 abbrev pub Gives : {X Y : Type 0} → (X → Y) → Result X ReadFault → Result Y ReadFault → Type 0

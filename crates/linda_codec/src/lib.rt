@@ -7,20 +7,25 @@
 //! nowhere else. Numbers are big-endian.
 //!
 //! Whatever is put is read again, whatever is read is spelled so, and of bytes that spell nothing the first fault
-//! from the left is told. `specs/Spelling` says what the bytes of a value are, `specs/Reading` which fault it is.
+//! from the left is told, also where memory is short. `specs/Formats` has what formats are made of, each with its
+//! spelling and its reader in one; `specs/Values` says what the formats of atoms, tuples and templates are.
 #![tactic(auto)]
 
-mod faults;
+mod fault;
 mod kinds;
-mod numbers;
-mod offsets;
+mod number;
+mod offset;
+mod parts;
 mod reading;
+mod skipping;
 mod writing;
 
-pub use faults::ReadFault;
-pub use numbers::{read_bool, read_u8, read_u32, read_u64};
-pub use offsets::{get_atom, get_template, get_tuple};
+pub use fault::ReadFault;
+pub use kinds::{BOOL_FORMAL, INT_FORMAL, INTEGER, TEXT, TEXT_FORMAL, TRUTH, WILDCARD};
+pub use number::{read_bool, read_u8, read_u32, read_u64};
+pub use offset::{get_atom, get_template, get_tuple};
 pub use reading::{read_atom, read_template, read_tuple};
+pub use skipping::{skip_template, skip_tuple};
 pub use writing::{put_atom, put_template, put_tuple};
 
 #[cfg(test)]

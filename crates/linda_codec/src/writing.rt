@@ -2,9 +2,10 @@
 
 ghost use Rattle.std.specs.Prelude.{◌≡◌, ◌++◌, All, length, take, OnOk, OnErr};
 ghost use Rattle.std.specs.List.{flat_map};
-ghost use Rattle.linda_tuple.specs.Values.{IsSound};
-ghost use Rattle.linda_tuple.specs.Matching.{IsSoundPattern};
-ghost use Rattle.linda_codec.specs.Spelling.{spell_atom, spell_tuple, spell_pattern, spell_template};
+ghost use Rattle.linda_tuple.specs.Atom.{IsSound};
+ghost use Rattle.linda_tuple.specs.Tuple.{IsWithin};
+ghost use Rattle.linda_tuple.specs.Template.{IsSoundPattern, IsWithinTemplate};
+ghost use Rattle.linda_codec.specs.Values as format;
 
 use crate::kinds::{BOOL_FORMAL, INT_FORMAL, INTEGER, TEXT, TEXT_FORMAL, TRUTH, WILDCARD};
 use linda_tuple::{Atom, Pattern, Template, Tuple};
@@ -17,7 +18,7 @@ use std::alloc::AllocError;
 /// Where memory runs out, `out` is left as it was.
 pub fn put_atom(out: &mut Vec<u8>, atom: &Atom) -> Result<(), AllocError>
     requires { IsSound atom.now }
-    ensures ok { OnOk result (out.new.items ≡ out.old.items ++ spell_atom atom.now) }
+    ensures ok { OnOk result (out.new.items ≡ out.old.items ++ format.atom.spell atom.now) }
     ensures err { OnErr result (out.new.items ≡ out.old.items) }
 {
     let len = out.len();
@@ -31,8 +32,10 @@ pub fn put_atom(out: &mut Vec<u8>, atom: &Atom) -> Result<(), AllocError>
 ///
 /// Where memory runs out, `out` is left as it was.
 pub fn put_tuple(out: &mut Vec<u8>, tuple: &Tuple) -> Result<(), AllocError>
-    ensures ok { OnOk result (out.new.items ≡ out.old.items ++ spell_tuple tuple.now) }
+    ensures ok { OnOk result (out.new.items ≡ out.old.items ++ format.tuple.spell tuple.now) }
     ensures err { OnErr result (out.new.items ≡ out.old.items) }
+    // It was within its limits, as every tuple is.
+    ensures within { IsWithin tuple.now }
 {
     let len = out.len();
     let pushed = push_tuple(out, tuple);
@@ -45,8 +48,10 @@ pub fn put_tuple(out: &mut Vec<u8>, tuple: &Tuple) -> Result<(), AllocError>
 ///
 /// Where memory runs out, `out` is left as it was.
 pub fn put_template(out: &mut Vec<u8>, template: &Template) -> Result<(), AllocError>
-    ensures ok { OnOk result (out.new.items ≡ out.old.items ++ spell_template template.now) }
+    ensures ok { OnOk result (out.new.items ≡ out.old.items ++ format.template.spell template.now) }
     ensures err { OnErr result (out.new.items ≡ out.old.items) }
+    // It was within its limits, as every template is.
+    ensures within { IsWithinTemplate template.now }
 {
     let len = out.len();
     let pushed = push_template(out, template);
@@ -71,8 +76,9 @@ fn kept_or_cut(
 
 // Appends the spelling of the tuple; where memory runs out, a part of it may stand behind the old bytes.
 fn push_tuple(out: &mut Vec<u8>, tuple: &Tuple) -> Result<(), AllocError>
-    ensures ok { OnOk result (out.new.items ≡ out.old.items ++ spell_tuple tuple.now) }
+    ensures ok { OnOk result (out.new.items ≡ out.old.items ++ format.tuple.spell tuple.now) }
     ensures front { take (length out.old.items) out.new.items ≡ out.old.items }
+    ensures within { IsWithin tuple.now }
 {
     let fields = tuple.fields();
     push_atom(out, tuple.tag())?;
@@ -82,8 +88,9 @@ fn push_tuple(out: &mut Vec<u8>, tuple: &Tuple) -> Result<(), AllocError>
 
 // Appends the spelling of the template; likewise.
 fn push_template(out: &mut Vec<u8>, template: &Template) -> Result<(), AllocError>
-    ensures ok { OnOk result (out.new.items ≡ out.old.items ++ spell_template template.now) }
+    ensures ok { OnOk result (out.new.items ≡ out.old.items ++ format.template.spell template.now) }
     ensures front { take (length out.old.items) out.new.items ≡ out.old.items }
+    ensures within { IsWithinTemplate template.now }
 {
     let patterns = template.fields();
     push_atom(out, template.tag())?;
@@ -94,7 +101,7 @@ fn push_template(out: &mut Vec<u8>, template: &Template) -> Result<(), AllocErro
 // Appends the spellings of the atoms, one after the other; likewise.
 fn push_atoms(out: &mut Vec<u8>, atoms: &[Atom]) -> Result<(), AllocError>
     requires { All IsSound atoms.now }
-    ensures ok { OnOk result (out.new.items ≡ out.old.items ++ flat_map spell_atom atoms.now) }
+    ensures ok { OnOk result (out.new.items ≡ out.old.items ++ flat_map format.atom.spell atoms.now) }
     ensures front { take (length out.old.items) out.new.items ≡ out.old.items }
 {
     for atom in atoms {
@@ -106,7 +113,7 @@ fn push_atoms(out: &mut Vec<u8>, atoms: &[Atom]) -> Result<(), AllocError>
 // Appends the spellings of the patterns, one after the other; likewise.
 fn push_patterns(out: &mut Vec<u8>, patterns: &[Pattern]) -> Result<(), AllocError>
     requires { All IsSoundPattern patterns.now }
-    ensures ok { OnOk result (out.new.items ≡ out.old.items ++ flat_map spell_pattern patterns.now) }
+    ensures ok { OnOk result (out.new.items ≡ out.old.items ++ flat_map format.pattern.spell patterns.now) }
     ensures front { take (length out.old.items) out.new.items ≡ out.old.items }
 {
     for pattern in patterns {
@@ -118,7 +125,7 @@ fn push_patterns(out: &mut Vec<u8>, patterns: &[Pattern]) -> Result<(), AllocErr
 // Appends the spelling of the pattern; likewise.
 fn push_pattern(out: &mut Vec<u8>, pattern: &Pattern) -> Result<(), AllocError>
     requires { IsSoundPattern pattern.now }
-    ensures ok { OnOk result (out.new.items ≡ out.old.items ++ spell_pattern pattern.now) }
+    ensures ok { OnOk result (out.new.items ≡ out.old.items ++ format.pattern.spell pattern.now) }
     ensures front { take (length out.old.items) out.new.items ≡ out.old.items }
 {
     let kind = match pattern {
@@ -135,7 +142,7 @@ fn push_pattern(out: &mut Vec<u8>, pattern: &Pattern) -> Result<(), AllocError>
 // Appends the spelling of the atom; likewise.
 fn push_atom(out: &mut Vec<u8>, atom: &Atom) -> Result<(), AllocError>
     requires { IsSound atom.now }
-    ensures ok { OnOk result (out.new.items ≡ out.old.items ++ spell_atom atom.now) }
+    ensures ok { OnOk result (out.new.items ≡ out.old.items ++ format.atom.spell atom.now) }
     ensures front { take (length out.old.items) out.new.items ≡ out.old.items }
 {
     match atom {

@@ -3,19 +3,19 @@ use Rattle.std.specs.Prelude.{◌≡◌, ℕ, ◌⊎◌, refl}
 use Rattle.std.specs.Coded.{Coded, code_by, coded⊎, coded_ℕ}
 use Rattle.std.proofs.Common.{inl, inr, ap}
 use base.Stored.{Gv, gnil, gnum, gcons, coded_unit}
-use Rattle.linda_tuple.specs.declared.atoms.Atom.{Atom}
-use Rattle.linda_tuple.specs.Matching.{Shape}
-use Rattle.linda_tuple.specs.Codes.{atom_code, shape_code}
+use Rattle.linda_tuple.specs.declared.atom.Atom.{Atom}
+use Rattle.linda_tuple.specs.Template.{Template}
+use Rattle.linda_tuple.specs.Codes.{atom_code, template_code}
 use Rattle.linda_event.specs.Trees.{Kind, input, read, alarm, always, never, Tree, leaf, choose, wrap, nack, Trees, no_trees, and_tree}
 
-abbrev pub kind_parts : Kind → (Shape ⊎ Shape) ⊎ (ℕ ⊎ (Atom ⊎ Unit {0}))
+abbrev pub kind_parts : Kind → (Template ⊎ Template) ⊎ (ℕ ⊎ (Atom ⊎ Unit {0}))
 kind_parts (input template) = inl (inl template)
 kind_parts (read template) = inl (inr template)
 kind_parts (alarm time) = inr (inl time)
 kind_parts (always value) = inr (inr (inl value))
 kind_parts never = inr (inr (inr tt))
 
-abbrev pub kind_of_parts : (Shape ⊎ Shape) ⊎ (ℕ ⊎ (Atom ⊎ Unit {0})) → Kind
+abbrev pub kind_of_parts : (Template ⊎ Template) ⊎ (ℕ ⊎ (Atom ⊎ Unit {0})) → Kind
 kind_of_parts (inl (inl template)) = input template
 kind_of_parts (inl (inr template)) = read template
 kind_of_parts (inr (inl time)) = alarm time
@@ -32,7 +32,7 @@ kind_again never = refl
 -- the code of a kind
 abbrev pub kind_code : Coded Kind
 kind_code =
-    code_by ((Shape ⊎ Shape) ⊎ (ℕ ⊎ (Atom ⊎ Unit {0}))) (coded⊎ (coded⊎ shape_code shape_code) (coded⊎ coded_ℕ (coded⊎ atom_code coded_unit))) kind_parts kind_of_parts kind_again
+    code_by ((Template ⊎ Template) ⊎ (ℕ ⊎ (Atom ⊎ Unit {0}))) (coded⊎ (coded⊎ template_code template_code) (coded⊎ coded_ℕ (coded⊎ atom_code coded_unit))) kind_parts kind_of_parts kind_again
 
 abbrev mutual
   pub tree_stored : Tree → Gv

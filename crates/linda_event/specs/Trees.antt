@@ -1,14 +1,14 @@
 -- Events as contracts see them: trees whose leaves are bases.
 use Rattle.std.specs.Prelude.{ℕ, List, [], ◌∷◌}
-use Rattle.linda_tuple.specs.declared.atoms.Atom.{Atom}
-use Rattle.linda_tuple.specs.Matching.{Shape}
+use Rattle.linda_tuple.specs.declared.atom.Atom.{Atom}
+use Rattle.linda_tuple.specs.Template.{Template}
 use Rattle.linda_event.specs.declared.events.Event.{Event, fold-Event}
 use Rattle.linda_event.specs.declared.events.Event.TheOpen.{Event-F}
 
 -- What a base waits for.
 pub data Kind : Type 0 where
-  input : Shape → Kind
-  read : Shape → Kind
+  input : Template → Kind
+  read : Template → Kind
   alarm : ℕ → Kind
   always : Atom → Kind
   never : Kind

@@ -1,14 +1,14 @@
 -- How a wait is stored where a model's value holds one.
 use Rattle.std.specs.Prelude.{Bool, refl}
 use Rattle.std.specs.Coded.{Coded, code_by, coded×, coded_ℕ, coded_bool}
-use Rattle.linda_tuple.specs.Matching.{Shape}
-use Rattle.linda_tuple.specs.Codes.{shape_code}
+use Rattle.linda_tuple.specs.Template.{Template}
+use Rattle.linda_tuple.specs.Codes.{template_code}
 use Rattle.linda_hold.specs.declared.asks.Asked.{Asked}
 use Rattle.linda_hold.specs.Waits.{Wait}
 
 -- the code of what is asked
 abbrev pub asked_code : Coded Asked
-asked_code = code_by (Bool × Shape) (coded× coded_bool shape_code) (λ a. (a.remove, a.template)) (λ p. record { remove = p.0; template = p.1 }) (λ _. refl)
+asked_code = code_by (Bool × Template) (coded× coded_bool template_code) (λ a. (a.remove, a.template)) (λ p. record { remove = p.0; template = p.1 }) (λ _. refl)
 
 -- the code of a wait
 abbrev pub wait_code : Coded Wait

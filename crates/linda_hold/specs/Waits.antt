@@ -2,7 +2,7 @@
 use Rattle.std.specs.Prelude.{ℕ, ◌==◌, Bool, ◌&&◌, not, List, Option, filter, find}
 use Rattle.std.specs.List.{list_any, IsDistinct}
 use Rattle.std.specs.Map.{keys_of}
-use Rattle.linda_tuple.specs.Values.{Row}
+use Rattle.linda_tuple.specs.Tuple.{Tuple}
 use Rattle.linda_tuple.specs.Testing.{is_match}
 use Rattle.linda_hold.specs.declared.asks.Asked.{Asked}
 
@@ -19,27 +19,27 @@ abbrev pub is_waiting : ℕ × ℕ → List Wait → Bool
 is_waiting pair waits = list_any (λ w. same_pair pair w.0) waits
 
 -- whether some wait is answered by the tuple
-abbrev pub is_awaited : Row → List Wait → Bool
+abbrev pub is_awaited : Tuple → List Wait → Bool
 is_awaited row waits = list_any (λ w. is_match w.1.template row) waits
 
 -- whether the wait is a read that the tuple answers
-abbrev pub is_reader : Row → Wait → Bool
+abbrev pub is_reader : Tuple → Wait → Bool
 is_reader row w = not w.1.remove && is_match w.1.template row
 
 -- whether the wait is an input that the tuple answers
-abbrev pub is_taker : Row → Wait → Bool
+abbrev pub is_taker : Tuple → Wait → Bool
 is_taker row w = w.1.remove && is_match w.1.template row
 
 -- the reads that the tuple answers, in order of arrival
-abbrev pub readers : Row → List Wait → List Wait
+abbrev pub readers : Tuple → List Wait → List Wait
 readers row waits = filter (is_reader row) waits
 
 -- the other waits, in order of arrival
-abbrev pub without_readers : Row → List Wait → List Wait
+abbrev pub without_readers : Tuple → List Wait → List Wait
 without_readers row waits = filter (λ w. not (is_reader row w)) waits
 
 -- the first input to arrive that the tuple answers
-abbrev pub longest : Row → List Wait → Option Wait
+abbrev pub longest : Tuple → List Wait → Option Wait
 longest row waits = find (is_taker row) waits
 
 -- the waits of a client

@@ -2,10 +2,10 @@
 use Rattle.std.proofs.Common.{◌≡◌, ◌≢◌, ℕ, not, ◌==◌, List, [], ◌∷◌, map, Option, Some, None, option_to_list, All, refl, sym, ap, ◌∙◌, true≢false, eq-eqb}
 use Rattle.std.proofs.lemmas.List.Elements.{All-nil, All-cons, All-append, All-map, All-filter}
 use Rattle.std.specs.FinMap.{get, remove, entries}
-use Rattle.linda_tuple.specs.Values.{Row}
+use Rattle.linda_tuple.specs.Tuple.{Tuple}
 use Rattle.linda_hold.specs.Waits.{Wait, same_pair, is_reader, is_taker, readers, without_client, without_readers, longest}
 use Rattle.linda_hold.specs.Holds.{held_in}
-use Rattle.linda_wire.specs.declared.replies.Reply.{Reply}
+use Rattle.linda_wire.specs.declared.reply.Reply.{Reply}
 use Rattle.linda_store.specs.Soft.{Soft, Bagged}
 use Rattle.linda_store.specs.Dispatch.{read_to, offer_to, held_for, dispatch, freed, freed_row, all_freed, closing}
 use Rattle.linda_store.proofs.Picked.{all_kept, found_has}
@@ -19,7 +19,7 @@ module _ (P : ℕ → Type 0) where
   AllSent sends = All (λ (send : ℕ × Reply). P send.0) sends
 
   -- A dispatch sends only to those that waited.
-  pub dispatch_sent : (id : ℕ) (row : Row) (soft : Soft) → All (λ (w : Wait). P w.0.0) soft.waits → All (λ (send : ℕ × Reply). P send.0) (dispatch id row soft).sends
+  pub dispatch_sent : (id : ℕ) (row : Tuple) (soft : Soft) → All (λ (w : Wait). P w.0.0) soft.waits → All (λ (send : ℕ × Reply). P send.0) (dispatch id row soft).sends
   dispatch_sent id row soft waiting =
       All-append (λ (send : ℕ × Reply). P send.0) (map (read_to id row) (readers row soft.waits)) (map (offer_to id row) (option_to_list (longest row soft.waits)))
       (All-map (λ (send : ℕ × Reply). P send.0) (read_to id row) (readers row soft.waits) (All-filter {X = Wait} (is_reader row) (λ w. P w.0.0) soft.waits waiting))
@@ -33,21 +33,21 @@ module _ (P : ℕ → Type 0) where
   pub freed_sent : (bag : Bagged) (id : ℕ) (soft : Soft) → All (λ (w : Wait). P w.0.0) soft.waits → All (λ (send : ℕ × Reply). P send.0) (freed bag id soft).sends
   freed_sent bag id soft waiting = by (get bag id)
     where
-      by : (there : Option Row) → AllSent (freed_row id there soft).sends
+      by : (there : Option Tuple) → AllSent (freed_row id there soft).sends
       by None = All-nil (λ (send : ℕ × Reply). P send.0)
       by (Some row) = dispatch_sent id row (record { holds = remove soft.holds id; waits = soft.waits }) waiting
 
   freed_left : (bag : Bagged) (id : ℕ) (soft : Soft) → AllWait soft.waits → AllWait (freed bag id soft).soft.waits
   freed_left bag id soft waiting = by (get bag id)
     where
-      others : (row : Row) → AllWait (without_readers row soft.waits)
+      others : (row : Tuple) → AllWait (without_readers row soft.waits)
       others row = All-filter {X = Wait} (λ w. not (is_reader row w)) (λ w. P w.0.0) soft.waits waiting
 
-      first : (row : Row) (o : Option Wait) → AllWait (held_for id o (record { holds = remove soft.holds id; waits = without_readers row soft.waits })).waits
+      first : (row : Tuple) (o : Option Wait) → AllWait (held_for id o (record { holds = remove soft.holds id; waits = without_readers row soft.waits })).waits
       first row None = others row
       first row (Some w) = All-filter {X = Wait} (λ v. not (same_pair w.0 v.0)) (λ v. P v.0.0) (without_readers row soft.waits) (others row)
 
-      by : (there : Option Row) → AllWait (freed_row id there soft).soft.waits
+      by : (there : Option Tuple) → AllWait (freed_row id there soft).soft.waits
       by None = waiting
       by (Some row) = first row (longest row soft.waits)
 

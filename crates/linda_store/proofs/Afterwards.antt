@@ -4,7 +4,7 @@ use Rattle.std.proofs.lemmas.Bool.{cond-true, cond-false, lt-ltb, le-ltb, cases_
 use Rattle.std.proofs.lemmas.Option.{slice_get_past}
 use Rattle.std.proofs.Common.{inl, inr}
 use Rattle.std.specs.FinMap.{get, insert}
-use Rattle.linda_tuple.specs.Values.{Row}
+use Rattle.linda_tuple.specs.Tuple.{Tuple}
 use Rattle.linda_bag.proofs.Maps.{get_inserted, same_map}
 use Rattle.linda_store.specs.declared.deeds.Deed.{Deed}
 use Rattle.linda_store.specs.declared.deeds.Deed.TheVariants.{Out, Take, Pass}
@@ -66,7 +66,7 @@ first_of_one : {X : Type 0} (x : X) (i : ℕ) → i ≡ 0 → slice_get (x ∷ [
 first_of_one x zero none = refl
 first_of_one x (suc i) none = absurd (omega arith)
 
-pub tuple_after_put : (st : State) (c n : ℕ) (tuple : Row) → IsState st → (id : ℕ) → cond (id == st.next) (Some tuple) (get st.bag id) ≡ bag_after st (Out c n tuple ∷ []) id
+pub tuple_after_put : (st : State) (c n : ℕ) (tuple : Tuple) → IsState st → (id : ℕ) → cond (id == st.next) (Some tuple) (get st.bag id) ≡ bag_after st (Out c n tuple ∷ []) id
 tuple_after_put st c n tuple is id =
     elim (cases_order id st.next) [
       | inl here ↦ cond-true (id == st.next) _ _ (eq-eqb id st.next here) ∙ sym (new_id st (Out c n tuple ∷ []) id refl (omega arith) ∙ first_of_one tuple (id - st.next) (omega arith))
@@ -75,7 +75,7 @@ tuple_after_put st c n tuple is id =
     ]
 
 -- After one Out the bag has its tuple under the next id, the book has the reply, and the next id is one more.
-pub put_after : (st new : State) (c n : ℕ) (tuple : Row) → IsState st → new.bag ≡ insert st.bag st.next tuple → new.book ≡ insert st.book c (n, kept.Stored st.next) → new.next ≡ st.next + 1 → IsAfter st (Out c n tuple ∷ []) new
+pub put_after : (st new : State) (c n : ℕ) (tuple : Tuple) → IsState st → new.bag ≡ insert st.bag st.next tuple → new.book ≡ insert st.book c (n, kept.Stored st.next) → new.next ≡ st.next + 1 → IsAfter st (Out c n tuple ∷ []) new
 put_after st new c n tuple is bag_is book_is next_is =
     record {
       bag = λ id. ap (λ m. get m id) bag_is ∙ get_inserted st.bag st.next tuple id ∙ tuple_after_put st c n tuple is id;

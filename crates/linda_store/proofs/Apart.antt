@@ -4,7 +4,7 @@ use Rattle.std.proofs.lemmas.Bool.{cases_eq, and_from, and_parts}
 use Rattle.std.proofs.lemmas.Option.{none-some, same_Some}
 use Rattle.std.proofs.lemmas.List.Elements.{All-filter, All-push}
 use Rattle.std.specs.FinMap.{get, insert, remove}
-use Rattle.linda_tuple.specs.Values.{Row}
+use Rattle.linda_tuple.specs.Tuple.{Tuple}
 use Rattle.linda_bag.proofs.Maps.{get_same, get_other, get_removed_same, get_removed_other}
 use Rattle.linda_hold.specs.Waits.{Wait, same_pair, is_waiting, is_reader, without_readers, longest}
 use Rattle.linda_hold.specs.Holds.{HeldFor, IsHeldAt}
@@ -68,7 +68,7 @@ pub fewer_apart : (p : Wait → Bool) (soft : Soft) → AreApart soft → AreApa
 fewer_apart p soft apart = All-filter p (λ (w : Wait). (id : ℕ) → get soft.holds id ≡ Some w.0 → ⊥) soft.waits apart
 
 -- A tuple that is new or free is dispatched.
-pub dispatch_apart : (id : ℕ) (row : Row) (soft : Soft) → AreApart soft → AreApart (dispatch id row soft).soft
+pub dispatch_apart : (id : ℕ) (row : Tuple) (soft : Soft) → AreApart soft → AreApart (dispatch id row soft).soft
 dispatch_apart id row soft apart = by (longest row soft.waits)
   where
     left : AreApart (kept_waits (λ w. not (is_reader row w)) soft)

@@ -2,47 +2,47 @@
 use Rattle.std.proofs.Common.{◌≡◌, ℕ, List, [], ◌∷◌, ◌++◌, map, Option, Some, None, option_map, option_to_list, refl, sym, ap, ◌∙◌, subst, append-nil}
 use Rattle.std.proofs.lemmas.Option.{none-some, same_Some}
 use Rattle.std.specs.FinMap.{get, insert}
-use Rattle.linda_tuple.specs.Values.{Row}
+use Rattle.linda_tuple.specs.Tuple.{Tuple}
 use Rattle.linda_hold.specs.Waits.{Wait, is_taker, readers, without_readers, longest, without}
 use Rattle.linda_hold.specs.Holds.{IsHeldAt}
-use Rattle.linda_wire.specs.declared.replies.Reply.{Reply}
-use Rattle.linda_wire.specs.declared.replies.Reply.TheVariants as replies
+use Rattle.linda_wire.specs.declared.reply.Reply.{Reply}
+use Rattle.linda_wire.specs.declared.reply.Reply.TheVariants as replies
 use Rattle.linda_store.specs.Soft.{Soft, AreApart}
 use Rattle.linda_store.specs.Dispatch.{Told, read_to, offer_to, held_for, dispatch}
 use Rattle.linda_store.proofs.Picked.{found_has}
 
 -- A tuple as the answer to the read of a pair, and as the offer to its input.
-abbrev pub read_for : ℕ → Row → ℕ × ℕ → ℕ × Reply
+abbrev pub read_for : ℕ → Tuple → ℕ × ℕ → ℕ × Reply
 read_for id row pair = (pair.0, replies.Read pair.1 id row)
 
-abbrev pub offer_for : ℕ → Row → ℕ × ℕ → ℕ × Reply
+abbrev pub offer_for : ℕ → Tuple → ℕ × ℕ → ℕ × Reply
 offer_for id row pair = (pair.0, replies.Offer pair.1 id row)
 
-reads_by_pairs : (id : ℕ) (row : Row) (waits : List Wait) → map (read_for id row) (map (λ w. w.0) waits) ≡ map (read_to id row) waits
+reads_by_pairs : (id : ℕ) (row : Tuple) (waits : List Wait) → map (read_for id row) (map (λ w. w.0) waits) ≡ map (read_to id row) waits
 reads_by_pairs id row [] = refl
 reads_by_pairs id row (w ∷ waits) = ap (λ sends. read_to id row w ∷ sends) (reads_by_pairs id row waits)
 
 -- Whether an input takes the tuple, and with what pair.
-pub record Offered (row : Row) (waits : List Wait) (pair : ℕ × ℕ) : Type 0 where
+pub record Offered (row : Tuple) (waits : List Wait) (pair : ℕ × ℕ) : Type 0 where
   pub first : Wait
   pub found : longest row waits ≡ Some first
   pub pair_is : first.0 ≡ pair
 
-pub no_longest : (row : Row) (waits : List Wait) → option_map (λ (w : Wait). w.0) (longest row waits) ≡ None → longest row waits ≡ None
+pub no_longest : (row : Tuple) (waits : List Wait) → option_map (λ (w : Wait). w.0) (longest row waits) ≡ None → longest row waits ≡ None
 no_longest row waits none = by (longest row waits) none
   where
     by : (o : Option Wait) → option_map (λ (w : Wait). w.0) o ≡ None → o ≡ None
     by None e = refl
     by (Some w) e = absurd (none-some w.0 (sym e))
 
-pub one_longest : (row : Row) (waits : List Wait) (pair : ℕ × ℕ) → option_map (λ (w : Wait). w.0) (longest row waits) ≡ Some pair → Offered row waits pair
+pub one_longest : (row : Tuple) (waits : List Wait) (pair : ℕ × ℕ) → option_map (λ (w : Wait). w.0) (longest row waits) ≡ Some pair → Offered row waits pair
 one_longest row waits pair some = by (longest row waits) refl some
   where
     by : (o : Option Wait) → longest row waits ≡ o → option_map (λ (w : Wait). w.0) o ≡ Some pair → Offered row waits pair
     by None e is = absurd (none-some pair is)
     by (Some w) e is = record { first = w; found = e; pair_is = same_Some w.0 pair is }
 
-module _ (id : ℕ) (row : Row) (soft : Soft) where
+module _ (id : ℕ) (row : Tuple) (soft : Soft) where
   -- No input takes the tuple: the reads are told, and wait no longer.
   pub told_reads : option_map (λ (w : Wait). w.0) (longest row soft.waits) ≡ None
       → dispatch id row soft ≡ record { sends = map (read_for id row) (map (λ w. w.0) (readers row soft.waits)); soft = record { holds = soft.holds; waits = without_readers row soft.waits } }

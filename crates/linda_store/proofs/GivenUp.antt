@@ -6,7 +6,7 @@ use Rattle.std.specs.List.{list_any}
 use Rattle.std.specs.Ordering.{eq_by_cmp}
 use Rattle.std.specs.Cmp.{unsigned_ties}
 use Rattle.std.specs.FinMap.{get, remove, entries, find, get-entries}
-use Rattle.linda_tuple.specs.Values.{Row}
+use Rattle.linda_tuple.specs.Tuple.{Tuple}
 use Rattle.linda_bag.proofs.Maps.{get_removed_same}
 use Rattle.linda_hold.specs.Waits.{Wait, same_pair, is_waiting, is_reader, is_taker, without, without_client, without_readers, longest}
 use Rattle.linda_hold.specs.Holds.{HeldFor, IsHeldAt, held_in}
@@ -46,11 +46,11 @@ module _ {X : Type 0} (t : X → Bool) where
 pub freed_waits : (t : Wait → Bool) (bag : Bagged) (id : ℕ) (soft : Soft) → list_any t soft.waits ≡ false → list_any t (freed bag id soft).soft.waits ≡ false
 freed_waits t bag id soft none = by (get bag id)
   where
-    first : (row : Row) (o : Option Wait) → list_any t (held_for id o (record { holds = remove soft.holds id; waits = without_readers row soft.waits })).waits ≡ false
+    first : (row : Tuple) (o : Option Wait) → list_any t (held_for id o (record { holds = remove soft.holds id; waits = without_readers row soft.waits })).waits ≡ false
     first row None = none_kept t (λ w. not (is_reader row w)) soft.waits none
     first row (Some w) = none_kept t (λ v. not (same_pair w.0 v.0)) (without_readers row soft.waits) (none_kept t (λ v. not (is_reader row v)) soft.waits none)
 
-    by : (there : Option Row) → list_any t (freed_row id there soft).soft.waits ≡ false
+    by : (there : Option Tuple) → list_any t (freed_row id there soft).soft.waits ≡ false
     by None = none
     by (Some row) = first row (longest row soft.waits)
 
@@ -65,7 +65,7 @@ freed_holds bag id soft stored pair never k = by (get bag id) refl
     gone : get (remove soft.holds id) k ≡ Some pair → (k ≢ id) × (get soft.holds k ≡ Some pair)
     gone held = (other_id soft.holds id k pair held, held_before soft.holds id k pair held)
 
-    first : (row : Row) (o : Option Wait) → longest row soft.waits ≡ o
+    first : (row : Tuple) (o : Option Wait) → longest row soft.waits ≡ o
         → get (held_for id o (record { holds = remove soft.holds id; waits = without_readers row soft.waits })).holds k ≡ Some pair → (k ≢ id) × (get soft.holds k ≡ Some pair)
     first row None e held = gone held
     first row (Some w) e held =
@@ -74,7 +74,7 @@ freed_holds bag id soft stored pair never k = by (get bag id) refl
           | inr before ↦ gone before
         ]
 
-    by : (there : Option Row) → get bag id ≡ there → get (freed_row id there soft).soft.holds k ≡ Some pair → (k ≢ id) × (get soft.holds k ≡ Some pair)
+    by : (there : Option Tuple) → get bag id ≡ there → get (freed_row id there soft).soft.holds k ≡ Some pair → (k ≢ id) × (get soft.holds k ≡ Some pair)
     by None none held = ((λ same. true≢false (sym (stored k (ap is_some held)) ∙ ap is_some (ap (get bag) same ∙ none))), held)
     by (Some row) e held = first row (longest row soft.waits) refl held
 

@@ -1,6 +1,6 @@
 -- Lists of deeds, one after the other: what they put and take, and who did the last.
 use Rattle.std.proofs.Common.{◌≡◌, ℕ, zero, suc, ◌+◌, ◌<◌, Bool, true, false, ◌||◌, ◌==◌, List, [], ◌∷◌, ◌++◌, length, Option, Some, None, slice_get, refl, ap, ◌∙◌, arith}
-use Rattle.linda_tuple.specs.Values.{Row}
+use Rattle.linda_tuple.specs.Tuple.{Tuple}
 use Rattle.linda_store.specs.declared.deeds.Deed.{Deed}
 use Rattle.linda_store.specs.declared.deeds.Deed.TheVariants.{Out, Take, Pass}
 use Rattle.linda_store.specs.Deeds.{outs_of, is_taken, last_with, last_of}
@@ -8,7 +8,7 @@ use Rattle.linda_store.specs.Deeds.{outs_of, is_taken, last_with, last_of}
 -- Tuples are put by the first list, then by the second.
 pub outs_of-joined : (ds es : List Deed) → outs_of (ds ++ es) ≡ outs_of ds ++ outs_of es
 outs_of-joined [] es = refl
-outs_of-joined (Out c n t ∷ ds) es = ap (λ (l : List Row). t ∷ l) (outs_of-joined ds es)
+outs_of-joined (Out c n t ∷ ds) es = ap (λ (l : List Tuple). t ∷ l) (outs_of-joined ds es)
 outs_of-joined (Take c n id ∷ ds) es = outs_of-joined ds es
 outs_of-joined (Pass c n id ∷ ds) es = outs_of-joined ds es
 

@@ -1,13 +1,13 @@
 -- The reply to a deed is the first thing that is sent, and it is the one that the book keeps.
 use Rattle.std.proofs.Common.{◌≡◌, ℕ, ◌+◌, List, [], ◌∷◌, Option, Some, None, IsSome, is_some, option_to_list, refl, sym, ap, ◌∙◌, subst, true≢false, arith}
 use Rattle.std.specs.FinMap.{get}
-use Rattle.linda_tuple.specs.Values.{Row}
+use Rattle.linda_tuple.specs.Tuple.{Tuple}
 use Rattle.linda_bag.proofs.Maps.{get_same}
 use Rattle.linda_book.specs.declared.kept.KeptReply.{KeptReply}
 use Rattle.linda_book.specs.declared.kept.KeptReply.TheVariants as kept
-use Rattle.linda_wire.specs.declared.messages.Message.{Message}
-use Rattle.linda_wire.specs.declared.messages.Message.TheVariants.{Hello, Out, Ask, Accept, Cancel}
-use Rattle.linda_wire.specs.declared.replies.Reply.{Reply}
+use Rattle.linda_wire.specs.declared.message.Message.{Message}
+use Rattle.linda_wire.specs.declared.message.Message.TheVariants.{Hello, Out, Ask, Accept, Cancel}
+use Rattle.linda_wire.specs.declared.reply.Reply.{Reply}
 use Rattle.linda_store.specs.declared.deeds.Deed.{Deed}
 use Rattle.linda_store.specs.declared.deeds.Deed.TheVariants as deeds
 use Rattle.linda_store.specs.Deeds.{client_of, number_of}
@@ -51,12 +51,12 @@ module _ (st new : State) (c : ℕ) (is : IsState st) where
   stored_at : st.next + 0 ≡ st.next
   stored_at = omega arith
 
-  out_kept : (n : ℕ) (tuple : Row) (reply : Option Reply) (soft : Soft) → IsSome (out_answered st c n tuple reply soft).deed → IsAfter st (option_to_list (out_answered st c n tuple reply soft).deed) new
+  out_kept : (n : ℕ) (tuple : Tuple) (reply : Option Reply) (soft : Soft) → IsSome (out_answered st c n tuple reply soft).deed → IsAfter st (option_to_list (out_answered st c n tuple reply soft).deed) new
       → IsKeptFor c n (out_answered st c n tuple reply soft).sends new
   out_kept n tuple (Some reply) soft some after = absurd (true≢false (sym some))
   out_kept n tuple None soft some after = kept_as (deeds.Out c n tuple) n (kept.Stored st.next) _ _ refl refl (ap (λ id. kept.Stored id) stored_at) after refl
 
-  taken_kept : (n id : ℕ) (row : Option Row) (soft : Soft) → ((t : Row) → row ≡ Some t → get st.bag id ≡ Some t) → IsAfter st (option_to_list (taken_or_gone c n id row soft).deed) new
+  taken_kept : (n id : ℕ) (row : Option Tuple) (soft : Soft) → ((t : Tuple) → row ≡ Some t → get st.bag id ≡ Some t) → IsAfter st (option_to_list (taken_or_gone c n id row soft).deed) new
       → IsKeptFor c n (taken_or_gone c n id row soft).sends new
   taken_kept n id (Some row) soft there after =
       kept_as (deeds.Take c n id) n (kept.Taken id row) _ _ refl refl (ap (taken_reply id) (sym ((none_after st is).bag id) ∙ there row refl)) after refl
@@ -72,7 +72,7 @@ module _ (st new : State) (c : ℕ) (is : IsState st) where
   abbrev Says : ℕ → Answered → Type 0
   Says n a = IsSome a.deed → IsAfter st (option_to_list a.deed) new → IsKeptFor c n a.sends new
 
-  pub out_answer_kept : (n : ℕ) (tuple : Row) (soft : Soft) (answered : Answered) → IsStep st soft c (Out n tuple) answered new → IsSome answered.deed → IsKeptFor c n answered.sends new
+  pub out_answer_kept : (n : ℕ) (tuple : Tuple) (soft : Soft) (answered : Answered) → IsStep st soft c (Out n tuple) answered new → IsSome answered.deed → IsKeptFor c n answered.sends new
   out_answer_kept n tuple soft answered step some =
       subst (Says n) (sym step.answer) (out_kept n tuple (out_without_deed st c n) soft) some step.state_is
 

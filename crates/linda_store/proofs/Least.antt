@@ -4,8 +4,8 @@ use Rattle.std.proofs.lemmas.Bool.{cases_lt}
 use Rattle.std.proofs.lemmas.Option.{none-some, same_Some}
 use Rattle.std.specs.Cmp.{unsigned_ties, unsigned_Decides}
 use Rattle.std.specs.FinMap.{get, entries, find, get-entries}
-use Rattle.linda_tuple.specs.Values.{Row}
-use Rattle.linda_tuple.specs.Matching.{Shape}
+use Rattle.linda_tuple.specs.Tuple.{Tuple}
+use Rattle.linda_tuple.specs.Template.{Template}
 use Rattle.linda_tuple.specs.Testing.{is_match}
 use Rattle.linda_tuple.proofs.Deciding.{is_match_decides}
 use Rattle.linda_bag.specs.FreeMatch.{IsFreeMatch}
@@ -14,12 +14,12 @@ use Rattle.linda_store.specs.Soft.{Bagged}
 use Rattle.linda_store.specs.Looking.{IsLeast}
 
 -- The least key of the entries that is good; none where none is.
-LeastOf : (ℕ → Type 0) → List (ℕ × Row) → Option ℕ → Type 0
+LeastOf : (ℕ → Type 0) → List (ℕ × Tuple) → Option ℕ → Type 0
 LeastOf Good es (Some id) = Good id × ((k : ℕ) → HasKey k es → k < id → Good k → ⊥)
 LeastOf Good es None = (k : ℕ) → HasKey k es → Good k → ⊥
 
 module _ (Good : ℕ → Type 0) (decide : (k : ℕ) → Good k ⊎ (Good k → ⊥)) where
-  with_first : (e : ℕ × Row) (es : List (ℕ × Row)) → Good e.0 ⊎ (Good e.0 → ⊥) → (o : Option ℕ) → LeastOf Good es o → (r : Option ℕ) × LeastOf Good (e ∷ es) r
+  with_first : (e : ℕ × Tuple) (es : List (ℕ × Tuple)) → Good e.0 ⊎ (Good e.0 → ⊥) → (o : Option ℕ) → LeastOf Good es o → (r : Option ℕ) × LeastOf Good (e ∷ es) r
   unfolding LeastOf
   with_first e es (inl good) None none =
       (Some e.0, (good, λ k has below is. elim has [ inl same ↦ omega arith | inr later ↦ none k later is ]))
@@ -33,13 +33,13 @@ module _ (Good : ℕ → Type 0) (decide : (k : ℕ) → Good k ⊎ (Good k → 
         | inr from ↦ (Some id, (least.0, λ k has below is. elim has [ inl same ↦ omega arith | inr later ↦ least.1 k later below is ]))
       ]
 
-  least_of : (es : List (ℕ × Row)) → (r : Option ℕ) × LeastOf Good es r
+  least_of : (es : List (ℕ × Tuple)) → (r : Option ℕ) × LeastOf Good es r
   unfolding LeastOf
   least_of [] = (None, λ k has is. has)
   least_of (e ∷ es) = let rest = least_of es in with_first e es (decide e.0) rest.0 rest.1
 
 -- What is found among entries is under the key of one.
-has_key : (k : ℕ) (row : Row) (es : List (ℕ × Row)) → find nat_cmp k es ≡ Some row → HasKey k es
+has_key : (k : ℕ) (row : Tuple) (es : List (ℕ × Tuple)) → find nat_cmp k es ≡ Some row → HasKey k es
 has_key k row [] found = absurd (none-some row found)
 has_key k row (e ∷ es) found =
     elim (k == e.0) as (λ b. (k == e.0) ≡ b → HasKey k (e ∷ es)) [
@@ -47,13 +47,13 @@ has_key k row (e ∷ es) found =
       | false ↦ λ is. inr (has_key k row es (subst (λ b. cond b (Some e.1) (find nat_cmp k es) ≡ Some row) (sym (unsigned_ties k e.0) ∙ is) found))
     ] refl
 
-module _ (bag : Bagged) (shape : Shape) (passed : ℕ → Bool) where
-  by_tests : (k : ℕ) (row : Row) → get bag k ≡ Some row → (fits out : Bool) → is_match shape row ≡ fits → passed k ≡ out → IsFreeMatch bag shape passed k ⊎ (IsFreeMatch bag shape passed k → ⊥)
+module _ (bag : Bagged) (shape : Template) (passed : ℕ → Bool) where
+  by_tests : (k : ℕ) (row : Tuple) → get bag k ≡ Some row → (fits out : Bool) → is_match shape row ≡ fits → passed k ≡ out → IsFreeMatch bag shape passed k ⊎ (IsFreeMatch bag shape passed k → ⊥)
   by_tests k row stored true false fits free = inl record { row = row; stored = stored; matches = (is_match_decides shape row).0 fits; free = free }
   by_tests k row stored true true fits free = inr (λ is. true≢false (sym free ∙ is.free))
   by_tests k row stored false out fits free = inr (λ is. true≢false (sym ((is_match_decides shape is.row).1 is.matches) ∙ ap (is_match shape) (same_Some is.row row (sym is.stored ∙ stored)) ∙ fits))
 
-  by_get : (k : ℕ) (there : Option Row) → get bag k ≡ there → IsFreeMatch bag shape passed k ⊎ (IsFreeMatch bag shape passed k → ⊥)
+  by_get : (k : ℕ) (there : Option Tuple) → get bag k ≡ there → IsFreeMatch bag shape passed k ⊎ (IsFreeMatch bag shape passed k → ⊥)
   by_get k None none = inr (λ is. none-some is.row (sym none ∙ is.stored))
   by_get k (Some row) stored = by_tests k row stored (is_match shape row) (passed k) refl refl
 

@@ -1,14 +1,14 @@
 -- Look-ups have one answer each; what is passed over.
 use Rattle.std.proofs.Common.{◌≡◌, ℕ, ◌<◌, Bool, true, false, ◌&&◌, Option, Some, None, IfSome, IfNone, is_some, inl, inr, refl, sym, ap, ◌∙◌, true≢false, arith}
 use Rattle.std.proofs.lemmas.Bool.{cases_lt, cases_eq}
-use Rattle.linda_tuple.specs.Matching.{Shape}
+use Rattle.linda_tuple.specs.Template.{Template}
 use Rattle.linda_bag.specs.FreeMatch.{IsFreeMatch}
 use Rattle.linda_hold.specs.Holds.{HeldFor, IsHeldAt, IsOneEach}
 use Rattle.linda_store.specs.Soft.{Bagged}
 use Rattle.linda_store.specs.Looking.{IsLeast}
 
 -- Two answers to the look-up of the least id are one.
-pub one_least : (bag : Bagged) (shape : Shape) (passed : ℕ → Bool) (a b : Option ℕ) → IsLeast bag shape passed a → IsLeast bag shape passed b → a ≡ b
+pub one_least : (bag : Bagged) (shape : Template) (passed : ℕ → Bool) (a b : Option ℕ) → IsLeast bag shape passed a → IsLeast bag shape passed b → a ≡ b
 one_least bag shape passed (Some i) (Some k) first second =
     elim (cases_lt i k) [
       | inl below ↦ absurd (second.1 i below first.0)
@@ -36,11 +36,11 @@ not_held true (Some x) free is = absurd (true≢false free)
 not_held false o free is = absurd (true≢false (sym is))
 
 -- Tests that answer alike leave the same ids free.
-same_free : (bag : Bagged) (shape : Shape) (p q : ℕ → Bool) (id : ℕ) → p id ≡ q id → IsFreeMatch bag shape p id → IsFreeMatch bag shape q id
+same_free : (bag : Bagged) (shape : Template) (p q : ℕ → Bool) (id : ℕ) → p id ≡ q id → IsFreeMatch bag shape p id → IsFreeMatch bag shape q id
 same_free bag shape p q id alike is = record { row = is.row; stored = is.stored; matches = is.matches; free = sym alike ∙ is.free }
 
 -- What a bag finds is the least id, where the set that it is given has just the ids that are passed over.
-module _ (bag : Bagged) (shape : Shape) (ids passed : ℕ → Bool) (same : (k : ℕ) → ids k ≡ passed k) where
+module _ (bag : Bagged) (shape : Template) (ids passed : ℕ → Bool) (same : (k : ℕ) → ids k ≡ passed k) where
   in_set : (k : ℕ) → IsFreeMatch bag shape passed k → IsFreeMatch bag shape ids k
   in_set k is = same_free bag shape passed ids k (sym (same k)) is
 

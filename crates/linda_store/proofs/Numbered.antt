@@ -3,14 +3,16 @@ use Rattle.std.proofs.Common.{◌≡◌, ℕ, ◌+◌, ◌<◌, ◌≤◌, Bool,
 use Rattle.std.proofs.lemmas.Option.{none-some}
 use Rattle.std.proofs.lemmas.Bool.{eqb-false, or_parts, and_cases}
 use Rattle.std.specs.FinMap.{get, len}
-use Rattle.linda_tuple.specs.Values.{Row}
+use Rattle.linda_wire.specs.declared.limits.TheConstants.{MAX_CLIENTS}
+use Rattle.linda_store.specs.declared.states.TheConstants.{NUMBER_LIMIT}
+use Rattle.linda_tuple.specs.Tuple.{Tuple}
 use Rattle.linda_book.specs.declared.classes.Class.{Class}
 use Rattle.linda_book.specs.declared.classes.Class.TheVariants.{Fresh, Kept, Old, Gap}
 use Rattle.linda_book.specs.Entries.{Entry, number_in}
 use Rattle.linda_book.specs.Classes.{IsClass}
 use Rattle.linda_book.proofs.Meaning.{class_means}
 use Rattle.linda_store.specs.declared.deeds.Deed.TheVariants.{Out, Take, Pass}
-use Rattle.linda_store.specs.State.{State, IsState, client_limit, number_limit}
+use Rattle.linda_store.specs.State.{State, IsState}
 use Rattle.linda_store.specs.Proper.{IsAllowed}
 use Rattle.linda_store.specs.Answer.{last_number, is_one_too_many, class_in, without_deed, out_without_deed, accept_without_deed, reply_of_kept}
 
@@ -56,37 +58,37 @@ number_below (Some e) limit some within = within.1
 
 module _ (st : State) (c n : ℕ) (is : IsState st) where
   -- There is a place for a client without an entry.
-  room_for_new : is_one_too_many st c ≡ false → get st.book c ≡ None → len st.book < client_limit
+  room_for_new : is_one_too_many st c ≡ false → get st.book c ≡ None → len st.book < MAX_CLIENTS
   room_for_new few none =
-      elim (and_cases (last_number st c == 0) (nat_le client_limit (len st.book)) few) [
+      elim (and_cases (last_number st c == 0) (nat_le MAX_CLIENTS (len st.book)) few) [
         | inl known ↦ absurd (eqb-false (last_number st c) 0 known (ap number_in none))
-        | inr room ↦ leb-false client_limit (len st.book) room
+        | inr room ↦ leb-false MAX_CLIENTS (len st.book) room
       ]
 
   -- The number stays below the limit.
-  unspent_number : n ≡ last_number st c + 1 → (n == number_limit) ≡ false → n < number_limit
+  unspent_number : n ≡ last_number st c + 1 → (n == NUMBER_LIMIT) ≡ false → n < NUMBER_LIMIT
   unspent_number next unspent =
-      below_limit (last_number st c) n number_limit next
-      (number_below (get st.book c) number_limit (lt_of_lt_of_le (zero-lt-suc 0) (le_trans is.next_low is.next_high)) (is.numbers c))
-      (eqb-false n number_limit unspent)
+      below_limit (last_number st c) n NUMBER_LIMIT next
+      (number_below (get st.book c) NUMBER_LIMIT (lt_of_lt_of_le (zero-lt-suc 0) (le_trans is.next_low is.next_high)) (is.numbers c))
+      (eqb-false n NUMBER_LIMIT unspent)
 
-  pub allowed_out : (tuple : Row) → out_without_deed st c n ≡ None → IsAllowed st (Out c n tuple)
+  pub allowed_out : (tuple : Tuple) → out_without_deed st c n ≡ None → IsAllowed st (Out c n tuple)
   allowed_out tuple none =
-      let found = fresh st c n ((n == number_limit) || (st.next == number_limit)) none in
-      let limits = or_parts (n == number_limit) (st.next == number_limit) found.unspent in
+      let found = fresh st c n ((n == NUMBER_LIMIT) || (st.next == NUMBER_LIMIT)) none in
+      let limits = or_parts (n == NUMBER_LIMIT) (st.next == NUMBER_LIMIT) found.unspent in
       record {
         number = found.number;
         below = unspent_number found.number limits.0;
         client = room_for_new found.few;
-        room = at_most_but st.next number_limit is.next_high (eqb-false st.next number_limit limits.1);
+        room = at_most_but st.next NUMBER_LIMIT is.next_high (eqb-false st.next NUMBER_LIMIT limits.1);
       }
 
   pub allowed_take : (id : ℕ) → accept_without_deed st c n ≡ None → IsSome (get st.bag id) → IsAllowed st (Take c n id)
   allowed_take id none there =
-      let found = fresh st c n (n == number_limit) none in
+      let found = fresh st c n (n == NUMBER_LIMIT) none in
       record { number = found.number; below = unspent_number found.number found.unspent; client = room_for_new found.few; room = there }
 
   pub allowed_pass : (id : ℕ) → accept_without_deed st c n ≡ None → IsAllowed st (Pass c n id)
   allowed_pass id none =
-      let found = fresh st c n (n == number_limit) none in
+      let found = fresh st c n (n == NUMBER_LIMIT) none in
       record { number = found.number; below = unspent_number found.number found.unspent; client = room_for_new found.few; room = tt }

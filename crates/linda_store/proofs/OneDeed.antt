@@ -2,20 +2,22 @@
 use Rattle.std.proofs.Common.{◌≡◌, ◌≢◌, ℕ, ◌+◌, ◌<◌, ◌≤◌, Bool, true, false, cond, ◌||◌, ◌==◌, List, [], ◌∷◌, Option, Some, None, IfSome, IsSome, is_some, inl, inr, refl, ap, sym, ◌∙◌, subst, arith, eq-eqb, ne_eqb, nat_cmp}
 use Rattle.std.proofs.lemmas.Bool.{cond-true, cases_lt, cases_eq}
 use Rattle.std.specs.FinMap.{FinMap, get, insert, remove, len}
-use Rattle.linda_tuple.specs.Values.{Row}
+use Rattle.linda_wire.specs.declared.limits.TheConstants.{MAX_CLIENTS}
+use Rattle.linda_store.specs.declared.states.TheConstants.{NUMBER_LIMIT}
+use Rattle.linda_tuple.specs.Tuple.{Tuple}
 use Rattle.linda_bag.proofs.Maps.{get_inserted, get_same, get_other, get_removed, get_removed_same, get_removed_other, len_new, len_old}
 use Rattle.linda_store.specs.declared.deeds.Deed.{Deed}
 use Rattle.linda_store.specs.declared.deeds.Deed.TheVariants.{Out, Take, Pass}
 use Rattle.linda_book.specs.declared.kept.KeptReply.TheVariants as kept
 use Rattle.linda_store.specs.Deeds.{client_of, number_of, outs_of, is_taken}
 use Rattle.linda_book.specs.Entries.{Entry, number_in}
-use Rattle.linda_store.specs.State.{State, IsState, client_limit, number_limit}
+use Rattle.linda_store.specs.State.{State, IsState}
 use Rattle.linda_store.specs.After.{IsAfter, bag_after, taken_reply, reply_of_deed}
 use Rattle.linda_store.specs.Proper.{HasRoom, IsAllowed}
 use Rattle.linda_store.proofs.Afterwards.{none_after, one_after, put_after, none_from_next, old_id, new_id, taken_id, tuple_after_put, entry_after_one}
 
 -- The bag and the next id after a deed, as changes of maps and numbers.
-abbrev pub bag_done : State → Deed → FinMap nat_cmp Row
+abbrev pub bag_done : State → Deed → FinMap nat_cmp Tuple
 bag_done st (Out c n tuple) = insert st.bag st.next tuple
 bag_done st (Take c n id) = remove st.bag id
 bag_done st (Pass c n id) = st.bag
@@ -96,8 +98,8 @@ next_low_done st (Out c n tuple) low = omega arith
 next_low_done st (Take c n id) low = low
 next_low_done st (Pass c n id) low = low
 
-next_high_done : (st : State) (d : Deed) → st.next ≤ number_limit → HasRoom st d → next_done st d ≤ number_limit
-next_high_done st (Out c n tuple) high room = up_to st.next number_limit room
+next_high_done : (st : State) (d : Deed) → st.next ≤ NUMBER_LIMIT → HasRoom st d → next_done st d ≤ NUMBER_LIMIT
+next_high_done st (Out c n tuple) high room = up_to st.next NUMBER_LIMIT room
 next_high_done st (Take c n id) high room = high
 next_high_done st (Pass c n id) high room = high
 
@@ -105,22 +107,22 @@ next_high_done st (Pass c n id) high room = high
 number_low : (n before : ℕ) → n ≡ before + 1 → 1 ≤ n
 number_low n before is = omega arith
 
-numbers_done : (st : State) (d : Deed) → IsState st → IsAllowed st d → (c : ℕ) → IfSome (get (done st d).book c) (λ e. (1 ≤ e.0) × (e.0 < number_limit))
+numbers_done : (st : State) (d : Deed) → IsState st → IsAllowed st d → (c : ℕ) → IfSome (get (done st d).book c) (λ e. (1 ≤ e.0) × (e.0 < NUMBER_LIMIT))
 numbers_done st d is allowed c =
     elim (cases_eq c (client_of d)) [
       | inl same ↦
-          subst (λ o. IfSome o (λ (e : Entry). (1 ≤ e.0) × (e.0 < number_limit))) (sym (ap (get (done st d).book) same ∙ get_same st.book (client_of d) (number_of d, reply_of_deed st [] d)))
+          subst (λ o. IfSome o (λ (e : Entry). (1 ≤ e.0) × (e.0 < NUMBER_LIMIT))) (sym (ap (get (done st d).book) same ∙ get_same st.book (client_of d) (number_of d, reply_of_deed st [] d)))
           (number_low (number_of d) (number_in (get st.book (client_of d))) allowed.number, allowed.below)
       | inr apart ↦
-          subst (λ o. IfSome o (λ (e : Entry). (1 ≤ e.0) × (e.0 < number_limit))) (sym (get_other st.book (client_of d) (number_of d, reply_of_deed st [] d) c apart)) (is.numbers c)
+          subst (λ o. IfSome o (λ (e : Entry). (1 ≤ e.0) × (e.0 < NUMBER_LIMIT))) (sym (get_other st.book (client_of d) (number_of d, reply_of_deed st [] d) c apart)) (is.numbers c)
     ]
 
-clients_kept : (book : FinMap nat_cmp Entry) (c : ℕ) (e : Entry) → len book ≤ client_limit → (get book c ≡ None → len book < client_limit) → len (insert book c e) ≤ client_limit
+clients_kept : (book : FinMap nat_cmp Entry) (c : ℕ) (e : Entry) → len book ≤ MAX_CLIENTS → (get book c ≡ None → len book < MAX_CLIENTS) → len (insert book c e) ≤ MAX_CLIENTS
 clients_kept book c e few room = by_entry (get book c) refl
   where
-    by_entry : (o : Option Entry) → get book c ≡ o → len (insert book c e) ≤ client_limit
-    by_entry None none = subst (λ n. n ≤ client_limit) (sym (len_new book c e none)) (up_to (len book) client_limit (room none))
-    by_entry (Some old) some = subst (λ n. n ≤ client_limit) (sym (len_old book c e (ap is_some some))) few
+    by_entry : (o : Option Entry) → get book c ≡ o → len (insert book c e) ≤ MAX_CLIENTS
+    by_entry None none = subst (λ n. n ≤ MAX_CLIENTS) (sym (len_new book c e none)) (up_to (len book) MAX_CLIENTS (room none))
+    by_entry (Some old) some = subst (λ n. n ≤ MAX_CLIENTS) (sym (len_old book c e (ap is_some some))) few
 
 -- The state after an allowed deed keeps the ranges of states.
 pub done_state : (st : State) (d : Deed) → IsState st → IsAllowed st d → IsState (done st d)
@@ -138,15 +140,15 @@ pub one_state : (st new : State) (d : Deed) → IsState st → IsAllowed st d �
 one_state st new d is allowed after = subst IsState (one_after st (d ∷ []) (done st d) new (done_after st d is) after) (done_state st d is allowed)
 
 -- An Out as changes of maps, where the old state is known by another name.
-pub put_at : (old st new : State) (c n : ℕ) (tuple : Row) → old ≡ st → IsState st → new.bag ≡ insert old.bag old.next tuple → new.book ≡ insert old.book c (n, kept.Stored old.next) → new.next ≡ old.next + 1 → IsAfter st (Out c n tuple ∷ []) new
+pub put_at : (old st new : State) (c n : ℕ) (tuple : Tuple) → old ≡ st → IsState st → new.bag ≡ insert old.bag old.next tuple → new.book ≡ insert old.book c (n, kept.Stored old.next) → new.next ≡ old.next + 1 → IsAfter st (Out c n tuple ∷ []) new
 put_at old st new c n tuple same is bag book next =
     subst (λ s. IsAfter s (Out c n tuple ∷ []) new) same (put_after old new c n tuple (subst IsState (sym same) is) bag book next)
 
 -- A Take and a Pass as changes of maps, where the old state is known by another name.
-taken_kept : (st : State) (id : ℕ) (row : Row) → IsState st → get st.bag id ≡ Some row → taken_reply id (bag_after st [] id) ≡ kept.Taken id row
+taken_kept : (st : State) (id : ℕ) (row : Tuple) → IsState st → get st.bag id ≡ Some row → taken_reply id (bag_after st [] id) ≡ kept.Taken id row
 taken_kept st id row is there = ap (taken_reply id) (sym ((none_after st is).bag id) ∙ there)
 
-take_after : (st new : State) (c n id : ℕ) (row : Row) → IsState st → get st.bag id ≡ Some row → new.bag ≡ remove st.bag id → new.book ≡ insert st.book c (n, kept.Taken id row) → new.next ≡ st.next → IsAfter st (Take c n id ∷ []) new
+take_after : (st new : State) (c n id : ℕ) (row : Tuple) → IsState st → get st.bag id ≡ Some row → new.bag ≡ remove st.bag id → new.book ≡ insert st.book c (n, kept.Taken id row) → new.next ≡ st.next → IsAfter st (Take c n id ∷ []) new
 take_after st new c n id row is there bag book next =
     let d = done_after st (Take c n id) is in
     record {
@@ -155,7 +157,7 @@ take_after st new c n id row is there bag book next =
       next = next ∙ d.next;
     }
 
-pub take_at : (old st new : State) (c n id : ℕ) (row : Row) → old ≡ st → IsState st → get st.bag id ≡ Some row → new.bag ≡ remove old.bag id → new.book ≡ insert old.book c (n, kept.Taken id row) → new.next ≡ old.next → IsAfter st (Take c n id ∷ []) new
+pub take_at : (old st new : State) (c n id : ℕ) (row : Tuple) → old ≡ st → IsState st → get st.bag id ≡ Some row → new.bag ≡ remove old.bag id → new.book ≡ insert old.book c (n, kept.Taken id row) → new.next ≡ old.next → IsAfter st (Take c n id ∷ []) new
 take_at old st new c n id row same is there bag book next =
     subst (λ s. IsAfter s (Take c n id ∷ []) new) same (take_after old new c n id row (subst IsState (sym same) is) (subst (λ s. get s.bag id ≡ Some row) (sym same) there) bag book next)
 

@@ -3,10 +3,10 @@ use Rattle.std.proofs.Common.{◌≡◌, ℕ, true, List, [], ◌++◌, refl, �
 use Rattle.std.specs.List.{flat_map}
 use Rattle.std.proofs.lemmas.List.{append-nil}
 use Rattle.std.proofs.lemmas.List.Elements.{All-append}
-use Rattle.linda_wire.specs.declared.replies.Reply.{Reply}
+use Rattle.linda_wire.specs.declared.reply.Reply.{Reply}
 use Rattle.linda_wire.specs.Frames.{message_frame, FitsMessage}
 use Rattle.linda_wire.specs.Stream.{payload_len, Partial}
-use Rattle.linda_wire.specs.Payloads.{message_front}
+use Rattle.linda_wire.specs.Stream.{message_front}
 use Rattle.linda_store.specs.declared.stages.Stage.{Stage}
 use Rattle.linda_store.specs.declared.stages.Stage.TheVariants as stages
 use Rattle.linda_store.specs.Talk.{Point}

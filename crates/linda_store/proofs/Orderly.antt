@@ -1,17 +1,19 @@
 -- Every step and every close keep what a store keeps: the ranges of its state, of its holds and waits, and that nobody waits in vain.
 use Rattle.std.proofs.Common.{◌≡◌, ℕ, ◌<◌, Bool, true, false, cond, nat_le, List, [], ◌∷◌, Option, Some, None, option_to_list, is_some, refl, sym, ap, ◌∙◌, subst, leb-false}
 use Rattle.std.specs.FinMap.{remove}
-use Rattle.linda_tuple.specs.Values.{Row}
-use Rattle.linda_tuple.specs.Matching.{Shape}
+use Rattle.linda_wire.specs.declared.limits.TheConstants.{MAX_ASKS}
+use Rattle.linda_wire.specs.Refusal.{refused}
+use Rattle.linda_wire.specs.declared.refusal.Refusal.TheVariants as refusals
+use Rattle.linda_tuple.specs.Tuple.{Tuple}
+use Rattle.linda_tuple.specs.Template.{Template}
 use Rattle.linda_hold.specs.Waits.{is_waiting}
 use Rattle.linda_hold.specs.Holds.{IsHeldAt}
-use Rattle.linda_wire.specs.declared.messages.Message.{Message}
-use Rattle.linda_wire.specs.declared.messages.Message.TheVariants.{Hello, Out, Ask, Accept, Cancel}
-use Rattle.linda_wire.specs.declared.replies.Reply.{Reply}
+use Rattle.linda_wire.specs.declared.message.Message.{Message}
+use Rattle.linda_wire.specs.declared.message.Message.TheVariants.{Hello, Out, Ask, Accept, Cancel}
+use Rattle.linda_wire.specs.declared.reply.Reply.{Reply}
 use Rattle.linda_store.specs.declared.deeds.Deed.TheVariants as deeds
 use Rattle.linda_store.specs.State.{State, IsState}
-use Rattle.linda_store.specs.Soft.{Soft, Bagged, IsSoft, no_asks, open_asks, ask_limit}
-use Rattle.linda_store.specs.Refusals.{refused_asks}
+use Rattle.linda_store.specs.Soft.{Soft, Bagged, IsSoft, no_asks, open_asks}
 use Rattle.linda_store.specs.Looking.{IsLeast, passed_over, IsAtRest}
 use Rattle.linda_store.specs.Dispatch.{Told, untold, dispatch, cancelling, closing}
 use Rattle.linda_store.specs.Asking.{only_sent, served, asking, wait_of}
@@ -30,8 +32,8 @@ pub record IsSettled (bag : Bagged) (soft : Soft) : Type 0 where
   pub rest : IsAtRest bag soft
 
 -- A request is served, given what it can have.
-served_settled : (bag : Bagged) (pair : ℕ × ℕ) (remove : Bool) (shape : Shape) (least : Option ℕ) (soft : Soft) → IsLeast bag shape (passed_over remove soft.holds) least
-    → is_waiting pair soft.waits ≡ false → IsHeldAt soft.holds pair None → open_asks pair.0 soft < ask_limit → IsSettled bag soft → IsSettled bag (served bag pair remove shape least soft).soft
+served_settled : (bag : Bagged) (pair : ℕ × ℕ) (remove : Bool) (shape : Template) (least : Option ℕ) (soft : Soft) → IsLeast bag shape (passed_over remove soft.holds) least
+    → is_waiting pair soft.waits ≡ false → IsHeldAt soft.holds pair None → open_asks pair.0 soft < MAX_ASKS → IsSettled bag soft → IsSettled bag (served bag pair remove shape least soft).soft
 served_settled bag pair true shape (Some id) soft least never nothing room is = record {
   soft_is = offer_soft bag id pair soft (ap is_some least.0.stored) never nothing room is.soft_is;
   rest = held_rests bag id pair soft is.rest;
@@ -42,18 +44,18 @@ served_settled bag pair remove shape None soft least never nothing room is = rec
   rest = waiting_rests bag (wait_of pair remove shape) soft least is.rest;
 }
 
-asking_settled : (bag : Bagged) (pair : ℕ × ℕ) (remove : Bool) (shape : Shape) (held least : Option ℕ) (soft : Soft) → IsHeldAt soft.holds pair held → IsLeast bag shape (passed_over remove soft.holds) least
+asking_settled : (bag : Bagged) (pair : ℕ × ℕ) (remove : Bool) (shape : Template) (held least : Option ℕ) (soft : Soft) → IsHeldAt soft.holds pair held → IsLeast bag shape (passed_over remove soft.holds) least
     → IsSettled bag soft → IsSettled bag (asking bag pair remove shape held least soft).soft
 asking_settled bag pair remove shape (Some id) least soft held found is = is
 asking_settled bag pair remove shape None least soft held found is = by (is_waiting pair soft.waits) refl
   where
-    fresh : (b : Bool) → nat_le ask_limit (open_asks pair.0 soft) ≡ b → is_waiting pair soft.waits ≡ false → IsSettled bag (cond b (only_sent ((pair.0, refused_asks pair.1) ∷ []) soft) (served bag pair remove shape least soft)).soft
+    fresh : (b : Bool) → nat_le MAX_ASKS (open_asks pair.0 soft) ≡ b → is_waiting pair soft.waits ≡ false → IsSettled bag (cond b (only_sent ((pair.0, (refused (refusals.TooManyAsks pair.1))) ∷ []) soft) (served bag pair remove shape least soft)).soft
     fresh true many never = is
-    fresh false few never = served_settled bag pair remove shape least soft found never held (leb-false ask_limit (open_asks pair.0 soft) few) is
+    fresh false few never = served_settled bag pair remove shape least soft found never held (leb-false MAX_ASKS (open_asks pair.0 soft) few) is
 
-    by : (b : Bool) → is_waiting pair soft.waits ≡ b → IsSettled bag (cond b (untold soft) (cond (nat_le ask_limit (open_asks pair.0 soft)) (only_sent ((pair.0, refused_asks pair.1) ∷ []) soft) (served bag pair remove shape least soft))).soft
+    by : (b : Bool) → is_waiting pair soft.waits ≡ b → IsSettled bag (cond b (untold soft) (cond (nat_le MAX_ASKS (open_asks pair.0 soft)) (only_sent ((pair.0, (refused (refusals.TooManyAsks pair.1))) ∷ []) soft) (served bag pair remove shape least soft))).soft
     by true waits = is
-    by false never = fresh (nat_le ask_limit (open_asks pair.0 soft)) refl never
+    by false never = fresh (nat_le MAX_ASKS (open_asks pair.0 soft)) refl never
 
 -- A message without a deed leaves the state as it was.
 same_state : (st new : State) → IsState st → IsAfter st [] new → st ≡ new
@@ -67,13 +69,13 @@ module _ (st new : State) (soft : Soft) (c : ℕ) (is : IsOrderly st soft) where
   unchanged : (s : Soft) → IsSettled st.bag s → IsAfter st [] new → IsSettled new.bag s
   unchanged s settled after = subst (λ (x : State). IsSettled x.bag s) (same_state st new is.state_is after) settled
 
-  out_settled : (n : ℕ) (tuple : Row) (reply : Option Reply) → IsAfter st (option_to_list (out_answered st c n tuple reply soft).deed) new → IsSettled new.bag (out_answered st c n tuple reply soft).soft
+  out_settled : (n : ℕ) (tuple : Tuple) (reply : Option Reply) → IsAfter st (option_to_list (out_answered st c n tuple reply soft).deed) new → IsSettled new.bag (out_answered st c n tuple reply soft).soft
   out_settled n tuple (Some reply) after = unchanged soft was after
   out_settled n tuple None after =
       subst (λ (x : State). IsSettled x.bag (dispatch st.next tuple soft).soft) (one_after st (deeds.Out c n tuple ∷ []) (done st (deeds.Out c n tuple)) new (done_after st (deeds.Out c n tuple) is.state_is) after)
       (record { soft_is = put_soft st.bag st.next tuple soft is.soft_is; rest = put_rests st.bag st.next tuple soft is.rest })
 
-  taken_settled : (n id : ℕ) (row : Option Row) → IsAfter st (option_to_list (taken_or_gone c n id row soft).deed) new → IsSettled new.bag (taken_or_gone c n id row soft).soft
+  taken_settled : (n id : ℕ) (row : Option Tuple) → IsAfter st (option_to_list (taken_or_gone c n id row soft).deed) new → IsSettled new.bag (taken_or_gone c n id row soft).soft
   taken_settled n id (Some row) after =
       subst (λ (x : State). IsSettled x.bag (record { holds = remove soft.holds id; waits = soft.waits })) (one_after st (deeds.Take c n id ∷ []) (done st (deeds.Take c n id)) new (done_after st (deeds.Take c n id) is.state_is) after)
       (record { soft_is = taken_soft st.bag id soft is.soft_is; rest = taken_rests st.bag id soft is.rest })

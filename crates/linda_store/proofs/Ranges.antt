@@ -8,11 +8,12 @@ use Rattle.std.proofs.lemmas.Map.Made.{IsDistinct-keys_filter}
 use Rattle.std.specs.List.{IsDistinct, AllByRecursion}
 use Rattle.std.specs.Map.{keys_of}
 use Rattle.std.specs.FinMap.{get, insert, remove, entries, len-entries, len-empty}
-use Rattle.linda_tuple.specs.Values.{Row}
+use Rattle.linda_wire.specs.declared.limits.TheConstants.{MAX_ASKS}
+use Rattle.linda_tuple.specs.Tuple.{Tuple}
 use Rattle.linda_bag.proofs.Maps.{get_same, get_other, get_removed_same, get_removed_other, get_empty}
 use Rattle.linda_hold.specs.Waits.{Wait, AreDistinct, same_pair, is_waiting, is_reader, is_taker, without_readers, longest, waits_of}
 use Rattle.linda_hold.specs.Holds.{HeldFor, IsHeldAt, IsOneEach, held_in}
-use Rattle.linda_store.specs.Soft.{Soft, Bagged, IsSoft, AreApart, open_asks, ask_limit, no_asks}
+use Rattle.linda_store.specs.Soft.{Soft, Bagged, IsSoft, AreApart, open_asks, no_asks}
 use Rattle.linda_store.specs.Dispatch.{dispatch, held_for, freed, freed_row, cancelling, closing}
 use Rattle.linda_store.proofs.Picked.{or_none, found_has}
 use Rattle.linda_store.proofs.Moves.{kept_waits, cancelling_keeps, closing_keeps}
@@ -102,7 +103,7 @@ gone_soft bag id soft is = record {
 }
 
 -- A request that didn't wait and held nothing, of a client with room for one more, gets an offer.
-pub offer_soft : (bag : Bagged) (id : ℕ) (pair : ℕ × ℕ) (soft : Soft) → IsSome (get bag id) → is_waiting pair soft.waits ≡ false → IsHeldAt soft.holds pair None → open_asks pair.0 soft < ask_limit
+pub offer_soft : (bag : Bagged) (id : ℕ) (pair : ℕ × ℕ) (soft : Soft) → IsSome (get bag id) → is_waiting pair soft.waits ≡ false → IsHeldAt soft.holds pair None → open_asks pair.0 soft < MAX_ASKS
     → IsSoft bag soft → IsSoft bag (record { holds = insert soft.holds id pair; waits = soft.waits })
 offer_soft bag id pair soft stored never nothing room is = record {
   distinct = is.distinct;
@@ -112,12 +113,12 @@ offer_soft bag id pair soft stored never nothing room is = record {
   there = there_held bag soft.holds id pair stored is.there;
 }
   where
-    few : (client : ℕ) → open_asks client (record { holds = insert soft.holds id pair; waits = soft.waits }) ≤ ask_limit
+    few : (client : ℕ) → open_asks client (record { holds = insert soft.holds id pair; waits = soft.waits }) ≤ MAX_ASKS
     few client =
         let old = is.few client in
         elim (cases_eq pair.0 client) [
           | inl same ↦
-              let here : open_asks client soft < ask_limit = subst (λ c. open_asks c soft < ask_limit) same room in
+              let here : open_asks client soft < MAX_ASKS = subst (λ c. open_asks c soft < MAX_ASKS) same room in
               let more = held_one client id pair soft.holds same in
               omega (arith, here, more)
           | inr other ↦
@@ -126,7 +127,7 @@ offer_soft bag id pair soft stored never nothing room is = record {
         ]
 
 -- The first wait that takes the tuple becomes a hold of it.
-taken_soft_by : (bag : Bagged) (id : ℕ) (row : Row) (soft : Soft) (first : Wait) → longest row soft.waits ≡ Some first → IsSome (get bag id) → IsSoft bag soft
+taken_soft_by : (bag : Bagged) (id : ℕ) (row : Tuple) (soft : Soft) (first : Wait) → longest row soft.waits ≡ Some first → IsSome (get bag id) → IsSoft bag soft
     → IsSoft bag (held_for id (Some first) (record { holds = soft.holds; waits = without_readers row soft.waits }))
 taken_soft_by bag id row soft first found stored is = record {
   distinct = IsDistinct-keys_filter same_pair (λ w. not (same_pair first.0 w.0)) (without_readers row soft.waits) (IsDistinct-keys_filter same_pair (λ w. not (is_reader row w)) soft.waits is.distinct);
@@ -136,7 +137,7 @@ taken_soft_by bag id row soft first found stored is = record {
   there = there_held bag soft.holds id first.0 stored is.there;
 }
   where
-    few : (client : ℕ) → open_asks client (held_for id (Some first) (record { holds = soft.holds; waits = without_readers row soft.waits })) ≤ ask_limit
+    few : (client : ℕ) → open_asks client (held_for id (Some first) (record { holds = soft.holds; waits = without_readers row soft.waits })) ≤ MAX_ASKS
     few client =
         let old = is.few client in
         elim (cases_eq first.0.0 client) [
@@ -152,7 +153,7 @@ taken_soft_by bag id row soft first found stored is = record {
         ]
 
 -- A tuple of the bag that is new or free is dispatched.
-pub dispatch_soft : (bag : Bagged) (id : ℕ) (row : Row) (soft : Soft) → IsSome (get bag id) → IsSoft bag soft → IsSoft bag (dispatch id row soft).soft
+pub dispatch_soft : (bag : Bagged) (id : ℕ) (row : Tuple) (soft : Soft) → IsSome (get bag id) → IsSoft bag soft → IsSoft bag (dispatch id row soft).soft
 dispatch_soft bag id row soft stored is = by (longest row soft.waits) refl
   where
     by : (first : Option Wait) → longest row soft.waits ≡ first → IsSoft bag (held_for id first (record { holds = soft.holds; waits = without_readers row soft.waits }))
@@ -160,7 +161,7 @@ dispatch_soft bag id row soft stored is = by (longest row soft.waits) refl
     by (Some first) found = taken_soft_by bag id row soft first found stored is
 
 -- A new tuple is put, and dispatched.
-pub put_soft : (bag : Bagged) (id : ℕ) (row : Row) (soft : Soft) → IsSoft bag soft → IsSoft (insert bag id row) (dispatch id row soft).soft
+pub put_soft : (bag : Bagged) (id : ℕ) (row : Tuple) (soft : Soft) → IsSoft bag soft → IsSoft (insert bag id row) (dispatch id row soft).soft
 put_soft bag id row soft is = dispatch_soft (insert bag id row) id row soft (ap is_some (get_same bag id row)) (record {
   distinct = is.distinct;
   one_each = is.one_each;
@@ -193,7 +194,7 @@ taken_soft bag id soft is =
 pub freed_soft : (bag : Bagged) (id : ℕ) (soft : Soft) → IsSoft bag soft → IsSoft bag (freed bag id soft).soft
 freed_soft bag id soft is = by (get bag id) refl
   where
-    by : (there : Option Row) → get bag id ≡ there → IsSoft bag (freed_row id there soft).soft
+    by : (there : Option Tuple) → get bag id ≡ there → IsSoft bag (freed_row id there soft).soft
     by None none = is
     by (Some row) stored = dispatch_soft bag id row (record { holds = remove soft.holds id; waits = soft.waits }) (ap is_some stored) (gone_soft bag id soft is)
 
@@ -209,7 +210,7 @@ distinct_push w (v ∷ waits) never distinct =
     others (u ∷ ws) all = (all.0, others ws all.1)
 
 -- A request that didn't wait and holds nothing, of a client with room for one more, waits.
-pub waiting_soft : (bag : Bagged) (w : Wait) (soft : Soft) → is_waiting w.0 soft.waits ≡ false → IsHeldAt soft.holds w.0 None → open_asks w.0.0 soft < ask_limit
+pub waiting_soft : (bag : Bagged) (w : Wait) (soft : Soft) → is_waiting w.0 soft.waits ≡ false → IsHeldAt soft.holds w.0 None → open_asks w.0.0 soft < MAX_ASKS
     → IsSoft bag soft → IsSoft bag (record { holds = soft.holds; waits = soft.waits ++ w ∷ [] })
 waiting_soft bag w soft never nothing room is = record {
   distinct = distinct_push w soft.waits never is.distinct;
@@ -222,13 +223,13 @@ waiting_soft bag w soft never nothing room is = record {
     counted : (client : ℕ) → length (waits_of client (soft.waits ++ w ∷ [])) ≡ length (waits_of client soft.waits) + length (waits_of client (w ∷ []))
     counted client = ap length (filter-append (λ (v : Wait). client == v.0.0) soft.waits (w ∷ [])) ∙ length-append (waits_of client soft.waits) (waits_of client (w ∷ []))
 
-    few : (client : ℕ) → open_asks client (record { holds = soft.holds; waits = soft.waits ++ w ∷ [] }) ≤ ask_limit
+    few : (client : ℕ) → open_asks client (record { holds = soft.holds; waits = soft.waits ++ w ∷ [] }) ≤ MAX_ASKS
     few client =
         let old = is.few client in
         let more = counted client in
         elim (cases_eq w.0.0 client) [
           | inl same ↦
-              let here : open_asks client soft < ask_limit = subst (λ c. open_asks c soft < ask_limit) same room in
+              let here : open_asks client soft < MAX_ASKS = subst (λ c. open_asks c soft < MAX_ASKS) same room in
               let one : length (waits_of client (w ∷ [])) ≡ length (w ∷ []) = ap (λ b. length (cond b (w ∷ []) [])) (eq-eqb client w.0.0 (sym same)) in
               omega (arith, here, one, more)
           | inr other ↦
@@ -250,7 +251,7 @@ no_asks_soft bag = record {
   there = λ id held. absurd (true≢false (sym held ∙ ap is_some (get_empty id)));
 }
   where
-    few : (client : ℕ) → open_asks client no_asks ≤ ask_limit
+    few : (client : ℕ) → open_asks client no_asks ≤ MAX_ASKS
     few client =
         let counted = held_count client no_asks.holds in
         let fewer = fewer_pass (λ (e : ℕ × (ℕ × ℕ)). true) (λ e. e.1.0 == client) (entries no_asks.holds) in

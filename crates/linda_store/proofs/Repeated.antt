@@ -1,12 +1,13 @@
 -- A message that did a deed and comes again gets the reply that it got first.
 use Rattle.std.proofs.Common.{◌≡◌, ℕ, ◌<◌, ◌≤◌, Bool, ◌||◌, ◌==◌, Some, IfSome, IsSome, option_map, refl, ap, ◌∙◌, subst, arith}
 use Rattle.std.specs.FinMap.{get}
+use Rattle.linda_store.specs.declared.states.TheConstants.{NUMBER_LIMIT}
 use Rattle.linda_book.specs.declared.classes.Class.TheVariants.{Kept}
 use Rattle.linda_book.specs.Entries.{Entry, number_in}
 use Rattle.linda_book.specs.Classes.{class_of}
-use Rattle.linda_wire.specs.declared.messages.Message.{Message}
-use Rattle.linda_wire.specs.declared.messages.Message.TheVariants.{Hello, Out, Ask, Accept, Cancel}
-use Rattle.linda_store.specs.State.{State, IsState, number_limit}
+use Rattle.linda_wire.specs.declared.message.Message.{Message}
+use Rattle.linda_wire.specs.declared.message.Message.TheVariants.{Hello, Out, Ask, Accept, Cancel}
+use Rattle.linda_store.specs.State.{State, IsState}
 use Rattle.linda_store.specs.Soft.{Soft}
 use Rattle.linda_store.specs.Answer.{Answered, reply_of_kept, class_in, without_deed, out_answered, accept_answered, IsAnswer, IsStep}
 use Rattle.linda_store.specs.Promises.{IsAnsweredAgain}
@@ -19,7 +20,7 @@ last_class n low = grind (arith)
 
 module _ (new later : State) (c n : ℕ) (same : get later.book c ≡ get new.book c) (is : IsState new) where
   low : (e : Entry) → get new.book c ≡ Some e → 1 ≤ e.0
-  low e there = (subst (λ o. IfSome o (λ (e : Entry). (1 ≤ e.0) × (e.0 < number_limit))) there (is.numbers c)).0
+  low e there = (subst (λ o. IfSome o (λ (e : Entry). (1 ≤ e.0) × (e.0 < NUMBER_LIMIT))) there (is.numbers c)).0
 
   -- there is a reply without a deed: the one that is kept
   kept_again : (is_spent : Bool) (reply : Rattle.linda_book.specs.declared.kept.KeptReply.KeptReply) → get new.book c ≡ Some (n, reply)
@@ -36,7 +37,7 @@ answered_again st new later soft asks c (Ask ticket remove template) first again
 answered_again st new later soft asks c (Cancel ticket) first again is step some same answer = never first _ step.answer.1.1 refl some
 answered_again st new later soft asks c (Out n tuple) first again is step some same answer =
     let kept : IsKeptFor c n first.sends new = out_answer_kept st new c is n tuple soft first step some in
-    let reply = kept_again new later c n same (step_state st new soft c (Out n tuple) first is step) ((n == number_limit) || (later.next == number_limit)) kept.reply kept.kept in
+    let reply = kept_again new later c n same (step_state st new soft c (Out n tuple) first is step) ((n == NUMBER_LIMIT) || (later.next == NUMBER_LIMIT)) kept.reply kept.kept in
     record {
       reply = reply_of_kept n kept.reply;
       others = kept.others;
@@ -45,7 +46,7 @@ answered_again st new later soft asks c (Out n tuple) first again is step some s
     }
 answered_again st new later soft asks c (Accept n ticket id) first again is step some same answer =
     let kept : IsKeptFor c n first.sends new = accept_answer_kept st new c is n ticket id soft first step some in
-    let reply = kept_again new later c n same (step_state st new soft c (Accept n ticket id) first is step) (n == number_limit) kept.reply kept.kept in
+    let reply = kept_again new later c n same (step_state st new soft c (Accept n ticket id) first is step) (n == NUMBER_LIMIT) kept.reply kept.kept in
     record {
       reply = reply_of_kept n kept.reply;
       others = kept.others;

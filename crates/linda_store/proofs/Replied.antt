@@ -2,7 +2,7 @@
 use Rattle.std.proofs.Common.{◌≡◌, ℕ, List, [], take, refl, ap}
 use Rattle.std.specs.Prelude.{Option, Err}
 use Rattle.std.specs.List.{flat_map}
-use Rattle.linda_wire.specs.declared.replies.Reply.{Reply}
+use Rattle.linda_wire.specs.declared.reply.Reply.{Reply}
 use Rattle.linda_wire.specs.Frames.{reply_frame}
 use Rattle.linda_store.specs.declared.stages.Taken.{Taken}
 use Rattle.linda_store.specs.declared.ends.ConverseFault.{ConverseFault}

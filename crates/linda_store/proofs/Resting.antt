@@ -4,7 +4,7 @@ use Rattle.std.proofs.lemmas.Bool.{cases_eq}
 use Rattle.std.proofs.lemmas.Option.{none-some, same_Some}
 use Rattle.std.proofs.lemmas.List.Elements.{All-nil, All-filter, All-push}
 use Rattle.std.specs.FinMap.{get, insert, remove}
-use Rattle.linda_tuple.specs.Values.{Row}
+use Rattle.linda_tuple.specs.Tuple.{Tuple}
 use Rattle.linda_tuple.specs.Testing.{is_match}
 use Rattle.linda_tuple.proofs.Deciding.{is_match_decides}
 use Rattle.linda_bag.specs.FreeMatch.{IsFreeMatch}
@@ -42,7 +42,7 @@ no_input true true none fits is = true≢false none
 no_input true false none fits is = true≢false (sym fits)
 no_input false matches none fits is = true≢false (sym is)
 
-module _ (bag : Bagged) (id : ℕ) (row : Row) (stored : get bag id ≡ Some row) where
+module _ (bag : Bagged) (id : ℕ) (row : Tuple) (stored : get bag id ≡ Some row) where
   -- A wait that isn't a read of the tuple has nothing, if it has nothing else and can't take the tuple.
   nothing_left : (old new : HeldFor) → ((k : ℕ) → k ≢ id → get new k ≡ get old k) → (w : Wait) → not (is_reader row w) ≡ true
       → (is_match w.1.template row ≡ true → w.1.remove ≡ true → get new id ≡ None → ⊥)
@@ -80,7 +80,7 @@ module _ (bag : Bagged) (id : ℕ) (row : Row) (stored : get bag id ≡ Some row
           soft.waits rest)
 
 -- A new tuple is put, and dispatched.
-pub put_rests : (bag : Bagged) (id : ℕ) (row : Row) (soft : Soft) → IsAtRest bag soft → IsAtRest (insert bag id row) (dispatch id row soft).soft
+pub put_rests : (bag : Bagged) (id : ℕ) (row : Tuple) (soft : Soft) → IsAtRest bag soft → IsAtRest (insert bag id row) (dispatch id row soft).soft
 put_rests bag id row soft rest =
     rested (insert bag id row) id row (get_same bag id row) soft
     (λ k d within j other may. rest k d within j (record {
@@ -94,7 +94,7 @@ put_rests bag id row soft rest =
 pub freed_rests : (bag : Bagged) (id : ℕ) (soft : Soft) → IsAtRest bag soft → IsAtRest bag (freed bag id soft).soft
 freed_rests bag id soft rest = by (get bag id) refl
   where
-    by : (there : Option Row) → get bag id ≡ there → IsAtRest bag (freed_row id there soft).soft
+    by : (there : Option Tuple) → get bag id ≡ there → IsAtRest bag (freed_row id there soft).soft
     by None none = rest
     by (Some row) stored =
         rested bag id row stored (record { holds = remove soft.holds id; waits = soft.waits })

@@ -1,7 +1,7 @@
 -- Runs of messages, one after another.
 use Rattle.std.proofs.Common.{List, [], ◌∷◌, ◌++◌, refl, ◌∙◌, sym, ap, append_assoc}
-use Rattle.linda_wire.specs.declared.messages.Message.{Message}
-use Rattle.linda_wire.specs.declared.replies.Reply.{Reply}
+use Rattle.linda_wire.specs.declared.message.Message.{Message}
+use Rattle.linda_wire.specs.declared.reply.Reply.{Reply}
 use Rattle.linda_store.specs.Talk.{Point, Turns, Runs}
 use Rattle.std.proofs.lemmas.List.{append-nil}
 

@@ -1,8 +1,8 @@
 -- What a call has said that puts one answer behind the replies of before.
 use Rattle.std.proofs.Common.{◌≡◌, ℕ, Bool, true, List, [], ◌∷◌, ◌++◌, refl, ◌∙◌, ap}
 use Rattle.std.specs.Prelude.{Option, Result, Ok, Err, OnOk, IfOk}
-use Rattle.linda_wire.specs.declared.messages.Message.{Message}
-use Rattle.linda_wire.specs.declared.replies.Reply.{Reply}
+use Rattle.linda_wire.specs.declared.message.Message.{Message}
+use Rattle.linda_wire.specs.declared.reply.Reply.{Reply}
 use Rattle.linda_store.specs.Nodes.{Shown, NodeAnswer, Handles}
 use Rattle.linda_store.specs.Talk.{point_at, told, goes_on, IsAsked, IsTurnedAway, HasSaid}
 

@@ -2,12 +2,12 @@
 use Rattle.std.proofs.Common.{◌≡◌, ℕ, Bool, true, false, cond, List, [], ◌++◌, Option, Some, None, is_some, option_to_list, refl, sym, ap, ◌∙◌, subst, append-nil}
 use Rattle.std.proofs.lemmas.Option.{none-some, same_Some}
 use Rattle.std.specs.FinMap.{get}
-use Rattle.linda_tuple.specs.Values.{Row}
-use Rattle.linda_tuple.specs.Matching.{Shape}
+use Rattle.linda_tuple.specs.Tuple.{Tuple}
+use Rattle.linda_tuple.specs.Template.{Template}
 use Rattle.linda_hold.specs.Holds.{IsOneEach}
-use Rattle.linda_wire.specs.declared.messages.Message.{Message}
-use Rattle.linda_wire.specs.declared.messages.Message.TheVariants.{Hello, Out, Ask, Accept, Cancel}
-use Rattle.linda_wire.specs.declared.replies.Reply.{Reply}
+use Rattle.linda_wire.specs.declared.message.Message.{Message}
+use Rattle.linda_wire.specs.declared.message.Message.TheVariants.{Hello, Out, Ask, Accept, Cancel}
+use Rattle.linda_wire.specs.declared.reply.Reply.{Reply}
 use Rattle.linda_store.specs.declared.deeds.Deed.{Deed}
 use Rattle.linda_store.specs.declared.deeds.Deed.TheVariants as deeds
 use Rattle.linda_store.specs.State.{State, IsState}
@@ -25,21 +25,21 @@ use Rattle.linda_store.proofs.Numbered.{allowed_out, allowed_take, allowed_pass}
 use Rattle.linda_store.proofs.ProperLists.{more_proper, takes_below, proper_state}
 
 -- A held tuple is in the bag.
-pub held_there : (st : State) (pair : ℕ × ℕ) (id : ℕ) (soft : Soft) (row : Row) → held_row st pair id soft ≡ Some row → get st.bag id ≡ Some row
+pub held_there : (st : State) (pair : ℕ × ℕ) (id : ℕ) (soft : Soft) (row : Tuple) → held_row st pair id soft ≡ Some row → get st.bag id ≡ Some row
 held_there st pair id soft row = by (is_for pair (get soft.holds id))
   where
     by : (b : Bool) → cond b (get st.bag id) None ≡ Some row → get st.bag id ≡ Some row
     by true some = some
     by false none = absurd (none-some row none)
 
-out_deed : (st : State) (c n : ℕ) (tuple : Row) (reply : Option Reply) (soft : Soft) (d : Deed) → (out_answered st c n tuple reply soft).deed ≡ Some d → (reply ≡ None) × (deeds.Out c n tuple ≡ d)
+out_deed : (st : State) (c n : ℕ) (tuple : Tuple) (reply : Option Reply) (soft : Soft) (d : Deed) → (out_answered st c n tuple reply soft).deed ≡ Some d → (reply ≡ None) × (deeds.Out c n tuple ≡ d)
 out_deed st c n tuple (Some r) soft d is = absurd (none-some d is)
 out_deed st c n tuple None soft d is = (refl, same_Some (deeds.Out c n tuple) d is)
 
 accept_deed : (st : State) (c n ticket id : ℕ) (soft : Soft) (d : Deed) → IsState st → (accept_answered st c n ticket id (accept_without_deed st c n) soft).deed ≡ Some d → IsAllowed st d
 accept_deed st c n ticket id soft d ranges = by (accept_without_deed st c n) refl
   where
-    deed_of : (row : Option Row) → held_row st (c, ticket) id soft ≡ row → accept_without_deed st c n ≡ None → (taken_or_gone c n id row soft).deed ≡ Some d → IsAllowed st d
+    deed_of : (row : Option Tuple) → held_row st (c, ticket) id soft ≡ row → accept_without_deed st c n ≡ None → (taken_or_gone c n id row soft).deed ≡ Some d → IsAllowed st d
     deed_of (Some row) held none is =
         subst (IsAllowed st) (same_Some (deeds.Take c n id) d is) (allowed_take st c n ranges id none (ap is_some (held_there st (c, ticket) id soft row held)))
     deed_of None held none is = subst (IsAllowed st) (same_Some (deeds.Pass c n id) d is) (allowed_pass st c n ranges id none)
@@ -67,7 +67,7 @@ step_state st new soft c m answered ranges step = by answered.deed refl
     by (Some d) e = one_state st new d ranges (answer_allowed st soft c m answered d ranges step.answer e) (subst (λ d. IsAfter st (option_to_list d) new) e step.state_is)
 
 -- What is told for an Ask, and for a Cancel, is one thing alone.
-one_ask : (st : State) (pair : ℕ × ℕ) (remove : Bool) (soft : Soft) (shape : Shape) (a b : Told) → IsOneEach soft.holds → AnswersAsk st.bag pair remove shape soft a → AnswersAsk st.bag pair remove shape soft b → a ≡ b
+one_ask : (st : State) (pair : ℕ × ℕ) (remove : Bool) (soft : Soft) (shape : Template) (a b : Told) → IsOneEach soft.holds → AnswersAsk st.bag pair remove shape soft a → AnswersAsk st.bag pair remove shape soft b → a ≡ b
 one_ask st pair remove soft shape a b one_each first second =
     first.told_is
     ∙ ap (λ held. asking st.bag pair remove shape held first.least soft) (one_held soft.holds pair first.held second.held one_each first.is_held second.is_held)
@@ -116,7 +116,7 @@ module _ (bag : Bagged) (st : State) (soft : Soft) (c ticket : ℕ) (m : Message
         state_is = subst (λ d. IsAfter st (option_to_list d) st) (sym deed_is) (none_after st is);
       }
 
-  pub ask_step : (remove : Bool) (shape : Shape) → m ≡ Ask ticket remove shape → AnswersAsk bag (c, ticket) remove shape soft (record { sends = items; soft = new })
+  pub ask_step : (remove : Bool) (shape : Template) → m ≡ Ask ticket remove shape → AnswersAsk bag (c, ticket) remove shape soft (record { sends = items; soft = new })
       → IsStep st soft c m (record { deed = deed; sends = sends; soft = new }) st
   ask_step remove shape m_is told = told_step (λ b. AnswersAsk b (c, ticket) remove shape soft) told (ap (IsAnswer st soft c) m_is)
 

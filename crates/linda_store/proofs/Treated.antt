@@ -1,9 +1,10 @@
 -- A turn, from what was done with a message that is known to be of some kind.
 use Rattle.std.proofs.Common.{◌≡◌, ℕ, Bool, true, List, refl}
 use Rattle.std.specs.Prelude.{Option, Some, None}
-use Rattle.linda_wire.specs.declared.messages.Message.{Message}
-use Rattle.linda_wire.specs.declared.replies.Reply.{Reply}
-use Rattle.linda_store.specs.Refusals.{refused_busy, refused_no_hello}
+use Rattle.linda_wire.specs.Refusal.{refused}
+use Rattle.linda_wire.specs.declared.refusal.Refusal.TheVariants as refusals
+use Rattle.linda_wire.specs.declared.message.Message.{Message}
+use Rattle.linda_wire.specs.declared.reply.Reply.{Reply}
 use Rattle.linda_store.specs.Nodes.{Shown}
 use Rattle.linda_store.specs.Talk.{Point, point_at, greeted_by, hello_of, IsAsked, IsTurnedAway, Turns}
 
@@ -16,14 +17,14 @@ greeting_turns node greeted m client said to nobody hello asked =
 
 pub first_turns : (node : Shown) (greeted : Option ℕ) (m : Message) (said : List Reply) (to : Point)
     → greeted ≡ None → hello_of m ≡ None
-    → IsTurnedAway refused_no_hello (point_at node greeted true) said to
+    → IsTurnedAway (refused refusals.NoHello) (point_at node greeted true) said to
     → Turns (point_at node greeted true) m said to
 first_turns node greeted m said to nobody other turned =
     (refl, rw (nobody, other) (rw nobody at turned))
 
 pub again_turns : (node : Shown) (greeted : Option ℕ) (m : Message) (c client : ℕ) (said : List Reply) (to : Point)
     → greeted ≡ Some c → hello_of m ≡ Some client
-    → IsTurnedAway refused_busy (point_at node greeted true) said to
+    → IsTurnedAway (refused refusals.Busy) (point_at node greeted true) said to
     → Turns (point_at node greeted true) m said to
 again_turns node greeted m c client said to somebody hello turned =
     (refl, rw (somebody, hello) (rw somebody at turned))

@@ -1,7 +1,7 @@
 -- A tuple that nobody waits for is told to nobody, and changes no hold and no wait.
 use Rattle.std.proofs.Common.{◌≡◌, ℕ, Bool, true, false, cond, not, ◌&&◌, List, [], ◌∷◌, ◌++◌, map, option_to_list, Option, Some, None, filter, find, refl, sym, ap, ◌∙◌}
 use Rattle.std.specs.List.{list_any}
-use Rattle.linda_tuple.specs.Values.{Row}
+use Rattle.linda_tuple.specs.Tuple.{Tuple}
 use Rattle.linda_tuple.specs.Testing.{is_match}
 use Rattle.linda_hold.specs.Waits.{Wait, is_awaited, is_reader, is_taker, readers, without_readers}
 use Rattle.linda_store.specs.Soft.{Soft}
@@ -31,7 +31,7 @@ and_no : (a b : Bool) → b ≡ false → (a && b) ≡ false
 and_no true b fails = fails
 and_no false b fails = refl
 
-pub unawaited : (id : ℕ) (row : Row) (soft : Soft) → is_awaited row soft.waits ≡ false → dispatch id row soft ≡ untold soft
+pub unawaited : (id : ℕ) (row : Tuple) (soft : Soft) → is_awaited row soft.waits ≡ false → dispatch id row soft ≡ untold soft
 unawaited id row soft none =
     let matched : Wait → Bool = λ w. is_match w.1.template row in
     let read = none_kept matched (is_reader row) (λ w fails. and_no (not w.1.remove) (is_match w.1.template row) fails) soft.waits none in
@@ -42,5 +42,5 @@ unawaited id row soft none =
     ∙ ap (λ (ws : List Wait). let t : Told = record { sends = []; soft = record { holds = soft.holds; waits = ws } } in t) left
 
 -- The same, where the holds and waits are known by another name.
-pub unawaited_at : (id : ℕ) (row : Row) (inside soft : Soft) (b : Bool) → inside ≡ soft → b ≡ is_awaited row inside.waits → b ≡ false → dispatch id row soft ≡ untold soft
+pub unawaited_at : (id : ℕ) (row : Tuple) (inside soft : Soft) (b : Bool) → inside ≡ soft → b ≡ is_awaited row inside.waits → b ≡ false → dispatch id row soft ≡ untold soft
 unawaited_at id row inside soft b same is never = unawaited id row soft (ap (λ (s : Soft). is_awaited row s.waits) (sym same) ∙ sym is ∙ never)

@@ -3,7 +3,7 @@ use Rattle.std.proofs.Common.{◌≡◌, ℕ, ◌+◌, true, List, [], ◌++◌,
 use Rattle.std.specs.List.{flat_map}
 use Rattle.std.proofs.lemmas.Grind.{flat_map-append}
 use Rattle.std.proofs.Math.Seq.{take-append-add}
-use Rattle.linda_wire.specs.declared.replies.Reply.{Reply}
+use Rattle.linda_wire.specs.declared.reply.Reply.{Reply}
 use Rattle.linda_wire.specs.Frames.{reply_frame}
 use Rattle.linda_store.specs.declared.stages.Stage.{Stage}
 use Rattle.linda_store.specs.declared.stages.Stage.TheVariants as stages

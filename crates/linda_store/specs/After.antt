@@ -2,7 +2,7 @@
 use Rattle.std.specs.Prelude.{◌≡◌, ℕ, ◌+◌, ◌-◌, nat_lt, if◌then◌else◌, List, length, Option, Some, None}
 use Rattle.std.specs.List.{slice_get}
 use Rattle.std.specs.FinMap as map
-use Rattle.linda_tuple.specs.Values.{Row}
+use Rattle.linda_tuple.specs.Tuple.{Tuple}
 use Rattle.linda_book.specs.declared.kept.KeptReply.{KeptReply}
 use Rattle.linda_book.specs.declared.kept.KeptReply.TheVariants as kept
 use Rattle.linda_book.specs.Entries.{Entry}
@@ -12,14 +12,14 @@ use Rattle.linda_store.specs.Deeds.{outs_of, is_taken, last_of, number_of}
 use Rattle.linda_store.specs.State.{State}
 
 -- The bag: the tuples of before and those put, the k-th of them under the next id plus k, less what some deed takes.
-abbrev pub bag_after : State → List Deed → ℕ → Option Row
+abbrev pub bag_after : State → List Deed → ℕ → Option Tuple
 bag_after st ds id =
     if is_taken id ds then None
     else (if nat_lt id st.next then map.get st.bag id
     else slice_get (outs_of ds) (id - st.next))
 
 -- the reply to a Take: the tuple that it took
-abbrev pub taken_reply : ℕ → Option Row → KeptReply
+abbrev pub taken_reply : ℕ → Option Tuple → KeptReply
 taken_reply id (Some tuple) = kept.Taken id tuple
 taken_reply id None = kept.Gone
 

@@ -2,12 +2,16 @@
 use Rattle.std.specs.Prelude.{◌≡◌, ℕ, Bool, ◌==◌, false, nat_lt, nat_le, not, ◌&&◌, ◌||◌, if◌then◌else◌, List, [], ◌∷◌, Option, Some, None, option_to_list}
 use Rattle.std.specs.FinMap as map
 use Rattle.std.specs.Option.{option_map}
-use Rattle.linda_tuple.specs.Values.{Row}
+use Rattle.linda_wire.specs.declared.limits.TheConstants.{MAX_CLIENTS, VERSION}
+use Rattle.linda_store.specs.declared.states.TheConstants.{NUMBER_LIMIT}
+use Rattle.linda_wire.specs.Refusal.{refused}
+use Rattle.linda_wire.specs.declared.refusal.Refusal.TheVariants as refusals
+use Rattle.linda_tuple.specs.Tuple.{Tuple}
 use Rattle.linda_hold.specs.Waits.{same_pair}
-use Rattle.linda_wire.specs.declared.messages.Message.{Message}
-use Rattle.linda_wire.specs.declared.messages.Message.TheVariants as messages
-use Rattle.linda_wire.specs.declared.replies.Reply.{Reply}
-use Rattle.linda_wire.specs.declared.replies.Reply.TheVariants as replies
+use Rattle.linda_wire.specs.declared.message.Message.{Message}
+use Rattle.linda_wire.specs.declared.message.Message.TheVariants as messages
+use Rattle.linda_wire.specs.declared.reply.Reply.{Reply}
+use Rattle.linda_wire.specs.declared.reply.Reply.TheVariants as replies
 use Rattle.linda_book.specs.declared.classes.Class.{Class}
 use Rattle.linda_book.specs.declared.classes.Class.TheVariants as classes
 use Rattle.linda_book.specs.declared.kept.KeptReply.{KeptReply}
@@ -16,9 +20,8 @@ use Rattle.linda_book.specs.Entries.{Entry, number_in}
 use Rattle.linda_book.specs.Classes.{class_of}
 use Rattle.linda_store.specs.declared.deeds.Deed.{Deed}
 use Rattle.linda_store.specs.declared.deeds.Deed.TheVariants as deeds
-use Rattle.linda_store.specs.State.{State, client_limit, number_limit}
+use Rattle.linda_store.specs.State.{State}
 use Rattle.linda_store.specs.After.{IsAfter}
-use Rattle.linda_store.specs.Refusals.{refused_version, refused_known, refused_old, refused_gap, refused_spent, refused_clients}
 use Rattle.linda_store.specs.Soft.{Soft}
 use Rattle.linda_store.specs.Dispatch.{Told, dispatch}
 use Rattle.linda_store.specs.Asking.{AnswersAsk, AnswersCancel}
@@ -49,25 +52,25 @@ last_number st c = number_in (map.get st.book c)
 
 -- whether the client is new and no more clients are kept
 abbrev pub is_one_too_many : State → ℕ → Bool
-is_one_too_many st c = (last_number st c == 0) && nat_le client_limit (map.len st.book)
+is_one_too_many st c = (last_number st c == 0) && nat_le MAX_CLIENTS (map.len st.book)
 
 -- The reply to a Hello: the first case that holds.
 abbrev pub greeting : State → ℕ → ℕ → Bool → Reply
 greeting st c version fresh =
-    if not (version == 1) then refused_version
-    else (if fresh && nat_lt 0 (last_number st c) then refused_known (last_number st c)
-    else (if is_one_too_many st c then refused_clients
+    if not (version == VERSION) then (refused refusals.Version)
+    else (if fresh && nat_lt 0 (last_number st c) then (refused (refusals.Known (last_number st c)))
+    else (if is_one_too_many st c then (refused refusals.TooManyClients)
     else replies.Welcome (last_number st c)))
 
 -- The reply to a numbered message that makes no deed, by the class of its number; none where the deed is done. A fresh one is
 -- refused where its client is one too many, or else where numbers or ids are spent for it.
 abbrev pub without_deed : State → ℕ → ℕ → Bool → Class → Option Reply
-without_deed st c n is_spent (classes.Old last) = Some (refused_old last)
+without_deed st c n is_spent (classes.Old last) = Some ((refused (refusals.Old last)))
 without_deed st c n is_spent classes.Kept = option_map (λ (e : Entry). reply_of_kept n e.1) (map.get st.book c)
-without_deed st c n is_spent (classes.Gap last) = Some (refused_gap last)
+without_deed st c n is_spent (classes.Gap last) = Some ((refused (refusals.Gap last)))
 without_deed st c n is_spent classes.Fresh =
-    if is_one_too_many st c then Some refused_clients
-    else (if is_spent then Some refused_spent
+    if is_one_too_many st c then Some (refused refusals.TooManyClients)
+    else (if is_spent then Some (refused refusals.Spent)
     else None)
 
 -- the class of a message's number for its client
@@ -76,15 +79,15 @@ class_in st c n = class_of (last_number st c) n
 
 -- the reply to an Out that makes no deed: an Out needs a number and an id
 abbrev pub out_without_deed : State → ℕ → ℕ → Option Reply
-out_without_deed st c n = without_deed st c n ((n == number_limit) || (st.next == number_limit)) (class_in st c n)
+out_without_deed st c n = without_deed st c n ((n == NUMBER_LIMIT) || (st.next == NUMBER_LIMIT)) (class_in st c n)
 
 -- the reply to an Accept that makes no deed: an Accept needs a number
 abbrev pub accept_without_deed : State → ℕ → ℕ → Option Reply
-accept_without_deed st c n = without_deed st c n (n == number_limit) (class_in st c n)
+accept_without_deed st c n = without_deed st c n (n == NUMBER_LIMIT) (class_in st c n)
 
 -- The answer to an Out, given the reply where it makes no deed. Where it does, the tuple is put under the next id, and the
 -- client's reply comes before those to others.
-abbrev pub out_answered : State → ℕ → ℕ → Row → Option Reply → Soft → Answered
+abbrev pub out_answered : State → ℕ → ℕ → Tuple → Option Reply → Soft → Answered
 out_answered st c n tuple (Some reply) soft = only_reply c reply soft
 out_answered st c n tuple None soft =
     let told : Told = dispatch st.next tuple soft in
@@ -96,12 +99,12 @@ is_for pair None = false
 is_for pair (Some other) = same_pair other pair
 
 -- the tuple under this id, where it is held for this client and ticket
-abbrev pub held_row : State → ℕ × ℕ → ℕ → Soft → Option Row
+abbrev pub held_row : State → ℕ × ℕ → ℕ → Soft → Option Tuple
 held_row st pair id soft = if is_for pair (map.get soft.holds id) then map.get st.bag id else None
 
 -- An accepted offer, given its tuple where it is held for the client: the tuple is taken and its hold is gone; or the offer is gone,
 -- and nothing else changes.
-abbrev pub taken_or_gone : ℕ → ℕ → ℕ → Option Row → Soft → Answered
+abbrev pub taken_or_gone : ℕ → ℕ → ℕ → Option Tuple → Soft → Answered
 taken_or_gone c n id (Some row) soft =
     record { deed = Some (deeds.Take c n id); sends = (c, replies.Taken n id row) ∷ []; soft = record { holds = map.remove soft.holds id; waits = soft.waits } }
 taken_or_gone c n id None soft = record { deed = Some (deeds.Pass c n id); sends = (c, replies.Gone n) ∷ []; soft = soft }

@@ -1,13 +1,15 @@
 -- What a server answers to an Ask and to a Cancel, given what they look up.
 use Rattle.std.specs.Prelude.{◌≡◌, ℕ, Bool, nat_le, if◌then◌else◌, List, [], ◌∷◌, ◌++◌, map, Option, Some, None, option_to_list}
 use Rattle.std.specs.FinMap as maps
-use Rattle.linda_tuple.specs.Matching.{Shape}
+use Rattle.linda_wire.specs.Refusal.{refused}
+use Rattle.linda_wire.specs.declared.refusal.Refusal.TheVariants as refusals
+use Rattle.linda_wire.specs.declared.limits.TheConstants.{MAX_ASKS}
+use Rattle.linda_tuple.specs.Template.{Template}
 use Rattle.linda_hold.specs.Waits.{Wait, is_waiting}
 use Rattle.linda_hold.specs.Holds.{IsHeldAt}
-use Rattle.linda_wire.specs.declared.replies.Reply.{Reply}
-use Rattle.linda_wire.specs.declared.replies.Reply.TheVariants as replies
-use Rattle.linda_store.specs.Refusals.{refused_asks}
-use Rattle.linda_store.specs.Soft.{Soft, Bagged, open_asks, ask_limit}
+use Rattle.linda_wire.specs.declared.reply.Reply.{Reply}
+use Rattle.linda_wire.specs.declared.reply.Reply.TheVariants as replies
+use Rattle.linda_store.specs.Soft.{Soft, Bagged, open_asks}
 use Rattle.linda_store.specs.Looking.{IsLeast, passed_over}
 use Rattle.linda_store.specs.Dispatch.{Told, untold, cancelling}
 
@@ -24,12 +26,12 @@ abbrev pub only_sent : List (ℕ × Reply) → Soft → Told
 only_sent sends soft = record { sends = sends; soft = soft }
 
 -- a wait: who asks, and what is asked
-abbrev pub wait_of : ℕ × ℕ → Bool → Shape → Wait
+abbrev pub wait_of : ℕ × ℕ → Bool → Template → Wait
 wait_of pair remove shape = (pair, record { remove = remove; template = shape })
 
 -- A new request, given the least tuple that it can have: an input is offered it and holds it, a read is answered with it;
 -- with no such tuple the request waits, last in order.
-abbrev pub served : Bagged → ℕ × ℕ → Bool → Shape → Option ℕ → Soft → Told
+abbrev pub served : Bagged → ℕ × ℕ → Bool → Template → Option ℕ → Soft → Told
 served bag pair remove shape (Some id) soft =
     if remove then record { sends = offer_of bag id pair; soft = record { holds = maps.insert soft.holds id pair; waits = soft.waits } }
     else only_sent (read_of bag id pair) soft
@@ -38,15 +40,15 @@ served bag pair remove shape None soft = untold (record { holds = soft.holds; wa
 -- An Ask, given the tuple that its ticket holds and the least one that it can have: the first case that holds. A ticket that
 -- holds is offered its tuple again; one that waits is sent nothing; a client with as many open asks as it may have is refused;
 -- and what is left is a new request.
-abbrev pub asking : Bagged → ℕ × ℕ → Bool → Shape → Option ℕ → Option ℕ → Soft → Told
+abbrev pub asking : Bagged → ℕ × ℕ → Bool → Template → Option ℕ → Option ℕ → Soft → Told
 asking bag pair remove shape (Some id) least soft = only_sent (offer_of bag id pair) soft
 asking bag pair remove shape None least soft =
     if is_waiting pair soft.waits then untold soft
-    else (if nat_le ask_limit (open_asks pair.0 soft) then only_sent ((pair.0, refused_asks pair.1) ∷ []) soft
+    else (if nat_le MAX_ASKS (open_asks pair.0 soft) then only_sent ((pair.0, (refused (refusals.TooManyAsks pair.1))) ∷ []) soft
     else served bag pair remove shape least soft)
 
 -- What is told for an Ask of a client with a ticket.
-pub record AnswersAsk (bag : Bagged) (pair : ℕ × ℕ) (remove : Bool) (shape : Shape) (soft : Soft) (told : Told) : Type 0 where
+pub record AnswersAsk (bag : Bagged) (pair : ℕ × ℕ) (remove : Bool) (shape : Template) (soft : Soft) (told : Told) : Type 0 where
   pub held : Option ℕ
   pub is_held : IsHeldAt soft.holds pair held
   pub least : Option ℕ

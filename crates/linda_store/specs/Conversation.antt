@@ -1,17 +1,18 @@
 -- Whole conversations: the bytes that came in, all that was said, and where that leads.
 use Rattle.std.specs.Prelude.{◌≡◌, ℕ, Bool, true, false, List, [], ◌∷◌, ◌++◌, All, Option, None, Result, Ok, Err}
 use Rattle.std.specs.List.{flat_map}
-use Rattle.linda_wire.specs.declared.messages.Message.{Message}
-use Rattle.linda_wire.specs.declared.replies.Reply.{Reply}
-use Rattle.linda_wire.specs.declared.faults.FrameFault.{FrameFault}
-use Rattle.linda_wire.specs.declared.faults.FrameFault.TheVariants as frames
+use Rattle.linda_wire.specs.Refusal.{refused}
+use Rattle.linda_wire.specs.declared.refusal.Refusal.TheVariants as refusals
+use Rattle.linda_wire.specs.declared.message.Message.{Message}
+use Rattle.linda_wire.specs.declared.reply.Reply.{Reply}
+use Rattle.linda_wire.specs.declared.fault.FrameFault.{FrameFault}
+use Rattle.linda_wire.specs.declared.fault.FrameFault.TheVariants as frames
 use Rattle.linda_wire.specs.Frames.{message_frame, FitsMessage}
 use Rattle.linda_wire.specs.Stream.{Partial, Broken}
-use Rattle.linda_wire.specs.Payloads.{message_front}
+use Rattle.linda_wire.specs.Stream.{message_front}
 use Rattle.linda_store.specs.declared.stages.Stage.{Stage}
 use Rattle.linda_store.specs.declared.stages.Stage.TheVariants as stages
 use Rattle.linda_store.specs.declared.stages.Taken.{Taken}
-use Rattle.linda_store.specs.Refusals.{refused_malformed}
 use Rattle.linda_store.specs.Nodes.{Shown}
 use Rattle.linda_store.specs.Talk.{Point, point_at, Runs}
 
@@ -41,7 +42,7 @@ IsMalformed bytes detail = (fault : FrameFault) × ((message_front bytes ≡ Bro
 -- what is said last on a connection that stands so
 abbrev pub last_words : Stage → List Reply
 last_words stages.Open = []
-last_words (stages.Malformed detail) = refused_malformed detail ∷ []
+last_words (stages.Malformed detail) = (refused (refusals.Malformed detail)) ∷ []
 last_words stages.Down = []
 
 -- How the bytes after the last message stand: no whole frame and no fault, or a fault; or the node is down and nobody

@@ -1,6 +1,6 @@
 -- Deeds, one by one and in lists: what they put, what they take, and whose they are.
 use Rattle.std.specs.Prelude.{ℕ, Bool, false, ◌==◌, ◌||◌, if◌then◌else◌, List, [], ◌∷◌, Option, Some, None}
-use Rattle.linda_tuple.specs.Values.{Row}
+use Rattle.linda_tuple.specs.Tuple.{Tuple}
 use Rattle.linda_store.specs.declared.deeds.Deed.{Deed}
 use Rattle.linda_store.specs.declared.deeds.Deed.TheVariants.{Out, Take, Pass}
 
@@ -17,7 +17,7 @@ number_of (Take client n id) = n
 number_of (Pass client n id) = n
 
 -- the tuples put, in order
-abbrev pub outs_of : List Deed → List Row
+abbrev pub outs_of : List Deed → List Tuple
 outs_of [] = []
 outs_of (Out client n tuple ∷ ds) = tuple ∷ outs_of ds
 outs_of (Take client n id ∷ ds) = outs_of ds

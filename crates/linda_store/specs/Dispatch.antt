@@ -1,11 +1,11 @@
 -- What happens to a tuple that is new or free again, to one whose request is given up, and to all that a client asked.
 use Rattle.std.specs.Prelude.{ℕ, List, [], ◌∷◌, ◌++◌, map, Option, Some, None, option_to_list, if◌then◌else◌}
 use Rattle.std.specs.FinMap as maps
-use Rattle.linda_tuple.specs.Values.{Row}
+use Rattle.linda_tuple.specs.Tuple.{Tuple}
 use Rattle.linda_hold.specs.Waits.{Wait, is_waiting, readers, without_readers, longest, without, without_client}
 use Rattle.linda_hold.specs.Holds.{held_in}
-use Rattle.linda_wire.specs.declared.replies.Reply.{Reply}
-use Rattle.linda_wire.specs.declared.replies.Reply.TheVariants as replies
+use Rattle.linda_wire.specs.declared.reply.Reply.{Reply}
+use Rattle.linda_wire.specs.declared.reply.Reply.TheVariants as replies
 use Rattle.linda_store.specs.Soft.{Soft, Bagged}
 
 -- what is sent, each reply to a client, in order; and the holds and waits behind it
@@ -18,11 +18,11 @@ abbrev pub untold : Soft → Told
 untold soft = record { sends = []; soft = soft }
 
 -- a tuple as the answer to a read that waited
-abbrev pub read_to : ℕ → Row → Wait → ℕ × Reply
+abbrev pub read_to : ℕ → Tuple → Wait → ℕ × Reply
 read_to id row w = (w.0.0, replies.Read w.0.1 id row)
 
 -- a tuple as the offer to an input that waited
-abbrev pub offer_to : ℕ → Row → Wait → ℕ × Reply
+abbrev pub offer_to : ℕ → Tuple → Wait → ℕ × Reply
 offer_to id row w = (w.0.0, replies.Offer w.0.1 id row)
 
 -- the tuple is held for this wait, which ends it, or for nobody
@@ -32,14 +32,14 @@ held_for id (Some w) soft = record { holds = maps.insert soft.holds id w.0; wait
 
 -- A tuple is new or free: each waiting read that it matches is answered, in order of arrival, and waits no longer; then it
 -- is offered to the longest waiting input that it matches, and held for it.
-abbrev pub dispatch : ℕ → Row → Soft → Told
+abbrev pub dispatch : ℕ → Tuple → Soft → Told
 dispatch id row soft = record {
   sends = map (read_to id row) (readers row soft.waits) ++ map (offer_to id row) (option_to_list (longest row soft.waits));
   soft = held_for id (longest row soft.waits) (record { holds = soft.holds; waits = without_readers row soft.waits });
 }
 
 -- the tuple under this id, if the bag has it, is held no longer, and is free
-abbrev pub freed_row : ℕ → Option Row → Soft → Told
+abbrev pub freed_row : ℕ → Option Tuple → Soft → Told
 freed_row id None soft = untold soft
 freed_row id (Some row) soft = dispatch id row (record { holds = maps.remove soft.holds id; waits = soft.waits })
 

@@ -1,7 +1,7 @@
 -- What comes to a server, one thing after another: all deeds and all sends, in order, and where that leaves the server.
 use Rattle.std.specs.Prelude.{◌≡◌, ℕ, List, [], ◌∷◌, ◌++◌, option_to_list}
-use Rattle.linda_wire.specs.declared.messages.Message.{Message}
-use Rattle.linda_wire.specs.declared.replies.Reply.{Reply}
+use Rattle.linda_wire.specs.declared.message.Message.{Message}
+use Rattle.linda_wire.specs.declared.reply.Reply.{Reply}
 use Rattle.linda_store.specs.declared.deeds.Deed.{Deed}
 use Rattle.linda_store.specs.State.{State}
 use Rattle.linda_store.specs.Soft.{Soft}

@@ -2,7 +2,6 @@ pub mod State
 pub mod Deeds
 pub mod After
 pub mod Proper
-pub mod Refusals
 pub mod Answer
 pub mod Codes
 pub mod Stores

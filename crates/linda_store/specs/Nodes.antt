@@ -1,8 +1,8 @@
 -- What contracts see of a node, and what it may answer.
 use Rattle.std.specs.Prelude.{◌≡◌, ℕ, Bool, true, false, List, Option, Result, Ok, Err, IsSome}
 use Rattle.std.specs.Global.{Vec}
-use Rattle.linda_wire.specs.declared.messages.Message.{Message}
-use Rattle.linda_wire.specs.declared.replies.Reply.{Reply}
+use Rattle.linda_wire.specs.declared.message.Message.{Message}
+use Rattle.linda_wire.specs.declared.reply.Reply.{Reply}
 use Rattle.linda_store.specs.declared.deeds.Deed.{Deed}
 use Rattle.linda_store.specs.declared.nodes.NodeFault.{NodeFault}
 use Rattle.linda_store.specs.declared.nodes.NodeFault.TheVariants as faults

@@ -3,7 +3,7 @@ use Rattle.std.specs.Prelude.{◌≡◌, ◌≢◌, ℕ, ◌≤◌, Bool, false,
 use Rattle.std.specs.FinMap as map
 use Rattle.linda_hold.specs.Waits.{is_waiting}
 use Rattle.linda_hold.specs.Holds.{IsHeldAt}
-use Rattle.linda_wire.specs.declared.replies.Reply.{Reply}
+use Rattle.linda_wire.specs.declared.reply.Reply.{Reply}
 use Rattle.linda_book.specs.Entries.{Entry}
 use Rattle.linda_store.specs.declared.deeds.Deed.{Deed}
 use Rattle.linda_store.specs.declared.deeds.Deed.TheVariants.{Out, Take, Pass}

@@ -2,13 +2,14 @@
 use Rattle.std.specs.Prelude.{◌≡◌, ℕ, ◌+◌, ◌≤◌, List, [], length, Some, All, IsSome}
 use Rattle.std.specs.Ordering.{nat_cmp}
 use Rattle.std.specs.FinMap as map
-use Rattle.linda_tuple.specs.Values.{Row}
+use Rattle.linda_wire.specs.declared.limits.TheConstants.{MAX_ASKS}
+use Rattle.linda_tuple.specs.Tuple.{Tuple}
 use Rattle.linda_hold.specs.Waits.{Wait, AreDistinct, waits_of}
 use Rattle.linda_hold.specs.Holds.{HeldFor, IsOneEach, held_in}
 
 -- tuples by id
 abbrev pub Bagged : Type 0
-Bagged = map.FinMap nat_cmp Row
+Bagged = map.FinMap nat_cmp Tuple
 
 -- The tuples that are held, by id, each for a client and a ticket; and the requests that wait, in order of arrival.
 pub record Soft : Type 0 where
@@ -18,10 +19,6 @@ pub record Soft : Type 0 where
 -- nothing is held and nobody waits
 abbrev pub no_asks : Soft
 no_asks = record { holds = map.empty; waits = [] }
-
--- The most open asks of a client.
-abbrev pub ask_limit : ℕ
-ask_limit = 64
 
 -- how many asks of a client are open: those that wait and those for which a tuple is held
 abbrev pub open_asks : ℕ → Soft → ℕ
@@ -37,5 +34,5 @@ pub record IsSoft (bag : Bagged) (soft : Soft) : Type 0 where
   pub distinct : AreDistinct soft.waits
   pub one_each : IsOneEach soft.holds
   pub apart : AreApart soft
-  pub few : (client : ℕ) → open_asks client soft ≤ ask_limit
+  pub few : (client : ℕ) → open_asks client soft ≤ MAX_ASKS
   pub there : (id : ℕ) → IsSome (map.get soft.holds id) → IsSome (map.get bag id)

@@ -1,11 +1,12 @@
 -- What a connection says: the greeting, then the node's replies to the client that was greeted.
 use Rattle.std.specs.Prelude.{◌≡◌, ℕ, Bool, true, false, ◌==◌, if◌then◌else◌, List, [], ◌∷◌, ◌++◌, map, filter, Option, Some, None, Result, Ok, Err}
 use Rattle.std.specs.List.{list_any}
-use Rattle.linda_wire.specs.declared.messages.Message.{Message}
-use Rattle.linda_wire.specs.declared.messages.Message.TheVariants as messages
-use Rattle.linda_wire.specs.declared.replies.Reply.{Reply}
-use Rattle.linda_wire.specs.declared.replies.Reply.TheVariants as replies
-use Rattle.linda_store.specs.Refusals.{refused_busy, refused_full, refused_down, refused_no_hello}
+use Rattle.linda_wire.specs.Refusal.{refused}
+use Rattle.linda_wire.specs.declared.refusal.Refusal.TheVariants as refusals
+use Rattle.linda_wire.specs.declared.message.Message.{Message}
+use Rattle.linda_wire.specs.declared.message.Message.TheVariants as messages
+use Rattle.linda_wire.specs.declared.reply.Reply.{Reply}
+use Rattle.linda_wire.specs.declared.reply.Reply.TheVariants as replies
 use Rattle.linda_store.specs.Nodes.{Shown, NodeAnswer, Sent, IsFull, IsDown, Handles}
 
 -- Where a conversation stands: the node, the client that was greeted, if one was, and whether it goes on.
@@ -29,8 +30,8 @@ replies_for c sends = map (λ s. s.1) (filter (λ s. s.0 == c) sends)
 -- what the client c is told for a node's answer
 abbrev pub told : ℕ → NodeAnswer → List Reply
 told c (Sent sends) = replies_for c sends
-told c IsFull = refused_full ∷ []
-told c IsDown = refused_down ∷ []
+told c IsFull = (refused refusals.Full) ∷ []
+told c IsDown = (refused refusals.Down) ∷ []
 
 -- whether a conversation goes on after a node's answer
 abbrev pub goes_on : NodeAnswer → Bool
@@ -82,8 +83,8 @@ hello_of (messages.Cancel ticket) = None
 -- the node's, and what comes out of turn is refused.
 abbrev pub TreatsAs : Option ℕ → Option ℕ → Message → Point → List Reply → Point → Type 0
 TreatsAs None (Some client) m = IsAsked client m (greeted_by client)
-TreatsAs None None m = IsTurnedAway refused_no_hello
-TreatsAs (Some c) (Some client) m = IsTurnedAway refused_busy
+TreatsAs None None m = IsTurnedAway (refused refusals.NoHello)
+TreatsAs (Some c) (Some client) m = IsTurnedAway (refused refusals.Busy)
 TreatsAs (Some c) None m = IsAsked c m (λ _. Some c)
 
 -- What is done with a message, given who is greeted.

@@ -1,25 +1,22 @@
 //! What a server does for a request for a tuple.
 
 ghost use Rattle.std.specs.Prelude.{◌≡◌, ℕ, nat_le, false, None, Option, List, IfOk};
+ghost use Rattle.linda_wire.specs.declared.limits.TheConstants.{MAX_ASKS};
 ghost use Rattle.linda_hold.specs.Holds.{IsHeldAt};
 ghost use Rattle.linda_hold.specs.Waits.{is_waiting};
-ghost use Rattle.linda_store.specs.Soft.{ask_limit, open_asks};
+ghost use Rattle.linda_store.specs.Soft.{open_asks};
 ghost use Rattle.linda_store.specs.Dispatch.{Told};
 ghost use Rattle.linda_store.specs.Looking.{IsLeast, passed_over};
 ghost use Rattle.linda_store.specs.Asking.{AnswersAsk, offer_of, read_of, served};
 
-use crate::refusals;
 use crate::softs::Soft;
 use crate::steps::one_send;
 use linda_bag::Bag;
 use linda_hold::Asked;
 use linda_tuple::Template;
-use linda_wire::Reply;
+use linda_wire::{MAX_ASKS, Refusal, Reply};
 use std::alloc::{AllocError, Global};
 use std::collections::BTreeSet;
-
-/// The most open asks of a client.
-const ASK_LIMIT: usize = 64;
 
 impl Soft {
     /// The client asks for a tuple that the template matches, to take it away or to copy it. A ticket
@@ -47,7 +44,7 @@ impl Soft {
         } else if self.waits.contains(client, ticket) {
             Ok(Vec::new(alloc))
         } else if self.asks_too_much(client) {
-            one_send(alloc, client, refusals::too_many_asks(ticket))
+            one_send(alloc, client, Refusal::TooManyAsks(ticket).reply())
         } else {
             self.serve(alloc, bag, client, ticket, remove, template)
         }
@@ -55,11 +52,11 @@ impl Soft {
 
     // Whether the client has as many open asks as it may have.
     fn asks_too_much(&self, client: u32) -> bool
-        ensures { result ≡ nat_le ask_limit (open_asks client self.now) }
+        ensures { result ≡ nat_le MAX_ASKS (open_asks client self.now) }
     {
         let waiting = self.waits.count_of(client);
         let held = self.holds.count_of(client);
-        waiting.saturating_add(held) >= ASK_LIMIT
+        waiting.saturating_add(held) >= MAX_ASKS
     }
 
     // Serves a new request: by the least tuple that it can have, or it waits.

@@ -4,7 +4,7 @@
 
 ghost use Rattle.std.specs.Prelude.{◌≡◌, ◌∷◌, [], None, Some, IfOk, OnOk, OnErr, option_copied, option_to_list};
 ghost use Rattle.std.specs.FinMap as map;
-ghost use Rattle.linda_wire.specs.declared.replies.Reply.TheVariants as replies;
+ghost use Rattle.linda_wire.specs.declared.reply.Reply.TheVariants as replies;
 ghost use Rattle.linda_book.specs.declared.kept.KeptReply.TheVariants as kept_replies;
 ghost use Rattle.linda_store.specs.declared.deeds.Deed.TheVariants as deeds;
 ghost use Rattle.linda_store.specs.State.{IsState};

@@ -3,7 +3,7 @@
 ghost use Rattle.std.specs.Prelude.{◌≡◌, ℕ, ◌++◌, List, Option, IsSome, option_to_list};
 ghost use Rattle.std.specs.FinMap as map;
 ghost use Rattle.linda_hold.specs.Holds.{IsHeldAt, IsOneEach};
-ghost use Rattle.linda_wire.specs.declared.messages.Message.{Message};
+ghost use Rattle.linda_wire.specs.declared.message.Message.{Message};
 ghost use Rattle.linda_store.specs.declared.deeds.Deed.{Deed};
 ghost use Rattle.linda_store.specs.State.{State, IsState};
 ghost use Rattle.linda_store.specs.Soft.{Soft, Bagged, IsSoft};

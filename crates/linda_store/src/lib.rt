@@ -19,7 +19,6 @@ mod ends;
 mod kept;
 mod laws;
 mod nodes;
-mod refusals;
 mod sending;
 mod sessions;
 mod softs;

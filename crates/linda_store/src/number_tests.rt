@@ -1,7 +1,7 @@
 //! The numbers of messages, row by row of the server's table, with values worked by hand.
 
+ghost use Rattle.linda_store.specs.declared.states.TheConstants.{NUMBER_LIMIT};
 ghost use Rattle.std.specs.Prelude.{◌<◌, ◌≤◌};
-ghost use Rattle.linda_store.specs.State.{number_limit};
 
 use crate::plays::{Play, tuple_a};
 use crate::stores::Store;
@@ -13,8 +13,8 @@ use std::test::Fail;
 
 /// The last number of client 7 is this, with this reply; this is the next id.
 fn play_of_one(alloc: Global, n: u64, reply: KeptReply, next: u64) -> Result<Play, Fail>
-    requires number { (1 ≤ n) × (n < number_limit) }
-    requires next { (1 ≤ next) × (next ≤ number_limit) }
+    requires number { (1 ≤ n) × (n < NUMBER_LIMIT) }
+    requires next { (1 ≤ next) × (next ≤ NUMBER_LIMIT) }
 {
     let state = state_of_one(alloc, n, reply, next)?;
     Ok(Play::with(alloc, Store::from_state(alloc, state)))
@@ -28,8 +28,8 @@ fn after_3(rt: &impl Abort, alloc: Global, reply: KeptReply, acts: &str) -> Resu
 
 /// Plays acts where the last number of client 7 is this, and this is the next id.
 fn at_numbers(rt: &impl Abort, alloc: Global, n: u64, next: u64, acts: &str) -> Result<(), Fail>
-    requires number { (1 ≤ n) × (n < number_limit) }
-    requires next { (1 ≤ next) × (next ≤ number_limit) }
+    requires number { (1 ≤ n) × (n < NUMBER_LIMIT) }
+    requires next { (1 ≤ next) × (next ≤ NUMBER_LIMIT) }
 {
     let mut play = play_of_one(alloc, n, KeptReply::Gone, next)?;
     play.goes(rt, acts)

@@ -1,17 +1,17 @@
 //! One connection of a client: the pieces of its stream in, the replies out.
 
 ghost use Rattle.std.specs.Prelude.{◌≡◌, ◌≢◌, ◌++◌, ◌∷◌, [], length, true, false, IfOk, OnOk, IsErr, MatchResult};
-ghost use Rattle.linda_wire.specs.declared.faults.FrameFault.TheVariants.{Memory};
+ghost use Rattle.linda_wire.specs.Refusal.{refused};
+ghost use Rattle.linda_wire.specs.declared.refusal.Refusal.TheVariants as refusals;
+ghost use Rattle.linda_wire.specs.declared.fault.FrameFault.TheVariants.{Memory};
 ghost use Rattle.linda_store.specs.declared.stages.Stage.TheVariants.{Open, Malformed};
-ghost use Rattle.linda_store.specs.Refusals.{refused_malformed};
 ghost use Rattle.linda_store.specs.Conversation.{beginner, Answered, StaysSilent, HasAnswered, detail_of};
 ghost use Rattle.linda_store.specs.Talk.{point_at};
 
 use crate::nodes::Node;
-use crate::refusals::malformed_frame;
 use crate::stages::{Stage, Taken};
 use crate::turns::turn;
-use linda_wire::{Feed, FrameFault, Reply};
+use linda_wire::{Feed, FrameFault, Refusal, Reply};
 use std::alloc::{AllocError, Global};
 use std::marker::Model;
 
@@ -159,10 +159,10 @@ fn answer_messages<N: Node>(
 // Refuses a frame that is no message, which ends the connection.
 fn refuse_frame(fault: FrameFault, replies: &mut Vec<Reply>) -> Result<Stage, AllocError>
     ensures broken { IfOk result (λ stage. (fault ≢ Memory) × (stage ≡ Malformed (detail_of fault))) }
-    ensures told { OnOk result (replies.new.items ≡ replies.old.items ++ refused_malformed (detail_of fault) ∷ []) }
+    ensures told { OnOk result (replies.new.items ≡ replies.old.items ++ (refused (refusals.Malformed (detail_of fault))) ∷ []) }
 {
     let detail = detail_of(fault)?;
-    replies.push(malformed_frame(detail))?;
+    replies.push(Refusal::Malformed(detail).reply())?;
     Ok(Stage::Malformed(detail))
 }
 

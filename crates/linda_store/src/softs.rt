@@ -3,7 +3,7 @@
 //! After an error of a call here nothing is promised of the holds and waits: their owner starts with none.
 
 ghost use Rattle.std.specs.Prelude.{◌≡◌, ◌++◌, map, IfOk, OnOk};
-ghost use Rattle.linda_wire.specs.declared.replies.Reply.TheVariants as replies;
+ghost use Rattle.linda_wire.specs.declared.reply.Reply.TheVariants as replies;
 ghost use Rattle.linda_store.specs.Soft.{AreApart, no_asks};
 ghost use Rattle.linda_store.specs.Dispatch.{Told, dispatch, freed, all_freed, closing};
 ghost use Rattle.linda_store.specs.Asking.{AnswersCancel};

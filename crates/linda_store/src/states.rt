@@ -9,11 +9,8 @@ use linda_book::Book;
 use std::alloc::Global;
 use std::marker::Model;
 
-/// The most clients that a server keeps.
-pub(crate) const CLIENT_LIMIT: usize = 1024;
-
 /// Ids and numbers stay below this.
-pub(crate) const NUMBER_LIMIT: u64 = 1 << 63;
+pub const NUMBER_LIMIT: u64 = 1 << 63;
 
 /// All that a server keeps over a restart. The bag may be any that does what `Bag` says. A state may
 /// hold any values; a `Store` keeps them in the ranges of `IsState`.

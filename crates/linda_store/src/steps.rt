@@ -3,10 +3,11 @@
 ghost use Rattle.std.specs.Prelude.{◌≡◌, ◌∷◌, [], None, Some, IfOk, OnErr, option_copied, option_to_list};
 ghost use Rattle.std.specs.Option.{option_map};
 ghost use Rattle.std.specs.FinMap as map;
-ghost use Rattle.linda_wire.specs.declared.replies.Reply.TheVariants as replies;
+ghost use Rattle.linda_store.specs.declared.states.TheConstants.{NUMBER_LIMIT};
+ghost use Rattle.linda_wire.specs.declared.reply.Reply.TheVariants as replies;
 ghost use Rattle.linda_book.specs.Entries.{Entry};
 ghost use Rattle.linda_store.specs.declared.deeds.Deed.TheVariants as deeds;
-ghost use Rattle.linda_store.specs.State.{IsState, number_limit};
+ghost use Rattle.linda_store.specs.State.{IsState};
 ghost use Rattle.linda_store.specs.After.{IsAfter};
 ghost use Rattle.linda_store.specs.Proper.{IsAllowed};
 ghost use Rattle.linda_store.specs.Soft.{AreApart};
@@ -16,16 +17,13 @@ ghost use Rattle.linda_store.specs.Answer.{IsStep, class_in, reply_of_kept, with
 
 use crate::deeds::Deed;
 use crate::softs::Soft;
-use crate::states::{CLIENT_LIMIT, NUMBER_LIMIT, State};
-use crate::{kept, refusals};
+use crate::states::{NUMBER_LIMIT, State};
+use crate::kept;
 use linda_bag::Bag;
 use linda_book::Class;
 use linda_tuple::Tuple;
-use linda_wire::{Message, Reply};
+use linda_wire::{MAX_CLIENTS, Message, Refusal, Reply, VERSION};
 use std::alloc::{AllocError, Global};
-
-/// The version of the protocol that is spoken here.
-const VERSION: u8 = 1;
 
 /// What one message came to.
 #[derive(Drop)]
@@ -85,11 +83,11 @@ impl<B: Bag> State<B> {
     {
         let last = self.book.last(client);
         if version != VERSION {
-            refusals::wrong_version()
+            Refusal::Version.reply()
         } else if fresh && last > 0 {
-            refusals::known_client(last)
+            Refusal::Known(last).reply()
         } else if self.is_one_too_many(client) {
-            refusals::too_many_clients()
+            Refusal::TooManyClients.reply()
         } else {
             Reply::Welcome { last }
         }
@@ -132,14 +130,14 @@ impl<B: Bag> State<B> {
         ensures { IfOk result (λ r. r ≡ without_deed self.now client n is_spent (class_in self.now client n)) }
     {
         match self.book.classify(client, n) {
-            Class::Old(last) => Ok(Some(refusals::old_number(last))),
+            Class::Old(last) => Ok(Some(Refusal::Old(last).reply())),
             Class::Kept => self.kept_reply(alloc, client, n),
-            Class::Gap(last) => Ok(Some(refusals::number_gap(last))),
+            Class::Gap(last) => Ok(Some(Refusal::Gap(last).reply())),
             Class::Fresh => {
                 if self.is_one_too_many(client) {
-                    Ok(Some(refusals::too_many_clients()))
+                    Ok(Some(Refusal::TooManyClients.reply()))
                 } else if is_spent {
-                    Ok(Some(refusals::spent_numbers()))
+                    Ok(Some(Refusal::Spent.reply()))
                 } else {
                     Ok(None)
                 }
@@ -161,7 +159,7 @@ impl<B: Bag> State<B> {
     fn is_one_too_many(&self, client: u32) -> bool
         ensures { result ≡ spec.is_one_too_many self.now client }
     {
-        self.book.last(client) == 0 && self.book.len() >= CLIENT_LIMIT
+        self.book.last(client) == 0 && self.book.len() >= MAX_CLIENTS
     }
 }
 

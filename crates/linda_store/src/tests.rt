@@ -1,7 +1,8 @@
 //! Hellos, row by row of the server's table, with values worked by hand; and a state for tests.
 
 ghost use Rattle.std.specs.Prelude.{◌<◌, ◌≤◌, IfOk};
-ghost use Rattle.linda_store.specs.State.{IsState, number_limit};
+ghost use Rattle.linda_store.specs.declared.states.TheConstants.{NUMBER_LIMIT};
+ghost use Rattle.linda_store.specs.State.{IsState};
 
 use crate::plays::act_out;
 use crate::states::State;
@@ -20,8 +21,8 @@ pub(crate) fn state_of_one(
     reply: KeptReply,
     next: u64,
 ) -> Result<State<ListBag>, AllocError>
-    requires number { (1 ≤ n) × (n < number_limit) }
-    requires next { (1 ≤ next) × (next ≤ number_limit) }
+    requires number { (1 ≤ n) × (n < NUMBER_LIMIT) }
+    requires next { (1 ≤ next) × (next ≤ NUMBER_LIMIT) }
     ensures { IfOk result (λ s. IsState s) }
 {
     let mut book = Book::new(alloc);

@@ -2,12 +2,12 @@
 
 ghost use Rattle.std.specs.Prelude.{◌≡◌, ◌++◌, ◌∷◌, [], IsTrue, IfOk, OnOk, None, Some, true};
 ghost use Rattle.std.specs.List.{list_any};
+ghost use Rattle.linda_wire.specs.Refusal.{refused};
 ghost use Rattle.linda_store.specs.Nodes.{node_answer};
 ghost use Rattle.linda_store.specs.Talk.{is_welcome, replies_for, told, goes_on, greeted_by, greeted_if, hello_of, point_at, IsAsked, HasSaid, Turns};
 
 use crate::nodes::{Node, NodeFault};
-use crate::refusals::{busy_connection, full_store, no_hello, server_down};
-use linda_wire::{Message, Reply};
+use linda_wire::{Message, Refusal, Reply};
 use std::alloc::{AllocError, Global};
 
 /// Answers one message, and says whether the connection goes on. Where memory runs out for a reply, the
@@ -27,10 +27,10 @@ pub(crate) fn turn<N: Node>(
     match *greeted {
         None => match hello_of(message) {
             Some(client) => greet(alloc, greeted, node, client, message, replies),
-            None => turn_away(no_hello(), replies),
+            None => turn_away(Refusal::NoHello, replies),
         },
         Some(client) => match hello_of(message) {
-            Some(_) => turn_away(busy_connection(), replies),
+            Some(_) => turn_away(Refusal::Busy, replies),
             None => ask(alloc, node, client, message, replies),
         },
     }
@@ -50,11 +50,11 @@ fn hello_of(message: &Message) -> Option<u32>
 }
 
 // Refuses a message without asking the node; the connection goes on.
-fn turn_away(refusal: Reply, replies: &mut Vec<Reply>) -> Result<bool, AllocError>
-    ensures told { OnOk result (replies.new.items ≡ replies.old.items ++ refusal ∷ []) }
+fn turn_away(refusal: Refusal, replies: &mut Vec<Reply>) -> Result<bool, AllocError>
+    ensures told { OnOk result (replies.new.items ≡ replies.old.items ++ refused refusal ∷ []) }
     ensures goes_on { IfOk result (λ goes. IsTrue goes) }
 {
-    replies.push(refusal)?;
+    replies.push(refusal.reply())?;
     Ok(true)
 }
 
@@ -113,9 +113,9 @@ fn tell(
             Ok(true)
         }
         Err(fault) => match fault {
-            NodeFault::Full => turn_away(full_store(), replies),
+            NodeFault::Full => turn_away(Refusal::Full, replies),
             NodeFault::Down => {
-                turn_away(server_down(), replies)?;
+                turn_away(Refusal::Down, replies)?;
                 Ok(false)
             }
         },

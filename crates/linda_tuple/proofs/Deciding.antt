@@ -6,13 +6,16 @@ use Rattle.std.specs.Cmp.{booleans_Decides}
 use Rattle.std.proofs.lemmas.Bool.{false≢true}
 use Rattle.std.proofs.lemmas.Bool.Decides.{same_from_decides, Decides-int_eq, Decides-and, Decides-like}
 use Rattle.std.proofs.lemmas.Slice.Eq.{bytes_eq-Decides}
-use Rattle.linda_tuple.specs.declared.atoms.Atom.{Atom}
-use Rattle.linda_tuple.specs.declared.atoms.Atom.TheVariants as atoms
-use Rattle.linda_tuple.specs.declared.patterns.Pattern.{Pattern}
-use Rattle.linda_tuple.specs.declared.patterns.Pattern.TheVariants as patterns
-use Rattle.linda_tuple.specs.Values.{Row}
-use Rattle.linda_tuple.specs.Matching.{Shape, Fits, IsInt, IsText, IsBool, Matches}
-use Rattle.linda_tuple.specs.Testing.{same_atom, is_int, is_text, is_bool, is_fit, are_fit, is_match}
+use Rattle.linda_tuple.specs.declared.atom.Atom.{Atom}
+use Rattle.linda_tuple.specs.declared.atom.Atom.TheVariants as atoms
+use Rattle.linda_tuple.specs.declared.pattern.Pattern.{Pattern}
+use Rattle.linda_tuple.specs.declared.pattern.Pattern.TheVariants as patterns
+use Rattle.linda_tuple.specs.Tuple.{Tuple}
+use Rattle.linda_tuple.specs.Atom.{IsInt, IsText, IsBool}
+use Rattle.linda_tuple.specs.Template.{Template}
+use Rattle.linda_tuple.specs.Matching.{Fits, Matches}
+use Rattle.linda_tuple.specs.Sameness.{same_atom-decides}
+use Rattle.linda_tuple.specs.Testing.{is_int, is_text, is_bool, is_fit, are_fit, is_match}
 
 -- What always holds, and what never does.
 always : {P : Type 0} → P → Decides true P
@@ -20,17 +23,6 @@ always p = ((λ _. p), (λ _. refl))
 
 never : {P : Type 0} → (P → ⊥) → Decides false P
 never none = ((λ e. absurd (false≢true e)), (λ p. absurd (none p)))
-
-same_atom_decides : (a b : Atom) → Decides (same_atom a b) (a ≡ b)
-same_atom_decides (atoms.Int m) (atoms.Int n) = Decides-like _ (λ e. ap atoms.Int e) (λ e. cc) (Decides-int_eq m n)
-same_atom_decides (atoms.Int m) (atoms.Text t) = never (λ e. cc)
-same_atom_decides (atoms.Int m) (atoms.Bool b) = never (λ e. cc)
-same_atom_decides (atoms.Text s) (atoms.Int n) = never (λ e. cc)
-same_atom_decides (atoms.Text s) (atoms.Text t) = Decides-like _ (λ e. ap atoms.Text e) (λ e. cc) (bytes_eq-Decides s t)
-same_atom_decides (atoms.Text s) (atoms.Bool b) = never (λ e. cc)
-same_atom_decides (atoms.Bool a) (atoms.Int n) = never (λ e. cc)
-same_atom_decides (atoms.Bool a) (atoms.Text t) = never (λ e. cc)
-same_atom_decides (atoms.Bool a) (atoms.Bool b) = Decides-like _ (λ e. ap atoms.Bool e) (λ e. cc) (booleans_Decides a b)
 
 is_int_decides : (a : Atom) → Decides (is_int a) (IsInt a)
 is_int_decides (atoms.Int n) = always tt
@@ -48,7 +40,7 @@ is_bool_decides (atoms.Text t) = never (λ h. h)
 is_bool_decides (atoms.Bool b) = always tt
 
 is_fit_decides : (p : Pattern) (a : Atom) → Decides (is_fit p a) (Fits p a)
-is_fit_decides (patterns.Value v) a = same_atom_decides v a
+is_fit_decides (patterns.Value v) a = same_atom-decides v a
 is_fit_decides patterns.IntFormal a = is_int_decides a
 is_fit_decides patterns.TextFormal a = is_text_decides a
 is_fit_decides patterns.BoolFormal a = is_bool_decides a
@@ -61,14 +53,14 @@ are_fit_decides (p ∷ ps) [] = never (λ h. h)
 are_fit_decides (p ∷ ps) (x ∷ xs) = Decides-and _ _ (is_fit_decides p x) (are_fit_decides ps xs)
 
 -- The test of a match is true exactly where the template matches the tuple.
-pub is_match_decides : (shape : Shape) (row : Row) → Decides (is_match shape row) (Matches shape row)
+pub is_match_decides : (shape : Template) (row : Tuple) → Decides (is_match shape row) (Matches shape row)
 unfolding is_match
 is_match_decides shape row =
     Decides-like _
     (λ h. record { tag = h.0; fields = h.1 })
     (λ h. (h.tag, h.fields))
-    (Decides-and _ _ (same_atom_decides shape.tag row.tag) (are_fit_decides shape.fields row.fields))
+    (Decides-and _ _ (same_atom-decides shape.tag row.tag) (are_fit_decides shape.fields row.fields))
 
 -- What is true exactly where the template matches is what the test answers.
-pub told_by_test : (told : Bool) (shape : Shape) (row : Row) → (IsTrue told ↔ Matches shape row) → told ≡ is_match shape row
+pub told_by_test : (told : Bool) (shape : Template) (row : Tuple) → (IsTrue told ↔ Matches shape row) → told ≡ is_match shape row
 told_by_test told shape row exact = same_from_decides told (is_match shape row) exact (is_match_decides shape row)

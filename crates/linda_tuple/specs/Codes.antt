@@ -2,12 +2,12 @@
 use Rattle.std.specs.Prelude.{◌≡◌, ℕ, ℤ, ◌⊎◌, Bool, true, false, List, refl}
 use Rattle.std.specs.Coded.{Coded, code_by, coded×, coded⊎, coded_ℕ, coded_ℤ, coded_bool, coded_list}
 use Rattle.std.proofs.Common.{inl, inr}
-use Rattle.linda_tuple.specs.declared.atoms.Atom.{Atom}
-use Rattle.linda_tuple.specs.declared.atoms.Atom.TheVariants as atoms
-use Rattle.linda_tuple.specs.declared.patterns.Pattern.{Pattern}
-use Rattle.linda_tuple.specs.declared.patterns.Pattern.TheVariants as patterns
-use Rattle.linda_tuple.specs.Values.{Row}
-use Rattle.linda_tuple.specs.Matching.{Shape}
+use Rattle.linda_tuple.specs.declared.atom.Atom.{Atom}
+use Rattle.linda_tuple.specs.declared.atom.Atom.TheVariants as atoms
+use Rattle.linda_tuple.specs.declared.pattern.Pattern.{Pattern}
+use Rattle.linda_tuple.specs.declared.pattern.Pattern.TheVariants as patterns
+use Rattle.linda_tuple.specs.Tuple.{Tuple}
+use Rattle.linda_tuple.specs.Template.{Template}
 
 abbrev pub atom_parts : Atom → ℤ ⊎ (List ℕ ⊎ Bool)
 atom_parts (atoms.Int n) = inl n
@@ -30,8 +30,8 @@ atom_code =
     code_by (ℤ ⊎ (List ℕ ⊎ Bool)) (coded⊎ coded_ℤ (coded⊎ (coded_list coded_ℕ) coded_bool)) atom_parts atom_of_parts atom_again
 
 -- the code of a row
-abbrev pub row_code : Coded Row
-row_code =
+abbrev pub tuple_code : Coded Tuple
+tuple_code =
     code_by (Atom × List Atom) (coded× atom_code (coded_list atom_code)) (λ r. (r.tag, r.fields)) (λ p. record { tag = p.0; fields = p.1 }) (λ _. refl)
 
 abbrev pub pattern_parts : Pattern → Atom ⊎ (Bool ⊎ Bool)
@@ -61,6 +61,6 @@ pattern_code =
     code_by (Atom ⊎ (Bool ⊎ Bool)) (coded⊎ atom_code (coded⊎ coded_bool coded_bool)) pattern_parts pattern_of_parts pattern_again
 
 -- the code of a shape
-abbrev pub shape_code : Coded Shape
-shape_code =
+abbrev pub template_code : Coded Template
+template_code =
     code_by (Atom × List Pattern) (coded× atom_code (coded_list pattern_code)) (λ s. (s.tag, s.fields)) (λ p. record { tag = p.0; fields = p.1 }) (λ _. refl)

@@ -1,4 +1,7 @@
-pub mod Values
+pub mod Atom
+pub mod Tuple
+pub mod Template
 pub mod Matching
+pub mod Sameness
 pub mod Testing
 pub mod Codes

@@ -1,26 +1,12 @@
 -- Whether a template matches a tuple, as a test: filters and searches of lists take tests. It says what `Matches` says.
 use Rattle.std.specs.Prelude.{Bool, true, false, ◌&&◌, List, [], ◌∷◌}
-use Rattle.std.specs.Ordering.{int_eq}
-use Rattle.std.specs.Str.{bytes_eq}
-use Rattle.std.proofs.Math.Bool.{beq}
-use Rattle.linda_tuple.specs.declared.atoms.Atom.{Atom}
-use Rattle.linda_tuple.specs.declared.atoms.Atom.TheVariants as atoms
-use Rattle.linda_tuple.specs.declared.patterns.Pattern.{Pattern}
-use Rattle.linda_tuple.specs.declared.patterns.Pattern.TheVariants as patterns
-use Rattle.linda_tuple.specs.Values.{Row}
-use Rattle.linda_tuple.specs.Matching.{Shape}
-
--- whether two atoms are equal
-abbrev pub same_atom : Atom → Atom → Bool
-same_atom (atoms.Int m) (atoms.Int n) = int_eq m n
-same_atom (atoms.Int m) (atoms.Text t) = false
-same_atom (atoms.Int m) (atoms.Bool b) = false
-same_atom (atoms.Text s) (atoms.Int n) = false
-same_atom (atoms.Text s) (atoms.Text t) = bytes_eq s t
-same_atom (atoms.Text s) (atoms.Bool b) = false
-same_atom (atoms.Bool a) (atoms.Int n) = false
-same_atom (atoms.Bool a) (atoms.Text t) = false
-same_atom (atoms.Bool a) (atoms.Bool b) = beq a b
+use Rattle.linda_tuple.specs.declared.atom.Atom.{Atom}
+use Rattle.linda_tuple.specs.declared.atom.Atom.TheVariants as atoms
+use Rattle.linda_tuple.specs.declared.pattern.Pattern.{Pattern}
+use Rattle.linda_tuple.specs.declared.pattern.Pattern.TheVariants as patterns
+use Rattle.linda_tuple.specs.Tuple.{Tuple}
+use Rattle.linda_tuple.specs.Template.{Template}
+use Rattle.linda_tuple.specs.Sameness.{same_atom}
 
 -- whether the atom is an integer
 abbrev pub is_int : Atom → Bool
@@ -56,5 +42,5 @@ are_fit (pattern ∷ patterns) [] = false
 are_fit (pattern ∷ patterns) (atom ∷ atoms) = is_fit pattern atom && are_fit patterns atoms
 
 -- Whether the template matches the tuple.
-unfoldable pub is_match : Shape → Row → Bool
+unfoldable pub is_match : Template → Tuple → Bool
 is_match shape row = same_atom shape.tag row.tag && are_fit shape.fields row.fields

@@ -5,25 +5,27 @@
 //! and every `Template` keeps these limits, so whoever holds one need not test them again.
 //! `matches` says which tuples a template asks for, and `bindings` what its formals bind there.
 //!
-//! Contracts see a text as its bytes, a tuple as a `Row` of `specs/Values` and a template as a
-//! `Shape` of `specs/Matching`, and know nothing of capacities or places in memory.
+//! Contracts see a text as its bytes, a tuple as the `Tuple` of `specs/Tuple` and a template as the
+//! `Template` of `specs/Template`, and know nothing of capacities or places in memory.
 #![tactic(auto)]
 
-mod atoms;
-mod faults;
+mod atom;
+mod fault;
+mod limits;
 mod matching;
-mod patterns;
-mod templates;
-mod texts;
-mod tuples;
+mod pattern;
+mod template;
+mod text;
+mod tuple;
 
-pub use atoms::Atom;
-pub use faults::ValueFault;
+pub use atom::Atom;
+pub use fault::ValueFault;
+pub use limits::{MAX_FIELDS, MAX_TEXT};
 pub use matching::{bindings, matches};
-pub use patterns::Pattern;
-pub use templates::Template;
-pub use texts::Text;
-pub use tuples::{MAX_FIELDS, Tuple};
+pub use pattern::Pattern;
+pub use template::Template;
+pub use text::Text;
+pub use tuple::Tuple;
 
 #[cfg(test)]
 mod tests;

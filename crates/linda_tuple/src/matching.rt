@@ -5,10 +5,10 @@ ghost use Rattle.std.specs.List.{AllZip};
 ghost use Rattle.linda_tuple.specs.Matching.{Fits, Matches, bindings_of};
 ghost use Rattle.linda_tuple.specs.Testing.{is_match};
 
-use crate::atoms::Atom;
-use crate::patterns::Pattern;
-use crate::templates::Template;
-use crate::tuples::Tuple;
+use crate::atom::Atom;
+use crate::pattern::Pattern;
+use crate::template::Template;
+use crate::tuple::Tuple;
 use std::alloc::{AllocError, Global};
 
 /// Whether the template matches the tuple: the tags are equal, there are as many fields as patterns,

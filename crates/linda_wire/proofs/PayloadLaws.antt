@@ -1,27 +1,21 @@
--- Laws of whole payloads, for any values that are read from the front of bytes.
-use Rattle.std.proofs.Common.{◌≡◌, ℕ, suc, ◌<◌, ◌≤◌, List, [], ◌∷◌, ◌++◌, length, Result, Ok, Err, refl, sym, ap, subst, ◌∙◌, arith}
+-- Laws of whole payloads, for values of any format.
+use Rattle.std.proofs.Common.{◌≡◌, ℕ, suc, ◌+◌, ◌<◌, ◌≤◌, List, [], ◌∷◌, length, Result, Ok, Err, refl, sym, ap, subst, ◌∙◌, arith}
+use Rattle.std.specs.Prelude.{IsOk}
 use Rattle.std.proofs.lemmas.List.{append-nil}
-use Rattle.linda_codec.specs.Steps.{Read, Reader}
-use Rattle.linda_codec.specs.declared.faults.ReadFault.{ReadFault}
-use Rattle.linda_codec.specs.declared.faults.ReadFault.TheVariants as reading
-use Rattle.linda_codec.proofs.Takes.{IsBytes}
-use Rattle.linda_codec.proofs.Bounds.{IsLeftOf, IsBounded}
-use Rattle.linda_wire.specs.declared.faults.FrameFault.{FrameFault}
-use Rattle.linda_wire.specs.Payloads.{frame_fault, malformed_with, with_no_rest, in_frame}
-use Rattle.linda_wire.proofs.BodyLaws.{IsSpelled, pair}
-use Rattle.linda_wire.proofs.FrontLaws.{IsFaultOfPayload, Reads}
-
--- A reader of values from the front of bytes: what is read is so spelled, what fits is read again, and what is left was there.
-pub record ReadsFront {A : Type 0} (spell : A → List ℕ) (Fits : A → Type 0) (read : Reader A) : Type 0 where
-  pub takes : (bytes : List ℕ) (x : A × List ℕ) → IsBytes bytes → read bytes ≡ Ok x → IsSpelled spell Fits bytes x
-  pub again : (value : A) (rest : List ℕ) → Fits value → read (spell value ++ rest) ≡ Ok (value, rest)
-  pub bounded : (bytes : List ℕ) → IsBounded (length bytes) (read bytes)
-
--- A payload that is one value, all of it.
-abbrev pub whole_of : {A : Type 0} → Reader A → List ℕ → Result A FrameFault
-whole_of read payload = in_frame (length payload) (read payload)
+use Rattle.linda_codec.specs.Steps.{Read, left_by}
+use Rattle.linda_codec.specs.declared.fault.ReadFault.{ReadFault}
+use Rattle.linda_codec.specs.declared.fault.ReadFault.TheVariants as reading
+use Rattle.linda_codec.specs.Formats.{Format}
+use Rattle.linda_codec.specs.Lawful.{IsBytes, IsLeftOf, IsBounded, IsFormat}
+use Rattle.linda_wire.specs.declared.fault.FrameFault.{FrameFault}
+use Rattle.linda_wire.specs.declared.fault.FrameFault.TheVariants.{Memory, EmptyFrame, FrameTooLong, Malformed}
+use Rattle.linda_wire.specs.declared.limits.TheConstants.{LENGTH_BYTES}
+use Rattle.linda_wire.specs.Stream.{frame_fault, malformed_with, with_no_rest, in_frame, whole_of, Judges}
 
 -- ---- what is read
+
+abbrev pair : {A : Type 0} → A → List ℕ → A × List ℕ
+pair value rest = (value, rest)
 
 no_rest_is : {A : Type 0} (len : ℕ) (value made : A) (rest : List ℕ) → with_no_rest len made rest ≡ Ok value → (made ≡ value) × (rest ≡ [])
 no_rest_is len value made [] e = (cc, refl)
@@ -37,26 +31,26 @@ in_frame_is len (Ok x) value e =
     ap (λ p. Ok p) (both_are x.0 value x.1 [] n.0 n.1)
 in_frame_is len (Err fault) value e = absurd cc
 
-whole_takes : {A : Type 0} (spell : A → List ℕ) (Fits : A → Type 0) (read : Reader A) → ReadsFront spell Fits read → (payload : List ℕ) (value : A) → IsBytes payload → whole_of read payload ≡ Ok value → (payload ≡ spell value) × Fits value
-whole_takes spell Fits read reads payload value fits e =
-    let t = reads.takes payload (value, []) fits (in_frame_is (length payload) (read payload) value e) in
-    (t.0.parts ∙ append-nil (spell value), t.1)
+-- What is read from a payload is so spelled.
+pub whole_takes : {A : Type 0} (f : Format A) → IsFormat f → (payload : List ℕ) (value : A) → IsBytes payload → whole_of f payload ≡ Ok value → (payload ≡ f.spell value) × f.Fits value
+whole_takes f is payload value fits e =
+    let t = is.takes payload (value, []) fits (in_frame_is (length payload) (f.read payload) value e) in
+    (t.0.parts ∙ append-nil (f.spell value), t.1)
 
-whole_again : {A : Type 0} (spell : A → List ℕ) (Fits : A → Type 0) (read : Reader A) → ReadsFront spell Fits read → (value : A) → Fits value → whole_of read (spell value) ≡ Ok value
-whole_again spell Fits read reads value fits =
-    let again : read (spell value) ≡ Ok (value, []) = ap read (sym (append-nil (spell value))) ∙ reads.again value [] fits in
-    ap (in_frame (length (spell value))) again
-
--- Payloads are read as values are spelled.
-pub whole_reads : {A : Type 0} (spell : A → List ℕ) (Fits : A → Type 0) (read : Reader A) → ReadsFront spell Fits read → ((value : A) → 0 < length (spell value)) → ((value : A) → Fits value → length (spell value) ≤ 65535) → Reads spell Fits (whole_of read)
-whole_reads spell Fits read reads some short = record {
-  takes = whole_takes spell Fits read reads;
-  again = whole_again spell Fits read reads;
-  some = λ value fits. some value;
-  short = short;
-}
+-- What is spelled is read from the payload that it is.
+pub whole_again : {A : Type 0} (f : Format A) → IsFormat f → (value : A) → f.Fits value → whole_of f (f.spell value) ≡ Ok value
+whole_again f is value fits =
+    let again : f.read (f.spell value) ≡ Ok (value, []) = ap f.read (sym (append-nil (f.spell value))) ∙ is.again value [] fits in
+    ap (in_frame (length (f.spell value))) again
 
 -- ---- the places of faults
+
+-- An offset from the kind to the end of a frame whose payload has so many bytes.
+abbrev pub IsFaultOfPayload : ℕ → FrameFault → Type 0
+IsFaultOfPayload len Memory = ⊥
+IsFaultOfPayload len EmptyFrame = ⊥
+IsFaultOfPayload len (FrameTooLong n) = ⊥
+IsFaultOfPayload len (Malformed at) = (LENGTH_BYTES ≤ at) × (at ≤ LENGTH_BYTES + len)
 
 value_place : (len : ℕ) (fault : ReadFault) → IsLeftOf len fault → IsFaultOfPayload len (frame_fault len fault)
 value_place len reading.Memory h = h
@@ -79,5 +73,34 @@ in_frame_place len (Err f) fault bounded e =
     subst (IsFaultOfPayload len) is (value_place len f bounded)
 
 -- Each fault of a payload is an offset in its frame.
-pub whole_place : {A : Type 0} (spell : A → List ℕ) (Fits : A → Type 0) (read : Reader A) → ReadsFront spell Fits read → (payload : List ℕ) (fault : FrameFault) → whole_of read payload ≡ Err fault → IsFaultOfPayload (length payload) fault
-whole_place spell Fits read reads payload fault e = in_frame_place (length payload) (read payload) fault (reads.bounded payload) e
+pub whole_place : {A : Type 0} (f : Format A) → IsFormat f → (payload : List ℕ) (fault : FrameFault) → whole_of f payload ≡ Err fault → IsFaultOfPayload (length payload) fault
+whole_place f is payload fault e = in_frame_place (length payload) (f.read payload) fault (is.bounded payload) e
+
+-- ---- judging a payload by what is left of it
+
+left_is : (x y : List ℕ) → (let a : Result (List ℕ) ReadFault = Ok x in a) ≡ Ok y → x ≡ y
+left_is x y e = cc
+
+with_rest : {U A : Type 0} (len : ℕ) (unit : U) (value : A) (rest : List ℕ) → Judges (with_no_rest len unit rest) (with_no_rest len value rest)
+with_rest len unit value [] = refl
+with_rest len unit value (b ∷ rest) = ((λ e. absurd cc), refl)
+
+-- Bytes are left behind a value: whether they are none says whether the payload spells it.
+pub judged_ok : {U A : Type 0} (len : ℕ) (read : Read A) (unit : U) (rest : List ℕ) → left_by read ≡ Ok rest → Judges (with_no_rest len unit rest) (in_frame len read)
+judged_ok len (Ok x) unit rest e = rw (← left_is x.1 rest e) (with_rest len unit x.0 x.1)
+judged_ok len (Err f) unit rest e = absurd cc
+
+told_fault : (len : ℕ) (fault : ReadFault) → (fault ≡ reading.Memory → ⊥) → frame_fault len fault ≡ Memory → ⊥
+told_fault len reading.Memory other e = other refl
+told_fault len reading.Short other e = absurd cc
+told_fault len (reading.BadKind left) other e = absurd cc
+told_fault len (reading.BadBool left) other e = absurd cc
+told_fault len (reading.BadText left) other e = absurd cc
+told_fault len (reading.TooMany left) other e = absurd cc
+
+-- A fault that is told of what is left is the payload's.
+pub judged_err : {A : Type 0} (len : ℕ) (read : Read A) (fault : ReadFault) → (fault ≡ reading.Memory → ⊥) → left_by read ≡ Err fault → (frame_fault len fault ≡ Memory → ⊥) × (in_frame len read ≡ Err (frame_fault len fault))
+judged_err len (Ok x) fault other e = absurd cc
+judged_err len (Err f) fault other e =
+    let same : f ≡ fault = cc in
+    (told_fault len fault other, rw same refl)

@@ -1,66 +1,125 @@
--- The bytes of messages and replies: the one spelling of each, in a frame.
-use Rattle.std.specs.Prelude.{ℕ, ◌<◌, ◌^◌, List, ◌∷◌, ◌++◌, length, take}
-use Rattle.std.specs.Int.{w32, w64, to_be_bytes, from_be_bytes}
-use Rattle.linda_tuple.specs.Values.{IsWithin}
-use Rattle.linda_tuple.specs.Matching.{IsWithinShape}
-use Rattle.linda_codec.specs.Spelling.{spell_bool, spell_tuple, spell_template}
-use Rattle.linda_wire.specs.declared.messages.Message.{Message}
-use Rattle.linda_wire.specs.declared.messages.Message.TheVariants.{Hello, Out, Ask, Accept, Cancel}
-use Rattle.linda_wire.specs.declared.replies.Reply.{Reply}
-use Rattle.linda_wire.specs.declared.replies.Reply.TheVariants.{Welcome, Stored, Offer, Read, Taken, Gone, Refused}
+-- The formats of messages and replies, and the frames that they stand in.
+use Rattle.std.specs.Prelude.{ℕ, Bool, List, [], ◌∷◌, ◌++◌, length, take}
+use Rattle.std.specs.Int.{w32, to_be_bytes, from_be_bytes}
+use Rattle.linda_tuple.specs.Tuple.{Tuple}
+use Rattle.linda_tuple.specs.Template.{Template}
+use Rattle.linda_codec.specs.Steps.{Reader}
+use Rattle.linda_codec.specs.Formats.{Format, byte, short_number, number, truth, both, made_at, no_kind, choice_at}
+use Rattle.linda_codec.specs.Values as value
+use Rattle.linda_wire.specs.declared.kinds.TheConstants as kind
+use Rattle.linda_wire.specs.declared.limits.TheConstants.{LENGTH_BYTES}
+use Rattle.linda_wire.specs.declared.message.Message.{Message}
+use Rattle.linda_wire.specs.declared.message.Message.TheVariants.{Hello, Out, Ask, Accept, Cancel}
+use Rattle.linda_wire.specs.declared.reply.Reply.{Reply}
+use Rattle.linda_wire.specs.declared.reply.Reply.TheVariants.{Welcome, Stored, Offer, Read, Taken, Gone, Refused}
 
--- The four bytes that tell a frame's length.
+-- ---- frames
+
+-- The bytes that tell a frame's length.
 unfoldable pub length_field : ℕ → List ℕ
 length_field n = to_be_bytes w32 n
 
--- The number that the first four bytes tell.
+-- The number that the first bytes tell.
 unfoldable pub told_length : List ℕ → ℕ
-told_length bytes = from_be_bytes w32 (take 4 bytes)
+told_length bytes = from_be_bytes w32 (take LENGTH_BYTES bytes)
 
 -- The frame of a payload, which is a kind byte and a body: the payload's length, and the payload.
 abbrev pub frame : List ℕ → List ℕ
 frame payload = length_field (length payload) ++ payload
 
+-- ---- messages
+
+-- The version, the client's number, whether it has kept nothing.
+abbrev pub hello : Format (ℕ × (ℕ × Bool))
+hello = both byte (both short_number truth)
+
+-- The number and the tuple.
+abbrev pub out : Format (ℕ × Tuple)
+out = both number value.tuple
+
+-- The ticket, whether the tuple is to be taken, the template.
+abbrev pub ask : Format (ℕ × (Bool × Template))
+ask = both number (both truth value.template)
+
+-- The number, the ticket, the tuple's id.
+abbrev pub accept : Format (ℕ × (ℕ × ℕ))
+accept = both number (both number number)
+
 -- A message's kind byte and body.
 abbrev pub spell_message : Message → List ℕ
-spell_message (Hello version client fresh) = 1 ∷ version ∷ (to_be_bytes w32 client ++ spell_bool fresh)
-spell_message (Out n tuple) = 2 ∷ (to_be_bytes w64 n ++ spell_tuple tuple)
-spell_message (Ask ticket remove template) = 3 ∷ (to_be_bytes w64 ticket ++ (spell_bool remove ++ spell_template template))
-spell_message (Accept n ticket id) = 4 ∷ (to_be_bytes w64 n ++ (to_be_bytes w64 ticket ++ to_be_bytes w64 id))
-spell_message (Cancel ticket) = 5 ∷ to_be_bytes w64 ticket
-
--- A message's frame.
-abbrev pub message_frame : Message → List ℕ
-message_frame message = frame (spell_message message)
+spell_message (Hello version client fresh) = kind.HELLO ∷ hello.spell (version, (client, fresh))
+spell_message (Out n tuple) = kind.OUT ∷ out.spell (n, tuple)
+spell_message (Ask ticket remove template) = kind.ASK ∷ ask.spell (ticket, (remove, template))
+spell_message (Accept n ticket id) = kind.ACCEPT ∷ accept.spell (n, (ticket, id))
+spell_message (Cancel ticket) = kind.CANCEL ∷ number.spell ticket
 
 -- What has a spelling among messages: numbers of their widths, and a tuple or template within its limits.
 abbrev pub FitsMessage : Message → Type 0
-FitsMessage (Hello version client fresh) = (version < 2 ^ 8) × (client < 2 ^ 32)
-FitsMessage (Out n tuple) = (n < 2 ^ 64) × IsWithin tuple
-FitsMessage (Ask ticket remove template) = (ticket < 2 ^ 64) × IsWithinShape template
-FitsMessage (Accept n ticket id) = (n < 2 ^ 64) × ((ticket < 2 ^ 64) × (id < 2 ^ 64))
-FitsMessage (Cancel ticket) = ticket < 2 ^ 64
+FitsMessage (Hello version client fresh) = hello.Fits (version, (client, fresh))
+FitsMessage (Out n tuple) = out.Fits (n, tuple)
+FitsMessage (Ask ticket remove template) = ask.Fits (ticket, (remove, template))
+FitsMessage (Accept n ticket id) = accept.Fits (n, (ticket, id))
+FitsMessage (Cancel ticket) = number.Fits ticket
+
+-- The kinds of messages, each with its body.
+abbrev pub message_kinds : List (ℕ × Reader Message)
+message_kinds =
+    (kind.HELLO, made_at (λ p. Hello p.0 p.1.0 p.1.1) hello) ∷ (kind.OUT, made_at (λ p. Out p.0 p.1) out)
+    ∷ (kind.ASK, made_at (λ p. Ask p.0 p.1.0 p.1.1) ask) ∷ (kind.ACCEPT, made_at (λ p. Accept p.0 p.1.0 p.1.1) accept)
+    ∷ (kind.CANCEL, made_at (λ ticket. Cancel ticket) number) ∷ []
+
+abbrev pub message : Format Message
+message = record { spell = spell_message; Fits = FitsMessage; read = choice_at message_kinds no_kind }
+
+-- A message's frame.
+abbrev pub message_frame : Message → List ℕ
+message_frame m = frame (spell_message m)
+
+-- ---- replies
+
+-- The number and the tuple's id.
+abbrev pub stored : Format (ℕ × ℕ)
+stored = both number number
+
+-- The ticket or the number, the tuple's id, the tuple.
+abbrev pub entry : Format (ℕ × (ℕ × Tuple))
+entry = both number (both number value.tuple)
+
+-- The code, the detail.
+abbrev pub refusal : Format (ℕ × ℕ)
+refusal = both byte number
 
 -- A reply's kind byte and body.
 abbrev pub spell_reply : Reply → List ℕ
-spell_reply (Welcome last) = 17 ∷ to_be_bytes w64 last
-spell_reply (Stored n id) = 18 ∷ (to_be_bytes w64 n ++ to_be_bytes w64 id)
-spell_reply (Offer ticket id tuple) = 19 ∷ (to_be_bytes w64 ticket ++ (to_be_bytes w64 id ++ spell_tuple tuple))
-spell_reply (Read ticket id tuple) = 20 ∷ (to_be_bytes w64 ticket ++ (to_be_bytes w64 id ++ spell_tuple tuple))
-spell_reply (Taken n id tuple) = 21 ∷ (to_be_bytes w64 n ++ (to_be_bytes w64 id ++ spell_tuple tuple))
-spell_reply (Gone n) = 22 ∷ to_be_bytes w64 n
-spell_reply (Refused code detail) = 23 ∷ code ∷ to_be_bytes w64 detail
-
--- A reply's frame.
-abbrev pub reply_frame : Reply → List ℕ
-reply_frame reply = frame (spell_reply reply)
+spell_reply (Welcome last) = kind.WELCOME ∷ number.spell last
+spell_reply (Stored n id) = kind.STORED ∷ stored.spell (n, id)
+spell_reply (Offer ticket id tuple) = kind.OFFER ∷ entry.spell (ticket, (id, tuple))
+spell_reply (Read ticket id tuple) = kind.READ ∷ entry.spell (ticket, (id, tuple))
+spell_reply (Taken n id tuple) = kind.TAKEN ∷ entry.spell (n, (id, tuple))
+spell_reply (Gone n) = kind.GONE ∷ number.spell n
+spell_reply (Refused code detail) = kind.REFUSED ∷ refusal.spell (code, detail)
 
 -- What has a spelling among replies: numbers of their widths, and a tuple within its limits.
 abbrev pub FitsReply : Reply → Type 0
-FitsReply (Welcome last) = last < 2 ^ 64
-FitsReply (Stored n id) = (n < 2 ^ 64) × (id < 2 ^ 64)
-FitsReply (Offer ticket id tuple) = (ticket < 2 ^ 64) × ((id < 2 ^ 64) × IsWithin tuple)
-FitsReply (Read ticket id tuple) = (ticket < 2 ^ 64) × ((id < 2 ^ 64) × IsWithin tuple)
-FitsReply (Taken n id tuple) = (n < 2 ^ 64) × ((id < 2 ^ 64) × IsWithin tuple)
-FitsReply (Gone n) = n < 2 ^ 64
-FitsReply (Refused code detail) = (code < 2 ^ 8) × (detail < 2 ^ 64)
+FitsReply (Welcome last) = number.Fits last
+FitsReply (Stored n id) = stored.Fits (n, id)
+FitsReply (Offer ticket id tuple) = entry.Fits (ticket, (id, tuple))
+FitsReply (Read ticket id tuple) = entry.Fits (ticket, (id, tuple))
+FitsReply (Taken n id tuple) = entry.Fits (n, (id, tuple))
+FitsReply (Gone n) = number.Fits n
+FitsReply (Refused code detail) = refusal.Fits (code, detail)
+
+-- The kinds of replies, each with its body.
+abbrev pub reply_kinds : List (ℕ × Reader Reply)
+reply_kinds =
+    (kind.WELCOME, made_at (λ last. Welcome last) number) ∷ (kind.STORED, made_at (λ p. Stored p.0 p.1) stored)
+    ∷ (kind.OFFER, made_at (λ p. Offer p.0 p.1.0 p.1.1) entry) ∷ (kind.READ, made_at (λ p. Read p.0 p.1.0 p.1.1) entry)
+    ∷ (kind.TAKEN, made_at (λ p. Taken p.0 p.1.0 p.1.1) entry) ∷ (kind.GONE, made_at (λ n. Gone n) number)
+    ∷ (kind.REFUSED, made_at (λ p. Refused p.0 p.1) refusal) ∷ []
+
+abbrev pub reply : Format Reply
+reply = record { spell = spell_reply; Fits = FitsReply; read = choice_at reply_kinds no_kind }
+
+-- A reply's frame.
+abbrev pub reply_frame : Reply → List ℕ
+reply_frame r = frame (spell_reply r)

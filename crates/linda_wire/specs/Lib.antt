@@ -1,3 +1,4 @@
 pub mod Frames
+pub mod FrameLaws
 pub mod Stream
-pub mod Payloads
+pub mod Refusal

@@ -4,33 +4,32 @@
 //! counts; numbers are big-endian. Each message and each reply has one spelling. A `Feed` takes the
 //! bytes of a stream in any pieces and gives its messages: these and no others, whatever the pieces,
 //! up to the first frame that spells nothing, whose fault it tells from then on. A `ReplyFeed` does so
-//! for the replies of the other side. `specs/Frames` says what the bytes are, `specs/Stream` and
-//! `specs/Payloads` what stands at the front of a stream.
+//! for the replies of the other side. A `Refusal` is why a server says no, with its code and detail. `specs/Frames`
+//! says what the bytes are, `specs/Stream` what stands at the front of a stream.
 #![tactic(auto)]
 
-mod encoding;
-mod faults;
-mod feeds;
+mod codes;
+mod fault;
+mod feed;
+mod framed;
 mod kinds;
 mod laws;
-mod lengths;
-mod message_payloads;
-mod messages;
-mod payloads;
-mod replies;
-mod reply_feeds;
-mod reply_payloads;
+mod length;
+mod limits;
+mod message;
+mod payload;
+mod refusal;
+mod reply;
 mod unread;
 
-pub use encoding::{encode_message, encode_reply};
-pub use faults::FrameFault;
-pub use feeds::Feed;
+pub use fault::FrameFault;
+pub use feed::{Feed, FrameFeed, ReplyFeed};
+pub use framed::Framed;
 pub use laws::{faults_stay, one_reading, one_reply_reading, reply_faults_stay};
-pub use messages::Message;
-pub use replies::Reply;
-pub use reply_feeds::ReplyFeed;
+pub use limits::{LENGTH_BYTES, MAX_ASKS, MAX_CLIENTS, MAX_PAYLOAD, VERSION};
+pub use message::{Message, encode_message};
+pub use refusal::Refusal;
+pub use reply::{Reply, encode_reply};
 
-#[cfg(test)]
-mod fault_tests;
 #[cfg(test)]
 mod tests;

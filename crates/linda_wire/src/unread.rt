@@ -1,6 +1,6 @@
 //! The bytes of a stream that are not read yet, whatever they spell.
 
-ghost use Rattle.std.specs.Prelude.{◌≡◌, ℕ, ◌<◌, ◌≤◌, ◌++◌, [], length, drop, slice_index, OnOk, OnErr};
+ghost use Rattle.std.specs.Prelude.{◌≡◌, ◌≤◌, ◌++◌, [], length, drop, OnOk, OnErr};
 
 use std::alloc::{AllocError, Global};
 use std::marker::Model;
@@ -69,13 +69,6 @@ impl Unread {
         self.start += count;
     }
 
-    /// Tells proofs that they are bytes.
-    pub(crate) fn are_bytes(&self)
-        ensures { (i : ℕ) → slice_index self.now i < 256 }
-    {
-        are_bytes(&self.bytes[self.start..]);
-    }
-
     // Gives up the bytes that were read; those that were not move to the front.
     fn forget_read(&mut self)
         ensures { self.new ≡ self.old }
@@ -85,11 +78,4 @@ impl Unread {
         self.bytes.truncate(unread);
         self.start = 0;
     }
-}
-
-// Tells proofs that the items of a slice of bytes are bytes.
-fn are_bytes(bytes: &[u8])
-    ensures { (i : ℕ) → slice_index bytes.now i < 256 }
-{
-    let _ = bytes.len();
 }

@@ -1,8 +1,7 @@
-use Rattle.linda_wire.specs.Frames.{spell_reply, FitsReply}
-use Rattle.linda_wire.specs.Payloads.{reply_of}
+use Rattle.linda_wire.specs.Frames as format
+use Rattle.linda_wire.specs.FrameLaws.{reply_is, reply_size}
 use Rattle.linda_wire.proofs.FrontLaws.{one_reading}
-use Rattle.linda_wire.proofs.ReplyLaws.{reply_reads}
 use Rattle.linda_wire.proofs.laws.one_reply_reading.Goals as goal
 
 pub returns : goal.returns
-returns c = one_reading spell_reply FitsReply reply_of reply_reads
+returns c = one_reading format.reply (record { lawful = reply_is; sized = reply_size })

@@ -1,6 +1,6 @@
-use Rattle.linda_wire.specs.Payloads.{reply_of}
+use Rattle.linda_wire.specs.Frames as format
 use Rattle.linda_wire.proofs.FrontLaws.{broken_stays}
 use Rattle.linda_wire.proofs.laws.reply_faults_stay.Goals as goal
 
 pub returns : goal.returns
-returns c = broken_stays reply_of
+returns c = broken_stays format.reply

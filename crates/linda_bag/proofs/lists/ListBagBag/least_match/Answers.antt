@@ -1,5 +1,5 @@
 use Rattle.std.proofs.Common.{ℕ, IsSome, refl, sym, subst}
-use Rattle.linda_tuple.specs.Values.{Row}
+use Rattle.linda_tuple.specs.Tuple.{Tuple}
 use Rattle.linda_bag.proofs.Left.{all_left, first_stored, fewer_left, none_below, none_wanted, not_free}
 use Rattle.linda_bag.proofs.lists.ListBagBag.least_match.Goals as goal
 
@@ -24,7 +24,7 @@ returns-then-is_free_match-clause-least c =
 
 pub loop-id-preserved : goal.loop-id-preserved
 loop-id-preserved c =
-    let entry : ℕ × Row = (c.in-Some.id.now, c.in-Some.tuple.now) in
+    let entry : ℕ × Tuple = (c.in-Some.id.now, c.in-Some.tuple.now) in
     let stored = first_stored _ _ _ entry _ c.loop-id.invariant c.in-Some.ensures.steps in
     fewer_left _ _ _ entry _ c.loop-id.invariant c.in-Some.ensures.steps (not_free _ _ _ entry _ stored c.is_free_match.ensures c.if-is_free_match.false)
 

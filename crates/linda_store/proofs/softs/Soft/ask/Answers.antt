@@ -1,6 +1,7 @@
 use Rattle.std.proofs.Common.{IfOk, nat_le, ◌∷◌, [], sym, ap, subst, ◌∙◌}
 use Rattle.std.proofs.lemmas.Result.{IfOk-weaker}
-use Rattle.linda_store.specs.Soft.{Soft, ask_limit, open_asks}
+use Rattle.linda_wire.specs.declared.limits.TheConstants.{MAX_ASKS}
+use Rattle.linda_store.specs.Soft.{Soft, open_asks}
 use Rattle.linda_store.specs.Asking.{AnswersAsk, only_sent}
 use Rattle.linda_store.proofs.Asked.{offered_again, waits_on, turned_away}
 use Rattle.linda_store.proofs.softs.Soft.ask.Goals as goal
@@ -28,5 +29,5 @@ returns-then-asks_too_much g c =
     (λ s. IfOk c.one_send.result (λ sends. AnswersAsk (g.B.Bag.contents c.args.bag.now) (c.args.client, c.args.ticket) c.args.remove c.args.template.now s (only_sent sends.items s)))
     c.self.view_is
     (IfOk-weaker c.one_send.result _ _
-    (λ sends sent. turned_away _ _ _ _ soft sends.items c.in_default.ensures.value (sym c.contains.ensures ∙ c.if-contains.false) (ap (λ s. nat_le ask_limit (open_asks c.args.client s)) c.self.view_is ∙ sym c.if-asks_too_much.ensures) (sent ∙ ap (λ reply. (c.args.client, reply) ∷ []) c.too_many_asks.ensures))
+    (λ sends sent. turned_away _ _ _ _ soft sends.items c.in_default.ensures.value (sym c.contains.ensures ∙ c.if-contains.false) (ap (λ s. nat_le MAX_ASKS (open_asks c.args.client s)) c.self.view_is ∙ sym c.if-asks_too_much.ensures) (sent ∙ ap (λ reply. (c.args.client, reply) ∷ []) c.reply.ensures))
     c.one_send.ensures)

@@ -1,0 +1,69 @@
+-- What reading leaves after the value, by what each step leaves.
+use Rattle.std.proofs.Common.{◌≡◌, ℕ, suc, ◌-◌, ◌+◌, ◌≤◌, ◌<◌, List, ◌∷◌, Result, Ok, Err, refl, sym, ap, ◌∙◌, arith}
+use Rattle.std.specs.Prelude.{IsOk}
+use Rattle.linda_codec.specs.declared.fault.ReadFault.{ReadFault}
+use Rattle.linda_codec.specs.Formats.{Format, both}
+use Rattle.linda_codec.specs.Steps.{Read, Reader, ◌>>=◌, left_by, many_at}
+
+-- Where bytes are left, a value stands before them.
+pub is_there : {A : Type 0} (read : Read A) (rest : List ℕ) → left_by read ≡ Ok rest → IsOk read
+is_there (Ok x) rest e = refl
+is_there (Err fault) rest e = absurd cc
+
+-- A fault that is told of what is left is the fault.
+pub is_fault : {A : Type 0} (read : Read A) (fault : ReadFault) → left_by read ≡ Err fault → read ≡ Err fault
+is_fault (Ok x) fault e = absurd cc
+is_fault (Err f) fault e = cc
+
+left_ok : (x y : List ℕ) → (let a : Result (List ℕ) ReadFault = Ok x in a) ≡ Ok y → x ≡ y
+left_ok x y e = cc
+
+-- A step that leaves these bytes, and the next one.
+pub left_then : {A B : Type 0} (step : Read A) (next : A × List ℕ → Read B) (rest : List ℕ) (left : Result (List ℕ) ReadFault) → left_by step ≡ Ok rest → ((a : A) → left_by (next (a, rest)) ≡ left) → left_by (step >>= next) ≡ left
+left_then (Ok x) next rest left e others = rw (left_ok x.1 rest e) (others x.0)
+left_then (Err fault) next rest left e others = absurd cc
+
+-- A step that fails.
+pub left_fault : {A B : Type 0} (step : Read A) (next : A × List ℕ → Read B) (fault : ReadFault) → left_by step ≡ Err fault → left_by (step >>= next) ≡ Err fault
+left_fault (Ok x) next fault e = absurd cc
+left_fault (Err f) next fault e = e
+
+-- What a step leaves is left where the next one only makes something of the value.
+pub left_made : {A B : Type 0} (step : Read A) (make : A → B) → left_by (step >>= λ x. Ok (make x.0, x.1)) ≡ left_by step
+left_made (Ok x) make = refl
+left_made (Err fault) make = refl
+
+-- Behind what the first of two formats reads, the second one leaves what both leave.
+pub left_behind : {A B : Type 0} (f : Format A) (g : Format B) (bytes : List ℕ) (a : A) (rest : List ℕ) → f.read bytes ≡ Ok (a, rest) → left_by ((both f g).read bytes) ≡ left_by (g.read rest)
+left_behind f g bytes a rest e = rw e (left_made (g.read rest) (λ b. (a, b)))
+
+-- ---- many values, as a loop passes over them
+
+pub skips_from : {A : Type 0} (read : Reader A) (count : ℕ) (bytes : List ℕ) → left_by (many_at read (count - 0) bytes) ≡ left_by (many_at read count bytes)
+skips_from read count bytes =
+    let k : count - 0 ≡ count = omega arith in
+    rw k refl
+
+pub skips_on : {A : Type 0} (read : Reader A) (count i : ℕ) (bytes after : List ℕ) (total : Result (List ℕ) ReadFault) → i < count → left_by (read bytes) ≡ Ok after
+    → left_by (many_at read (count - i) bytes) ≡ total → left_by (many_at read (count - (i + 1)) after) ≡ total
+unfolding many_at
+skips_on read count i bytes after total lt one so_far =
+    let k : count - i ≡ suc (count - (i + 1)) = omega arith in
+    let same : left_by (many_at read (count - i) bytes) ≡ left_by (many_at read (count - (i + 1)) after) =
+    rw k (left_then (read bytes) (λ first. many_at read (count - (i + 1)) first.1 >>= λ others. Ok (first.0 ∷ others.0, others.1)) after (left_by (many_at read (count - (i + 1)) after)) one (λ a. left_made (many_at read (count - (i + 1)) after) (λ others. a ∷ others))) in
+    sym same ∙ so_far
+
+pub skips_end : {A : Type 0} (read : Reader A) (fault : ReadFault) (count i : ℕ) (bytes : List ℕ) (total : Result (List ℕ) ReadFault) → i < count → left_by (read bytes) ≡ Err fault
+    → left_by (many_at read (count - i) bytes) ≡ total → total ≡ Err fault
+unfolding many_at
+skips_end read fault count i bytes total lt fails so_far =
+    let k : count - i ≡ suc (count - (i + 1)) = omega arith in
+    let same : left_by (many_at read (count - i) bytes) ≡ Err fault = rw k (left_fault (read bytes) (λ first. many_at read (count - (i + 1)) first.1 >>= λ others. Ok (first.0 ∷ others.0, others.1)) fault fails) in
+    sym so_far ∙ same
+
+pub skips_done : {A : Type 0} (read : Reader A) (count i : ℕ) (bytes : List ℕ) (total : Result (List ℕ) ReadFault) → count ≤ i → left_by (many_at read (count - i) bytes) ≡ total → total ≡ Ok bytes
+unfolding many_at
+skips_done read count i bytes total le so_far =
+    let k : count - i ≡ 0 = omega arith in
+    let same : left_by (many_at read (count - i) bytes) ≡ Ok bytes = rw k refl in
+    sym so_far ∙ same

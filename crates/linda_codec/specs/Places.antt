@@ -1,0 +1,32 @@
+-- Reading at an offset: where a fault is told, and what is read there.
+use Rattle.std.specs.Prelude.{ℕ, ◌-◌, ◌<◌, ◌≤◌, List, length, drop, Result, Ok, Err}
+use Rattle.linda_codec.specs.declared.fault.ReadFault.{ReadFault}
+use Rattle.linda_codec.specs.declared.fault.ReadFault.TheVariants.{Memory, Short, BadKind, BadBool, BadText, TooMany}
+use Rattle.linda_codec.specs.Steps.{Read, Reader}
+
+-- A fault told by its offset, where so many bytes were there in all.
+abbrev pub placed : ℕ → ReadFault → ReadFault
+placed n Memory = Memory
+placed n Short = Short
+placed n (BadKind left) = BadKind (n - left)
+placed n (BadBool left) = BadBool (n - left)
+placed n (BadText left) = BadText (n - left)
+placed n (TooMany left) = TooMany (n - left)
+
+-- What reading gave, with the offset of the next byte, or the offset of the fault.
+abbrev pub settled : {A : Type 0} → ℕ → Read A → Result (A × ℕ) ReadFault
+settled n (Ok x) = Ok (x.0, n - length x.1)
+settled n (Err fault) = Err (placed n fault)
+
+-- What a reader gives from that offset on; past the end there are no bytes.
+abbrev pub read_at : {A : Type 0} → Reader A → List ℕ → ℕ → Result (A × ℕ) ReadFault
+read_at read bytes at = settled (length bytes) (read (drop at bytes))
+
+-- The offset that a fault tells, if it tells one, is one of those.
+abbrev pub IsPlace : ℕ → ℕ → ReadFault → Type 0
+IsPlace from to Memory = Unit {0}
+IsPlace from to Short = Unit {0}
+IsPlace from to (BadKind at) = (from ≤ at) × (at < to)
+IsPlace from to (BadBool at) = (from ≤ at) × (at < to)
+IsPlace from to (BadText at) = (from ≤ at) × (at < to)
+IsPlace from to (TooMany at) = (from ≤ at) × (at < to)

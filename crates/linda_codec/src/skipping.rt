@@ -1,0 +1,90 @@
+//! Passing over tuples and templates: what their readers leave and which fault they tell, without taking memory.
+
+ghost use Rattle.std.specs.Prelude.{◌≡◌};
+ghost use Rattle.linda_codec.specs.Steps.{GivesAlways, left_by, many_at};
+ghost use Rattle.linda_codec.specs.Values as format;
+
+use crate::fault::ReadFault;
+use crate::kinds::{BOOL_FORMAL, INT_FORMAL, INTEGER, TEXT, TEXT_FORMAL, TRUTH, WILDCARD};
+use crate::number::{read_bool, read_i64};
+use crate::parts::{read_count, split_text};
+
+/// The bytes after the tuple at the front.
+///
+/// # Errors
+///
+/// The first fault from the left, told by the count of bytes left; never `Memory`.
+pub fn skip_tuple(bytes: &[u8]) -> Result<&[u8], ReadFault>
+    ensures { GivesAlways (λ rest. rest.now) result (left_by (format.tuple.read bytes.now)) }
+{
+    let rest = skip_atom(bytes)?;
+    let (count, rest) = read_count(rest)?;
+    skip_atoms(count, rest)
+}
+
+/// The bytes after the template at the front.
+///
+/// # Errors
+///
+/// The first fault from the left, told by the count of bytes left; never `Memory`.
+pub fn skip_template(bytes: &[u8]) -> Result<&[u8], ReadFault>
+    ensures { GivesAlways (λ rest. rest.now) result (left_by (format.template.read bytes.now)) }
+{
+    let rest = skip_atom(bytes)?;
+    let (count, rest) = read_count(rest)?;
+    skip_patterns(count, rest)
+}
+
+fn skip_atoms(count: u8, bytes: &[u8]) -> Result<&[u8], ReadFault>
+    ensures { GivesAlways (λ rest. rest.now) result (left_by (many_at format.atom.read count bytes.now)) }
+{
+    let mut rest = bytes;
+    for _ in 0..count {
+        rest = skip_atom(rest)?;
+    }
+    Ok(rest)
+}
+
+fn skip_patterns(count: u8, bytes: &[u8]) -> Result<&[u8], ReadFault>
+    ensures { GivesAlways (λ rest. rest.now) result (left_by (many_at format.pattern.read count bytes.now)) }
+{
+    let mut rest = bytes;
+    for _ in 0..count {
+        rest = skip_pattern(rest)?;
+    }
+    Ok(rest)
+}
+
+fn skip_atom(bytes: &[u8]) -> Result<&[u8], ReadFault>
+    ensures { GivesAlways (λ rest. rest.now) result (left_by (format.atom.read bytes.now)) }
+{
+    match bytes {
+        [] => Err(ReadFault::Short),
+        [INTEGER, rest @ ..] => {
+            let (_number, rest) = read_i64(rest)?;
+            Ok(rest)
+        }
+        [TEXT, rest @ ..] => {
+            let (_text, rest) = split_text(rest)?;
+            Ok(rest)
+        }
+        [TRUTH, rest @ ..] => {
+            let (_truth, rest) = read_bool(rest)?;
+            Ok(rest)
+        }
+        [_, ..] => Err(ReadFault::BadKind(bytes.len())),
+    }
+}
+
+fn skip_pattern(bytes: &[u8]) -> Result<&[u8], ReadFault>
+    ensures { GivesAlways (λ rest. rest.now) result (left_by (format.pattern.read bytes.now)) }
+{
+    match bytes {
+        [] => Err(ReadFault::Short),
+        [INT_FORMAL, rest @ ..] => Ok(rest),
+        [TEXT_FORMAL, rest @ ..] => Ok(rest),
+        [BOOL_FORMAL, rest @ ..] => Ok(rest),
+        [WILDCARD, rest @ ..] => Ok(rest),
+        [_, ..] => skip_atom(bytes),
+    }
+}

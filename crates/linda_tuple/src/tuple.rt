@@ -1,0 +1,121 @@
+//! Tuples, which keep their limits.
+
+ghost use Rattle.std.specs.Prelude.{◌≡◌, ◌↔◌, ◌<◌, length, IfOk, IsOk, IsErrOf};
+ghost use Rattle.linda_tuple.specs.declared.limits.TheConstants.{MAX_FIELDS};
+ghost use Rattle.linda_tuple.specs.Tuple.{IsWithin};
+
+use crate::atom::Atom;
+use crate::fault::ValueFault;
+use crate::limits::MAX_FIELDS;
+use std::alloc::{AllocError, Global};
+use std::marker::Model;
+
+/// A tag and the fields that follow it: at most 16, with texts of at most 255 bytes.
+#[derive(Debug, Drop)]
+pub struct Tuple {
+    tag: Atom,
+    fields: Vec<Atom>,
+}
+
+impl Model for Tuple {
+    ghost use Rattle.linda_tuple.specs.Tuple.{Tuple, IsWithin};
+
+    ghost Value = { Tuple };
+
+    ghost view = { λ t. record { tag = t.tag; fields = t.fields.items } };
+
+    ghost invariant = { λ t. IsWithin (record { tag = t.tag; fields = t.fields.items }) };
+}
+
+impl Tuple {
+    /// The tuple of a tag and fields, which it keeps: no memory is taken. Where it is refused, they
+    /// are dropped.
+    ///
+    /// # Errors
+    ///
+    /// `TooManyFields` where more than 16 fields follow the tag, else `TextTooLong` where the tag or
+    /// a field is a text of more than 255 bytes.
+    pub fn new(tag: Atom, fields: Vec<Atom>) -> Result<Tuple, ValueFault>
+        ensures made { IfOk result (λ t. t ≡ record { tag = tag; fields = fields.items }) }
+        ensures within { IsOk result ↔ IsWithin (record { tag = tag; fields = fields.items }) }
+        ensures many { IsErrOf result ValueFault.TooManyFields ↔ (MAX_FIELDS < length fields.items) }
+    {
+        if fields.len() > MAX_FIELDS {
+            return Err(ValueFault::TooManyFields);
+        }
+        if !tag.is_sound() || !fields.iter().all(|f| f.is_sound()) {
+            return Err(ValueFault::TextTooLong);
+        }
+        Ok(Tuple { tag, fields })
+    }
+
+    /// The tuple of a tag and fields that are within the limits, which it keeps: no memory is taken. It is for
+    /// callers that have tested the limits already; others call `new`.
+    pub fn from_parts(tag: Atom, fields: Vec<Atom>) -> Tuple
+        requires { IsWithin (record { tag = tag; fields = fields.items }) }
+        ensures { result ≡ record { tag = tag; fields = fields.items } }
+    {
+        Tuple { tag, fields }
+    }
+
+    /// The value that comes first.
+    pub fn tag(&self) -> &Atom
+        ensures value { result.now ≡ self.now.tag }
+        ensures within { IsWithin self.now }
+    {
+        &self.tag
+    }
+
+    /// The values after the tag, in order; at most 16.
+    pub fn fields(&self) -> &[Atom]
+        ensures value { result.now ≡ self.now.fields }
+        ensures within { IsWithin self.now }
+    {
+        &self.fields
+    }
+
+    /// A copy with memory of its own.
+    pub fn try_clone(&self, alloc: Global) -> Result<Tuple, AllocError>
+        ensures { IfOk result (λ t. t ≡ self.now) }
+    {
+        let tag = self.tag.try_clone(alloc)?;
+        let fields = copies(alloc, &self.fields, |f| f.try_clone(alloc))?;
+        Ok(Tuple { tag, fields })
+    }
+}
+
+impl PartialEq for Tuple {
+    ghost use Rattle.std.specs.Cmp.{partial_equiv_from_equiv};
+    ghost use Rattle.linda_tuple.specs.Sameness.{same_tuple, same_tuple-equiv};
+
+    ghost eq = { same_tuple };
+
+    ghost laws = { partial_equiv_from_equiv same_tuple-equiv };
+
+    fn eq(&self, other: &Tuple) -> bool {
+        self.tag == other.tag && self.fields == other.fields
+    }
+}
+
+impl Eq for Tuple {
+    ghost use Rattle.linda_tuple.specs.Sameness.{same_tuple-equiv};
+
+    ghost laws = { same_tuple-equiv };
+}
+
+/// The copies that `copy` makes of the values, in order.
+pub(crate) fn copies<T: Drop, F: Fn(&T) -> Result<T, AllocError>>(
+    alloc: Global,
+    values: &[T],
+    copy: F,
+) -> Result<Vec<T>, AllocError>
+    requires can { F.IsAlwaysCallable copy }
+    requires same { (v : _) (r : _) → F.post copy v r → IfOk r (λ c. c ≡ v.now) }
+    ensures { IfOk result (λ v. v.items ≡ values.now) }
+{
+    let mut copies = Vec::with_capacity(alloc, values.len())?;
+    for value in values {
+        copies.push(copy(value)?)?;
+    }
+    Ok(copies)
+}

@@ -1,0 +1,41 @@
+//! Why the bytes of a stream are no frames.
+
+ghost use Rattle.std.specs.Prelude.{◌≡◌};
+ghost use Rattle.linda_wire.specs.declared.fault.FrameFault.TheVariants.{Memory};
+
+use std::alloc::{AllocError, AllocFailed};
+use thiserror::Error;
+
+/// What is wrong with the frame at the front of a stream, or that memory ran out.
+#[derive(Clone, Copy, Debug, PartialEq, Eq, Error)]
+pub enum FrameFault {
+    /// No memory for the value. The frame is read again by the next call.
+    #[error("out of memory")]
+    Memory,
+    /// The length of the frame is 0.
+    #[error("an empty frame")]
+    EmptyFrame,
+    /// The frame's length, in bytes, is above 65,535.
+    #[error("a frame of {0} bytes")]
+    FrameTooLong(u32),
+    /// The frame spells nothing: the offset of the first byte at fault, counted from the frame's first
+    /// byte (the length is at 0 to 3, the kind at 4), or the frame's end where a value is cut short.
+    #[error("malformed at {0}")]
+    Malformed(u32),
+}
+
+impl From<AllocError> for FrameFault {
+    ghost from_gives = { λ _ fault. fault ≡ Memory };
+
+    fn from(_error: AllocError) -> FrameFault {
+        FrameFault::Memory
+    }
+}
+
+impl<T: Drop> From<AllocFailed<T>> for FrameFault {
+    ghost from_gives = { λ _ fault. fault ≡ Memory };
+
+    fn from(_error: AllocFailed<T>) -> FrameFault {
+        FrameFault::Memory
+    }
+}

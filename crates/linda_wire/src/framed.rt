@@ -1,0 +1,92 @@
+//! What frames are made of, and how a value is written as a frame.
+
+ghost use Rattle.std.specs.Prelude.{◌≡◌, ◌+◌, ◌≤◌, ◌++◌, length, take, drop, OnOk, OnErr};
+ghost use Rattle.linda_codec.specs.Steps.{Gives, GivesAlways, left_by};
+ghost use Rattle.linda_codec.specs.Formats.{Format, number};
+ghost use Rattle.linda_wire.specs.declared.limits.TheConstants.{LENGTH_BYTES, MAX_PAYLOAD};
+ghost use Rattle.linda_wire.specs.Frames.{frame};
+ghost use Rattle.linda_wire.specs.Stream.{IsFramed};
+
+use crate::limits::LENGTH_BYTES;
+use linda_codec::ReadFault;
+use std::alloc::{AllocError, Global};
+
+/// A value that stands in a frame: a kind byte and a body, by a lawful format.
+pub trait Framed: Drop {
+    ghost format: { Format Self };
+
+    /// Reads a value, and gives the bytes after it.
+    ///
+    /// # Errors
+    ///
+    /// The first fault from the left, told by the count of bytes left. `Memory` may be told before it.
+    fn read(alloc: Global, payload: &[u8]) -> Result<(Self, &[u8]), ReadFault>
+        ensures { Gives (λ x. (x.0, x.1.now)) result (format.read payload.now) };
+
+    /// The bytes after the value at the front.
+    ///
+    /// # Errors
+    ///
+    /// The first fault from the left, told by the count of bytes left; never `Memory`.
+    fn skip(payload: &[u8]) -> Result<&[u8], ReadFault>
+        ensures { GivesAlways (λ rest. rest.now) result (left_by (format.read payload.now)) };
+
+    /// Appends the kind byte and the body.
+    ///
+    /// # Errors
+    ///
+    /// Where memory runs out, a part of them may stand behind the old bytes.
+    fn push(&self, out: &mut Vec<u8>) -> Result<(), AllocError>
+        ensures ok { OnOk result (out.new.items ≡ out.old.items ++ format.spell self.now) }
+        ensures front { take (length out.old.items) out.new.items ≡ out.old.items }
+        ensures fits { OnOk result (format.Fits self.now) };
+
+    // The format is lawful, and what it spells is no longer than a frame may be.
+    ghost framed: { IsFramed format };
+}
+
+/// Appends two numbers; where memory runs out, a part of them may stand behind the old bytes.
+pub(crate) fn push_pair(out: &mut Vec<u8>, first: u64, second: u64) -> Result<(), AllocError>
+    ensures ok { OnOk result (out.new.items ≡ out.old.items ++ (number.spell first ++ number.spell second)) }
+    ensures front { take (length out.old.items) out.new.items ≡ out.old.items }
+{
+    out.extend_from_slice(&first.to_be_bytes())?;
+    out.extend_from_slice(&second.to_be_bytes())
+}
+
+/// Appends the value's frame; where memory runs out, `out` is left as it was.
+pub(crate) fn encode<T: Framed>(out: &mut Vec<u8>, value: &T) -> Result<(), AllocError>
+    ensures ok { OnOk result (out.new.items ≡ out.old.items ++ frame (T.format.spell value.now)) }
+    ensures err { OnErr result (out.new.items ≡ out.old.items) }
+{
+    let start = out.len();
+    match push_frame(out, value) {
+        Ok(()) => Ok(()),
+        Err(error) => {
+            out.truncate(start);
+            Err(error)
+        }
+    }
+}
+
+// Appends the value's frame; where memory runs out, a part of it may stand behind the old bytes.
+fn push_frame<T: Framed>(out: &mut Vec<u8>, value: &T) -> Result<(), AllocError>
+    ensures ok { OnOk result (out.new.items ≡ out.old.items ++ frame (T.format.spell value.now)) }
+    ensures front { take (length out.old.items) out.new.items ≡ out.old.items }
+{
+    let start = out.len();
+    out.extend_from_slice(&[0; LENGTH_BYTES])?;
+    value.push(out)?;
+    set_length(out.as_mut_slice(), start);
+    Ok(())
+}
+
+// Writes the length of the payload that ends the bytes over the bytes before it, at `start`.
+fn set_length(bytes: &mut [u8], start: usize)
+    requires room { start + LENGTH_BYTES ≤ length bytes.old }
+    requires short { length bytes.old ≤ start + LENGTH_BYTES + MAX_PAYLOAD }
+    ensures { bytes.new ≡ take start bytes.old ++ frame (drop (start + LENGTH_BYTES) bytes.old) }
+{
+    let len = (bytes.len() - (start + LENGTH_BYTES)) as u32;
+    bytes[start..start + LENGTH_BYTES].copy_from_slice(&len.to_be_bytes());
+}

@@ -1,0 +1,16 @@
+//! How frames are measured, and what a refusal tells of.
+
+/// How many bytes a frame's length takes.
+pub const LENGTH_BYTES: usize = 4;
+
+/// The most bytes of a frame's kind and body.
+pub const MAX_PAYLOAD: usize = 65535;
+
+/// The version of the protocol that is spoken here.
+pub const VERSION: u8 = 1;
+
+/// The most asks that a client may have open at a server.
+pub const MAX_ASKS: usize = 64;
+
+/// The most clients for which a server keeps a reply.
+pub const MAX_CLIENTS: usize = 1024;

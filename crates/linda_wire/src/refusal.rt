@@ -1,0 +1,90 @@
+//! Why a server refuses a message.
+
+ghost use Rattle.std.specs.Prelude.{◌≡◌};
+ghost use Rattle.linda_wire.specs.Refusal.{code_of, detail_of, refused};
+
+use crate::codes::{
+    BUSY, KNOWN_CLIENT, MALFORMED, NO_HELLO, NO_ROOM, NUMBER_GAP, NUMBERS_SPENT, OLD_NUMBER, SERVER_DOWN, STORE_FULL,
+    TOO_MANY_ASKS, TOO_MANY_CLIENTS, WRONG_VERSION,
+};
+use crate::limits::{MAX_CLIENTS, VERSION};
+use crate::reply::Reply;
+
+/// Why a message was refused, which changed nothing. Over a connection it is told by a code and a detail.
+#[derive(Clone, Copy, Debug, PartialEq, Eq)]
+pub enum Refusal {
+    /// The version of the protocol is not the one spoken here, which is told.
+    Version,
+    /// The client says that it is fresh, and a reply is kept for it: the number of the last is told.
+    Known(u64),
+    /// The connection has greeted already, or the client has another connection.
+    Busy,
+    /// The number is older than the last that is kept, which is told.
+    Old(u64),
+    /// The number is beyond the next one: the last that is kept is told.
+    Gap(u64),
+    /// The server's store has no room.
+    Full,
+    /// Ids or numbers are spent.
+    Spent,
+    /// As many clients are kept as may be, which is told.
+    TooManyClients,
+    /// The server is down.
+    Down,
+    /// The frame spells nothing: the offset in it of the first byte at fault is told, 0 where its length is at fault.
+    Malformed(u32),
+    /// The client has as many open asks as it may have: the ticket of this one is told.
+    TooManyAsks(u64),
+    /// A connection begins with a Hello.
+    NoHello,
+}
+
+impl Refusal {
+    pub fn code(self) -> u8
+        ensures { result ≡ code_of self }
+    {
+        match self {
+            Refusal::Version => WRONG_VERSION,
+            Refusal::Known(_) => KNOWN_CLIENT,
+            Refusal::Busy => BUSY,
+            Refusal::Old(_) => OLD_NUMBER,
+            Refusal::Gap(_) => NUMBER_GAP,
+            Refusal::Full => NO_ROOM,
+            Refusal::Spent => NO_ROOM,
+            Refusal::TooManyClients => TOO_MANY_CLIENTS,
+            Refusal::Down => SERVER_DOWN,
+            Refusal::Malformed(_) => MALFORMED,
+            Refusal::TooManyAsks(_) => TOO_MANY_ASKS,
+            Refusal::NoHello => NO_HELLO,
+        }
+    }
+
+    pub fn detail(self) -> u64
+        ensures { result ≡ detail_of self }
+    {
+        match self {
+            Refusal::Version => u64::from(VERSION),
+            Refusal::Known(last) => last,
+            Refusal::Busy => 0,
+            Refusal::Old(last) => last,
+            Refusal::Gap(last) => last,
+            Refusal::Full => STORE_FULL,
+            Refusal::Spent => NUMBERS_SPENT,
+            Refusal::TooManyClients => MAX_CLIENTS as u64,
+            Refusal::Down => 0,
+            Refusal::Malformed(offset) => u64::from(offset),
+            Refusal::TooManyAsks(ticket) => ticket,
+            Refusal::NoHello => 0,
+        }
+    }
+
+    /// The reply that tells it.
+    pub fn reply(self) -> Reply
+        ensures { result ≡ refused self }
+    {
+        Reply::Refused {
+            code: self.code(),
+            detail: self.detail(),
+        }
+    }
+}

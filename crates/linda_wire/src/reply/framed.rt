@@ -1,0 +1,166 @@
+//! A reply in a frame: read, passed over and written.
+
+ghost use Rattle.std.specs.Prelude.{◌≡◌, ◌∷◌, ◌++◌, length, take, OnOk};
+ghost use Rattle.linda_tuple.specs.Tuple.{IsWithin};
+ghost use Rattle.linda_codec.specs.Steps.{Gives, GivesAlways, left_by};
+ghost use Rattle.linda_codec.specs.Formats.{made_at, number};
+ghost use Rattle.linda_wire.specs.Frames as format;
+ghost use Rattle.linda_wire.specs.declared.reply.Reply.TheVariants as replies;
+
+use crate::framed::{Framed, push_pair};
+use crate::kinds::{GONE, OFFER, READ, REFUSED, STORED, TAKEN, WELCOME};
+use crate::reply::Reply;
+use linda_codec::{ReadFault, put_tuple, read_tuple, read_u8, read_u64, skip_tuple};
+use linda_tuple::Tuple;
+use std::alloc::{AllocError, Global};
+
+impl Framed for Reply {
+    ghost use Rattle.linda_wire.specs.FrameLaws.{reply_is, reply_size};
+    ghost use Rattle.linda_wire.specs.Frames.{reply};
+
+    ghost format = { reply };
+
+    ghost framed = { record { lawful = reply_is; sized = reply_size } };
+
+    fn read(alloc: Global, payload: &[u8]) -> Result<(Reply, &[u8]), ReadFault> {
+        match payload {
+            [] => Err(ReadFault::Short),
+            [WELCOME, body @ ..] => welcome_from(body),
+            [STORED, body @ ..] => stored_from(body),
+            [OFFER, body @ ..] => {
+                let (ticket, id, tuple, rest) = read_entry(alloc, body)?;
+                Ok((Reply::Offer { ticket, id, tuple }, rest))
+            }
+            [READ, body @ ..] => {
+                let (ticket, id, tuple, rest) = read_entry(alloc, body)?;
+                Ok((Reply::Read { ticket, id, tuple }, rest))
+            }
+            [TAKEN, body @ ..] => {
+                let (n, id, tuple, rest) = read_entry(alloc, body)?;
+                Ok((Reply::Taken { n, id, tuple }, rest))
+            }
+            [GONE, body @ ..] => gone_from(body),
+            [REFUSED, body @ ..] => refused_from(body),
+            [_, ..] => Err(ReadFault::BadKind(payload.len())),
+        }
+    }
+
+    fn skip(payload: &[u8]) -> Result<&[u8], ReadFault> {
+        match payload {
+            [] => Err(ReadFault::Short),
+            [WELCOME, body @ ..] => {
+                let (_welcome, rest) = welcome_from(body)?;
+                Ok(rest)
+            }
+            [STORED, body @ ..] => {
+                let (_stored, rest) = stored_from(body)?;
+                Ok(rest)
+            }
+            [OFFER, body @ ..] => skip_entry(body),
+            [READ, body @ ..] => skip_entry(body),
+            [TAKEN, body @ ..] => skip_entry(body),
+            [GONE, body @ ..] => {
+                let (_gone, rest) = gone_from(body)?;
+                Ok(rest)
+            }
+            [REFUSED, body @ ..] => {
+                let (_refused, rest) = refused_from(body)?;
+                Ok(rest)
+            }
+            [_, ..] => Err(ReadFault::BadKind(payload.len())),
+        }
+    }
+
+    fn push(&self, out: &mut Vec<u8>) -> Result<(), AllocError> {
+        match self {
+            Reply::Welcome { last } => {
+                out.push(WELCOME)?;
+                out.extend_from_slice(&last.to_be_bytes())
+            }
+            Reply::Stored { n, id } => {
+                out.push(STORED)?;
+                push_pair(out, *n, *id)
+            }
+            Reply::Offer { ticket, id, tuple } => push_entry(out, OFFER, *ticket, *id, tuple),
+            Reply::Read { ticket, id, tuple } => push_entry(out, READ, *ticket, *id, tuple),
+            Reply::Taken { n, id, tuple } => push_entry(out, TAKEN, *n, *id, tuple),
+            Reply::Gone { n } => {
+                out.push(GONE)?;
+                out.extend_from_slice(&n.to_be_bytes())
+            }
+            Reply::Refused { code, detail } => {
+                out.push(REFUSED)?;
+                out.push(*code)?;
+                out.extend_from_slice(&detail.to_be_bytes())
+            }
+        }
+    }
+}
+
+fn welcome_from(body: &[u8]) -> Result<(Reply, &[u8]), ReadFault>
+    ensures { GivesAlways (λ x. (x.0, x.1.now)) result (made_at (λ last. replies.Welcome last) number body.now) }
+{
+    let (last, rest) = read_u64(body)?;
+    Ok((Reply::Welcome { last }, rest))
+}
+
+fn stored_from(body: &[u8]) -> Result<(Reply, &[u8]), ReadFault>
+    ensures { GivesAlways (λ x. (x.0, x.1.now)) result (made_at (λ p. replies.Stored p.0 p.1) format.stored body.now) }
+{
+    let (n, rest) = read_u64(body)?;
+    let (id, rest) = read_u64(rest)?;
+    Ok((Reply::Stored { n, id }, rest))
+}
+
+fn gone_from(body: &[u8]) -> Result<(Reply, &[u8]), ReadFault>
+    ensures { GivesAlways (λ x. (x.0, x.1.now)) result (made_at (λ n. replies.Gone n) number body.now) }
+{
+    let (n, rest) = read_u64(body)?;
+    Ok((Reply::Gone { n }, rest))
+}
+
+fn refused_from(body: &[u8]) -> Result<(Reply, &[u8]), ReadFault>
+    ensures { GivesAlways (λ x. (x.0, x.1.now)) result (made_at (λ p. replies.Refused p.0 p.1) format.refusal body.now) }
+{
+    let (code, rest) = read_u8(body)?;
+    let (detail, rest) = read_u64(rest)?;
+    Ok((Reply::Refused { code, detail }, rest))
+}
+
+// Two numbers and a tuple, and the bytes after them.
+fn read_entry(alloc: Global, body: &[u8]) -> Result<(u64, u64, Tuple, &[u8]), ReadFault>
+    ensures { Gives (λ x. ((x.0, (x.1, x.2)), x.3.now)) result (format.entry.read body.now) }
+{
+    let (number, rest) = read_u64(body)?;
+    let (id, rest) = read_u64(rest)?;
+    let (tuple, rest) = read_tuple(alloc, rest)?;
+    Ok((number, id, tuple, rest))
+}
+
+fn skip_entry(body: &[u8]) -> Result<&[u8], ReadFault>
+    ensures offer { GivesAlways (λ rest. rest.now) result (left_by (made_at (λ p. replies.Offer p.0 p.1.0 p.1.1) format.entry body.now)) }
+    ensures read { GivesAlways (λ rest. rest.now) result (left_by (made_at (λ p. replies.Read p.0 p.1.0 p.1.1) format.entry body.now)) }
+    ensures taken { GivesAlways (λ rest. rest.now) result (left_by (made_at (λ p. replies.Taken p.0 p.1.0 p.1.1) format.entry body.now)) }
+{
+    let (_number, rest) = read_u64(body)?;
+    let (_id, rest) = read_u64(rest)?;
+    skip_tuple(rest)
+}
+
+// Appends a kind byte, two numbers and a tuple.
+fn push_entry(
+    out: &mut Vec<u8>,
+    kind: u8,
+    number: u64,
+    id: u64,
+    tuple: &Tuple,
+) -> Result<(), AllocError>
+    ensures ok { OnOk result (out.new.items ≡ out.old.items ++ (kind ∷ format.entry.spell (number, (id, tuple.now)))) }
+    ensures front { take (length out.old.items) out.new.items ≡ out.old.items }
+    ensures within { OnOk result (IsWithin tuple.now) }
+{
+    out.push(kind)?;
+    out.extend_from_slice(&number.to_be_bytes())?;
+    out.extend_from_slice(&id.to_be_bytes())?;
+    put_tuple(out, tuple)
+}
