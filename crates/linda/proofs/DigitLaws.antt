@@ -13,6 +13,7 @@ digits_of_ok s (Err fault) e ok = absurd cc
 
 -- A text of even length decodes exactly where it has digits alone.
 pub digits_decode : (s : List ℕ) → length s % 2 ≡ 0 → AllPass is_hex_digit s ↔ IsOk (decode_of s)
-digits_decode s even =
-    ((λ digits. let found = decode_of-digits s even digits in subst (λ (r : Result (List ℕ) FromHexError). IsOk r) (sym found.1) refl),
-    (λ ok. digits_of_ok s (decode_of s) refl ok))
+digits_decode s even = (
+  (λ digits. let found = decode_of-digits s even digits in subst (λ (r : Result (List ℕ) FromHexError). IsOk r) (sym found.1) refl),
+  (λ ok. digits_of_ok s (decode_of s) refl ok),
+)

@@ -16,9 +16,9 @@ ghost use Rattle.linda_store.specs.Answer as spec;
 ghost use Rattle.linda_store.specs.Answer.{IsStep, class_in, reply_of_kept, without_deed};
 
 use crate::deeds::Deed;
+use crate::kept;
 use crate::softs::Soft;
 use crate::states::{NUMBER_LIMIT, State};
-use crate::kept;
 use linda_bag::Bag;
 use linda_book::Class;
 use linda_tuple::Tuple;
