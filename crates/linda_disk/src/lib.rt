@@ -9,8 +9,11 @@
 mod call;
 mod disk;
 mod fault;
+mod history;
 mod overlay;
+mod redo;
 mod torn;
+mod trouble;
 
 pub use disk::Disk;
 pub use fault::DiskFault;

@@ -1,0 +1,136 @@
+//! The content of a disk in memory, with a record of what it held at first and of each call since.
+
+use crate::call::{Bytes, DeviceCall};
+use crate::overlay::overlay;
+use crate::redo::{fill_all, redone, settled_len};
+use crate::torn::Torn;
+use std::alloc::{AllocError, Global};
+use std::marker::Model;
+
+/// What a disk in memory held at first, the calls since, and what a read gives. Contracts see the first two.
+#[derive(Drop)]
+pub(crate) struct History {
+    alloc: Global,
+    first: Vec<u8>,
+    calls: Vec<DeviceCall>,
+    bytes: Vec<u8>,
+}
+
+impl Model for History {
+    ghost use Rattle.std.specs.Prelude.{◌≡◌, reverse};
+    ghost use Rattle.linda_disk.specs.History as history;
+
+    ghost Value = { history.History };
+
+    ghost view = { λ h. record { first = h.first.items; calls = reverse h.calls.items } };
+
+    ghost invariant = { λ h. h.bytes.items ≡ history.content_from h.first.items (reverse h.calls.items) };
+}
+
+impl History {
+    ghost use Rattle.std.specs.Prelude.{◌≡◌, [], IfOk, OnOk, OnErr};
+    ghost use Rattle.linda_disk.specs.declared.call.DeviceCall.TheVariants.{Write, Cut, Sync};
+    ghost use Rattle.linda_disk.specs.History as history;
+
+    /// These bytes, and no call since.
+    pub(crate) fn new(alloc: Global, bytes: Vec<u8>) -> Result<History, AllocError>
+        ensures { IfOk result (λ h. h ≡ record { first = bytes.items; calls = [] }) }
+    {
+        let first = Vec::from_slice(alloc, &bytes)?;
+        Ok(History {
+            alloc,
+            first,
+            calls: Vec::new(alloc),
+            bytes,
+        })
+    }
+
+    /// What a read gives.
+    pub(crate) fn bytes(&self) -> &[u8]
+        ensures { result.now ≡ history.content self.now }
+    {
+        &self.bytes
+    }
+
+    /// Writes the bytes at the offset. It costs their own length, and no copy of the file.
+    ///
+    /// # Errors
+    ///
+    /// `AllocError` where memory runs out, and then all is as before.
+    pub(crate) fn write(&mut self, at: usize, bytes: &[u8]) -> Result<(), AllocError>
+        ensures ok { OnOk result (self.new ≡ history.after (Write at bytes.now) self.old) }
+        ensures err { OnErr result (self.new ≡ self.old) }
+    {
+        let copy = Bytes::new(Vec::from_slice(self.alloc, bytes)?);
+        self.calls.reserve(1)?;
+        overlay(&mut self.bytes, at, bytes)?;
+        self.calls.push(DeviceCall::Write(at, copy))?;
+        Ok(())
+    }
+
+    /// Cuts the file to this length.
+    ///
+    /// # Errors
+    ///
+    /// `AllocError` where memory runs out, and then all is as before.
+    pub(crate) fn cut(&mut self, len: usize) -> Result<(), AllocError>
+        ensures ok { OnOk result (self.new ≡ history.after (Cut len) self.old) }
+        ensures err { OnErr result (self.new ≡ self.old) }
+    {
+        self.calls.reserve(1)?;
+        self.bytes.truncate(len);
+        self.calls.push(DeviceCall::Cut(len))?;
+        Ok(())
+    }
+
+    /// Notes a sync. It costs nothing.
+    ///
+    /// # Errors
+    ///
+    /// `AllocError` where memory runs out, and then all is as before.
+    pub(crate) fn sync(&mut self) -> Result<(), AllocError>
+        ensures ok { OnOk result (self.new ≡ history.after Sync self.old) }
+        ensures err { OnErr result (self.new ≡ self.old) }
+    {
+        self.calls.push(DeviceCall::Sync)?;
+        Ok(())
+    }
+}
+
+impl History {
+    ghost use Rattle.std.specs.Prelude.{◌≡◌, IfOk};
+    ghost use Rattle.linda_disk.specs.History as history;
+
+    /// What a crash leaves that comes out so.
+    ///
+    /// # Errors
+    ///
+    /// `AllocError` where memory runs out.
+    pub(crate) fn left(&self, torn: Torn) -> Result<Vec<u8>, AllocError>
+        ensures { IfOk result (λ image. image.items ≡ history.left torn self.now) }
+    {
+        match torn {
+            Torn::Kept => Vec::from_slice(self.alloc, &self.bytes),
+            Torn::Lost => self.synced(),
+            Torn::Filled(byte) => self.filled(byte),
+        }
+    }
+
+    /// The bytes at the last sync.
+    fn synced(&self) -> Result<Vec<u8>, AllocError>
+        ensures { IfOk result (λ image. image.items ≡ history.synced self.now) }
+    {
+        let settled = settled_len(&self.calls);
+        redone(self.alloc, &self.first, &self.calls[..settled])
+    }
+
+    /// The bytes at the last sync, with the byte in place of each that was written since.
+    fn filled(&self, byte: u8) -> Result<Vec<u8>, AllocError>
+        ensures { IfOk result (λ image. image.items ≡ history.filled byte self.now) }
+    {
+        let settled = settled_len(&self.calls);
+        let mut image = redone(self.alloc, &self.first, &self.calls[..settled])?;
+        fill_all(self.alloc, &mut image, &self.calls[settled..], byte)?;
+        Ok(image)
+    }
+}
