@@ -4,9 +4,11 @@ use Rattle.std.proofs.lemmas.Bool.Decides.{leb_tells}
 use Rattle.std.proofs.lemmas.List.{take_at, take_all, drop_at, length-replicate}
 use Rattle.linda_disk.specs.declared.call.DeviceCall.{DeviceCall}
 use Rattle.linda_disk.specs.declared.call.DeviceCall.TheVariants.{Write, Cut, Sync}
+use Rattle.linda_disk.specs.declared.torn.Torn.{Torn}
+use Rattle.linda_disk.specs.declared.torn.Torn.TheVariants.{Kept, Lost, Filled}
 use Rattle.linda_disk.specs.View.{View, IsTimed}
 use Rattle.linda_disk.specs.Torn.{overlay, TornWrite, TornCut}
-use Rattle.linda_disk.specs.History.{History, content_from, synced_from, filled_from, Leaves, LeftSince, fits_from, fits, view_of}
+use Rattle.linda_disk.specs.History.{History, content_from, synced_from, filled_from, Leaves, LeftSince, fits_from, fits, left, view_of}
 
 -- A write that is not done is a torn one.
 pub not_written : (at n : ℕ) (file : List ℕ) → TornWrite at n file file
@@ -91,6 +93,12 @@ left_filled b first (Write at bytes ∷ calls) fit =
     (filled_from b first calls, left_filled b first calls parts.1, subst (λ n. TornWrite at n (filled_from b first calls) (overlay at copies (filled_from b first calls))) (length-replicate (length bytes) b) torn)
 left_filled b first (Cut n ∷ calls) fit = (filled_from b first calls, left_filled b first calls fit, not_cut n (filled_from b first calls))
 left_filled b first (Sync ∷ calls) fit = refl
+
+-- Each way to come out of a crash is an outcome of one.
+pub left_torn : (torn : Torn) (h : History) → fits h ≡ true → Leaves h.first h.calls (left torn h)
+left_torn Kept h fit = left_kept h.first h.calls fit
+left_torn Lost h fit = left_lost h.first h.calls
+left_torn (Filled b) h fit = left_filled b h.first h.calls fit
 
 -- This moment counts as one of those since an earlier one, and since it there is no other.
 counts_now : (first : List ℕ) (calls : List DeviceCall) (t : ℕ) (image : List ℕ) → Leaves first calls image → LeftSince first calls t image

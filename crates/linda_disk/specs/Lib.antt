@@ -5,3 +5,4 @@ pub mod Run
 pub mod History
 pub mod HistoryLaws
 pub mod Trouble
+pub mod MemDisk

@@ -32,6 +32,18 @@ impl History {
     ghost use Rattle.linda_disk.specs.declared.call.DeviceCall.TheVariants.{Write, Cut, Sync};
     ghost use Rattle.linda_disk.specs.History as history;
 
+    /// No bytes, and no call since.
+    pub(crate) fn empty(alloc: Global) -> History
+        ensures { result ≡ record { first = []; calls = [] } }
+    {
+        History {
+            alloc,
+            first: Vec::new(alloc),
+            calls: Vec::new(alloc),
+            bytes: Vec::new(alloc),
+        }
+    }
+
     /// These bytes, and no call since.
     pub(crate) fn new(alloc: Global, bytes: Vec<u8>) -> Result<History, AllocError>
         ensures { IfOk result (λ h. h ≡ record { first = bytes.items; calls = [] }) }
@@ -98,22 +110,23 @@ impl History {
 }
 
 impl History {
-    ghost use Rattle.std.specs.Prelude.{◌≡◌, IfOk};
+    ghost use Rattle.std.specs.Prelude.{◌≡◌, [], IfOk};
     ghost use Rattle.linda_disk.specs.History as history;
 
-    /// What a crash leaves that comes out so.
+    /// What this crash leaves, and no call since.
     ///
     /// # Errors
     ///
     /// `AllocError` where memory runs out.
-    pub(crate) fn left(&self, torn: Torn) -> Result<Vec<u8>, AllocError>
-        ensures { IfOk result (λ image. image.items ≡ history.left torn self.now) }
+    pub(crate) fn crashed(&self, torn: Torn) -> Result<History, AllocError>
+        ensures { IfOk result (λ h. h ≡ record { first = history.left torn self.now; calls = [] }) }
     {
-        match torn {
-            Torn::Kept => Vec::from_slice(self.alloc, &self.bytes),
-            Torn::Lost => self.synced(),
-            Torn::Filled(byte) => self.filled(byte),
-        }
+        let image = match torn {
+            Torn::Kept => Vec::from_slice(self.alloc, &self.bytes)?,
+            Torn::Lost => self.synced()?,
+            Torn::Filled(byte) => self.filled(byte)?,
+        };
+        History::new(self.alloc, image)
     }
 
     /// The bytes at the last sync.

@@ -10,11 +10,14 @@ mod call;
 mod disk;
 mod fault;
 mod history;
+mod mem_disk;
 mod overlay;
 mod redo;
 mod torn;
 mod trouble;
+mod turn;
 
 pub use disk::Disk;
 pub use fault::DiskFault;
+pub use mem_disk::MemDisk;
 pub use torn::Torn;

@@ -1,0 +1,31 @@
+//! What a call tells at its turn, and how it counts.
+
+ghost use Rattle.std.specs.Prelude.{◌≡◌, IfOk, IfErr};
+ghost use Rattle.linda_disk.specs.MemDisk.{answer_at, failures_at};
+
+use crate::fault::DiskFault;
+use crate::trouble::Turn;
+
+/// What a call tells at this turn.
+pub(crate) fn told(turn: Turn) -> Result<(), DiskFault>
+    ensures { result ≡ answer_at turn }
+{
+    match turn {
+        Turn::Works => Ok(()),
+        Turn::Stops => Err(DiskFault::Device),
+        Turn::Fails => Err(DiskFault::Device),
+    }
+}
+
+/// The count of failures after a call at this turn. A disk that has failed 2^64 - 1 times fails no more: it answers
+/// `Memory` in place of it, and the count never wraps.
+pub(crate) fn counted(failures: u64, turn: Turn) -> Result<u64, DiskFault>
+    ensures ok { IfOk result (λ n. n ≡ failures_at turn failures) }
+    ensures err { IfErr result (λ fault. fault ≡ DiskFault.Memory) }
+{
+    match turn {
+        Turn::Works => Ok(failures),
+        Turn::Stops => failures.checked_add(1).ok_or(DiskFault::Memory),
+        Turn::Fails => failures.checked_add(1).ok_or(DiskFault::Memory),
+    }
+}
