@@ -1,8 +1,8 @@
 -- What a sync of a disk in memory does to its view.
-use Rattle.std.proofs.Common.{◌≡◌, inl, inr, true, List, ℕ, Result, Ok, IsOk, refl, sym, subst, arith}
-use Rattle.std.proofs.lemmas.Bool.{false≢true}
+use Rattle.std.proofs.Common.{◌≡◌, inl, inr, true, List, ℕ, Result, Ok, Err, IsErrOf, refl, sym, subst, rules, arith}
 use Rattle.linda_disk.specs.declared.call.DeviceCall.TheVariants.{Sync}
 use Rattle.linda_disk.specs.declared.fault.DiskFault.{DiskFault}
+use Rattle.linda_disk.specs.declared.fault.DiskFault.TheVariants.{Device, Memory}
 use Rattle.linda_disk.specs.declared.trouble.Turn.{Turn}
 use Rattle.linda_disk.specs.declared.trouble.Turn.TheVariants.{Works, Stops, Fails}
 use Rattle.linda_disk.specs.declared.trouble.Trouble.{Trouble}
@@ -25,14 +25,29 @@ synced h fit = record {
   };
 }
 
--- A call at this turn.
-synced_at : (turn : Turn) (h then : History) → fits h ≡ true → Ok tt ≡ answer_at turn → then ≡ history_at turn Sync h → Syncs {T = Unit {0}} (Ok tt) (view_of h) (view_of then)
-synced_at Works h then fit told is = subst (λ (new : History). Syncs {T = Unit {0}} (Ok tt) (view_of h) (view_of new)) (sym is) (synced h fit)
-synced_at Stops h then fit told is = absurd (false≢true (subst IsOk told refl))
-synced_at Fails h then fit told is = absurd (false≢true (subst IsOk told refl))
+-- A sync that tells a failure is not.
+not_synced : (h : History) (fault : DiskFault) → Syncs {T = Unit {0}} (Err fault) (view_of h) (view_of h)
+not_synced h fault = record {
+  seen = tt;
+  durable = tt;
+  crash = λ image left. left;
+  time = record { later = omega arith; nothing_else = λ t image le left. inl left; nothing_lost = λ t image le left. left };
+}
 
--- A sync that tells no failure is on record.
-pub takes_sync : (turn : Turn × Trouble) (old new : MemDisk) → Takes turn (history_at turn.0 Sync old.history) (Ok tt) old new → Syncs {T = Unit {0}} (Ok tt) (view old) (view new)
-takes_sync turn old new takes =
-    let told = takes.told (λ err. false≢true (subst IsOk err refl)) in
-    synced_at turn.0 old.history new.history old.begun told (takes.done (λ err. false≢true (subst IsOk err refl)))
+synced_at : (turn : Turn) (h : History) → fits h ≡ true → Syncs (answer_at turn) (view_of h) (view_of (history_at turn Sync h))
+synced_at Works h fit = synced h fit
+synced_at Stops h fit = not_synced h Device
+synced_at Fails h fit = not_synced h Device
+
+told_at : (turn : Turn × Trouble) (result : Result (Unit {0}) DiskFault) (old new : MemDisk) → Takes turn (history_at turn.0 Sync old.history) result old new
+    → (IsErrOf result Memory → ⊥) → Syncs result (view old) (view new)
+told_at turn result old new takes other =
+    let done = subst (λ (h : History). Syncs (answer_at turn.0) (view old) (view_of h)) (sym (takes.done other)) (synced_at turn.0 old.history old.begun) in
+    subst (λ (r : Result (Unit {0}) DiskFault). Syncs r (view old) (view new)) (sym (takes.told other)) done
+
+-- A sync at any turn, and where memory runs out.
+pub takes_sync : (turn : Turn × Trouble) (result : Result (Unit {0}) DiskFault) (old new : MemDisk) → Takes turn (history_at turn.0 Sync old.history) result old new
+    → Syncs result (view old) (view new)
+takes_sync turn (Ok x) old new takes = told_at turn (Ok x) old new takes (λ err. search (rules, err))
+takes_sync turn (Err Device) old new takes = told_at turn (Err Device) old new takes (λ err. search (rules, err))
+takes_sync turn (Err Memory) old new takes = subst (λ (d : MemDisk). Syncs {T = Unit {0}} (Err Memory) (view old) (view d)) (sym (takes.memory refl)) (not_synced old.history Memory)

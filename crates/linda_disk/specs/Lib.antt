@@ -6,3 +6,4 @@ pub mod History
 pub mod HistoryLaws
 pub mod Trouble
 pub mod MemDisk
+pub mod FileDisk

@@ -9,6 +9,7 @@
 mod call;
 mod disk;
 mod fault;
+mod file_disk;
 mod history;
 mod mem_disk;
 mod overlay;
@@ -19,5 +20,6 @@ mod turn;
 
 pub use disk::Disk;
 pub use fault::DiskFault;
+pub use file_disk::FileDisk;
 pub use mem_disk::MemDisk;
 pub use torn::Torn;

@@ -214,18 +214,15 @@ impl Disk for MemDisk {
     }
 
     fn write_at(&mut self, at: usize, bytes: &[u8]) -> Result<(), DiskFault> {
-        self.write(at, bytes)?;
-        Ok(())
+        self.write(at, bytes)
     }
 
     fn cut(&mut self, len: usize) -> Result<(), DiskFault> {
-        self.cut_to(len)?;
-        Ok(())
+        self.cut_to(len)
     }
 
     fn sync(&mut self) -> Result<(), DiskFault> {
-        self.sync_all()?;
-        Ok(())
+        self.sync_all()
     }
 
     ghost timed = { λ d _. laws.timed d.history d.begun };

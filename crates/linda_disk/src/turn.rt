@@ -1,6 +1,6 @@
 //! What a call tells at its turn, and how it counts.
 
-ghost use Rattle.std.specs.Prelude.{◌≡◌, IfOk, IfErr};
+ghost use Rattle.std.specs.Prelude.{◌≡◌, ◌+◌, IfOk, IfErr};
 ghost use Rattle.linda_disk.specs.MemDisk.{answer_at, failures_at};
 
 use crate::fault::DiskFault;
@@ -17,15 +17,23 @@ pub(crate) fn told(turn: Turn) -> Result<(), DiskFault>
     }
 }
 
-/// The count of failures after a call at this turn. A disk that has failed 2^64 - 1 times fails no more: it answers
-/// `Memory` in place of it, and the count never wraps.
+/// The count of failures after one more. A disk that has failed 2^64 - 1 times fails no more: it answers `Memory` in
+/// place of it, and the count never wraps.
+pub(crate) fn one_more(failures: u64) -> Result<u64, DiskFault>
+    ensures ok { IfOk result (λ n. n ≡ failures + 1) }
+    ensures err { IfErr result (λ fault. fault ≡ DiskFault.Memory) }
+{
+    failures.checked_add(1).ok_or(DiskFault::Memory)
+}
+
+/// The count of failures after a call at this turn.
 pub(crate) fn counted(failures: u64, turn: Turn) -> Result<u64, DiskFault>
     ensures ok { IfOk result (λ n. n ≡ failures_at turn failures) }
     ensures err { IfErr result (λ fault. fault ≡ DiskFault.Memory) }
 {
     match turn {
         Turn::Works => Ok(failures),
-        Turn::Stops => failures.checked_add(1).ok_or(DiskFault::Memory),
-        Turn::Fails => failures.checked_add(1).ok_or(DiskFault::Memory),
+        Turn::Stops => one_more(failures),
+        Turn::Fails => one_more(failures),
     }
 }
