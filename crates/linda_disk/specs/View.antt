@@ -38,5 +38,5 @@ Follows step old new =
 pub record Elapses (old new : View) : Type 0 where
   pub later : old.moment ≤ new.moment
   pub nothing_else : (t : ℕ) (image : List ℕ) → t ≤ old.moment → new.left_since t image
-    → old.left_since t image ⊎ new.may_leave image
+      → old.left_since t image ⊎ new.may_leave image
   pub nothing_lost : (t : ℕ) (image : List ℕ) → t ≤ old.moment → old.left_since t image → new.left_since t image

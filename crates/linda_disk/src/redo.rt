@@ -50,12 +50,7 @@ pub(crate) fn fill_all(
 }
 
 /// Does the call with this byte in place of each that it wrote, and no cut.
-fn fill(
-    alloc: Global,
-    file: &mut Vec<u8>,
-    call: &DeviceCall,
-    byte: u8,
-) -> Result<(), AllocError>
+fn fill(alloc: Global, file: &mut Vec<u8>, call: &DeviceCall, byte: u8) -> Result<(), AllocError>
     ensures { OnOk result (file.new.items ≡ history.fill byte call.now file.old.items) }
 {
     if let DeviceCall::Write(at, bytes) = call {
