@@ -1,2 +1,2 @@
-pub mod Runs
-mod Calls
+mod MemDiskLaws
+pub mod RunLaws

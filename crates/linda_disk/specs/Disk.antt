@@ -3,7 +3,7 @@ use Rattle.std.specs.Prelude.{◌≡◌, ℕ, ◌+◌, List, length, take, Resul
 use Rattle.linda_disk.specs.declared.fault.DiskFault.{DiskFault}
 use Rattle.linda_disk.specs.declared.fault.DiskFault.TheVariants.{Device, Memory}
 use Rattle.linda_disk.specs.View.{View, IsDurable, LeavesNoMore, Follows, Elapses}
-use Rattle.linda_disk.specs.Torn.{overlay, TornWrite, TornCut}
+use Rattle.linda_disk.specs.Image.{overlay, TornWrite, TornCut}
 
 -- A length or a read: the disk stays as it is.
 pub record Keeps (old new : View) : Type 0 where

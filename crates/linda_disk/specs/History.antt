@@ -5,7 +5,7 @@ use Rattle.linda_disk.specs.declared.call.DeviceCall.TheVariants.{Write, Cut, Sy
 use Rattle.linda_disk.specs.declared.torn.Torn.{Torn}
 use Rattle.linda_disk.specs.declared.torn.Torn.TheVariants.{Kept, Lost, Filled}
 use Rattle.linda_disk.specs.View.{View}
-use Rattle.linda_disk.specs.Torn.{overlay, TornWrite, TornCut}
+use Rattle.linda_disk.specs.Image.{overlay, TornWrite, TornCut}
 
 -- The bytes at first, all of them synced, and the calls that were done since.
 pub record History : Type 0 where

@@ -7,7 +7,7 @@ use Rattle.linda_disk.specs.declared.call.DeviceCall.TheVariants.{Write, Cut, Sy
 use Rattle.linda_disk.specs.declared.torn.Torn.{Torn}
 use Rattle.linda_disk.specs.declared.torn.Torn.TheVariants.{Kept, Lost, Filled}
 use Rattle.linda_disk.specs.View.{View, IsTimed}
-use Rattle.linda_disk.specs.Torn.{overlay, TornWrite, TornCut}
+use Rattle.linda_disk.specs.Image.{overlay, TornWrite, TornCut}
 use Rattle.linda_disk.specs.History.{History, content_from, synced_from, filled_from, Leaves, LeftSince, fits_from, fits, left, view_of}
 
 -- A write that is not done is a torn one.

@@ -1,5 +1,5 @@
 pub mod View
-pub mod Torn
+pub mod Image
 pub mod Disk
 pub mod Run
 pub mod History

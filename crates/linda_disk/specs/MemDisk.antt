@@ -48,7 +48,7 @@ failures_at Stops n = n + 1
 failures_at Fails n = n + 1
 
 -- A call at this turn, which leaves this history: where memory runs out, all is as before.
-pub record Takes (turn : Turn × Trouble) (then : History) (result : Result (Unit {0}) DiskFault) (old new : MemDisk) : Type 0 where
+pub record GoesBy (turn : Turn × Trouble) (then : History) (result : Result (Unit {0}) DiskFault) (old new : MemDisk) : Type 0 where
   pub memory : IsErrOf result Memory → new ≡ old
   pub told : (IsErrOf result Memory → ⊥) → result ≡ answer_at turn.0
   pub done : (IsErrOf result Memory → ⊥) → history new ≡ then

@@ -1,8 +1,7 @@
 //! The content of a disk in memory, with a record of what it held at first and of each call since.
 
-use crate::call::{Bytes, DeviceCall};
-use crate::overlay::overlay;
-use crate::redo::{fill_all, redone, settled_len};
+use crate::call::DeviceCall;
+use crate::redo::{fill_all, redo, redone, settled_len};
 use crate::torn::Torn;
 use std::alloc::{AllocError, Global};
 use std::marker::Model;
@@ -10,7 +9,6 @@ use std::marker::Model;
 /// What a disk in memory held at first, the calls since, and what a read gives. Contracts see the first two.
 #[derive(Drop)]
 pub(crate) struct History {
-    alloc: Global,
     first: Vec<u8>,
     calls: Vec<DeviceCall>,
     bytes: Vec<u8>,
@@ -29,7 +27,6 @@ impl Model for History {
 
 impl History {
     ghost use Rattle.std.specs.Prelude.{◌≡◌, [], IfOk, OnOk, OnErr};
-    ghost use Rattle.linda_disk.specs.declared.call.DeviceCall.TheVariants.{Write, Cut, Sync};
     ghost use Rattle.linda_disk.specs.History as history;
 
     /// No bytes, and no call since.
@@ -37,7 +34,6 @@ impl History {
         ensures { result ≡ record { first = []; calls = [] } }
     {
         History {
-            alloc,
             first: Vec::new(alloc),
             calls: Vec::new(alloc),
             bytes: Vec::new(alloc),
@@ -50,7 +46,6 @@ impl History {
     {
         let first = Vec::from_slice(alloc, &bytes)?;
         Ok(History {
-            alloc,
             first,
             calls: Vec::new(alloc),
             bytes,
@@ -64,47 +59,18 @@ impl History {
         &self.bytes
     }
 
-    /// Writes the bytes at the offset. It costs their own length, and no copy of the file.
+    /// Makes the call, and puts it on record. A write costs its own length, and no copy of the file.
     ///
     /// # Errors
     ///
     /// `AllocError` where memory runs out, and then all is as before.
-    pub(crate) fn write(&mut self, at: usize, bytes: &[u8]) -> Result<(), AllocError>
-        ensures ok { OnOk result (self.new ≡ history.after (Write at bytes.now) self.old) }
-        ensures err { OnErr result (self.new ≡ self.old) }
-    {
-        let copy = Bytes::new(Vec::from_slice(self.alloc, bytes)?);
-        self.calls.reserve(1)?;
-        overlay(&mut self.bytes, at, bytes)?;
-        self.calls.push(DeviceCall::Write(at, copy))?;
-        Ok(())
-    }
-
-    /// Cuts the file to this length.
-    ///
-    /// # Errors
-    ///
-    /// `AllocError` where memory runs out, and then all is as before.
-    pub(crate) fn cut(&mut self, len: usize) -> Result<(), AllocError>
-        ensures ok { OnOk result (self.new ≡ history.after (Cut len) self.old) }
+    pub(crate) fn make(&mut self, call: DeviceCall) -> Result<(), AllocError>
+        ensures ok { OnOk result (self.new ≡ history.after call self.old) }
         ensures err { OnErr result (self.new ≡ self.old) }
     {
         self.calls.reserve(1)?;
-        self.bytes.truncate(len);
-        self.calls.push(DeviceCall::Cut(len))?;
-        Ok(())
-    }
-
-    /// Notes a sync. It costs nothing.
-    ///
-    /// # Errors
-    ///
-    /// `AllocError` where memory runs out, and then all is as before.
-    pub(crate) fn sync(&mut self) -> Result<(), AllocError>
-        ensures ok { OnOk result (self.new ≡ history.after Sync self.old) }
-        ensures err { OnErr result (self.new ≡ self.old) }
-    {
-        self.calls.push(DeviceCall::Sync)?;
+        redo(&mut self.bytes, &call)?;
+        self.calls.push(call)?;
         Ok(())
     }
 }
@@ -118,32 +84,32 @@ impl History {
     /// # Errors
     ///
     /// `AllocError` where memory runs out.
-    pub(crate) fn crashed(&self, torn: Torn) -> Result<History, AllocError>
+    pub(crate) fn crashed(&self, alloc: Global, torn: Torn) -> Result<History, AllocError>
         ensures { IfOk result (λ h. h ≡ record { first = history.left torn self.now; calls = [] }) }
     {
         let image = match torn {
-            Torn::Kept => Vec::from_slice(self.alloc, &self.bytes)?,
-            Torn::Lost => self.synced()?,
-            Torn::Filled(byte) => self.filled(byte)?,
+            Torn::Kept => Vec::from_slice(alloc, &self.bytes)?,
+            Torn::Lost => self.synced(alloc)?,
+            Torn::Filled(byte) => self.filled(alloc, byte)?,
         };
-        History::new(self.alloc, image)
+        History::new(alloc, image)
     }
 
     /// The bytes at the last sync.
-    fn synced(&self) -> Result<Vec<u8>, AllocError>
+    fn synced(&self, alloc: Global) -> Result<Vec<u8>, AllocError>
         ensures { IfOk result (λ image. image.items ≡ history.synced self.now) }
     {
         let settled = settled_len(&self.calls);
-        redone(self.alloc, &self.first, &self.calls[..settled])
+        redone(alloc, &self.first, &self.calls[..settled])
     }
 
     /// The bytes at the last sync, with the byte in place of each that was written since.
-    fn filled(&self, byte: u8) -> Result<Vec<u8>, AllocError>
+    fn filled(&self, alloc: Global, byte: u8) -> Result<Vec<u8>, AllocError>
         ensures { IfOk result (λ image. image.items ≡ history.filled byte self.now) }
     {
         let settled = settled_len(&self.calls);
-        let mut image = redone(self.alloc, &self.first, &self.calls[..settled])?;
-        fill_all(self.alloc, &mut image, &self.calls[settled..], byte)?;
+        let mut image = redone(alloc, &self.first, &self.calls[..settled])?;
+        fill_all(alloc, &mut image, &self.calls[settled..], byte)?;
         Ok(image)
     }
 }

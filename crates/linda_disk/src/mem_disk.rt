@@ -3,18 +3,20 @@
 ghost use Rattle.std.specs.Prelude.{◌≡◌, true};
 ghost use Rattle.linda_disk.specs.History.{fits};
 
+use crate::call::{Bytes, DeviceCall};
 use crate::disk::Disk;
 use crate::fault::DiskFault;
 use crate::history::History;
 use crate::torn::Torn;
-use crate::trouble::{Power, Trouble, Turn};
-use crate::turn::{counted, told};
+use crate::trouble::{Power, Trouble};
+use crate::turn::{counted, is_done, told};
 use std::alloc::Global;
 
 /// A disk in memory. It keeps a record of its writes, cuts and syncs since it was made or last crashed, so that
 /// contracts can say what a crash may leave: the record takes as much memory as was written since then.
 #[derive(Drop)]
 pub struct MemDisk {
+    alloc: Global,
     history: History,
     trouble: Trouble,
     failures: u64,
@@ -36,6 +38,7 @@ impl MemDisk {
         ensures trouble { disk.trouble result ≡ record { power = On; failing = None } }
     {
         MemDisk {
+            alloc,
             history: History::empty(alloc),
             trouble: Trouble::none(),
             failures: 0,
@@ -56,6 +59,7 @@ impl MemDisk {
     {
         let history = History::new(alloc, bytes)?;
         Ok(MemDisk {
+            alloc,
             history,
             trouble: Trouble::none(),
             failures: 0,
@@ -76,27 +80,27 @@ impl MemDisk {
         self.failures
     }
 
-    /// Lets `k` writes, cuts and syncs more pass, and then the power goes off inside the next one: that call fails,
+    /// Lets `passes` writes, cuts and syncs more pass, and then the power goes off inside the next one: that call fails,
     /// a write or a cut done in full, and so does each call after it, reads too. It takes the place of an earlier
     /// fuse, and a crash takes it away.
-    pub fn fuse(&mut self, k: u64)
+    pub fn fuse(&mut self, passes: u64)
         ensures trouble { disk.trouble self.new
-            ≡ record { power = OnFor k; failing = (disk.trouble self.old).failing } }
+            ≡ record { power = OnFor passes; failing = (disk.trouble self.old).failing } }
         ensures history { disk.history self.new ≡ disk.history self.old }
         ensures failures { disk.failures self.new ≡ disk.failures self.old }
     {
-        self.trouble.power = Power::OnFor(k);
+        self.trouble.power = Power::OnFor(passes);
     }
 
-    /// Lets call `k`, from 0, fail and change nothing: lengths and reads count too. Those after it work. It takes the
+    /// Lets the call of this number, from 0, fail and change nothing: lengths and reads count too. Those after it work. It takes the
     /// place of an earlier one, and a crash takes it away.
-    pub fn fail_once(&mut self, k: u64)
+    pub fn fail_once(&mut self, number: u64)
         ensures trouble { disk.trouble self.new
-            ≡ record { power = (disk.trouble self.old).power; failing = Some k } }
+            ≡ record { power = (disk.trouble self.old).power; failing = Some number } }
         ensures history { disk.history self.new ≡ disk.history self.old }
         ensures failures { disk.failures self.new ≡ disk.failures self.old }
     {
-        self.trouble.failing = Some(k);
+        self.trouble.failing = Some(number);
     }
 
     /// The machine stops and starts again: the disk holds what this crash leaves, all of it synced, and nothing more
@@ -120,22 +124,21 @@ impl MemDisk {
         ensures err { IfErr result (λ fault. fault ≡ DiskFault.Memory) }
         ensures same { OnErr result (self.new ≡ self.old) }
     {
-        self.history = self.history.crashed(torn)?;
+        self.history = self.history.crashed(self.alloc, torn)?;
         self.trouble = Trouble::none();
         Ok(())
     }
 }
 
 impl MemDisk {
-    ghost use Rattle.std.specs.Prelude.{◌≡◌, ◌≤◌, length};
-    ghost use Rattle.linda_disk.specs.declared.call.DeviceCall.TheVariants.{Write, Cut, Sync};
-    ghost use Rattle.linda_disk.specs.History.{content};
+    ghost use Rattle.std.specs.Prelude.{◌≡◌, true};
+    ghost use Rattle.linda_disk.specs.History.{fits, after};
     ghost use Rattle.linda_disk.specs.Trouble.{turn_of_read, turn_of_call};
     ghost use Rattle.linda_disk.specs.MemDisk as disk;
 
     /// Begins a length or a read.
     fn begin_read(&mut self) -> Result<(), DiskFault>
-        ensures { disk.Takes (turn_of_read (disk.trouble self.old)) (disk.history self.old)
+        ensures { disk.GoesBy (turn_of_read (disk.trouble self.old)) (disk.history self.old)
             result self.old self.new }
     {
         let (turn, trouble) = self.trouble.at_read();
@@ -144,46 +147,17 @@ impl MemDisk {
         told(turn)
     }
 
-    fn write(&mut self, at: usize, bytes: &[u8]) -> Result<(), DiskFault>
-        requires { at ≤ length (content (disk.history self.old)) }
+    /// Makes a call, as far as its turn lets it.
+    fn make(&mut self, call: DeviceCall) -> Result<(), DiskFault>
+        requires { fits (after call (disk.history self.old)) ≡ true }
         ensures { let turn = turn_of_call (disk.trouble self.old) in
-            disk.Takes turn (disk.history_at turn.0 (Write at bytes.now) (disk.history self.old))
+            disk.GoesBy turn (disk.history_at turn.0 call (disk.history self.old))
             result self.old self.new }
     {
         let (turn, trouble) = self.trouble.at_call();
         let failures = counted(self.failures, turn)?;
-        if turn != Turn::Fails {
-            self.history.write(at, bytes)?;
-        }
-        self.failures = failures;
-        self.trouble = trouble;
-        told(turn)
-    }
-
-    fn cut_to(&mut self, len: usize) -> Result<(), DiskFault>
-        ensures { let turn = turn_of_call (disk.trouble self.old) in
-            disk.Takes turn (disk.history_at turn.0 (Cut len) (disk.history self.old))
-            result self.old self.new }
-    {
-        let (turn, trouble) = self.trouble.at_call();
-        let failures = counted(self.failures, turn)?;
-        if turn != Turn::Fails {
-            self.history.cut(len)?;
-        }
-        self.failures = failures;
-        self.trouble = trouble;
-        told(turn)
-    }
-
-    fn sync_all(&mut self) -> Result<(), DiskFault>
-        ensures { let turn = turn_of_call (disk.trouble self.old) in
-            disk.Takes turn (disk.history_at turn.0 Sync (disk.history self.old))
-            result self.old self.new }
-    {
-        let (turn, trouble) = self.trouble.at_call();
-        let failures = counted(self.failures, turn)?;
-        if turn == Turn::Works {
-            self.history.sync()?;
+        if is_done(turn, &call) {
+            self.history.make(call)?;
         }
         self.failures = failures;
         self.trouble = trouble;
@@ -214,15 +188,16 @@ impl Disk for MemDisk {
     }
 
     fn write_at(&mut self, at: usize, bytes: &[u8]) -> Result<(), DiskFault> {
-        self.write(at, bytes)
+        let copy = Bytes::new(Vec::from_slice(self.alloc, bytes)?);
+        self.make(DeviceCall::Write(at, copy))
     }
 
     fn cut(&mut self, len: usize) -> Result<(), DiskFault> {
-        self.cut_to(len)
+        self.make(DeviceCall::Cut(len))
     }
 
     fn sync(&mut self) -> Result<(), DiskFault> {
-        self.sync_all()
+        self.make(DeviceCall::Sync)
     }
 
     ghost timed = { λ d _. laws.timed d.history d.begun };

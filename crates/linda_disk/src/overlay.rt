@@ -1,7 +1,7 @@
 //! A write in place.
 
 ghost use Rattle.std.specs.Prelude.{◌≡◌, OnOk, OnErr};
-ghost use Rattle.linda_disk.specs.Torn as spec;
+ghost use Rattle.linda_disk.specs.Image as spec;
 
 use std::alloc::AllocError;
 

@@ -1,6 +1,6 @@
 //! Calls that are on record, done once more.
 
-ghost use Rattle.std.specs.Prelude.{◌≡◌, ◌≤◌, ℕ, List, length, take, drop, reverse, IfOk, OnOk};
+ghost use Rattle.std.specs.Prelude.{◌≡◌, ◌≤◌, ℕ, List, length, take, drop, reverse, IfOk, OnOk, OnErr};
 ghost use Rattle.linda_disk.specs.History as history;
 
 use crate::call::DeviceCall;
@@ -23,8 +23,13 @@ pub(crate) fn redone(
 }
 
 /// Does the call in full.
-fn redo(file: &mut Vec<u8>, call: &DeviceCall) -> Result<(), AllocError>
-    ensures { OnOk result (file.new.items ≡ history.done call.now file.old.items) }
+///
+/// # Errors
+///
+/// `AllocError` where memory runs out, and then the file is as before.
+pub(crate) fn redo(file: &mut Vec<u8>, call: &DeviceCall) -> Result<(), AllocError>
+    ensures ok { OnOk result (file.new.items ≡ history.done call.now file.old.items) }
+    ensures err { OnErr result (file.new.items ≡ file.old.items) }
 {
     match call {
         DeviceCall::Write(at, bytes) => overlay(file, *at, bytes.as_slice())?,

@@ -1,8 +1,10 @@
 //! What a call tells at its turn, and how it counts.
 
-ghost use Rattle.std.specs.Prelude.{◌≡◌, ◌+◌, IfOk, IfErr};
-ghost use Rattle.linda_disk.specs.MemDisk.{answer_at, failures_at};
+ghost use Rattle.std.specs.Prelude.{◌≡◌, ◌+◌, if◌then◌else◌, IfOk, IfErr};
+ghost use Rattle.linda_disk.specs.History.{History, after};
+ghost use Rattle.linda_disk.specs.MemDisk.{answer_at, history_at, failures_at};
 
+use crate::call::DeviceCall;
 use crate::fault::DiskFault;
 use crate::trouble::Turn;
 
@@ -14,6 +16,17 @@ pub(crate) fn told(turn: Turn) -> Result<(), DiskFault>
         Turn::Works => Ok(()),
         Turn::Stops => Err(DiskFault::Device),
         Turn::Fails => Err(DiskFault::Device),
+    }
+}
+
+/// Whether a call is done at this turn: where the machine stops inside a sync, it has not happened.
+pub(crate) fn is_done(turn: Turn, call: &DeviceCall) -> bool
+    ensures { (h : History) → history_at turn call.now h ≡ (if result then after call.now h else h) }
+{
+    match turn {
+        Turn::Works => true,
+        Turn::Stops => !matches!(call, DeviceCall::Sync),
+        Turn::Fails => false,
     }
 }
 

@@ -10,7 +10,7 @@ use Rattle.linda_disk.specs.declared.mem_disk.MemDisk.{MemDisk}
 use Rattle.linda_disk.specs.Disk.{Syncs}
 use Rattle.linda_disk.specs.History.{History, after, fits, Leaves, view_of}
 use Rattle.linda_disk.specs.HistoryLaws.{left_kept}
-use Rattle.linda_disk.specs.MemDisk.{view, answer_at, history_at, Takes}
+use Rattle.linda_disk.specs.MemDisk.{view, answer_at, history_at, GoesBy}
 
 -- A sync on record.
 synced : (h : History) → fits h ≡ true → Syncs {T = Unit {0}} (Ok tt) (view_of h) (view_of (after Sync h))
@@ -39,15 +39,15 @@ synced_at Works h fit = synced h fit
 synced_at Stops h fit = not_synced h Device
 synced_at Fails h fit = not_synced h Device
 
-told_at : (turn : Turn × Trouble) (result : Result (Unit {0}) DiskFault) (old new : MemDisk) → Takes turn (history_at turn.0 Sync old.history) result old new
+told_at : (turn : Turn × Trouble) (result : Result (Unit {0}) DiskFault) (old new : MemDisk) → GoesBy turn (history_at turn.0 Sync old.history) result old new
     → (IsErrOf result Memory → ⊥) → Syncs result (view old) (view new)
 told_at turn result old new takes other =
     let done = subst (λ (h : History). Syncs (answer_at turn.0) (view old) (view_of h)) (sym (takes.done other)) (synced_at turn.0 old.history old.begun) in
     subst (λ (r : Result (Unit {0}) DiskFault). Syncs r (view old) (view new)) (sym (takes.told other)) done
 
 -- A sync at any turn, and where memory runs out.
-pub takes_sync : (turn : Turn × Trouble) (result : Result (Unit {0}) DiskFault) (old new : MemDisk) → Takes turn (history_at turn.0 Sync old.history) result old new
+pub sync_goes : (turn : Turn × Trouble) (result : Result (Unit {0}) DiskFault) (old new : MemDisk) → GoesBy turn (history_at turn.0 Sync old.history) result old new
     → Syncs result (view old) (view new)
-takes_sync turn (Ok x) old new takes = told_at turn (Ok x) old new takes (λ err. search (rules, err))
-takes_sync turn (Err Device) old new takes = told_at turn (Err Device) old new takes (λ err. search (rules, err))
-takes_sync turn (Err Memory) old new takes = subst (λ (d : MemDisk). Syncs {T = Unit {0}} (Err Memory) (view old) (view d)) (sym (takes.memory refl)) (not_synced old.history Memory)
+sync_goes turn (Ok x) old new takes = told_at turn (Ok x) old new takes (λ err. search (rules, err))
+sync_goes turn (Err Device) old new takes = told_at turn (Err Device) old new takes (λ err. search (rules, err))
+sync_goes turn (Err Memory) old new takes = subst (λ (d : MemDisk). Syncs {T = Unit {0}} (Err Memory) (view old) (view d)) (sym (takes.memory refl)) (not_synced old.history Memory)
