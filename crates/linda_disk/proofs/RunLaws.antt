@@ -1,6 +1,9 @@
 -- How a run of device calls begins and goes on, and what two runs come to.
-use Rattle.std.proofs.Common.{◌≡◌, inl, inr, ⊎_elim, ℕ, List, sym, subst, ◌∙◌, arith}
+use Rattle.std.proofs.Common.{◌≡◌, inl, inr, ⊎_elim, ℕ, List, length, Result, sym, subst, ◌∙◌, arith}
+use Rattle.linda_disk.specs.declared.fault.DiskFault.{DiskFault}
 use Rattle.linda_disk.specs.View.{View, IsDurable, IsTimed, LeavesNoMore, Follows, Elapses}
+use Rattle.linda_disk.specs.Image.{TornWrite, TornCut}
+use Rattle.linda_disk.specs.Disk.{Writes, Cuts}
 use Rattle.linda_disk.specs.Run.{LeavesOnly}
 
 -- Before the first call.
@@ -48,6 +51,23 @@ pub one_step : (step : List ℕ → List ℕ → Type 0) (old new : View) → Is
 one_step step old new durable follows image left =
     let from = follows image left in
     subst (λ (before : List ℕ). step before image) (durable from.0 from.1) from.2
+
+-- One write to a durable disk, whether or not it tells a failure.
+pub wrote : {T : Type 0} (at : ℕ) (bytes : List ℕ) (result : Result T DiskFault) (old new : View) (P : List ℕ → Type 0) → Writes at bytes result old new → IsTimed old → IsDurable old → P old.seen → ((image : List ℕ) → TornWrite at (length bytes) old.seen image → P image) → LeavesOnly old new P
+wrote at bytes result old new P writes timed durable was torn =
+    let before = started old P timed (λ image left. subst P (sym (durable image left)) was) in
+    goes_on old old new P before writes.time (λ image left. torn image (one_step (TornWrite at (length bytes)) old new durable writes.crash image left))
+
+-- One cut of a durable disk.
+pub was_cut : {T : Type 0} (n : ℕ) (result : Result T DiskFault) (old new : View) (P : List ℕ → Type 0) → Cuts n result old new → IsTimed old → IsDurable old → P old.seen → ((image : List ℕ) → TornCut n old.seen image → P image) → LeavesOnly old new P
+was_cut n result old new P cuts timed durable was torn =
+    let before = started old P timed (λ image left. subst P (sym (durable image left)) was) in
+    goes_on old old new P before cuts.time (λ image left. torn image (one_step (TornCut n) old new durable cuts.crash image left))
+
+-- A call more after which a crash may leave nothing new: a sync, a length or a read.
+pub goes_on_as_before : (old mid new : View) (P : List ℕ → Type 0) → LeavesOnly old mid P → IsTimed mid → LeavesNoMore mid new → Elapses mid new → LeavesOnly old new P
+goes_on_as_before old mid new P so_far timed no_more time =
+    goes_on old mid new P so_far time (λ image left. leaves_now old mid P so_far timed image (no_more image left))
 
 -- What was durable stays so, where a crash may leave nothing that it could not leave before.
 pub stays_durable : (old new : View) → IsDurable old → LeavesNoMore old new → new.seen ≡ old.seen → IsDurable new
