@@ -31,23 +31,35 @@ not_synced h fault = record {
   seen = tt;
   durable = tt;
   crash = λ image left. left;
-  time = record { later = omega arith; nothing_else = λ t image le left. inl left; nothing_lost = λ t image le left. left };
+  time =
+      record {
+        later = omega arith;
+        nothing_else = λ t image le left. inl left;
+        nothing_lost = λ t image le left. left;
+      };
 }
 
-synced_at : (turn : Turn) (h : History) → fits h ≡ true → Syncs (answer_at turn) (view_of h) (view_of (history_at turn Sync h))
+synced_at : (turn : Turn) (h : History) → fits h ≡ true
+    → Syncs (answer_at turn) (view_of h) (view_of (history_at turn Sync h))
 synced_at Works h fit = synced h fit
 synced_at Stops h fit = not_synced h Device
 synced_at Fails h fit = not_synced h Device
 
-told_at : (turn : Turn × Trouble) (result : Result (Unit {0}) DiskFault) (old new : MemDisk) → GoesBy turn (history_at turn.0 Sync old.history) result old new
+told_at : (turn : Turn × Trouble) (result : Result (Unit {0}) DiskFault) (old new : MemDisk)
+    → GoesBy turn (history_at turn.0 Sync old.history) result old new
     → (IsErrOf result Memory → ⊥) → Syncs result (view old) (view new)
-told_at turn result old new takes other =
-    let done = subst (λ (h : History). Syncs (answer_at turn.0) (view old) (view_of h)) (sym (takes.done other)) (synced_at turn.0 old.history old.begun) in
-    subst (λ (r : Result (Unit {0}) DiskFault). Syncs r (view old) (view new)) (sym (takes.told other)) done
+told_at turn result old new goes other =
+    let at_turn = synced_at turn.0 old.history old.begun in
+    let now = sym (goes.done other) in
+    let done = subst (λ (h : History). Syncs (answer_at turn.0) (view old) (view_of h)) now at_turn in
+    subst (λ (r : Result (Unit {0}) DiskFault). Syncs r (view old) (view new)) (sym (goes.told other)) done
 
 -- A sync at any turn, and where memory runs out.
-pub sync_goes : (turn : Turn × Trouble) (result : Result (Unit {0}) DiskFault) (old new : MemDisk) → GoesBy turn (history_at turn.0 Sync old.history) result old new
+pub sync_goes : (turn : Turn × Trouble) (result : Result (Unit {0}) DiskFault) (old new : MemDisk)
+    → GoesBy turn (history_at turn.0 Sync old.history) result old new
     → Syncs result (view old) (view new)
-sync_goes turn (Ok x) old new takes = told_at turn (Ok x) old new takes (λ err. search (rules, err))
-sync_goes turn (Err Device) old new takes = told_at turn (Err Device) old new takes (λ err. search (rules, err))
-sync_goes turn (Err Memory) old new takes = subst (λ (d : MemDisk). Syncs {T = Unit {0}} (Err Memory) (view old) (view d)) (sym (takes.memory refl)) (not_synced old.history Memory)
+sync_goes turn (Ok x) old new goes = told_at turn (Ok x) old new goes (λ err. search (rules, err))
+sync_goes turn (Err Device) old new goes = told_at turn (Err Device) old new goes (λ err. search (rules, err))
+sync_goes turn (Err Memory) old new goes =
+    let unchanged = not_synced old.history Memory in
+    subst (λ (d : MemDisk). Syncs {T = Unit {0}} (Err Memory) (view old) (view d)) (sym (goes.memory refl)) unchanged

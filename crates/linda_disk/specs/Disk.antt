@@ -23,7 +23,8 @@ pub record Cuts {T : Type 0} (n : ℕ) (result : Result T DiskFault) (old new : 
   pub crash : Follows (TornCut n) old new
   pub time : Elapses old new
 
--- A sync. Where it fails, what a read gives is not promised to stay: a machine may drop what it had not written.
+-- A sync. Where it fails, what a read gives is not promised to stay: a machine may drop what it had not
+-- written.
 pub record Syncs {T : Type 0} (result : Result T DiskFault) (old new : View) : Type 0 where
   pub seen : OnOk result (new.seen ≡ old.seen)
   pub durable : OnOk result (IsDurable new)

@@ -40,7 +40,8 @@ synced_from first (Write at bytes ∷ calls) = synced_from first calls
 synced_from first (Cut n ∷ calls) = synced_from first calls
 synced_from first (Sync ∷ calls) = content_from first calls
 
--- The bytes at the last sync with b in each byte that was written since: cuts since then have not happened.
+-- The bytes at the last sync with b in each byte that was written since: cuts since then have not
+-- happened.
 abbrev pub filled_from : ℕ → List ℕ → List DeviceCall → List ℕ
 filled_from b first [] = first
 filled_from b first (Write at bytes ∷ calls) = fill b (Write at bytes) (filled_from b first calls)

@@ -27,13 +27,18 @@ failures disk = disk.failures
 abbrev pub view : MemDisk → View
 view disk = view_of disk.history
 
+-- what a call tells
+abbrev pub Told : Type 0
+Told = Result (Unit {0}) DiskFault
+
 -- What a call tells at its turn.
-abbrev pub answer_at : Turn → Result (Unit {0}) DiskFault
+abbrev pub answer_at : Turn → Told
 answer_at Works = Ok tt
 answer_at Stops = Err Device
 answer_at Fails = Err Device
 
--- Where the machine stops inside a write or a cut, it is done in full. A sync in which it stops has not happened.
+-- Where the machine stops inside a write or a cut, it is done in full. A sync in which it stops has not
+-- happened.
 abbrev pub history_at : Turn → DeviceCall → History → History
 history_at Works call h = after call h
 history_at Stops (Write at bytes) h = after (Write at bytes) h
@@ -48,7 +53,7 @@ failures_at Stops n = n + 1
 failures_at Fails n = n + 1
 
 -- A call at this turn, which leaves this history: where memory runs out, all is as before.
-pub record GoesBy (turn : Turn × Trouble) (then : History) (result : Result (Unit {0}) DiskFault) (old new : MemDisk) : Type 0 where
+pub record GoesBy (turn : Turn × Trouble) (then : History) (result : Told) (old new : MemDisk) : Type 0 where
   pub memory : IsErrOf result Memory → new ≡ old
   pub told : (IsErrOf result Memory → ⊥) → result ≡ answer_at turn.0
   pub done : (IsErrOf result Memory → ⊥) → history new ≡ then

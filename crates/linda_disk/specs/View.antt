@@ -34,7 +34,8 @@ abbrev pub Follows : (List ℕ → List ℕ → Type 0) → View → View → Ty
 Follows step old new =
     (image : List ℕ) → new.may_leave image → (before : List ℕ) × old.may_leave before × step before image
 
--- Time goes on: what a crash since t might have left is what it might have left before, and what it may leave now.
+-- Time goes on: what a crash since t might have left is what it might have left before, and what it may
+-- leave now.
 pub record Elapses (old new : View) : Type 0 where
   pub later : old.moment ≤ new.moment
   pub nothing_else : (t : ℕ) (image : List ℕ) → t ≤ old.moment → new.left_since t image

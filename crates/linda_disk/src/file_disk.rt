@@ -6,8 +6,9 @@ use crate::turn::one_more;
 use std::fs::File;
 use std::os::unix::fs::FileExt;
 
-/// A file of the operating system as a disk. That a file is honest is a premise by name, which has no proof: see the
-/// README. What needs no premise is that each call is safe at any offset and length, and the count of failures.
+/// A file of the operating system as a disk. That a file is honest is a premise by name, which has no
+/// proof: see the README. What needs no premise is that each call is safe at any offset and length, and
+/// the count of failures.
 #[derive(Drop)]
 pub struct FileDisk {
     file: File,

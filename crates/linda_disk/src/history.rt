@@ -6,7 +6,8 @@ use crate::torn::Torn;
 use std::alloc::{AllocError, Global};
 use std::marker::Model;
 
-/// What a disk in memory held at first, the calls since, and what a read gives. Contracts see the first two.
+/// What a disk in memory held at first, the calls since, and what a read gives. Contracts see the first
+/// two.
 #[derive(Drop)]
 pub(crate) struct History {
     first: Vec<u8>,
@@ -22,7 +23,8 @@ impl Model for History {
 
     ghost view = { λ h. record { first = h.first.items; calls = reverse h.calls.items } };
 
-    ghost invariant = { λ h. h.bytes.items ≡ history.content_from h.first.items (reverse h.calls.items) };
+    ghost invariant = { λ h. h.bytes.items
+        ≡ history.content_from h.first.items (reverse h.calls.items) };
 }
 
 impl History {

@@ -1,9 +1,10 @@
-//! The ground of durability: what a crash may leave of a file, said once, and a disk in memory that can do all of it.
+//! The ground of durability: what a crash may leave of a file, said once, and a disk in memory that can
+//! do all of it.
 //!
-//! `Disk` says of each call what a read gives after it and what a crash may leave after it, in the words of
-//! `specs/View`, `specs/Image` and `specs/Disk`; `docs/DISK.md` of the repository holds them against the model of a
-//! disk. `MemDisk` meets it, and comes out of a crash in each of the three ways of `Torn`. `FileDisk` meets it by a
-//! premise that has no proof.
+//! `Disk` says of each call what a read gives after it and what a crash may leave after it, in the words
+//! of `specs/View`, `specs/Image` and `specs/Disk`; `docs/DISK.md` of the repository holds them against
+//! the model of a disk. `MemDisk` meets it, and comes out of a crash in each of the three ways of `Torn`.
+//! `FileDisk` meets it by a premise that has no proof.
 #![tactic(auto)]
 
 mod call;

@@ -39,7 +39,8 @@ pub(crate) fn redo(file: &mut Vec<u8>, call: &DeviceCall) -> Result<(), AllocErr
     Ok(())
 }
 
-/// Does these calls, the first of them first, with this byte in place of each that they wrote, and no cut.
+/// Does these calls, the first of them first, with this byte in place of each that they wrote, and no
+/// cut.
 pub(crate) fn fill_all(
     alloc: Global,
     file: &mut Vec<u8>,
@@ -70,8 +71,8 @@ pub(crate) fn settled_len(calls: &[DeviceCall]) -> usize
     ensures within { result ≤ length calls.now }
     ensures synced { (first : List ℕ) → history.content_from first (reverse (take result calls.now))
         ≡ history.synced_from first (reverse calls.now) }
-    ensures filled { (b : ℕ) (first : List ℕ)
-        → history.fill_all b (drop result calls.now) (history.content_from first (reverse (take result calls.now)))
+    ensures filled { (b : ℕ) (first : List ℕ) → history.fill_all b (drop result calls.now)
+        (history.content_from first (reverse (take result calls.now)))
         ≡ history.filled_from b first (reverse calls.now) }
 {
     let mut len = calls.len();

@@ -1,4 +1,5 @@
-//! What no clause says: bytes worked by hand, when a fuse stops, a second model, real files, and what a call costs.
+//! What no clause says: bytes worked by hand, when a fuse stops, a second model, real files, and what a
+//! call costs.
 
 mod cost;
 mod crash;

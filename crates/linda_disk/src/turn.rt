@@ -30,8 +30,8 @@ pub(crate) fn is_done(turn: Turn, call: &DeviceCall) -> bool
     }
 }
 
-/// The count of failures after one more. A disk that has failed 2^64 - 1 times fails no more: it answers `Memory` in
-/// place of it, and the count never wraps.
+/// The count of failures after one more. A disk that has failed 2^64 - 1 times fails no more: it answers
+/// `Memory` in place of it, and the count never wraps.
 pub(crate) fn one_more(failures: u64) -> Result<u64, DiskFault>
     ensures ok { IfOk result (λ n. n ≡ failures + 1) }
     ensures err { IfErr result (λ fault. fault ≡ DiskFault.Memory) }

@@ -1,4 +1,5 @@
-//! Real files: what was synced is there when the file is opened again, and what the system refuses is a failure.
+//! Real files: what was synced is there when the file is opened again, and what the system refuses is a
+//! failure.
 
 ghost use Rattle.std.specs.Prelude.{length, ◌≡◌};
 

@@ -1,4 +1,5 @@
-//! A second model of a disk: the bytes at the last sync, and a list of the ranges that were written since.
+//! A second model of a disk: the bytes at the last sync, and a list of the ranges that were written
+//! since.
 
 use crate::Torn;
 use std::alloc::{AllocError, Global};

@@ -7,4 +7,5 @@ use Rattle.linda_disk.proofs.mem_disk.MemDisk.crash.Goals as goal
 pub returns-clause-left : goal.returns-clause-left
 returns-clause-left c =
     let old = c.args.self.now in
-    subst (λ (h : History). Leaves old.history.first old.history.calls (content h)) (sym c.in_ok-self.ensures) (left_torn c.args.torn old.history old.begun)
+    let left = left_torn c.args.torn old.history old.begun in
+    subst (λ (h : History). Leaves old.history.first old.history.calls (content h)) (sym c.in_ok-self.ensures) left
