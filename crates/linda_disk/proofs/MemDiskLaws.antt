@@ -1,5 +1,5 @@
 -- What a sync of a disk in memory does to its view.
-use Rattle.std.proofs.Common.{◌≡◌, inl, inr, true, List, ℕ, Result, Ok, Err, IsErrOf, refl, sym, subst, rules, arith}
+use Rattle.std.proofs.Common.{◌≡◌, inl, inr, true, Result, Ok, Err, IsErrOf, refl, sym, subst, rules, arith}
 use Rattle.linda_disk.specs.declared.call.DeviceCall.TheVariants.{Sync}
 use Rattle.linda_disk.specs.declared.fault.DiskFault.{DiskFault}
 use Rattle.linda_disk.specs.declared.fault.DiskFault.TheVariants.{Device, Memory}

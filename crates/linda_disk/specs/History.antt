@@ -1,5 +1,5 @@
 -- What a disk in memory held at first and each call since, the newest first, and what follows from it.
-use Rattle.std.specs.Prelude.{◌≡◌, ℕ, ◌+◌, ◌≤◌, ◌⊎◌, Bool, true, nat_le, ◌&&◌, List, [], ◌∷◌, length, take, replicate}
+use Rattle.std.specs.Prelude.{◌≡◌, ℕ, ◌≤◌, ◌⊎◌, Bool, true, nat_le, ◌&&◌, List, [], ◌∷◌, length, take, replicate}
 use Rattle.linda_disk.specs.declared.call.DeviceCall.{DeviceCall}
 use Rattle.linda_disk.specs.declared.call.DeviceCall.TheVariants.{Write, Cut, Sync}
 use Rattle.linda_disk.specs.declared.torn.Torn.{Torn}

@@ -1,5 +1,5 @@
 -- What is to go wrong on a disk in memory, and when.
-use Rattle.std.specs.Prelude.{ℕ, zero, suc, Bool, Option, Some, None}
+use Rattle.std.specs.Prelude.{ℕ, zero, suc, Option, Some, None}
 use Rattle.linda_disk.specs.declared.trouble.Power.{Power}
 use Rattle.linda_disk.specs.declared.trouble.Power.TheVariants.{On, OnFor, Off}
 use Rattle.linda_disk.specs.declared.trouble.Turn.{Turn}

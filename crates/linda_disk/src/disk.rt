@@ -53,7 +53,8 @@ pub trait Disk: Drop {
     /// `Device` where the device failed, which it counts: the write may be done, in part too. `Memory`.
     fn write_at(&mut self, at: usize, bytes: &[u8]) -> Result<(), DiskFault>
         requires { honest self.old → at ≤ length (view self.old).seen }
-        ensures writes { honest self.old → Writes at bytes.now result (view self.old) (view self.new) }
+        ensures writes { honest self.old
+            → Writes at bytes.now result (view self.old) (view self.new) }
         ensures honest { honest self.old ↔ honest self.new }
         ensures cause { CountsFailure result (failures self.old) (failures self.new) };
 

@@ -37,7 +37,8 @@ impl FileDisk {
     fn failed(&mut self) -> DiskFault
         ensures device { result ≡ DiskFault.Device
             → disk.failures self.new ≡ disk.failures self.old + 1 }
-        ensures memory { result ≡ DiskFault.Memory → disk.failures self.new ≡ disk.failures self.old }
+        ensures memory { result ≡ DiskFault.Memory
+            → disk.failures self.new ≡ disk.failures self.old }
     {
         match one_more(self.failures) {
             Ok(failures) => {

@@ -52,10 +52,12 @@ impl MemDisk {
     ///
     /// `Memory`.
     pub fn from_bytes(alloc: Global, bytes: Vec<u8>) -> Result<MemDisk, DiskFault>
-        ensures history { IfOk result (λ d. disk.history d ≡ record { first = bytes.items; calls = [] }) }
+        ensures history { IfOk result (λ d. disk.history d
+            ≡ record { first = bytes.items; calls = [] }) }
         ensures durable { IfOk result (λ d. IsDurable (disk.view d)) }
         ensures failures { IfOk result (λ d. disk.failures d ≡ 0) }
-        ensures trouble { IfOk result (λ d. disk.trouble d ≡ record { power = On; failing = None }) }
+        ensures trouble { IfOk result (λ d. disk.trouble d
+            ≡ record { power = On; failing = None }) }
         ensures err { IfErr result (λ fault. fault ≡ DiskFault.Memory) }
     {
         let history = History::new(alloc, bytes)?;
@@ -120,7 +122,8 @@ impl MemDisk {
         ensures filled { (b : ℕ) → torn ≡ Torn.Filled b
             → OnOk result ((disk.view self.new).seen ≡ filled b (disk.history self.old)) }
         ensures durable { OnOk result (IsDurable (disk.view self.new)) }
-        ensures trouble { OnOk result (disk.trouble self.new ≡ record { power = On; failing = None }) }
+        ensures trouble { OnOk result (disk.trouble self.new
+            ≡ record { power = On; failing = None }) }
         ensures failures { disk.failures self.new ≡ disk.failures self.old }
         ensures err { IfErr result (λ fault. fault ≡ DiskFault.Memory) }
         ensures same { OnErr result (self.new ≡ self.old) }

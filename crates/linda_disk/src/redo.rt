@@ -13,7 +13,8 @@ pub(crate) fn redone(
     first: &[u8],
     calls: &[DeviceCall],
 ) -> Result<Vec<u8>, AllocError>
-    ensures { IfOk result (λ file. file.items ≡ history.content_from first.now (reverse calls.now)) }
+    ensures { IfOk result (λ file. file.items
+        ≡ history.content_from first.now (reverse calls.now)) }
 {
     let mut file = Vec::from_slice(alloc, first)?;
     for call in calls {

@@ -21,7 +21,8 @@ pub(crate) fn told(turn: Turn) -> Result<(), DiskFault>
 
 /// Whether a call is done at this turn: where the machine stops inside a sync, it has not happened.
 pub(crate) fn is_done(turn: Turn, call: &DeviceCall) -> bool
-    ensures { (h : History) → history_at turn call.now h ≡ (if result then after call.now h else h) }
+    ensures { (h : History)
+        → history_at turn call.now h ≡ (if result then after call.now h else h) }
 {
     match turn {
         Turn::Works => true,
