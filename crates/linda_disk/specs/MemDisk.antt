@@ -1,5 +1,5 @@
 -- A disk in memory as its clauses speak of it, and what a call does to it.
-use Rattle.std.specs.Prelude.{◌≡◌, ℕ, ◌+◌, Result, Ok, Err, IsErrOf}
+use Rattle.std.specs.Prelude.{◌≡◌, ℕ, ◌+◌, ◌^◌, ◌≤◌, Result, Ok, Err, IsErrOf}
 use Rattle.linda_disk.specs.declared.call.DeviceCall.{DeviceCall}
 use Rattle.linda_disk.specs.declared.call.DeviceCall.TheVariants.{Write, Cut, Sync}
 use Rattle.linda_disk.specs.declared.fault.DiskFault.{DiskFault}
@@ -55,6 +55,8 @@ failures_at Fails n = n + 1
 -- A call at this turn, which leaves this history: where memory runs out, all is as before.
 pub record GoesBy (turn : Turn × Trouble) (then : History) (result : Told) (old new : MemDisk) : Type 0 where
   pub memory : IsErrOf result Memory → new ≡ old
+  -- a call that is to fail takes none: it tells so, as long as the count can rise
+  pub no_memory : turn.0 ≡ Fails → IsErrOf result Memory → 2 ^ 64 ≤ failures old + 1
   pub told : (IsErrOf result Memory → ⊥) → result ≡ answer_at turn.0
   pub done : (IsErrOf result Memory → ⊥) → history new ≡ then
   pub trouble_after : (IsErrOf result Memory → ⊥) → trouble new ≡ turn.1

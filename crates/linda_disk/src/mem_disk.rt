@@ -8,7 +8,7 @@ use crate::disk::Disk;
 use crate::fault::DiskFault;
 use crate::history::History;
 use crate::torn::Torn;
-use crate::trouble::{Power, Trouble};
+use crate::trouble::{Power, Trouble, Turn};
 use crate::turn::{counted, is_done, told};
 use std::alloc::Global;
 
@@ -135,8 +135,9 @@ impl MemDisk {
 }
 
 impl MemDisk {
-    ghost use Rattle.std.specs.Prelude.{◌≡◌, true};
-    ghost use Rattle.linda_disk.specs.History.{fits, after};
+    ghost use Rattle.std.specs.Prelude.{◌≡◌, ◌≤◌, true, length};
+    ghost use Rattle.linda_disk.specs.declared.call.DeviceCall.TheVariants.{Write};
+    ghost use Rattle.linda_disk.specs.History.{content, fits, after};
     ghost use Rattle.linda_disk.specs.Trouble.{turn_of_read, turn_of_call};
     ghost use Rattle.linda_disk.specs.MemDisk as disk;
 
@@ -149,6 +150,20 @@ impl MemDisk {
         self.failures = counted(self.failures, turn)?;
         self.trouble = trouble;
         told(turn)
+    }
+
+    /// Writes, as far as the turn of the call lets it. Only a write that is done takes memory.
+    fn write(&mut self, at: usize, bytes: &[u8]) -> Result<(), DiskFault>
+        requires { at ≤ length (content (disk.history self.old)) }
+        ensures { let turn = turn_of_call (disk.trouble self.old) in
+            disk.GoesBy turn (disk.history_at turn.0 (Write at bytes.now) (disk.history self.old))
+            result self.old self.new }
+    {
+        let copy = match self.trouble.at_call() {
+            (Turn::Fails, _) => Vec::new(self.alloc),
+            _ => Vec::from_slice(self.alloc, bytes)?,
+        };
+        self.make(DeviceCall::Write(at, Bytes::new(copy)))
     }
 
     /// Makes a call, as far as its turn lets it.
@@ -192,8 +207,7 @@ impl Disk for MemDisk {
     }
 
     fn write_at(&mut self, at: usize, bytes: &[u8]) -> Result<(), DiskFault> {
-        let copy = Bytes::new(Vec::from_slice(self.alloc, bytes)?);
-        self.make(DeviceCall::Write(at, copy))
+        self.write(at, bytes)
     }
 
     fn cut(&mut self, len: usize) -> Result<(), DiskFault> {

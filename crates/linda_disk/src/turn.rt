@@ -1,6 +1,6 @@
 //! What a call tells at its turn, and how it counts.
 
-ghost use Rattle.std.specs.Prelude.{◌≡◌, ◌+◌, if◌then◌else◌, IfOk, IfErr};
+ghost use Rattle.std.specs.Prelude.{◌≡◌, ◌≢◌, ◌≤◌, ◌+◌, ◌^◌, if◌then◌else◌, IsTrue, IfOk, IfErr, OnErr};
 ghost use Rattle.linda_disk.specs.History.{History, after};
 ghost use Rattle.linda_disk.specs.MemDisk.{answer_at, history_at, failures_at};
 
@@ -21,8 +21,9 @@ pub(crate) fn told(turn: Turn) -> Result<(), DiskFault>
 
 /// Whether a call is done at this turn: where the machine stops inside a sync, it has not happened.
 pub(crate) fn is_done(turn: Turn, call: &DeviceCall) -> bool
-    ensures { (h : History)
+    ensures history { (h : History)
         → history_at turn call.now h ≡ (if result then after call.now h else h) }
+    ensures fails { IsTrue result → turn ≢ Turn.Fails }
 {
     match turn {
         Turn::Works => true,
@@ -36,6 +37,7 @@ pub(crate) fn is_done(turn: Turn, call: &DeviceCall) -> bool
 pub(crate) fn one_more(failures: u64) -> Result<u64, DiskFault>
     ensures ok { IfOk result (λ n. n ≡ failures + 1) }
     ensures err { IfErr result (λ fault. fault ≡ DiskFault.Memory) }
+    ensures full { OnErr result (2 ^ 64 ≤ failures + 1) }
 {
     failures.checked_add(1).ok_or(DiskFault::Memory)
 }
@@ -44,6 +46,7 @@ pub(crate) fn one_more(failures: u64) -> Result<u64, DiskFault>
 pub(crate) fn counted(failures: u64, turn: Turn) -> Result<u64, DiskFault>
     ensures ok { IfOk result (λ n. n ≡ failures_at turn failures) }
     ensures err { IfErr result (λ fault. fault ≡ DiskFault.Memory) }
+    ensures full { OnErr result (2 ^ 64 ≤ failures + 1) }
 {
     match turn {
         Turn::Works => Ok(failures),
