@@ -135,9 +135,8 @@ impl MemDisk {
 }
 
 impl MemDisk {
-    ghost use Rattle.std.specs.Prelude.{◌≡◌, ◌≤◌, true, length};
-    ghost use Rattle.linda_disk.specs.declared.call.DeviceCall.TheVariants.{Write};
-    ghost use Rattle.linda_disk.specs.History.{content, fits, after};
+    ghost use Rattle.std.specs.Prelude.{◌≡◌, true};
+    ghost use Rattle.linda_disk.specs.History.{fits, after};
     ghost use Rattle.linda_disk.specs.Trouble.{turn_of_read, turn_of_call};
     ghost use Rattle.linda_disk.specs.MemDisk as disk;
 
@@ -150,20 +149,6 @@ impl MemDisk {
         self.failures = counted(self.failures, turn)?;
         self.trouble = trouble;
         told(turn)
-    }
-
-    /// Writes, as far as the turn of the call lets it. Only a write that is done takes memory.
-    fn write(&mut self, at: usize, bytes: &[u8]) -> Result<(), DiskFault>
-        requires { at ≤ length (content (disk.history self.old)) }
-        ensures { let turn = turn_of_call (disk.trouble self.old) in
-            disk.GoesBy turn (disk.history_at turn.0 (Write at bytes.now) (disk.history self.old))
-            result self.old self.new }
-    {
-        let copy = match self.trouble.at_call() {
-            (Turn::Fails, _) => Vec::new(self.alloc),
-            _ => Vec::from_slice(self.alloc, bytes)?,
-        };
-        self.make(DeviceCall::Write(at, Bytes::new(copy)))
     }
 
     /// Makes a call, as far as its turn lets it.
@@ -185,6 +170,10 @@ impl MemDisk {
 }
 
 impl Disk for MemDisk {
+    ghost use Rattle.std.specs.Prelude.{◌≡◌, ◌+◌, ◌≤◌, length, take, drop, OnOk};
+    ghost use Rattle.linda_disk.specs.declared.call.DeviceCall.TheVariants.{Write, Cut, Sync};
+    ghost use Rattle.linda_disk.specs.Trouble.{turn_of_read, turn_of_call};
+    ghost use Rattle.linda_disk.specs.Disk.{Writes, Cuts, Syncs};
     ghost use Rattle.linda_disk.specs.MemDisk as disk;
     ghost use Rattle.linda_disk.specs.HistoryLaws as laws;
 
@@ -199,22 +188,49 @@ impl Disk for MemDisk {
         Ok(self.history.bytes().len())
     }
 
-    fn read_at(&mut self, at: usize, buffer: &mut [u8]) -> Result<(), DiskFault> {
+    fn read_at(&mut self, at: usize, buffer: &mut [u8]) -> Result<(), DiskFault>
+        requires { at + length buffer.old ≤ length (disk.view self.old).seen }
+        ensures bytes { OnOk result
+            (buffer.new ≡ take (length buffer.old) (drop at (disk.view self.old).seen)) }
+        ensures goes { disk.GoesBy (turn_of_read (disk.trouble self.old)) (disk.history self.old)
+            result self.old self.new }
+    {
         let len = buffer.len();
         self.begin_read()?;
         buffer.copy_from_slice(&self.history.bytes()[at..at + len]);
         Ok(())
     }
 
-    fn write_at(&mut self, at: usize, bytes: &[u8]) -> Result<(), DiskFault> {
-        self.write(at, bytes)
+    fn write_at(&mut self, at: usize, bytes: &[u8]) -> Result<(), DiskFault>
+        requires { at ≤ length (disk.view self.old).seen }
+        ensures writes { Writes at bytes.now result (disk.view self.old) (disk.view self.new) }
+        ensures goes { let turn = turn_of_call (disk.trouble self.old) in
+            disk.GoesBy turn (disk.history_at turn.0 (Write at bytes.now) (disk.history self.old))
+            result self.old self.new }
+    {
+        // A call that is to fail takes no memory.
+        let copy = match self.trouble.at_call() {
+            (Turn::Fails, _) => Vec::new(self.alloc),
+            _ => Vec::from_slice(self.alloc, bytes)?,
+        };
+        self.make(DeviceCall::Write(at, Bytes::new(copy)))
     }
 
-    fn cut(&mut self, len: usize) -> Result<(), DiskFault> {
+    fn cut(&mut self, len: usize) -> Result<(), DiskFault>
+        ensures cuts { Cuts len result (disk.view self.old) (disk.view self.new) }
+        ensures goes { let turn = turn_of_call (disk.trouble self.old) in
+            disk.GoesBy turn (disk.history_at turn.0 (Cut len) (disk.history self.old))
+            result self.old self.new }
+    {
         self.make(DeviceCall::Cut(len))
     }
 
-    fn sync(&mut self) -> Result<(), DiskFault> {
+    fn sync(&mut self) -> Result<(), DiskFault>
+        ensures syncs { Syncs result (disk.view self.old) (disk.view self.new) }
+        ensures goes { let turn = turn_of_call (disk.trouble self.old) in
+            disk.GoesBy turn (disk.history_at turn.0 Sync (disk.history self.old))
+            result self.old self.new }
+    {
         self.make(DeviceCall::Sync)
     }
 
