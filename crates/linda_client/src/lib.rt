@@ -5,31 +5,32 @@
 //! where what was pending came to its end. Packets may be lost, repeated and delayed: `resend` and
 //! `reconnected` give again what is not answered yet.
 //!
-//! Contracts see a client as a record of `specs/Clients`; what each call does to it is a function of
-//! `specs/Reacting`, case by case, and what follows from these is in `specs/Laws`.
+//! Contracts see a client as a record of `specs/Client`. What every call comes to is one function, `react`
+//! of `specs/React`, of which each call of a client is a case. `laws` says what holds of it over one call
+//! and over many, in words of its own.
 #![tactic(auto)]
 
-mod abandoning;
-mod again;
-mod arrivals;
-mod asks;
-mod clients;
-mod faults;
-mod outcomes;
-mod packets;
+mod arrival;
+mod ask;
+mod client;
+mod fault;
+mod laws;
+mod outcome;
+mod packet;
 mod pending;
-mod putting;
+mod reaction;
 mod ready;
-mod receiving;
-mod syncing;
-mod tasks;
-mod ticking;
+mod task;
 
-pub use clients::Client;
-pub use faults::ClientFault;
-pub use outcomes::{Bindings, Got, Numbers, Outcome, Reaction};
+pub use client::Client;
+pub use fault::ClientFault;
+pub use laws::{
+    calls_keep_clients, no_number_is_used_twice, no_ticket_is_used_twice, numbers_go_on,
+    offers_are_treated, offers_in_hand_are_kept, only_a_taken_takes, packets_are_sound,
+    synchronizations_end_once, synchronizations_go_on,
+};
+pub use outcome::{Bindings, Got, Numbers, Outcome};
+pub use reaction::Reaction;
 
-#[cfg(test)]
-mod plays;
 #[cfg(test)]
 mod tests;

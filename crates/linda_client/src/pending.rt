@@ -1,21 +1,26 @@
 //! A synchronization that has not committed yet.
 
-ghost use Rattle.std.specs.Prelude.{◌≡◌, ◌+◌, ◌<◌, ◌≤◌, ◌↔◌, [], ◌++◌, None, Some, true, false, length, option_copied, is_some, slice_get, IfOk, IsTrue, OnOk, OnErr, IsSomeAnd};
+ghost use Rattle.std.specs.Prelude.{◌≡◌, ◌+◌, ◌<◌, ◌≤◌, ◌↔◌, [], None, Some, true, false, length};
+ghost use Rattle.std.specs.Prelude.{option_copied, is_some, slice_get, IfOk, IsTrue, OnOk, OnErr};
 ghost use Rattle.std.specs.List.{list_any};
 ghost use Rattle.linda_tuple.specs.Matching.{Matches, bindings_of};
+ghost use Rattle.linda_event.specs.Limits.{IsWithinLimits};
 ghost use Rattle.linda_event.specs.Paths.{all_nacks};
 ghost use Rattle.linda_event.specs.Trees.{tree_of};
-ghost use Rattle.linda_event.specs.Limits.{IsWithinLimits};
-ghost use Rattle.linda_client.specs.Asks.{asks as asks_of, alarms as alarms_of, first_alarm};
-ghost use Rattle.linda_client.specs.Changes.{arrival_of, accepted_in, saved_in, waiting_in};
-ghost use Rattle.linda_client.specs.Committing.{ask_packets, cancels_but, is_of, spared, synced};
-ghost use Rattle.linda_client.specs.Reacting.{accept_packets, ask_taken, awaits};
-ghost use Rattle.linda_client.specs.Syncs.{FitsOpen, IsOpenInput, IsSync, ask_at, is_saved, number_limit, ticket_count};
+ghost use Rattle.linda_client.specs.Arrival.{arrival_of};
+ghost use Rattle.linda_client.specs.Ask.{asks as asks_of, alarms as alarms_of, first_alarm};
+ghost use Rattle.linda_client.specs.Packets.{ask_packets, cancels_but, is_of, sent_for, spared};
+ghost use Rattle.linda_client.specs.Pending.{FitsOpen, IsOpenInput, IsPending, ask_at, is_saved};
+ghost use Rattle.linda_client.specs.Pending.{let_go, number_limit, save_last, take_oldest};
+ghost use Rattle.linda_client.specs.Pending.{ticket_count};
+ghost use Rattle.linda_client.specs.React.{ask_of_taken, awaits};
+ghost use Rattle.linda_client.specs.Reaction.{commitment};
 
-use crate::arrivals::{Accepted, Arrival, Arriving};
-use crate::asks::{Alarm, Ask, first_due};
-use crate::outcomes::{Bindings, Got, Outcome, Reaction};
-use crate::packets::{push_asked, push_cancelled};
+use crate::arrival::{Accepted, Arrival, Arriving};
+use crate::ask::{Alarm, Ask, first_due};
+use crate::outcome::{Bindings, Got, Outcome};
+use crate::packet::{push_asked, push_cancelled};
+use crate::reaction::Reaction;
 use linda_event::{Event, all_nacks};
 use linda_tuple::{Tuple, bindings};
 use linda_wire::Message;
@@ -39,18 +44,18 @@ pub(crate) struct Pending {
 }
 
 impl Model for Pending {
-    ghost use Rattle.linda_client.specs.Syncs.{Sync};
-    ghost use Rattle.linda_client.specs.Codes.{sync_code};
+    ghost use Rattle.linda_client.specs.Pending as seen;
+    ghost use Rattle.linda_client.specs.PendingCode.{pending_code};
 
-    ghost Value = { Sync };
+    ghost Value = { seen.Pending };
 
-    ghost coded = { sync_code };
+    ghost coded = { pending_code };
 
-    ghost use Rattle.linda_client.specs.Viewing.{sync_of, IsPending};
+    ghost use Rattle.linda_client.specs.View.{pending_of, IsWhole};
 
-    ghost view = { sync_of };
+    ghost view = { pending_of };
 
-    ghost invariant = { IsPending };
+    ghost invariant = { IsWhole };
 }
 
 impl Pending {
@@ -82,7 +87,7 @@ impl Pending {
     /// How many tickets are open.
     pub(crate) fn ticket_count(&self) -> u64
         ensures count { result ≡ ticket_count self.now }
-        ensures ranges { IsSync self.now }
+        ensures keeps { IsPending self.now }
     {
         self.asks.len() as u64
     }
@@ -90,7 +95,7 @@ impl Pending {
     /// What is asked by the ticket, where it is open.
     pub(crate) fn ask_at(&self, ticket: u64) -> Option<&Ask>
         ensures ask { option_copied result ≡ ask_at self.now ticket }
-        ensures ranges { IsSync self.now }
+        ensures keeps { IsPending self.now }
     {
         if ticket < self.first {
             return None;
@@ -101,7 +106,7 @@ impl Pending {
     /// The offer that was accepted and is not answered yet.
     pub(crate) fn accepted(&self) -> Option<Accepted>
         ensures accepted { result ≡ self.now.accepted }
-        ensures ranges { IsSync self.now }
+        ensures keeps { IsPending self.now }
     {
         self.accepted
     }
@@ -113,10 +118,10 @@ impl Pending {
         self.saved.iter().any(|saved| saved.is(arriving))
     }
 
-    /// What the tuple was asked by that a server took for the client's message `n`, if that is the Accept that
-    /// is not answered yet, and the id is that of its offer.
+    /// What the tuple was asked by that a server took for the client's message `n`, if that is the Accept
+    /// that is not answered yet, and the id is that of its offer.
     pub(crate) fn ask_taken(&self, server: u32, n: u64, id: u64) -> Option<&Ask>
-        ensures { option_copied result ≡ ask_taken self.now self.now.accepted server n id }
+        ensures { option_copied result ≡ ask_of_taken self.now self.now.accepted server n id }
     {
         match self.accepted {
             Some(own) if own.is_answer(server, n) && own.id == id => self.ask_at(own.ticket),
@@ -168,7 +173,7 @@ impl Pending {
     }
 
     /// The server and the ticket that are spared when the synchronization commits: those of the accepted
-    /// offer, unless another offer of them is saved.
+    /// offer, unless an offer of them is saved.
     pub(crate) fn spared(&self) -> Option<(u32, u64)>
         ensures { result ≡ spared self.now }
     {
@@ -214,7 +219,7 @@ impl Pending {
         alloc: Global,
         servers: u32,
     ) -> Result<Vec<(u32, Message)>, AllocError>
-        ensures { IfOk result (λ v. v.items ≡ accept_packets self.now.accepted ++ ask_packets servers self.now) }
+        ensures { IfOk result (λ v. v.items ≡ sent_for servers self.now) }
     {
         let mut packets = Vec::new(alloc);
         if let Some(own) = self.accepted {
@@ -252,7 +257,7 @@ impl Pending {
         got: Got,
     ) -> Result<Reaction, AllocError>
         ensures packets { IfOk result (λ r. r.packets.items ≡ cancels_but servers spared self.now) }
-        ensures outcome { IfOk result (λ r. r.outcome ≡ Some (synced self.now.event base got)) }
+        ensures outcome { IfOk result (λ r. r.outcome ≡ Some (commitment self.now.event base got)) }
         ensures fault { IfOk result (λ r. r.fault ≡ None) }
     {
         let packets = self.cancels(alloc, servers, spared)?;
@@ -270,7 +275,8 @@ impl Pending {
     /// Notes that an offer was accepted: the oldest that is saved, where some are. Takes no memory.
     pub(crate) fn accept(&mut self, accepted: Accepted)
         requires { IsOpenInput self.old accepted.ticket }
-        ensures { self.new ≡ accepted_in accepted self.old }
+        ensures accepted { self.new ≡ take_oldest accepted self.old }
+        ensures keeps { IsPending self.new }
     {
         self.saved.pop_front();
         self.accepted = Some(accepted);
@@ -284,8 +290,9 @@ impl Pending {
     pub(crate) fn save(&mut self, arrival: Arrival) -> Result<(), AllocError>
         requires fits { FitsOpen self.old arrival }
         requires accepted { is_some self.old.accepted ≡ true }
-        ensures ok { OnOk result (self.new ≡ saved_in arrival self.old) }
+        ensures ok { OnOk result (self.new ≡ save_last arrival self.old) }
         ensures err { OnErr result (self.new ≡ self.old) }
+        ensures keeps { IsPending self.new }
     {
         self.saved.push_back(arrival)?;
         Ok(())
@@ -294,7 +301,8 @@ impl Pending {
     /// Notes that the accepted offer is gone, where nothing is saved. Takes no memory.
     pub(crate) fn wait(&mut self)
         requires { self.old.saved ≡ [] }
-        ensures { self.new ≡ waiting_in self.old }
+        ensures waits { self.new ≡ let_go self.old }
+        ensures keeps { IsPending self.new }
     {
         self.accepted = None;
     }

@@ -1,7 +1,7 @@
 -- The nodes of the members of a choice that are left.
 use Rattle.std.proofs.Common.{◌≡◌, ℕ, ◌+◌, ◌<◌, ◌≤◌, List, [], ◌++◌, length, get_or, drop, map, sym, ap, ◌∙◌}
 use Rattle.std.proofs.lemmas.List.{at_drop_more, at_drop_all}
-use Rattle.linda_event.specs.declared.events.Event.{Event}
+use Rattle.linda_event.specs.declared.event.Event.{Event}
 use Rattle.linda_event.specs.Trees.{tree_of, members_of}
 use Rattle.linda_event.specs.Paths.{Node, nodes, member_nodes, under}
 

@@ -1,7 +1,7 @@
 -- Where the element of a number is, in two lists one after the other; and counts of them.
 use Rattle.std.proofs.Common.{◌≡◌, ℕ, zero, suc, ◌+◌, ◌<◌, ◌≤◌, min, Bool, true, false, ◌||◌, List, [], ◌∷◌, ◌++◌, length, map, Option, Some, None, option_map, zero-add, suc-add, add-zero, refl, sym, ap, ◌∙◌, append_assoc, arith, length-append, true≢false}
 use Rattle.std.specs.Prelude.{if◌then◌else◌, slice_get, ltb, is_some}
-use Rattle.linda_event.specs.Limits.{is_ask, asks_from, is_too_deep}
+use Rattle.linda_event.specs.Limits.{is_too_deep}
 use Rattle.std.specs.List.{list_any}
 use Rattle.std.proofs.lemmas.Bool.Decides.{nat_tests}
 use Rattle.std.proofs.lemmas.Option.{slice_get-map}
@@ -10,18 +10,9 @@ use Rattle.linda_event.specs.Trees.{Kind, Tree}
 use Rattle.linda_event.specs.Paths.{Place, leaves}
 use Rattle.linda_event.specs.Ways.{leaf_under, IsFound}
 
-slice_get_front : {A : Type 0} (xs ys : List A) (i : ℕ) (a : A) → slice_get xs i ≡ Some a → slice_get (xs ++ ys) i ≡ Some a
-slice_get_front [] ys i a e = cc
-slice_get_front (x ∷ xs) ys zero a e = e
-slice_get_front (x ∷ xs) ys (suc i) a e = slice_get_front xs ys i a e
-
 slice_get_back : {A : Type 0} (xs ys : List A) (i : ℕ) → slice_get (xs ++ ys) (length xs + i) ≡ slice_get ys i
 slice_get_back [] ys i = rw zero-add
 slice_get_back (x ∷ xs) ys i = rw suc-add (slice_get_back xs ys i)
-
--- found among the first
-pub found_here : {A : Type 0} (next here rest : List A) (left : ℕ) (a : A) → next ≡ here ++ rest → slice_get here left ≡ Some a → slice_get next left ≡ Some a
-found_here next here rest left a split found = ap (λ xs. slice_get xs left) split ∙ slice_get_front here rest left a found
 
 -- not among the first, but so many after them
 pub found_later : {A : Type 0} (next here rest : List A) (left more : ℕ) → next ≡ here ++ rest → left ≡ length here + more → slice_get next left ≡ slice_get rest more
@@ -79,7 +70,7 @@ pub deep_below : (top above above' m : ℕ) (ls : List (Place × Kind)) (deep : 
     → deep ≡ list_any (λ leaf. ltb 64 (above' + length leaf.0)) ls → deep ≡ list_any (λ leaf. ltb 64 (above + length leaf.0)) (map (leaf_under m) ls)
 deep_below top above above' m ls deep high is asked = asked ∙ ap (λ a. list_any (λ leaf. ltb 64 (a + length leaf.0)) ls) is ∙ deep_under top above m ls high
 
-any_more : {A : Type 0} (p : A → Bool) (next here rest : List A) → next ≡ here ++ rest → list_any p next ≡ (list_any p here || list_any p rest)
+pub any_more : {A : Type 0} (p : A → Bool) (next here rest : List A) → next ≡ here ++ rest → list_any p next ≡ (list_any p here || list_any p rest)
 any_more p next here rest split = ap (list_any p) split ∙ list_any-append p here rest
 
 pub deep_in : (top above above' m : ℕ) (next ls rest : List (Place × Kind)) (deep : Bool) → 64 < top → next ≡ map (leaf_under m) ls ++ rest → above' ≡ min (above + 1) top
@@ -111,33 +102,3 @@ pub found_under : (before pushed after : List ℕ) (m left : ℕ) (ls : List (Pl
 found_under before pushed after m left ls None none first found =
     placed_under before m ls left ∙ ap (λ way. option_map (λ leaf. way ++ leaf.0) (slice_get ls left)) (sym first) ∙ found
 found_under before pushed after m left ls (Some rest) none first found = absurd (true≢false none)
-
-asks_if : (b : Bool) (number : ℕ) (all here rest : List ℕ) → all ≡ here ++ rest → (if b then number ∷ all else all) ≡ (if b then number ∷ here else here) ++ rest
-asks_if true number all here rest split = ap (λ ns. number ∷ ns) split
-asks_if false number all here rest split = split
-
-asks_from-append : (number : ℕ) (xs ys : List Kind) → asks_from number (xs ++ ys) ≡ asks_from number xs ++ asks_from (number + length xs) ys
-asks_from-append number [] ys = rw add-zero
-asks_from-append number (x ∷ xs) ys =
-    let e : suc number + length xs ≡ number + suc (length xs) = omega arith in
-    asks_if (is_ask x) number _ _ _ (asks_from-append (suc number) xs ys ∙ ap (λ n. asks_from (suc number) xs ++ asks_from n ys) e)
-
--- the inputs and reads of two parts, the second of which begins at this number
-pub asks_split : (next here rest : List Kind) (number after : ℕ) → next ≡ here ++ rest → after ≡ number + length here
-    → asks_from number next ≡ asks_from number here ++ asks_from after rest
-asks_split next here rest number after split is =
-    ap (asks_from number) split ∙ asks_from-append number here rest ∙ ap (λ n. asks_from number here ++ asks_from n rest) (sym is)
-
-pub numbers_more : (next here rest : List Kind) (number after whole : ℕ) → next ≡ here ++ rest → after ≡ number + length here → number + length next ≡ whole
-    → after + length rest ≡ whole
-numbers_more next here rest number after whole split is before = omega (arith, ap length split, length-append here rest)
-
-pub numbers_end : (next : List Kind) (number whole : ℕ) → next ≡ [] → number + length next ≡ whole → number ≡ whole
-numbers_end next number whole none before = omega (arith, ap length none)
-
--- a part has room where the whole has
-pub room_in : (next here rest : List Kind) (number whole top : ℕ) → next ≡ here ++ rest → number + length next ≡ whole → whole < top → number + length here < top
-room_in next here rest number whole top split before fits = omega (arith, ap length split, length-append here rest)
-
-pub room_below : (whole part : List Kind) (number top : ℕ) → whole ≡ part → number + length whole < top → number + length part < top
-room_below whole part number top is fits = omega (arith, ap length is)

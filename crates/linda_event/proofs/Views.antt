@@ -1,16 +1,17 @@
 -- What is read off the nodes of an event, by what stands at its root.
-use Rattle.std.proofs.Common.{◌≡◌, ℕ, ◌+◌, ◌<◌, ◌≤◌, true, false, List, [], ◌∷◌, ◌++◌, length, get_or, map, append-nil, arith, length-append, Option, Some, None, option_map, Bool, Bor, Vec, Box, Global, refl, sym, ap, ◌∙◌, rules}
+use Rattle.std.proofs.Common.{◌≡◌, ℕ, ◌+◌, ◌<◌, ◌≤◌, true, false, List, [], ◌∷◌, ◌++◌, ◌||◌, length, get_or, map, append-nil, arith, length-append, Option, Some, None, option_map, Bool, Bor, Vec, Box, Global, refl, sym, ap, ◌∙◌, rules}
 use Rattle.std.specs.Prelude.{is_some, count_by, cond}
 use Rattle.std.proofs.lemmas.List.Sums.{sum_by-append}
 use Rattle.std.proofs.lemmas.List.{map-append, length-map}
-use Rattle.linda_event.specs.declared.events.Event.{Event, Choose, Wrap, Nack, the_lemmas}
-use Rattle.linda_event.specs.declared.leaves.Base.{Base}
+use Rattle.linda_event.specs.declared.event.Event.{Event, Choose, Wrap, Nack, the_lemmas}
+use Rattle.linda_event.specs.declared.base.Base.{Base}
 use Rattle.linda_event.specs.Trees.{leaf, choose, wrap, nack, tree_of, members_of}
 use Rattle.linda_event.specs.Paths.{Node, Place, at_label, at_nack, at_choice, root, under, nodes, bases_of, leaves}
-use Rattle.linda_event.specs.Bases.{kind_of}
-use Rattle.linda_event.specs.Limits.{is_ask, asks_from}
+use Rattle.linda_event.specs.Bases.{is_ready, kind_of}
+use Rattle.linda_event.specs.Limits.{is_ask}
 use Rattle.linda_event.specs.Ways.{leaf_under, way_under}
-use Rattle.linda_event.proofs.Seeking.{asks_split}
+use Rattle.std.specs.List.{list_any}
+use Rattle.linda_event.proofs.Seeking.{any_more}
 use Rattle.linda_event.proofs.Members.{rest_nodes, rest_nodes_more, rest_nodes_end}
 use Rattle.linda_event.proofs.Nodes.{leaves_in, bases_in, labels_on, nacks_off, leaves_in-append, bases_in-append, labels_on-append, nacks_off-append, leaves_in_under, bases_in_under, labels_on_under, nacks_off_under, labels_on_none}
 
@@ -157,10 +158,6 @@ pub asks_more : (items : List Event) (i : ℕ) (x : Event) → i < length items 
 asks_more items i x h is =
     ap (count_by is_ask) (bases_more items i x h is) ∙ sum_by-append (λ kind. cond (is_ask kind) 1 0) (bases_of (tree_of x)) (bases_in (rest_nodes (i + 1) items))
 
-pub asks_next : (items : List Event) (i : ℕ) (x : Event) (number after : ℕ) → i < length items → x ≡ get_or items i x → after ≡ number + length (bases_of (tree_of x))
-    → asks_from number (bases_in (rest_nodes i items)) ≡ asks_from number (bases_of (tree_of x)) ++ asks_from after (bases_in (rest_nodes (i + 1) items))
-asks_next items i x number after h is on = asks_split (bases_in (rest_nodes i items)) (bases_of (tree_of x)) (bases_in (rest_nodes (i + 1) items)) number after (bases_more items i x h is) on
-
 -- a base that is pushed
 pub pushed_base : (e : Event) (old new : List Base) (b : Base) → new ≡ old ++ b ∷ [] → tree_of e ≡ leaf (kind_of b) → map kind_of new ≡ map kind_of old ++ bases_of (tree_of e)
 pushed_base e old new b pushed is = rw (pushed, is) (map-append kind_of old (b ∷ []))
@@ -175,22 +172,16 @@ pub no_labels : (way : Option (Bor Place)) (e : Event) (found : List ℕ) → is
 no_labels None e found off = sym (append-nil found) ∙ ap (λ ls. found ++ ls) (sym (labels_on_none (nodes (tree_of e))))
 no_labels (Some s) e found off = cc
 
--- what is below a node has fewer nodes
-pub smaller_Wrap : (e : Event) (n : ℕ) (b : Box Event Global) (x : Event) → e ≡ Wrap n b → x ≡ b.value → length (nodes (tree_of x)) < length (nodes (tree_of e))
-smaller_Wrap e n b x is that = omega (arith, ap length (nodes_Wrap e n b x is that), length-map (nodes (tree_of x)) (under 0))
+-- the next member has a base that is ready, and so have those that are left
+pub ready_here : (clock : ℕ) (items : List Event) (i : ℕ) (x : Event) (found : Bool) → i < length items → x ≡ get_or items i x → found ≡ list_any (is_ready clock) (bases_of (tree_of x)) → found ≡ true
+    → true ≡ list_any (is_ready clock) (bases_in (rest_nodes i items))
+ready_here clock items i x found h is told e =
+    sym (any_more (is_ready clock) _ (bases_of (tree_of x)) (bases_in (rest_nodes (i + 1) items)) (bases_more items i x h is)
+    ∙ ap (λ b. b || list_any (is_ready clock) (bases_in (rest_nodes (i + 1) items))) (sym told ∙ e))
 
-pub smaller_Nack : (e : Event) (n : ℕ) (b : Box Event Global) (x : Event) → e ≡ Nack n b → x ≡ b.value → length (nodes (tree_of x)) < length (nodes (tree_of e))
-smaller_Nack e n b x is that = omega (arith, ap length (nodes_Nack e n b x is that), length-map (nodes (tree_of x)) (under 0))
-
-next_length : (items : List Event) (i : ℕ) (x : Event) → i < length items → x ≡ get_or items i x
-    → length (rest_nodes i items) ≡ length (nodes (tree_of x)) + length (rest_nodes (i + 1) items)
-next_length items i x h is =
-    omega (arith, ap length (rest_nodes_more items i x h is), length-append (map (under i) (nodes (tree_of x))) (rest_nodes (i + 1) items), length-map (nodes (tree_of x)) (under i))
-
-pub smaller_member : (e : Event) (v : Vec Event Global) (items : List Event) (i : ℕ) (x : Event) → e ≡ Choose v → items ≡ v.items → i < length items → x ≡ get_or items i x
-    → length (rest_nodes i items) ≤ length (rest_nodes 0 items) → length (nodes (tree_of x)) < length (nodes (tree_of e))
-smaller_member e v items i x is those h that shorter = omega (arith, ap length (nodes_Choose e v items is those), next_length items i x h that)
-
-pub shorter_more : (items : List Event) (i : ℕ) (x : Event) → i < length items → x ≡ get_or items i x
-    → length (rest_nodes i items) ≤ length (rest_nodes 0 items) → length (rest_nodes (i + 1) items) ≤ length (rest_nodes 0 items)
-shorter_more items i x h that shorter = omega (arith, next_length items i x h that)
+-- the next member has none, and the members after it have one where those that are left do
+pub ready_after : (clock : ℕ) (items : List Event) (i : ℕ) (x : Event) (found : Bool) → i < length items → x ≡ get_or items i x → found ≡ list_any (is_ready clock) (bases_of (tree_of x)) → found ≡ false
+    → list_any (is_ready clock) (bases_in (rest_nodes (i + 1) items)) ≡ list_any (is_ready clock) (bases_in (rest_nodes i items))
+ready_after clock items i x found h is told e =
+    sym (any_more (is_ready clock) _ (bases_of (tree_of x)) (bases_in (rest_nodes (i + 1) items)) (bases_more items i x h is)
+    ∙ ap (λ b. b || list_any (is_ready clock) (bases_in (rest_nodes (i + 1) items))) (sym told ∙ e))

@@ -2,6 +2,5 @@ pub mod Trees
 pub mod Paths
 pub mod Limits
 pub mod Bases
-pub mod Asks
 pub mod Ways
 pub mod Codes

@@ -1,4 +1,5 @@
--- The nodes of an event in tree order, and what stands above a base: its labels, and which nack numbers are raised.
+-- The nodes of an event in tree order, and what stands above a base: its labels, and which nack numbers are
+-- raised.
 use Rattle.std.specs.Prelude.{ℕ, ◌+◌, ◌==◌, Bool, true, false, ◌&&◌, not, List, [], ◌∷◌, ◌++◌, Option, Some, None, option_map, map, filter, filter_map, reverse, slice_get}
 use Rattle.linda_event.specs.Trees.{Kind, Tree, leaf, choose, wrap, nack, Trees, no_trees, and_tree}
 
@@ -9,7 +10,8 @@ pub data Mark : Type 0 where
   at_label : ℕ → Mark
   at_nack : ℕ → Mark
 
--- A place: the member numbers that lead there from the root. What stands under a label or a nack number is its member 0.
+-- A place: the member numbers that lead there from the root. What stands under a label or a nack number is
+-- its member 0.
 abbrev pub Place : Type 0
 Place = List ℕ
 
@@ -99,7 +101,8 @@ nacks_among found = filter_map (λ node. nack_at node.mark) found
 abbrev pub labels : Tree → ℕ → List ℕ
 labels event number = reverse (labels_among (filter (is_above (place_of event number)) (nodes event)))
 
--- What a commitment to a base raises: the nack numbers of all nodes that are not above it, in tree order. Where there is no base of this number, no node is above it.
+-- What a commitment to a base raises: the nack numbers of all nodes that are not above it, in tree order.
+-- Where there is no base of this number, no node is above it.
 abbrev pub raised : Tree → ℕ → List ℕ
 raised event number = nacks_among (filter (λ node. not (is_above (place_of event number) node)) (nodes event))
 

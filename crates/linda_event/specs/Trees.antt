@@ -2,8 +2,8 @@
 use Rattle.std.specs.Prelude.{ℕ, List, [], ◌∷◌}
 use Rattle.linda_tuple.specs.declared.atom.Atom.{Atom}
 use Rattle.linda_tuple.specs.Template.{Template}
-use Rattle.linda_event.specs.declared.events.Event.{Event, fold-Event}
-use Rattle.linda_event.specs.declared.events.Event.TheOpen.{Event-F}
+use Rattle.linda_event.specs.declared.event.Event.{Event, fold-Event}
+use Rattle.linda_event.specs.declared.event.Event.TheOpen.{Event-F}
 
 -- What a base waits for.
 pub data Kind : Type 0 where

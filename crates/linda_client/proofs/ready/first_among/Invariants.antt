@@ -2,7 +2,7 @@ use Rattle.std.proofs.Common.{◌≡◌, map, drop}
 use Rattle.std.specs.Prelude.{filter_map}
 use Rattle.std.specs.List.{enumerate_from}
 use Rattle.linda_event.specs.Bases.{kind_of}
-use Rattle.linda_client.specs.Asks.{ready_at}
+use Rattle.linda_client.specs.Ask.{ready_at}
 use Rattle.linda_client.proofs.ready.first_among.Given as goal
 
 -- What is ready among the bases that are left is all that is ready.

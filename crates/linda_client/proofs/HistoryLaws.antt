@@ -1,0 +1,313 @@
+-- A client over many calls: no number and no ticket is used twice, and a synchronization ends once.
+use Rattle.std.proofs.Common.{◌≡◌, ℕ, ◌+◌, ◌<◌, ◌≤◌, Bool, true, false, cond, get_or, List, [], ◌∷◌, Contains, ◌⊎◌, inl, inr, refl, sym, ap, ◌∙◌, subst, arith}
+use Rattle.std.specs.Prelude.{Option, Some, None, is_some, Ok, Err, All, IfSome, IsSome, IsSomeAnd}
+use Rattle.std.proofs.lemmas.Option.{none-some, same_Some}
+use Rattle.std.proofs.lemmas.List.Elements.{All-cons, All-contains, All-nil, Contains-append_cases}
+use Rattle.std.proofs.lemmas.List.Sums.{sum_by-cons}
+use Rattle.linda_tuple.specs.Template.{Template}
+use Rattle.linda_wire.specs.declared.message.Message.{Message}
+use Rattle.linda_wire.specs.declared.message.Message.TheVariants as messages
+use Rattle.linda_client.specs.declared.arrival.Accepted.{Accepted}
+use Rattle.linda_client.specs.declared.ask.Ask.{Ask}
+use Rattle.linda_client.specs.declared.outcome.Outcome.{Outcome}
+use Rattle.linda_client.specs.declared.outcome.Outcome.TheVariants.{Stored, Synced, Dropped}
+use Rattle.linda_client.specs.declared.task.Task.{Task}
+use Rattle.linda_client.specs.declared.task.Task.TheVariants.{Idle, Putting, Syncing}
+use Rattle.linda_client.specs.Pending.{Pending, ask_at}
+use Rattle.linda_client.specs.Client.{Client, IsClient, IsTaskOf, IsUsed, asked_in, next_at, pending_in, server_limit}
+use Rattle.linda_client.specs.Packets.{Packet, accept_packet, unanswered}
+use Rattle.linda_client.specs.Reaction.{Answer, Reaction}
+use Rattle.linda_client.specs.React.{Call, new_client, new_pending, react}
+use Rattle.linda_client.specs.Ending.{EndsSync}
+use Rattle.linda_client.specs.History.{Event, NumbersAreOnce, TicketsAreOnce, all_sent, end_count, event_then, history, is_end, is_sync, sync_count}
+use Rattle.linda_client.specs.Numbers.{IsAnswered, NumbersGoOn, number_of}
+use Rattle.linda_client.specs.Progress.{GoesOn, IsSoundPacket}
+use Rattle.linda_client.proofs.AskLaws.{open_range, same_asks}
+use Rattle.linda_client.proofs.NumberLaws.{numbers_go}
+use Rattle.linda_client.proofs.ProgressLaws.{goes}
+use Rattle.linda_client.proofs.RangeLaws.{kept, new_is, rises}
+use Rattle.linda_client.proofs.SoundLaws.{sound}
+
+abbrev sent : Client → List Call → List Packet
+sent c calls = all_sent (history c calls)
+
+-- the only element of a list of one
+only_one : {X : Type 0} (x y : X) → Contains (x ∷ []) y → x ≡ y
+only_one x y there = All-contains (λ z. x ≡ z) (x ∷ []) y (All-cons (λ z. x ≡ z) x [] refl (All-nil (λ z. x ≡ z))) there
+
+nowhere : {X A : Type 0} (x : X) → Contains [] x → A
+nowhere x there = absurd (All-contains (λ _. ⊥) [] x (All-nil (λ _. ⊥)) there)
+
+-- What is unanswered has a number that was used.
+used : (c : Client) → IsClient c → (s n : ℕ) (m : Message) → unanswered c.task ≡ Some (s, m) → number_of m ≡ Some n → n < next_at c s
+used c is s n m e number = by c.task is.task e
+  where
+    same_number : (k : ℕ) (own : ℕ × Message) → number_of own.1 ≡ Some k → own ≡ (s, m) → k < next_at c own.0 → n < next_at c s
+    same_number k own has same low =
+        let same_n : k ≡ n = same_Some k n (sym has ∙ ap (λ p. number_of p.1) same ∙ number) in
+        let same_s : own.0 ≡ s = ap (λ p. p.0) same in
+        subst (λ j. n < next_at c j) same_s (subst (λ j. j < next_at c own.0) same_n low)
+
+    by : (t : Task) → IsTaskOf c t → unanswered t ≡ Some (s, m) → n < next_at c s
+    by Idle h f = absurd (none-some (s, m) f)
+    by (Putting server k row) h f = same_number k (server, messages.Out k row) refl (same_Some _ (s, m) f) h.1.1
+    by (Syncing pending) h f = own pending.accepted h.accepted f
+      where
+        own : (o : Option Accepted) → IfSome o (λ a. IsUsed c a.server a.n) → accept_packet o ≡ Some (s, m) → n < next_at c s
+        own None g f = absurd (none-some (s, m) f)
+        own (Some a) g f = same_number a.n (a.server, messages.Accept a.n a.ticket a.id) refl (same_Some _ (s, m) f) g.1.1
+
+has_number : (m : Message) (n : ℕ) → number_of m ≡ Some n → IsSome (number_of m)
+has_number m n e = ap is_some e
+
+-- The message is the unanswered one, or its number is not used yet.
+abbrev OwnOrNew : Client → ℕ → ℕ → Message → Type 0
+OwnOrNew c s n m = (unanswered c.task ≡ Some (s, m)) ⊎ (next_at c s ≤ n)
+
+-- A numbered message that is sent at a call is the unanswered one, or has the next number.
+sent_now : (c : Client) (call : Call) (r : Reaction) → NumbersGoOn c call r → (s n : ℕ) (m : Message) → Contains r.packets (s, m) → number_of m ≡ Some n → OwnOrNew c s n m
+sent_now c call r (inl none) s n m there number = inl (none.again (s, m) there (has_number m n number))
+sent_now c call r (inr (p, new)) s n m there number =
+    let same = only_one p (s, m) (subst (λ l. Contains l (s, m)) new.alone there) in
+    let at : next_at c p.0 ≡ n = same_Some (next_at c p.0) n (sym new.number ∙ ap (λ q. number_of q.1) same ∙ number) in
+    let at_s : next_at c s ≡ n = ap (λ (q : Packet). next_at c q.0) (sym same) ∙ at in
+    inr (omega arith)
+
+-- What is unanswered after a call was so before, or has the number that was next.
+unanswered_now : (c : Client) (call : Call) (r : Reaction) → NumbersGoOn c call r → (s n : ℕ) (m : Message) → unanswered r.client.task ≡ Some (s, m) → number_of m ≡ Some n
+    → OwnOrNew c s n m
+unanswered_now c call r (inl none) s n m e number = by none.unanswered_is
+  where
+    by : (unanswered r.client.task ≡ unanswered c.task) ⊎ ((unanswered r.client.task ≡ None) × IsAnswered c call) → OwnOrNew c s n m
+    by (inl same) = inl (sym same ∙ e)
+    by (inr gone) = absurd (none-some (s, m) (sym gone.0 ∙ e))
+unanswered_now c call r (inr (p, new)) s n m e number =
+    let same = same_Some p (s, m) (sym new.unanswered_is ∙ e) in
+    let at : next_at c p.0 ≡ n = same_Some (next_at c p.0) n (sym new.number ∙ ap (λ q. number_of q.1) same ∙ number) in
+    let at_s : next_at c s ≡ n = ap (λ (q : Packet). next_at c q.0) (sym same) ∙ at in
+    inr (omega arith)
+
+-- A numbered message that is sent from here on is the unanswered one, or its number is not used yet.
+sent_later : (calls : List Call) (c : Client) → IsClient c → (s n : ℕ) (m : Message) → Contains (sent c calls) (s, m) → number_of m ≡ Some n → OwnOrNew c s n m
+sent_later [] c is s n m there number = nowhere (s, m) there
+sent_later (call ∷ calls) c is s n m there number = by (react c call) refl there (λ d is_d here. sent_later calls d is_d s n m here number)
+  where
+    by : (answer : Answer) → react c call ≡ answer → Contains (all_sent (event_then c call answer (λ d. history d calls))) (s, m)
+        → ((d : Client) → IsClient d → Contains (sent d calls) (s, m) → OwnOrNew d s n m) → OwnOrNew c s n m
+    by (Err fault) e here later = later c is here
+    by (Ok r) e here later = split (Contains-append_cases r.packets (sent r.client calls) (s, m) here)
+      where
+        after : OwnOrNew r.client s n m → OwnOrNew c s n m
+        after (inl own) = unanswered_now c call r (numbers_go c call r is e) s n m own number
+        after (inr low) = let up = (rises c call r is e).numbers s in inr (omega arith)
+
+        split : Contains r.packets (s, m) ⊎ Contains (sent r.client calls) (s, m) → OwnOrNew c s n m
+        split (inl now) = sent_now c call r (numbers_go c call r is e) s n m now number
+        split (inr then) = after (later r.client (kept c call r is e) then)
+
+-- Two numbered messages that are sent at one call are the same.
+both_now : (c : Client) (call : Call) (r : Reaction) → NumbersGoOn c call r → (s n : ℕ) (a b : Message) → Contains r.packets (s, a) → Contains r.packets (s, b) → number_of a ≡ Some n → number_of b ≡ Some n → a ≡ b
+both_now c call r (inl none) s n a b p q f g =
+    ap (λ x. x.1) (same_Some (s, a) (s, b) (sym (none.again (s, a) p (has_number a n f)) ∙ none.again (s, b) q (has_number b n g)))
+both_now c call r (inr (x, new)) s n a b p q f g =
+    ap (λ y. y.1) (sym (only_one x (s, a) (subst (λ l. Contains l (s, a)) new.alone p)) ∙ only_one x (s, b) (subst (λ l. Contains l (s, b)) new.alone q))
+
+-- A numbered message that is sent at a call is the same as one that is sent later.
+now_and_later : (c : Client) (call : Call) (r : Reaction) → IsClient c → NumbersGoOn c call r → (s n : ℕ) (a b : Message) → Contains r.packets (s, a) → number_of a ≡ Some n
+    → OwnOrNew r.client s n b → a ≡ b
+now_and_later c call r is (inl none) s n a b p f (inl own) = by none.unanswered_is
+  where
+    was : unanswered c.task ≡ Some (s, a)
+    was = none.again (s, a) p (has_number a n f)
+
+    by : (unanswered r.client.task ≡ unanswered c.task) ⊎ ((unanswered r.client.task ≡ None) × IsAnswered c call) → a ≡ b
+    by (inl same) = ap (λ x. x.1) (same_Some (s, a) (s, b) (sym was ∙ sym same ∙ own))
+    by (inr gone) = absurd (none-some (s, b) (sym gone.0 ∙ own))
+now_and_later c call r is (inl none) s n a b p f (inr low) =
+    let below = used c is s n a (none.again (s, a) p (has_number a n f)) f in
+    let same : next_at r.client s ≡ next_at c s = ap (λ xs. get_or xs s 0) none.next in
+    absurd (omega arith)
+now_and_later c call r is (inr (x, new)) s n a b p f (inl own) =
+    ap (λ y. y.1) (sym (only_one x (s, a) (subst (λ l. Contains l (s, a)) new.alone p)) ∙ same_Some x (s, b) (sym new.unanswered_is ∙ own))
+now_and_later c call r is (inr (x, new)) s n a b p f (inr low) =
+    let same = only_one x (s, a) (subst (λ l. Contains l (s, a)) new.alone p) in
+    let at : next_at c x.0 ≡ n = same_Some (next_at c x.0) n (sym new.number ∙ ap (λ q. number_of q.1) same ∙ f) in
+    let at_s : next_at c s ≡ n = ap (λ (q : Packet). next_at c q.0) (sym same) ∙ at in
+    let more : next_at r.client s ≡ next_at c s + 1 = subst (λ (q : Packet). next_at r.client q.0 ≡ next_at c q.0 + 1) same new.next in
+    absurd (omega arith)
+
+numbers_from : (calls : List Call) (c : Client) → IsClient c → NumbersAreOnce (sent c calls)
+numbers_from [] c is s n a b p q f g = nowhere (s, a) p
+numbers_from (call ∷ calls) c is s n a b p q f g = by (react c call) refl p q (λ d is_d x y. numbers_from calls d is_d s n a b x y f g)
+  where
+    by : (answer : Answer) → react c call ≡ answer → Contains (all_sent (event_then c call answer (λ d. history d calls))) (s, a) → Contains (all_sent (event_then c call answer (λ d. history d calls))) (s, b)
+        → ((d : Client) → IsClient d → Contains (sent d calls) (s, a) → Contains (sent d calls) (s, b) → a ≡ b) → a ≡ b
+    by (Err fault) e x y later = later c is x y
+    by (Ok r) e x y later = split (Contains-append_cases r.packets (sent r.client calls) (s, a) x) (Contains-append_cases r.packets (sent r.client calls) (s, b) y)
+      where
+        go : NumbersGoOn c call r
+        go = numbers_go c call r is e
+
+        after : IsClient r.client
+        after = kept c call r is e
+
+        split : Contains r.packets (s, a) ⊎ Contains (sent r.client calls) (s, a) → Contains r.packets (s, b) ⊎ Contains (sent r.client calls) (s, b) → a ≡ b
+        split (inl x) (inl y) = both_now c call r go s n a b x y f g
+        split (inl x) (inr y) = now_and_later c call r is go s n a b x f (sent_later calls r.client after s n b y g)
+        split (inr x) (inl y) = sym (now_and_later c call r is go s n b a y g (sent_later calls r.client after s n a x f))
+        split (inr x) (inr y) = later r.client after x y
+
+pub numbers_once : (number count : ℕ) (calls : List Call) → 1 ≤ count → count ≤ server_limit → NumbersAreOnce (all_sent (history (new_client number count) calls))
+numbers_once number count calls low high = numbers_from calls (new_client number count) (new_is number count low high)
+
+-- What a ticket asks, which is open.
+abbrev Asks : Client → ℕ → Bool → Template → Type 0
+Asks c k p x = IsSomeAnd (asked_in (pending_in c.task) k) (λ ask. (ask.remove ≡ p) × (ask.template ≡ x))
+
+-- That is what the ticket asks, which is open, or it is not used yet.
+abbrev AsksOrNew : Client → ℕ → Bool → Template → Type 0
+AsksOrNew c k p x = Asks c k p x ⊎ (c.ticket ≤ k)
+
+one_ask : (o : Option Ask) (p q : Bool) (x y : Template) → IsSomeAnd o (λ ask. (ask.remove ≡ p) × (ask.template ≡ x)) → IsSomeAnd o (λ ask. (ask.remove ≡ q) × (ask.template ≡ y)) → (p ≡ q) × (x ≡ y)
+one_ask None p q x y f g = absurd f
+one_ask (Some ask) p q x y f g = (sym f.0 ∙ g.0, sym f.1 ∙ g.1)
+
+asks_now : (r : Reaction) → All (IsSoundPacket r.client) r.packets → (s k : ℕ) (p : Bool) (x : Template) → Contains r.packets (s, messages.Ask k p x) → Asks r.client k p x
+asks_now r all s k p x there = (All-contains (IsSoundPacket r.client) r.packets (s, messages.Ask k p x) all there).1
+
+-- An open ticket was used.
+ticket_used : (c : Client) → IsClient c → (k : ℕ) (p : Bool) (x : Template) → Asks c k p x → k < c.ticket
+ticket_used c is k p x asks = by c.task is.task asks
+  where
+    by : (t : Task) → IsTaskOf c t → IsSomeAnd (asked_in (pending_in t) k) (λ ask. (ask.remove ≡ p) × (ask.template ≡ x)) → k < c.ticket
+    by Idle h f = absurd f
+    by (Putting server n row) h f = absurd f
+    by (Syncing pending) h f = at (ask_at pending k) refl f
+      where
+        at : (o : Option Ask) → ask_at pending k ≡ o → IsSomeAnd o (λ ask. (ask.remove ≡ p) × (ask.template ≡ x)) → k < c.ticket
+        at None e g = absurd g
+        at (Some ask) e g = let range = open_range pending k ask e in let high = h.tickets in let below = range.1 in omega arith
+
+-- What a ticket asks after a call it asked before, or it is new.
+asked_before : (c : Client) (call : Call) (r : Reaction) → (o : Option Pending) → pending_in c.task ≡ o → GoesOn c call o r → (k : ℕ) (p : Bool) (x : Template) → Asks r.client k p x → AsksOrNew c k p x
+asked_before c call r (Some pending) there (ticket, inl end) k p x asks =
+    absurd (subst (λ t. IsSomeAnd (asked_in (pending_in t) k) (λ ask. (ask.remove ≡ p) × (ask.template ≡ x))) end.idle asks)
+asked_before c call r (Some pending) there (ticket, inr more) k p x asks =
+    inl (subst (λ o. IsSomeAnd (asked_in o k) (λ ask. (ask.remove ≡ p) × (ask.template ≡ x))) (sym there)
+    (subst (λ o. IsSomeAnd o (λ ask. (ask.remove ≡ p) × (ask.template ≡ x))) (same_asks more.later pending more.event more.first k)
+    (subst (λ o. IsSomeAnd (asked_in o k) (λ ask. (ask.remove ≡ p) × (ask.template ≡ x))) more.after asks)))
+asked_before c call r None there (inl (ticket, inl apart)) k p x asks = absurd (subst (λ o. IsSomeAnd (asked_in o k) (λ ask. (ask.remove ≡ p) × (ask.template ≡ x))) apart.after asks)
+asked_before c call r None there (inl (ticket, inr ends)) k p x asks =
+    absurd (subst (λ t. IsSomeAnd (asked_in (pending_in t) k) (λ ask. (ask.remove ≡ p) × (ask.template ≡ x))) ends.idle asks)
+asked_before c call r None there (inr begins) k p x asks = at (ask_at (new_pending c begins.event) k) refl (subst (λ o. IsSomeAnd (asked_in o k) (λ ask. (ask.remove ≡ p) × (ask.template ≡ x))) begins.after asks)
+  where
+    at : (o : Option Ask) → ask_at (new_pending c begins.event) k ≡ o → IsSomeAnd o (λ ask. (ask.remove ≡ p) × (ask.template ≡ x)) → AsksOrNew c k p x
+    at None e g = absurd g
+    at (Some ask) e g = inr (open_range (new_pending c begins.event) k ask e).0
+
+asks_later : (calls : List Call) (c : Client) → IsClient c → (s k : ℕ) (p : Bool) (x : Template) → Contains (sent c calls) (s, messages.Ask k p x) → AsksOrNew c k p x
+asks_later [] c is s k p x there = nowhere (s, messages.Ask k p x) there
+asks_later (call ∷ calls) c is s k p x there = by (react c call) refl there (λ d is_d here. asks_later calls d is_d s k p x here)
+  where
+    by : (answer : Answer) → react c call ≡ answer → Contains (all_sent (event_then c call answer (λ d. history d calls))) (s, messages.Ask k p x)
+        → ((d : Client) → IsClient d → Contains (sent d calls) (s, messages.Ask k p x) → AsksOrNew d k p x) → AsksOrNew c k p x
+    by (Err fault) e here later = later c is here
+    by (Ok r) e here later = split (Contains-append_cases r.packets (sent r.client calls) (s, messages.Ask k p x) here)
+      where
+        after : AsksOrNew r.client k p x → AsksOrNew c k p x
+        after (inl asks) = asked_before c call r (pending_in c.task) refl (goes c call r is e) k p x asks
+        after (inr low) = let up = (rises c call r is e).tickets in inr (omega arith)
+
+        split : Contains r.packets (s, messages.Ask k p x) ⊎ Contains (sent r.client calls) (s, messages.Ask k p x) → AsksOrNew c k p x
+        split (inl now) = after (inl (asks_now r (sound c call r is e) s k p x now))
+        split (inr then) = after (later r.client (kept c call r is e) then)
+
+-- An ask that is sent at a call is the same as one that is sent later under its ticket.
+ask_and_later : (d : Client) → IsClient d → (k : ℕ) (p q : Bool) (x y : Template) → Asks d k p x → AsksOrNew d k q y → (p ≡ q) × (x ≡ y)
+ask_and_later d is k p q x y asks (inl other) = one_ask (asked_in (pending_in d.task) k) p q x y asks other
+ask_and_later d is k p q x y asks (inr low) = let below = ticket_used d is k p x asks in absurd (omega arith)
+
+tickets_from : (calls : List Call) (c : Client) → IsClient c → TicketsAreOnce (sent c calls)
+tickets_from [] c is s t k p q x y f g = nowhere (s, messages.Ask k p x) f
+tickets_from (call ∷ calls) c is s t k p q x y f g = by (react c call) refl f g (λ d is_d h i. tickets_from calls d is_d s t k p q x y h i)
+  where
+    by : (answer : Answer) → react c call ≡ answer → Contains (all_sent (event_then c call answer (λ d. history d calls))) (s, messages.Ask k p x)
+        → Contains (all_sent (event_then c call answer (λ d. history d calls))) (t, messages.Ask k q y)
+        → ((d : Client) → IsClient d → Contains (sent d calls) (s, messages.Ask k p x) → Contains (sent d calls) (t, messages.Ask k q y) → (p ≡ q) × (x ≡ y)) → (p ≡ q) × (x ≡ y)
+    by (Err fault) e h i later = later c is h i
+    by (Ok r) e h i later = split (Contains-append_cases r.packets (sent r.client calls) (s, messages.Ask k p x) h) (Contains-append_cases r.packets (sent r.client calls) (t, messages.Ask k q y) i)
+      where
+        after : IsClient r.client
+        after = kept c call r is e
+
+        now : (u : ℕ) (z : Bool) (w : Template) → Contains r.packets (u, messages.Ask k z w) → Asks r.client k z w
+        now u z w there = asks_now r (sound c call r is e) u k z w there
+
+        split : Contains r.packets (s, messages.Ask k p x) ⊎ Contains (sent r.client calls) (s, messages.Ask k p x) → Contains r.packets (t, messages.Ask k q y) ⊎ Contains (sent r.client calls) (t, messages.Ask k q y) → (p ≡ q) × (x ≡ y)
+        split (inl h) (inl i) = one_ask (asked_in (pending_in r.client.task) k) p q x y (now s p x h) (now t q y i)
+        split (inl h) (inr i) = ask_and_later r.client after k p q x y (now s p x h) (asks_later calls r.client after t k q y i)
+        split (inr h) (inl i) = let same = ask_and_later r.client after k q p y x (now t q y i) (asks_later calls r.client after s k p x h) in (sym same.0, sym same.1)
+        split (inr h) (inr i) = later r.client after h i
+
+pub tickets_once : (number count : ℕ) (calls : List Call) → 1 ≤ count → count ≤ server_limit → TicketsAreOnce (all_sent (history (new_client number count) calls))
+tickets_once number count calls low high = tickets_from calls (new_client number count) (new_is number count low high)
+
+-- one for what is so, none for what is not
+abbrev weight : Bool → ℕ
+weight b = cond b 1 0
+
+abbrev pends : Client → ℕ
+pends c = weight (is_some (pending_in c.task))
+
+no_end : (o : Option Outcome) → (EndsSync o → ⊥) → is_end o ≡ false
+no_end None h = refl
+no_end (Some (Stored server id)) h = refl
+no_end (Some (Synced base got labels raised)) h = absurd (h tt)
+no_end (Some (Dropped raised)) h = absurd (h tt)
+
+at_most_one : (b : Bool) → weight b ≤ 1
+at_most_one true = omega arith
+at_most_one false = omega arith
+
+-- A call ends no more than was pending or is begun by it.
+ends_now : (c : Client) (call : Call) (r : Reaction) (o : Option Pending) → GoesOn c call o r → weight (is_end r.outcome) + pends r.client ≤ weight (is_sync call) + weight (is_some o)
+ends_now c call r (Some pending) (ticket, inl end) =
+    let none : pends r.client ≡ 0 = ap (λ t. weight (is_some (pending_in t))) end.idle in
+    let one = at_most_one (is_end r.outcome) in
+    omega arith
+ends_now c call r (Some pending) (ticket, inr more) =
+    let none : weight (is_end r.outcome) ≡ 0 = ap (λ o. weight (is_end o)) more.silent in
+    let one = at_most_one (is_some (pending_in r.client.task)) in
+    omega arith
+ends_now c call r None (inl (ticket, inl apart)) =
+    let none : weight (is_end r.outcome) ≡ 0 = ap weight (no_end r.outcome apart.silent) in
+    let gone : pends r.client ≡ 0 = ap (λ o. weight (is_some o)) apart.after in
+    omega arith
+ends_now c call r None (inl (ticket, inr ends)) =
+    let gone : pends r.client ≡ 0 = ap (λ t. weight (is_some (pending_in t))) ends.idle in
+    let one = at_most_one (is_end r.outcome) in
+    let begun : weight (is_sync call) ≡ 1 = ap (λ x. weight (is_sync x)) ends.called in
+    omega arith
+ends_now c call r None (inr begins) =
+    let none : weight (is_end r.outcome) ≡ 0 = ap (λ o. weight (is_end o)) begins.silent in
+    let one = at_most_one (is_some (pending_in r.client.task)) in
+    let begun : weight (is_sync call) ≡ 1 = ap (λ x. weight (is_sync x)) begins.called in
+    omega arith
+
+ends_from : (calls : List Call) (c : Client) → IsClient c → end_count (history c calls) ≤ sync_count (history c calls) + pends c
+ends_from [] c is = omega arith
+ends_from (call ∷ calls) c is = by (react c call) refl (λ d is_d. ends_from calls d is_d)
+  where
+    by : (answer : Answer) → react c call ≡ answer → ((d : Client) → IsClient d → end_count (history d calls) ≤ sync_count (history d calls) + pends d)
+        → end_count (event_then c call answer (λ d. history d calls)) ≤ sync_count (event_then c call answer (λ d. history d calls)) + pends c
+    by (Err fault) e later = later c is
+    by (Ok r) e later =
+        let first : Event = record { call = call; reaction = r } in
+        let ends = sum_by-cons (λ (x : Event). weight (is_end x.reaction.outcome)) first (history r.client calls) in
+        let syncs = sum_by-cons (λ (x : Event). weight (is_sync x.call)) first (history r.client calls) in
+        let now = ends_now c call r (pending_in c.task) (goes c call r is e) in
+        let then = later r.client (kept c call r is e) in
+        omega (arith, ends, syncs, now, then)
+
+pub ends_once : (number count : ℕ) (calls : List Call) → 1 ≤ count → count ≤ server_limit → end_count (history (new_client number count) calls) ≤ sync_count (history (new_client number count) calls)
+ends_once number count calls low high = let all = ends_from calls (new_client number count) (new_is number count low high) in omega arith

@@ -1,0 +1,47 @@
+-- Elements of lists.
+use Rattle.std.proofs.Common.{◌≡◌, ◌||◌, ◌⊎◌, inl, inr, arith, Bool, true, false, List, [], ◌∷◌, filter, Contains, refl, sym}
+use Rattle.std.specs.Prelude.{All}
+use Rattle.std.specs.List.{list_any}
+use Rattle.std.proofs.lemmas.Bool.{false≢true}
+use Rattle.std.proofs.lemmas.List.Elements.{All-cons, All-contains, All-contains_itself, All-drop, All-filter, All-nil, All-weaker, Contains-append_cases, Contains-append_left, Contains-append_right}
+
+-- what is left by a filter was there
+pub kept_there : {X : Type 0} (p : X → Bool) (xs : List X) (x : X) → Contains (filter p xs) x → Contains xs x
+kept_there p xs x there = All-contains (Contains xs) (filter p xs) x (All-filter p (Contains xs) xs (All-contains_itself xs)) there
+
+-- what holds of all holds of all but the first
+pub tail_all : {X : Type 0} (P : X → Type 0) (x : X) (xs : List X) → All P (x ∷ xs) → All P xs
+tail_all P x xs all = All-drop P 1 (x ∷ xs) all
+
+-- what holds of all of a list holds of all that is there
+pub all_there : {X : Type 0} (P : X → Type 0) (xs ys : List X) → ((x : X) → Contains xs x → Contains ys x) → All P ys → All P xs
+all_there P xs ys there all = All-weaker (Contains xs) P (λ x here. All-contains P ys x all (there x here)) xs (All-contains_itself xs)
+
+-- an element of a list with one in front
+pub in_front : {X : Type 0} (y x : X) (ys : List X) → Contains (y ∷ ys) x → (y ≡ x) ⊎ Contains ys x
+in_front {X} y x ys there = by (Contains-append_cases (y ∷ []) ys x there)
+  where
+    by : Contains (y ∷ []) x ⊎ Contains ys x → (y ≡ x) ⊎ Contains ys x
+    by (inl here) = inl (All-contains (λ z. y ≡ z) (y ∷ []) x (All-cons (λ z. y ≡ z) y [] refl (All-nil (λ z. y ≡ z))) here)
+    by (inr later) = inr later
+
+-- one that passes, where some does
+pub any_one : {X : Type 0} (p : X → Bool) (xs : List X) → list_any p xs ≡ true → (x : X) × (Contains xs x × (p x ≡ true))
+any_one p [] e = absurd (false≢true e)
+any_one {X} p (y ∷ ys) e = by (p y) refl e (λ f. any_one p ys f)
+  where
+    by : (b : Bool) → p y ≡ b → (b || list_any p ys) ≡ true → (list_any p ys ≡ true → (x : X) × (Contains ys x × (p x ≡ true))) → (x : X) × (Contains (y ∷ ys) x × (p x ≡ true))
+    by true here f later = (y, (Contains-append_left (y ∷ []) ys y (0, omega arith, refl), here))
+    by false other f later = let found = later f in (found.0, (Contains-append_right (y ∷ []) ys found.0 found.1.0, found.1.1))
+
+not_any : {X : Type 0} (p : X → Bool) (xs : List X) → list_any p xs ≡ false → All (λ x. p x ≡ false) xs
+not_any p [] e = All-nil (λ x. p x ≡ false)
+not_any {X} p (y ∷ ys) e = by (p y) refl e (λ f. not_any p ys f)
+  where
+    by : (b : Bool) → p y ≡ b → (b || list_any p ys) ≡ false → (list_any p ys ≡ false → All (λ x. p x ≡ false) ys) → All (λ x. p x ≡ false) (y ∷ ys)
+    by true here f later = absurd (false≢true (sym f))
+    by false other f later = All-cons (λ x. p x ≡ false) y ys other (later f)
+
+-- where none passes, one that is there does not
+pub none_any : {X : Type 0} (p : X → Bool) (xs : List X) (x : X) → Contains xs x → list_any p xs ≡ false → p x ≡ false
+none_any p xs x there none = All-contains (λ y. p y ≡ false) xs x (not_any p xs none) there

@@ -1,0 +1,221 @@
+-- Next numbers and tickets never fall, and a client is as every client is, at first and after each call.
+use Rattle.std.proofs.Common.{◌≡◌, ◌≢◌, ℕ, zero, suc, ◌+◌, ◌<◌, ◌≤◌, List, [], ◌∷◌, length, get_or, set, refl, sym, ap, ◌∙◌, subst, arith}
+use Rattle.std.specs.Prelude.{Option, Some, None, is_some, All, IfSome, Ok, true}
+use Rattle.std.proofs.Math.ListN.{length-set}
+use Rattle.std.proofs.lemmas.Bool.{false≢true}
+use Rattle.std.proofs.lemmas.List.{get_or-set_same, length-replicate}
+use Rattle.std.proofs.lemmas.List.Elements.{All-append, All-cons, All-nil, All-get_or, All-replicate, All-set, All-weaker}
+use Rattle.linda_client.specs.declared.arrival.Accepted.{Accepted}
+use Rattle.linda_client.specs.declared.arrival.Arrival.{Arrival}
+use Rattle.linda_client.specs.declared.task.Task.{Task}
+use Rattle.linda_client.specs.declared.task.Task.TheVariants.{Idle, Putting, Syncing}
+use Rattle.linda_client.specs.Pending.{FitsOpen, number_limit}
+use Rattle.linda_client.specs.Client.{Client, IsClient, IsPendingOf, IsTaskOf, IsUsed, next_at, server_limit, servers}
+use Rattle.linda_client.specs.Reaction.{Reaction}
+use Rattle.linda_client.specs.React.{Call, new_client, new_pending, out_server, react, used_at}
+use Rattle.linda_client.specs.Numbers.{Rises}
+use Rattle.linda_client.proofs.ListLaws.{tail_all}
+use Rattle.linda_client.proofs.Course.{Course, Turn, abandons, accepts, arrives, begins, commits, commits_at_once, course, hands_on, oldest, pending_of, puts, rejects, repeats, rests, saves, stores, waits}
+
+set_rises : (xs : List ℕ) (s v q : ℕ) → get_or xs s 0 ≤ v → get_or xs q 0 ≤ get_or (set xs s v) q 0
+set_rises [] s v q h = omega arith
+set_rises (x ∷ xs) zero v zero h = h
+set_rises (x ∷ xs) zero v (suc q) h = omega arith
+set_rises (x ∷ xs) (suc s) v zero h = omega arith
+set_rises (x ∷ xs) (suc s) v (suc q) h = set_rises xs s v q h
+
+-- No number is used.
+rises_same : (old new : Client) → old.ticket ≤ new.ticket → new.next ≡ old.next → Rises old new
+rises_same old new t n = record {
+  numbers = λ server. let e : next_at new server ≡ next_at old server = ap (λ xs. get_or xs server 0) n in omega arith;
+  tickets = t;
+  same_servers = ap length n;
+}
+
+-- The next number of a server is used.
+rises_used : (old new : Client) (s : ℕ) → new.ticket ≡ old.ticket → new.next ≡ used_at old s → Rises old new
+rises_used old new s t n = record {
+  numbers = λ server.
+      let more : next_at old s ≤ next_at old s + 1 = omega arith in
+      let e : next_at new server ≡ get_or (used_at old s) server 0 = ap (λ xs. get_or xs server 0) n in
+      let h : next_at old server ≤ get_or (used_at old s) server 0 = set_rises old.next s (next_at old s + 1) server more in
+      omega arith;
+  tickets = omega arith;
+  same_servers = ap length n ∙ length-set old.next s (next_at old s + 1);
+}
+
+rises_on : (c : Client) (call : Call) (r : Reaction) → Course c call r → Rises c r.client
+rises_on c call r (puts row idle number outs) = rises_used c r.client (out_server c) refl refl
+rises_on c call r (begins event called idle within room) = rises_same c r.client (omega arith) refl
+rises_on c call r (accepts pending rest a task turn within input more) = rises_used c r.client a.server refl refl
+rises_on c call r _ = rises_same c r.client (omega arith) refl
+
+-- Next numbers and tickets never fall.
+pub rises : (c : Client) (call : Call) (r : Reaction) → IsClient c → react c call ≡ Ok r → Rises c r.client
+rises c call r is e = rises_on c call r (course c is call r e)
+
+-- The server of the next out is there.
+pub out_within : (c : Client) → IsClient c → out_server c < servers c
+out_within c is = let low = is.servers_low in grind (arith, low)
+
+-- A used number is below the next one.
+pub used_below : (c : Client) (s : ℕ) → s < servers c → get_or (used_at c s) s 0 ≡ next_at c s + 1
+used_below c s within = get_or-set_same c.next s (next_at c s + 1) 0 within
+
+next_range : (c : Client) → IsClient c → (s : ℕ) → s < servers c → (1 ≤ next_at c s) × (next_at c s ≤ number_limit)
+next_range c is s within = All-get_or (λ n. (1 ≤ n) × (n ≤ number_limit)) c.next s 0 within is.numbers
+
+numbers_used : (c : Client) → IsClient c → (s : ℕ) → s < servers c → next_at c s ≢ number_limit → All (λ n. (1 ≤ n) × (n ≤ number_limit)) (used_at c s)
+numbers_used c is s within more =
+    let range = next_range c is s within in
+    let low : 1 ≤ next_at c s + 1 = omega arith in
+    let high : next_at c s + 1 ≤ number_limit = omega (arith, range.1, more) in
+    All-set (λ n. (1 ≤ n) × (n ≤ number_limit)) c.next s (next_at c s + 1) (low, high) is.numbers
+
+used_rises : (c d : Client) → Rises c d → (s n : ℕ) → IsUsed c s n → IsUsed d s n
+used_rises c d up s n used = let same = up.same_servers in let more = up.numbers s in let low = used.1.0 in let high = used.1.1 in let there = used.0 in (omega arith, (low, omega arith))
+
+all_within : (c d : Client) → Rises c d → (saved : List Arrival) → All (λ (a : Arrival). a.server < servers c) saved → All (λ (a : Arrival). a.server < servers d) saved
+all_within c d up saved all = let same = up.same_servers in All-weaker (λ (a : Arrival). a.server < servers c) (λ (a : Arrival). a.server < servers d) (λ a there. omega arith) saved all
+
+own_used : (c d : Client) → Rises c d → (o : Option Accepted) → IfSome o (λ a. IsUsed c a.server a.n) → IfSome o (λ a. IsUsed d a.server a.n)
+own_used c d up None h = tt
+own_used c d up (Some a) h = used_rises c d up a.server a.n h
+
+-- What is pending at a client is one of a client whose numbers are further on.
+task_rises : (c d : Client) → Rises c d → (t : Task) → IsTaskOf c t → IsTaskOf d t
+task_rises c d up Idle h = tt
+task_rises c d up (Putting server n row) h = used_rises c d up server n h
+task_rises c d up (Syncing pending) h = record {
+  keeps = h.keeps;
+  tickets = let low = h.tickets in let more = up.tickets in omega arith;
+  accepted = own_used c d up pending.accepted h.accepted;
+  saved = all_within c d up pending.saved h.saved;
+}
+
+-- the same numbers and tickets, and what is pending
+same_is : (c d : Client) → IsClient c → d.next ≡ c.next → d.ticket ≡ c.ticket → d.outs ≡ c.outs → IsTaskOf d d.task → IsClient d
+same_is c d is n t o task = record {
+  servers_low = subst (λ xs. 1 ≤ length xs) (sym n) is.servers_low;
+  servers_high = subst (λ xs. length xs ≤ server_limit) (sym n) is.servers_high;
+  numbers = subst (λ xs. All (λ k. (1 ≤ k) × (k ≤ number_limit)) xs) (sym n) is.numbers;
+  outs = subst (λ k. k < number_limit) (sym o) is.outs;
+  ticket_low = subst (λ k. 1 ≤ k) (sym t) is.ticket_low;
+  ticket_high = subst (λ k. k ≤ number_limit) (sym t) is.ticket_high;
+  task = task;
+}
+
+-- a number more is used at a server
+used_is : (c d : Client) (s : ℕ) → IsClient c → s < servers c → next_at c s ≢ number_limit → d.next ≡ used_at c s → d.ticket ≡ c.ticket → d.outs < number_limit → IsTaskOf d d.task → IsClient d
+used_is c d s is within more n t o task =
+    let same : servers d ≡ servers c = ap length n ∙ length-set c.next s (next_at c s + 1) in
+    record {
+      servers_low = let low = is.servers_low in omega arith;
+      servers_high = let high = is.servers_high in omega arith;
+      numbers = subst (λ xs. All (λ k. (1 ≤ k) × (k ≤ number_limit)) xs) (sym n) (numbers_used c is s within more);
+      outs = o;
+      ticket_low = subst (λ k. 1 ≤ k) (sym t) is.ticket_low;
+      ticket_high = subst (λ k. k ≤ number_limit) (sym t) is.ticket_high;
+      task = task;
+    }
+
+-- the number that is used now
+now_used : (c d : Client) (s : ℕ) → IsClient c → s < servers c → d.next ≡ used_at c s → IsUsed d s (next_at c s)
+now_used c d s is within n =
+    let range = next_range c is s within in
+    let e : next_at d s ≡ next_at c s + 1 = ap (λ xs. get_or xs s 0) n ∙ used_below c s within in
+    let same : servers d ≡ servers c = ap length n ∙ length-set c.next s (next_at c s + 1) in
+    (omega arith, (range.0, omega arith))
+
+some_not_none : (o : Option Accepted) → is_some o ≡ true → o ≡ None → ⊥
+some_not_none o e none = false≢true (sym (ap is_some none) ∙ e)
+
+kept_on : (c : Client) → IsClient c → (call : Call) (r : Reaction) → Course c call r → IsClient r.client
+kept_on c is call r (rests clock other) = same_is c r.client is refl refl refl (task_rises c r.client (rises_same c r.client (omega arith) refl) c.task is.task)
+kept_on c is call r (hands_on server code detail other) = is
+kept_on c is call r (rejects a within other) = is
+kept_on c is call r (repeats packets there other) = is
+kept_on c is call r (puts row idle number outs) =
+    let within = out_within c is in
+    used_is c r.client (out_server c) is within number refl refl (let low = is.outs in omega (arith, low, outs)) (now_used c r.client (out_server c) is within refl)
+kept_on c is call r (stores server n id row task called) = same_is c r.client is refl refl refl tt
+kept_on c is call r (commits_at_once event ready called idle is_ready) = same_is c r.client is refl refl refl tt
+kept_on c is call r (begins event called idle within room) = record {
+  servers_low = is.servers_low;
+  servers_high = is.servers_high;
+  numbers = is.numbers;
+  outs = is.outs;
+  ticket_low = let low = is.ticket_low in omega arith;
+  ticket_high = room;
+  task = record {
+    keeps = record { within = within; first = is.ticket_low; last = room; accepted = tt; saved = All-nil (FitsOpen (new_pending c event)); waiting = λ _. refl };
+    tickets = omega arith;
+    accepted = tt;
+    saved = All-nil (λ (a : Arrival). a.server < servers c);
+  };
+}
+kept_on c is call r (saves pending a task awaits within fits other) =
+    let own = pending_of c pending is task in
+    let up = rises_same c r.client (omega arith) refl in
+    same_is c r.client is refl refl refl (record {
+      keeps = record {
+        within = own.keeps.within;
+        first = own.keeps.first;
+        last = own.keeps.last;
+        accepted = own.keeps.accepted;
+        saved = All-append (FitsOpen pending) pending.saved (a ∷ []) own.keeps.saved (All-cons (FitsOpen pending) a [] fits (All-nil (FitsOpen pending)));
+        waiting = λ none. absurd (some_not_none pending.accepted awaits none);
+      };
+      tickets = own.tickets;
+      accepted = own_used c r.client up pending.accepted own.accepted;
+      saved = All-append (λ (x : Arrival). x.server < servers c) pending.saved (a ∷ []) own.saved (All-cons (λ (x : Arrival). x.server < servers c) a [] within (All-nil (λ (x : Arrival). x.server < servers c)));
+    })
+kept_on c is call r (accepts pending rest a task turn within input more) = by turn
+  where
+    own : IsPendingOf c pending
+    own = pending_of c pending is task
+
+    up : Rises c r.client
+    up = rises_used c r.client a.server refl refl
+
+    with_rest : All (FitsOpen pending) rest → All (λ (x : Arrival). x.server < servers c) rest → IsClient r.client
+    with_rest fits there = used_is c r.client a.server is within more refl refl is.outs (record {
+      keeps = record { within = own.keeps.within; first = own.keeps.first; last = own.keeps.last; accepted = input; saved = fits; waiting = λ none. cc };
+      tickets = own.tickets;
+      accepted = now_used c r.client a.server is within refl;
+      saved = all_within c r.client up rest there;
+    })
+
+    by : Turn call pending rest a → IsClient r.client
+    by (arrives none saved called) = with_rest (subst (All (FitsOpen pending)) (sym saved) own.keeps.saved) (subst (All (λ (x : Arrival). x.server < servers c)) (sym saved) own.saved)
+    by (oldest accepted was saved called) =
+        with_rest (tail_all (FitsOpen pending) a rest (subst (All (FitsOpen pending)) saved own.keeps.saved))
+        (tail_all (λ (x : Arrival). x.server < servers c) a rest (subst (All (λ (x : Arrival). x.server < servers c)) saved own.saved))
+kept_on c is call r (waits pending own task accepted called none) =
+    let of_it = pending_of c pending is task in
+    same_is c r.client is refl refl refl (record {
+      keeps = record { within = of_it.keeps.within; first = of_it.keeps.first; last = of_it.keeps.last; accepted = tt; saved = of_it.keeps.saved; waiting = λ _. none };
+      tickets = of_it.tickets;
+      accepted = tt;
+      saved = of_it.saved;
+    })
+kept_on c is call r (commits pending clock own base got task answered spares gets by) = same_is c r.client is refl refl refl tt
+kept_on c is call r (abandons pending task none) = same_is c r.client is refl refl refl tt
+
+-- A client is as every client is after each call.
+pub kept : (c : Client) (call : Call) (r : Reaction) → IsClient c → react c call ≡ Ok r → IsClient r.client
+kept c call r is e = kept_on c is call r (course c is call r e)
+
+-- A new client is as every client is.
+pub new_is : (number count : ℕ) → 1 ≤ count → count ≤ server_limit → IsClient (new_client number count)
+new_is number count low high =
+    let same : servers (new_client number count) ≡ count = length-replicate count (suc zero) in
+    record {
+      servers_low = omega arith;
+      servers_high = omega arith;
+      numbers = All-replicate (λ n. (1 ≤ n) × (n ≤ number_limit)) count 1 (omega arith, omega arith);
+      outs = omega arith;
+      ticket_low = omega arith;
+      ticket_high = omega arith;
+      task = tt;
+    }

@@ -1,0 +1,5 @@
+use Rattle.linda_client.proofs.HistoryLaws.{tickets_once}
+use Rattle.linda_client.proofs.laws.no_ticket_is_used_twice.Goals as goal
+
+pub returns : goal.returns
+returns c = tickets_once

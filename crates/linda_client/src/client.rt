@@ -1,0 +1,239 @@
+//! The client: what it keeps, and how that changes. Its calls stand in the modules below, one in each.
+
+mod abandon;
+mod out;
+mod receive;
+mod resend;
+mod sync;
+mod tick;
+
+ghost use Rattle.std.specs.Prelude.{◌≡◌, ◌+◌, ◌↔◌, ◌<◌, ◌≤◌, ◌⊎◌, [], None, true, is_some, max};
+ghost use Rattle.std.specs.Prelude.{option_copied, IfOk, IfErr, OnOk, OnErr, IsErrOf};
+ghost use Rattle.linda_client.specs.declared.fault.ClientFault.TheVariants as faults;
+ghost use Rattle.linda_client.specs.declared.task.Task.TheVariants as tasks;
+ghost use Rattle.linda_client.specs.Client.{IsClient, OfPending, is_idle, next_at, pending_in};
+ghost use Rattle.linda_client.specs.Client.{servers, with_pending};
+ghost use Rattle.linda_client.specs.Pending.{FitsOpen, IsOpenInput, IsPending, let_go};
+ghost use Rattle.linda_client.specs.Pending.{number_limit, save_last, take_oldest, ticket_count};
+ghost use Rattle.linda_client.specs.React.{new_client, out_server, put, use_number};
+
+use crate::arrival::{Accepted, Arrival};
+use crate::fault::ClientFault;
+use crate::pending::Pending;
+use crate::task::Task;
+use linda_tuple::Tuple;
+use std::alloc::{AllocError, Global};
+use std::marker::Model;
+
+/// The most servers of a client.
+const MAX_SERVERS: u32 = 16;
+
+/// Numbers, tickets and the count of outs stay below this.
+const NUMBER_LIMIT: u64 = 1 << 63;
+
+/// A client of the tuple space: what it puts and waits for, over its servers. At most one out or one
+/// synchronization is pending. The client sends nothing itself: each call gives the packets to be sent.
+#[derive(Drop)]
+pub struct Client {
+    number: u32,
+    clock: u64,
+    /// For each server the number that the next numbered message to it gets.
+    next: Vec<u64>,
+    outs: u64,
+    ticket: u64,
+    task: Task,
+}
+
+impl Model for Client {
+    ghost use Rattle.linda_client.specs.Client as seen;
+    ghost use Rattle.linda_client.specs.Client.{IsClient};
+    ghost use Rattle.linda_client.specs.ClientCode.{client_code};
+
+    ghost Value = { seen.Client };
+
+    ghost coded = { client_code };
+
+    ghost use Rattle.linda_client.specs.View.{client_of};
+
+    ghost view = { client_of };
+
+    ghost invariant = { λ c. IsClient (client_of c) };
+}
+
+impl Client {
+    /// A client of this number, over so many servers, which are numbered from 0. Nothing is pending, its
+    /// clock stands at 0, and its numbers and tickets begin with 1.
+    ///
+    /// # Errors
+    ///
+    /// `ServersRange` where the servers are not 1 to 16; else `Memory` where memory runs out.
+    pub fn new(alloc: Global, client: u32, servers: u32) -> Result<Client, ClientFault>
+        ensures ok { IfOk result (λ c. c ≡ new_client client servers) }
+        ensures range { IsErrOf result ClientFault.ServersRange ↔ ((servers ≡ 0) ⊎ (16 < servers)) }
+        ensures faults { IfErr result (λ f. (f ≡ faults.ServersRange) ⊎ (f ≡ faults.Memory)) }
+    {
+        if servers == 0 || servers > MAX_SERVERS {
+            return Err(ClientFault::ServersRange);
+        }
+        Ok(Client {
+            number: client,
+            clock: 0,
+            next: vec![in alloc; 1; servers as usize]?,
+            outs: 0,
+            ticket: 1,
+            task: Task::Idle,
+        })
+    }
+
+    /// The number of the client. Takes no memory.
+    pub fn number(&self) -> u32
+        ensures number { result ≡ self.now.number }
+        ensures ranges { IsClient self.now }
+    {
+        self.number
+    }
+
+    /// How many servers the client has, 1 to 16. Takes no memory.
+    pub fn servers(&self) -> u32
+        ensures count { result ≡ servers self.now }
+        ensures ranges { IsClient self.now }
+    {
+        self.next.len() as u32
+    }
+
+    /// The greatest time that the client was told. Takes no memory.
+    pub fn clock(&self) -> u64
+        ensures { result ≡ self.now.clock }
+    {
+        self.clock
+    }
+
+    /// Whether nothing is pending. Takes no memory.
+    pub fn is_idle(&self) -> bool
+        ensures { result ≡ is_idle self.now.task }
+    {
+        matches!(self.task, Task::Idle)
+    }
+
+    // The next ticket, which is free.
+    fn ticket(&self) -> u64
+        ensures ticket { result ≡ self.now.ticket }
+        ensures ranges { IsClient self.now }
+    {
+        self.ticket
+    }
+
+    // The synchronization that is pending.
+    fn pending(&self) -> Option<&Pending>
+        ensures pending { option_copied result ≡ pending_in self.now.task }
+        ensures ranges { IsClient self.now }
+    {
+        match &self.task {
+            Task::Syncing(pending) => Some(pending),
+            _ => None,
+        }
+    }
+
+    // The number that the next numbered message to the server gets.
+    fn next_at(&self, server: u32) -> u64
+        requires { server < servers self.now }
+        ensures number { result ≡ next_at self.now server }
+        ensures ranges { (1 ≤ result) × (result ≤ number_limit) }
+    {
+        self.next[server as usize]
+    }
+
+    // The server of the next out.
+    fn out_server(&self) -> u32
+        ensures server { result ≡ out_server self.now }
+        ensures range { result < servers self.now }
+    {
+        ((u64::from(self.number) + self.outs) % self.next.len() as u64) as u32
+    }
+
+    // The count of outs so far.
+    fn outs(&self) -> u64
+        ensures count { result ≡ self.now.outs }
+        ensures range { result < number_limit }
+    {
+        self.outs
+    }
+
+    // What was pending has ended.
+    fn finish(&mut self)
+        ensures { self.new ≡ record self.old { task = tasks.Idle } }
+    {
+        self.task = Task::Idle;
+    }
+
+    // The clock goes on, and never falls.
+    fn advance(&mut self, now: u64)
+        ensures { self.new ≡ record self.old { clock = max self.old.clock now } }
+    {
+        self.clock = self.clock.max(now);
+    }
+
+    // The tuple is put at this server, under the next number there.
+    fn put(&mut self, server: u32, tuple: Tuple)
+        requires server { server < servers self.old }
+        requires number { next_at self.old server < number_limit }
+        requires outs { self.old.outs + 1 < number_limit }
+        ensures { self.new ≡ (put self.old server tuple).client }
+    {
+        let n = self.next[server as usize];
+        self.next[server as usize] = n + 1;
+        self.outs += 1;
+        self.task = Task::Putting { server, n, tuple };
+    }
+
+    // A synchronization is pending, which takes the next tickets.
+    fn begin(&mut self, pending: Pending)
+        requires first { pending.first ≡ self.old.ticket }
+        requires accepted { pending.accepted ≡ None }
+        requires saved { pending.saved ≡ [] }
+        ensures { self.new
+            ≡ with_pending (record self.old { ticket = self.old.ticket + ticket_count pending }) pending }
+    {
+        self.ticket += pending.ticket_count();
+        self.task = Task::Syncing(pending);
+    }
+
+    // An offer is accepted, under the next number of its server: the oldest that is saved, where some are.
+    fn accept(&mut self, accepted: Accepted)
+        requires server { accepted.server < servers self.old }
+        requires number { accepted.n ≡ next_at self.old accepted.server }
+        requires room { accepted.n < number_limit }
+        requires input { OfPending self.old (λ p. IsOpenInput p accepted.ticket) }
+        ensures { OfPending self.old (λ p. self.new
+            ≡ with_pending (use_number self.old accepted.server) (take_oldest accepted p)) }
+    {
+        if let Task::Syncing(pending) = &mut self.task {
+            self.next[accepted.server as usize] += 1;
+            pending.accept(accepted);
+        }
+    }
+
+    // An arrival is saved; or memory runs out, and the client is as before.
+    fn save(&mut self, arrival: Arrival) -> Result<(), AllocError>
+        requires server { arrival.server < servers self.old }
+        requires fits { OfPending self.old (λ p. FitsOpen p arrival) }
+        requires accepted { OfPending self.old (λ p. is_some p.accepted ≡ true) }
+        ensures ok { OnOk result (OfPending self.old (λ p. self.new ≡ with_pending self.old (save_last arrival p))) }
+        ensures err { OnErr result (self.new ≡ self.old) }
+    {
+        match &mut self.task {
+            Task::Syncing(pending) => pending.save(arrival),
+            _ => Ok(()),
+        }
+    }
+
+    // The accepted offer is gone, and nothing is saved.
+    fn wait(&mut self)
+        requires { OfPending self.old (λ p. p.saved ≡ []) }
+        ensures { OfPending self.old (λ p. self.new ≡ with_pending self.old (let_go p)) }
+    {
+        if let Task::Syncing(pending) = &mut self.task {
+            pending.wait();
+        }
+    }
+}

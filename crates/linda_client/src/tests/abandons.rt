@@ -1,0 +1,86 @@
+//! A synchronization that is abandoned, at each stage.
+
+use super::script::{run, run_accepting, run_waiting};
+use std::test::Fail;
+
+#[test]
+fn abandon_cancels_all_and_raises_all(rt: HostRuntime) -> Result<(), Fail> {
+    let lines = "
+        abandon
+        > 0 cancel 1
+        > 1 cancel 1
+        > 0 cancel 2
+        > 1 cancel 2
+        > dropped
+        > raises 1
+        > raises 2
+        abandon
+        > idle
+        sync input
+        > 0 in 3 a
+        > 1 in 3 a
+    ";
+    run_waiting(&rt, rt.alloc(), lines)
+}
+
+#[test]
+fn abandon_while_a_tuple_is_put_is_refused(rt: HostRuntime) -> Result<(), Fail> {
+    let lines = "
+        out 3
+        > 1 out 1 3
+        abandon
+        > idle
+        1 stored 1 9
+        > stored 1 9
+        abandon
+        > idle
+    ";
+    run(&rt, rt.alloc(), lines)
+}
+
+#[test]
+fn abandon_before_the_accept_is_answered_is_refused(rt: HostRuntime) -> Result<(), Fail> {
+    let lines = "
+        abandon
+        > busy
+        1 taken 1 4 3
+        > 0 cancel 1
+        > 0 cancel 2
+        > 1 cancel 2
+        > took base 0 1 4 3
+        > binds 3
+        > label 5
+        > raises 2
+        abandon
+        > idle
+    ";
+    run_accepting(&rt, rt.alloc(), lines)
+}
+
+#[test]
+fn abandon_after_the_offer_is_gone_cancels_all(rt: HostRuntime) -> Result<(), Fail> {
+    let lines = "
+        1 gone 1
+        abandon
+        > 0 cancel 1
+        > 1 cancel 1
+        > 0 cancel 2
+        > 1 cancel 2
+        > dropped
+        > raises 1
+        > raises 2
+    ";
+    run_accepting(&rt, rt.alloc(), lines)
+}
+
+#[test]
+fn abandon_while_a_saved_offer_is_accepted_is_refused(rt: HostRuntime) -> Result<(), Fail> {
+    let lines = "
+        0 offer 1 2 3
+        1 gone 1
+        > 0 accept 1 1 2
+        abandon
+        > busy
+    ";
+    run_accepting(&rt, rt.alloc(), lines)
+}

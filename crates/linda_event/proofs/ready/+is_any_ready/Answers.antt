@@ -1,0 +1,22 @@
+use Rattle.std.proofs.Common.{◌∙◌}
+use Rattle.linda_event.proofs.Seeking.{any_end}
+use Rattle.linda_event.proofs.Views.{bases_Choose, bases_Wrap, bases_Nack, bases_end, ready_after, ready_here}
+use Rattle.linda_event.proofs.ready.+is_any_ready.Goals as goal
+
+pub returns-then-is_any_ready : goal.returns-then-is_any_ready
+returns-then-is_any_ready t c =
+    rw (bases_Choose _ _ _ c.in-Choose.is c.deref-member-items.ensures.value, ← c.loop-member.invariant)
+    (ready_here _ _ _ _ _ c.loop-member-test.true c.member-item.is c.is_any_ready.ensures c.if-is_any_ready.true)
+
+pub loop-member-preserved : goal.loop-member-preserved
+loop-member-preserved t c = ready_after _ _ _ _ _ c.loop-member-test.true c.member-item.is c.is_any_ready.ensures c.if-is_any_ready.false ∙ c.loop-member.invariant
+
+pub returns-after-loop-member : goal.returns-after-loop-member
+returns-after-loop-member t c =
+    rw (bases_Choose _ _ _ c.in-Choose.is c.deref-member-items.ensures.value, ← c.loop-member.invariant) (any_end _ _ (bases_end _ _ c.loop-member-test.false))
+
+pub returns-in-Wrap : goal.returns-in-Wrap
+returns-in-Wrap t c = rw (bases_Wrap _ _ _ _ c.in-Wrap.is c.deref.ensures) c.is_any_ready-in-Wrap.ensures
+
+pub returns-in-Nack : goal.returns-in-Nack
+returns-in-Nack t c = rw (bases_Nack _ _ _ _ c.in-Nack.is c.deref-in-Nack.ensures) c.is_any_ready-in-Nack.ensures
