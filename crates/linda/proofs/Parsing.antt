@@ -4,7 +4,7 @@ use Rattle.std.specs.Prelude.{slice_get, unwrap_or}
 use Rattle.std.specs.Str.{bytes_eq, chars}
 use Rattle.std.proofs.lemmas.Slice.Eq.{bytes_eq-Decides}
 use Rattle.clap.specs.Walk.{Held, Rule, Text, Walk, idle, plain, nothing_held, arg_by_long, arg_by_short, after_flag, bundle_met, bundle_step, long_or_other, subcommand_or_other, walk, walk_from, walked}
-use Rattle.clap.specs.Simple.{Template, built, filled_from, help_rule, names_of, subcommand_of, is_simple}
+use Rattle.clap.specs.Simple.{Shape, built, filled_from, help_rule, names_of, subcommand_of, is_simple}
 use Rattle.clap.specs.Lexer.{long_of, short_of, strip_byte}
 use Rattle.clap.specs.Takes.{takes}
 use Rattle.clap.specs.Kinds.{Kinds, or_else}
@@ -27,7 +27,7 @@ abbrev rules : List Rule
 rules = filled_from 1 (help_rule ∷ [])
 
 -- a level with the help flag and no other argument
-abbrev helped : Template → Template
+abbrev helped : Shape → Shape
 helped s = record s { rules = rules; args_override_self = false }
 
 -- ---- a word that is no subcommand and not `--` is refused
@@ -40,7 +40,7 @@ second_empty : (a b : Kinds) → or_else a b ≡ [] → b ≡ []
 second_empty [] b e = e
 second_empty (k ∷ ks) b e = let bad : k ∷ ks ≡ [] = e in cc
 
-stray_some : (s : Template) → stray_fault s ≡ [] → ⊥
+stray_some : (s : Shape) → stray_fault s ≡ [] → ⊥
 stray_some s e = go s.is_leaf refl
   where
     go : (b : Bool) → s.is_leaf ≡ b → ⊥
@@ -79,65 +79,65 @@ short_refused found rest next later (inl is) e = let bad : kind.UnknownArgument 
 short_refused found rest next later (inr is) e = let bad : kind.DisplayHelp ∷ [] ≡ [] = rw is at e in cc
 
 -- what a bundle of flags comes to, from its next character on
-abbrev char_turn : Template → Text → Text → ℕ → Option ℕ → Kinds
+abbrev char_turn : Shape → Text → Text → ℕ → Option ℕ → Kinds
 char_turn s word flags k o =
     let after = bundle_step rules o flags 0 plain nothing_held (bundle_met rules k) in
     let met = after_flag rules idle word after.0 after.1 in
     or_else (bundle_step_fault rules false o flags 0 nothing_held (flags_fault rules false k)) (step_fault (helped s) 1 met.0 met.1)
 
-char_refused : (s : Template) (word flags : Text) (k : ℕ) (o : Option ℕ) → char_turn s word flags k o ≡ [] → ⊥
+char_refused : (s : Shape) (word flags : Text) (k : ℕ) (o : Option ℕ) → char_turn s word flags k o ≡ [] → ⊥
 char_refused s word flags k None e = stray_some (helped s) e
 char_refused s word flags k (Some x) e = short_refused (arg_by_short rules x) _ _ _ (short_is x) e
 
-abbrev flags_turn : Template → Text → Text → ℕ → Kinds
+abbrev flags_turn : Shape → Text → Text → ℕ → Kinds
 flags_turn s word flags n =
     let after = bundle_met rules n flags 0 plain nothing_held in
     let met = after_flag rules idle word after.0 after.1 in
     or_else (flags_fault rules false n flags 0 nothing_held) (step_fault (helped s) 1 met.0 met.1)
 
-flags_refused : (s : Template) (word flags : Text) (n : ℕ) → flags_turn s word flags n ≡ [] → ⊥
+flags_refused : (s : Shape) (word flags : Text) (n : ℕ) → flags_turn s word flags n ≡ [] → ⊥
 unfolding flags_fault bundle_met
 flags_refused s word flags zero e = stray_some (helped s) e
 flags_refused s word flags (suc k) e = char_refused s word flags k (slice_get (chars flags) 0) e
 
-abbrev short_turn : Template → Text → Option Text → Kinds
+abbrev short_turn : Shape → Text → Option Text → Kinds
 short_turn s word (Some flags) = flags_turn s word flags (length flags)
 short_turn s word None = stray_fault (helped s)
 
-short_word_refused : (s : Template) (word : Text) (o : Option Text) → short_turn s word o ≡ [] → ⊥
+short_word_refused : (s : Shape) (word : Text) (o : Option Text) → short_turn s word o ≡ [] → ⊥
 short_word_refused s word (Some flags) e = flags_refused s word flags (length flags) e
 short_word_refused s word None e = stray_some (helped s) e
 
-abbrev flag_turn : Template → Text → Option (Text × Option Text) → Kinds
+abbrev flag_turn : Shape → Text → Option (Text × Option Text) → Kinds
 flag_turn s word o =
     let met = long_or_other rules idle word o nothing_held in
     or_else (flag_word_fault rules false o word nothing_held) (step_fault (helped s) 1 met.0 met.1)
 
-none_turn : (s : Template) (word : Text) (o : Option Text) → short_of word ≡ o → flag_turn s word None ≡ short_turn s word o
+none_turn : (s : Shape) (word : Text) (o : Option Text) → short_of word ≡ o → flag_turn s word None ≡ short_turn s word o
 none_turn s word (Some flags) is = rw is refl
 none_turn s word None is = rw is refl
 
-flag_refused : (s : Template) (word : Text) (o : Option (Text × Option Text)) → flag_turn s word o ≡ [] → ⊥
+flag_refused : (s : Shape) (word : Text) (o : Option (Text × Option Text)) → flag_turn s word o ≡ [] → ⊥
 flag_refused s word (Some p) e = long_refused (arg_by_long rules p.0) p.1 _ (long_is p.0) e
 flag_refused s word None e = short_word_refused s word (short_of word) (sym (none_turn s word (short_of word) refl) ∙ e)
 
 -- a word that names no subcommand
-abbrev other_turn : Template → Text → Kinds
+abbrev other_turn : Shape → Text → Kinds
 other_turn s word =
     let met = subcommand_or_other rules None idle 1 word nothing_held in
     or_else (other_fault (helped s) None word nothing_held) (step_fault (helped s) 1 met.0 met.1)
 
-other_refused : (s : Template) (word : Text) → bytes_eq word (45 ∷ 45 ∷ []) ≡ false → other_turn s word ≡ [] → ⊥
+other_refused : (s : Shape) (word : Text) → bytes_eq word (45 ∷ 45 ∷ []) ≡ false → other_turn s word ≡ [] → ⊥
 other_refused s word t e =
     let turn : flag_turn s word (long_of word) ≡ [] = rw t at e in
     flag_refused s word (long_of word) turn
 
 -- ---- the words that pass
 
-abbrev top : Template
+abbrev top : Shape
 top = (built linda).top
 
-abbrev leaf : Template
+abbrev leaf : Shape
 leaf = unwrap_or (slice_get (built linda).subs 0) top
 
 -- behind `--` no word passes
@@ -288,7 +288,7 @@ differs a b unlike = go (bytes_eq a b) refl
     go false t = t
 
 -- a word that is no option and no subcommand
-stray_turn : (s : Template) (w : Text) → has_hyphen w ≡ false → other_turn s w ≡ stray_fault (helped s)
+stray_turn : (s : Shape) (w : Text) → has_hyphen w ≡ false → other_turn s w ≡ stray_fault (helped s)
 stray_turn s w e =
     let no_long : long_of w ≡ None = rw (no_strip w e) refl in
     let no_short : short_of w ≡ None = rw (no_strip w e) refl in

@@ -9,17 +9,16 @@ use Rattle.std.proofs.lemmas.List.Elements.{All-append, All-nil, All-push}
 use Rattle.linda.specs.Lines.{HasNoFeed, ended, IsCut}
 use Rattle.linda.specs.Hex.{piece_of}
 use Rattle.linda.specs.Piping.{unused, reply_line, HasEnded}
-use Rattle.linda.specs.Exchanges.{HasTalked, IsOpen, GoesOn, Continues, IsContinued, IsUnderway, IsOver, LeadsTo}
+use Rattle.linda.specs.Exchanges.{HasTalked, IsOpen, GoesOn, Continues, IsContinued, IsUnderway, IsOver, IsUnkept, no_memory, is_bad, LeadsTo}
 use Rattle.linda_wire.specs.declared.reply.Reply.{Reply}
-use Rattle.linda_store.specs.declared.stage.Stage.TheVariants as stages
-use Rattle.linda_store.specs.Node.{Node}
-use Rattle.linda_store.specs.Turn.{beginning}
-use Rattle.linda_store.specs.Conversation.{IsConversation}
-use Rattle.linda_store.specs.Session.{Session, HasTaken, beginner, point_of}
-use Rattle.linda_store.specs.declared.stage.Taken.{Taken}
-use Rattle.linda_store.specs.declared.volatile.Volatile.{Volatile}
+use Rattle.linda_store.specs.declared.stages.Stage.TheVariants as stages
+use Rattle.linda_store.specs.Nodes.{Node}
+use Rattle.linda_store.specs.Talk.{beginning}
+use Rattle.linda_store.specs.Conversation.{IsConversation, Session, HasTaken, beginner, point_of}
+use Rattle.linda_store.specs.declared.stages.Taken.{Taken}
+use Rattle.linda_store.specs.declared.volatiles.Volatile.{Volatile}
 use Rattle.linda.proofs.Nodes.{shown}
-use Rattle.linda_store.proofs.ConversationLaws.{conversation_begins, conversation_goes_on}
+use Rattle.linda_store.proofs.Ongoing.{conversation_begins, conversation_goes_on}
 use Rattle.linda.specs.declared.faults.PipeFault.{PipeFault}
 use Rattle.linda.specs.declared.faults.PipeFault.TheVariants as faults
 use Rattle.linda.specs.declared.exchanges.Exchange.{Exchange}
@@ -79,26 +78,36 @@ memory_ends_line text sent x node n e u =
     λ later left. subst (λ t. HasEnded t (sent ++ x.replies.items) left (Err (faults.Memory n))) (sym (append_assoc text (LINE_FEED ∷ []) later))
     (memory_ends text sent x node n e u ((LINE_FEED ∷ []) ++ later) left)
 
--- the unfinished line is whole, and is not hexadecimal
-pub bad_ends : (text sent : List ℕ) (x : Exchange) (node : Node) → piece_of x.line.items ≡ None → IsUnderway text sent x node
-    → IsOver (ended text) (sent ++ x.replies.items) (Err (faults.NotHexadecimal (x.lines + 1)))
-bad_ends text sent x node bad u = λ later left. record {
+-- the unfinished line becomes whole with this front of what comes, and is not hexadecimal
+bad_front_ends : (text sent front : List ℕ) (x : Exchange) (node : Node) → HasNoFeed front → piece_of (x.line.items ++ front) ≡ None → IsUnderway text sent x node
+    → IsOver (ended (text ++ front)) (sent ++ x.replies.items) (Err (faults.NotHexadecimal (x.lines + 1)))
+bad_front_ends text sent front x node h bad u = λ later left. record {
   lines = u.lines;
-  more = ended x.line.items ++ later;
+  more = ended (x.line.items ++ front) ++ later;
   said = u.said;
   stage = x.session.stage;
   cut =
-      subst (λ t. IsCut t u.lines (ended x.line.items ++ later)) (sym (append_assoc text (LINE_FEED ∷ []) later))
-      (subst (IsCut (text ++ ((LINE_FEED ∷ []) ++ later)) u.lines) (sym (append_assoc x.line.items (LINE_FEED ∷ []) later))
-      (cut_more text x.line.items ((LINE_FEED ∷ []) ++ later) u.lines u.cut));
+      subst (λ t. IsCut t u.lines (ended (x.line.items ++ front) ++ later)) (sym (behind text front later))
+      (subst (IsCut (text ++ (front ++ ((LINE_FEED ∷ []) ++ later))) u.lines) (sym (behind x.line.items front later))
+      (cut_more text x.line.items (front ++ ((LINE_FEED ∷ []) ++ later)) u.lines u.cut));
   answered = record { pieces = u.pieces; unread = x.session.unread; to = point_of x.session node; decoded = u.decoded; talk = u.talk };
   ending = (
     ap (λ k. k + 1) u.counted,
-    record { line = x.line.items; later = later; spelled = refl; whole = u.unfinished; bad = bad },
+    record { line = x.line.items ++ front; later = later; spelled = refl; whole = All-append (λ b. b ≢ LINE_FEED) x.line.items front u.unfinished h; bad = bad },
     u.is_open.0,
   );
   out = sym u.out;
 }
+  where
+    behind : (a b c : List ℕ) → ended (a ++ b) ++ c ≡ a ++ (b ++ ((LINE_FEED ∷ []) ++ c))
+    behind a b c = append_assoc (a ++ b) (LINE_FEED ∷ []) c ∙ append_assoc a b ((LINE_FEED ∷ []) ++ c)
+
+-- the unfinished line is whole, and is not hexadecimal
+pub bad_ends : (text sent : List ℕ) (x : Exchange) (node : Node) → piece_of x.line.items ≡ None → IsUnderway text sent x node
+    → IsOver (ended text) (sent ++ x.replies.items) (Err (faults.NotHexadecimal (x.lines + 1)))
+bad_ends text sent x node bad u =
+    subst (λ t. IsOver (ended t) (sent ++ x.replies.items) (Err (faults.NotHexadecimal (x.lines + 1)))) (append-nil text)
+    (bad_front_ends text sent [] x node (All-nil (λ b. b ≢ LINE_FEED)) (ap piece_of (append-nil x.line.items) ∙ bad) u)
 
 -- one more line was answered
 pub record IsMore (text sent : List ℕ) (line piece : List ℕ) (lines pieces : List (List ℕ)) (said : List Reply) (new : Exchange) (now : Node) : Type 0 where
@@ -202,12 +211,26 @@ over_line read front part later rest text written result e f o =
     ∙ ap (λ t. read ++ t) (sym (line_found front part later rest text e f)))
     (over_more (ended ((read ++ front) ++ part)) later written result o)
 
--- it was over in the line before the rest of the text
-pub over_rest : (read front rest text written : List ℕ) (result : Result Unit PipeFault) → text ≡ front ++ rest → IsOver (read ++ front) written result
+-- it was over in the rest of the text
+pub over_all : (read front rest text written : List ℕ) (result : Result Unit PipeFault) → text ≡ front ++ rest → IsOver ((read ++ front) ++ rest) written result
     → IsOver (read ++ text) written result
-over_rest read front rest text written result e o =
-    subst (λ t. IsOver t written result) (append_assoc read front rest ∙ ap (λ t. read ++ t) (sym e))
-    (over_more (read ++ front) rest written result o)
+over_all read front rest text written result e o =
+    subst (λ t. IsOver t written result) (append_assoc read front rest ∙ ap (λ t. read ++ t) (sym e)) o
+
+-- there is no memory for the line that goes on with this text
+pub unkept_ends : (read sent text : List ℕ) (x : Exchange) (node : Node) (fault : PipeFault) → IsUnkept x.line.items text (x.lines + 1) fault → IsUnderway read sent x node
+    → IsOver (read ++ text) (sent ++ x.replies.items) (Err fault)
+unkept_ends read sent text x node fault (no_memory is) u =
+    subst (λ f. IsOver (read ++ text) (sent ++ x.replies.items) (Err f)) (sym is)
+    (over_more read text (sent ++ x.replies.items) (Err (faults.Memory (x.lines + 1))) (memory_ends read sent x node (x.lines + 1) refl u))
+unkept_ends read sent text x node fault (is_bad line none begins bad is) u =
+    let whole : piece_of (x.line.items ++ line) ≡ None = ap (λ begun. piece_of (begun ++ line)) none ∙ bad in
+    let told = bad_front_ends read sent line x node begins.0 whole u in
+    let spelled : ended (read ++ line) ++ begins.1.0 ≡ read ++ text =
+    append_assoc (read ++ line) (LINE_FEED ∷ []) begins.1.0 ∙ append_assoc read line ((LINE_FEED ∷ []) ++ begins.1.0) ∙ ap (λ t. read ++ t) (sym begins.1.1) in
+    subst (λ f. IsOver (read ++ text) (sent ++ x.replies.items) (Err f)) (sym is)
+    (subst (λ t. IsOver t (sent ++ x.replies.items) (Err (faults.NotHexadecimal (x.lines + 1)))) spelled
+    (over_more (ended (read ++ line)) begins.1.0 (sent ++ x.replies.items) (Err (faults.NotHexadecimal (x.lines + 1))) told))
 
 -- nothing was read, and nothing is there
 pub first : (node : Volatile) (session : Session) (line replies : Vec ℕ) → shown node ≡ unused → session ≡ beginner → line.items ≡ [] → replies.items ≡ []

@@ -2,7 +2,7 @@
 use Rattle.std.specs.Prelude.{◌≡◌, ℕ, ◌≤◌, Bool, true, false, List, [], ◌∷◌, ◌++◌, map, length, Option, Some, None, Result, Ok, Err}
 use Rattle.std.specs.List.{flat_map, concat}
 use Rattle.std.specs.Io.KnownBytes.{Appends, Consumes}
-use Rattle.linda.specs.Lines.{HasNoFeed, IsCut}
+use Rattle.linda.specs.Lines.{HasNoFeed, IsCut, BeginsWithLine}
 use Rattle.linda.specs.Hex.{piece_of}
 use Rattle.linda.specs.Piping.{reply_line, unused, HasEnded, IsPiped, IsTextOf}
 use Rattle.linda_wire.specs.declared.reply.Reply.{Reply}
@@ -12,6 +12,7 @@ use Rattle.linda_store.specs.Turn.{beginning}
 use Rattle.linda_store.specs.Conversation.{IsConversation}
 use Rattle.linda_store.specs.Session.{Session, point_of}
 use Rattle.linda.specs.declared.faults.PipeFault.{PipeFault}
+use Rattle.linda.specs.declared.faults.PipeFault.TheVariants as faults
 use Rattle.linda.specs.declared.exchanges.Exchange.{Exchange}
 use Rattle.linda.specs.declared.lines.TheConstants.{LINE_FEED}
 
@@ -70,6 +71,12 @@ abbrev pub Grows : List ℕ → Exchange → Node → Exchange → Node → Opti
 Grows text old was new now None = (read sent : List ℕ) → IsUnderway read sent old was → IsUnderway (read ++ text) sent new now
 Grows text old was new now (Some rest) =
     (front : List ℕ) × ((text ≡ front ++ LINE_FEED ∷ rest) × ((read sent : List ℕ) → IsUnderway read sent old was → IsUnderway (read ++ front) sent new now))
+
+-- What is told of a line for which there is no memory, when it goes on with this text: that; or, where the line begins in this
+-- text and ends in it, that it is not hexadecimal.
+pub data IsUnkept (begun text : List ℕ) (n : ℕ) (fault : PipeFault) : Type 0 where
+  no_memory : fault ≡ faults.Memory n → IsUnkept begun text n fault
+  is_bad : (line : List ℕ) → begun ≡ [] → BeginsWithLine line text → piece_of line ≡ None → fault ≡ faults.NotHexadecimal n → IsUnkept begun text n fault
 
 -- It ends with what was read so far, given what is left to the reader; reply lines may be in the buffer still.
 pub record IsEnded (read sent : List ℕ) (left : Option (List ℕ)) (x : Exchange) (result : Result Unit PipeFault) : Type 0 where

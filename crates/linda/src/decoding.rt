@@ -1,6 +1,7 @@
 //! Lines of hexadecimal digits, as pieces of a stream.
 
 ghost use Rattle.std.specs.Prelude.{◌≡◌, ◌↔◌, IfOk, IsErr, IsOk, IsSome, IsTrue, option_map};
+ghost use Rattle.std.specs.List.{AllPass};
 ghost use Rattle.hex.specs.Hex.{decode_of, is_hex_digit};
 ghost use Rattle.linda.specs.Hex.{digits_of, piece_of};
 
@@ -30,11 +31,25 @@ pub fn decode_line(alloc: Global, line: &[u8]) -> Result<Option<Vec<u8>>, AllocE
     }
 }
 
+/// Whether a line is hexadecimal; takes no memory.
+pub fn is_hexadecimal_line(line: &[u8]) -> bool
+    ensures { IsTrue result ↔ IsSome (piece_of line.now) }
+{
+    is_hexadecimal(digits(line))
+}
+
 // Whether the text is pairs of digits; takes no memory.
 fn is_hexadecimal(text: &[u8]) -> bool
     ensures { IsTrue result ↔ IsOk (decode_of text.now) }
 {
-    text.len() % 2 == 0 && text.iter().all(|b| is_digit(*b))
+    text.len() % 2 == 0 && are_digits(text)
+}
+
+// Whether the text has digits alone.
+fn are_digits(text: &[u8]) -> bool
+    ensures { IsTrue result ↔ AllPass is_hex_digit text.now }
+{
+    text.iter().all(|b| is_digit(*b))
 }
 
 // Whether the byte is a digit, of either case.

@@ -5,11 +5,11 @@ ghost use Rattle.std.specs.Option.{option_copied};
 ghost use Rattle.std.specs.Io.KnownBytes.{IsAtEnd};
 ghost use Rattle.linda.specs.Lines.{ended};
 ghost use Rattle.linda_store.specs.Sending.{HasSent};
-ghost use Rattle.linda.specs.Exchanges.{Continues, Grows, IsEnded, IsOver, IsUnderway, LeadsTo, ReadsTo};
+ghost use Rattle.linda.specs.Exchanges.{Continues, Grows, IsEnded, IsOver, IsUnderway, IsUnkept, LeadsTo, ReadsTo};
 
-use crate::decoding::decode_line;
+use crate::decoding::{decode_line, is_hexadecimal_line};
 use crate::faults::PipeFault;
-use crate::lines::extend_line;
+use crate::lines::{extend_line, split_line};
 use crate::spelling::reply_lines;
 use linda_store::{Node, Session, Stage, Volatile, send};
 use std::alloc::{AllocError, Global};
@@ -109,20 +109,38 @@ impl Exchange {
     }
 
     // Moves the front of a text to the unfinished line: up to its first line feed, which makes the line whole, and then
-    // the answer is what follows; or all of it.
+    // the answer is what follows; or all of it. A line that finds no memory, begins in this text and ends in it is told
+    // as not hexadecimal where it is not.
     fn grow_line<'a>(&mut self, text: &'a [u8]) -> Result<Option<&'a [u8]>, PipeFault>
         requires { self.old.lines + 1 < 2 ^ 64 }
         ensures ok { IfOk result (λ rest. Grows text.entry.now self.old (⟦<Volatile as Node>⟧.shown self.old.node)
             self.new (⟦<Volatile as Node>⟧.shown self.new.node) (option_copied rest)) }
         ensures err { IfErr result (λ fault. (read sent : List ℕ)
             → IsUnderway read sent self.old (⟦<Volatile as Node>⟧.shown self.old.node)
-            → IsOver read (sent ++ self.new.replies.items) (Err fault)) }
+            → IsOver (read ++ text.entry.now) (sent ++ self.new.replies.items) (Err fault)) }
         ensures count { self.new.lines ≡ self.old.lines }
     {
         match extend_line(&mut self.line, text) {
             Ok(rest) => Ok(rest),
-            Err(_) => Err(PipeFault::Memory(self.lines + 1)),
+            Err(_) => Err(self.unkept(text)),
         }
+    }
+
+    // What is told of a line for which there is no memory, when it goes on with this text.
+    fn unkept(&self, text: &[u8]) -> PipeFault
+        requires { self.now.lines + 1 < 2 ^ 64 }
+        ensures { IsUnkept self.now.line.items text.now (self.now.lines + 1) result }
+    {
+        let number = self.lines + 1;
+        let begun: &[u8] = &self.line;
+        if begun.is_empty() {
+            if let Some((line, _)) = split_line(text) {
+                if !is_hexadecimal_line(line) {
+                    return PipeFault::NotHexadecimal(number);
+                }
+            }
+        }
+        PipeFault::Memory(number)
     }
 
     // Takes the unfinished line, which is whole now, as a piece of the stream.

@@ -10,8 +10,8 @@ use crate::framed::{Framed, push_pair};
 use crate::kinds::{ACCEPT, ASK, CANCEL, HELLO, OUT};
 use crate::message::Message;
 use linda_codec::{
-    ReadFault, put_template, put_tuple, read_bool, read_template, read_tuple, read_u8, read_u32, read_u64,
-    skip_template, skip_tuple,
+    ReadFault, put_template, put_tuple, read_bool, read_template, read_tuple, read_u8, read_u32,
+    read_u64, skip_template, skip_tuple,
 };
 use std::alloc::{AllocError, Global};
 

@@ -363,3 +363,36 @@ fn bytes_left_over_after_replies(rt: HostRuntime) -> Result<(), Fail> {
     }
     Ok(())
 }
+
+// Whether a feed that could take the bytes tells the fault, and tells it again.
+fn is_told_if_fed(alloc: Global, bytes: &[u8], fault: FrameFault) -> bool {
+    let mut feed = Feed::new(alloc);
+    feed.feed(bytes).is_err()
+        || feed.next(alloc).err() == Some(fault) && feed.next(alloc).err() == Some(fault)
+}
+
+// Whether a feed of replies does so.
+fn is_told_of_reply_if_fed(alloc: Global, bytes: &[u8], fault: FrameFault) -> bool {
+    let mut feed = ReplyFeed::new(alloc);
+    feed.feed(bytes).is_err()
+        || feed.next(alloc).err() == Some(fault) && feed.next(alloc).err() == Some(fault)
+}
+
+// Passes too where any one growth of memory is refused (`tools/refused-growth` runs it so).
+#[test]
+fn faults_are_told_also_where_memory_is_short(rt: HostRuntime) {
+    let messages: [(&[u8], u32); 3] = [
+        (b"\0\0\0\x0e\x02\0\0\0\0\0\0\0\x01\x02\x01a\x01\x09", 17),
+        (b"\0\0\0\x0e\x02\0\0\0\0\0\0\0\x01\x02\x01a\0\0", 17),
+        (
+            b"\0\0\0\x10\x03\0\0\0\0\0\0\0\x01\x01\x02\x01a\x02\x04\x08",
+            19,
+        ),
+    ];
+    for (bytes, at) in messages {
+        let fault = FrameFault::Malformed(at);
+        assert!(rt; is_told_if_fed(rt.alloc(), bytes, fault), "{bytes:?}");
+    }
+    let offer: &[u8] = b"\0\0\0\x17\x13\0\0\0\0\0\0\0\x01\0\0\0\0\0\0\0\x02\x02\x01a\x01\x03\x02";
+    assert!(rt; is_told_of_reply_if_fed(rt.alloc(), offer, FrameFault::Malformed(26)));
+}

@@ -6,14 +6,16 @@ use std::test::*;
 
 pub(crate) const HELLO: [u8; 11] = *b"\0\0\0\x07\x01\x01\0\0\0\x07\0";
 
-pub(crate) const OUT: [u8; 26] = *b"\0\0\0\x16\x02\0\0\0\0\0\0\0\x01\x02\x01a\x01\x01\0\0\0\0\0\0\0\x03";
+pub(crate) const OUT: [u8; 26] =
+    *b"\0\0\0\x16\x02\0\0\0\0\0\0\0\x01\x02\x01a\x01\x01\0\0\0\0\0\0\0\x03";
 
 pub(crate) const ASK: [u8; 19] = *b"\0\0\0\x0f\x03\0\0\0\0\0\0\0\x01\x01\x02\x01a\x01\x04";
 
 pub(crate) const ASK_TO_READ: [u8; 30] =
     *b"\0\0\0\x1a\x03\xff\xff\xff\xff\xff\xff\xff\xff\0\x02\x01a\x04\x01\0\0\0\0\0\0\0\x03\x05\x06\x07";
 
-pub(crate) const ACCEPT: [u8; 29] = *b"\0\0\0\x19\x04\0\0\0\0\0\0\0\x02\0\0\0\0\0\0\0\x01\0\0\0\0\0\0\0\x01";
+pub(crate) const ACCEPT: [u8; 29] =
+    *b"\0\0\0\x19\x04\0\0\0\0\0\0\0\x02\0\0\0\0\0\0\0\x01\0\0\0\0\0\0\0\x01";
 
 pub(crate) const CANCEL: [u8; 13] = *b"\0\0\0\x09\x05\0\0\0\0\0\0\0\x09";
 

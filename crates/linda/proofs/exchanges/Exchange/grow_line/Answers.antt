@@ -1,9 +1,9 @@
-use Rattle.std.proofs.Common.{ℕ, List, Option, Some, None, refl}
+use Rattle.std.proofs.Common.{ℕ, ◌+◌, List, Option, Some, None, subst}
 use Rattle.std.specs.Option.{option_copied}
 use Rattle.linda.specs.Lines.{Extends}
-use Rattle.linda.specs.Exchanges.{Grows}
+use Rattle.linda.specs.Exchanges.{Grows, IsUnkept}
 use Rattle.linda.specs.declared.exchanges.Exchange.{Exchange}
-use Rattle.linda.proofs.Steps.{grown, memory_ends}
+use Rattle.linda.proofs.Steps.{grown, unkept_ends}
 use Rattle.linda.proofs.exchanges.Exchange.grow_line.Goals as goal
 use Rattle.linda_store.specs.Node.{Node}
 use Rattle.std.specs.Global.{Vec}
@@ -17,4 +17,6 @@ pub returns-in-Ok-clause-ok : goal.returns-in-Ok-clause-ok
 returns-in-Ok-clause-ok c = grows c.args.text.now c.args.self.now _ c.extend_line.new.line (option_copied c.in-Ok.rest) c.in-Ok.ensures.ok
 
 pub returns-in-Err-clause-err : goal.returns-in-Err-clause-err
-returns-in-Err-clause-err c = λ read sent u. memory_ends read sent c.args.self.now _ _ refl u
+returns-in-Err-clause-err c = λ read sent u.
+    unkept_ends read sent c.args.text.now c.args.self.now _ _
+    (subst (λ (line : List ℕ). IsUnkept line c.args.text.now (c.args.self.now.lines + 1) c.unkept.result) c.in-Err.ensures.err c.unkept.ensures) u

@@ -14,7 +14,7 @@ returns-in_default-clause-leads c = λ text sent u. memory_ends_line text sent c
 pub returns-in_default-decoded-clause-leads : goal.returns-in_default-decoded-clause-leads
 returns-in_default-decoded-clause-leads c = λ text sent u.
     bad_ends text sent c.args.self.now _
-    (sym (ap piece_of c.deref.ensures.value) ∙ sym c.in-Ok.ensures ∙ ap (option_map (λ p. p.items)) c.in_default-decoded.is) u
+    (sym (ap piece_of c.deref.ensures.value) ∙ sym c.in-Ok.ensures.piece ∙ ap (option_map (λ p. p.items)) c.in_default-decoded.is) u
 
 pub returns-in_default-take_piece-clause-leads : goal.returns-in_default-take_piece-clause-leads
 returns-in_default-take_piece-clause-leads c = λ text sent u.
@@ -25,7 +25,7 @@ returns-in_default-take_piece-clause-leads c = λ text sent u.
 pub returns-clause-leads : goal.returns-clause-leads
 returns-clause-leads c = λ text sent u.
     line_taken text sent c.in-Some.piece.items c.args.self.now _ _ _ c.in-Ok-take_piece.goes_on
-    (sym (ap piece_of c.deref.ensures.value) ∙ sym c.in-Ok.ensures ∙ ap (option_map (λ p. p.items)) c.in-Some.is)
+    (sym (ap piece_of c.deref.ensures.value) ∙ sym c.in-Ok.ensures.piece ∙ ap (option_map (λ p. p.items)) c.in-Some.is)
     refl c.clear.ensures.items
     (continued_with _ _ _ _ _ _ c.clear.new.self (c.args.self.now.lines + 1)
     (subst (λ (piece : List ℕ). Continues piece c.in-Ok-take_piece.goes_on c.args.self.now (shown c.args.self.now.node) c.take_piece.new.self (shown c.take_piece.new.self.node)) c.deref-2.ensures.value

@@ -6,7 +6,7 @@ use Rattle.linda.specs.Exchanges.{IsUnderway, LeadsTo, Grows}
 use Rattle.linda.specs.declared.exchanges.Exchange.{Exchange}
 use Rattle.linda_store.specs.Node.{Node}
 use Rattle.linda.proofs.Nodes.{shown}
-use Rattle.linda.proofs.Steps.{over_line, over_rest, line_found, read_line}
+use Rattle.linda.proofs.Steps.{over_line, over_all, line_found, read_line}
 use Rattle.linda.proofs.exchanges.Exchange.take_text.Goals as goal
 
 -- a line feed was found
@@ -18,7 +18,7 @@ pub returns-in_err-later-clause-leads : goal.returns-in_err-later-clause-leads
 returns-in_err-later-clause-leads c = λ read sent u.
     let p = err_from_is_err_and c.from_residual.result c.from_residual.ensures.1 in
     rw (p.1, p.2)
-    (over_rest read c.loop-later.invariant.front c.loop-later.rest.now c.args.text.now _ _ c.loop-later.invariant.spelled
+    (over_all read c.loop-later.invariant.front c.loop-later.rest.now c.args.text.now _ _ c.loop-later.invariant.spelled
     (c.in_err-later.ensures.err _ sent (c.loop-later.invariant.leads read sent u)))
 
 pub returns-in_err-take_line-clause-leads : goal.returns-in_err-take_line-clause-leads

@@ -1,0 +1,2 @@
+mod MemDiskLaws
+pub mod RunLaws

@@ -1,0 +1,9 @@
+pub mod View
+pub mod Image
+pub mod Disk
+pub mod Run
+pub mod History
+pub mod HistoryLaws
+pub mod Trouble
+pub mod MemDisk
+pub mod FileDisk
