@@ -11,14 +11,15 @@ use Rattle.linda.specs.Hex.{piece_of}
 use Rattle.linda.specs.Piping.{unused, reply_line, HasEnded}
 use Rattle.linda.specs.Exchanges.{HasTalked, IsOpen, GoesOn, Continues, IsContinued, IsUnderway, IsOver, IsUnkept, no_memory, is_bad, LeadsTo}
 use Rattle.linda_wire.specs.declared.reply.Reply.{Reply}
-use Rattle.linda_store.specs.declared.stages.Stage.TheVariants as stages
-use Rattle.linda_store.specs.Nodes.{Node}
-use Rattle.linda_store.specs.Talk.{beginning}
-use Rattle.linda_store.specs.Conversation.{IsConversation, Session, HasTaken, beginner, point_of}
-use Rattle.linda_store.specs.declared.stages.Taken.{Taken}
-use Rattle.linda_store.specs.declared.volatiles.Volatile.{Volatile}
+use Rattle.linda_store.specs.declared.stage.Stage.TheVariants as stages
+use Rattle.linda_store.specs.Node.{Node}
+use Rattle.linda_store.specs.Turn.{beginning}
+use Rattle.linda_store.specs.Conversation.{IsConversation}
+use Rattle.linda_store.specs.Session.{Session, HasTaken, beginner, point_of}
+use Rattle.linda_store.specs.declared.stage.Taken.{Taken}
+use Rattle.linda_store.specs.declared.volatile.Volatile.{Volatile}
 use Rattle.linda.proofs.Nodes.{shown}
-use Rattle.linda_store.proofs.Ongoing.{conversation_begins, conversation_goes_on}
+use Rattle.linda_store.proofs.ConversationLaws.{conversation_begins, conversation_goes_on}
 use Rattle.linda.specs.declared.faults.PipeFault.{PipeFault}
 use Rattle.linda.specs.declared.faults.PipeFault.TheVariants as faults
 use Rattle.linda.specs.declared.exchanges.Exchange.{Exchange}
