@@ -16,10 +16,10 @@ use Rattle.linda_step.proofs.AnswerLaws.{step_proper}
 use Rattle.linda_step.proofs.OrderLaws.{step_orderly, close_orderly}
 
 -- After these deeds the server is in this state, and in order.
-record Stands (st : State) (ds : List Deed) (now : State) (soft : Soft) : Type 0 where
-  proper : IsProper st ds
-  after : IsAfter st ds now
-  orderly : IsOrderly now soft
+pub record Stands (st : State) (ds : List Deed) (now : State) (soft : Soft) : Type 0 where
+  pub proper : IsProper st ds
+  pub after : IsAfter st ds now
+  pub orderly : IsOrderly now soft
 
 -- One thing more leaves it so.
 came : (st mid new : State) (soft : Soft) (x : Coming) (ds : List Deed) (answered : Answer) → IsState st → Stands st ds mid soft → Comes mid soft x answered new
@@ -37,10 +37,10 @@ came st mid new soft (leaves c) ds answered is stands closed =
     }))
 
 -- After these deeds and those of a history.
-abbrev StandsAfter : State → List Deed → History → Type 0
+abbrev pub StandsAfter : State → List Deed → History → Type 0
 StandsAfter st ds all = Stands st (ds ++ all.deeds) all.state all.soft
 
-happened : (st mid : State) (soft : Soft) (xs : List Coming) (ds : List Deed) (all : History) → IsState st → Stands st ds mid soft → Happens mid soft xs all → StandsAfter st ds all
+pub happened : (st mid : State) (soft : Soft) (xs : List Coming) (ds : List Deed) (all : History) → IsState st → Stands st ds mid soft → Happens mid soft xs all → StandsAfter st ds all
 happened st mid soft [] ds all is stands happens =
     subst (StandsAfter st ds) (sym happens) (subst (λ l. Stands st l mid soft) (sym (append-nil ds)) stands)
 happened st mid soft (x ∷ xs) ds all is stands happens =

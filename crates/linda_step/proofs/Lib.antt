@@ -18,3 +18,6 @@ pub mod RepeatLaws
 pub mod RestLaws
 pub mod SoftLaws
 pub mod WaitLaws
+pub mod GrowthLaws
+pub mod OutcomeLaws
+pub mod CourseLaws

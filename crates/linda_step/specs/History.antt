@@ -1,5 +1,5 @@
 -- What comes to a server, one thing after another: all deeds and all sends, in order, and where that leaves the server.
-use Rattle.std.specs.Prelude.{◌≡◌, ℕ, List, [], ◌∷◌, ◌++◌, option_to_list}
+use Rattle.std.specs.Prelude.{◌≡◌, ℕ, List, [], ◌∷◌, ◌++◌, map, option_to_list}
 use Rattle.linda_wire.specs.declared.message.Message.{Message}
 use Rattle.linda_wire.specs.declared.reply.Reply.{Reply}
 use Rattle.linda_state.specs.declared.deed.Deed.{Deed}
@@ -43,3 +43,19 @@ abbrev pub Happens : State → Soft → List Coming → History → Type 0
 Happens st soft [] all = all ≡ nothing_yet st soft
 Happens st soft (x ∷ xs) all =
     (first : Answer) × ((mid : State) × ((later : History) × (Comes st soft x first mid × (Happens mid first.soft xs later × (all ≡ first_then first later)))))
+
+-- messages with their clients, as they come
+abbrev pub comings : List (ℕ × Message) → List Coming
+comings ms = map (λ (m : ℕ × Message). says m.0 m.1) ms
+
+-- The answer to several messages, one after another.
+abbrev pub Answers : State → Soft → List (ℕ × Message) → History → Type 0
+Answers st soft ms all = Happens st soft (comings ms) all
+
+-- One thing more came to a server, behind these deeds and sends, and all is this then.
+pub record IsOneMore (st : State) (soft : Soft) (x : Coming) (deeds : List Deed) (sends : List (ℕ × Reply)) (all : History) : Type 0 where
+  pub answer : Answer
+  pub comes : Comes st soft x answer all.state
+  pub deeds_are : all.deeds ≡ deeds ++ option_to_list answer.deed
+  pub sends_are : all.sends ≡ sends ++ answer.sends
+  pub soft_is : all.soft ≡ answer.soft

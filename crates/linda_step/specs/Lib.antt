@@ -6,4 +6,5 @@ pub mod Answer
 pub mod Codes
 pub mod Store
 pub mod History
+pub mod Course
 pub mod Promises

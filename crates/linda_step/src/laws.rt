@@ -11,7 +11,8 @@ ghost use Rattle.linda_step.specs.Dispatch.{on_cancel, on_close};
 ghost use Rattle.linda_state.specs.After.{IsAfter};
 ghost use Rattle.linda_state.specs.Proper.{IsProper};
 ghost use Rattle.linda_step.specs.Answer.{Answer, IsAnswer, IsStep};
-ghost use Rattle.linda_step.specs.History.{Coming, History, Happens};
+ghost use Rattle.linda_step.specs.History.{Coming, History, Happens, Answers};
+ghost use Rattle.linda_step.specs.Course.{Turn, Endures};
 ghost use Rattle.linda_step.specs.Store.{IsOrderly};
 ghost use Rattle.linda_step.specs.Promises.{IsAnsweredAsKept, IsAnsweredAgain, IsSafe, IsOver, HasLeft};
 
@@ -41,6 +42,21 @@ pub fn steps_keep_order()
 /// deeds are a proper list, so no tuple is taken twice, and the server is in order in the state after them.
 pub fn no_history_takes_a_tuple_twice()
     ensures { (st : State) (soft : Soft) (xs : List Coming) (all : History) → IsOrderly st soft → Happens st soft xs all → IsSafe st all }
+{}
+
+/// Several messages, one after another, have one outcome, and so has all else that comes: the deeds and sends, and the server then.
+pub fn a_list_has_one_outcome()
+    ensures messages { (st : State) (soft : Soft) (ms : List (ℕ × Message)) (a b : History)
+        → IsOrderly st soft → Answers st soft ms a → Answers st soft ms b → a ≡ b }
+    ensures comings { (st : State) (soft : Soft) (xs : List Coming) (a b : History)
+        → IsOrderly st soft → Happens st soft xs a → Happens st soft xs b → a ≡ b }
+{}
+
+/// The same holds where the server is stopped, too, in whatever it does and however often: it comes back with some first deeds of what
+/// was in hand.
+pub fn no_history_with_stops_takes_a_tuple_twice()
+    ensures { (st : State) (soft : Soft) (xs : List Turn) (all : History)
+        → IsOrderly st soft → Endures st soft xs all → IsSafe st all }
 {}
 
 /// A message that did a deed, and comes again while the client's entry is as that left it, gets the same reply again, whatever

@@ -22,6 +22,15 @@ pub struct Step {
     pub sends: Vec<(u32, Reply)>,
 }
 
+/// What several messages came to, one after another.
+#[derive(Drop)]
+pub struct Steps {
+    /// The changes of the state, in order.
+    pub deeds: Vec<Deed>,
+    /// The replies with the clients that they go to, in order.
+    pub sends: Vec<(u32, Reply)>,
+}
+
 /// Does what the message of the client asks, and answers it.
 ///
 /// # Errors

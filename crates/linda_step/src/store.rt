@@ -1,17 +1,18 @@
 //! The store of a server: a state that keeps its ranges, changed by one message after another.
 
-ghost use Rattle.std.specs.Prelude.{◌≡◌, true, false, IfOk, OnOk, OnErr, IsErr};
+ghost use Rattle.std.specs.Prelude.{◌≡◌, ◌++◌, true, false, IfOk, OnOk, OnErr, IsErr, option_to_list};
 ghost use Rattle.linda_state.specs.State.{IsState, empty_state};
 ghost use Rattle.linda_step.specs.Soft.{no_asks};
 ghost use Rattle.linda_step.specs.Dispatch.{on_close};
 ghost use Rattle.linda_step.specs.Answer.{IsStep};
+ghost use Rattle.linda_step.specs.History.{Answers, IsOneMore, says};
 ghost use Rattle.linda_step.specs.Store.{IsOrderly};
 
 use crate::soft::Soft;
-use crate::step::{Step, answer_message};
+use crate::step::{Step, Steps, answer_message};
 use linda_bag::Bag;
 use linda_hold::{Holds, Waits};
-use linda_state::State;
+use linda_state::{Deed, State};
 use linda_wire::{Message, Reply};
 use std::alloc::{AllocError, Global};
 use std::marker::Model;
@@ -100,6 +101,72 @@ impl<B: Bag> Store<B> {
         }
     }
 
+    /// Does what the messages ask, one after another, each of its client, as `step` does.
+    ///
+    /// # Errors
+    ///
+    /// `AllocError` where memory runs out: some first messages may be done, and the store is spent; and
+    /// always where it is spent already.
+    pub fn step_all(
+        &mut self,
+        alloc: Global,
+        messages: &[(u32, Message)],
+    ) -> Result<Steps, AllocError>
+        ensures ok { IfOk result (λ s. Answers self.old.state self.old.soft messages.now
+            (record { deeds = s.deeds.items; sends = s.sends.items; soft = self.new.soft; state = self.new.state })) }
+        ensures unspent { OnOk result ((self.old.is_spent ≡ false) × (self.new.is_spent ≡ false)) }
+        ensures err { OnErr result (self.new.is_spent ≡ true) }
+        ensures dropped { OnErr result (self.old.is_spent ≡ false → self.new.soft ≡ no_asks) }
+        ensures spent { self.old.is_spent ≡ true → IsErr result × (self.new ≡ self.old) }
+    {
+        if self.spent {
+            return Err(AllocError);
+        }
+        let mut steps = Steps {
+            deeds: Vec::new(alloc),
+            sends: Vec::new(alloc),
+        };
+        for message in messages {
+            match self.add_step(alloc, message.0, &message.1, &mut steps) {
+                Ok(()) => {}
+                Err(error) => {
+                    self.spend(alloc);
+                    return Err(error);
+                }
+            }
+        }
+        Ok(steps)
+    }
+
+    // Does one message more.
+    fn add_step(
+        &mut self,
+        alloc: Global,
+        client: u32,
+        message: &Message,
+        steps: &mut Steps,
+    ) -> Result<(), AllocError>
+        requires { self.old.is_spent ≡ false }
+        ensures ok { OnOk result (IsOneMore self.old.state self.old.soft (says client message.now)
+            steps.old.deeds.items steps.old.sends.items
+            (record { deeds = steps.new.deeds.items; sends = steps.new.sends.items; soft = self.new.soft; state = self.new.state })) }
+        ensures unspent { OnOk result (self.new.is_spent ≡ false) }
+    {
+        let step = self.step(alloc, client, message)?;
+        let Step { deed, mut sends } = step;
+        push_deed(&mut steps.deeds, deed)?;
+        steps.sends.append(&mut sends)?;
+        Ok(())
+    }
+
+    // Memory ran out: nothing is held any more, and nobody waits.
+    fn spend(&mut self, alloc: Global)
+        ensures { self.new ≡ record { state = self.old.state; soft = no_asks; is_spent = true } }
+    {
+        self.soft = Soft::new(alloc);
+        self.spent = true;
+    }
+
     /// Gives up all that the client asked: its waits, and then its holds by rising id, each of which is
     /// free at once for those that wait. The state is as before.
     ///
@@ -157,5 +224,15 @@ impl<B: Bag> Store<B> {
         ensures { result ≡ self.now.is_spent }
     {
         self.spent
+    }
+}
+
+// Pushes the deed, if there is one.
+fn push_deed(deeds: &mut Vec<Deed>, deed: Option<Deed>) -> Result<(), AllocError>
+    ensures { OnOk result (deeds.new.items ≡ deeds.old.items ++ option_to_list deed) }
+{
+    match deed {
+        Some(deed) => Ok(deeds.push(deed)?),
+        None => Ok(()),
     }
 }
