@@ -11,17 +11,18 @@ use Rattle.linda.specs.Lines.{ended, IsCut}
 use Rattle.linda.specs.Piping.{unused, reply_line, HasEnded, IsAnswered, IsPiped, GoesOut}
 use Rattle.linda.specs.Exchanges.{IsUnderway, IsOver, LeadsTo, IsEnded, ReadsTo, IsPiping, TurnsTo}
 use Rattle.linda.proofs.Steps.{memory_ends}
-use Rattle.linda_store.specs.declared.stages.Stage.TheVariants as stages
-use Rattle.linda_store.specs.Nodes.{Shown}
-use Rattle.linda_store.specs.Talk.{beginning}
-use Rattle.linda_store.specs.Conversation.{IsConversation, point_of}
-use Rattle.linda_store.specs.Conversing.{read_limit}
+use Rattle.linda_store.specs.declared.stage.Stage.TheVariants as stages
+use Rattle.linda_store.specs.Node.{Node}
+use Rattle.linda_store.specs.Turn.{beginning}
+use Rattle.linda_store.specs.Conversation.{IsConversation}
+use Rattle.linda_store.specs.Session.{point_of}
+use Rattle.linda_store.specs.Converse.{read_limit}
 use Rattle.linda.specs.declared.faults.PipeFault.{PipeFault}
 use Rattle.linda.specs.declared.faults.PipeFault.TheVariants as faults
 use Rattle.linda.specs.declared.exchanges.Exchange.{Exchange}
 
 -- the input has ended, and so has the last line
-pub whole_ends : (text sent : List ℕ) (left : Option (List ℕ)) (x : Exchange) (node : Shown) → IsAtEnd left → x.line.items ≡ [] → IsUnderway text sent x node
+pub whole_ends : (text sent : List ℕ) (left : Option (List ℕ)) (x : Exchange) (node : Node) → IsAtEnd left → x.line.items ≡ [] → IsUnderway text sent x node
     → HasEnded text (sent ++ x.replies.items) left (Ok tt)
 whole_ends text sent left x node end empty u = record {
   lines = u.lines;
@@ -59,18 +60,18 @@ over_last read sent left x result end o = record {
 }
 
 -- the last line was taken, and the conversation may go on or not
-pub last_taken : (read sent : List ℕ) (left : Option (List ℕ)) (x : Exchange) (node : Shown) (goes_on : Bool) → IsAtEnd left → x.line.items ≡ []
+pub last_taken : (read sent : List ℕ) (left : Option (List ℕ)) (x : Exchange) (node : Node) (goes_on : Bool) → IsAtEnd left → x.line.items ≡ []
     → LeadsTo (ended read) sent x node (Ok goes_on) → IsEnded read sent left x (Ok tt)
 last_taken read sent left x node true end empty u = record { text = ended read; text_is = inr (end, refl); ends = whole_ends (ended read) sent left x node end empty u }
 last_taken read sent left x node false end empty o = over_last read sent left x (Ok tt) end o
 
 -- there was no last line
-pub none_left : (read sent : List ℕ) (left : Option (List ℕ)) (x : Exchange) (node : Shown) → IsAtEnd left → x.line.items ≡ [] → IsUnderway read sent x node
+pub none_left : (read sent : List ℕ) (left : Option (List ℕ)) (x : Exchange) (node : Node) → IsAtEnd left → x.line.items ≡ [] → IsUnderway read sent x node
     → IsEnded read sent left x (Ok tt)
 none_left read sent left x node end empty u = record { text = read; text_is = inl refl; ends = whole_ends read sent left x node end empty u }
 
 -- taking text, as taking what a read gave
-pub read_taken : (read sent : List ℕ) (left : Option (List ℕ)) (x : Exchange) (node : Shown) (result : Result Bool PipeFault) → LeadsTo read sent x node result
+pub read_taken : (read sent : List ℕ) (left : Option (List ℕ)) (x : Exchange) (node : Node) (result : Result Bool PipeFault) → LeadsTo read sent x node result
     → ReadsTo read sent left x node result
 read_taken read sent left x node (Ok true) u = u
 read_taken read sent left x node (Ok false) o = over_ended read sent left x (Ok tt) o
@@ -111,7 +112,7 @@ part_sent text sent replies left result k h = record {
 }
 
 -- while it is under way, too
-pub part_underway : (text sent : List ℕ) (x : Exchange) (node : Shown) (left : Option (List ℕ)) (k : ℕ) → IsUnderway text sent x node
+pub part_underway : (text sent : List ℕ) (x : Exchange) (node : Node) (left : Option (List ℕ)) (k : ℕ) → IsUnderway text sent x node
     → HasEnded text (sent ++ take k x.replies.items) left (Err faults.Write)
 part_underway text sent x node left k u = record {
   lines = u.lines;
@@ -125,7 +126,7 @@ part_underway text sent x node left k u = record {
 }
 
 -- all reply lines were sent
-pub all_sent : (text sent : List ℕ) (x : Exchange) (node : Shown) (empty : Vec ℕ) → empty.items ≡ [] → IsUnderway text sent x node
+pub all_sent : (text sent : List ℕ) (x : Exchange) (node : Node) (empty : Vec ℕ) → empty.items ≡ [] → IsUnderway text sent x node
     → IsUnderway text (sent ++ x.replies.items) (record x { replies = empty }) node
 all_sent text sent x node empty e u = record {
   lines = u.lines;
@@ -141,7 +142,7 @@ all_sent text sent x node empty e u = record {
 }
 
 -- between reads nothing is in the buffer, so what has gone out is all
-pub fault_between : (text sent : List ℕ) (x : Exchange) (node : Shown) (left : Option (List ℕ)) → x.replies.items ≡ [] → IsUnderway text sent x node
+pub fault_between : (text sent : List ℕ) (x : Exchange) (node : Node) (left : Option (List ℕ)) → x.replies.items ≡ [] → IsUnderway text sent x node
     → HasEnded text sent left (Err faults.Read) × (read_limit ≤ length text → HasEnded text sent left (Err faults.Turns))
 fault_between text sent x node left e u =
     let out : sent ≡ flat_map reply_line u.said = sym (u.out ∙ ap (λ l. sent ++ l) e ∙ append-nil sent) in
@@ -154,7 +155,7 @@ fault_between text sent x node left e u =
 -- ---- one read
 
 -- the read failed
-pub read_failed : {reads : ℕ} (first_left old_left new_left first_written written : Option (List ℕ)) (x : Exchange) (node : Shown) → Keeps old_left new_left
+pub read_failed : {reads : ℕ} (first_left old_left new_left first_written written : Option (List ℕ)) (x : Exchange) (node : Node) → Keeps old_left new_left
     → IsPiping reads first_left old_left first_written written x node → IsPiped first_left new_left first_written written (Err faults.Read)
 read_failed first_left old_left new_left first_written written x node kept p = record {
   read = p.read;
@@ -167,7 +168,7 @@ read_failed first_left old_left new_left first_written written x node kept p = r
 }
 
 -- there were too many reads
-pub turns_spent : {reads : ℕ} (first_left left first_written written : Option (List ℕ)) (x : Exchange) (node : Shown) → read_limit ≤ reads → IsPiping reads first_left left first_written written x node
+pub turns_spent : {reads : ℕ} (first_left left first_written written : Option (List ℕ)) (x : Exchange) (node : Node) → read_limit ≤ reads → IsPiping reads first_left left first_written written x node
     → IsPiped first_left left first_written written (Err faults.Turns)
 turns_spent first_left left first_written written x node all p = record {
   read = p.read;
@@ -180,7 +181,7 @@ turns_spent first_left left first_written written x node all p = record {
 }
 
 -- what was read was taken, and sending the replies failed
-pub send_failed : {reads : ℕ} (first_left old_left left first_written old_written written : Option (List ℕ)) (chunk : List ℕ) (old x : Exchange) (was now : Shown)
+pub send_failed : {reads : ℕ} (first_left old_left left first_written old_written written : Option (List ℕ)) (chunk : List ℕ) (old x : Exchange) (was now : Node)
     → (result : Result Bool PipeFault) (k : ℕ) (p : IsPiping reads first_left old_left first_written old_written old was) → Consumes old_left left chunk
     → ReadsTo (p.read ++ chunk) p.written left x now result → Appends old_written written (take k x.replies.items)
     → IsPiped first_left left first_written written (Err faults.Write)
@@ -217,7 +218,7 @@ one_more : (reads : ℕ) (read chunk : List ℕ) → reads ≤ length read → 0
 one_more reads read chunk many some = omega (arith, length-append read chunk)
 
 -- what was read was taken, and all replies were sent
-pub send_done : {reads : ℕ} (first_left old_left left first_written old_written written : Option (List ℕ)) (chunk : List ℕ) (old x : Exchange) (was now : Shown) (empty : Vec ℕ)
+pub send_done : {reads : ℕ} (first_left old_left left first_written old_written written : Option (List ℕ)) (chunk : List ℕ) (old x : Exchange) (was now : Node) (empty : Vec ℕ)
     → (result : Result Bool PipeFault) (p : IsPiping reads first_left old_left first_written old_written old was) → empty.items ≡ [] → Consumes old_left left chunk → (result ≡ Ok true → 0 < length chunk)
     → ReadsTo (p.read ++ chunk) p.written left x now result → Appends old_written written x.replies.items
     → TurnsTo (reads + 1) first_left left first_written written (record x { replies = empty }) now result
@@ -251,7 +252,7 @@ send_done first_left old_left left first_written old_written written chunk old x
 
 -- ---- before the first read
 
-pub none_read : (left written : Option (List ℕ)) (x : Exchange) (node : Shown) → x.replies.items ≡ [] → IsUnderway [] [] x node → IsPiping 0 left left written written x node
+pub none_read : (left written : Option (List ℕ)) (x : Exchange) (node : Node) → x.replies.items ≡ [] → IsUnderway [] [] x node → IsPiping 0 left left written written x node
 none_read left written x node empty u = record {
   read = [];
   written = [];
@@ -263,7 +264,7 @@ none_read left written x node empty u = record {
 }
 
 -- memory ran out between two reads
-pub memory_between : {reads : ℕ} (first_left left first_written written : Option (List ℕ)) (x : Exchange) (node : Shown) (n : ℕ) → n ≡ x.lines + 1
+pub memory_between : {reads : ℕ} (first_left left first_written written : Option (List ℕ)) (x : Exchange) (node : Node) (n : ℕ) → n ≡ x.lines + 1
     → IsPiping reads first_left left first_written written x node → IsPiped first_left left first_written written (Err (faults.Memory n))
 memory_between first_left left first_written written x node n e p =
     let ended_so : HasEnded (p.read ++ []) (p.written ++ x.replies.items) left (Err (faults.Memory n)) = memory_ends p.read p.written x node n e p.underway [] left in

@@ -11,14 +11,15 @@ use Rattle.linda.specs.Hex.{piece_of}
 use Rattle.linda.specs.Piping.{unused, reply_line, HasEnded}
 use Rattle.linda.specs.Exchanges.{HasTalked, IsOpen, GoesOn, Continues, IsContinued, IsUnderway, IsOver, IsUnkept, no_memory, is_bad, LeadsTo}
 use Rattle.linda_wire.specs.declared.reply.Reply.{Reply}
-use Rattle.linda_store.specs.declared.stages.Stage.TheVariants as stages
-use Rattle.linda_store.specs.Nodes.{Shown}
-use Rattle.linda_store.specs.Talk.{beginning}
-use Rattle.linda_store.specs.Conversation.{IsConversation, Talker, HasTaken, beginner, point_of}
-use Rattle.linda_store.specs.declared.stages.Taken.{Taken}
-use Rattle.linda_store.specs.declared.volatiles.Volatile.{Volatile}
+use Rattle.linda_store.specs.declared.stage.Stage.TheVariants as stages
+use Rattle.linda_store.specs.Node.{Node}
+use Rattle.linda_store.specs.Turn.{beginning}
+use Rattle.linda_store.specs.Conversation.{IsConversation}
+use Rattle.linda_store.specs.Session.{Session, HasTaken, beginner, point_of}
+use Rattle.linda_store.specs.declared.stage.Taken.{Taken}
+use Rattle.linda_store.specs.declared.volatile.Volatile.{Volatile}
 use Rattle.linda.proofs.Nodes.{shown}
-use Rattle.linda_store.proofs.Ongoing.{conversation_begins, conversation_goes_on}
+use Rattle.linda_store.proofs.ConversationLaws.{conversation_begins, conversation_goes_on}
 use Rattle.linda.specs.declared.faults.PipeFault.{PipeFault}
 use Rattle.linda.specs.declared.faults.PipeFault.TheVariants as faults
 use Rattle.linda.specs.declared.exchanges.Exchange.{Exchange}
@@ -43,7 +44,7 @@ cut_line text line lines c h = record {
 }
 
 -- a text moves to the unfinished line
-pub grown : (read sent front : List ℕ) (x : Exchange) (node : Shown) (longer : Vec ℕ) → HasNoFeed front → longer.items ≡ x.line.items ++ front → IsUnderway read sent x node
+pub grown : (read sent front : List ℕ) (x : Exchange) (node : Node) (longer : Vec ℕ) → HasNoFeed front → longer.items ≡ x.line.items ++ front → IsUnderway read sent x node
     → IsUnderway (read ++ front) sent (record x { line = longer }) node
 grown read sent front x node longer h e u = record {
   lines = u.lines;
@@ -59,7 +60,7 @@ grown read sent front x node longer h e u = record {
 }
 
 -- nothing more is taken of a text that is under way, since memory ran out
-pub memory_ends : (text sent : List ℕ) (x : Exchange) (node : Shown) (n : ℕ) → n ≡ x.lines + 1 → IsUnderway text sent x node → IsOver text (sent ++ x.replies.items) (Err (faults.Memory n))
+pub memory_ends : (text sent : List ℕ) (x : Exchange) (node : Node) (n : ℕ) → n ≡ x.lines + 1 → IsUnderway text sent x node → IsOver text (sent ++ x.replies.items) (Err (faults.Memory n))
 memory_ends text sent x node n e u = λ later left. record {
   lines = u.lines;
   more = x.line.items ++ later;
@@ -72,14 +73,14 @@ memory_ends text sent x node n e u = λ later left. record {
 }
 
 -- the same, where the line feed of the unfinished line was read
-pub memory_ends_line : (text sent : List ℕ) (x : Exchange) (node : Shown) (n : ℕ) → n ≡ x.lines + 1 → IsUnderway text sent x node
+pub memory_ends_line : (text sent : List ℕ) (x : Exchange) (node : Node) (n : ℕ) → n ≡ x.lines + 1 → IsUnderway text sent x node
     → IsOver (ended text) (sent ++ x.replies.items) (Err (faults.Memory n))
 memory_ends_line text sent x node n e u =
     λ later left. subst (λ t. HasEnded t (sent ++ x.replies.items) left (Err (faults.Memory n))) (sym (append_assoc text (LINE_FEED ∷ []) later))
     (memory_ends text sent x node n e u ((LINE_FEED ∷ []) ++ later) left)
 
 -- the unfinished line becomes whole with this front of what comes, and is not hexadecimal
-bad_front_ends : (text sent front : List ℕ) (x : Exchange) (node : Shown) → HasNoFeed front → piece_of (x.line.items ++ front) ≡ None → IsUnderway text sent x node
+bad_front_ends : (text sent front : List ℕ) (x : Exchange) (node : Node) → HasNoFeed front → piece_of (x.line.items ++ front) ≡ None → IsUnderway text sent x node
     → IsOver (ended (text ++ front)) (sent ++ x.replies.items) (Err (faults.NotHexadecimal (x.lines + 1)))
 bad_front_ends text sent front x node h bad u = λ later left. record {
   lines = u.lines;
@@ -103,14 +104,14 @@ bad_front_ends text sent front x node h bad u = λ later left. record {
     behind a b c = append_assoc (a ++ b) (LINE_FEED ∷ []) c ∙ append_assoc a b ((LINE_FEED ∷ []) ++ c)
 
 -- the unfinished line is whole, and is not hexadecimal
-pub bad_ends : (text sent : List ℕ) (x : Exchange) (node : Shown) → piece_of x.line.items ≡ None → IsUnderway text sent x node
+pub bad_ends : (text sent : List ℕ) (x : Exchange) (node : Node) → piece_of x.line.items ≡ None → IsUnderway text sent x node
     → IsOver (ended text) (sent ++ x.replies.items) (Err (faults.NotHexadecimal (x.lines + 1)))
 bad_ends text sent x node bad u =
     subst (λ t. IsOver (ended t) (sent ++ x.replies.items) (Err (faults.NotHexadecimal (x.lines + 1)))) (append-nil text)
     (bad_front_ends text sent [] x node (All-nil (λ b. b ≢ LINE_FEED)) (ap piece_of (append-nil x.line.items) ∙ bad) u)
 
 -- one more line was answered
-pub record IsMore (text sent : List ℕ) (line piece : List ℕ) (lines pieces : List (List ℕ)) (said : List Reply) (new : Exchange) (now : Shown) : Type 0 where
+pub record IsMore (text sent : List ℕ) (line piece : List ℕ) (lines pieces : List (List ℕ)) (said : List Reply) (new : Exchange) (now : Node) : Type 0 where
   pub cut : IsCut (ended text) (lines ++ line ∷ []) []
   pub counted : new.lines ≡ length (lines ++ line ∷ [])
   pub decoded : map piece_of (lines ++ line ∷ []) ≡ map Some (pieces ++ piece ∷ [])
@@ -132,7 +133,7 @@ said_more said later sent old new one two =
     flat_map-append reply_line said later ∙ ap (λ l. l ++ flat_map reply_line later) one ∙ append_assoc sent old (flat_map reply_line later)
     ∙ ap (λ l. sent ++ l) (sym two)
 
-pub more_of : (text sent piece : List ℕ) (old new : Exchange) (was now : Shown) (goes_on : Bool) (u : IsUnderway text sent old was) → piece_of old.line.items ≡ Some piece
+pub more_of : (text sent piece : List ℕ) (old new : Exchange) (was now : Node) (goes_on : Bool) (u : IsUnderway text sent old was) → piece_of old.line.items ≡ Some piece
     → new.lines ≡ old.lines + 1 → (m : IsContinued (concat u.pieces ++ piece) u.said goes_on old new now)
     → IsMore text sent old.line.items piece u.lines u.pieces (u.said ++ m.later) new now
 more_of text sent piece old new was now goes_on u e counted m = record {
@@ -144,7 +145,7 @@ more_of text sent piece old new was now goes_on u e counted m = record {
 }
 
 -- a line was answered: it is under way still, or it is over
-pub line_taken : (text sent piece : List ℕ) (old new : Exchange) (was now : Shown) (goes_on : Bool) → piece_of old.line.items ≡ Some piece → new.lines ≡ old.lines + 1
+pub line_taken : (text sent piece : List ℕ) (old new : Exchange) (was now : Node) (goes_on : Bool) → piece_of old.line.items ≡ Some piece → new.lines ≡ old.lines + 1
     → new.line.items ≡ [] → Continues piece goes_on old was new now → IsUnderway text sent old was → LeadsTo (ended text) sent new now (Ok goes_on)
 line_taken text sent piece old new was now true e counted empty goes u =
     let m = goes (concat u.pieces) u.said u.is_open u.talk in
@@ -187,7 +188,7 @@ over_more text more written result o =
     λ later left. subst (λ t. HasEnded t written left result) (sym (append_assoc text more later)) (o (more ++ later) left)
 
 -- the line and the count of lines play no part in a conversation
-pub continued_with : (piece : List ℕ) (goes_on : Bool) (old new : Exchange) (was now : Shown) (line : Vec ℕ) (lines : ℕ) → Continues piece goes_on old was new now
+pub continued_with : (piece : List ℕ) (goes_on : Bool) (old new : Exchange) (was now : Node) (line : Vec ℕ) (lines : ℕ) → Continues piece goes_on old was new now
     → Continues piece goes_on old was (record new { line = line; lines = lines }) now
 continued_with piece goes_on old new was now line lines h = λ bytes said o t.
     let m = h bytes said o t in
@@ -218,7 +219,7 @@ over_all read front rest text written result e o =
     subst (λ t. IsOver t written result) (append_assoc read front rest ∙ ap (λ t. read ++ t) (sym e)) o
 
 -- there is no memory for the line that goes on with this text
-pub unkept_ends : (read sent text : List ℕ) (x : Exchange) (node : Shown) (fault : PipeFault) → IsUnkept x.line.items text (x.lines + 1) fault → IsUnderway read sent x node
+pub unkept_ends : (read sent text : List ℕ) (x : Exchange) (node : Node) (fault : PipeFault) → IsUnkept x.line.items text (x.lines + 1) fault → IsUnderway read sent x node
     → IsOver (read ++ text) (sent ++ x.replies.items) (Err fault)
 unkept_ends read sent text x node fault (no_memory is) u =
     subst (λ f. IsOver (read ++ text) (sent ++ x.replies.items) (Err f)) (sym is)
@@ -233,7 +234,7 @@ unkept_ends read sent text x node fault (is_bad line none begins bad is) u =
     (over_more (ended (read ++ line)) begins.1.0 (sent ++ x.replies.items) (Err (faults.NotHexadecimal (x.lines + 1))) told))
 
 -- nothing was read, and nothing is there
-pub first : (node : Volatile) (session : Talker) (line replies : Vec ℕ) → shown node ≡ unused → session ≡ beginner → line.items ≡ [] → replies.items ≡ []
+pub first : (node : Volatile) (session : Session) (line replies : Vec ℕ) → shown node ≡ unused → session ≡ beginner → line.items ≡ [] → replies.items ≡ []
     → IsUnderway [] [] (record { node = node; session = session; line = line; lines = 0; replies = replies }) (shown node)
 first node session line replies new begins no_line no_replies = record {
   lines = [];
@@ -245,7 +246,7 @@ first node session line replies new begins no_line no_replies = record {
   decoded = refl;
   talk =
       subst (λ n. IsConversation (beginning unused) [] [] session.stage session.unread (point_of session n)) (sym new)
-      (subst (λ (s : Talker). IsConversation (beginning unused) [] [] s.stage s.unread (point_of s unused)) (sym begins)
+      (subst (λ (s : Session). IsConversation (beginning unused) [] [] s.stage s.unread (point_of s unused)) (sym begins)
       (conversation_begins (beginning unused) refl));
   is_open = subst IsOpen (sym begins) (refl, refl);
   out = sym no_replies;
@@ -253,14 +254,14 @@ first node session line replies new begins no_line no_replies = record {
 
 -- ---- a piece
 
-pub open_goes : (goes_on : Bool) (session : Talker) → goes_on ≡ true → session.stage ≡ stages.Open → session.is_spent ≡ false → GoesOn goes_on session
+pub open_goes : (goes_on : Bool) (session : Session) → goes_on ≡ true → session.stage ≡ stages.Open → session.is_spent ≡ false → GoesOn goes_on session
 open_goes goes_on session e open_is not_spent = subst (λ g. GoesOn g session) (sym e) (open_is, not_spent)
 
-pub malformed_ends : (goes_on : Bool) (session : Talker) (detail : ℕ) → goes_on ≡ false → session.stage ≡ stages.Malformed detail → GoesOn goes_on session
+pub malformed_ends : (goes_on : Bool) (session : Session) (detail : ℕ) → goes_on ≡ false → session.stage ≡ stages.Malformed detail → GoesOn goes_on session
 malformed_ends goes_on session detail e stage_is = subst (λ g. GoesOn g session) (sym e) (detail, stage_is)
 
 -- a session took a piece, and the lines of its replies went to the buffer
-pub piece_taken : (piece : List ℕ) (goes_on : Bool) (old new : Exchange) (was now : Shown) (taken : Taken)
+pub piece_taken : (piece : List ℕ) (goes_on : Bool) (old new : Exchange) (was now : Node) (taken : Taken)
     → (old.session.is_spent ≡ false → old.session.stage ≡ stages.Open → HasTaken old.session was piece taken new.session now)
     → new.replies.items ≡ old.replies.items ++ flat_map reply_line taken.replies.items → (new.session.is_spent ≡ false → GoesOn goes_on new.session)
     → Continues piece goes_on old was new now

@@ -7,14 +7,14 @@ use Rattle.linda.specs.Lines.{HasNoFeed, ended, IsCut}
 use Rattle.linda.specs.Hex.{piece_of}
 use Rattle.linda_wire.specs.declared.reply.Reply.{Reply}
 use Rattle.linda_wire.specs.Frames.{reply_frame}
-use Rattle.linda_store.specs.declared.stages.Stage.{Stage}
-use Rattle.linda_store.specs.declared.stages.Stage.TheVariants as stages
-use Rattle.linda_store.specs.State.{empty_state}
-use Rattle.linda_store.specs.Soft.{no_asks}
-use Rattle.linda_store.specs.Nodes.{Shown}
-use Rattle.linda_store.specs.Talk.{Point, beginning}
+use Rattle.linda_store.specs.declared.stage.Stage.{Stage}
+use Rattle.linda_store.specs.declared.stage.Stage.TheVariants as stages
+use Rattle.linda_state.specs.State.{empty_state}
+use Rattle.linda_step.specs.Soft.{no_asks}
+use Rattle.linda_store.specs.Node.{Node}
+use Rattle.linda_store.specs.Turn.{Point, beginning}
 use Rattle.linda_store.specs.Conversation.{IsConversation}
-use Rattle.linda_store.specs.Conversing.{read_limit}
+use Rattle.linda_store.specs.Converse.{read_limit}
 use Rattle.linda.specs.declared.faults.PipeFault.{PipeFault}
 use Rattle.linda.specs.declared.faults.PipeFault.TheVariants as faults
 
@@ -23,7 +23,7 @@ abbrev pub reply_line : Reply → List ℕ
 reply_line reply = ended (encode_lower (reply_frame reply))
 
 -- a volatile server that was never used
-abbrev pub unused : Shown
+abbrev pub unused : Node
 unused = record { state = empty_state; soft = no_asks; is_down = false; may_fill = false }
 
 -- The lines say pieces of a stream, and these replies are all that is said to it.

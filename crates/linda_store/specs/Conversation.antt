@@ -10,11 +10,11 @@ use Rattle.linda_wire.specs.declared.fault.FrameFault.TheVariants as frames
 use Rattle.linda_wire.specs.Frames.{message_frame, FitsMessage}
 use Rattle.linda_wire.specs.Stream.{Partial, Broken}
 use Rattle.linda_wire.specs.Stream.{message_front}
-use Rattle.linda_store.specs.declared.stages.Stage.{Stage}
-use Rattle.linda_store.specs.declared.stages.Stage.TheVariants as stages
-use Rattle.linda_store.specs.declared.stages.Taken.{Taken}
-use Rattle.linda_store.specs.Nodes.{Shown}
-use Rattle.linda_store.specs.Talk.{Point, point_at, Runs}
+use Rattle.linda_store.specs.declared.stage.Stage.{Stage}
+use Rattle.linda_store.specs.declared.stage.Stage.TheVariants as stages
+use Rattle.linda_store.specs.declared.stage.Taken.{Taken}
+use Rattle.linda_store.specs.Node.{Node}
+use Rattle.linda_store.specs.Turn.{Point, point_at, Runs}
 
 -- whether nothing has ended the connection
 abbrev pub stays_open : Stage → Bool
@@ -68,52 +68,13 @@ pub record IsConversation (from : Point) (bytes : List ℕ) (said : List Reply) 
   pub said_is : said ≡ turns ++ last_words stage
 
 -- A talk that was given up, for want of memory, in some place.
-abbrev pub IsGivenUp : Point → List ℕ → Shown → Option ℕ → Type 0
+abbrev pub IsGivenUp : Point → List ℕ → Node → Option ℕ → Type 0
 IsGivenUp from bytes node greeted =
     (turns : List Reply) × ((rest : List ℕ) × ((is_open : Bool) × IsTalk from bytes turns rest (point_at node greeted is_open)))
 
 -- What a call that takes all messages in the bytes did: it says how the connection stands, and puts what is said behind
 -- the replies of before. Where memory ran out, what is said may be lost.
-abbrev pub HasAnswered : {E : Type 0} → Point → List ℕ → List Reply → Result Stage E → List ℕ → List Reply → Shown → Option ℕ → Type 0
+abbrev pub HasAnswered : {E : Type 0} → Point → List ℕ → List Reply → Result Stage E → List ℕ → List Reply → Node → Option ℕ → Type 0
 HasAnswered from bytes old (Ok stage) rest new node greeted =
     (said : List Reply) × (IsConversation from bytes said stage rest (point_at node greeted (is_up stage)) × (new ≡ old ++ said))
 HasAnswered from bytes old (Err fault) rest new node greeted = IsGivenUp from bytes node greeted
-
--- What contracts see of a session: who is greeted, the bytes that make no whole frame yet, how it stands, and whether
--- memory ran out in it.
-pub record Talker : Type 0 where
-  pub greeted : Option ℕ
-  pub unread : List ℕ
-  pub stage : Stage
-  pub is_spent : Bool
-
--- a session that began
-abbrev pub beginner : Talker
-beginner = record { greeted = None; unread = []; stage = stages.Open; is_spent = false }
-
--- where the conversation of a session with a node stands
-abbrev pub point_of : Talker → Shown → Point
-point_of talker node = point_at node talker.greeted (is_up talker.stage)
-
--- A session took a piece and answered it.
-pub record HasTaken (old : Talker) (was : Shown) (piece : List ℕ) (taken : Taken) (new : Talker) (now : Shown) : Type 0 where
-  pub talk : IsConversation (point_of old was) (old.unread ++ piece) taken.replies.items new.stage new.unread (point_of new now)
-  pub goes_on : taken.goes_on ≡ stays_open new.stage
-  pub not_spent : new.is_spent ≡ false
-
--- Memory ran out while a session took a piece: some of its messages were taken, and nothing is told of them.
-pub record HasGivenUp (old : Talker) (was : Shown) (piece : List ℕ) (new : Talker) (now : Shown) : Type 0 where
-  pub talk : IsGivenUp (point_of old was) (old.unread ++ piece) now new.greeted
-  pub spent : new.is_spent ≡ true
-
--- What a session that had not ended answered to a piece.
-abbrev pub Answered : {E : Type 0} → Talker → Shown → List ℕ → Result Taken E → Talker → Shown → Type 0
-Answered old was piece (Ok taken) new now = HasTaken old was piece taken new now
-Answered old was piece (Err fault) new now = HasGivenUp old was piece new now
-
--- A session that had ended takes nothing and says nothing.
-pub record StaysSilent (old : Talker) (was : Shown) (taken : Taken) (new : Talker) (now : Shown) : Type 0 where
-  pub no_replies : taken.replies.items ≡ []
-  pub ended : taken.goes_on ≡ false
-  pub same : new ≡ old
-  pub node_same : now ≡ was

@@ -1,8 +1,8 @@
 -- What has gone out of a buffer that was sent.
 use Rattle.std.specs.Prelude.{ℕ, List, [], take, Option, Result, Ok, Err}
 use Rattle.std.specs.Io.KnownBytes.{Appends}
-use Rattle.linda_store.specs.declared.ends.ConverseFault.{ConverseFault}
-use Rattle.linda_store.specs.declared.ends.ConverseFault.TheVariants as faults
+use Rattle.linda_store.specs.declared.end.ConverseFault.{ConverseFault}
+use Rattle.linda_store.specs.declared.end.ConverseFault.TheVariants as faults
 
 -- All of the bytes where all went well, and else some first ones.
 abbrev pub HasSent : {A E : Type 0} → Option (List ℕ) → Option (List ℕ) → List ℕ → Result A E → Type 0

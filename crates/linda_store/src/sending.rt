@@ -6,7 +6,7 @@ ghost use Rattle.linda_wire.specs.Frames.{reply_frame};
 ghost use Rattle.std.specs.Io.KnownBytes.{Keeps, Appends};
 ghost use Rattle.linda_store.specs.Sending.{HasSent, HasWritten};
 
-use crate::ends::ConverseFault;
+use crate::end::ConverseFault;
 use linda_wire::{Reply, encode_reply};
 use std::alloc::{AllocError, Global};
 use std::io;

@@ -5,10 +5,10 @@ use Rattle.linda.specs.Exchanges.{Grows, IsUnkept}
 use Rattle.linda.specs.declared.exchanges.Exchange.{Exchange}
 use Rattle.linda.proofs.Steps.{grown, unkept_ends}
 use Rattle.linda.proofs.exchanges.Exchange.grow_line.Goals as goal
-use Rattle.linda_store.specs.Nodes.{Shown}
+use Rattle.linda_store.specs.Node.{Node}
 use Rattle.std.specs.Global.{Vec}
 
-grows : (text : List ℕ) (old : Exchange) (node : Shown) (longer : Vec ℕ) (rest : Option (List ℕ)) → Extends old.line.items text longer.items rest
+grows : (text : List ℕ) (old : Exchange) (node : Node) (longer : Vec ℕ) (rest : Option (List ℕ)) → Extends old.line.items text longer.items rest
     → Grows text old node (record old { line = longer }) node rest
 grows text old node longer None h = λ read sent u. grown read sent text old node longer h.0 h.1 u
 grows text old node longer (Some rest) h = (h.0, (h.1.1.0, λ read sent u. grown read sent h.0 old node longer h.1.0 h.1.1.1 u))

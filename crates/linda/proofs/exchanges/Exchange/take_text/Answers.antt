@@ -4,13 +4,13 @@ use Rattle.std.proofs.lemmas.Result.{err_from_is_err_and}
 use Rattle.linda.specs.Lines.{ended}
 use Rattle.linda.specs.Exchanges.{IsUnderway, LeadsTo, Grows}
 use Rattle.linda.specs.declared.exchanges.Exchange.{Exchange}
-use Rattle.linda_store.specs.Nodes.{Shown}
+use Rattle.linda_store.specs.Node.{Node}
 use Rattle.linda.proofs.Nodes.{shown}
 use Rattle.linda.proofs.Steps.{over_line, over_all, line_found, read_line}
 use Rattle.linda.proofs.exchanges.Exchange.take_text.Goals as goal
 
 -- a line feed was found
-found : (rest : List ℕ) (old new : Exchange) (was now : Shown) (answer : Option (Bor (List ℕ))) (later : Bor (List ℕ)) → answer ≡ Some later
+found : (rest : List ℕ) (old new : Exchange) (was now : Node) (answer : Option (Bor (List ℕ))) (later : Bor (List ℕ)) → answer ≡ Some later
     → Grows rest old was new now (option_copied answer) → Grows rest old was new now (Some later.now)
 found rest old new was now answer later e g = subst (λ a. Grows rest old was new now (option_copied a)) e g
 

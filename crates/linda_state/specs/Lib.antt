@@ -1,0 +1,6 @@
+pub mod State
+pub mod Deed
+pub mod After
+pub mod Proper
+pub mod Once
+pub mod Codes

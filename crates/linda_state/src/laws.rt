@@ -1,0 +1,19 @@
+//! What the definitions of states and deeds come to, each told by the contract of a function that does nothing.
+
+ghost use Rattle.std.specs.Prelude.{List};
+ghost use Rattle.linda_state.specs.declared.deed.Deed.{Deed};
+ghost use Rattle.linda_state.specs.State.{State, IsState};
+ghost use Rattle.linda_state.specs.After.{IsAfter};
+ghost use Rattle.linda_state.specs.Proper.{IsProper};
+ghost use Rattle.linda_state.specs.Once.{IsTakenOnce};
+
+/// Over every proper list of deeds no tuple is taken by two of them.
+pub fn no_tuple_is_taken_twice()
+    ensures { (st : State) (ds : List Deed) → IsState st → IsProper st ds → IsTakenOnce ds }
+{}
+
+/// The state after a proper list of deeds is in its ranges: so the ids of its bag are below its next id.
+pub fn proper_lists_keep_the_ranges()
+    ensures { (st new : State) (ds : List Deed)
+        → IsState st → IsProper st ds → IsAfter st ds new → IsState new }
+{}

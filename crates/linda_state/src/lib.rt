@@ -1,0 +1,18 @@
+//! The state of a server, and the deeds that change it: all that a journal and a snapshot need to know.
+//!
+//! - A `State` is a bag of tuples, a book with the last reply to each client, and the next id: what a
+//!   server keeps over a restart.
+//! - A `Deed` is one change of it. `State::put`, `State::take` and `State::pass` do one each; the state
+//!   after a list of deeds is what `specs/After` says, whatever the code did to get there.
+//! - `specs/Proper` says which lists of deeds a server can do. What follows for these lists is told by
+//!   the functions of `laws`.
+#![tactic(auto)]
+
+mod deed;
+mod laws;
+mod state;
+
+pub use deed::Deed;
+pub use laws::{no_tuple_is_taken_twice, proper_lists_keep_the_ranges};
+pub use linda_book::{Book, Class, KeptReply};
+pub use state::{NUMBER_LIMIT, State};

@@ -1,0 +1,125 @@
+-- Steps of a server: their deeds are allowed, so a run of steps does a proper list of deeds; and a message has one answer.
+use Rattle.std.proofs.Common.{◌≡◌, ℕ, Bool, true, false, cond, List, [], ◌++◌, Option, Some, None, is_some, option_to_list, refl, sym, ap, ◌∙◌, subst, append-nil}
+use Rattle.std.proofs.lemmas.Option.{none-some, same_Some}
+use Rattle.std.specs.FinMap.{get}
+use Rattle.linda_tuple.specs.Tuple.{Tuple}
+use Rattle.linda_tuple.specs.Template.{Template}
+use Rattle.linda_hold.specs.Holds.{IsOneEach}
+use Rattle.linda_wire.specs.declared.message.Message.{Message}
+use Rattle.linda_wire.specs.declared.message.Message.TheVariants.{Hello, Out, Ask, Accept, Cancel}
+use Rattle.linda_wire.specs.declared.reply.Reply.{Reply}
+use Rattle.linda_state.specs.declared.deed.Deed.{Deed}
+use Rattle.linda_state.specs.declared.deed.Deed.TheVariants as deeds
+use Rattle.linda_state.specs.State.{State, IsState}
+use Rattle.linda_step.specs.Soft.{Soft, Bagged}
+use Rattle.linda_step.specs.Looking.{passed_over}
+use Rattle.linda_step.specs.Dispatch.{Sends, on_cancel}
+use Rattle.linda_step.specs.Asking.{on_ask, AnswersAsk, AnswersCancel}
+use Rattle.linda_state.specs.After.{IsAfter}
+use Rattle.linda_state.specs.Proper.{IsAllowed, IsProper}
+use Rattle.linda_step.specs.Answer.{Answer, only_sends, on_out, out_without_deed, on_accept, accept_without_deed, take_or_pass, is_for, held_tuple, Tells, IsAnswer, IsStep}
+use Rattle.linda_state.proofs.AfterLaws.{none_after, one_after, more_after}
+use Rattle.linda_state.proofs.DoneLaws.{one_state}
+use Rattle.linda_step.proofs.LookingLaws.{one_least, one_held}
+use Rattle.linda_step.proofs.NumberLaws.{allowed_out, allowed_take, allowed_pass}
+use Rattle.linda_state.proofs.ProperLaws.{more_proper, takes_below, proper_state}
+
+-- A held tuple is in the bag.
+pub held_there : (st : State) (pair : ℕ × ℕ) (id : ℕ) (soft : Soft) (row : Tuple) → held_tuple st pair id soft ≡ Some row → get st.bag id ≡ Some row
+held_there st pair id soft row = by (is_for pair (get soft.holds id))
+  where
+    by : (b : Bool) → cond b (get st.bag id) None ≡ Some row → get st.bag id ≡ Some row
+    by true some = some
+    by false none = absurd (none-some row none)
+
+out_deed : (st : State) (c n : ℕ) (tuple : Tuple) (reply : Option Reply) (soft : Soft) (d : Deed) → (on_out st c n tuple reply soft).deed ≡ Some d → (reply ≡ None) × (deeds.Out c n tuple ≡ d)
+out_deed st c n tuple (Some r) soft d is = absurd (none-some d is)
+out_deed st c n tuple None soft d is = (refl, same_Some (deeds.Out c n tuple) d is)
+
+accept_deed : (st : State) (c n ticket id : ℕ) (soft : Soft) (d : Deed) → IsState st → (on_accept st c n ticket id (accept_without_deed st c n) soft).deed ≡ Some d → IsAllowed st d
+accept_deed st c n ticket id soft d ranges = by (accept_without_deed st c n) refl
+  where
+    deed_of : (row : Option Tuple) → held_tuple st (c, ticket) id soft ≡ row → accept_without_deed st c n ≡ None → (take_or_pass c n id row soft).deed ≡ Some d → IsAllowed st d
+    deed_of (Some row) held none is =
+        subst (IsAllowed st) (same_Some (deeds.Take c n id) d is) (allowed_take st c n ranges id none (ap is_some (held_there st (c, ticket) id soft row held)))
+    deed_of None held none is = subst (IsAllowed st) (same_Some (deeds.Pass c n id) d is) (allowed_pass st c n ranges id none)
+
+    by : (reply : Option Reply) → accept_without_deed st c n ≡ reply → (on_accept st c n ticket id reply soft).deed ≡ Some d → IsAllowed st d
+    by (Some reply) e is = absurd (none-some d is)
+    by None e is = deed_of (held_tuple st (c, ticket) id soft) refl e is
+
+-- The deed of an answer is allowed.
+pub answer_allowed : (st : State) (soft : Soft) (c : ℕ) (m : Message) (answered : Answer) (d : Deed) → IsState st → IsAnswer st soft c m answered → answered.deed ≡ Some d → IsAllowed st d
+answer_allowed st soft c (Hello version client fresh) answered d ranges answer is = absurd (none-some d (sym (ap (λ (a : Answer). a.deed) answer) ∙ is))
+answer_allowed st soft c (Ask ticket remove template) answered d ranges answer is = absurd (none-some d (sym (ap (λ (a : Answer). a.deed) answer.1.1) ∙ is))
+answer_allowed st soft c (Cancel ticket) answered d ranges answer is = absurd (none-some d (sym (ap (λ (a : Answer). a.deed) answer.1.1) ∙ is))
+answer_allowed st soft c (Accept n ticket id) answered d ranges answer is = accept_deed st c n ticket id soft d ranges (sym (ap (λ (a : Answer). a.deed) answer) ∙ is)
+answer_allowed st soft c (Out n tuple) answered d ranges answer is =
+    let found = out_deed st c n tuple (out_without_deed st c n) soft d (sym (ap (λ (a : Answer). a.deed) answer) ∙ is) in
+    subst (IsAllowed st) found.1 (allowed_out st c n ranges tuple found.0)
+
+-- A step keeps the ranges of states.
+pub step_state : (st new : State) (soft : Soft) (c : ℕ) (m : Message) (answered : Answer) → IsState st → IsStep st soft c m answered new → IsState new
+step_state st new soft c m answered ranges step = by answered.deed refl
+  where
+    by : (deed : Option Deed) → answered.deed ≡ deed → IsState new
+    by None e = subst IsState (one_after st [] st new (none_after st ranges) (subst (λ d. IsAfter st (option_to_list d) new) e step.state_is)) ranges
+    by (Some d) e = one_state st new d ranges (answer_allowed st soft c m answered d ranges step.answer e) (subst (λ d. IsAfter st (option_to_list d) new) e step.state_is)
+
+-- What is told for an Ask, and for a Cancel, is one thing alone.
+one_ask : (st : State) (pair : ℕ × ℕ) (remove : Bool) (soft : Soft) (shape : Template) (a b : Sends) → IsOneEach soft.holds → AnswersAsk st.bag pair remove shape soft a → AnswersAsk st.bag pair remove shape soft b → a ≡ b
+one_ask st pair remove soft shape a b one_each first second =
+    first.told_is
+    ∙ ap (λ held. on_ask st.bag pair remove shape held first.least soft) (one_held soft.holds pair first.held second.held one_each first.is_held second.is_held)
+    ∙ ap (λ least. on_ask st.bag pair remove shape second.held least soft) (one_least st.bag shape (passed_over remove soft.holds) first.least second.least first.is_least second.is_least)
+    ∙ sym second.told_is
+
+one_cancel : (st : State) (pair : ℕ × ℕ) (soft : Soft) (a b : Sends) → IsOneEach soft.holds → AnswersCancel st.bag pair soft a → AnswersCancel st.bag pair soft b → a ≡ b
+one_cancel st pair soft a b one_each first second =
+    first.told_is
+    ∙ ap (λ held. on_cancel st.bag pair held soft) (one_held soft.holds pair first.held second.held one_each first.is_held second.is_held)
+    ∙ sym second.told_is
+
+-- There is one answer alone.
+pub one_answer : (st : State) (soft : Soft) (c : ℕ) (m : Message) (a b : Answer) → IsOneEach soft.holds → IsAnswer st soft c m a → IsAnswer st soft c m b → a ≡ b
+one_answer st soft c (Hello version client fresh) a b one_each first second = first ∙ sym second
+one_answer st soft c (Out n tuple) a b one_each first second = first ∙ sym second
+one_answer st soft c (Accept n ticket id) a b one_each first second = first ∙ sym second
+one_answer st soft c (Ask ticket remove template) a b one_each first second =
+    first.1.1 ∙ ap only_sends (one_ask st (c, ticket) remove soft template first.0 second.0 one_each first.1.0 second.1.0) ∙ sym second.1.1
+one_answer st soft c (Cancel ticket) a b one_each first second =
+    first.1.1 ∙ ap only_sends (one_cancel st (c, ticket) soft first.0 second.0 one_each first.1.0 second.1.0) ∙ sym second.1.1
+
+-- The deed of a step, if it has one, makes a proper list longer, and the new state is the state after that.
+pub step_proper : (st mid new : State) (soft : Soft) (ds : List Deed) (c : ℕ) (m : Message) (answered : Answer) → IsState st → IsProper st ds → IsAfter st ds mid → IsStep mid soft c m answered new
+    → IsProper st (ds ++ option_to_list answered.deed) × IsAfter st (ds ++ option_to_list answered.deed) new
+step_proper st mid new soft ds c m answered ranges proper after step = by answered.deed refl
+  where
+    by : (deed : Option Deed) → answered.deed ≡ deed → IsProper st (ds ++ option_to_list deed) × IsAfter st (ds ++ option_to_list deed) new
+    by None e =
+        let same : mid ≡ new = one_after mid [] mid new (none_after mid (proper_state st mid ds ranges proper after)) (subst (λ d. IsAfter mid (option_to_list d) new) e step.state_is) in
+        (subst (IsProper st) (sym (append-nil ds)) proper, subst (λ l. IsAfter st l new) (sym (append-nil ds)) (subst (IsAfter st ds) same after))
+    by (Some d) e =
+        let middle = proper_state st mid ds ranges proper after in
+        let done = subst (λ d. IsAfter mid (option_to_list d) new) e step.state_is in
+        (more_proper st mid ds d proper after (answer_allowed mid soft c m answered d middle step.answer e), more_after st mid new ds d after done (takes_below st ds ranges proper))
+
+-- What is told for an Ask, and for a Cancel, is a step that leaves the state as it was.
+module _ (bag : Bagged) (st : State) (soft : Soft) (c ticket : ℕ) (m : Message) (deed : Option Deed) (sends items : List (ℕ × Reply)) (new : Soft)
+    (is : IsState st) (bag_is : bag ≡ st.bag) (deed_is : deed ≡ None) (sends_is : sends ≡ items) where
+  told_step : (says : Bagged → Sends → Type 0) → says bag (record { sends = items; soft = new })
+      → (IsAnswer st soft c m ≡ Tells (says st.bag)) → IsStep st soft c m (record { deed = deed; sends = sends; soft = new }) st
+  told_step says told answer_is =
+      let all : says st.bag (record { sends = sends; soft = new }) = subst (λ b. says b (record { sends = sends; soft = new })) bag_is (subst (λ s. says bag (record { sends = s; soft = new })) (sym sends_is) told) in
+      record {
+        answer = subst (λ (a : Answer → Type 0). a (record { deed = deed; sends = sends; soft = new })) (sym answer_is) (record { sends = sends; soft = new }, (all, λ i. record { deed = deed_is i; sends = sends; soft = new }));
+        state_is = subst (λ d. IsAfter st (option_to_list d) st) (sym deed_is) (none_after st is);
+      }
+
+  pub ask_step : (remove : Bool) (shape : Template) → m ≡ Ask ticket remove shape → AnswersAsk bag (c, ticket) remove shape soft (record { sends = items; soft = new })
+      → IsStep st soft c m (record { deed = deed; sends = sends; soft = new }) st
+  ask_step remove shape m_is told = told_step (λ b. AnswersAsk b (c, ticket) remove shape soft) told (ap (IsAnswer st soft c) m_is)
+
+  pub cancel_step : m ≡ Cancel ticket → AnswersCancel bag (c, ticket) soft (record { sends = items; soft = new })
+      → IsStep st soft c m (record { deed = deed; sends = sends; soft = new }) st
+  cancel_step m_is told = told_step (λ b. AnswersCancel b (c, ticket) soft) told (ap (IsAnswer st soft c) m_is)

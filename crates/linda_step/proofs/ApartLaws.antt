@@ -1,0 +1,94 @@
+-- Nobody waits and holds with the same ticket, after each move.
+use Rattle.std.proofs.Common.{◌≡◌, ◌≢◌, ℕ, Bool, true, false, not, ◌==◌, ◌⊎◌, [], ◌∷◌, ◌++◌, Option, Some, None, All, inl, inr, refl, sym, ◌∙◌, subst, true≢false, eq-eqb, eqb-true}
+use Rattle.std.proofs.lemmas.Bool.{cases_eq, and_from, and_parts}
+use Rattle.std.proofs.lemmas.Option.{none-some, same_Some}
+use Rattle.std.proofs.lemmas.List.Elements.{All-filter, All-push}
+use Rattle.std.specs.FinMap.{get, insert, remove}
+use Rattle.linda_tuple.specs.Tuple.{Tuple}
+use Rattle.linda_bag.proofs.Maps.{get_same, get_other, get_removed_same, get_removed_other}
+use Rattle.linda_hold.specs.Waits.{Wait, same_pair, is_waiting, is_reader, without_readers, longest}
+use Rattle.linda_hold.specs.Holds.{HeldFor, IsHeldAt}
+use Rattle.linda_step.specs.Soft.{Soft, AreApart}
+use Rattle.linda_step.specs.Dispatch.{dispatch, held_for}
+use Rattle.linda_step.proofs.WaitLaws.{all_kept, none_passes}
+use Rattle.linda_step.proofs.SoftLaws.{kept_waits}
+
+-- Pairs that are the same pass the test.
+pub same_pair_yes : (p q : ℕ × ℕ) → p ≡ q → same_pair p q ≡ true
+same_pair_yes p q same = subst (λ r. same_pair p r ≡ true) same (and_from (p.0 == p.0) (p.1 == p.1) (eq-eqb p.0 p.0 refl) (eq-eqb p.1 p.1 refl))
+
+pub other_pair : (p q : ℕ × ℕ) → same_pair p q ≡ false → p ≢ q
+other_pair p q other same = true≢false (sym (same_pair_yes p q same) ∙ other)
+
+-- Pairs that pass the test are the same, and it is the same test turned round.
+pub same_pair_is : (p q : ℕ × ℕ) → same_pair p q ≡ true → p ≡ q
+same_pair_is p q is =
+    let parts = and_parts (p.0 == q.0) (p.1 == q.1) is in
+    let clients : p.0 ≡ q.0 = eqb-true p.0 q.0 parts.0 in
+    let tickets : p.1 ≡ q.1 = eqb-true p.1 q.1 parts.1 in
+    λ i. (clients i, tickets i)
+
+pub turned_no : (p q : ℕ × ℕ) → same_pair p q ≡ false → same_pair q p ≡ false
+turned_no p q differ = by (same_pair q p) refl
+  where
+    by : (b : Bool) → same_pair q p ≡ b → b ≡ false
+    by true e = absurd (other_pair p q differ (sym (same_pair_is q p e)))
+    by false e = refl
+
+not_true : (b : Bool) → not b ≡ true → b ≡ false
+not_true true is = sym is
+not_true false is = refl
+
+-- What is held after a removal was held before.
+pub held_before : (holds : HeldFor) (id k : ℕ) (pair : ℕ × ℕ) → get (remove holds id) k ≡ Some pair → get holds k ≡ Some pair
+held_before holds id k pair held =
+    elim (cases_eq k id) [
+      | inl same ↦ absurd (none-some pair (sym (get_removed_same holds id) ∙ subst (λ i. get (remove holds id) i ≡ Some pair) same held))
+      | inr other ↦ sym (get_removed_other holds id k other) ∙ held
+    ]
+
+-- What is held after a hold came is that one, or was held before.
+pub new_or_before : (holds : HeldFor) (id k : ℕ) (new pair : ℕ × ℕ) → get (insert holds id new) k ≡ Some pair → ((k ≡ id) × (new ≡ pair)) ⊎ (get holds k ≡ Some pair)
+new_or_before holds id k new pair held =
+    elim (cases_eq k id) [
+      | inl same ↦ inl (same, same_Some new pair (sym (get_same holds id new) ∙ subst (λ i. get (insert holds id new) i ≡ Some pair) same held))
+      | inr other ↦ inr (sym (get_other holds id new k other) ∙ held)
+    ]
+
+-- A tuple is held for a request that doesn't wait.
+pub held_apart : (id : ℕ) (pair : ℕ × ℕ) (soft : Soft) → All (λ (w : Wait). same_pair pair w.0 ≡ false) soft.waits → AreApart soft → AreApart (record { holds = insert soft.holds id pair; waits = soft.waits })
+held_apart id pair soft never apart k d within j held =
+    elim (new_or_before soft.holds id j pair _ held) [
+      | inl new ↦ other_pair pair _ (never k d within) new.1
+      | inr before ↦ apart k d within j before
+    ]
+
+-- Some no longer wait.
+pub fewer_apart : (p : Wait → Bool) (soft : Soft) → AreApart soft → AreApart (kept_waits p soft)
+fewer_apart p soft apart = All-filter p (λ (w : Wait). (id : ℕ) → get soft.holds id ≡ Some w.0 → ⊥) soft.waits apart
+
+-- A tuple that is new or free is dispatched.
+pub dispatch_apart : (id : ℕ) (row : Tuple) (soft : Soft) → AreApart soft → AreApart (dispatch id row soft).soft
+dispatch_apart id row soft apart = by (longest row soft.waits)
+  where
+    left : AreApart (kept_waits (λ w. not (is_reader row w)) soft)
+    left = fewer_apart (λ w. not (is_reader row w)) soft apart
+
+    by : (first : Option Wait) → AreApart (held_for id first (record { holds = soft.holds; waits = without_readers row soft.waits }))
+    by None = left
+    by (Some first) =
+        held_apart id first.0 (kept_waits (λ w. not (same_pair first.0 w.0)) (kept_waits (λ w. not (is_reader row w)) soft))
+        (all_kept {X = Wait} (λ w. not (same_pair first.0 w.0)) (λ w. (id : ℕ) → get soft.holds id ≡ Some w.0 → ⊥) (λ w. same_pair first.0 w.0 ≡ false) (λ w other was. not_true (same_pair first.0 w.0) other) (without_readers row soft.waits) left)
+        (fewer_apart (λ w. not (same_pair first.0 w.0)) (kept_waits (λ w. not (is_reader row w)) soft) left)
+
+-- A hold goes, with its tuple or without.
+pub taken_apart : (id : ℕ) (soft : Soft) → AreApart soft → AreApart (record { holds = remove soft.holds id; waits = soft.waits })
+taken_apart id soft apart k d within j held = apart k d within j (held_before soft.holds id j _ held)
+
+-- A request that holds nothing waits.
+pub waiting_apart : (w : Wait) (soft : Soft) → IsHeldAt soft.holds w.0 None → AreApart soft → AreApart (record { holds = soft.holds; waits = soft.waits ++ w ∷ [] })
+waiting_apart w soft nothing apart = All-push (λ (v : Wait). (id : ℕ) → get soft.holds id ≡ Some v.0 → ⊥) soft.waits w apart nothing
+
+-- A request that doesn't wait gets an offer.
+pub offer_apart : (id : ℕ) (pair : ℕ × ℕ) (soft : Soft) → is_waiting pair soft.waits ≡ false → AreApart soft → AreApart (record { holds = insert soft.holds id pair; waits = soft.waits })
+offer_apart id pair soft never = held_apart id pair soft (none_passes (λ w. same_pair pair w.0) soft.waits never)

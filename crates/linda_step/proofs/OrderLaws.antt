@@ -1,0 +1,137 @@
+-- Every step and every close keep what a store keeps: the ranges of its state, of its holds and waits, and that nobody waits in vain.
+use Rattle.std.proofs.Common.{◌≡◌, ℕ, ◌<◌, Bool, true, false, cond, nat_le, List, [], ◌∷◌, Option, Some, None, option_to_list, is_some, refl, sym, ap, ◌∙◌, subst, leb-false}
+use Rattle.std.specs.FinMap.{remove}
+use Rattle.linda_wire.specs.declared.limits.TheConstants.{MAX_ASKS}
+use Rattle.linda_wire.specs.Refusal.{refused}
+use Rattle.linda_wire.specs.declared.refusal.Refusal.TheVariants as refusals
+use Rattle.linda_tuple.specs.Tuple.{Tuple}
+use Rattle.linda_tuple.specs.Template.{Template}
+use Rattle.linda_hold.specs.Waits.{is_waiting}
+use Rattle.linda_hold.specs.Holds.{IsHeldAt}
+use Rattle.linda_wire.specs.declared.message.Message.{Message}
+use Rattle.linda_wire.specs.declared.message.Message.TheVariants.{Hello, Out, Ask, Accept, Cancel}
+use Rattle.linda_wire.specs.declared.reply.Reply.{Reply}
+use Rattle.linda_state.specs.declared.deed.Deed.TheVariants as deeds
+use Rattle.linda_state.specs.State.{State, IsState}
+use Rattle.linda_step.specs.Soft.{Soft, Bagged, IsSoft, no_asks, open_asks}
+use Rattle.linda_step.specs.Looking.{IsLeast, passed_over, IsAtRest}
+use Rattle.linda_step.specs.Dispatch.{Sends, no_sends, dispatch, on_cancel, on_close}
+use Rattle.linda_step.specs.Asking.{only_sent, serve, on_ask, wait_of}
+use Rattle.linda_state.specs.After.{IsAfter}
+use Rattle.linda_step.specs.Answer.{Answer, only_sends, on_out, out_without_deed, on_accept, accept_without_deed, take_or_pass, held_tuple, IsAnswer, IsStep}
+use Rattle.linda_step.specs.Store.{IsOrderly}
+use Rattle.linda_state.proofs.AfterLaws.{none_after, one_after}
+use Rattle.linda_state.proofs.DoneLaws.{done, done_after}
+use Rattle.linda_step.proofs.RestLaws.{put_rests, taken_rests, held_rests, waiting_rests, no_asks_rest, cancelling_rests, closing_rests}
+use Rattle.linda_step.proofs.RangeLaws.{put_soft, taken_soft, offer_soft, waiting_soft, no_asks_soft, cancelling_soft, closing_soft}
+use Rattle.linda_step.proofs.AnswerLaws.{step_state}
+
+-- Holds and waits are in their ranges beside a bag, and nobody waits in vain.
+pub record IsSettled (bag : Bagged) (soft : Soft) : Type 0 where
+  pub soft_is : IsSoft bag soft
+  pub rest : IsAtRest bag soft
+
+-- A request is served, given what it can have.
+served_settled : (bag : Bagged) (pair : ℕ × ℕ) (remove : Bool) (shape : Template) (least : Option ℕ) (soft : Soft) → IsLeast bag shape (passed_over remove soft.holds) least
+    → is_waiting pair soft.waits ≡ false → IsHeldAt soft.holds pair None → open_asks pair.0 soft < MAX_ASKS → IsSettled bag soft → IsSettled bag (serve bag pair remove shape least soft).soft
+served_settled bag pair true shape (Some id) soft least never nothing room is = record {
+  soft_is = offer_soft bag id pair soft (ap is_some least.0.stored) never nothing room is.soft_is;
+  rest = held_rests bag id pair soft is.rest;
+}
+served_settled bag pair false shape (Some id) soft least never nothing room is = is
+served_settled bag pair remove shape None soft least never nothing room is = record {
+  soft_is = waiting_soft bag (wait_of pair remove shape) soft never nothing room is.soft_is;
+  rest = waiting_rests bag (wait_of pair remove shape) soft least is.rest;
+}
+
+asking_settled : (bag : Bagged) (pair : ℕ × ℕ) (remove : Bool) (shape : Template) (held least : Option ℕ) (soft : Soft) → IsHeldAt soft.holds pair held → IsLeast bag shape (passed_over remove soft.holds) least
+    → IsSettled bag soft → IsSettled bag (on_ask bag pair remove shape held least soft).soft
+asking_settled bag pair remove shape (Some id) least soft held found is = is
+asking_settled bag pair remove shape None least soft held found is = by (is_waiting pair soft.waits) refl
+  where
+    fresh : (b : Bool) → nat_le MAX_ASKS (open_asks pair.0 soft) ≡ b → is_waiting pair soft.waits ≡ false → IsSettled bag (cond b (only_sent ((pair.0, (refused (refusals.TooManyAsks pair.1))) ∷ []) soft) (serve bag pair remove shape least soft)).soft
+    fresh true many never = is
+    fresh false few never = served_settled bag pair remove shape least soft found never held (leb-false MAX_ASKS (open_asks pair.0 soft) few) is
+
+    by : (b : Bool) → is_waiting pair soft.waits ≡ b → IsSettled bag (cond b (no_sends soft) (cond (nat_le MAX_ASKS (open_asks pair.0 soft)) (only_sent ((pair.0, (refused (refusals.TooManyAsks pair.1))) ∷ []) soft) (serve bag pair remove shape least soft))).soft
+    by true waits = is
+    by false never = fresh (nat_le MAX_ASKS (open_asks pair.0 soft)) refl never
+
+-- A message without a deed leaves the state as it was.
+same_state : (st new : State) → IsState st → IsAfter st [] new → st ≡ new
+same_state st new ranges after = one_after st [] st new (none_after st ranges) after
+
+module _ (st new : State) (soft : Soft) (c : ℕ) (is : IsOrderly st soft) where
+  was : IsSettled st.bag soft
+  was = record { soft_is = is.soft_is; rest = is.rest }
+
+  -- where nothing is done
+  unchanged : (s : Soft) → IsSettled st.bag s → IsAfter st [] new → IsSettled new.bag s
+  unchanged s settled after = subst (λ (x : State). IsSettled x.bag s) (same_state st new is.state_is after) settled
+
+  out_settled : (n : ℕ) (tuple : Tuple) (reply : Option Reply) → IsAfter st (option_to_list (on_out st c n tuple reply soft).deed) new → IsSettled new.bag (on_out st c n tuple reply soft).soft
+  out_settled n tuple (Some reply) after = unchanged soft was after
+  out_settled n tuple None after =
+      subst (λ (x : State). IsSettled x.bag (dispatch st.next tuple soft).soft) (one_after st (deeds.Out c n tuple ∷ []) (done st (deeds.Out c n tuple)) new (done_after st (deeds.Out c n tuple) is.state_is) after)
+      (record { soft_is = put_soft st.bag st.next tuple soft is.soft_is; rest = put_rests st.bag st.next tuple soft is.rest })
+
+  taken_settled : (n id : ℕ) (row : Option Tuple) → IsAfter st (option_to_list (take_or_pass c n id row soft).deed) new → IsSettled new.bag (take_or_pass c n id row soft).soft
+  taken_settled n id (Some row) after =
+      subst (λ (x : State). IsSettled x.bag (record { holds = remove soft.holds id; waits = soft.waits })) (one_after st (deeds.Take c n id ∷ []) (done st (deeds.Take c n id)) new (done_after st (deeds.Take c n id) is.state_is) after)
+      (record { soft_is = taken_soft st.bag id soft is.soft_is; rest = taken_rests st.bag id soft is.rest })
+  taken_settled n id None after =
+      subst (λ (x : State). IsSettled x.bag soft) (one_after st (deeds.Pass c n id ∷ []) (done st (deeds.Pass c n id)) new (done_after st (deeds.Pass c n id) is.state_is) after) was
+
+  accept_settled : (n ticket id : ℕ) (reply : Option Reply) → IsAfter st (option_to_list (on_accept st c n ticket id reply soft).deed) new → IsSettled new.bag (on_accept st c n ticket id reply soft).soft
+  accept_settled n ticket id (Some reply) after = unchanged soft was after
+  accept_settled n ticket id None after = taken_settled n id (held_tuple st (c, ticket) id soft) after
+
+  cancel_settled : (pair : ℕ × ℕ) (held : Option ℕ) → IsSettled st.bag (on_cancel st.bag pair held soft).soft
+  cancel_settled pair held = record { soft_is = cancelling_soft st.bag pair held soft is.soft_is; rest = cancelling_rests st.bag pair held soft is.rest }
+
+  -- the answer to a message settles, where the state is the one after its deed
+  settled : (m : Message) (answered : Answer) → IsAnswer st soft c m answered → IsAfter st (option_to_list answered.deed) new → IsSettled new.bag answered.soft
+  settled (Hello version client fresh) answered answer after =
+      let then_settled : (a : Answer) → Type 0 = λ a. IsAfter st (option_to_list a.deed) new → IsSettled new.bag a.soft in
+      subst then_settled (sym answer) (unchanged soft was) after
+  settled (Out n tuple) answered answer after =
+      let then_settled : (a : Answer) → Type 0 = λ a. IsAfter st (option_to_list a.deed) new → IsSettled new.bag a.soft in
+      subst then_settled (sym answer) (out_settled n tuple (out_without_deed st c n)) after
+  settled (Accept n ticket id) answered answer after =
+      let then_settled : (a : Answer) → Type 0 = λ a. IsAfter st (option_to_list a.deed) new → IsSettled new.bag a.soft in
+      subst then_settled (sym answer) (accept_settled n ticket id (accept_without_deed st c n)) after
+  settled (Ask ticket remove template) answered answer after =
+      let then_settled : (a : Answer) → Type 0 = λ a. IsAfter st (option_to_list a.deed) new → IsSettled new.bag a.soft in
+      let asked = answer.1.0 in
+      subst then_settled (sym (answer.1.1 ∙ ap only_sends asked.told_is))
+      (unchanged (on_ask st.bag (c, ticket) remove template asked.held asked.least soft).soft
+      (asking_settled st.bag (c, ticket) remove template asked.held asked.least soft asked.is_held asked.is_least was)) after
+  settled (Cancel ticket) answered answer after =
+      let then_settled : (a : Answer) → Type 0 = λ a. IsAfter st (option_to_list a.deed) new → IsSettled new.bag a.soft in
+      let given_up = answer.1.0 in
+      subst then_settled (sym (answer.1.1 ∙ ap only_sends given_up.told_is))
+      (unchanged (on_cancel st.bag (c, ticket) given_up.held soft).soft (cancel_settled (c, ticket) given_up.held)) after
+
+  pub step_orderly : (m : Message) (answered : Answer) → IsStep st soft c m answered new → IsOrderly new answered.soft
+  step_orderly m answered step =
+      let after = settled m answered step.answer step.state_is in
+      record { state_is = step_state st new soft c m answered is.state_is step; soft_is = after.soft_is; rest = after.rest }
+
+-- A close keeps what a store keeps.
+pub close_orderly : (st : State) (soft : Soft) (c : ℕ) → IsOrderly st soft → IsOrderly st (on_close st.bag c soft).soft
+close_orderly st soft c is = record { state_is = is.state_is; soft_is = closing_soft st.bag c soft is.soft_is; rest = closing_rests st.bag c soft is.rest }
+
+-- Where nobody asks, nothing is held and nobody waits.
+pub no_asks_orderly : (st : State) → IsState st → IsOrderly st no_asks
+no_asks_orderly st is = record { state_is = is; soft_is = no_asks_soft st.bag; rest = no_asks_rest st.bag }
+
+-- The same, where state, holds and waits are known by other names.
+pub close_at : (old st : State) (was soft new : Soft) (c : ℕ) (sends : List (ℕ × Reply)) → old ≡ st → was ≡ soft → IsOrderly st soft → (let told : Sends = record { sends = sends; soft = new } in told) ≡ on_close old.bag c was → IsOrderly old new
+close_at old st was soft new c sends same soft_same is told =
+    subst (IsOrderly old) (sym (ap (λ (t : Sends). t.soft) told)) (close_orderly old was c (subst (λ s. IsOrderly s was) (sym same) (subst (IsOrderly st) (sym soft_same) is)))
+
+pub given_up_at : (old st : State) (soft new : Soft) → old ≡ st → IsOrderly st soft → new ≡ no_asks → IsOrderly old new
+given_up_at old st soft new same is none = subst (IsOrderly old) (sym none) (no_asks_orderly old (subst IsState (sym same) is.state_is))
+
+pub new_store_orderly : (st : State) (soft : Soft) → IsState st → soft ≡ no_asks → IsOrderly st soft
+new_store_orderly st soft is none = subst (IsOrderly st) (sym none) (no_asks_orderly st is)

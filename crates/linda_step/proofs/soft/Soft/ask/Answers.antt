@@ -1,0 +1,33 @@
+use Rattle.std.proofs.Common.{IfOk, nat_le, ◌∷◌, [], sym, ap, subst, ◌∙◌}
+use Rattle.std.proofs.lemmas.Result.{IfOk-weaker}
+use Rattle.linda_wire.specs.declared.limits.TheConstants.{MAX_ASKS}
+use Rattle.linda_step.specs.Soft.{Soft, open_asks}
+use Rattle.linda_step.specs.Asking.{AnswersAsk, only_sent}
+use Rattle.linda_step.proofs.AskingLaws.{offered_again, waits_on, turned_away}
+use Rattle.linda_step.proofs.soft.Soft.ask.Goals as goal
+
+pub returns-in-Some : goal.returns-in-Some
+returns-in-Some g c =
+    let soft : Soft = record { holds = c.self.inside.holds; waits = c.self.inside.waits } in
+    subst
+    (λ s. IfOk c.offer_of.result (λ sends. AnswersAsk (g.B.Bag.contents c.args.bag.now) (c.args.client, c.args.ticket) c.args.remove c.args.template.now s (only_sent sends.items s)))
+    c.self.view_is
+    (IfOk-weaker c.offer_of.result _ _ (λ sends. offered_again _ _ _ _ soft sends.items c.in-Some.id c.in-Some.ensures.value) c.offer_of.ensures)
+
+pub returns-then-contains : goal.returns-then-contains
+returns-then-contains g c =
+    let soft : Soft = record { holds = c.self.inside.holds; waits = c.self.inside.waits } in
+    subst
+    (λ s. AnswersAsk (g.B.Bag.contents c.args.bag.now) (c.args.client, c.args.ticket) c.args.remove c.args.template.now s (only_sent c.new.result.items s))
+    c.self.view_is
+    (waits_on _ _ _ _ soft c.new.result.items c.in_default.ensures.value (sym c.contains.ensures ∙ c.if-contains.true) c.new.ensures.items)
+
+pub returns-then-asks_too_much : goal.returns-then-asks_too_much
+returns-then-asks_too_much g c =
+    let soft : Soft = record { holds = c.self.inside.holds; waits = c.self.inside.waits } in
+    subst
+    (λ s. IfOk c.one_send.result (λ sends. AnswersAsk (g.B.Bag.contents c.args.bag.now) (c.args.client, c.args.ticket) c.args.remove c.args.template.now s (only_sent sends.items s)))
+    c.self.view_is
+    (IfOk-weaker c.one_send.result _ _
+    (λ sends sent. turned_away _ _ _ _ soft sends.items c.in_default.ensures.value (sym c.contains.ensures ∙ c.if-contains.false) (ap (λ s. nat_le MAX_ASKS (open_asks c.args.client s)) c.self.view_is ∙ sym c.if-asks_too_much.ensures) (sent ∙ ap (λ reply. (c.args.client, reply) ∷ []) c.reply.ensures))
+    c.one_send.ensures)

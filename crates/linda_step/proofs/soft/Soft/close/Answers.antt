@@ -1,0 +1,13 @@
+use Rattle.std.proofs.Common.{not, ◌==◌, sym, subst}
+use Rattle.linda_step.specs.Soft.{Soft, AreApart}
+use Rattle.linda_step.proofs.ApartLaws.{fewer_apart}
+use Rattle.linda_step.proofs.soft.Soft.close.Goals as goal
+
+-- With fewer waits nobody waits and holds either.
+pub release_all-requires : goal.release_all-requires
+release_all-requires g c =
+    let soft : Soft = record { holds = c.self.inside.holds; waits = c.self.inside.waits } in
+    subst
+    (λ waits. AreApart (record { holds = c.self.inside.holds; waits = waits }))
+    (sym c.remove_client.ensures)
+    (fewer_apart (λ w. not (c.args.client == w.0.0)) soft (subst AreApart (sym c.self.view_is) c.requires))

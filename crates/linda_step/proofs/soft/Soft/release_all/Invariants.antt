@@ -1,0 +1,12 @@
+use Rattle.std.proofs.Common.{◌≡◌, ◌++◌}
+use Rattle.linda_step.specs.Soft.{AreApart}
+use Rattle.linda_step.specs.Dispatch.{release_all}
+use Rattle.linda_step.proofs.soft.Soft.release_all.Given as goal
+
+-- to release the holds that are left, now, comes to the same as to release all of them at first
+abbrev pub invariant-loop-id : goal.invariant-loop-id
+invariant-loop-id g l = record {
+  apart : AreApart l.self;
+  sends : l.sends.items ++ (release_all (g.B.Bag.contents l.bag) l.id-iterator.rest.items l.self).sends ≡ l.fn.sends.items ++ (release_all (g.B.Bag.contents l.bag) l.fn.ids.items l.fn.self).sends;
+  soft : (release_all (g.B.Bag.contents l.bag) l.id-iterator.rest.items l.self).soft ≡ (release_all (g.B.Bag.contents l.bag) l.fn.ids.items l.fn.self).soft;
+}

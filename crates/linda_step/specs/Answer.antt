@@ -1,0 +1,132 @@
+-- What a server answers to one message: the deed, if it does one, what it sends, and what it holds and lets wait then.
+use Rattle.std.specs.Prelude.{◌≡◌, ℕ, Bool, ◌==◌, false, nat_lt, nat_le, not, ◌&&◌, ◌||◌, if◌then◌else◌, List, [], ◌∷◌, Option, Some, None, option_to_list}
+use Rattle.std.specs.FinMap as map
+use Rattle.std.specs.Option.{option_map}
+use Rattle.linda_wire.specs.declared.limits.TheConstants.{MAX_CLIENTS, VERSION}
+use Rattle.linda_state.specs.declared.state.TheConstants.{NUMBER_LIMIT}
+use Rattle.linda_wire.specs.Refusal.{refused}
+use Rattle.linda_wire.specs.declared.refusal.Refusal.TheVariants as refusals
+use Rattle.linda_tuple.specs.Tuple.{Tuple}
+use Rattle.linda_hold.specs.Waits.{same_pair}
+use Rattle.linda_wire.specs.declared.message.Message.{Message}
+use Rattle.linda_wire.specs.declared.message.Message.TheVariants as messages
+use Rattle.linda_wire.specs.declared.reply.Reply.{Reply}
+use Rattle.linda_wire.specs.declared.reply.Reply.TheVariants as replies
+use Rattle.linda_book.specs.declared.classes.Class.{Class}
+use Rattle.linda_book.specs.declared.classes.Class.TheVariants as classes
+use Rattle.linda_book.specs.declared.kept.KeptReply.{KeptReply}
+use Rattle.linda_book.specs.declared.kept.KeptReply.TheVariants as kept
+use Rattle.linda_book.specs.Entries.{Entry, number_in}
+use Rattle.linda_book.specs.Classes.{class_of}
+use Rattle.linda_state.specs.declared.deed.Deed.{Deed}
+use Rattle.linda_state.specs.declared.deed.Deed.TheVariants as deeds
+use Rattle.linda_state.specs.State.{State}
+use Rattle.linda_state.specs.After.{IsAfter}
+use Rattle.linda_step.specs.Soft.{Soft}
+use Rattle.linda_step.specs.Dispatch.{Sends, dispatch}
+use Rattle.linda_step.specs.Asking.{AnswersAsk, AnswersCancel}
+
+-- A deed or none; the replies with the clients that they go to, in order; and the holds and waits behind it.
+pub record Answer : Type 0 where
+  pub deed : Option Deed
+  pub sends : List (ℕ × Reply)
+  pub soft : Soft
+
+-- no deed
+abbrev pub only_sends : Sends → Answer
+only_sends told = record { deed = None; sends = told.sends; soft = told.soft }
+
+-- only a reply to the client
+abbrev pub only_reply : ℕ → Reply → Soft → Answer
+only_reply c reply soft = record { deed = None; sends = (c, reply) ∷ []; soft = soft }
+
+-- a kept reply as it goes to the client, with the number that it answers
+abbrev pub reply_of_kept : ℕ → KeptReply → Reply
+reply_of_kept n (kept.Stored id) = replies.Stored n id
+reply_of_kept n (kept.Taken id tuple) = replies.Taken n id tuple
+reply_of_kept n kept.Gone = replies.Gone n
+
+-- the number that is kept for the client, 0 if there is none
+abbrev pub last_number : State → ℕ → ℕ
+last_number st c = number_in (map.get st.book c)
+
+-- whether the client is new and no more clients are kept
+abbrev pub is_one_too_many : State → ℕ → Bool
+is_one_too_many st c = (last_number st c == 0) && nat_le MAX_CLIENTS (map.len st.book)
+
+-- The reply to a Hello: the first case that holds.
+abbrev pub greeting : State → ℕ → ℕ → Bool → Reply
+greeting st c version fresh =
+    if not (version == VERSION) then (refused refusals.Version)
+    else (if fresh && nat_lt 0 (last_number st c) then (refused (refusals.Known (last_number st c)))
+    else (if is_one_too_many st c then (refused refusals.TooManyClients)
+    else replies.Welcome (last_number st c)))
+
+-- The reply to a numbered message that makes no deed, by the class of its number; none where the deed is done. A fresh one is
+-- refused where its client is one too many, or else where numbers or ids are spent for it.
+abbrev pub without_deed : State → ℕ → ℕ → Bool → Class → Option Reply
+without_deed st c n is_spent (classes.Old last) = Some ((refused (refusals.Old last)))
+without_deed st c n is_spent classes.Kept = option_map (λ (e : Entry). reply_of_kept n e.1) (map.get st.book c)
+without_deed st c n is_spent (classes.Gap last) = Some ((refused (refusals.Gap last)))
+without_deed st c n is_spent classes.Fresh =
+    if is_one_too_many st c then Some (refused refusals.TooManyClients)
+    else (if is_spent then Some (refused refusals.Spent)
+    else None)
+
+-- the class of a message's number for its client
+abbrev pub class_in : State → ℕ → ℕ → Class
+class_in st c n = class_of (last_number st c) n
+
+-- the reply to an Out that makes no deed: an Out needs a number and an id
+abbrev pub out_without_deed : State → ℕ → ℕ → Option Reply
+out_without_deed st c n = without_deed st c n ((n == NUMBER_LIMIT) || (st.next == NUMBER_LIMIT)) (class_in st c n)
+
+-- the reply to an Accept that makes no deed: an Accept needs a number
+abbrev pub accept_without_deed : State → ℕ → ℕ → Option Reply
+accept_without_deed st c n = without_deed st c n (n == NUMBER_LIMIT) (class_in st c n)
+
+-- The answer to an Out, given the reply where it makes no deed. Where it does, the tuple is put under the next id, and the
+-- client's reply comes before those to others.
+abbrev pub on_out : State → ℕ → ℕ → Tuple → Option Reply → Soft → Answer
+on_out st c n tuple (Some reply) soft = only_reply c reply soft
+on_out st c n tuple None soft =
+    let told : Sends = dispatch st.next tuple soft in
+    record { deed = Some (deeds.Out c n tuple); sends = (c, replies.Stored n st.next) ∷ told.sends; soft = told.soft }
+
+-- whether this is the pair that a tuple is held for
+abbrev pub is_for : ℕ × ℕ → Option (ℕ × ℕ) → Bool
+is_for pair None = false
+is_for pair (Some other) = same_pair other pair
+
+-- the tuple under this id, where it is held for this client and ticket
+abbrev pub held_tuple : State → ℕ × ℕ → ℕ → Soft → Option Tuple
+held_tuple st pair id soft = if is_for pair (map.get soft.holds id) then map.get st.bag id else None
+
+-- An accepted offer, given its tuple where it is held for the client: the tuple is taken and its hold is gone; or the offer is gone,
+-- and nothing else changes.
+abbrev pub take_or_pass : ℕ → ℕ → ℕ → Option Tuple → Soft → Answer
+take_or_pass c n id (Some row) soft =
+    record { deed = Some (deeds.Take c n id); sends = (c, replies.Taken n id row) ∷ []; soft = record { holds = map.remove soft.holds id; waits = soft.waits } }
+take_or_pass c n id None soft = record { deed = Some (deeds.Pass c n id); sends = (c, replies.Gone n) ∷ []; soft = soft }
+
+-- the answer to an Accept, given the reply where it makes no deed
+abbrev pub on_accept : State → ℕ → ℕ → ℕ → ℕ → Option Reply → Soft → Answer
+on_accept st c n ticket id (Some reply) soft = only_reply c reply soft
+on_accept st c n ticket id None soft = take_or_pass c n id (held_tuple st (c, ticket) id soft) soft
+
+-- an answer without a deed that tells what this says
+abbrev pub Tells : (Sends → Type 0) → Answer → Type 0
+Tells says answered = (told : Sends) × (says told × (answered ≡ only_sends told))
+
+-- The answer to a message of a client.
+abbrev pub IsAnswer : State → Soft → ℕ → Message → Answer → Type 0
+IsAnswer st soft c (messages.Hello version client fresh) answered = answered ≡ only_reply c (greeting st c version fresh) soft
+IsAnswer st soft c (messages.Out n tuple) answered = answered ≡ on_out st c n tuple (out_without_deed st c n) soft
+IsAnswer st soft c (messages.Accept n ticket id) answered = answered ≡ on_accept st c n ticket id (accept_without_deed st c n) soft
+IsAnswer st soft c (messages.Ask ticket remove template) answered = Tells (AnswersAsk st.bag (c, ticket) remove template soft) answered
+IsAnswer st soft c (messages.Cancel ticket) answered = Tells (AnswersCancel st.bag (c, ticket) soft) answered
+
+-- One step of a server: this is the answer, and the new state is the old one after its deed.
+pub record IsStep (st : State) (soft : Soft) (c : ℕ) (m : Message) (answered : Answer) (new : State) : Type 0 where
+  pub answer : IsAnswer st soft c m answered
+  pub state_is : IsAfter st (option_to_list answered.deed) new

@@ -1,0 +1,13 @@
+-- How holds and waits are stored where a model's value holds one.
+use Rattle.std.specs.Prelude.{ℕ, List, refl}
+use Rattle.std.specs.Coded.{Coded, code_by, coded×, coded_ℕ, coded_list}
+use Rattle.std.specs.FinMap as map
+use Rattle.linda_hold.specs.Waits.{Wait}
+use Rattle.linda_hold.specs.Holds.{HeldFor}
+use Rattle.linda_hold.specs.Codes.{wait_code}
+use Rattle.linda_step.specs.Soft.{Soft}
+
+-- the code of holds and waits
+abbrev pub soft_code : Coded Soft
+soft_code =
+    code_by (HeldFor × List Wait) (coded× (map.code coded_ℕ (coded× coded_ℕ coded_ℕ)) (coded_list wait_code)) (λ s. (s.holds, s.waits)) (λ p. record { holds = p.0; waits = p.1 }) (λ _. refl)

@@ -1,0 +1,10 @@
+pub mod Soft
+pub mod Looking
+pub mod Dispatch
+pub mod Asking
+pub mod Answer
+pub mod Codes
+pub mod Store
+pub mod History
+pub mod Course
+pub mod Promises

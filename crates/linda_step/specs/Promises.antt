@@ -1,0 +1,48 @@
+-- What the definitions of states, deeds and steps come to, in the words of those who hand jobs out.
+use Rattle.std.specs.Prelude.{◌≡◌, ◌≢◌, ℕ, ◌≤◌, Bool, false, ◌==◌, List, ◌∷◌, length, filter, All, Some, None}
+use Rattle.std.specs.FinMap as map
+use Rattle.linda_hold.specs.Waits.{is_waiting}
+use Rattle.linda_hold.specs.Holds.{IsHeldAt}
+use Rattle.linda_wire.specs.declared.reply.Reply.{Reply}
+use Rattle.linda_book.specs.Entries.{Entry}
+use Rattle.linda_state.specs.declared.deed.Deed.{Deed}
+use Rattle.linda_state.specs.Once.{IsTakenOnce}
+use Rattle.linda_state.specs.State.{State}
+use Rattle.linda_step.specs.Soft.{Soft}
+use Rattle.linda_state.specs.After.{IsAfter}
+use Rattle.linda_state.specs.Proper.{IsProper}
+use Rattle.linda_step.specs.Answer.{Answer, only_reply, reply_of_kept}
+use Rattle.linda_step.specs.History.{History}
+use Rattle.linda_step.specs.Dispatch.{Sends}
+use Rattle.linda_step.specs.Store.{IsOrderly}
+
+-- The first thing that is sent goes to the client, and it is the reply that the book keeps for it.
+pub record IsAnsweredAsKept (c : ℕ) (sends : List (ℕ × Reply)) (st : State) : Type 0 where
+  pub entry : Entry
+  pub others : List (ℕ × Reply)
+  pub kept : map.get st.book c ≡ Some entry
+  pub first : sends ≡ (c, reply_of_kept entry.0 entry.1) ∷ others
+
+-- A history from a state: the deeds are a proper list, the server is in the state after them and in order, and no tuple was taken
+-- by two of them.
+pub record IsSafe (st : State) (all : History) : Type 0 where
+  pub proper : IsProper st all.deeds
+  pub after : IsAfter st all.deeds all.state
+  pub orderly : IsOrderly all.state all.soft
+  pub once : IsTakenOnce all.deeds
+
+-- A message that is answered again: it gets the reply that it got first, and nothing else is done or told.
+pub record IsAnsweredAgain (c : ℕ) (first again : Answer) (soft : Soft) : Type 0 where
+  pub reply : Reply
+  pub others : List (ℕ × Reply)
+  pub first_is : first.sends ≡ (c, reply) ∷ others
+  pub again_is : again ≡ only_reply c reply soft
+
+-- A request is over: it neither waits nor holds.
+abbrev pub IsOver : ℕ × ℕ → Soft → Type 0
+IsOver pair soft = (is_waiting pair soft.waits ≡ false) × IsHeldAt soft.holds pair None
+
+-- A client has left: all its requests are over, and nothing was sent to it.
+pub record HasLeft (client : ℕ) (told : Sends) : Type 0 where
+  pub requests : (ticket : ℕ) → IsOver (client, ticket) told.soft
+  pub silent : All (λ (send : ℕ × Reply). send.0 ≢ client) told.sends

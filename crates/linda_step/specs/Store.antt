@@ -1,0 +1,25 @@
+-- A store as contracts see it.
+use Rattle.std.specs.Prelude.{Bool, refl}
+use Rattle.std.specs.Coded.{Coded, code_by, coded×, coded_bool}
+use Rattle.linda_state.specs.State.{State, IsState}
+use Rattle.linda_step.specs.Soft.{Soft, IsSoft}
+use Rattle.linda_step.specs.Looking.{IsAtRest}
+use Rattle.linda_state.specs.Codes.{state_code}
+use Rattle.linda_step.specs.Codes.{soft_code}
+
+-- What every store keeps: its state, its holds and its waits are in their ranges, and nobody waits in vain.
+pub record IsOrderly (st : State) (soft : Soft) : Type 0 where
+  pub state_is : IsState st
+  pub soft_is : IsSoft st.bag soft
+  pub rest : IsAtRest st.bag soft
+
+-- The state of a server, what it holds and lets wait, and whether the store came to want of memory, after which it does
+-- nothing more.
+pub record Store : Type 0 where
+  pub state : State
+  pub soft : Soft
+  pub is_spent : Bool
+
+-- the code of a store
+abbrev pub store_code : Coded Store
+store_code = code_by (State × (Soft × Bool)) (coded× state_code (coded× soft_code coded_bool)) (λ s. (s.state, (s.soft, s.is_spent))) (λ p. record { state = p.0; soft = p.1.0; is_spent = p.1.1 }) (λ _. refl)

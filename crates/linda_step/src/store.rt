@@ -1,0 +1,238 @@
+//! The store of a server: a state that keeps its ranges, changed by one message after another.
+
+ghost use Rattle.std.specs.Prelude.{◌≡◌, ◌++◌, true, false, IfOk, OnOk, OnErr, IsErr, option_to_list};
+ghost use Rattle.linda_state.specs.State.{IsState, empty_state};
+ghost use Rattle.linda_step.specs.Soft.{no_asks};
+ghost use Rattle.linda_step.specs.Dispatch.{on_close};
+ghost use Rattle.linda_step.specs.Answer.{IsStep};
+ghost use Rattle.linda_step.specs.History.{Answers, IsOneMore, says};
+ghost use Rattle.linda_step.specs.Store.{IsOrderly};
+
+use crate::soft::Soft;
+use crate::step::{Step, Steps, answer_message};
+use linda_bag::Bag;
+use linda_hold::{Holds, Waits};
+use linda_state::{Deed, State};
+use linda_wire::{Message, Reply};
+use std::alloc::{AllocError, Global};
+use std::marker::Model;
+
+/// The state of a server, what it holds for requests and which requests wait.
+///
+/// It keeps its ranges: ids below the next id, which is from 1 to 2^63; kept numbers from 1 to
+/// 2^63 - 1; at most 1,024 clients; at most 64 open asks a client, each under a ticket of its own; and
+/// what is held is in the bag. Nobody waits in vain: no tuple that is there matches a read that waits,
+/// and none that is not held an input.
+///
+/// Once memory ran out the store is spent: it keeps its state, holds nothing, lets nobody wait, and
+/// answers each call with that error.
+#[derive(Drop)]
+pub struct Store<B: Bag> {
+    state: State<B>,
+    soft: Soft,
+    spent: bool,
+}
+
+impl<B: Bag> Model for Store<B> {
+    ghost use Rattle.linda_step.specs.Store as seen;
+    ghost use Rattle.linda_step.specs.Store.{IsOrderly, store_code};
+
+    ghost Value = { seen.Store };
+
+    ghost coded = { store_code };
+
+    ghost view = { λ s. record { state = s.state; soft = s.soft; is_spent = s.spent } };
+
+    ghost invariant = { λ s. IsOrderly s.state s.soft };
+}
+
+impl<B: Bag> Store<B> {
+    /// The store of a server that was never used. Takes no memory.
+    pub fn new(alloc: Global) -> Store<B>
+        ensures { result ≡ record { state = empty_state; soft = no_asks; is_spent = false } }
+    {
+        Store {
+            state: State::new(alloc),
+            soft: Soft::new(alloc),
+            spent: false,
+        }
+    }
+
+    /// The store of this state, which it keeps; nothing is held and nobody waits. Takes no memory.
+    pub fn from_state(alloc: Global, state: State<B>) -> Store<B>
+        requires { IsState state }
+        ensures { result ≡ record { state = state; soft = no_asks; is_spent = false } }
+    {
+        Store {
+            state,
+            soft: Soft::new(alloc),
+            spent: false,
+        }
+    }
+
+    /// Does what the message of the client asks, and answers it. No greeting is asked before.
+    ///
+    /// # Errors
+    ///
+    /// `AllocError` where memory runs out, and then the state is as before and the store is spent; and
+    /// always where it is spent already.
+    pub fn step(
+        &mut self,
+        alloc: Global,
+        client: u32,
+        message: &Message,
+    ) -> Result<Step, AllocError>
+        ensures ok { IfOk result (λ s. IsStep self.old.state self.old.soft client message.now (record { deed = s.deed; sends = s.sends.items; soft = self.new.soft }) self.new.state) }
+        ensures unspent { OnOk result ((self.old.is_spent ≡ false) × (self.new.is_spent ≡ false)) }
+        ensures err { OnErr result ((self.new.state ≡ self.old.state) × (self.new.is_spent ≡ true)) }
+        ensures dropped { OnErr result (self.old.is_spent ≡ false → self.new.soft ≡ no_asks) }
+        ensures spent { self.old.is_spent ≡ true → IsErr result × (self.new ≡ self.old) }
+    {
+        if self.spent {
+            return Err(AllocError);
+        }
+        match answer_message(&mut self.state, &mut self.soft, alloc, client, message) {
+            Ok(step) => Ok(step),
+            Err(error) => {
+                self.soft = Soft::new(alloc);
+                self.spent = true;
+                Err(error)
+            }
+        }
+    }
+
+    /// Does what the messages ask, one after another, each of its client, as `step` does.
+    ///
+    /// # Errors
+    ///
+    /// `AllocError` where memory runs out: some first messages may be done, and the store is spent; and
+    /// always where it is spent already.
+    pub fn step_all(
+        &mut self,
+        alloc: Global,
+        messages: &[(u32, Message)],
+    ) -> Result<Steps, AllocError>
+        ensures ok { IfOk result (λ s. Answers self.old.state self.old.soft messages.now
+            (record { deeds = s.deeds.items; sends = s.sends.items; soft = self.new.soft; state = self.new.state })) }
+        ensures unspent { OnOk result ((self.old.is_spent ≡ false) × (self.new.is_spent ≡ false)) }
+        ensures err { OnErr result (self.new.is_spent ≡ true) }
+        ensures dropped { OnErr result (self.old.is_spent ≡ false → self.new.soft ≡ no_asks) }
+        ensures spent { self.old.is_spent ≡ true → IsErr result × (self.new ≡ self.old) }
+    {
+        if self.spent {
+            return Err(AllocError);
+        }
+        let mut steps = Steps {
+            deeds: Vec::new(alloc),
+            sends: Vec::new(alloc),
+        };
+        for message in messages {
+            match self.add_step(alloc, message.0, &message.1, &mut steps) {
+                Ok(()) => {}
+                Err(error) => {
+                    self.spend(alloc);
+                    return Err(error);
+                }
+            }
+        }
+        Ok(steps)
+    }
+
+    // Does one message more.
+    fn add_step(
+        &mut self,
+        alloc: Global,
+        client: u32,
+        message: &Message,
+        steps: &mut Steps,
+    ) -> Result<(), AllocError>
+        requires { self.old.is_spent ≡ false }
+        ensures ok { OnOk result (IsOneMore self.old.state self.old.soft (says client message.now)
+            steps.old.deeds.items steps.old.sends.items
+            (record { deeds = steps.new.deeds.items; sends = steps.new.sends.items; soft = self.new.soft; state = self.new.state })) }
+        ensures unspent { OnOk result (self.new.is_spent ≡ false) }
+    {
+        let step = self.step(alloc, client, message)?;
+        let Step { deed, mut sends } = step;
+        push_deed(&mut steps.deeds, deed)?;
+        steps.sends.append(&mut sends)?;
+        Ok(())
+    }
+
+    // Memory ran out: nothing is held any more, and nobody waits.
+    fn spend(&mut self, alloc: Global)
+        ensures { self.new ≡ record { state = self.old.state; soft = no_asks; is_spent = true } }
+    {
+        self.soft = Soft::new(alloc);
+        self.spent = true;
+    }
+
+    /// Gives up all that the client asked: its waits, and then its holds by rising id, each of which is
+    /// free at once for those that wait. The state is as before.
+    ///
+    /// # Errors
+    ///
+    /// `AllocError` where memory runs out, and then the store is spent; and always where it is spent
+    /// already.
+    pub fn close(&mut self, alloc: Global, client: u32) -> Result<Vec<(u32, Reply)>, AllocError>
+        ensures ok { IfOk result (λ sends. record { sends = sends.items; soft = self.new.soft } ≡ on_close self.old.state.bag client self.old.soft) }
+        ensures unspent { OnOk result ((self.old.is_spent ≡ false) × (self.new.is_spent ≡ false)) }
+        ensures state { self.new.state ≡ self.old.state }
+        ensures err { OnErr result (self.new.is_spent ≡ true) }
+        ensures dropped { OnErr result (self.old.is_spent ≡ false → self.new.soft ≡ no_asks) }
+        ensures spent { self.old.is_spent ≡ true → IsErr result × (self.new ≡ self.old) }
+    {
+        if self.spent {
+            return Err(AllocError);
+        }
+        match self.soft.close(alloc, &self.state.bag, client) {
+            Ok(sends) => Ok(sends),
+            Err(error) => {
+                self.soft = Soft::new(alloc);
+                self.spent = true;
+                Err(error)
+            }
+        }
+    }
+
+    /// The state, which keeps its ranges. Takes no memory.
+    pub fn state(&self) -> &State<B>
+        ensures state { result.now ≡ self.now.state }
+        ensures ranges { IsState result.now }
+    {
+        &self.state
+    }
+
+    /// Which tuple is held for which request. Takes no memory.
+    pub fn holds(&self) -> &Holds
+        ensures holds { result.now ≡ self.now.soft.holds }
+        ensures orderly { IsOrderly self.now.state self.now.soft }
+    {
+        &self.soft.holds
+    }
+
+    /// The requests that wait, in order of arrival. Takes no memory.
+    pub fn waits(&self) -> &Waits
+        ensures waits { result.now ≡ self.now.soft.waits }
+        ensures orderly { IsOrderly self.now.state self.now.soft }
+    {
+        &self.soft.waits
+    }
+
+    /// Whether memory ran out. Takes no memory.
+    pub fn is_spent(&self) -> bool
+        ensures { result ≡ self.now.is_spent }
+    {
+        self.spent
+    }
+}
+
+// Pushes the deed, if there is one.
+fn push_deed(deeds: &mut Vec<Deed>, deed: Option<Deed>) -> Result<(), AllocError>
+    ensures { OnOk result (deeds.new.items ≡ deeds.old.items ++ option_to_list deed) }
+{
+    match deed {
+        Some(deed) => Ok(deeds.push(deed)?),
+        None => Ok(()),
+    }
+}

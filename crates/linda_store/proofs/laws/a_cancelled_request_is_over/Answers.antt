@@ -1,5 +1,0 @@
-use Rattle.linda_store.proofs.Left.{over_when_cancelled}
-use Rattle.linda_store.proofs.laws.a_cancelled_request_is_over.Goals as goal
-
-pub returns : goal.returns
-returns c = over_when_cancelled

@@ -1,5 +1,0 @@
-use Rattle.linda_store.proofs.Repeated.{answered_again}
-use Rattle.linda_store.proofs.laws.a_repeated_message_gets_the_same_reply.Goals as goal
-
-pub returns : goal.returns
-returns c = answered_again

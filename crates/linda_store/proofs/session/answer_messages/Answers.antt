@@ -1,0 +1,28 @@
+use Rattle.linda_store.proofs.TalkLaws.{told_on, told_down, told_lost, lost_answered}
+use Rattle.linda_store.proofs.session.answer_messages.Goals as goal
+
+pub returns-in_err-turn-in-Some : goal.returns-in_err-turn-in-Some
+returns-in_err-turn-in-Some g c =
+    let found = rw c.in-Some.is at c.in-Ok.ensures.found in
+    lost_answered _ _ _ _ _ _ _ _ c.from_residual.ensures.0
+    (told_lost _ _ _ _ _ _ _ _ _ _ c.loop-found.invariant found c.in_err-turn-in-Some.ensures)
+
+pub returns-then-not-branch : goal.returns-then-not-branch
+returns-then-not-branch g c =
+    let found = rw c.in-Some.is at c.in-Ok.ensures.found in
+    told_down _ _ _ _ _ _ _ _ _ _ _ _ c.if-not-branch.true c.loop-found.invariant found c.in_ok-turn-in-Some.ensures
+
+pub loop-found-preserved-else-not-branch : goal.loop-found-preserved-else-not-branch
+loop-found-preserved-else-not-branch g c =
+    let found = rw c.in-Some.is at c.in-Ok.ensures.found in
+    told_on _ _ _ _ _ _ _ _ _ _ _ _ c.if-not-branch.false c.loop-found.invariant found c.in_ok-turn-in-Some.ensures
+
+pub loop-found-preserved : goal.loop-found-preserved
+loop-found-preserved g c =
+    let found = rw c.in-Some.is at c.in-Ok.ensures.found in
+    told_on _ _ _ _ _ _ _ _ _ _ _ _ c.if-not-branch.false c.loop-found.invariant found c.in_ok-turn-in-Some.ensures
+
+pub loop-found-preserved-else-not-branch-2 : goal.loop-found-preserved-else-not-branch-2
+loop-found-preserved-else-not-branch-2 g c =
+    let found = rw c.in-Some.is at c.in-Ok.ensures.found in
+    told_on _ _ _ _ _ _ _ _ _ _ _ _ c.if-not-branch.false c.loop-found.invariant found c.in_ok-turn-in-Some.ensures

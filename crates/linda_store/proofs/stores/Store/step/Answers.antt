@@ -1,9 +1,0 @@
--- What a step leaves, and what is left where memory ran out, is what a store keeps.
-use Rattle.linda_store.proofs.Orderly.{step_orderly, given_up_at}
-use Rattle.linda_store.proofs.stores.Store.step.Goals as goal
-
-pub invariant_of-self : goal.invariant_of-self
-invariant_of-self g c = step_orderly c.self.inside.state c.step.new.self c.self.inside.soft c.args.client c.self.invariant c.args.message.now _ c.in-Ok.ensures.ok
-
-pub invariant_of-self-in-Err : goal.invariant_of-self-in-Err
-invariant_of-self-in-Err g c = given_up_at c.step.new.self c.self.inside.state c.self.inside.soft c.new.result c.in-Err.ensures.err c.self.invariant c.new.ensures

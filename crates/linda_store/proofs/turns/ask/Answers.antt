@@ -1,8 +1,0 @@
-use Rattle.std.proofs.Common.{Some}
-use Rattle.linda_store.specs.Nodes.{node_answer}
-use Rattle.linda_store.proofs.Said.{asked_said}
-use Rattle.linda_store.proofs.turns.ask.Goals as goal
-
-pub returns : goal.returns
-returns g c =
-    asked_said _ _ (λ _. Some c.args.client) _ _ (Some c.args.client) (node_answer c.handle-answer.result) _ _ _ c.handle-answer.ensures c.tell.ensures.told c.tell.ensures.goes_on

@@ -1,0 +1,59 @@
+//! A node, call by call.
+
+use super::frame::{HELLO, OUT, STORED_1_1, ask_by, joined, message, with_tuple};
+use crate::node::Node;
+use crate::volatile::Volatile;
+use linda_wire::{Reply, encode_reply};
+use std::alloc::Global;
+use std::process::Abort;
+use std::test::Fail;
+
+/// What goes to the client, as frames; and nothing else goes.
+fn frames_to(
+    rt: &impl Abort,
+    alloc: Global,
+    client: u32,
+    sends: &[(u32, Reply)],
+) -> Result<Vec<u8>, Fail> {
+    let mut frames = Vec::new(alloc);
+    for (to, reply) in sends {
+        assert_eq!(rt; *to, client);
+        encode_reply(&mut frames, reply)?;
+    }
+    Ok(frames)
+}
+
+/// What the node answers to the frame of a client is these frames to that client.
+fn answers(
+    rt: &impl Abort,
+    alloc: Global,
+    node: &mut Volatile,
+    client: u32,
+    frame: &[u8],
+    want: &[u8],
+) -> Result<(), Fail> {
+    let sends = node.handle(alloc, client, &message(alloc, frame)?)?;
+    assert_eq!(rt; frames_to(rt, alloc, client, &sends)?.as_slice(), want);
+    Ok(())
+}
+
+/// Client 7 puts a tuple and holds it, client 8 waits for it, and client 7 is closed.
+fn closes_a_client(rt: &impl Abort, alloc: Global, node: &mut Volatile) -> Result<(), Fail> {
+    answers(rt, alloc, node, 7, &OUT, &STORED_1_1)?;
+    answers(rt, alloc, node, 7, &ask_by(1), &with_tuple(0x13, 1))?;
+    answers(rt, alloc, node, 8, &ask_by(2), &[])?;
+    let sends = node.close(alloc, 7)?;
+    let want = with_tuple(0x13, 2);
+    assert_eq!(rt; frames_to(rt, alloc, 8, &sends)?.as_slice(), &want);
+    Ok(())
+}
+
+#[test]
+fn a_node_that_closes_a_client_offers_what_it_held(rt: HostRuntime) -> Result<(), Fail> {
+    let mut node = Volatile::new(rt.alloc());
+    closes_a_client(&rt, rt.alloc(), &mut node)?;
+    assert_eq!(rt; node.holds().get(1), Some((8, 2)));
+    assert_eq!(rt; node.state().next, 2);
+    assert!(rt; !node.is_down());
+    Ok(())
+}
