@@ -1,13 +1,14 @@
 //! `linda pipe`: one connection to one server, over lines of hexadecimal digits.
 
-ghost use Rattle.std.specs.Prelude.{◌≡◌, ◌+◌, ◌<◌, ◌≤◌, ◌^◌, List, ℕ, Option, length, IfOk, OnOk};
+ghost use Rattle.std.specs.Prelude.{◌≡◌, ◌+◌, ◌<◌, ◌≤◌, ◌^◌, List, ℕ, Option, OnOk};
+ghost use Rattle.linda.specs.declared.piping.TheConstants.{BUFFER};
 ghost use Rattle.linda.specs.Exchanges.{IsPiping, TurnsTo};
 ghost use Rattle.linda.specs.Piping.{IsPiped};
 
 use crate::exchanges::Exchange;
 use crate::faults::PipeFault;
 use linda_store::{Node, Volatile};
-use std::alloc::{AllocError, Global};
+use std::alloc::Global;
 use std::io::{Read, Write};
 
 // The most bytes of one read.
@@ -33,9 +34,7 @@ pub fn pipe<R: Read, W: Write>(
         (W.contents writer.old) (W.contents writer.new) result }
 {
     let mut exchange = Exchange::new(alloc);
-    let Ok(mut buffer) = zeros(alloc, BUFFER) else {
-        return Err(PipeFault::Memory(1));
-    };
+    let mut buffer = [0; BUFFER];
     for _turn in 0..u32::MAX {
         if !read_once(alloc, &mut exchange, &mut buffer, reader, writer)? {
             return Ok(());
@@ -44,29 +43,21 @@ pub fn pipe<R: Read, W: Write>(
     Err(PipeFault::Turns)
 }
 
-// A buffer of this many bytes.
-fn zeros(alloc: Global, len: usize) -> Result<Vec<u8>, AllocError>
-    ensures { IfOk result (λ buffer. length buffer.items ≡ len) }
-{
-    vec![in alloc; 0; len]
-}
-
 // Reads once, takes what was read, and sends the replies; says whether more is to be read.
 fn read_once<R: Read, W: Write>(
     alloc: Global,
     exchange: &mut Exchange,
-    buffer: &mut [u8],
+    buffer: &mut [u8; BUFFER],
     reader: &mut R,
     writer: &mut W,
 ) -> Result<bool, PipeFault>
-    requires room { 0 < length buffer.old }
-    requires count { exchange.old.lines + length buffer.old + 1 < 2 ^ 64 }
+    requires { exchange.old.lines + BUFFER + 1 < 2 ^ 64 }
     ensures turns { (reads : ℕ) (first_left first_written : Option (List ℕ)) →
         IsPiping reads first_left (R.remaining reader.old) first_written (W.contents writer.old)
         exchange.old (⟦<Volatile as Node>⟧.shown exchange.old.node) →
         TurnsTo (reads + 1) first_left (R.remaining reader.new) first_written (W.contents writer.new)
         exchange.new (⟦<Volatile as Node>⟧.shown exchange.new.node) result }
-    ensures count { OnOk result (exchange.new.lines ≤ exchange.old.lines + length buffer.old + 1) }
+    ensures count { OnOk result (exchange.new.lines ≤ exchange.old.lines + BUFFER + 1) }
 {
     let Ok(count) = reader.read(buffer) else {
         return Err(PipeFault::Read);

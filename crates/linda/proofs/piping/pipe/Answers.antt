@@ -5,17 +5,11 @@ use Rattle.linda.proofs.Nodes.{shown}
 use Rattle.linda.proofs.Ends.{none_read, turns_spent, memory_between}
 use Rattle.linda.proofs.piping.pipe.Goals as goal
 
--- what was read into a buffer leaves its length
-kept_room : (len count : ℕ) (new old : List ℕ) → len ≡ length old → length new ≡ length old → length old ≡ count
-    → length (take len (new ++ drop (length new) old)) ≡ count
-kept_room len count new old e f g = omega (arith, length-take len (new ++ drop (length new) old), length-append new (drop (length new) old), length-drop (length new) old)
-
 more_lines : (turns old new most : ℕ) → old ≤ turns * most → new ≤ old + most → new ≤ (turns + 1) * most
 more_lines turns old new most h k = omega arith
 
 pub loop-turn-init : goal.loop-turn-init
 loop-turn-init g c = record {
-  room = c.in-Ok.ensures;
   count = omega (arith, c.new-exchange.ensures.lines);
   piping = none_read _ _ c.new-exchange.result _ c.new-exchange.ensures.replies c.new-exchange.ensures.underway;
 }
@@ -36,21 +30,14 @@ returns-then-not-branch g c =
 pub loop-turn-preserved : goal.loop-turn-preserved
 loop-turn-preserved g c =
     let h = c.in_ok-read_once.ensures.turns _ _ _ c.loop-turn.invariant.piping in
-    let room : length c.read_once.new.buffer ≡ length c.loop-turn.buffer.items = c.read_once.auto.buffer ∙ ap length c.deref_mut.ensures.value in
     record {
-      room = kept_room c.loop-turn.buffer.len 65536 c.read_once.new.buffer c.loop-turn.buffer.items c.loop-turn.buffer.ok.0 room c.loop-turn.invariant.room;
-      count = more_lines c.loop-turn._turn _ _ 65537 c.loop-turn.invariant.count (omega (arith, c.in_ok-read_once.ensures.count, room, c.loop-turn.invariant.room));
+      count = more_lines c.loop-turn._turn _ _ 65537 c.loop-turn.invariant.count c.in_ok-read_once.ensures.count;
       piping =
           subst
           (λ (b : Bool). TurnsTo (c.loop-turn._turn + 1) (g.R.Read.remaining c.args.reader.now) (g.R.Read.remaining c.read_once.new.reader) (g.W.Write.contents c.args.writer.now)
           (g.W.Write.contents c.read_once.new.writer) c.read_once.new.exchange (shown c.read_once.new.exchange.node) (Ok b))
           c.if-not-branch.false h;
     }
-
-pub returns-in_default : goal.returns-in_default
-returns-in_default g c =
-    memory_between _ _ _ _ c.new-exchange.result _ 1 (omega (arith, c.new-exchange.ensures.lines))
-    (none_read _ _ c.new-exchange.result _ c.new-exchange.ensures.replies c.new-exchange.ensures.underway)
 
 pub returns : goal.returns
 returns g c = turns_spent _ _ _ _ c.loop-turn.exchange _ (omega (arith, c.loop-turn-test.false)) c.loop-turn.invariant.piping

@@ -1,4 +1,5 @@
-use Rattle.std.proofs.Common.{◌≡◌, ◌≤◌, ◌*◌, length}
+use Rattle.std.proofs.Common.{◌≡◌, ◌≤◌, ◌*◌, ◌+◌}
+use Rattle.linda.specs.declared.piping.TheConstants.{BUFFER}
 use Rattle.linda.specs.Exchanges.{IsPiping}
 use Rattle.linda.proofs.Nodes.{shown}
 use Rattle.linda.proofs.piping.pipe.Given as goal
@@ -6,7 +7,6 @@ use Rattle.linda.proofs.piping.pipe.Given as goal
 -- what was read so far is under way, and its replies are sent
 abbrev pub invariant-loop-turn : goal.invariant-loop-turn
 invariant-loop-turn g l = record {
-  room : length l.buffer.items ≡ 65536;
-  count : l.exchange.lines ≤ l._turn * 65537;
+  count : l.exchange.lines ≤ l._turn * (BUFFER + 1);
   piping : IsPiping l._turn (g.R.Read.remaining l.initial.reader) (g.R.Read.remaining l.reader) (g.W.Write.contents l.initial.writer) (g.W.Write.contents l.writer) l.exchange (shown l.exchange.node);
 }

@@ -11,7 +11,7 @@ pub returns-in_err-send_replies-clause-turns : goal.returns-in_err-send_replies-
 returns-in_err-send_replies-clause-turns g c = λ reads first_left first_written p.
     let q = err_from_is_err_and c.from_residual.result c.from_residual.ensures.1 in
     let read = c.take_read-outcome.ensures.reads p.read p.written (g.R.Read.remaining c.read.new.self)
-    (λ none. c.in-Ok.ensures.bytes.1 (c.in-Ok.ensures.bound.1 ∙ ap length none) (omega (arith, c.read.auto.buf, c.requires.room))) p.underway in
+    (λ none. c.in-Ok.ensures.bytes.1 (c.in-Ok.ensures.bound.1 ∙ ap length none) (omega (arith, c.read.auto.buf))) p.underway in
     rw (q.1, q.2, c.in_err-send_replies.ensures.fault)
     (send_failed first_left _ (g.R.Read.remaining c.read.new.self) first_written _ _ _ c.args.exchange.now c.take_read-outcome.new.self _ _
     c.take_read-outcome.result c.in_err-send_replies.ensures.sent.0 p c.in-Ok.ensures.bytes.0 read c.in_err-send_replies.ensures.sent.1)
@@ -19,7 +19,7 @@ returns-in_err-send_replies-clause-turns g c = λ reads first_left first_written
 pub returns-clause-turns : goal.returns-clause-turns
 returns-clause-turns g c = λ reads first_left first_written p.
     let read = c.take_read-outcome.ensures.reads p.read p.written (g.R.Read.remaining c.read.new.self)
-    (λ none. c.in-Ok.ensures.bytes.1 (c.in-Ok.ensures.bound.1 ∙ ap length none) (omega (arith, c.read.auto.buf, c.requires.room))) p.underway in
+    (λ none. c.in-Ok.ensures.bytes.1 (c.in-Ok.ensures.bound.1 ∙ ap length none) (omega (arith, c.read.auto.buf))) p.underway in
     rw c.in_ok-send_replies.ensures.same
     (send_done first_left _ (g.R.Read.remaining c.read.new.self) first_written _ _ _ c.args.exchange.now c.take_read-outcome.new.self _ _
     c.send_replies.new.self.replies c.take_read-outcome.result p c.in_ok-send_replies.ensures.empty c.in-Ok.ensures.bytes.0 c.take_read-outcome.ensures.some read
