@@ -6,3 +6,4 @@ pub mod Blanks
 pub mod AtomLaws
 pub mod RowLaws
 pub mod PlaceLaws
+pub mod WrittenLaws

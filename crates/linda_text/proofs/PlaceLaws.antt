@@ -83,3 +83,9 @@ alone_no_fault {read = read} is bytes n fault placed_one fails is_placed a fits 
     let found = only_again is bytes a fits alone in
     let failed : only_of (read bytes) ≡ Err fault = fails (λ m. not_memory (is_placed ∙ ap (placed n) m)) in
     absurd cc
+
+-- A text is of one value.
+pub one_value : {A : Type 0} {IsText : A → List ℕ → Type 0} {Fits : A → Type 0} {read : Reader A} → IsSpaced IsText Fits Anything read → (one other : A) (text : List ℕ)
+    → Fits one → Fits other → IsAlone IsText one text → IsAlone IsText other text → one ≡ other
+one_value {read = read} is one other text fits fits_too alone alone_too =
+    ok_is one other (sym (only_again is text one fits alone) ∙ only_again is text other fits_too alone_too)
