@@ -1,5 +1,5 @@
 -- What the readers of atoms and patterns read is a text of the value, and each such text is read again.
-use Rattle.std.proofs.Common.{◌≡◌, ◌⊎◌, inl, inr, ℕ, ℤ, suc, ◌^◌, ◌<◌, ◌≤◌, Bool, true, false, cond, ltb, List, [], ◌∷◌, ◌++◌, length, Result, Ok, Err, refl, sym, ap, subst, ◌∙◌, append_assoc, arith}
+use Rattle.std.proofs.Common.{◌≡◌, inl, inr, ℕ, ℤ, suc, ◌≤◌, Bool, true, false, cond, ltb, List, [], ◌∷◌, ◌++◌, length, Ok, Err, refl, sym, ap, subst, ◌∙◌, append_assoc, arith}
 use Rattle.std.specs.Prelude.{Option, Some, None, ◌==◌, ◌||◌, FitsSigned}
 use Rattle.std.specs.Fmt.{signed_decimal}
 use Rattle.std.specs.Int.{w64}
@@ -16,7 +16,7 @@ use Rattle.linda_tuple.specs.Template.{IsSoundPattern}
 use Rattle.linda_text.specs.declared.fault.TextFault.TheVariants.{SyntaxAt, TextTooLong}
 use Rattle.linda_text.specs.Letters.{is_special, escaped, truth_word}
 use Rattle.linda_text.specs.Grammar.{IsForm, IsContent, IsAtomText, IsPatternText, EndsNumeral}
-use Rattle.linda_text.specs.Steps.{Read, Reader, ◌>>=◌}
+use Rattle.linda_text.specs.Steps.{Reader}
 use Rattle.linda_text.specs.Reading.{after_blanks, wrong, word_at, named, with_byte, with_escape, content_at, judged, string_at, integer_at, made, atom_at, formal_at, pattern_at}
 use Rattle.linda_text.proofs.Steps.{bind_ok, guard_then, guard_right, ok_is}
 use Rattle.linda_text.proofs.Blanks.{no_blank, beyond_blanks}

@@ -1,10 +1,10 @@
 -- Reading all of a text, or from an offset on, from the laws of the reader.
-use Rattle.std.proofs.Common.{◌≡◌, ◌≢◌, ℕ, ◌-◌, ◌+◌, ◌≤◌, List, [], ◌∷◌, ◌++◌, length, take, drop, Result, Ok, Err, refl, sym, ap, subst, ◌∙◌, append_assoc, arith}
+use Rattle.std.proofs.Common.{◌≡◌, ◌≢◌, ℕ, ◌-◌, ◌+◌, ◌≤◌, List, [], ◌∷◌, ◌++◌, length, take, drop, Ok, Err, refl, sym, ap, subst, ◌∙◌, append_assoc, arith}
 use Rattle.std.proofs.lemmas.List.{drop_at, take-append-drop, length-append, append-nil}
 use Rattle.linda_text.specs.declared.fault.TextFault.{TextFault}
 use Rattle.linda_text.specs.declared.fault.TextFault.TheVariants.{Memory}
 use Rattle.linda_text.specs.Grammar.{AreBlanks, Stands, IsAlone}
-use Rattle.linda_text.specs.Steps.{Read, Reader, ◌>>=◌}
+use Rattle.linda_text.specs.Steps.{Reader}
 use Rattle.linda_text.specs.Reading.{after_blanks, ended, only_of}
 use Rattle.linda_text.specs.Places.{placed, told}
 use Rattle.linda_text.proofs.Steps.{bind_ok, ok_is}

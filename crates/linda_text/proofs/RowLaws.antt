@@ -1,21 +1,18 @@
 -- What the readers of tuples and templates read is a text of the value, and each such text is read again.
-use Rattle.std.proofs.Common.{◌≡◌, ℕ, zero, suc, ◌<◌, ◌≤◌, Bool, true, false, cond, List, [], ◌∷◌, ◌++◌, All, length, Result, Ok, Err, refl, sym, ap, subst, ◌∙◌, append_assoc, arith}
+use Rattle.std.proofs.Common.{◌≡◌, ℕ, zero, suc, ◌≤◌, Bool, true, false, cond, List, [], ◌∷◌, ◌++◌, All, length, Ok, Err, refl, sym, ap, subst, ◌∙◌, append_assoc, arith}
 use Rattle.std.specs.Prelude.{◌==◌}
-use Rattle.std.specs.Char.{is_ascii_digit}
 use Rattle.std.specs.List.{AllByRecursion}
 use Rattle.std.proofs.lemmas.Bool.{eqb-true}
-use Rattle.std.proofs.lemmas.List.{append-nil}
 use Rattle.std.proofs.lemmas.List.Elements.{All-from_recursion, recursion_from_All}
 use Rattle.linda_tuple.specs.declared.atom.Atom.{Atom}
-use Rattle.linda_tuple.specs.declared.pattern.Pattern.{Pattern}
 use Rattle.linda_tuple.specs.declared.limits.TheConstants.{MAX_FIELDS}
 use Rattle.linda_tuple.specs.Atom.{IsSound}
 use Rattle.linda_tuple.specs.Tuple.{Tuple, IsWithin}
 use Rattle.linda_tuple.specs.Template.{Template, IsSoundPattern, IsWithinTemplate}
-use Rattle.linda_text.specs.declared.fault.TextFault.TheVariants.{SyntaxAt, TooManyFields}
-use Rattle.linda_text.specs.Grammar.{AreBlanks, Stands, IsAtomText, IsPatternText, EndsNumeral, AreFields, IsRowText, IsTupleText, IsTemplateText}
+use Rattle.linda_text.specs.declared.fault.TextFault.TheVariants.{TooManyFields}
+use Rattle.linda_text.specs.Grammar.{AreBlanks, Stands, IsAtomText, EndsNumeral, AreFields, IsRowText, IsTupleText, IsTemplateText}
 use Rattle.linda_text.specs.Steps.{Read, Reader, ◌>>=◌}
-use Rattle.linda_text.specs.Reading.{after_blanks, wrong, word_at, made, more_at, no_more_at, fields_at, atom_at, pattern_at, tag_at, row_at, tuple_of, template_of, tuple_at, template_at, spaced_atom_at}
+use Rattle.linda_text.specs.Reading.{after_blanks, wrong, word_at, made, more_at, no_more_at, fields_at, atom_at, tag_at, row_at, tuple_of, template_of, tuple_at, template_at, spaced_atom_at}
 use Rattle.linda_text.proofs.Steps.{bind_ok, ok_is}
 use Rattle.linda_text.proofs.Blanks.{no_blank, blanks_take, blanks_again, blanks_end}
 use Rattle.linda_text.proofs.AtomLaws.{IsReading, Begins, word_takes, atom_is, pattern_is}
@@ -75,9 +72,11 @@ one_more IsText Fits room bytes after behind rest a others e first more =
     let m = spaced_mark bytes (true, after) e in
     let b = blanks_take after in
     let inner : after ≡ b.0 ++ (first.0 ++ (more.0 ++ rest)) = b.2 ∙ ap (λ (t : List ℕ). b.0 ++ t) (first.3 ∙ ap (λ (t : List ℕ). first.0 ++ t) more.4) in
-    let whole : bytes ≡ m.0 ++ 44 ∷ (b.0 ++ (first.0 ++ (more.0 ++ rest))) = m.2 ∙ ap (λ (t : List ℕ). m.0 ++ 44 ∷ t) inner in
-    (
-      m.0 ++ 44 ∷ (b.0 ++ (first.0 ++ more.0)), (m.0, b.0, first.0, more.0, m.1, b.1, first.1, more.1, refl), omega (arith, more.2), (first.2, more.3),
+    let whole : bytes ≡ m.0 ++ 44 ∷ (b.0 ++ (first.0 ++ (more.0 ++ rest))) = m.2 ∙ ap (λ (t : List ℕ). m.0 ++ 44 ∷ t) inner in (
+      m.0 ++ 44 ∷ (b.0 ++ (first.0 ++ more.0)),
+      (m.0, b.0, first.0, more.0, m.1, b.1, first.1, more.1, refl),
+      omega (arith, more.2),
+      (first.2, more.3),
       whole ∙ regroup m.0 b.0 first.0 more.0 rest,
     )
 

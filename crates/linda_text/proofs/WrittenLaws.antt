@@ -1,5 +1,5 @@
 -- What is written of a character, of its bytes, and of strings.
-use Rattle.std.proofs.Common.{◌≡◌, ◌≢◌, Result, Ok, Err, ℕ, zero, suc, ◌<◌, ◌≤◌, Bool, true, false, cond, List, [], ◌∷◌, ◌++◌, length, get_or, refl, sym, ap, ◌∙◌, append_assoc, arith, inl, inr}
+use Rattle.std.proofs.Common.{◌≡◌, ◌≢◌, Result, Ok, Err, ℕ, suc, ◌<◌, ◌≤◌, Bool, true, false, cond, List, [], ◌∷◌, ◌++◌, length, get_or, refl, sym, ap, ◌∙◌, append_assoc, arith, inl, inr}
 use Rattle.std.specs.Prelude.{◌==◌, Some, OnOk, is_ok}
 use Rattle.std.specs.Char.{encode_utf8}
 use Rattle.std.specs.List.{flat_map}
@@ -30,16 +30,16 @@ beyond_ascii (b ∷ bytes) high =
 
 bytes_of : (c k : ℕ) → 128 ≤ c → k < length (encode_utf8 c) → 128 ≤ get_or (encode_utf8 c) k 0
 bytes_of c k high lt = elim (cases_lt (get_or (encode_utf8 c) k 0) 128) [
-    | inl low ↦ absurd (omega (arith, inside_one c [] (encode_utf8 c) k (sym (append-nil (encode_utf8 c))) lt low))
-    | inr le ↦ le
-  ]
+  | inl low ↦ absurd (omega (arith, inside_one c [] (encode_utf8 c) k (sym (append-nil (encode_utf8 c))) lt low))
+  | inr le ↦ le
+]
 
 -- Every other character is written as itself.
 pub written_itself : (c : ℕ) → StandsAsItself c → flat_map written_byte (encode_utf8 c) ≡ encode_utf8 c
 written_itself c not = elim (cases_lt c 128) [
-    | inl low ↦ rw (encode_ascii c low, flat_map-cons, itself c not) refl
-    | inr high ↦ beyond_ascii (encode_utf8 c) (λ k lt. bytes_of c k high lt)
-  ]
+  | inl low ↦ rw (encode_ascii c low, flat_map-cons, itself c not) refl
+  | inr high ↦ beyond_ascii (encode_utf8 c) (λ k lt. bytes_of c k high lt)
+]
 
 -- ---- what a push wrote
 
@@ -78,7 +78,7 @@ fields_written : (fields : List Atom) → AreFields IsAtomText fields (flat_map 
 fields_written [] = ([], tt, refl)
 fields_written (a ∷ fields) =
     let parts : flat_map written_field (a ∷ fields) ++ 41 ∷ [] ≡ 44 ∷ (32 ∷ (written_atom a ++ (flat_map written_field fields ++ 41 ∷ []))) =
-        ap (λ (t : List ℕ). t ++ 41 ∷ []) (flat_map-cons written_field a fields) ∙ append_assoc (written_field a) (flat_map written_field fields) (41 ∷ []) in
+    ap (λ (t : List ℕ). t ++ 41 ∷ []) (flat_map-cons written_field a fields) ∙ append_assoc (written_field a) (flat_map written_field fields) (41 ∷ []) in
     ([], 32 ∷ [], written_atom a, flat_map written_field fields ++ 41 ∷ [], tt, (refl, tt), atom_written a, fields_written fields, parts)
 
 tuple_written : (t : Tuple) → IsTupleText t (written_tuple t)

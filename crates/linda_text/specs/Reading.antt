@@ -1,5 +1,5 @@
 -- What the readers give: the value, or the first fault from the left.
-use Rattle.std.specs.Prelude.{◌≡◌, ℕ, zero, suc, ◌+◌, ◌^◌, ◌<◌, ◌==◌, ◌&&◌, ℤ, pos, Bool, true, false, not, List, [], ◌∷◌, ◌++◌, length, take, drop, Option, Some, None, Result, Ok, Err, nat_lt, if◌then◌else◌}
+use Rattle.std.specs.Prelude.{ℕ, zero, suc, ◌^◌, ◌==◌, ◌&&◌, ℤ, Bool, true, false, not, List, [], ◌∷◌, length, take, drop, Option, Some, None, Result, Ok, Err, nat_lt, if◌then◌else◌}
 use Rattle.std.specs.Char.{is_ascii_digit}
 use Rattle.std.specs.Int.Signed.{mag}
 use Rattle.std.specs.Str.{is_utf8}
@@ -13,7 +13,7 @@ use Rattle.linda_tuple.specs.Tuple.{Tuple}
 use Rattle.linda_tuple.specs.Template.{Template}
 use Rattle.linda_text.specs.declared.fault.TextFault.{TextFault}
 use Rattle.linda_text.specs.declared.fault.TextFault.TheVariants.{SyntaxAt, TooManyFields, TextTooLong, NumberRange}
-use Rattle.linda_text.specs.Letters.{is_blank, is_special, escaped, int_word, text_word, bool_word, any_word}
+use Rattle.linda_text.specs.Letters.{is_blank, is_special, escaped}
 use Rattle.linda_text.specs.Steps.{Read, Reader, ◌>>=◌}
 
 -- The fault of a text that does not go on at the first of these bytes, or that ends before them.

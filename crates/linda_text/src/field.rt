@@ -31,10 +31,7 @@ pub(crate) fn read_atoms(alloc: Global, bytes: &[u8]) -> Result<(Vec<Atom>, &[u8
 }
 
 /// The patterns of a template, and the bytes behind the closing parenthesis.
-pub(crate) fn read_patterns(
-    alloc: Global,
-    bytes: &[u8],
-) -> Result<(Vec<Pattern>, &[u8]), TextFault>
+pub(crate) fn read_patterns(alloc: Global, bytes: &[u8]) -> Result<(Vec<Pattern>, &[u8]), TextFault>
     ensures { Gives (λ x. (x.0.items, x.1.now)) result (fields_at pattern_at MAX_FIELDS bytes.now) }
 {
     let mut patterns = Vec::new(alloc);

@@ -11,12 +11,10 @@ ghost use Rattle.linda_text.specs.Written.{written_atom, written_tuple};
 pub fn what_is_written_stands_for_its_value()
     ensures atoms { (atom : atoms.Atom) → IsAlone IsAtomText atom (written_atom atom) }
     ensures tuples { (tuple : Tuple) → IsAlone IsTupleText tuple (written_tuple tuple) }
-{
-}
+{}
 
 /// A text stands for one tuple and for one template, if any.
 pub fn a_text_stands_for_one_value()
     ensures tuples { (one other : Tuple) (text : List ℕ) → IsWithin one → IsWithin other → IsAlone IsTupleText one text → IsAlone IsTupleText other text → one ≡ other }
     ensures templates { (one other : Template) (text : List ℕ) → IsWithinTemplate one → IsWithinTemplate other → IsAlone IsTemplateText one text → IsAlone IsTemplateText other text → one ≡ other }
-{
-}
+{}

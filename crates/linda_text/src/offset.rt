@@ -44,11 +44,7 @@ pub fn read_template_at(
 /// # Errors
 ///
 /// The first fault from the left; `Memory` where a string finds none.
-pub fn read_atom_at(
-    alloc: Global,
-    text: &str,
-    at: usize,
-) -> Result<(Atom, usize), TextFault>
+pub fn read_atom_at(alloc: Global, text: &str, at: usize) -> Result<(Atom, usize), TextFault>
     // What is read stands there.
     ensures found { IfOk result (λ x. IsSound x.0 × (x.1 ≤ length text.now) × Stands IsAtomText x.0 (drop at text.now) (drop x.1 text.now)) }
     // What stands there, with no digit behind it, is read, unless memory runs out.

@@ -24,10 +24,7 @@ pub(crate) fn read_tuple_row(alloc: Global, bytes: &[u8]) -> Result<(Tuple, &[u8
 
 /// The template behind the blanks, and the bytes behind it.
 #[tactic(auto, unfolding(crate::specs::Reading::template_at, crate::specs::Reading::row_at))]
-pub(crate) fn read_template_row(
-    alloc: Global,
-    bytes: &[u8],
-) -> Result<(Template, &[u8]), TextFault>
+pub(crate) fn read_template_row(alloc: Global, bytes: &[u8]) -> Result<(Template, &[u8]), TextFault>
     ensures { Gives (λ x. (x.0, x.1.now)) result (template_at bytes.now) }
 {
     let (tag, rest) = read_tag(alloc, bytes)?;

@@ -56,10 +56,9 @@ fn only_tuple(alloc: Global, text: &str) -> Result<Tuple, TextFault>
     ensures { Gives (λ t. t) result (only_of (tuple_at text.now)) }
 {
     let (tuple, rest) = read_tuple_row(alloc, text.as_bytes())?;
-    let left = skip_blanks(rest);
-    match left {
+    match skip_blanks(rest) {
         [] => Ok(tuple),
-        [_, ..] => Err(TextFault::SyntaxAt(left.len())),
+        left => Err(TextFault::SyntaxAt(left.len())),
     }
 }
 
@@ -67,9 +66,8 @@ fn only_template(alloc: Global, text: &str) -> Result<Template, TextFault>
     ensures { Gives (λ t. t) result (only_of (template_at text.now)) }
 {
     let (template, rest) = read_template_row(alloc, text.as_bytes())?;
-    let left = skip_blanks(rest);
-    match left {
+    match skip_blanks(rest) {
         [] => Ok(template),
-        [_, ..] => Err(TextFault::SyntaxAt(left.len())),
+        left => Err(TextFault::SyntaxAt(left.len())),
     }
 }

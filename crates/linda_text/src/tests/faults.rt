@@ -27,7 +27,11 @@ fn a_text_that_does_not_go_on_is_told_at_its_first_wrong_character(rt: HostRunti
         ("x(1)", 0),
     ];
     for (text, at) in rows {
-        assert_eq!(rt; read_tuple(rt.alloc(), text).err(), Some(TextFault::SyntaxAt(at)), "{text}");
+        assert_eq!(rt;
+            read_tuple(rt.alloc(), text).err(),
+            Some(TextFault::SyntaxAt(at)),
+            "{text}"
+        );
     }
 }
 
@@ -48,7 +52,11 @@ fn a_text_that_ends_early_is_told_at_its_length(rt: HostRuntime) {
         ("(\"a\" ", 5),
     ];
     for (text, at) in rows {
-        assert_eq!(rt; read_tuple(rt.alloc(), text).err(), Some(TextFault::SyntaxAt(at)), "{text}");
+        assert_eq!(rt;
+            read_tuple(rt.alloc(), text).err(),
+            Some(TextFault::SyntaxAt(at)),
+            "{text}"
+        );
     }
 }
 
@@ -64,16 +72,29 @@ fn a_string_holds_no_line_break_and_no_other_escape(rt: HostRuntime) {
         ("(\"\\é\")", 3),
     ];
     for (text, at) in rows {
-        assert_eq!(rt; read_tuple(rt.alloc(), text).err(), Some(TextFault::SyntaxAt(at)), "{text}");
+        assert_eq!(rt;
+            read_tuple(rt.alloc(), text).err(),
+            Some(TextFault::SyntaxAt(at)),
+            "{text}"
+        );
     }
 }
 
 #[test]
 fn nothing_but_blanks_stands_behind_a_tuple(rt: HostRuntime) {
-    let rows: [(&str, usize); 5] =
-        [("(1)(2)", 3), ("(1) (2)", 4), ("(1))", 3), ("(1),", 3), ("(1)\n", 3)];
+    let rows: [(&str, usize); 5] = [
+        ("(1)(2)", 3),
+        ("(1) (2)", 4),
+        ("(1))", 3),
+        ("(1),", 3),
+        ("(1)\n", 3),
+    ];
     for (text, at) in rows {
-        assert_eq!(rt; read_tuple(rt.alloc(), text).err(), Some(TextFault::SyntaxAt(at)), "{text}");
+        assert_eq!(rt;
+            read_tuple(rt.alloc(), text).err(),
+            Some(TextFault::SyntaxAt(at)),
+            "{text}"
+        );
     }
 }
 
@@ -87,7 +108,11 @@ fn an_integer_out_of_range_is_told_at_its_end(rt: HostRuntime) {
         "(1, 123456789012345678901234567890, \"",
     ];
     for text in rows {
-        assert_eq!(rt; read_tuple(rt.alloc(), text).err(), Some(TextFault::NumberRange), "{text}");
+        assert_eq!(rt;
+            read_tuple(rt.alloc(), text).err(),
+            Some(TextFault::NumberRange),
+            "{text}"
+        );
     }
 }
 
@@ -102,7 +127,11 @@ fn a_comma_behind_the_sixteenth_field_is_one_too_many(rt: HostRuntime) -> Result
     ];
     for (field, count, end, fault) in rows {
         let text = many_fields(rt.alloc(), count, field, end)?;
-        assert_eq!(rt; read_tuple(rt.alloc(), text.as_str()).err(), Some(fault), "{text}");
+        assert_eq!(rt;
+            read_tuple(rt.alloc(), text.as_str()).err(),
+            Some(fault),
+            "{text}"
+        );
     }
     Ok(())
 }
@@ -120,7 +149,11 @@ fn a_string_too_long_is_told_at_its_closing_quote(rt: HostRuntime) -> Result<(),
     ];
     for (len, end, fault) in rows {
         let text = long_string(rt.alloc(), len, end)?;
-        assert_eq!(rt; read_tuple(rt.alloc(), text.as_str()).err(), Some(fault), "{end}");
+        assert_eq!(rt;
+            read_tuple(rt.alloc(), text.as_str()).err(),
+            Some(fault),
+            "{end}"
+        );
     }
     Ok(())
 }

@@ -42,7 +42,14 @@ fn faults_are_told_by_their_offset_in_the_whole_text(rt: HostRuntime) {
         ("rd (99999999999999999999)", 2, TextFault::NumberRange),
     ];
     for (text, at, fault) in rows {
-        assert_eq!(rt; read_template_at(rt.alloc(), text, at).err(), Some(fault), "{text}");
+        assert_eq!(rt;
+            read_template_at(rt.alloc(), text, at).err(),
+            Some(fault),
+            "{text}"
+        );
     }
-    assert_eq!(rt; read_atom_at(rt.alloc(), "1, ", 3).err(), Some(TextFault::SyntaxAt(3)));
+    assert_eq!(rt;
+        read_atom_at(rt.alloc(), "1, ", 3).err(),
+        Some(TextFault::SyntaxAt(3))
+    );
 }

@@ -42,9 +42,16 @@ fn faults_of_templates_at_their_offsets(rt: HostRuntime) {
         ("(1, ?I)", TextFault::SyntaxAt(5)),
         ("(1, 9223372036854775808", TextFault::NumberRange),
         ("(1, _) _", TextFault::SyntaxAt(7)),
-        ("(0,_,_,_,_,_,_,_,_,_,_,_,_,_,_,_,_,", TextFault::TooManyFields),
+        (
+            "(0,_,_,_,_,_,_,_,_,_,_,_,_,_,_,_,_,",
+            TextFault::TooManyFields,
+        ),
     ];
     for (text, fault) in rows {
-        assert_eq!(rt; read_template(rt.alloc(), text).err(), Some(fault), "{text}");
+        assert_eq!(rt;
+            read_template(rt.alloc(), text).err(),
+            Some(fault),
+            "{text}"
+        );
     }
 }

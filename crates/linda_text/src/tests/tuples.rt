@@ -10,8 +10,7 @@ use std::test::*;
 fn a_string_and_a_number_are_read(rt: HostRuntime) -> Result<(), Fail> {
     let tuple = read_tuple(rt.alloc(), "(\"a\", 3)")?;
     assert!(rt; *tuple.tag() == text(rt.alloc(), "a")?);
-    assert_eq!(rt; tuple.fields().len(), 1);
-    assert!(rt; tuple.fields()[0] == Atom::Int(3));
+    assert!(rt; tuple.fields() == [Atom::Int(3)].as_slice());
     Ok(())
 }
 
@@ -26,7 +25,7 @@ fn an_escape_says_one_character(rt: HostRuntime) -> Result<(), Fail> {
 fn the_greatest_and_the_least_integer_are_read(rt: HostRuntime) -> Result<(), Fail> {
     let tuple = read_tuple(rt.alloc(), "(-9223372036854775808,9223372036854775807)")?;
     assert!(rt; *tuple.tag() == Atom::Int(i64::MIN));
-    assert!(rt; tuple.fields()[0] == Atom::Int(i64::MAX));
+    assert!(rt; tuple.fields() == [Atom::Int(i64::MAX)].as_slice());
     Ok(())
 }
 
@@ -42,7 +41,10 @@ fn each_text_is_written_in_one_way(rt: HostRuntime) -> Result<(), Fail> {
         ("(\"a,)(\")", "(\"a,)(\")"),
         ("(\"\\\"\\\\\\n\\r\\t\")", "(\"\\\"\\\\\\n\\r\\t\")"),
         ("(\"\t\")", "(\"\\t\")"),
-        ("(\"\0\u{1}\u{b}\u{1b}\u{7f}\")", "(\"\0\u{1}\u{b}\u{1b}\u{7f}\")"),
+        (
+            "(\"\0\u{1}\u{b}\u{1b}\u{7f}\")",
+            "(\"\0\u{1}\u{b}\u{1b}\u{7f}\")",
+        ),
         ("(\"é\", \"€\", \"😀\")", "(\"é\", \"€\", \"😀\")"),
         ("(\"/'ntr\")", "(\"/'ntr\")"),
     ];
@@ -66,8 +68,14 @@ fn the_longest_string_and_sixteen_fields_are_read(rt: HostRuntime) -> Result<(),
 #[test]
 fn an_atom_is_written_alone(rt: HostRuntime) -> Result<(), Fail> {
     assert_eq!(rt; write_atom(rt.alloc(), &Atom::Int(-30))?.as_str(), "-30");
-    assert_eq!(rt; write_atom(rt.alloc(), &Atom::Bool(false))?.as_str(), "false");
-    assert_eq!(rt; write_atom(rt.alloc(), &text(rt.alloc(), "a\tb")?)?.as_str(), "\"a\\tb\"");
+    assert_eq!(rt;
+        write_atom(rt.alloc(), &Atom::Bool(false))?.as_str(),
+        "false"
+    );
+    assert_eq!(rt;
+        write_atom(rt.alloc(), &text(rt.alloc(), "a\tb")?)?.as_str(),
+        "\"a\\tb\""
+    );
     Ok(())
 }
 
@@ -97,7 +105,10 @@ fn five_hundred_tuples_that_are_written_are_read_again(rt: HostRuntime) -> Resul
     for tag in 0..8 {
         for first in 0..8 {
             for second in 0..8 {
-                assert!(rt; comes_back(rt.alloc(), tag, first, second)?, "{tag} {first} {second}");
+                assert!(rt;
+                    comes_back(rt.alloc(), tag, first, second)?,
+                    "{tag} {first} {second}"
+                );
             }
         }
     }

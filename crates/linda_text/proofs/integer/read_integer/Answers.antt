@@ -1,4 +1,3 @@
-use Rattle.std.proofs.Common.{sym, subst}
 use Rattle.linda_text.proofs.Numerals.{numeral_taken, is_numeral, numeral_is_utf8}
 use Rattle.linda_text.proofs.integer.read_integer.Goals as goal
 
