@@ -1,0 +1,79 @@
+-- What a string says, byte by byte.
+use Rattle.std.proofs.Common.{◌≡◌, ◌≤◌, ℕ, ltb, length, Bool, true, false, cond, List, [], ◌∷◌, ◌++◌, Ok, Err, refl, sym, ap, ◌∙◌}
+use Rattle.std.specs.Prelude.{Option, Some, None, ◌==◌}
+use Rattle.std.specs.Str.{IsUtf8, is_utf8}
+use Rattle.std.proofs.lemmas.Bool.{le-ltb, false_from_ne_true}
+use Rattle.std.proofs.lemmas.List.{append-nil}
+use Rattle.std.proofs.lemmas.Str.{is_utf8-from_IsUtf8, IsUtf8-from_is_utf8}
+use Rattle.linda_tuple.specs.declared.limits.TheConstants.{MAX_TEXT}
+use Rattle.linda_text.specs.declared.fault.TextFault.{TextFault}
+use Rattle.linda_text.specs.declared.fault.TextFault.TheVariants.{SyntaxAt}
+use Rattle.linda_text.specs.Letters.{is_special, escaped}
+use Rattle.linda_text.specs.Steps.{Read, ◌>>=◌}
+use Rattle.linda_text.specs.Reading.{wrong, chosen, escape_at, said_at, with_byte, with_escape, content_at, string_at}
+use Rattle.linda_text.proofs.Loop.{with_front, regroup, nothing_before}
+
+-- The string ends at its closing quote, and goes on behind a byte.
+abbrev pub then_content : Option ℕ × List ℕ → Read (List ℕ)
+then_content (None, after) = Ok ([], after)
+then_content (Some b, after) = with_byte b (content_at false after)
+
+by_escape : (o : Option ℕ) (here rest : List ℕ) → with_escape o (wrong here) (content_at false rest) ≡ (chosen o here rest >>= then_content)
+by_escape None here rest = refl
+by_escape (Some b) here rest = refl
+
+behind_backslash : (bytes : List ℕ) → content_at true bytes ≡ (escape_at bytes >>= then_content)
+unfolding content_at escape_at
+behind_backslash [] = refl
+behind_backslash (e ∷ rest) = by_escape (escaped e) (e ∷ rest) rest
+
+by_tests : (quote backslash special : Bool) (b : ℕ) (rest : List ℕ) (escape : Read (Option ℕ)) (others : Read (List ℕ)) → others ≡ (escape >>= then_content)
+    → cond quote (Ok ([], rest)) (cond backslash others (cond special (wrong (b ∷ rest)) (with_byte b (content_at false rest))))
+    ≡ (cond quote (Ok (None, rest)) (cond backslash escape (cond special (wrong (b ∷ rest)) (Ok (Some b, rest)))) >>= then_content)
+by_tests true backslash special b rest escape others e = refl
+by_tests false true special b rest escape others e = e
+by_tests false false true b rest escape others e = refl
+by_tests false false false b rest escape others e = refl
+
+-- A string is read by reading its first byte, and then the rest.
+pub content_by_bytes : (bytes : List ℕ) → content_at false bytes ≡ (said_at bytes >>= then_content)
+unfolding content_at said_at
+content_by_bytes [] = refl
+content_by_bytes (b ∷ rest) = by_tests (b == 34) (b == 92) (is_special b) b rest (escape_at rest) (content_at true rest) (behind_backslash rest)
+
+-- ---- the loop over the bytes of a string
+
+pub starts : (front bytes : List ℕ) → front ≡ [] → with_front front (content_at false bytes) ≡ content_at false bytes
+starts front bytes none = rw none (nothing_before (content_at false bytes))
+
+pub goes_on : (front bytes : List ℕ) (said : Option ℕ) (b : ℕ) (after : List ℕ) (total : Read (List ℕ)) → said ≡ Some b → said_at bytes ≡ Ok (said, after)
+    → with_front front (content_at false bytes) ≡ total → with_front (front ++ b ∷ []) (content_at false after) ≡ total
+goes_on front bytes said b after total is found so_far =
+    let same : with_front front (content_at false bytes) ≡ with_front (front ++ b ∷ []) (content_at false after) = rw (content_by_bytes bytes, found, is) (regroup front b (content_at false after)) in
+    sym same ∙ so_far
+
+pub is_done : (front bytes : List ℕ) (said : Option ℕ) (after : List ℕ) (total : Read (List ℕ)) → said ≡ None → said_at bytes ≡ Ok (said, after) → with_front front (content_at false bytes) ≡ total → total ≡ Ok (front, after)
+is_done front bytes said after total is found so_far =
+    let same : with_front front (content_at false bytes) ≡ Ok (front, after) = rw (content_by_bytes bytes, found, is) (ap (λ (items : List ℕ). Ok (items, after)) (append-nil front)) in
+    sym so_far ∙ same
+
+pub fails : (front bytes : List ℕ) (fault : TextFault) (total : Read (List ℕ)) → said_at bytes ≡ Err fault → with_front front (content_at false bytes) ≡ total → total ≡ Err fault
+fails front bytes fault total said so_far =
+    let same : with_front front (content_at false bytes) ≡ Err fault = rw (content_by_bytes bytes, said) refl in
+    sym so_far ∙ same
+
+-- ---- a string
+
+pub is_string : (bytes content rest : List ℕ) → content_at false bytes ≡ Ok (content, rest) → length content ≤ MAX_TEXT → IsUtf8 content → string_at bytes ≡ Ok (content, rest)
+unfolding string_at
+is_string bytes content rest found short text =
+    let not_long : ltb MAX_TEXT (length content) ≡ false = le-ltb _ _ short in
+    let passes : is_utf8 content ≡ true = is_utf8-from_IsUtf8 content text in
+    rw (found, not_long, passes) refl
+
+pub is_no_text : (bytes content rest : List ℕ) → content_at false bytes ≡ Ok (content, rest) → length content ≤ MAX_TEXT → ¬ (IsUtf8 content) → string_at bytes ≡ Err (SyntaxAt (length rest))
+unfolding string_at
+is_no_text bytes content rest found short none =
+    let not_long : ltb MAX_TEXT (length content) ≡ false = le-ltb _ _ short in
+    let fails : is_utf8 content ≡ false = false_from_ne_true _ (λ e. none (IsUtf8-from_is_utf8 content e)) in
+    rw (found, not_long, fails) refl

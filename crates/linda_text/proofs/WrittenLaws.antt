@@ -1,0 +1,94 @@
+-- What is written of a character, of its bytes, and of strings.
+use Rattle.std.proofs.Common.{◌≡◌, ◌≢◌, Result, Ok, Err, ℕ, suc, ◌<◌, ◌≤◌, Bool, true, false, cond, List, [], ◌∷◌, ◌++◌, length, get_or, refl, sym, ap, ◌∙◌, append_assoc, arith, inl, inr}
+use Rattle.std.specs.Prelude.{◌==◌, Some, OnOk, is_ok}
+use Rattle.std.specs.Char.{encode_utf8}
+use Rattle.std.specs.List.{flat_map}
+use Rattle.std.specs.Str.{encode_utf8_all}
+use Rattle.std.proofs.lemmas.Bool.{ne_eqb, eqb-true, or_from, cases_lt}
+use Rattle.std.proofs.lemmas.List.{append-nil}
+use Rattle.std.proofs.lemmas.List.Concat.{flat_map-cons, flat_map-append}
+use Rattle.std.proofs.lemmas.Str.{encode_ascii, inside_one, encodes-append}
+use Rattle.linda_tuple.specs.declared.atom.Atom.{Atom}
+use Rattle.linda_tuple.specs.declared.atom.Atom.TheVariants as atoms
+use Rattle.linda_tuple.specs.Tuple.{Tuple}
+use Rattle.linda_text.specs.Grammar.{IsForm, IsContent, IsAtomText, AreFields, IsTupleText, IsAlone}
+use Rattle.linda_text.specs.Written.{written_byte, written_atom, written_field, written_tuple}
+
+-- None of the five that are written as escapes.
+abbrev pub StandsAsItself : ℕ → Type 0
+StandsAsItself c = (c ≢ 34) × (c ≢ 92) × (c ≢ 10) × (c ≢ 9) × (c ≢ 13)
+
+itself : (c : ℕ) → StandsAsItself c → written_byte c ≡ c ∷ []
+itself c not = rw (ne_eqb c 34 not.0, ne_eqb c 92 not.1, ne_eqb c 10 not.2, ne_eqb c 9 not.3, ne_eqb c 13 not.4) refl
+
+beyond_ascii : (bytes : List ℕ) → ((k : ℕ) → k < length bytes → 128 ≤ get_or bytes k 0) → flat_map written_byte bytes ≡ bytes
+beyond_ascii [] high = refl
+beyond_ascii (b ∷ bytes) high =
+    let first : 128 ≤ b = high 0 (omega arith) in
+    let one : written_byte b ≡ b ∷ [] = itself b ((λ e. omega arith), (λ e. omega arith), (λ e. omega arith), (λ e. omega arith), (λ e. omega arith)) in
+    rw (flat_map-cons, one, beyond_ascii bytes (λ k lt. high (suc k) (omega (arith, lt)))) refl
+
+bytes_of : (c k : ℕ) → 128 ≤ c → k < length (encode_utf8 c) → 128 ≤ get_or (encode_utf8 c) k 0
+bytes_of c k high lt = elim (cases_lt (get_or (encode_utf8 c) k 0) 128) [
+  | inl low ↦ absurd (omega (arith, inside_one c [] (encode_utf8 c) k (sym (append-nil (encode_utf8 c))) lt low))
+  | inr le ↦ le
+]
+
+-- Every other character is written as itself.
+pub written_itself : (c : ℕ) → StandsAsItself c → flat_map written_byte (encode_utf8 c) ≡ encode_utf8 c
+written_itself c not = elim (cases_lt c 128) [
+  | inl low ↦ rw (encode_ascii c low, flat_map-cons, itself c not) refl
+  | inr high ↦ beyond_ascii (encode_utf8 c) (λ k lt. bytes_of c k high lt)
+]
+
+-- ---- what a push wrote
+
+pub pushed : {U E : Type 0} (r : Result U E) (new old form written : List ℕ) → new ≡ cond (is_ok r) (old ++ form) old → written ≡ form → OnOk r (new ≡ old ++ written)
+pushed (Ok u) new old form written e same = rw same e
+pushed (Err fault) new old form written e same = tt
+
+pub one_more : (front out new yielded : List ℕ) (c : ℕ) → out ≡ front ++ flat_map written_byte (encode_utf8_all yielded) → new ≡ out ++ flat_map written_byte (encode_utf8 c)
+    → new ≡ front ++ flat_map written_byte (encode_utf8_all (yielded ++ c ∷ []))
+one_more front out new yielded c so_far now =
+    let last : encode_utf8_all (c ∷ []) ≡ encode_utf8 c = append-nil (encode_utf8 c) in
+    let all : encode_utf8_all (yielded ++ c ∷ []) ≡ encode_utf8_all yielded ++ encode_utf8 c = encodes-append yielded (c ∷ []) ∙ ap (λ (t : List ℕ). encode_utf8_all yielded ++ t) last in
+    now ∙ ap (λ (t : List ℕ). t ++ flat_map written_byte (encode_utf8 c)) so_far ∙ rw (all, flat_map-append) (append_assoc front _ _)
+
+-- ---- what is written is a text of its value
+
+form_by : (quote backslash feed tab return : Bool) (b : ℕ) → (b == 34) ≡ quote → (b == 92) ≡ backslash → (b == 10) ≡ feed → (b == 9) ≡ tab → (b == 13) ≡ return
+    → IsForm b (cond quote (92 ∷ 34 ∷ []) (cond backslash (92 ∷ 92 ∷ []) (cond feed (92 ∷ 110 ∷ []) (cond tab (92 ∷ 116 ∷ []) (cond return (92 ∷ 114 ∷ []) (b ∷ []))))))
+form_by true s f t r b is_q is_s is_f is_t is_r = inr (34, ap (λ (c : ℕ). Some c) (sym (eqb-true b 34 is_q)), refl)
+form_by false true f t r b is_q is_s is_f is_t is_r = inr (92, ap (λ (c : ℕ). Some c) (sym (eqb-true b 92 is_s)), refl)
+form_by false false true t r b is_q is_s is_f is_t is_r = inr (110, ap (λ (c : ℕ). Some c) (sym (eqb-true b 10 is_f)), refl)
+form_by false false false true r b is_q is_s is_f is_t is_r = inr (116, ap (λ (c : ℕ). Some c) (sym (eqb-true b 9 is_t)), refl)
+form_by false false false false true b is_q is_s is_f is_t is_r = inr (114, ap (λ (c : ℕ). Some c) (sym (eqb-true b 13 is_r)), refl)
+form_by false false false false false b is_q is_s is_f is_t is_r = inl (or_from _ (b == 13) (or_from _ (b == 10) (or_from (b == 34) (b == 92) is_q is_s) is_f) is_r, refl)
+
+content_is : (t : List ℕ) → IsContent t (flat_map written_byte t)
+content_is [] = refl
+content_is (b ∷ t) = (written_byte b, flat_map written_byte t, form_by (b == 34) (b == 92) (b == 10) (b == 9) (b == 13) b refl refl refl refl refl, content_is t, flat_map-cons written_byte b t)
+
+atom_written : (a : Atom) → IsAtomText a (written_atom a)
+atom_written (atoms.Int n) = refl
+atom_written (atoms.Text t) = (flat_map written_byte t, content_is t, refl)
+atom_written (atoms.Bool b) = refl
+
+fields_written : (fields : List Atom) → AreFields IsAtomText fields (flat_map written_field fields ++ 41 ∷ [])
+fields_written [] = ([], tt, refl)
+fields_written (a ∷ fields) =
+    let parts : flat_map written_field (a ∷ fields) ++ 41 ∷ [] ≡ 44 ∷ (32 ∷ (written_atom a ++ (flat_map written_field fields ++ 41 ∷ []))) =
+    ap (λ (t : List ℕ). t ++ 41 ∷ []) (flat_map-cons written_field a fields) ∙ append_assoc (written_field a) (flat_map written_field fields) (41 ∷ []) in
+    ([], 32 ∷ [], written_atom a, flat_map written_field fields ++ 41 ∷ [], tt, (refl, tt), atom_written a, fields_written fields, parts)
+
+tuple_written : (t : Tuple) → IsTupleText t (written_tuple t)
+tuple_written t = ([], written_atom t.tag, flat_map written_field t.fields ++ 41 ∷ [], tt, atom_written t.tag, fields_written t.fields, refl)
+
+alone : {A : Type 0} (IsText : A → List ℕ → Type 0) (a : A) (text : List ℕ) → IsText a text → IsAlone IsText a text
+alone IsText a text is = ([], tt, ([], text, tt, is, sym (append-nil text)))
+
+pub atom_alone : (a : Atom) → IsAlone IsAtomText a (written_atom a)
+atom_alone a = alone IsAtomText a (written_atom a) (atom_written a)
+
+pub tuple_alone : (t : Tuple) → IsAlone IsTupleText t (written_tuple t)
+tuple_alone t = alone IsTupleText t (written_tuple t) (tuple_written t)

@@ -1,0 +1,8 @@
+use Rattle.linda_text.proofs.WrittenLaws.{atom_alone, tuple_alone}
+use Rattle.linda_text.proofs.laws.what_is_written_stands_for_its_value.Goals as goal
+
+pub returns-clause-atoms : goal.returns-clause-atoms
+returns-clause-atoms c = atom_alone
+
+pub returns-clause-tuples : goal.returns-clause-tuples
+returns-clause-tuples c = tuple_alone

@@ -1,0 +1,187 @@
+-- What the readers give: the value, or the first fault from the left.
+use Rattle.std.specs.Prelude.{ℕ, zero, suc, ◌^◌, ◌==◌, ◌&&◌, ℤ, Bool, true, false, not, List, [], ◌∷◌, length, take, drop, Option, Some, None, Result, Ok, Err, nat_lt, if◌then◌else◌}
+use Rattle.std.specs.Char.{is_ascii_digit}
+use Rattle.std.specs.Int.Signed.{mag}
+use Rattle.std.specs.Str.{is_utf8}
+use Rattle.std.specs.Str.Parse.{signed_digits_value, true_text, false_text}
+use Rattle.linda_tuple.specs.declared.atom.Atom.{Atom}
+use Rattle.linda_tuple.specs.declared.atom.Atom.TheVariants as atoms
+use Rattle.linda_tuple.specs.declared.pattern.Pattern.{Pattern}
+use Rattle.linda_tuple.specs.declared.pattern.Pattern.TheVariants as patterns
+use Rattle.linda_tuple.specs.declared.limits.TheConstants.{MAX_FIELDS, MAX_TEXT}
+use Rattle.linda_tuple.specs.Tuple.{Tuple}
+use Rattle.linda_tuple.specs.Template.{Template}
+use Rattle.linda_text.specs.declared.fault.TextFault.{TextFault}
+use Rattle.linda_text.specs.declared.fault.TextFault.TheVariants.{SyntaxAt, TooManyFields, TextTooLong, NumberRange}
+use Rattle.linda_text.specs.Letters.{is_blank, is_special, escaped}
+use Rattle.linda_text.specs.Steps.{Read, Reader, ◌>>=◌}
+
+-- The fault of a text that does not go on at the first of these bytes, or that ends before them.
+abbrev pub wrong : {A : Type 0} → List ℕ → Read A
+wrong bytes = Err (SyntaxAt (length bytes))
+
+-- The bytes behind the blanks at the front.
+unfoldable pub after_blanks : List ℕ → List ℕ
+after_blanks [] = []
+after_blanks (b ∷ rest) = if is_blank b then after_blanks rest else b ∷ rest
+
+-- ---- words and marks
+
+-- The bytes behind the word.
+unfoldable pub word_at : List ℕ → List ℕ → Result (List ℕ) TextFault
+word_at [] bytes = Ok bytes
+word_at (w ∷ word) [] = Err (SyntaxAt 0)
+word_at (w ∷ word) (b ∷ rest) = if b == w then word_at word rest else Err (SyntaxAt (suc (length rest)))
+
+-- The word, and what it stands for.
+abbrev pub named : {A : Type 0} → A → List ℕ → Reader A
+named a word bytes = word_at word bytes >>= λ rest. Ok (a, rest)
+
+-- ---- integers
+
+-- How many decimal digits stand at the front.
+unfoldable pub digit_count : List ℕ → ℕ
+digit_count [] = 0
+digit_count (b ∷ rest) = if is_ascii_digit b then suc (digit_count rest) else 0
+
+-- The length of digits of which the first is not 0.
+unfoldable pub positive_len : List ℕ → Result ℕ TextFault
+positive_len [] = Err (SyntaxAt 0)
+positive_len (b ∷ rest) = if is_ascii_digit b && not (b == 48) then Ok (suc (digit_count rest)) else Err (SyntaxAt (suc (length rest)))
+
+-- The length of a numeral: a 0 alone, or digits that do not begin with 0, before which a minus may stand.
+unfoldable pub numeral_len : List ℕ → Result ℕ TextFault
+numeral_len [] = Err (SyntaxAt 0)
+numeral_len (b ∷ rest) = if b == 48 then Ok 1 else (if b == 45 then (positive_len rest >>= λ n. Ok (suc n)) else positive_len (b ∷ rest))
+
+-- The number that a numeral writes, within 64 bits.
+unfoldable pub number_of : List ℕ → Result ℤ TextFault
+number_of numeral = if nat_lt (mag (signed_digits_value 10 numeral)) (2 ^ 63) then Ok (signed_digits_value 10 numeral) else Err NumberRange
+
+unfoldable pub integer_at : Reader ℤ
+integer_at bytes = do
+  len ← numeral_len bytes
+  number ← number_of (take len bytes)
+  Ok (number, drop len bytes)
+
+-- ---- strings
+
+-- The byte that a letter behind a backslash stands for, if it is one.
+abbrev pub chosen : Option ℕ → List ℕ → List ℕ → Read (Option ℕ)
+chosen None here rest = wrong here
+chosen (Some b) here rest = Ok (Some b, rest)
+
+unfoldable pub escape_at : Reader (Option ℕ)
+escape_at [] = wrong []
+escape_at (e ∷ rest) = chosen (escaped e) (e ∷ rest) rest
+
+-- The next byte that a string says; none at its closing quote.
+unfoldable pub said_at : Reader (Option ℕ)
+said_at [] = wrong []
+said_at (b ∷ rest) =
+    if b == 34 then Ok (None, rest) else (if b == 92 then escape_at rest else (if is_special b then wrong (b ∷ rest) else Ok (Some b, rest)))
+
+-- A byte of a string, and those behind it.
+abbrev pub with_byte : ℕ → Read (List ℕ) → Read (List ℕ)
+with_byte b read = read >>= λ x. Ok (b ∷ x.0, x.1)
+
+-- The byte that an escape stands for, if it is one, and the bytes of the string behind it.
+abbrev pub with_escape : Option ℕ → Read (List ℕ) → Read (List ℕ) → Read (List ℕ)
+with_escape None fault read = fault
+with_escape (Some b) fault read = with_byte b read
+
+-- What a string says whose quote was opened, up to its closing quote; in an escape, a backslash stands before the first byte.
+unfoldable pub content_at : Bool → Reader (List ℕ)
+content_at in_escape [] = wrong []
+content_at true (e ∷ rest) = with_escape (escaped e) (wrong (e ∷ rest)) (content_at false rest)
+content_at false (b ∷ rest) =
+    if b == 34 then Ok ([], rest) else (if b == 92 then content_at true rest else (if is_special b then wrong (b ∷ rest) else with_byte b (content_at false rest)))
+
+-- A string may not be too long. (The bytes of every `str` are UTF-8, and then so is what its strings say.)
+abbrev pub judged : List ℕ × List ℕ → Read (List ℕ)
+judged found = if nat_lt MAX_TEXT (length found.0) then Err TextTooLong else (if is_utf8 found.0 then Ok found else wrong found.1)
+
+unfoldable pub string_at : Reader (List ℕ)
+string_at bytes = content_at false bytes >>= judged
+
+-- ---- atoms and patterns
+
+-- What is read, as what that makes.
+abbrev pub made : {A M : Type 0} → (A → M) → Read A → Read M
+made make read = read >>= λ a. Ok (make a.0, a.1)
+
+unfoldable pub atom_at : Reader Atom
+atom_at [] = wrong []
+atom_at (b ∷ rest) =
+    if b == 34 then made (λ t. atoms.Text t) (string_at rest)
+    else (if b == 116 then named (atoms.Bool true) true_text (b ∷ rest)
+    else (if b == 102 then named (atoms.Bool false) false_text (b ∷ rest) else made (λ n. atoms.Int n) (integer_at (b ∷ rest))))
+
+-- The letter behind a question mark.
+unfoldable pub formal_at : Reader Pattern
+formal_at [] = wrong []
+formal_at (b ∷ rest) =
+    if b == 105 then Ok (patterns.IntFormal, rest)
+    else (if b == 115 then Ok (patterns.TextFormal, rest) else (if b == 98 then Ok (patterns.BoolFormal, rest) else wrong (b ∷ rest)))
+
+unfoldable pub pattern_at : Reader Pattern
+pattern_at [] = wrong []
+pattern_at (b ∷ rest) =
+    if b == 63 then formal_at rest else (if b == 95 then Ok (patterns.Any, rest) else made (λ v. patterns.Value v) (atom_at (b ∷ rest)))
+
+-- ---- tuples and templates
+
+-- A comma, after which a field follows, or the closing parenthesis.
+unfoldable pub more_at : Reader Bool
+more_at [] = wrong []
+more_at (b ∷ rest) = if b == 44 then Ok (true, rest) else (if b == 41 then Ok (false, rest) else wrong (b ∷ rest))
+
+-- The closing parenthesis, where no more fields may follow.
+unfoldable pub no_more_at : List ℕ → Result (List ℕ) TextFault
+no_more_at bytes = more_at (after_blanks bytes) >>= λ more. if more.0 then Err TooManyFields else Ok more.1
+
+-- The fields behind a tag, of which so many may follow.
+unfoldable pub fields_at : {A : Type 0} → Reader A → ℕ → Reader (List A)
+fields_at field zero bytes = no_more_at bytes >>= λ rest. Ok ([], rest)
+fields_at field (suc room) bytes = do
+  more ← more_at (after_blanks bytes)
+  if more.0 then (do
+    first ← field (after_blanks more.1)
+    others ← fields_at field room first.1
+    Ok (first.0 ∷ others.0, others.1)) else Ok ([], more.1)
+
+-- The opening parenthesis and the tag.
+unfoldable pub tag_at : Reader Atom
+tag_at bytes = word_at (40 ∷ []) bytes >>= λ opened. atom_at (after_blanks opened)
+
+unfoldable pub row_at : {A : Type 0} → Reader A → Reader (Atom × List A)
+row_at field bytes = do
+  tag ← tag_at bytes
+  fields ← fields_at field MAX_FIELDS tag.1
+  Ok ((tag.0, fields.0), fields.1)
+
+abbrev pub tuple_of : Atom × List Atom → Tuple
+tuple_of row = record { tag = row.0; fields = row.1 }
+
+abbrev pub template_of : Atom × List Pattern → Template
+template_of row = record { tag = row.0; fields = row.1 }
+
+-- Blanks before it are passed over.
+unfoldable pub tuple_at : Reader Tuple
+tuple_at bytes = made tuple_of (row_at atom_at (after_blanks bytes))
+
+unfoldable pub template_at : Reader Template
+template_at bytes = made template_of (row_at pattern_at (after_blanks bytes))
+
+-- An atom, behind blanks.
+unfoldable pub spaced_atom_at : Reader Atom
+spaced_atom_at bytes = atom_at (after_blanks bytes)
+
+-- Nothing is left.
+abbrev pub ended : {A : Type 0} → A → List ℕ → Result A TextFault
+ended a [] = Ok a
+ended a (b ∷ rest) = Err (SyntaxAt (suc (length rest)))
+
+-- A value that is all there is, but for blanks behind it.
+abbrev pub only_of : {A : Type 0} → Read A → Result A TextFault
+only_of read = read >>= λ x. ended x.0 (after_blanks x.1)

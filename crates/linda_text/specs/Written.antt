@@ -1,0 +1,30 @@
+-- The one text in which a value is written.
+use Rattle.std.specs.Prelude.{ℕ, ◌==◌, List, [], ◌∷◌, ◌++◌, if◌then◌else◌}
+use Rattle.std.specs.List.{flat_map}
+use Rattle.std.specs.Fmt.{signed_decimal}
+use Rattle.linda_tuple.specs.declared.atom.Atom.{Atom}
+use Rattle.linda_tuple.specs.declared.atom.Atom.TheVariants as atoms
+use Rattle.linda_tuple.specs.Tuple.{Tuple}
+use Rattle.linda_text.specs.Letters.{truth_word}
+
+-- A byte of a string: `"`, `\`, line feed, tab and carriage return as escapes, every other one as itself.
+abbrev pub written_byte : ℕ → List ℕ
+written_byte b =
+    if b == 34 then 92 ∷ 34 ∷ []
+    else (if b == 92 then 92 ∷ 92 ∷ []
+    else (if b == 10 then 92 ∷ 110 ∷ [] else (if b == 9 then 92 ∷ 116 ∷ [] else (if b == 13 then 92 ∷ 114 ∷ [] else b ∷ []))))
+
+abbrev pub written_string : List ℕ → List ℕ
+written_string bytes = 34 ∷ (flat_map written_byte bytes ++ 34 ∷ [])
+
+abbrev pub written_atom : Atom → List ℕ
+written_atom (atoms.Int n) = signed_decimal n
+written_atom (atoms.Text t) = written_string t
+written_atom (atoms.Bool b) = truth_word b
+
+-- A field behind its comma and one space.
+abbrev pub written_field : Atom → List ℕ
+written_field field = 44 ∷ 32 ∷ written_atom field
+
+abbrev pub written_tuple : Tuple → List ℕ
+written_tuple tuple = 40 ∷ (written_atom tuple.tag ++ (flat_map written_field tuple.fields ++ 41 ∷ []))
