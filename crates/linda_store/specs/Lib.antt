@@ -1,4 +1,5 @@
 pub mod Node
+pub mod Volatile
 pub mod Turn
 pub mod Sending
 pub mod Conversation
