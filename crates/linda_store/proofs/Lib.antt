@@ -7,3 +7,4 @@ pub mod TalkLaws
 pub mod TurnLaws
 pub mod WrittenLaws
 pub mod VolatileLaws
+pub mod ServeLaws

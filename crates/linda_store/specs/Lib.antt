@@ -5,3 +5,4 @@ pub mod Sending
 pub mod Conversation
 pub mod Session
 pub mod Converse
+pub mod Sound

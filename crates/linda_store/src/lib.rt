@@ -10,6 +10,7 @@
 
 mod conversation;
 mod end;
+mod laws;
 mod node;
 mod sending;
 mod session;
@@ -20,7 +21,12 @@ mod work;
 
 pub use conversation::converse;
 pub use end::{ConverseFault, End};
+pub use laws::a_server_stays_sound;
 pub use linda_disk::Torn;
+pub use linda_promise::{
+    a_tuple_is_taken_by_one, closings_offer_what_is_wanted, deeds_are_told, each_reply_is_kept,
+    replies_tell_deeds, steps_do_what_is_said, steps_offer_what_is_wanted, takes_are_handed_over,
+};
 pub use linda_state::{
     Book, Class, Deed, KeptReply, NUMBER_LIMIT, State, no_tuple_is_taken_twice,
     proper_lists_keep_the_ranges,

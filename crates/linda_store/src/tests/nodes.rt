@@ -73,7 +73,10 @@ fn batch(alloc: Global, frames: &[(u32, &[u8])]) -> Result<Vec<(u32, Message)>, 
 fn is_stopped(rt: &impl Abort, alloc: Global, node: &mut Volatile) -> Result<(), Fail> {
     let sends = node.handle_all(alloc, &batch(alloc, &[(7, &OUT), (7, &ask_by(1))])?)?;
     let want = joined(alloc, &[&STORED_1_1, &with_tuple(0x13, 1)])?;
-    assert_eq!(rt; frames_to(rt, alloc, 7, &sends)?.as_slice(), want.as_slice());
+    assert_eq!(rt;
+        frames_to(rt, alloc, 7, &sends)?.as_slice(),
+        want.as_slice()
+    );
     assert_eq!(rt; node.holds().get(1), Some((7, 1)));
     node.snapshot(alloc)?;
     assert_eq!(rt; node.holds().get(1), Some((7, 1)));
