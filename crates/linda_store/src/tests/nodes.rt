@@ -46,7 +46,10 @@ fn closes_a_client(rt: &impl Abort, alloc: Global, node: &mut Volatile) -> Resul
     answers(rt, alloc, node, 8, &ask_by(2), &[])?;
     let sends = node.close(alloc, 7)?;
     let want = with_tuple(0x13, 2);
-    assert_eq!(rt; frames_to(rt, alloc, 8, &sends)?.as_slice(), &want);
+    assert_eq!(rt;
+        frames_to(rt, alloc, 8, &sends)?.as_slice(),
+        want.as_slice()
+    );
     Ok(())
 }
 
