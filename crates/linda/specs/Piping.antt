@@ -24,7 +24,7 @@ reply_line reply = ended (encode_lower (reply_frame reply))
 
 -- a volatile server that was never used
 abbrev pub unused : Node
-unused = record { state = empty_state; soft = no_asks; is_down = false; may_fill = false }
+unused = record { state = empty_state; soft = no_asks; is_down = false; may_fill = false; lost = [] }
 
 -- The lines say pieces of a stream, and these replies are all that is said to it.
 pub record IsAnswered (lines : List (List ℕ)) (said : List Reply) (stage : Stage) : Type 0 where

@@ -1,5 +1,5 @@
 -- Histories that grow at their end.
-use Rattle.std.proofs.Common.{◌≡◌, ℕ, ◌+◌, suc, arith, List, [], ◌∷◌, ◌++◌, map, take, option_to_list, refl, sym, ap, ◌∙◌, subst, append-nil, append_assoc}
+use Rattle.std.proofs.Common.{◌≡◌, ℕ, ◌+◌, suc, arith, List, [], ◌∷◌, ◌++◌, take, option_to_list, refl, sym, ap, ◌∙◌, subst, append-nil, append_assoc}
 use Rattle.std.proofs.lemmas.List.{map-append}
 use Rattle.linda_wire.specs.declared.message.Message.{Message}
 use Rattle.linda_wire.specs.declared.reply.Reply.{Reply}
@@ -10,10 +10,10 @@ use Rattle.linda_step.specs.Answer.{Answer}
 use Rattle.linda_step.specs.History.{Coming, says, Comes, History, Happens, nothing_yet, first_then, comings, Answers, IsOneMore}
 
 -- a history that ends with one thing more
-abbrev then_last : History → Answer → State → History
+abbrev pub then_last : History → Answer → State → History
 then_last all last new = record { deeds = all.deeds ++ option_to_list last.deed; sends = all.sends ++ last.sends; soft = last.soft; state = new }
 
-one_only : (st new : State) (soft : Soft) (x : Coming) (last : Answer) → Comes st soft x last new → Happens st soft (x ∷ []) (then_last (nothing_yet st soft) last new)
+pub one_only : (st new : State) (soft : Soft) (x : Coming) (last : Answer) → Comes st soft x last new → Happens st soft (x ∷ []) (then_last (nothing_yet st soft) last new)
 one_only st new soft x last comes = (last, (new, (nothing_yet new last.soft, (comes, (refl, joined)))))
   where
     joined : then_last (nothing_yet st soft) last new ≡ first_then last (nothing_yet new last.soft)
@@ -29,9 +29,19 @@ happens_more st soft (y ∷ ys) all x last new happens comes =
     let first : Answer = happens.0 in
     let later : History = happens.1.1.0 in
     let same = happens.1.1.1.1.1 in
-    subst (λ (h : History). Happens st soft (y ∷ ys ++ x ∷ []) (then_last h last new)) (sym same)
-    (first, (happens.1.0, (then_last later last new, (happens.1.1.1.0,
-    (happens_more happens.1.0 first.soft ys later x last new happens.1.1.1.1.0 (subst (λ (h : History). Comes h.state h.soft x last new) same comes), joined first later)))))
+    subst (λ (h : History). Happens st soft (y ∷ ys ++ x ∷ []) (then_last h last new)) (sym same) (
+      first,
+      (
+        happens.1.0,
+        (
+          then_last later last new,
+          (
+            happens.1.1.1.0,
+            (happens_more happens.1.0 first.soft ys later x last new happens.1.1.1.1.0 (subst (λ (h : History). Comes h.state h.soft x last new) same comes), joined first later),
+          ),
+        ),
+      ),
+    )
   where
     joined : (first : Answer) (later : History) → then_last (first_then first later) last new ≡ first_then first (then_last later last new)
     joined first later = λ i. record {

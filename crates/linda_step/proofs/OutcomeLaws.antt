@@ -1,5 +1,5 @@
 -- What comes to a server in order has one outcome.
-use Rattle.std.proofs.Common.{◌≡◌, ℕ, List, [], ◌∷◌, option_to_list, refl, sym, ap, ◌∙◌, subst}
+use Rattle.std.proofs.Common.{◌≡◌, List, [], ◌∷◌, option_to_list, sym, ap, ◌∙◌, subst}
 use Rattle.linda_state.specs.State.{State}
 use Rattle.linda_state.specs.After.{IsAfter}
 use Rattle.linda_state.proofs.AfterLaws.{one_after}
@@ -27,8 +27,8 @@ one_outcome st soft [] a b orderly first second = first ∙ sym second
 one_outcome st soft (x ∷ xs) a b orderly first second =
     let once = one_coming st soft x first.0 second.0 first.1.0 second.1.0 orderly first.1.1.1.0 second.1.1.1.0 in
     let later : first.1.1.0 ≡ second.1.1.0 =
-        one_outcome second.1.0 second.0.soft xs first.1.1.0 second.1.1.0 (came_orderly st second.1.0 soft x second.0 orderly second.1.1.1.0)
-        (subst (λ (s : State). Happens s second.0.soft xs first.1.1.0) once.1 (subst (λ (y : Answer). Happens first.1.0 y.soft xs first.1.1.0) once.0 first.1.1.1.1.0))
-        second.1.1.1.1.0
+    one_outcome second.1.0 second.0.soft xs first.1.1.0 second.1.1.0 (came_orderly st second.1.0 soft x second.0 orderly second.1.1.1.0)
+    (subst (λ (s : State). Happens s second.0.soft xs first.1.1.0) once.1 (subst (λ (y : Answer). Happens first.1.0 y.soft xs first.1.1.0) once.0 first.1.1.1.1.0))
+    second.1.1.1.1.0
     in
     first.1.1.1.1.1 ∙ ap (λ (y : Answer). first_then y first.1.1.0) once.0 ∙ ap (first_then second.0) later ∙ sym second.1.1.1.1.1

@@ -1,5 +1,5 @@
 -- How holds and waits are stored where a model's value holds one.
-use Rattle.std.specs.Prelude.{ℕ, List, refl}
+use Rattle.std.specs.Prelude.{List, refl}
 use Rattle.std.specs.Coded.{Coded, code_by, coded×, coded_ℕ, coded_list}
 use Rattle.std.specs.FinMap as map
 use Rattle.linda_hold.specs.Waits.{Wait}

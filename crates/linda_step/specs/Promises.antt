@@ -1,11 +1,10 @@
 -- What the definitions of states, deeds and steps come to, in the words of those who hand jobs out.
-use Rattle.std.specs.Prelude.{◌≡◌, ◌≢◌, ℕ, ◌≤◌, Bool, false, ◌==◌, List, ◌∷◌, length, filter, All, Some, None}
+use Rattle.std.specs.Prelude.{◌≡◌, ◌≢◌, ℕ, false, List, ◌∷◌, All, Some, None}
 use Rattle.std.specs.FinMap as map
 use Rattle.linda_hold.specs.Waits.{is_waiting}
 use Rattle.linda_hold.specs.Holds.{IsHeldAt}
 use Rattle.linda_wire.specs.declared.reply.Reply.{Reply}
 use Rattle.linda_book.specs.Entries.{Entry}
-use Rattle.linda_state.specs.declared.deed.Deed.{Deed}
 use Rattle.linda_state.specs.Once.{IsTakenOnce}
 use Rattle.linda_state.specs.State.{State}
 use Rattle.linda_step.specs.Soft.{Soft}

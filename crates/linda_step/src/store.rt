@@ -163,7 +163,7 @@ impl<B: Bag> Store<B> {
     fn spend(&mut self, alloc: Global)
         ensures { self.new ≡ record { state = self.old.state; soft = no_asks; is_spent = true } }
     {
-        self.soft = Soft::new(alloc);
+        self.forget(alloc);
         self.spent = true;
     }
 
@@ -219,9 +219,27 @@ impl<B: Bag> Store<B> {
         &self.soft.waits
     }
 
+    /// Forgets all that is held and waits, as a server does that was stopped. Takes no memory.
+    pub fn forget(&mut self, alloc: Global)
+        ensures { self.new
+            ≡ record { state = self.old.state; soft = no_asks; is_spent = self.old.is_spent } }
+    {
+        self.soft = Soft::new(alloc);
+    }
+
+    /// Gives the state away, which keeps its ranges. Takes no memory.
+    pub fn into_state(self) -> State<B>
+        ensures state { result ≡ self.state }
+        ensures ranges { IsState result }
+    {
+        let Store { state, .. } = self;
+        state
+    }
+
     /// Whether memory ran out. Takes no memory.
     pub fn is_spent(&self) -> bool
-        ensures { result ≡ self.now.is_spent }
+        ensures spent { result ≡ self.now.is_spent }
+        ensures orderly { IsOrderly self.now.state self.now.soft }
     {
         self.spent
     }

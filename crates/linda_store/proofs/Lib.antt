@@ -6,3 +6,5 @@ pub mod SayLaws
 pub mod TalkLaws
 pub mod TurnLaws
 pub mod WrittenLaws
+pub mod VolatileLaws
+pub mod ServeLaws

@@ -1,37 +1,47 @@
 //! A server that keeps nothing over its end.
 
-ghost use Rattle.std.specs.Prelude.{◌≡◌, false};
+ghost use Rattle.std.specs.Prelude.{◌≡◌, true, false, [], IfOk, OnOk, OnErr};
 ghost use Rattle.linda_state.specs.State.{IsState, empty_state};
 ghost use Rattle.linda_step.specs.Soft.{no_asks};
+ghost use Rattle.linda_step.specs.History.{Happens, comings};
+ghost use Rattle.linda_store.specs.Node.{in_hand};
 
 use crate::node::{Node, NodeFault};
+use crate::work::Work;
 use linda_bag::ListBag;
+use linda_disk::Torn;
 use linda_hold::Holds;
-use linda_state::State;
-use linda_step::{Step, Store};
+use linda_state::{Deed, State};
+use linda_step::{Step, Steps, Store};
 use linda_wire::{Message, Reply};
-use std::alloc::Global;
+use std::alloc::{AllocError, Global};
+use std::snapshot::Snapshot;
 
-/// A server in memory alone. It is down for good once memory ran out, and never full: ids, numbers
-/// and clients have their limits, and a message beyond them gets a refusal.
+/// A server in memory alone. It keeps its state over a stop, and is never full: ids, numbers and clients
+/// have their limits, and a message beyond them gets a refusal. Once memory ran out it is down for good,
+/// to a stop too.
 #[derive(Drop)]
 pub struct Volatile {
     store: Store<ListBag>,
+    // The state before the last call, which contracts alone see.
+    before: Snapshot<State<ListBag>>,
 }
 
 impl Volatile {
     /// A server that was never used. Takes no memory.
     pub fn new(alloc: Global) -> Volatile
-        ensures { ⟦<Volatile as Node>⟧.shown result ≡ record { state = empty_state; soft = no_asks; is_down = false; may_fill = false } }
+        ensures { ⟦<Volatile as Node>⟧.shown result
+            ≡ record { state = empty_state; soft = no_asks; is_down = false; may_fill = false; lost = [] } }
     {
-        Volatile {
-            store: Store::new(alloc),
-        }
+        let store = Store::new(alloc);
+        let before = Snapshot::of(store.state());
+        Volatile { store, before }
     }
 
     /// What the server keeps, in its ranges. Takes no memory.
     pub fn state(&self) -> &State<ListBag>
-        ensures state { result.now ≡ (⟦<Volatile as Node>⟧.shown self.now).state }
+        ensures state { (⟦<Volatile as Node>⟧.shown self.now).is_down ≡ false
+            → result.now ≡ (⟦<Volatile as Node>⟧.shown self.now).state }
         ensures ranges { IsState result.now }
     {
         self.store.state()
@@ -46,9 +56,9 @@ impl Volatile {
 }
 
 impl Node for Volatile {
-    ghost use Rattle.std.specs.Prelude.{false};
+    ghost use Rattle.linda_store.specs.Volatile.{shown};
 
-    ghost shown = { λ v. record { state = v.store.state; soft = v.store.soft; is_down = v.store.is_spent; may_fill = false } };
+    ghost shown = { λ v. shown v.before.value v.store };
 
     fn handle(
         &mut self,
@@ -56,6 +66,10 @@ impl Node for Volatile {
         client: u32,
         message: &Message,
     ) -> Result<Vec<(u32, Reply)>, NodeFault> {
+        if self.store.is_spent() {
+            return Err(NodeFault::Down);
+        }
+        self.before = Snapshot::of(self.store.state());
         match self.store.step(alloc, client, message) {
             Ok(step) => {
                 let Step { sends, .. } = step;
@@ -65,14 +79,87 @@ impl Node for Volatile {
         }
     }
 
+    fn handle_all(
+        &mut self,
+        alloc: Global,
+        messages: &[(u32, Message)],
+    ) -> Result<Vec<(u32, Reply)>, NodeFault> {
+        if self.store.is_spent() {
+            return Err(NodeFault::Down);
+        }
+        self.before = Snapshot::of(self.store.state());
+        match self.store.step_all(alloc, messages) {
+            Ok(steps) => {
+                let Steps { sends, .. } = steps;
+                Ok(sends)
+            }
+            Err(_) => Err(NodeFault::Down),
+        }
+    }
+
     fn close(&mut self, alloc: Global, client: u32) -> Result<Vec<(u32, Reply)>, NodeFault> {
+        if self.store.is_spent() {
+            return Err(NodeFault::Down);
+        }
+        self.before = Snapshot::of(self.store.state());
         match self.store.close(alloc, client) {
             Ok(sends) => Ok(sends),
             Err(_) => Err(NodeFault::Down),
         }
     }
 
+    fn snapshot(&mut self, alloc: Global) -> Result<(), NodeFault> {
+        let _ = alloc;
+        if self.store.is_spent() {
+            return Err(NodeFault::Down);
+        }
+        Ok(())
+    }
+
+    fn stop(
+        &mut self,
+        alloc: Global,
+        work: Work,
+        at: u64,
+        torn: Torn,
+    ) -> Result<Vec<Deed>, NodeFault> {
+        let _ = (at, torn);
+        if self.store.is_spent() {
+            return Err(NodeFault::Down);
+        }
+        self.before = Snapshot::of(self.store.state());
+        match do_work(alloc, &mut self.store, work) {
+            Ok(steps) => {
+                let Steps { deeds, .. } = steps;
+                self.store.forget(alloc);
+                Ok(deeds)
+            }
+            Err(_) => Err(NodeFault::Down),
+        }
+    }
+
     fn is_down(&self) -> bool {
         self.store.is_spent()
+    }
+}
+
+// Does all of the work.
+fn do_work(alloc: Global, store: &mut Store<ListBag>, work: Work) -> Result<Steps, AllocError>
+    ensures ok { IfOk result (λ s. Happens store.old.state store.old.soft (in_hand work)
+        (record { deeds = s.deeds.items; sends = s.sends.items; soft = store.new.soft; state = store.new.state })) }
+    ensures unspent { OnOk result (store.new.is_spent ≡ false) }
+    ensures err { OnErr result (store.new.is_spent ≡ true) }
+{
+    let messages = messages_of(alloc, work);
+    store.step_all(alloc, &messages)
+}
+
+// The messages of the work.
+fn messages_of(alloc: Global, work: Work) -> Vec<(u32, Message)>
+    ensures { comings result.items ≡ in_hand work }
+{
+    match work {
+        Work::Messages(messages) => messages,
+        Work::Snapshot => Vec::new(alloc),
     }
 }

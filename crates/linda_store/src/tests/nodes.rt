@@ -1,9 +1,11 @@
 //! A node, call by call.
 
-use super::frame::{HELLO, OUT, STORED_1_1, ask_by, joined, message, with_tuple};
+use super::frame::{OUT, STORED_1_1, ask_by, joined, message, with_tuple};
 use crate::node::Node;
 use crate::volatile::Volatile;
-use linda_wire::{Reply, encode_reply};
+use crate::work::Work;
+use linda_disk::Torn;
+use linda_wire::{Message, Reply, encode_reply};
 use std::alloc::Global;
 use std::process::Abort;
 use std::test::Fail;
@@ -44,7 +46,10 @@ fn closes_a_client(rt: &impl Abort, alloc: Global, node: &mut Volatile) -> Resul
     answers(rt, alloc, node, 8, &ask_by(2), &[])?;
     let sends = node.close(alloc, 7)?;
     let want = with_tuple(0x13, 2);
-    assert_eq!(rt; frames_to(rt, alloc, 8, &sends)?.as_slice(), want.as_slice());
+    assert_eq!(rt;
+        frames_to(rt, alloc, 8, &sends)?.as_slice(),
+        want.as_slice()
+    );
     Ok(())
 }
 
@@ -54,6 +59,42 @@ fn a_node_that_closes_a_client_offers_what_it_held(rt: HostRuntime) -> Result<()
     closes_a_client(&rt, rt.alloc(), &mut node)?;
     assert_eq!(rt; node.holds().get(1), Some((8, 2)));
     assert_eq!(rt; node.state().next, 2);
+    assert!(rt; !node.is_down());
+    Ok(())
+}
+
+/// The messages of these frames, each of its client.
+fn batch(alloc: Global, frames: &[(u32, &[u8])]) -> Result<Vec<(u32, Message)>, Fail> {
+    let mut messages = Vec::new(alloc);
+    for (client, frame) in frames {
+        messages.push((*client, message(alloc, frame)?))?;
+    }
+    Ok(messages)
+}
+
+/// Client 7 puts a tuple and holds it, in one call; then the node is stopped in work of client 8.
+fn is_stopped(rt: &impl Abort, alloc: Global, node: &mut Volatile) -> Result<(), Fail> {
+    let sends = node.handle_all(alloc, &batch(alloc, &[(7, &OUT), (7, &ask_by(1))])?)?;
+    let want = joined(alloc, &[&STORED_1_1, &with_tuple(0x13, 1)])?;
+    assert_eq!(rt;
+        frames_to(rt, alloc, 7, &sends)?.as_slice(),
+        want.as_slice()
+    );
+    assert_eq!(rt; node.holds().get(1), Some((7, 1)));
+    node.snapshot(alloc)?;
+    assert_eq!(rt; node.holds().get(1), Some((7, 1)));
+    let work = Work::Messages(batch(alloc, &[(8, &OUT), (8, &ask_by(2))])?);
+    let deeds = node.stop(alloc, work, 0, Torn::Lost)?;
+    assert_eq!(rt; deeds.len(), 1);
+    Ok(())
+}
+
+#[test]
+fn a_stopped_node_keeps_its_deeds_and_nothing_that_is_held(rt: HostRuntime) -> Result<(), Fail> {
+    let mut node = Volatile::new(rt.alloc());
+    is_stopped(&rt, rt.alloc(), &mut node)?;
+    assert_eq!(rt; node.holds().get(1), None);
+    assert_eq!(rt; node.state().next, 3);
     assert!(rt; !node.is_down());
     Ok(())
 }

@@ -1,10 +1,5 @@
 -- The changes of the maps are those of a Pass, whatever its id.
-use Rattle.std.proofs.Common.{◌≡◌, ◌∷◌, [], ℕ, Result, Ok, Err, OnOk, refl}
-use Rattle.std.specs.FinMap.{insert}
-use Rattle.linda_book.specs.declared.kept.KeptReply.TheVariants as kept
-use Rattle.linda_state.specs.declared.deed.Deed.TheVariants.{Pass}
-use Rattle.linda_state.specs.State.{State, IsState}
-use Rattle.linda_state.specs.After.{IsAfter}
+use Rattle.std.proofs.Common.{Result, Ok, Err, OnOk, refl}
 use Rattle.linda_state.proofs.DoneLaws.{pass_at}
 use Rattle.linda_state.proofs.state.State.pass.Goals as goal
 

@@ -1,0 +1,9 @@
+pub mod SoftSendLaws
+pub mod KeepLaws
+pub mod HandLaws
+pub mod NumberedLaws
+pub mod TellLaws
+pub mod OfferLaws
+pub mod SpreadLaws
+pub mod DeedOfLaws
+pub mod LearnLaws

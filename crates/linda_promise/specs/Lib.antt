@@ -1,0 +1,5 @@
+pub mod Learning
+pub mod Numbers
+pub mod Doing
+pub mod Offering
+pub mod Replying
