@@ -1,0 +1,6 @@
+pub mod Apart
+pub mod DeedLaws
+pub mod SizeLaws
+pub mod PayloadLaws
+pub mod RecordLaws
+pub mod JournalLaws
