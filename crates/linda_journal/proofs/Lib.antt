@@ -4,3 +4,5 @@ pub mod SizeLaws
 pub mod PayloadLaws
 pub mod RecordLaws
 pub mod JournalLaws
+pub mod GateLaws
+pub mod BankLaws

@@ -1,2 +1,5 @@
 pub mod Records
 pub mod Journal
+pub mod Gate
+pub mod Bank
+pub mod Faults

@@ -1,13 +1,18 @@
 //! The journal of a server: deeds as bytes, and back, so that any torn end is told.
 #![tactic(auto)]
 
+mod bank;
 mod deed;
+mod fault;
+mod gate;
 mod journal;
 mod kinds;
 mod limits;
 mod payload;
 mod record;
 
+pub use bank::Bank;
+pub use fault::BankFault;
 pub use journal::{Journal, JournalFault, read_journal};
 pub use limits::MAX_DEEDS;
 pub use record::Record;
