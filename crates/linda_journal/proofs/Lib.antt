@@ -6,3 +6,4 @@ pub mod RecordLaws
 pub mod JournalLaws
 pub mod GateLaws
 pub mod BankLaws
+pub mod ImageLaws

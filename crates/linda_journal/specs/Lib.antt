@@ -3,3 +3,5 @@ pub mod Journal
 pub mod Gate
 pub mod Bank
 pub mod Faults
+pub mod Heading
+pub mod Image

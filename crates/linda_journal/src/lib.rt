@@ -5,6 +5,8 @@ mod bank;
 mod deed;
 mod fault;
 mod gate;
+mod heading;
+mod image;
 mod journal;
 mod kinds;
 mod limits;
@@ -13,6 +15,7 @@ mod record;
 
 pub use bank::Bank;
 pub use fault::BankFault;
+pub use heading::{Heading, read_heading};
 pub use journal::{Journal, JournalFault, read_journal};
 pub use limits::MAX_DEEDS;
 pub use record::Record;
