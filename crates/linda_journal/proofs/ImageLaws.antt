@@ -1,6 +1,6 @@
 -- Banks as bytes: what they begin with, their parts, and that bytes are one bank.
-use Rattle.std.proofs.Common.{◌≡◌, ℕ, ◌+◌, ◌-◌, ◌^◌, ◌<◌, ◌≤◌, inl, inr, List, ◌∷◌, ◌++◌, length, take, drop, Ok, refl, sym, ap, subst, ◌∙◌, arith}
-use Rattle.std.proofs.lemmas.List.{take-append-drop, length-take, length-drop, drop-drop, take_at, drop_at}
+use Rattle.std.proofs.Common.{◌≡◌, ℕ, ◌+◌, ◌-◌, ◌^◌, ◌<◌, ◌≤◌, inr, List, [], ◌∷◌, ◌++◌, length, take, drop, Ok, refl, sym, ap, subst, ◌∙◌, arith}
+use Rattle.std.proofs.lemmas.List.{take-append-drop, length-take, length-drop, drop-drop, take_at, drop_at, length-append, length-map}
 use Rattle.linda_codec.specs.Formats.{short_number, number}
 use Rattle.linda_codec.specs.Lawful.{IsBytes}
 use Rattle.linda_codec.proofs.FormatLaws.{short_number_is, number_is}
@@ -10,8 +10,11 @@ use Rattle.linda_journal.specs.declared.kinds.TheConstants.{OPEN}
 use Rattle.linda_journal.specs.declared.limits.TheConstants.{MIN_BYTES}
 use Rattle.linda_journal.specs.declared.heading.Heading.TheVariants as headings
 use Rattle.linda_journal.specs.declared.fault.BankFault.TheVariants as faults
-use Rattle.linda_journal.specs.Journal.{IsJournal, IsDamaged}
-use Rattle.linda_journal.specs.Bank.{magic, headed, head, IsBank}
+use Rattle.linda_journal.specs.Journal.{IsJournal, IsDamaged, deeds_of}
+use Rattle.linda_disk.specs.View.{View, IsDurable}
+use Rattle.linda_journal.specs.declared.record.Record.{Record}
+use Rattle.linda_journal.specs.Records.{spell_record, spell_records}
+use Rattle.linda_journal.specs.Bank.{magic, headed, head, IsBank, IsSettled}
 use Rattle.linda_journal.specs.Heading.{IsHeading}
 use Rattle.linda_journal.specs.Image.{IsBroken, IsFaultOfBank}
 use Rattle.linda_journal.proofs.Apart.{format_apart}
@@ -110,3 +113,30 @@ pub not_broken : (file : List ℕ) (g : ℕ) (b : List ℕ) (rs : List (List Dee
 not_broken file g b rs offset one two =
     let same = heads_apart g two.generation b two.body one.rest two.rest one.fits two.fits one.short two.short (sym one.parts ∙ two.parts) in
     not_both two.rest rs two.place (subst (λ l. IsJournal l rs) same.2 one.journal) two.damaged
+
+-- ---- a bank that was read from its disk
+
+record_some : (rs : List (List Deed)) → length rs ≤ length (spell_records rs)
+record_some [] = omega arith
+record_some (ds ∷ rs) = omega (arith, record_some rs, length-append (spell_record ds) (spell_records rs))
+
+-- There are no more records than bytes before the end.
+pub counted : (rs : List Record) (at end : ℕ) → end ≡ at + length (spell_records (deeds_of rs)) → length rs ≤ end
+counted rs at end e = omega (arith, e, record_some (deeds_of rs), length-map rs (λ (r : Record). r.deeds.items))
+
+-- The end is within the file.
+pub end_within : (g : ℕ) (body : List ℕ) (rs : List (List Deed)) (end : ℕ) (v : View) → IsSettled g body rs end v → end < length v.seen
+end_within g body rs end v settled =
+    let journal = settled.file.journal in
+    let n : length v.seen ≡ length (head g body ++ settled.file.rest) = ap length settled.file.parts in
+    let m : length settled.file.rest ≡ length (spell_records rs ++ journal.gate ∷ journal.rest) = ap length journal.parts in
+    omega (arith, n, m, settled.place, length-append (head g body) settled.file.rest, length-append (spell_records rs) (journal.gate ∷ journal.rest))
+
+-- What was read of it.
+pub settled_there : (bytes : List ℕ) (g at end : ℕ) (rs : List (List Deed)) (v : View) → IsBank bytes g (take (at - MIN_BYTES) (drop MIN_BYTES bytes)) rs → MIN_BYTES ≤ at → at < length bytes → end ≡ at + length (spell_records rs) → v.seen ≡ bytes → IsDurable v
+    → IsSettled g (take (at - MIN_BYTES) (drop MIN_BYTES bytes)) rs end v
+settled_there bytes g at end rs v bank low room end_is same durable = record {
+  file = subst (λ f. IsBank f g (take (at - MIN_BYTES) (drop MIN_BYTES bytes)) rs) (sym same) bank;
+  place = omega (arith, low, room, end_is, length-take (at - 17) (drop 17 bytes), length-drop 17 bytes);
+  durable = durable;
+}

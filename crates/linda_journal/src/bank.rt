@@ -1,15 +1,19 @@
 //! A bank: what a server keeps on one disk, a body and then a journal.
 
-ghost use Rattle.std.specs.Prelude.{◌≡◌, ◌<◌, ◌≤◌, ◌+◌, ◌++◌, ◌∷◌, [], ◌↔◌, ℕ, List, length, OnOk, IsErrOf, true, false};
+ghost use Rattle.std.specs.Prelude.{◌≡◌, ◌≢◌, ◌<◌, ◌≤◌, ◌+◌, ◌++◌, ◌∷◌, [], ◌↔◌, ℕ, List, length, IfOk, IfErr, OnOk, IsErrOf, true, false};
 ghost use Rattle.linda_state.specs.declared.deed.Deed as deed;
 ghost use Rattle.linda_disk.specs.Run.{LeavesOnly};
 ghost use Rattle.linda_journal.specs.declared.limits.TheConstants.{MAX_DEEDS};
 ghost use Rattle.linda_journal.specs.Records.{spell_record};
+ghost use Rattle.linda_journal.specs.declared.limits.TheConstants.{MIN_BYTES};
+ghost use Rattle.linda_journal.specs.Journal.{AreAt, deeds_of};
+ghost use Rattle.linda_journal.specs.Image.{IsFaultOfBank};
 ghost use Rattle.linda_journal.specs.Bank.{IsSettled, IsOldOrMore};
 
 use crate::fault::BankFault;
 use crate::gate::{open_gate, stage};
-use crate::record::spell_body;
+use crate::opening::load;
+use crate::record::{Record, spell_body};
 use linda_disk::Disk;
 use linda_state::Deed;
 use std::alloc::Global;
@@ -47,6 +51,54 @@ impl<D: Disk> Bank<D> {
         ensures { result ≡ self.now.records }
     {
         self.records
+    }
+
+    /// Opens the bank that the disk holds, and gives its body and the records of its journal. The disk is synced
+    /// first; nothing is written.
+    ///
+    /// # Errors
+    ///
+    /// `NoBank`, `Damaged`, `Disk` where the device failed, `Memory`; each hands the disk back.
+    pub fn open(
+        alloc: Global,
+        disk: D,
+        limit: usize,
+    ) -> Result<(Bank<D>, Vec<u8>, Vec<Record>), (BankFault, D)>
+        // What is opened is what the disk read at entry, all of it synced.
+        ensures found { D.honest disk → IfOk result (λ o. IsSettled o.0.generation o.1.items
+            (deeds_of o.2.items) o.0.end (D.view o.0.disk)) }
+        ensures seen { D.honest disk
+            → IfOk result (λ o. (D.view o.0.disk).seen ≡ (D.view disk).seen) }
+        ensures gates { IfOk result (λ o. AreAt (MIN_BYTES + length o.1.items) o.2.items) }
+        ensures new { IfOk result (λ o. (o.0.records ≡ length o.2.items) × (o.0.limit ≡ limit)
+            × (o.0.is_spent ≡ false)) }
+        // A fault is one of those bytes.
+        ensures fault { D.honest disk → IfErr result (λ e. e.0 ≢ BankFault.Disk
+            → IsFaultOfBank (D.view disk).seen e.0) }
+        // At no moment a crash leaves what it could not leave at entry.
+        ensures any_moment { D.honest disk
+            → IfOk result (λ o. LeavesOnly (D.view disk) (D.view o.0.disk) (D.view disk).may_leave)
+            × IfErr result (λ e. LeavesOnly (D.view disk) (D.view e.1) (D.view disk).may_leave) }
+        ensures honest { IfOk result (λ o. D.honest disk ↔ D.honest o.0.disk)
+            × IfErr result (λ e. D.honest disk ↔ D.honest e.1) }
+        ensures cause { IfErr result (λ e. e.0 ≡ BankFault.Disk
+            → D.failures disk < D.failures e.1) }
+    {
+        let mut disk = disk;
+        match load(alloc, &mut disk) {
+            Err(fault) => Err((fault, disk)),
+            Ok(contents) => {
+                let bank = Bank {
+                    disk,
+                    generation: contents.generation,
+                    limit,
+                    end: contents.journal.end,
+                    records: contents.journal.records.len(),
+                    is_spent: false,
+                };
+                Ok((bank, contents.body, contents.journal.records))
+            }
+        }
     }
 
     /// Adds one record of these deeds to the journal: a write of all of it behind the closed gate at the end,

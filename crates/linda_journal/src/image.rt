@@ -1,8 +1,8 @@
 //! The bytes of a disk read as a bank.
 
-ghost use Rattle.std.specs.Prelude.{◌≡◌, ◌<◌, ◌≤◌, ◌-◌, ℕ, List, take, drop, length, IfOk, IfErr};
-ghost use Rattle.linda_state.specs.declared.deed.Deed as deed;
+ghost use Rattle.std.specs.Prelude.{◌≡◌, ◌<◌, ◌≤◌, ◌+◌, ◌-◌, take, drop, length, IfOk, IfErr};
 ghost use Rattle.linda_journal.specs.declared.limits.TheConstants.{MIN_BYTES};
+ghost use Rattle.linda_journal.specs.Records.{spell_records};
 ghost use Rattle.linda_journal.specs.Journal.{AreAt, deeds_of};
 ghost use Rattle.linda_journal.specs.Bank.{IsBank};
 ghost use Rattle.linda_journal.specs.Image.{IsFaultOfBank};
@@ -32,6 +32,8 @@ pub(crate) fn read_image(alloc: Global, bytes: &[u8]) -> Result<Image, BankFault
     ensures found { IfOk result (λ i. IsBank bytes.now i.generation
         (take (i.at - MIN_BYTES) (drop MIN_BYTES bytes.now)) (deeds_of i.journal.records.items)) }
     ensures places { IfOk result (λ i. AreAt i.at i.journal.records.items) }
+    ensures end { IfOk result (λ i. i.journal.end
+        ≡ i.at + length (spell_records (deeds_of i.journal.records.items))) }
     ensures room { IfOk result (λ i. (MIN_BYTES ≤ i.at) × (i.at < length bytes.now)) }
     ensures fault { IfErr result (IsFaultOfBank bytes.now) }
 {
