@@ -1,15 +1,17 @@
 -- A record behind the gate of a bank: from gates and bodies to banks.
-use Rattle.std.proofs.Common.{◌≡◌, ℕ, suc, ◌+◌, ◌⊎◌, inl, inr, List, [], ◌∷◌, ◌++◌, All, length, refl, sym, ap, subst, ◌∙◌, append_assoc, length-append, arith}
+use Rattle.std.proofs.Common.{◌≡◌, ℕ, suc, ◌+◌, ◌^◌, ◌<◌, ◌≤◌, ◌⊎◌, inl, inr, List, [], ◌∷◌, ◌++◌, All, length, refl, sym, ap, subst, ◌∙◌, append_assoc, length-append, arith}
 use Rattle.std.proofs.lemmas.Grind.{flat_map-append}
 use Rattle.std.proofs.lemmas.List.{append-nil}
+use Rattle.std.proofs.lemmas.List.Elements.{All-nil}
 use Rattle.linda_state.specs.declared.deed.Deed.{Deed}
 use Rattle.linda_disk.specs.View.{View}
 use Rattle.linda_disk.specs.Run.{LeavesOnly}
 use Rattle.linda_disk.proofs.RunLaws.{weaker, joined}
-use Rattle.linda_journal.specs.declared.kinds.TheConstants.{OPEN, CLOSED}
+use Rattle.linda_journal.specs.declared.kinds.TheConstants.{OPEN}
+use Rattle.linda_journal.specs.declared.limits.TheConstants.{MIN_BYTES}
 use Rattle.linda_journal.specs.Records.{IsRecord, record_body, spell_record, spell_records}
-use Rattle.linda_journal.specs.Gate.{ClosesAfter, IsShut, IsClosedOrOpened}
-use Rattle.linda_journal.specs.Bank.{head, IsBank, IsSettled, IsOldOrMore}
+use Rattle.linda_journal.specs.Gate.{ClosesAfter, IsShut, IsClosedOrOpened, IsLaid}
+use Rattle.linda_journal.specs.Bank.{IsCandidate, behind_gate, head, IsBank, IsSettled, IsOldOrMore, IsNoneOrNew}
 use Rattle.linda_journal.proofs.PayloadLaws.{all_with}
 
 -- What stands before the closed gate at the end.
@@ -87,3 +89,37 @@ module _ (generation : ℕ) (body : List ℕ) (records : List (List Deed)) (ds :
     where
       sum : (e k : ℕ) → e + 1 + k ≡ e + suc k
       sum e k = omega arith
+
+-- ---- a new bank
+
+no_candidate : (file : List ℕ) → ClosesAfter [] file → IsCandidate file → ⊥
+no_candidate file closes candidate = closes.closed (first_is closes.gate OPEN closes.rest candidate.1.0 (sym closes.parts ∙ candidate.1.1))
+  where
+    first_is : (a b : ℕ) (x y : List ℕ) → a ∷ x ≡ b ∷ y → a ≡ b
+    first_is a b x y e = cc
+
+new_one : (generation : ℕ) (body file : List ℕ) → 1 ≤ generation → generation < 2 ^ 64 → length body < 2 ^ 32 → ClosesAfter (head generation body) file → IsBank file generation body []
+new_one generation body file low fits short closes = record {
+  low = low;
+  fits = fits;
+  short = short;
+  rest = closes.gate ∷ closes.rest;
+  parts = closes.parts;
+  journal = record { gate = closes.gate; rest = closes.rest; parts = refl; closed = closes.closed; good = All-nil IsRecord };
+}
+
+none_or_new : (generation : ℕ) (body : List ℕ) → 1 ≤ generation → generation < 2 ^ 64 → length body < 2 ^ 32 → (file : List ℕ) → IsLaid (behind_gate generation body) file → IsNoneOrNew generation body file
+none_or_new generation body low fits short file (inl is) = inl (λ candidate. omega (arith, is, candidate.0))
+none_or_new generation body low fits short file (inr (inl closes)) = inl (no_candidate file closes)
+none_or_new generation body low fits short file (inr (inr closes)) = inr (new_one generation body file low fits short closes)
+
+pub making : (generation : ℕ) (body : List ℕ) (old new : View) → 1 ≤ generation → generation < 2 ^ 64 → length body < 2 ^ 32 → LeavesOnly old new (IsLaid (behind_gate generation body)) → LeavesOnly old new (IsNoneOrNew generation body)
+making generation body old new low fits short run =
+    weaker old new (IsLaid (behind_gate generation body)) (IsNoneOrNew generation body) run (none_or_new generation body low fits short)
+
+pub made : (generation : ℕ) (body : List ℕ) (end : ℕ) (new : View) → 1 ≤ generation → generation < 2 ^ 64 → length body < 2 ^ 32 → end ≡ MIN_BYTES + length body → IsShut (OPEN ∷ behind_gate generation body) (1 + length (behind_gate generation body)) new → IsSettled generation body [] end new
+made generation body end new low fits short end_is shut = record {
+  file = new_one generation body new.seen low fits short shut.file;
+  place = omega (arith, end_is);
+  durable = shut.durable;
+}

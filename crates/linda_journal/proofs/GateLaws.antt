@@ -1,15 +1,15 @@
 -- What one write behind a gate, and one of its byte, make of a file, and what a crash may make of them.
 use Rattle.std.proofs.Common.{◌≡◌, ◌≢◌, ℕ, zero, suc, ◌+◌, ◌<◌, ◌≤◌, ◌⊎◌, inl, inr, List, [], ◌∷◌, ◌++◌, length, take, drop, refl, sym, ap, subst, ◌∙◌, append_assoc, append-nil, length-append, arith}
-use Rattle.std.specs.Prelude.{Result}
+use Rattle.std.specs.Prelude.{Result, max}
 use Rattle.std.proofs.lemmas.List.{take_at, drop_at, take-append-drop, length-take, length-drop, drop-drop}
 use Rattle.linda_disk.specs.declared.fault.DiskFault.{DiskFault}
 use Rattle.linda_disk.specs.View.{View, IsDurable, IsTimed}
 use Rattle.linda_disk.specs.Image.{overlay, TornWrite}
 use Rattle.linda_disk.specs.Disk.{Writes, Syncs}
 use Rattle.linda_disk.specs.Run.{LeavesOnly}
-use Rattle.linda_disk.proofs.RunLaws.{wrote, goes_on_as_before}
+use Rattle.linda_disk.proofs.RunLaws.{wrote, goes_on_as_before, weaker, joined}
 use Rattle.linda_journal.specs.declared.kinds.TheConstants.{OPEN, CLOSED}
-use Rattle.linda_journal.specs.Gate.{ClosesAfter, IsShut, IsReady, IsClosedOrOpened}
+use Rattle.linda_journal.specs.Gate.{ClosesAfter, IsShut, IsReady, IsClosedOrOpened, IsLaid}
 
 -- A file by the byte at an offset.
 split_at : (front : List ℕ) (gate : ℕ) (rest file : List ℕ) (place : ℕ) → length front ≡ place → take (place + 1) file ≡ front ++ gate ∷ [] → file ≡ front ++ gate ∷ drop (place + 1) file
@@ -132,3 +132,32 @@ shut_now front body place old mid new ready written same durable =
       file = subst (ClosesAfter (front ++ OPEN ∷ body)) (sym there) (opened_file front body ready.rest);
       durable = durable;
     }
+
+-- ---- a gate on an empty disk
+
+pub laid_now : (old mid new : View) → mid.seen ≡ overlay 0 (CLOSED ∷ []) old.seen → new.seen ≡ mid.seen → IsDurable new → IsShut [] 0 new
+laid_now old mid new written same durable = record {
+  place = refl;
+  file = record { gate = CLOSED; rest = drop 1 old.seen; parts = same ∙ written; closed = not_open };
+  durable = durable;
+}
+
+pub write_first : {T : Type 0} (result : Result T DiskFault) (old new : View) → IsDurable old → old.seen ≡ [] → IsTimed old → Writes 0 (CLOSED ∷ []) result old new → LeavesOnly old new (λ file. length file ≤ 1)
+write_first result old new durable empty timed writes =
+    let none : length old.seen ≡ 0 = ap length empty in
+    wrote 0 (CLOSED ∷ []) result old new (λ file. length file ≤ 1) writes timed durable (omega (arith, none))
+    (λ image torn. short (length old.seen) (length image) none torn.no_longer)
+  where
+    short : (n m : ℕ) → n ≡ 0 → m ≤ max n 1 → m ≤ 1
+    short n m none le = omega (arith, none, le)
+
+-- ---- a body behind it
+
+pub laid_first : (body : List ℕ) (old mid : View) → LeavesOnly old mid (λ file. length file ≤ 1) → LeavesOnly old mid (IsLaid body)
+laid_first body old mid run = weaker old mid (λ file. length file ≤ 1) (IsLaid body) run (λ file is. inl is)
+
+pub laid_staged : (body : List ℕ) (old mid new : View) → LeavesOnly old mid (λ file. length file ≤ 1) → LeavesOnly mid new (ClosesAfter []) → LeavesOnly old new (IsLaid body)
+laid_staged body old mid new first second = joined old mid new (λ file. length file ≤ 1) (ClosesAfter []) (IsLaid body) first second (λ file is. inl is) (λ file is. inr (inl is))
+
+pub laid_opened : (body : List ℕ) (old mid new : View) → LeavesOnly old mid (IsLaid body) → LeavesOnly mid new (IsClosedOrOpened [] body) → LeavesOnly old new (IsLaid body)
+laid_opened body old mid new first second = joined old mid new (IsLaid body) (IsClosedOrOpened [] body) (IsLaid body) first second (λ file is. is) (λ file is. inr is)

@@ -1,5 +1,5 @@
 -- A gate on a disk: what stands before it, whether it is closed, and what stands behind it.
-use Rattle.std.specs.Prelude.{◌≡◌, ◌≢◌, ℕ, ◌⊎◌, List, ◌∷◌, ◌++◌, length}
+use Rattle.std.specs.Prelude.{◌≡◌, ◌≢◌, ◌≤◌, ℕ, ◌⊎◌, List, [], ◌∷◌, ◌++◌, length}
 use Rattle.linda_disk.specs.View.{View, IsDurable}
 use Rattle.linda_journal.specs.declared.kinds.TheConstants.{OPEN, CLOSED}
 
@@ -29,3 +29,8 @@ pub record IsReady (front : List ℕ) (gate : ℕ) (body : List ℕ) (v : View) 
 -- The gate is closed still, or it is open and the body stands behind it, with a closed gate at its end.
 abbrev pub IsClosedOrOpened : List ℕ → List ℕ → List ℕ → Type 0
 IsClosedOrOpened front body file = ClosesAfter front file ⊎ ClosesAfter (front ++ OPEN ∷ body) file
+
+-- Of a file that begins with a gate and this body behind it: no more than the gate is there, or it is closed still, or it
+-- is open and the body stands behind it.
+abbrev pub IsLaid : List ℕ → List ℕ → Type 0
+IsLaid body file = (length file ≤ 1) ⊎ IsClosedOrOpened [] body file

@@ -1,14 +1,9 @@
 -- What a bank begins with.
-use Rattle.std.specs.Prelude.{◌≡◌, ℕ, ◌<◌, ◌≤◌, ◌^◌, List, ◌∷◌, length}
-use Rattle.linda_journal.specs.declared.kinds.TheConstants.{OPEN}
+use Rattle.std.specs.Prelude.{◌≡◌, ℕ, ◌<◌, ◌≤◌, ◌^◌, List, length}
 use Rattle.linda_journal.specs.declared.limits.TheConstants.{MIN_BYTES}
 use Rattle.linda_journal.specs.declared.heading.Heading.{Heading}
 use Rattle.linda_journal.specs.declared.heading.Heading.TheVariants.{NoBank, Foreign, Bank}
-use Rattle.linda_journal.specs.Bank.{headed}
-
--- As many bytes as every bank has, the first of which is an open gate.
-abbrev pub IsCandidate : List ℕ → Type 0
-IsCandidate file = (MIN_BYTES ≤ length file) × ((rest : List ℕ) × (file ≡ OPEN ∷ rest))
+use Rattle.linda_journal.specs.Bank.{IsCandidate, headed}
 
 -- It is no candidate; or one, but with other letters or no generation; or one with this generation.
 abbrev pub IsHeading : List ℕ → Heading → Type 0

@@ -5,8 +5,8 @@ use Rattle.linda_journal.specs.declared.limits.TheConstants.{MIN_BYTES}
 use Rattle.linda_journal.specs.declared.fault.BankFault.{BankFault}
 use Rattle.linda_journal.specs.declared.fault.BankFault.TheVariants as faults
 use Rattle.linda_journal.specs.Journal.{IsDamaged}
-use Rattle.linda_journal.specs.Bank.{head}
-use Rattle.linda_journal.specs.Heading.{IsCandidate, IsHeading}
+use Rattle.linda_journal.specs.Bank.{IsCandidate, head}
+use Rattle.linda_journal.specs.Heading.{IsHeading}
 
 -- It begins as a bank, but its body does not fit, or has no gate after it.
 pub record IsCutShort (file : List ℕ) : Type 0 where

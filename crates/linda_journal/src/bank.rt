@@ -1,17 +1,20 @@
 //! A bank: what a server keeps on one disk, a body and then a journal.
 
-ghost use Rattle.std.specs.Prelude.{◌≡◌, ◌≢◌, ◌<◌, ◌≤◌, ◌+◌, ◌++◌, ◌∷◌, [], ◌↔◌, ℕ, List, length, IfOk, IfErr, OnOk, IsErrOf, true, false};
+ghost use Rattle.std.specs.Prelude.{◌≡◌, ◌≢◌, ◌<◌, ◌≤◌, ◌+◌, ◌^◌, ◌++◌, ◌∷◌, [], ◌↔◌, ℕ, List, length, IfOk, IfErr, OnOk, IsErrOf, true, false};
 ghost use Rattle.linda_state.specs.declared.deed.Deed as deed;
+ghost use Rattle.linda_disk.specs.View.{IsDurable};
 ghost use Rattle.linda_disk.specs.Run.{LeavesOnly};
 ghost use Rattle.linda_journal.specs.declared.limits.TheConstants.{MAX_DEEDS};
 ghost use Rattle.linda_journal.specs.Records.{spell_record};
 ghost use Rattle.linda_journal.specs.declared.limits.TheConstants.{MIN_BYTES};
 ghost use Rattle.linda_journal.specs.Journal.{AreAt, deeds_of};
 ghost use Rattle.linda_journal.specs.Image.{IsFaultOfBank};
-ghost use Rattle.linda_journal.specs.Bank.{IsSettled, IsOldOrMore};
+ghost use Rattle.linda_journal.specs.Bank.{IsSettled, IsOldOrMore, IsNoneOrNew};
 
 use crate::fault::BankFault;
 use crate::gate::{open_gate, stage};
+use crate::limits::MIN_BYTES;
+use crate::making::{inscribe, spell_front};
 use crate::opening::load;
 use crate::record::{Record, spell_body};
 use linda_disk::Disk;
@@ -51,6 +54,62 @@ impl<D: Disk> Bank<D> {
         ensures { result ≡ self.now.records }
     {
         self.records
+    }
+
+    /// Makes a bank of this generation with this body, whose journal has no record, on an empty disk: a closed gate
+    /// and a sync, all that stands behind it and a sync, the gate opened and a sync.
+    ///
+    /// # Errors
+    ///
+    /// `Full` and `Memory` before the disk is touched; `Disk` where the device failed, and `Memory` where the
+    /// disk found none. Each hands the disk back.
+    pub fn create(
+        alloc: Global,
+        disk: D,
+        generation: u64,
+        body: &[u8],
+        limit: usize,
+    ) -> Result<Bank<D>, (BankFault, D)>
+        requires low { 1 ≤ generation }
+        requires short { length body.now < 2 ^ 32 }
+        ensures done { D.honest disk
+            → IfOk result (λ b. IsSettled generation body.now [] b.end (D.view b.disk)) }
+        ensures new { IfOk result (λ b. (b.generation ≡ generation) × (b.limit ≡ limit)
+            × (b.records ≡ 0) × (b.is_spent ≡ false)) }
+        // At no moment a crash leaves another bank than the whole one.
+        ensures any_moment { D.honest disk → IsDurable (D.view disk) → (D.view disk).seen ≡ []
+            → IfOk result (λ b. LeavesOnly (D.view disk) (D.view b.disk)
+            (IsNoneOrNew generation body.now))
+            × IfErr result (λ e. LeavesOnly (D.view disk) (D.view e.1)
+            (IsNoneOrNew generation body.now)) }
+        // It is Full exactly where the bank is longer than its limit, and then the disk is as it was.
+        ensures room { IfOk result (λ b. b.end < limit) }
+        ensures full { IfErr result (λ e.
+            (e.0 ≡ BankFault.Full ↔ limit < MIN_BYTES + 1 + length body.now)
+            × (e.0 ≡ BankFault.Full → e.1 ≡ disk)) }
+        ensures honest { IfOk result (λ b. D.honest disk ↔ D.honest b.disk)
+            × IfErr result (λ e. D.honest disk ↔ D.honest e.1) }
+        ensures cause { IfErr result (λ e. e.0 ≡ BankFault.Disk
+            → D.failures disk < D.failures e.1) }
+    {
+        if limit < MIN_BYTES + 1 + body.len() {
+            return Err((BankFault::Full, disk));
+        }
+        let Ok(bytes) = spell_front(alloc, generation, body) else {
+            return Err((BankFault::Memory, disk));
+        };
+        let mut disk = disk;
+        match inscribe(&mut disk, &bytes) {
+            Err(fault) => Err((fault, disk)),
+            Ok(()) => Ok(Bank {
+                disk,
+                generation,
+                limit,
+                end: MIN_BYTES + body.len(),
+                records: 0,
+                is_spent: false,
+            }),
+        }
     }
 
     /// Opens the bank that the disk holds, and gives its body and the records of its journal. The disk is synced

@@ -10,6 +10,7 @@ mod image;
 mod journal;
 mod kinds;
 mod limits;
+mod making;
 mod opening;
 mod payload;
 mod record;

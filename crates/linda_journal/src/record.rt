@@ -65,7 +65,7 @@ pub(crate) fn spell_body(alloc: Global, deeds: &[Deed]) -> Result<Vec<u8>, Alloc
     Ok(out)
 }
 
-fn as_length(len: usize) -> u32
+pub(crate) fn as_length(len: usize) -> u32
     requires { len < 2 ^ 32 }
     ensures { result ≡ len }
 {
