@@ -24,7 +24,7 @@ use std::alloc::Global;
 /// A bank on a disk, as it was created or opened.
 #[derive(Drop)]
 pub struct Bank<D: Disk> {
-    disk: D,
+    pub(crate) disk: D,
     generation: u64,
     limit: usize,
     end: usize,

@@ -21,3 +21,6 @@ pub use heading::{Heading, read_heading};
 pub use journal::{Journal, JournalFault, read_journal};
 pub use limits::MAX_DEEDS;
 pub use record::Record;
+
+#[cfg(test)]
+mod tests;
