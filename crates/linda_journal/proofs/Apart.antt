@@ -1,5 +1,5 @@
 -- Values none of whose spellings begins another's: bytes are read as a list of them in one way.
-use Rattle.std.proofs.Common.{◌≡◌, ℕ, ◌+◌, ◌<◌, List, [], ◌∷◌, ◌++◌, length, Ok, refl, sym, ap, ◌∙◌, append_assoc, length-append, arith}
+use Rattle.std.proofs.Common.{◌≡◌, ℕ, ◌<◌, List, [], ◌∷◌, ◌++◌, length, refl, sym, ap, ◌∙◌, append_assoc, length-append, arith}
 use Rattle.std.specs.List.{flat_map, AllByRecursion}
 use Rattle.linda_codec.specs.Formats.{Format}
 use Rattle.linda_codec.specs.Lawful.{IsFormat}

@@ -1,6 +1,5 @@
 -- Records: what stands behind an open gate, and one reading of a journal.
-use Rattle.std.proofs.Common.{◌≡◌, ◌≢◌, ℕ, ◌+◌, ◌^◌, ◌<◌, ◌≤◌, List, [], ◌∷◌, ◌++◌, All, length, take, drop, Ok, Err, refl, sym, ap, subst, ◌∙◌, append_assoc, length-append, arith}
-use Rattle.std.specs.List.{flat_map}
+use Rattle.std.proofs.Common.{◌≡◌, ◌≢◌, ℕ, ◌+◌, ◌<◌, ◌≤◌, List, [], ◌∷◌, ◌++◌, All, length, take, drop, Ok, Err, refl, sym, ap, ◌∙◌, append_assoc, length-append, arith}
 use Rattle.std.proofs.lemmas.List.Elements.{recursion_from_All}
 use Rattle.std.proofs.lemmas.List.{take_at, drop_at, take-append-drop, length-take, length-drop}
 use Rattle.linda_codec.specs.Formats.{short_number}
@@ -10,10 +9,9 @@ use Rattle.linda_codec.proofs.FormatLaws.{short_number_is}
 use Rattle.linda_codec.proofs.Takes.{ok_is}
 use Rattle.linda_state.specs.declared.deed.Deed.{Deed}
 use Rattle.linda_journal.specs.declared.kinds.TheConstants.{OPEN}
-use Rattle.linda_journal.specs.declared.limits.TheConstants.{MAX_DEEDS}
 use Rattle.linda_journal.specs.Records.{spell_deed, FitsDeed, payload, IsRecord, record_body, spell_record, spell_records}
 use Rattle.linda_journal.specs.Journal.{IsJournal, IsNoRecord, IsDamaged}
-use Rattle.linda_journal.proofs.Apart.{IsApart, format_apart, one_list, Ends, one_reading}
+use Rattle.linda_journal.proofs.Apart.{IsApart, one_list, Ends, one_reading}
 use Rattle.linda_journal.proofs.SizeLaws.{deed_some, payload_short}
 use Rattle.linda_journal.proofs.PayloadLaws.{deeds_apart, IsNoPayload}
 

@@ -1,4 +1,4 @@
-use Rattle.std.proofs.Common.{◌≡◌, ◌-◌, ◌+◌, length, drop, subst, sym}
+use Rattle.std.proofs.Common.{◌-◌, length, drop, subst, sym}
 use Rattle.linda_journal.specs.Records.{spell_records}
 use Rattle.linda_journal.specs.Journal.{deeds_of}
 use Rattle.linda_journal.proofs.JournalLaws.{IsReadUpTo, one_record_more, offset_is, damaged_here, ends_here}

@@ -1,4 +1,4 @@
-use Rattle.std.proofs.Common.{ℕ, length, drop}
+use Rattle.std.proofs.Common.{length, drop}
 use Rattle.linda_journal.proofs.JournalLaws.{IsReadUpTo}
 use Rattle.linda_journal.proofs.journal.collect.Given as goal
 

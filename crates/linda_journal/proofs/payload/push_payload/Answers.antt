@@ -1,7 +1,5 @@
-use Rattle.std.proofs.Common.{◌≡◌, [], ◌∷◌, ◌++◌, List, take, get_or, sym, ap, ◌∙◌, append_assoc}
-use Rattle.std.proofs.lemmas.List.{take_more, flat_map_more}
-use Rattle.linda_state.specs.declared.deed.Deed.{Deed}
-use Rattle.linda_journal.specs.Records.{spell_deed, FitsDeed, payload}
+use Rattle.std.proofs.Common.{◌∙◌}
+use Rattle.linda_journal.specs.Records.{FitsDeed}
 use Rattle.linda_journal.proofs.PayloadLaws.{all_up_to, payload_up_to}
 use Rattle.linda_journal.proofs.payload.push_payload.Goals as goal
 

@@ -1,4 +1,4 @@
-use Rattle.std.proofs.Common.{ℕ, ◌-◌, length}
+use Rattle.std.proofs.Common.{◌-◌, length}
 use Rattle.linda_journal.specs.declared.limits.TheConstants.{MAX_DEEDS}
 use Rattle.linda_journal.proofs.PayloadLaws.{IsReadTo}
 use Rattle.linda_journal.proofs.payload.read_payload.Given as goal

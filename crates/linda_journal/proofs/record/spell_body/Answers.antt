@@ -1,4 +1,4 @@
-use Rattle.std.proofs.Common.{length, arith}
+use Rattle.std.proofs.Common.{arith}
 use Rattle.linda_journal.proofs.SizeLaws.{length_fits}
 use Rattle.linda_journal.proofs.record.spell_body.Goals as goal
 
