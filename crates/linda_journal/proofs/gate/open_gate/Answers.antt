@@ -1,0 +1,29 @@
+use Rattle.linda_journal.specs.Gate.{IsClosedOrOpened}
+use Rattle.linda_journal.proofs.GateLaws.{write_open, then_sync, shut_now}
+use Rattle.linda_journal.proofs.gate.open_gate.Goals as goal
+
+pub returns-in_err-write_at-clause-any_moment : goal.returns-in_err-write_at-clause-any_moment
+returns-in_err-write_at-clause-any_moment g c front body honest ready =
+    write_open front c.args.gate body _ (g.D.Disk.view c.args.disk.now) (g.D.Disk.view c.write_at.new.self) ready (g.met.D.Disk.timed c.args.disk.now honest) (c.write_at.ensures.writes honest)
+
+pub returns-in_err-sync-clause-any_moment : goal.returns-in_err-sync-clause-any_moment
+returns-in_err-sync-clause-any_moment g c front body honest ready =
+    let old = g.D.Disk.view c.args.disk.now in
+    let mid = g.D.Disk.view c.write_at.new.self in
+    let run = write_open front c.args.gate body _ old mid ready (g.met.D.Disk.timed c.args.disk.now honest) (c.write_at.ensures.writes honest) in
+    let still = c.write_at.ensures.honest.0 honest in
+    then_sync _ old mid (g.D.Disk.view c.sync.new.self) (IsClosedOrOpened front body) run (g.met.D.Disk.timed c.write_at.new.self still) (c.sync.ensures.syncs still)
+
+pub returns-clause-any_moment : goal.returns-clause-any_moment
+returns-clause-any_moment g c front body honest ready =
+    let old = g.D.Disk.view c.args.disk.now in
+    let mid = g.D.Disk.view c.write_at.new.self in
+    let run = write_open front c.args.gate body _ old mid ready (g.met.D.Disk.timed c.args.disk.now honest) (c.write_at.ensures.writes honest) in
+    let still = c.write_at.ensures.honest.0 honest in
+    then_sync _ old mid (g.D.Disk.view c.sync.new.self) (IsClosedOrOpened front body) run (g.met.D.Disk.timed c.write_at.new.self still) (c.sync.ensures.syncs still)
+
+pub returns-clause-opened : goal.returns-clause-opened
+returns-clause-opened g c front body honest ready =
+    let writes = c.in_ok-write_at.ensures.writes honest in
+    let syncs = c.in_ok-sync.ensures.syncs (c.write_at.ensures.honest.0 honest) in
+    shut_now front body c.args.gate (g.D.Disk.view c.args.disk.now) (g.D.Disk.view c.write_at.new.self) (g.D.Disk.view c.sync.new.self) ready writes.seen syncs.seen syncs.durable

@@ -1,0 +1,29 @@
+use Rattle.linda_journal.specs.Gate.{ClosesAfter}
+use Rattle.linda_journal.proofs.GateLaws.{write_behind, then_sync, ready_now}
+use Rattle.linda_journal.proofs.gate.stage.Goals as goal
+
+pub returns-in_err-write_at-clause-any_moment : goal.returns-in_err-write_at-clause-any_moment
+returns-in_err-write_at-clause-any_moment g c front honest shut =
+    write_behind front c.args.gate c.args.bytes.now _ (g.D.Disk.view c.args.disk.now) (g.D.Disk.view c.write_at.new.self) shut (g.met.D.Disk.timed c.args.disk.now honest) (c.write_at.ensures.writes honest)
+
+pub returns-in_err-sync-clause-any_moment : goal.returns-in_err-sync-clause-any_moment
+returns-in_err-sync-clause-any_moment g c front honest shut =
+    let old = g.D.Disk.view c.args.disk.now in
+    let mid = g.D.Disk.view c.write_at.new.self in
+    let run = write_behind front c.args.gate c.args.bytes.now _ old mid shut (g.met.D.Disk.timed c.args.disk.now honest) (c.write_at.ensures.writes honest) in
+    let still = c.write_at.ensures.honest.0 honest in
+    then_sync _ old mid (g.D.Disk.view c.sync.new.self) (ClosesAfter front) run (g.met.D.Disk.timed c.write_at.new.self still) (c.sync.ensures.syncs still)
+
+pub returns-clause-any_moment : goal.returns-clause-any_moment
+returns-clause-any_moment g c front honest shut =
+    let old = g.D.Disk.view c.args.disk.now in
+    let mid = g.D.Disk.view c.write_at.new.self in
+    let run = write_behind front c.args.gate c.args.bytes.now _ old mid shut (g.met.D.Disk.timed c.args.disk.now honest) (c.write_at.ensures.writes honest) in
+    let still = c.write_at.ensures.honest.0 honest in
+    then_sync _ old mid (g.D.Disk.view c.sync.new.self) (ClosesAfter front) run (g.met.D.Disk.timed c.write_at.new.self still) (c.sync.ensures.syncs still)
+
+pub returns-clause-ready : goal.returns-clause-ready
+returns-clause-ready g c front body is honest shut =
+    let writes = c.in_ok-write_at.ensures.writes honest in
+    let syncs = c.in_ok-sync.ensures.syncs (c.write_at.ensures.honest.0 honest) in
+    ready_now front body c.args.gate c.args.bytes.now (g.D.Disk.view c.args.disk.now) (g.D.Disk.view c.write_at.new.self) (g.D.Disk.view c.sync.new.self) shut is writes.seen syncs.seen syncs.durable

@@ -1,0 +1,9 @@
+-- What a bank tells of a disk's faults.
+use Rattle.linda_disk.specs.declared.fault.DiskFault.{DiskFault}
+use Rattle.linda_disk.specs.declared.fault.DiskFault.TheVariants as device
+use Rattle.linda_journal.specs.declared.fault.BankFault.{BankFault}
+use Rattle.linda_journal.specs.declared.fault.BankFault.TheVariants.{Disk, Memory}
+
+abbrev pub fault_of_disk : DiskFault → BankFault
+fault_of_disk device.Device = Disk
+fault_of_disk device.Memory = Memory

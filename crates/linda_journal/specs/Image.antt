@@ -1,0 +1,38 @@
+-- What the bytes of a disk say as a bank: what it holds, or why they are none.
+use Rattle.std.specs.Prelude.{◌≡◌, ℕ, ◌+◌, ◌<◌, ◌≤◌, ◌^◌, ◌⊎◌, List, ◌++◌, length}
+use Rattle.linda_journal.specs.declared.heading.Heading.TheVariants as headings
+use Rattle.linda_journal.specs.declared.limits.TheConstants.{MIN_BYTES}
+use Rattle.linda_journal.specs.declared.fault.BankFault.{BankFault}
+use Rattle.linda_journal.specs.declared.fault.BankFault.TheVariants as faults
+use Rattle.linda_journal.specs.Journal.{IsDamaged}
+use Rattle.linda_journal.specs.Bank.{IsCandidate, head}
+use Rattle.linda_journal.specs.Heading.{IsHeading}
+
+-- It begins as a bank, but its body does not fit, or has no gate after it.
+pub record IsCutShort (file : List ℕ) : Type 0 where
+  pub generation : ℕ
+  pub heading : IsHeading file (headings.Bank generation)
+  pub never : (other : ℕ) (body rest : List ℕ) → length body < 2 ^ 32 → 0 < length rest → file ≡ head other body ++ rest → ⊥
+
+-- Its journal is damaged at this offset.
+pub record IsBroken (file : List ℕ) (offset : ℕ) : Type 0 where
+  pub generation : ℕ
+  pub body : List ℕ
+  pub rest : List ℕ
+  pub place : ℕ
+  pub low : 1 ≤ generation
+  pub fits : generation < 2 ^ 64
+  pub short : length body < 2 ^ 32
+  pub parts : file ≡ head generation body ++ rest
+  pub damaged : IsDamaged rest place
+  pub offset_is : offset ≡ length (head generation body) + place
+
+-- What a fault tells of the bytes.
+abbrev pub IsFaultOfBank : List ℕ → BankFault → Type 0
+IsFaultOfBank file faults.NoBank = IsCandidate file → ⊥
+IsFaultOfBank file (faults.Damaged offset) =
+    (IsHeading file headings.Foreign × (offset ≡ 1)) ⊎ ((IsCutShort file × (offset ≡ MIN_BYTES)) ⊎ IsBroken file offset)
+IsFaultOfBank file faults.Memory = Unit {0}
+IsFaultOfBank file faults.Spent = ⊥
+IsFaultOfBank file faults.Full = ⊥
+IsFaultOfBank file faults.Disk = ⊥

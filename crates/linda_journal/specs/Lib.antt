@@ -1,0 +1,7 @@
+pub mod Records
+pub mod Journal
+pub mod Gate
+pub mod Bank
+pub mod Faults
+pub mod Heading
+pub mod Image

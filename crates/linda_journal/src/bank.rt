@@ -1,0 +1,227 @@
+//! A bank: what a server keeps on one disk, a body and then a journal.
+
+ghost use Rattle.std.specs.Prelude.{◌≡◌, ◌≢◌, ◌<◌, ◌≤◌, ◌+◌, ◌^◌, ◌++◌, ◌∷◌, [], ◌↔◌, ℕ, List, length, IfOk, IfErr, OnOk, IsErrOf, true, false};
+ghost use Rattle.linda_state.specs.declared.deed.Deed as deed;
+ghost use Rattle.linda_disk.specs.View.{IsDurable};
+ghost use Rattle.linda_disk.specs.Run.{LeavesOnly};
+ghost use Rattle.linda_journal.specs.declared.limits.TheConstants.{MAX_DEEDS};
+ghost use Rattle.linda_journal.specs.Records.{spell_record};
+ghost use Rattle.linda_journal.specs.declared.limits.TheConstants.{MIN_BYTES};
+ghost use Rattle.linda_journal.specs.Journal.{AreAt, deeds_of};
+ghost use Rattle.linda_journal.specs.Image.{IsFaultOfBank};
+ghost use Rattle.linda_journal.specs.Bank.{IsSettled, IsOldOrMore, IsNoneOrNew};
+
+use crate::fault::BankFault;
+use crate::gate::{open_gate, stage};
+use crate::limits::MIN_BYTES;
+use crate::making::{inscribe, spell_front};
+use crate::opening::load;
+use crate::record::{Record, spell_body};
+use linda_disk::Disk;
+use linda_state::Deed;
+use std::alloc::Global;
+
+/// A bank on a disk, as it was created or opened.
+#[derive(Drop)]
+pub struct Bank<D: Disk> {
+    pub(crate) disk: D,
+    generation: u64,
+    limit: usize,
+    end: usize,
+    records: usize,
+    is_spent: bool,
+    ghost inside: { is_spent ≡ false → D.honest disk → end < length (D.view disk).seen },
+    ghost counted: { records ≤ end },
+}
+
+impl<D: Disk> Bank<D> {
+    /// The bank's generation.
+    pub fn generation(&self) -> u64
+        ensures { result ≡ self.now.generation }
+    {
+        self.generation
+    }
+
+    /// The offset of the closed gate at which the journal ends.
+    pub fn end(&self) -> usize
+        ensures { result ≡ self.now.end }
+    {
+        self.end
+    }
+
+    /// How many records the journal has.
+    pub fn records(&self) -> usize
+        ensures { result ≡ self.now.records }
+    {
+        self.records
+    }
+
+    /// Makes a bank of this generation with this body, whose journal has no record, on an empty disk: a closed gate
+    /// and a sync, all that stands behind it and a sync, the gate opened and a sync.
+    ///
+    /// # Errors
+    ///
+    /// `Full` and `Memory` before the disk is touched; `Disk` where the device failed, and `Memory` where the
+    /// disk found none. Each hands the disk back.
+    pub fn create(
+        alloc: Global,
+        disk: D,
+        generation: u64,
+        body: &[u8],
+        limit: usize,
+    ) -> Result<Bank<D>, (BankFault, D)>
+        requires low { 1 ≤ generation }
+        requires short { length body.now < 2 ^ 32 }
+        ensures done { D.honest disk
+            → IfOk result (λ b. IsSettled generation body.now [] b.end (D.view b.disk)) }
+        ensures new { IfOk result (λ b. (b.generation ≡ generation) × (b.limit ≡ limit)
+            × (b.records ≡ 0) × (b.is_spent ≡ false)) }
+        // At no moment a crash leaves another bank than the whole one.
+        ensures any_moment { D.honest disk → IsDurable (D.view disk) → (D.view disk).seen ≡ []
+            → IfOk result (λ b. LeavesOnly (D.view disk) (D.view b.disk)
+            (IsNoneOrNew generation body.now))
+            × IfErr result (λ e. LeavesOnly (D.view disk) (D.view e.1)
+            (IsNoneOrNew generation body.now)) }
+        // It is Full exactly where the bank is longer than its limit, and then the disk is as it was.
+        ensures room { IfOk result (λ b. b.end < limit) }
+        ensures full { IfErr result (λ e.
+            (e.0 ≡ BankFault.Full ↔ limit < MIN_BYTES + 1 + length body.now)
+            × (e.0 ≡ BankFault.Full → e.1 ≡ disk)) }
+        ensures honest { IfOk result (λ b. D.honest disk ↔ D.honest b.disk)
+            × IfErr result (λ e. D.honest disk ↔ D.honest e.1) }
+        ensures cause { IfErr result (λ e. e.0 ≡ BankFault.Disk
+            → D.failures disk < D.failures e.1) }
+    {
+        if limit < MIN_BYTES + 1 + body.len() {
+            return Err((BankFault::Full, disk));
+        }
+        let Ok(bytes) = spell_front(alloc, generation, body) else {
+            return Err((BankFault::Memory, disk));
+        };
+        let mut disk = disk;
+        match inscribe(&mut disk, &bytes) {
+            Err(fault) => Err((fault, disk)),
+            Ok(()) => Ok(Bank {
+                disk,
+                generation,
+                limit,
+                end: MIN_BYTES + body.len(),
+                records: 0,
+                is_spent: false,
+            }),
+        }
+    }
+
+    /// Opens the bank that the disk holds, and gives its body and the records of its journal. The disk is synced
+    /// first; nothing is written.
+    ///
+    /// # Errors
+    ///
+    /// `NoBank`, `Damaged`, `Disk` where the device failed, `Memory`; each hands the disk back.
+    pub fn open(
+        alloc: Global,
+        disk: D,
+        limit: usize,
+    ) -> Result<(Bank<D>, Vec<u8>, Vec<Record>), (BankFault, D)>
+        // What is opened is what the disk read at entry, all of it synced.
+        ensures found { D.honest disk → IfOk result (λ o. IsSettled o.0.generation o.1.items
+            (deeds_of o.2.items) o.0.end (D.view o.0.disk)) }
+        ensures seen { D.honest disk
+            → IfOk result (λ o. (D.view o.0.disk).seen ≡ (D.view disk).seen) }
+        ensures gates { IfOk result (λ o. AreAt (MIN_BYTES + length o.1.items) o.2.items) }
+        ensures new { IfOk result (λ o. (o.0.records ≡ length o.2.items) × (o.0.limit ≡ limit)
+            × (o.0.is_spent ≡ false)) }
+        // A fault is one of those bytes.
+        ensures fault { D.honest disk → IfErr result (λ e. e.0 ≢ BankFault.Disk
+            → IsFaultOfBank (D.view disk).seen e.0) }
+        // At no moment a crash leaves what it could not leave at entry.
+        ensures any_moment { D.honest disk
+            → IfOk result (λ o. LeavesOnly (D.view disk) (D.view o.0.disk) (D.view disk).may_leave)
+            × IfErr result (λ e. LeavesOnly (D.view disk) (D.view e.1) (D.view disk).may_leave) }
+        ensures honest { IfOk result (λ o. D.honest disk ↔ D.honest o.0.disk)
+            × IfErr result (λ e. D.honest disk ↔ D.honest e.1) }
+        ensures cause { IfErr result (λ e. e.0 ≡ BankFault.Disk
+            → D.failures disk < D.failures e.1) }
+    {
+        let mut disk = disk;
+        match load(alloc, &mut disk) {
+            Err(fault) => Err((fault, disk)),
+            Ok(contents) => {
+                let bank = Bank {
+                    disk,
+                    generation: contents.generation,
+                    limit,
+                    end: contents.journal.end,
+                    records: contents.journal.records.len(),
+                    is_spent: false,
+                };
+                Ok((bank, contents.body, contents.journal.records))
+            }
+        }
+    }
+
+    /// Adds one record of these deeds to the journal: a write of all of it behind the closed gate at the end,
+    /// a sync, a write that opens the gate, a sync.
+    ///
+    /// # Errors
+    ///
+    /// `Spent` before all others. `Memory` and `Full`, and then all is as before. `Disk` where the device
+    /// failed, and `Memory` where the disk found none: the record is there or it is not, and the bank is
+    /// spent.
+    pub fn append(&mut self, alloc: Global, deeds: &[Deed]) -> Result<(), BankFault>
+        requires some { 1 ≤ length deeds.now }
+        requires few { length deeds.now ≤ MAX_DEEDS }
+        // At no moment a crash leaves anything but the old records, or these and the new one;
+        ensures any_moment { (body : List ℕ) (records : List (List deed.Deed))
+            → D.honest self.old.disk
+            → IsSettled self.old.generation body records self.old.end (D.view self.old.disk)
+            → LeavesOnly (D.view self.old.disk) (D.view self.new.disk)
+            (IsOldOrMore self.old.generation body records deeds.now) }
+        // at Ok it leaves the new one.
+        ensures done { (body : List ℕ) (records : List (List deed.Deed))
+            → D.honest self.old.disk
+            → IsSettled self.old.generation body records self.old.end (D.view self.old.disk)
+            → OnOk result (IsSettled self.new.generation body (records ++ deeds.now ∷ [])
+            self.new.end (D.view self.new.disk)) }
+        ensures place { OnOk result (self.new.end ≡ self.old.end + length (spell_record deeds.now)) }
+        ensures count { OnOk result (self.new.records ≡ self.old.records + 1) }
+        ensures ready { OnOk result (self.new.is_spent ≡ false) }
+        // The closed gate behind the new record is within the limit, or it is Full and nothing changed.
+        ensures room { OnOk result (self.new.end < self.new.limit) }
+        ensures full { IsErrOf result BankFault.Full → (self.new ≡ self.old)
+            × (self.old.limit ≤ self.old.end + length (spell_record deeds.now)) }
+        ensures spent { IsErrOf result BankFault.Spent ↔ (self.old.is_spent ≡ true) }
+        ensures unspent { self.old.is_spent ≡ true → self.new ≡ self.old }
+        ensures cause { IsErrOf result BankFault.Disk
+            → D.failures self.old.disk < D.failures self.new.disk }
+        ensures off { IsErrOf result BankFault.Disk → self.new.is_spent ≡ true }
+        ensures known { (IsErrOf result BankFault.NoBank → ⊥)
+            × ((offset : ℕ) → IsErrOf result (BankFault.Damaged offset) → ⊥) }
+        ensures same { (self.new.generation ≡ self.old.generation)
+            × (self.new.limit ≡ self.old.limit) }
+        ensures honest { D.honest self.old.disk ↔ D.honest self.new.disk }
+    {
+        if self.is_spent {
+            return Err(BankFault::Spent);
+        }
+        let bytes = spell_body(alloc, deeds)?;
+        if !has_room(self.limit, self.end, bytes.len()) {
+            return Err(BankFault::Full);
+        }
+        self.is_spent = true;
+        stage(&mut self.disk, self.end, &bytes)?;
+        open_gate(&mut self.disk, self.end)?;
+        self.end += bytes.len();
+        self.records += 1;
+        self.is_spent = false;
+        Ok(())
+    }
+}
+
+// Whether a gate and so many bytes behind it, from this offset on, keep within the limit.
+fn has_room(limit: usize, at: usize, len: usize) -> bool
+    ensures yes { result ≡ true → at + 1 + len ≤ limit }
+    ensures no { result ≡ false → limit < at + 1 + len }
+{
+    at < limit && len < limit - at
+}

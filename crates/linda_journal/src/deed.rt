@@ -1,0 +1,102 @@
+//! A deed as bytes: a kind byte, the client, the number, and a tuple or its id.
+
+ghost use Rattle.std.specs.Prelude.{◌≡◌, ◌∷◌, ◌++◌, ◌<◌, ◌^◌, OnOk};
+ghost use Rattle.linda_codec.specs.Steps.{Gives, GivesAlways};
+ghost use Rattle.linda_codec.specs.Formats.{made_at, short_number, number};
+ghost use Rattle.linda_state.specs.declared.deed.Deed.TheVariants.{Out, Take, Pass};
+ghost use Rattle.linda_journal.specs.Records as format;
+
+use crate::kinds::{OUT, PASS, TAKE};
+use linda_codec::{ReadFault, put_tuple, read_tuple, read_u32, read_u64};
+use linda_state::Deed;
+use std::alloc::{AllocError, Global};
+
+/// Reads a deed, and gives the bytes after it.
+///
+/// # Errors
+///
+/// The first fault from the left, told by the count of bytes left; `Memory` where a tuple finds none.
+pub(crate) fn read_deed(alloc: Global, bytes: &[u8]) -> Result<(Deed, &[u8]), ReadFault>
+    ensures { Gives (λ x. (x.0, x.1.now)) result (format.deed.read bytes.now) }
+{
+    match bytes {
+        [] => Err(ReadFault::Short),
+        [OUT, body @ ..] => out_from(alloc, body),
+        [TAKE, body @ ..] => take_from(body),
+        [PASS, body @ ..] => pass_from(body),
+        [_, ..] => Err(ReadFault::BadKind(bytes.len())),
+    }
+}
+
+fn out_from(alloc: Global, body: &[u8]) -> Result<(Deed, &[u8]), ReadFault>
+    ensures { Gives (λ x. (x.0, x.1.now)) result
+        (made_at (λ p. Out p.0 p.1.0 p.1.1) format.out body.now) }
+{
+    let (client, rest) = read_u32(body)?;
+    let (n, rest) = read_u64(rest)?;
+    let (tuple, rest) = read_tuple(alloc, rest)?;
+    Ok((Deed::Out { client, n, tuple }, rest))
+}
+
+fn take_from(body: &[u8]) -> Result<(Deed, &[u8]), ReadFault>
+    ensures { GivesAlways (λ x. (x.0, x.1.now)) result
+        (made_at (λ p. Take p.0 p.1.0 p.1.1) format.reference body.now) }
+{
+    let (client, rest) = read_u32(body)?;
+    let (n, rest) = read_u64(rest)?;
+    let (id, rest) = read_u64(rest)?;
+    Ok((Deed::Take { client, n, id }, rest))
+}
+
+fn pass_from(body: &[u8]) -> Result<(Deed, &[u8]), ReadFault>
+    ensures { GivesAlways (λ x. (x.0, x.1.now)) result
+        (made_at (λ p. Pass p.0 p.1.0 p.1.1) format.reference body.now) }
+{
+    let (client, rest) = read_u32(body)?;
+    let (n, rest) = read_u64(rest)?;
+    let (id, rest) = read_u64(rest)?;
+    Ok((Deed::Pass { client, n, id }, rest))
+}
+
+/// Appends the spelling of the deed. Where memory runs out, a part of it may stand behind the old bytes.
+pub(crate) fn push_deed(out: &mut Vec<u8>, deed: &Deed) -> Result<(), AllocError>
+    ensures ok { OnOk result (out.new.items ≡ out.old.items ++ format.deed.spell deed.now) }
+    // It had a spelling, as every deed has.
+    ensures fits { OnOk result (format.deed.Fits deed.now) }
+{
+    match deed {
+        Deed::Out { client, n, tuple } => {
+            push_head(out, OUT, *client, *n)?;
+            put_tuple(out, tuple)
+        }
+        Deed::Take { client, n, id } => push_reference(out, TAKE, *client, *n, *id),
+        Deed::Pass { client, n, id } => push_reference(out, PASS, *client, *n, *id),
+    }
+}
+
+// Appends a kind byte, the client, the number and the id of a tuple; likewise.
+fn push_reference(
+    out: &mut Vec<u8>,
+    kind: u8,
+    client: u32,
+    n: u64,
+    id: u64,
+) -> Result<(), AllocError>
+    ensures ok { OnOk result (out.new.items
+        ≡ out.old.items ++ kind ∷ format.reference.spell (client, (n, id))) }
+    ensures fits { format.reference.Fits (client, (n, id)) }
+{
+    push_head(out, kind, client, n)?;
+    out.extend_from_slice(&id.to_be_bytes())
+}
+
+// Appends a kind byte, the client and the number; likewise.
+fn push_head(out: &mut Vec<u8>, kind: u8, client: u32, n: u64) -> Result<(), AllocError>
+    ensures ok { OnOk result (out.new.items
+        ≡ out.old.items ++ kind ∷ (short_number.spell client ++ number.spell n)) }
+    ensures fits { (client < 2 ^ 32) × (n < 2 ^ 64) }
+{
+    out.push(kind)?;
+    out.extend_from_slice(&client.to_be_bytes())?;
+    out.extend_from_slice(&n.to_be_bytes())
+}

@@ -1,0 +1,57 @@
+//! What a bank begins with.
+
+ghost use Rattle.std.specs.Prelude.{◌≡◌, ◌∷◌, ◌++◌, ℕ, List, IfSome, IfNone};
+ghost use Rattle.linda_journal.specs.Bank.{magic};
+ghost use Rattle.linda_journal.specs.Heading.{IsHeading};
+
+use crate::journal::behind_open;
+use crate::limits::MIN_BYTES;
+use linda_codec::read_u64;
+
+/// What the bytes of a disk begin with.
+#[derive(Clone, Copy, Debug, PartialEq, Eq)]
+pub enum Heading {
+    /// No bank: fewer bytes than every bank has, or a first gate that is closed.
+    NoBank,
+    /// The first gate is open, and other letters follow it, or generation 0.
+    Foreign,
+    /// The first gate is open, and the letters and this generation follow it.
+    Bank(u64),
+}
+
+/// What the bytes begin with.
+pub fn read_heading(bytes: &[u8]) -> Heading
+    ensures { IsHeading bytes.now result }
+{
+    match behind_open(bytes) {
+        None => Heading::NoBank,
+        Some(rest) => {
+            if bytes.len() < MIN_BYTES {
+                return Heading::NoBank;
+            }
+            match behind_magic(rest) {
+                None => Heading::Foreign,
+                Some(rest) => match read_u64(rest) {
+                    Err(_) => Heading::Foreign,
+                    Ok((generation, _)) => {
+                        if generation == 0 {
+                            return Heading::Foreign;
+                        }
+                        Heading::Bank(generation)
+                    }
+                },
+            }
+        }
+    }
+}
+
+// What stands behind the letters; None where others stand there.
+fn behind_magic(bytes: &[u8]) -> Option<&[u8]>
+    ensures found { IfSome result (λ rest. bytes.now ≡ magic ++ rest.now) }
+    ensures none { IfNone result ((rest : List ℕ) → bytes.now ≡ magic ++ rest → ⊥) }
+{
+    match bytes {
+        [b'L', b'N', b'D', b'1', rest @ ..] => Some(rest),
+        _ => None,
+    }
+}

@@ -1,0 +1,26 @@
+//! The journal of a server: deeds as bytes, and back, so that any torn end is told.
+#![tactic(auto)]
+
+mod bank;
+mod deed;
+mod fault;
+mod gate;
+mod heading;
+mod image;
+mod journal;
+mod kinds;
+mod limits;
+mod making;
+mod opening;
+mod payload;
+mod record;
+
+pub use bank::Bank;
+pub use fault::BankFault;
+pub use heading::{Heading, read_heading};
+pub use journal::{Journal, JournalFault, read_journal};
+pub use limits::MAX_DEEDS;
+pub use record::Record;
+
+#[cfg(test)]
+mod tests;

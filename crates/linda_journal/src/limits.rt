@@ -1,0 +1,10 @@
+//! The limits of a record and of a bank.
+
+/// The most deeds of one record.
+pub const MAX_DEEDS: usize = 64;
+
+/// The bytes that every bank has: its first gate, four letters, the generation, and the length of its body.
+pub const MIN_BYTES: usize = 17;
+
+/// The offset of the length of a bank's body.
+pub(crate) const LENGTH_PLACE: usize = 13;

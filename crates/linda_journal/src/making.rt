@@ -1,0 +1,67 @@
+//! A new bank on an empty disk.
+
+ghost use Rattle.std.specs.Prelude.{◌≡◌, ◌<◌, ◌≤◌, ◌+◌, ◌^◌, ◌++◌, ◌∷◌, [], ◌↔◌, ℕ, List, length, IfOk, OnOk, IsErrOf};
+ghost use Rattle.linda_codec.specs.Formats.{number};
+ghost use Rattle.linda_disk.specs.View.{IsDurable};
+ghost use Rattle.linda_disk.specs.Run.{LeavesOnly};
+ghost use Rattle.linda_journal.specs.declared.kinds.TheConstants.{OPEN, CLOSED};
+ghost use Rattle.linda_journal.specs.Gate.{IsShut, IsLaid};
+ghost use Rattle.linda_journal.specs.Bank.{magic, behind_gate};
+
+use crate::fault::BankFault;
+use crate::gate::{lay_gate, open_gate, stage};
+use crate::kinds::CLOSED;
+use crate::record::as_length;
+use linda_disk::Disk;
+use std::alloc::{AllocError, Global};
+
+/// The letters that every bank has behind its first gate.
+const MAGIC: [u8; 4] = [b'L', b'N', b'D', b'1'];
+
+/// What is to stand behind the first gate of a new bank, with the closed gate of its journal at its end.
+pub(crate) fn spell_front(
+    alloc: Global,
+    generation: u64,
+    body: &[u8],
+) -> Result<Vec<u8>, AllocError>
+    requires { length body.now < 2 ^ 32 }
+    ensures { IfOk result (λ v. v.items ≡ behind_gate generation body.now ++ CLOSED ∷ []) }
+{
+    let len = as_length(body.len());
+    let mut out = Vec::new(alloc);
+    push_heading(&mut out, generation)?;
+    out.extend_from_slice(&len.to_be_bytes())?;
+    out.extend_from_slice(body)?;
+    out.push(CLOSED)?;
+    Ok(out)
+}
+
+// Appends the letters and the generation. Where memory runs out, a part of them may stand there.
+fn push_heading(out: &mut Vec<u8>, generation: u64) -> Result<(), AllocError>
+    ensures { OnOk result (out.new.items ≡ out.old.items ++ (magic ++ number.spell generation)) }
+{
+    out.extend_from_slice(&MAGIC)?;
+    out.extend_from_slice(&generation.to_be_bytes())
+}
+
+/// Puts these bytes, with a closed gate at their end, behind an open gate at the front of an empty disk.
+///
+/// # Errors
+///
+/// `Disk` where the device failed, `Memory`.
+pub(crate) fn inscribe<D: Disk>(disk: &mut D, bytes: &[u8]) -> Result<(), BankFault>
+    ensures done { (body : List ℕ) → bytes.now ≡ body ++ CLOSED ∷ [] → D.honest disk.old
+        → OnOk result (IsShut (OPEN ∷ body) (1 + length body) (D.view disk.new)) }
+    ensures any_moment { (body : List ℕ) → bytes.now ≡ body ++ CLOSED ∷ [] → D.honest disk.old
+        → IsDurable (D.view disk.old) → (D.view disk.old).seen ≡ []
+        → LeavesOnly (D.view disk.old) (D.view disk.new) (IsLaid body) }
+    ensures long { D.honest disk.old → OnOk result (length bytes.now < length (D.view disk.new).seen) }
+    ensures known { IsErrOf result BankFault.Full → ⊥ }
+    ensures honest { D.honest disk.old ↔ D.honest disk.new }
+    ensures cause { IsErrOf result BankFault.Disk → D.failures disk.old < D.failures disk.new }
+{
+    lay_gate(disk)?;
+    stage(disk, 0, bytes)?;
+    open_gate(disk, 0)?;
+    Ok(())
+}

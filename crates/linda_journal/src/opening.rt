@@ -1,0 +1,74 @@
+//! A bank read from its disk.
+
+ghost use Rattle.std.specs.Prelude.{◌≡◌, ◌≢◌, ◌<◌, ◌≤◌, ◌+◌, ◌↔◌, length, IfOk, IfErr, OnOk, IsErrOf};
+ghost use Rattle.linda_disk.specs.View.{IsDurable};
+ghost use Rattle.linda_disk.specs.Run.{LeavesOnly};
+ghost use Rattle.linda_journal.specs.declared.limits.TheConstants.{MIN_BYTES};
+ghost use Rattle.linda_journal.specs.Journal.{AreAt, deeds_of};
+ghost use Rattle.linda_journal.specs.Bank.{IsSettled};
+ghost use Rattle.linda_journal.specs.Image.{IsFaultOfBank};
+
+use crate::fault::BankFault;
+use crate::image::read_image;
+use crate::journal::Journal;
+use crate::limits::MIN_BYTES;
+use linda_disk::Disk;
+use std::alloc::Global;
+
+/// What a disk holds as a bank.
+#[derive(Debug, Drop)]
+pub(crate) struct Contents {
+    pub generation: u64,
+    pub body: Vec<u8>,
+    pub journal: Journal,
+}
+
+/// Syncs the disk and reads the bank that it holds.
+///
+/// # Errors
+///
+/// `NoBank`, `Damaged`, `Disk` where the device failed, `Memory`.
+pub(crate) fn load<D: Disk>(alloc: Global, disk: &mut D) -> Result<Contents, BankFault>
+    ensures found { D.honest disk.old → IfOk result (λ o. IsSettled o.generation o.body.items
+        (deeds_of o.journal.records.items) o.journal.end (D.view disk.new)) }
+    ensures within { D.honest disk.old
+        → IfOk result (λ o. o.journal.end < length (D.view disk.new).seen) }
+    ensures gates { IfOk result (λ o. AreAt (MIN_BYTES + length o.body.items) o.journal.records.items) }
+    ensures counted { IfOk result (λ o. length o.journal.records.items ≤ o.journal.end) }
+    ensures seen { D.honest disk.old
+        → OnOk result ((D.view disk.new).seen ≡ (D.view disk.old).seen) }
+    ensures fault { D.honest disk.old
+        → IfErr result (λ f. f ≢ BankFault.Disk → IsFaultOfBank (D.view disk.old).seen f) }
+    ensures any_moment { D.honest disk.old
+        → LeavesOnly (D.view disk.old) (D.view disk.new) (D.view disk.old).may_leave }
+    ensures honest { D.honest disk.old ↔ D.honest disk.new }
+    ensures cause { IsErrOf result BankFault.Disk → D.failures disk.old < D.failures disk.new }
+{
+    let bytes = read_all(alloc, disk)?;
+    let image = read_image(alloc, &bytes)?;
+    let body = Vec::from_slice(alloc, &bytes[MIN_BYTES..image.at])?;
+    Ok(Contents {
+        generation: image.generation,
+        body,
+        journal: image.journal,
+    })
+}
+
+// Syncs the disk and reads all of it.
+fn read_all<D: Disk>(alloc: Global, disk: &mut D) -> Result<Vec<u8>, BankFault>
+    ensures bytes { D.honest disk.old → IfOk result (λ v. v.items ≡ (D.view disk.old).seen) }
+    ensures seen { D.honest disk.old
+        → OnOk result ((D.view disk.new).seen ≡ (D.view disk.old).seen) }
+    ensures durable { D.honest disk.old → OnOk result (IsDurable (D.view disk.new)) }
+    ensures any_moment { D.honest disk.old
+        → LeavesOnly (D.view disk.old) (D.view disk.new) (D.view disk.old).may_leave }
+    ensures known { IfErr result (λ f. f ≢ BankFault.Disk → f ≡ BankFault.Memory) }
+    ensures honest { D.honest disk.old ↔ D.honest disk.new }
+    ensures cause { IsErrOf result BankFault.Disk → D.failures disk.old < D.failures disk.new }
+{
+    disk.sync()?;
+    let len = disk.len()?;
+    let mut bytes = vec![in alloc; 0; len]?;
+    disk.read_at(0, &mut bytes)?;
+    Ok(bytes)
+}

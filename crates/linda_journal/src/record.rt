@@ -1,0 +1,73 @@
+//! A record: one deed or more that were done together, behind one gate.
+
+ghost use Rattle.std.specs.Prelude.{◌≡◌, ◌∷◌, [], ◌++◌, ◌<◌, ◌≤◌, ◌^◌, ℕ, List, length, IfOk, IfSome, IfNone, OnOk};
+ghost use Rattle.linda_state.specs.declared.deed.Deed as deed;
+ghost use Rattle.linda_journal.specs.declared.kinds.TheConstants.{CLOSED};
+ghost use Rattle.linda_journal.specs.declared.limits.TheConstants.{MAX_DEEDS};
+ghost use Rattle.linda_journal.specs.Records.{IsRecord, record_body};
+ghost use Rattle.linda_journal.specs.Journal.{IsNoRecord};
+
+use crate::kinds::CLOSED;
+use crate::payload::{push_payload, read_payload};
+use linda_codec::read_u32;
+use linda_state::Deed;
+use std::alloc::{AllocError, Global};
+
+/// A record of a journal.
+#[derive(Debug, Drop)]
+pub struct Record {
+    /// The offset of its gate.
+    pub gate: usize,
+    /// What was done, in order.
+    pub deeds: Vec<Deed>,
+}
+
+/// The deeds of the record behind an open gate, and the bytes from the next gate on. None where no record
+/// stands there with the byte of a gate after it.
+pub(crate) fn read_record(
+    alloc: Global,
+    behind: &[u8],
+) -> Result<Option<(Vec<Deed>, &[u8])>, AllocError>
+    ensures found { IfOk result (λ o. IfSome o (λ x. IsRecord x.0.items
+        × (behind.now ≡ record_body x.0.items ++ x.1.now) × (0 < length x.1.now))) }
+    ensures none { IfOk result (λ o. IfNone o (IsNoRecord behind.now)) }
+{
+    match read_u32(behind) {
+        Err(_) => Ok(None),
+        Ok((len, rest)) => {
+            let len = len as usize;
+            if rest.len() <= len {
+                return Ok(None);
+            }
+            let (payload, after) = rest.split_at(len);
+            match read_payload(alloc, payload)? {
+                None => Ok(None),
+                Some(deeds) => Ok(Some((deeds, after))),
+            }
+        }
+    }
+}
+
+/// What is to stand behind the gate of the record of these deeds, with a closed gate at its end.
+pub(crate) fn spell_body(alloc: Global, deeds: &[Deed]) -> Result<Vec<u8>, AllocError>
+    requires some { 1 ≤ length deeds.now }
+    requires few { length deeds.now ≤ MAX_DEEDS }
+    ensures bytes { IfOk result (λ v. v.items ≡ record_body deeds.now ++ CLOSED ∷ []) }
+    ensures good { OnOk result (IsRecord deeds.now) }
+{
+    let mut payload = Vec::new(alloc);
+    push_payload(&mut payload, deeds)?;
+    let len = as_length(payload.len());
+    let mut out = Vec::new(alloc);
+    out.extend_from_slice(&len.to_be_bytes())?;
+    out.extend_from_slice(&payload)?;
+    out.push(CLOSED)?;
+    Ok(out)
+}
+
+pub(crate) fn as_length(len: usize) -> u32
+    requires { len < 2 ^ 32 }
+    ensures { result ≡ len }
+{
+    len as u32
+}

@@ -1,0 +1,5 @@
+//! What no clause says: that calls succeed, and the bytes of banks worked by hand.
+
+mod append;
+mod open;
+mod script;
