@@ -7,9 +7,14 @@
 #![tactic(auto)]
 
 mod bags;
+mod by_id;
+mod filing;
+mod index;
+mod index_bag;
 mod lists;
 
 pub use bags::Bag;
+pub use index_bag::IndexBag;
 pub use lists::ListBag;
 
 #[cfg(test)]
