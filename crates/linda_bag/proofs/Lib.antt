@@ -1,6 +1,5 @@
 pub mod Maps
 pub mod Viewed
-pub mod Left
 pub mod Refiling
 pub mod Ordered
 pub mod Bare
@@ -9,3 +8,4 @@ pub mod Placing
 pub mod Kept
 pub mod Ahead
 pub mod Free
+pub mod Left
