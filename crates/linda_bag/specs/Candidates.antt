@@ -1,10 +1,10 @@
 -- The tuples that a look-up has to look at: those that have what the template's head says.
 use Rattle.std.specs.Prelude.{ℕ, List, [], ◌∷◌, Option, None, Some, length}
-use Rattle.std.specs.declared.cmp.Ordering.{Ordering}
 use Rattle.std.specs.Ordering.{nat_cmp}
 use Rattle.linda_tuple.specs.declared.atom.Atom.{Atom}
 use Rattle.linda_tuple.specs.declared.pattern.Pattern.{Pattern}
 use Rattle.linda_tuple.specs.declared.pattern.Pattern.TheVariants as patterns
+use Rattle.linda_tuple.specs.contracts.atom.AtomOrd.TheImpl as atom_ord
 use Rattle.linda_tuple.specs.Tuple.{Tuple}
 use Rattle.linda_tuple.specs.Template.{Template}
 use Rattle.linda_bag.specs.Filing.{Rows, rows_at}
@@ -32,16 +32,15 @@ first_value (patterns.TextFormal ∷ rest) = None
 first_value (patterns.BoolFormal ∷ rest) = None
 first_value (patterns.Any ∷ rest) = None
 
-module _ (cmp : Atom → Atom → Ordering) where
-  -- those of the rows whose first field is the value, where there is one
-  abbrev pub with_first : Option Atom → Rows → Rows
-  with_first None rows = rows
-  with_first (Some v) rows = rows_at cmp first_of v rows
+-- those of the rows whose first field is the value, where there is one
+abbrev pub with_first : Option Atom → Rows → Rows
+with_first None rows = rows
+with_first (Some v) rows = rows_at atom_ord.ghosts.cmp first_of v rows
 
-  -- those of the rows that have as many fields as there are patterns
-  abbrev pub with_count : List Pattern → Rows → Rows
-  with_count fields rows = with_first (first_value fields) (rows_at nat_cmp count_of (length fields) rows)
+-- those of the rows that have as many fields as there are patterns and, where the first is a value, that value first
+abbrev pub with_fields : List Pattern → Rows → Rows
+with_fields fields rows = with_first (first_value fields) (rows_at nat_cmp count_of (length fields) rows)
 
-  -- those of the rows that have the template's tag
-  abbrev pub candidates : Template → Rows → Rows
-  candidates template rows = with_count template.fields (rows_at cmp tag_of template.tag rows)
+-- those of the rows that have the template's tag too
+abbrev pub candidates : Template → Rows → Rows
+candidates template rows = with_fields template.fields (rows_at atom_ord.ghosts.cmp tag_of template.tag rows)

@@ -2,7 +2,10 @@
 use Rattle.std.specs.Prelude.{◌≡◌, ℕ, false, cond, Option, None, Some}
 use Rattle.std.specs.declared.cmp.Ordering.{Ordering}
 use Rattle.std.specs.Ordering.{is_eq, nat_cmp}
+use Rattle.std.specs.Borrow.{Bor}
+use Rattle.std.specs.Option.{option_map, is_some}
 use Rattle.std.specs.BTreeMap.{BTreeMap, get}
+use Rattle.std.specs.BTreeSet.{BTreeSet, contains}
 use Rattle.linda_tuple.specs.Tuple.{Tuple}
 
 -- The tuple under each id, where there is one.
@@ -21,6 +24,10 @@ with_row rows id row q = cond (is_eq (nat_cmp id q)) row (rows q)
 abbrev pub IsBare : Rows → Type 0
 IsBare rows = (q : ℕ) → rows q ≡ None
 
+-- The set has the ids of the rows, and no others.
+abbrev pub HasIds : BTreeSet ℕ → Rows → Type 0
+HasIds ids rows = (id : ℕ) → contains nat_cmp ids id ≡ is_some (rows id)
+
 -- What had the rows has them still, but for the id: there it had `before`, and now it has `after`.
 abbrev pub Refiles : (Rows → Type 0) → (Rows → Type 0) → ℕ → Option Tuple → Option Tuple → Type 0
 Refiles Old New id before after = (rows : Rows) → rows id ≡ before → Old rows → New (with_row rows id after)
@@ -29,6 +36,10 @@ Refiles Old New id before after = (rows : Rows) → rows id ≡ before → Old r
 abbrev pub IsShelved : {S : Type 0} → (S → Rows → Type 0) → Option S → Rows → Type 0
 IsShelved Has None rows = IsBare rows
 IsShelved Has (Some shelf) rows = Has shelf rows × (IsBare rows → ⊥)
+
+-- What was found are the ids of a part of the rows that the index has; nothing, where that part has none.
+abbrev pub Finds : (Rows → Type 0) → (Rows → Rows) → Option (BTreeSet ℕ) → Type 0
+Finds Has part found = (rows : Rows) → Has rows → IsShelved HasIds found (part rows)
 
 module _ {K : Type 0} where
   abbrev pub keyed : Option K → Tuple → Option (K × Tuple)
@@ -39,6 +50,10 @@ module _ {K : Type 0} where
   abbrev pub placed : (Tuple → Option K) → Option Tuple → Option (K × Tuple)
   placed key_of None = None
   placed key_of (Some row) = keyed (key_of row) row
+
+  -- the place that two references name: a key, and the tuple that is filed under it
+  abbrev pub place : Option (Bor K × Bor Tuple) → Option (K × Tuple)
+  place named = option_map (λ p. (p.0.now, p.1.now)) named
 
 module _ {K : Type 0} (cmp : K → K → Ordering) where
   -- the row, where it is filed under the key: each is filed under one key or under none

@@ -5,6 +5,7 @@ ghost use Rattle.std.specs.Ordering.{nat_cmp};
 ghost use Rattle.std.specs.BTreeSet.{contains};
 ghost use Rattle.std.specs.FinMap as map;
 ghost use Rattle.linda_tuple.specs.Matching.{Matches};
+ghost use Rattle.linda_bag.specs.FreeMatch.{rows_of};
 
 use linda_tuple::{Template, Tuple, matches};
 use std::collections::{BTreeMap, BTreeSet};
@@ -24,10 +25,11 @@ pub(crate) fn is_free_match(
 /// The least id of the tree that is not below `id`.
 #[tactic(auto, using(crate::proofs::Maps::get_is_lookup))]
 pub(crate) fn next_id(tuples: &BTreeMap<u64, Tuple>, id: u64) -> Option<u64>
-    ensures found { IfSome result (λ next. IsSome (map.get (map.from_entries {R = nat_cmp} tuples.now.entries) next)) }
+    ensures found { IfSome result (λ next. IsSome (map.get (rows_of tuples.now) next)) }
     ensures above { IfSome result (λ next. id ≤ next) }
-    ensures least { IfSome result (λ next. (k : ℕ) → id ≤ k → k < next → map.get (map.from_entries {R = nat_cmp} tuples.now.entries) k ≡ None) }
-    ensures none { IfNone result ((k : ℕ) → id ≤ k → map.get (map.from_entries {R = nat_cmp} tuples.now.entries) k ≡ None) }
+    ensures least { IfSome result (λ next. (k : ℕ) → id ≤ k → k < next
+        → map.get (rows_of tuples.now) k ≡ None) }
+    ensures none { IfNone result ((k : ℕ) → id ≤ k → map.get (rows_of tuples.now) k ≡ None) }
 {
     let (next, _) = tuples.range(id..).next()?;
     Some(*next)

@@ -1,12 +1,12 @@
-//! Ids that are filed under what their tuples have: what each part of an index promises, and how a part is made of
-//! shelves that stand under keys.
+//! Ids that are filed under what their tuples have: what each part of an index promises, and how a
+//! part is made of shelves that stand under keys.
 
 ghost use Rattle.std.specs.Prelude.{◌≡◌, ℕ, ◌↔◌, Option, None, Some, OnOk, OnErr, IfOk, IsTrue};
 ghost use Rattle.std.specs.Option.{option_copied, option_map, is_some};
 ghost use Rattle.std.specs.Ordering.{nat_cmp};
 ghost use Rattle.std.specs.BTreeSet.{contains};
 ghost use Rattle.linda_tuple.specs.Tuple.{Tuple};
-ghost use Rattle.linda_bag.specs.Filing.{Rows, no_rows, IsBare, Refiles, RefilesBy, RefilesAt};
+ghost use Rattle.linda_bag.specs.Filing.{Rows, no_rows, place, HasIds, IsBare, Refiles, RefilesBy, RefilesAt};
 
 use linda_tuple::{Atom, Tuple};
 use std::alloc::{AllocError, Global};
@@ -41,7 +41,7 @@ pub(crate) trait Shelf: Drop {
     fn empty(alloc: Global) -> Self
         ensures { has result no_rows };
 
-    /// Files the id by the tuple `new`, and no more by the tuple `old` that it was filed by till now.
+    /// Files the id by the tuple `new`, and no more by the tuple `old` that it was filed by before.
     ///
     /// # Errors
     ///
@@ -53,8 +53,10 @@ pub(crate) trait Shelf: Drop {
         old: Option<&Tuple>,
         new: &Tuple,
     ) -> Result<(), AllocError>
-        ensures ok { OnOk result (Refiles (has self.old) (has self.new) id (option_copied old.entry) (Some new.now)) }
-        ensures err { OnErr result (Refiles (has self.old) (has self.new) id (option_copied old.entry) (option_copied old.entry)) };
+        ensures ok { OnOk result (Refiles (has self.old) (has self.new)
+            id (option_copied old.entry) (Some new.now)) }
+        ensures err { OnErr result (Refiles (has self.old) (has self.new)
+            id (option_copied old.entry) (option_copied old.entry)) };
 
     /// Takes out the id, which is filed by the tuple. Takes no memory.
     fn remove(&mut self, id: u64, tuple: &Tuple)
@@ -66,7 +68,7 @@ pub(crate) trait Shelf: Drop {
 }
 
 impl Shelf for BTreeSet<u64> {
-    ghost has = { λ ids rows. (id : ℕ) → contains nat_cmp ids id ≡ is_some (rows id) };
+    ghost has = { HasIds };
 
     fn empty(alloc: Global) -> BTreeSet<u64> {
         BTreeSet::new(alloc)
@@ -92,8 +94,9 @@ impl Shelf for BTreeSet<u64> {
     }
 }
 
-/// Files the id under one key in place of another: by `old` it is filed till now, by `new` from now on. Each is a key and
-/// the tuple that has it, or nothing where the tuple has no such key, or where there is no tuple.
+/// Files the id under one key in place of another: by `old` it was filed before, by `new` it is filed
+/// now. Each is a key and the tuple that has it, or nothing where the tuple has no such key, or where
+/// there is no tuple.
 ///
 /// # Errors
 ///
@@ -105,8 +108,10 @@ pub(crate) fn refile<K: Key, S: Shelf>(
     old: Option<(&K, &Tuple)>,
     new: Option<(&K, &Tuple)>,
 ) -> Result<(), AllocError>
-    ensures ok { OnOk result (RefilesBy K.cmp S.has shelves.old shelves.new id (option_map (λ p. (p.0.now, p.1.now)) old.entry) (option_map (λ p. (p.0.now, p.1.now)) new.entry)) }
-    ensures err { OnErr result (RefilesBy K.cmp S.has shelves.old shelves.new id (option_map (λ p. (p.0.now, p.1.now)) old.entry) (option_map (λ p. (p.0.now, p.1.now)) old.entry)) }
+    ensures ok { OnOk result (RefilesBy K.cmp S.has shelves.old shelves.new
+        id (place old.entry) (place new.entry)) }
+    ensures err { OnErr result (RefilesBy K.cmp S.has shelves.old shelves.new
+        id (place old.entry) (place old.entry)) }
 {
     let Some((key, tuple)) = new else {
         if let Some((old_key, old_tuple)) = old {
@@ -125,8 +130,8 @@ pub(crate) fn refile<K: Key, S: Shelf>(
     Ok(())
 }
 
-/// Files the id by the tuple `new` under its key, where it was filed by `old`, if at all; on a new shelf where none
-/// stands under the key.
+/// Files the id by the tuple `new` under its key, where it was filed by `old`, if at all; on a new
+/// shelf where none stands under the key.
 fn file<K: Key, S: Shelf>(
     shelves: &mut BTreeMap<K, S>,
     alloc: Global,
@@ -135,8 +140,10 @@ fn file<K: Key, S: Shelf>(
     old: Option<&Tuple>,
     new: &Tuple,
 ) -> Result<(), AllocError>
-    ensures ok { OnOk result (RefilesAt K.cmp S.has shelves.old shelves.new key.now id (option_copied old.entry) (Some new.now)) }
-    ensures err { OnErr result (RefilesAt K.cmp S.has shelves.old shelves.new key.now id (option_copied old.entry) (option_copied old.entry)) }
+    ensures ok { OnOk result (RefilesAt K.cmp S.has shelves.old shelves.new key.now
+        id (option_copied old.entry) (Some new.now)) }
+    ensures err { OnErr result (RefilesAt K.cmp S.has shelves.old shelves.new key.now
+        id (option_copied old.entry) (option_copied old.entry)) }
 {
     if let Some(shelf) = shelves.get_mut(key) {
         return shelf.put(alloc, id, old, new);
@@ -147,8 +154,8 @@ fn file<K: Key, S: Shelf>(
     Ok(())
 }
 
-/// Takes out the id, which is filed under the key of the tuple, and the shelf there with it where that is empty then.
-/// Takes no memory.
+/// Takes out the id, which is filed under the key of the tuple, and the shelf there with it where
+/// that is empty then. Takes no memory.
 pub(crate) fn unfile<K: Key, S: Shelf>(
     shelves: &mut BTreeMap<K, S>,
     id: u64,
@@ -160,6 +167,7 @@ pub(crate) fn unfile<K: Key, S: Shelf>(
     take(shelves, id, key, tuple);
 }
 
+// Takes the id from the shelf under the key, and that shelf away where it is empty then.
 fn take<K: Key, S: Shelf>(shelves: &mut BTreeMap<K, S>, id: u64, key: &K, tuple: &Tuple)
     ensures { RefilesAt K.cmp S.has shelves.old shelves.new key.now id (Some tuple.now) None }
 {

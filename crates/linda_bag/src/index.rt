@@ -1,11 +1,11 @@
-//! The index of a bag: which ids a template may be answered with, by its tag, by the number of its patterns, and by the
-//! value that stands first among them.
+//! The index of a bag: which ids a template may be answered with, by its tag, by the number of its
+//! patterns, and by the value that stands first among them.
 
-ghost use Rattle.std.specs.Prelude.{◌≡◌, ℕ, ◌↔◌, IsTrue};
-ghost use Rattle.std.specs.Option.{option_copied, option_map, is_some};
+ghost use Rattle.std.specs.Prelude.{◌≡◌, Some};
+ghost use Rattle.std.specs.Option.{option_copied};
 ghost use Rattle.std.specs.Ordering.{nat_cmp};
-ghost use Rattle.linda_bag.specs.Filing.{Rows, IsBare, IsShelved, IsFiled, placed};
-ghost use Rattle.linda_bag.specs.Candidates.{tag_of, count_of, first_of, first_value, with_first, with_count, candidates};
+ghost use Rattle.linda_bag.specs.Filing.{HasIds, Finds, IsShelved, IsFiled, place, placed};
+ghost use Rattle.linda_bag.specs.Candidates.{tag_of, count_of, first_of, first_value, with_first, with_fields, candidates};
 
 use crate::filing::{Shelf, refile, unfile};
 use linda_tuple::{Atom, Pattern, Template, Tuple};
@@ -24,7 +24,8 @@ struct Counts {
     groups: BTreeMap<usize, Group>,
 }
 
-/// The ids of tuples of one tag and one number of fields: all of them, and those of each first field.
+/// The ids of tuples of one tag and one number of fields: all of them, and those of each first
+/// field.
 #[derive(Drop)]
 struct Group {
     ids: BTreeSet<u64>,
@@ -32,10 +33,11 @@ struct Group {
 }
 
 impl Index {
-    /// The ids of the tuples that have the template's tag, as many fields as it has patterns and, where its first pattern
-    /// is a value, that value first; nothing where there are none. Takes no memory.
+    /// The ids of the tuples that have the template's tag, as many fields as it has patterns and,
+    /// where its first pattern is a value, that value first; nothing where there are none. Takes no
+    /// memory.
     pub(crate) fn candidates(&self, template: &Template) -> Option<&BTreeSet<u64>>
-        ensures { (rows : Rows) → ⟦<Index as Shelf>⟧.has self.now rows → IsShelved (⟦<BTreeSet<u64> as Shelf>⟧.has) (option_copied result) (candidates (⟦<Atom as Ord>⟧.cmp) template.now rows) }
+        ensures { Finds (⟦<Index as Shelf>⟧.has self.now) (candidates template.now) (option_copied result) }
     {
         let counts = self.tags.get(template.tag())?;
         counts.candidates(template.fields())
@@ -77,10 +79,10 @@ impl Shelf for Index {
 }
 
 impl Counts {
-    /// Those of the ids whose tuples have as many fields as there are patterns and, where the first is a value, that value
-    /// first.
+    /// Those of the ids whose tuples have as many fields as there are patterns and, where the first
+    /// is a value, that value first.
     fn candidates(&self, patterns: &[Pattern]) -> Option<&BTreeSet<u64>>
-        ensures { (rows : Rows) → ⟦<Counts as Shelf>⟧.has self.now rows → IsShelved (⟦<BTreeSet<u64> as Shelf>⟧.has) (option_copied result) (with_count (⟦<Atom as Ord>⟧.cmp) patterns.now rows) }
+        ensures { Finds (⟦<Counts as Shelf>⟧.has self.now) (with_fields patterns.now) (option_copied result) }
     {
         let group = self.groups.get(&patterns.len())?;
         group.candidates(first_value(patterns))
@@ -129,7 +131,8 @@ impl Shelf for Counts {
 impl Group {
     /// Those of the ids whose tuples have the value first, where there is one; else all.
     fn candidates(&self, first: Option<&Atom>) -> Option<&BTreeSet<u64>>
-        ensures { (rows : Rows) → ⟦<Group as Shelf>⟧.has self.now rows → (IsBare rows → ⊥) → IsShelved (⟦<BTreeSet<u64> as Shelf>⟧.has) (option_copied result) (with_first (⟦<Atom as Ord>⟧.cmp) (option_copied first.entry) rows) }
+        ensures { Finds (IsShelved (⟦<Group as Shelf>⟧.has) (Some self.now)) (with_first (option_copied first.entry))
+            (option_copied result) }
     {
         match first {
             Some(first) => self.by_first.get(first),
@@ -139,7 +142,7 @@ impl Group {
 }
 
 impl Shelf for Group {
-    ghost has = { λ g rows. (⟦<BTreeSet<u64> as Shelf>⟧.has) g.ids rows × IsFiled (⟦<Atom as Ord>⟧.cmp) (⟦<BTreeSet<u64> as Shelf>⟧.has) first_of g.by_first rows };
+    ghost has = { λ g rows. HasIds g.ids rows × IsFiled (⟦<Atom as Ord>⟧.cmp) HasIds first_of g.by_first rows };
 
     fn empty(alloc: Global) -> Group {
         Group {
@@ -187,7 +190,7 @@ impl Shelf for Group {
 
 // The tag of the tuple, with the tuple.
 fn tag_place(tuple: Option<&Tuple>) -> Option<(&Atom, &Tuple)>
-    ensures { option_map (λ p. (p.0.now, p.1.now)) result ≡ placed tag_of (option_copied tuple.entry) }
+    ensures { place result ≡ placed tag_of (option_copied tuple.entry) }
 {
     let tuple = tuple?;
     Some((tuple.tag(), tuple))
@@ -195,7 +198,7 @@ fn tag_place(tuple: Option<&Tuple>) -> Option<(&Atom, &Tuple)>
 
 // The first field of the tuple, if it has one, with the tuple.
 fn first_place(tuple: Option<&Tuple>) -> Option<(&Atom, &Tuple)>
-    ensures { option_map (λ p. (p.0.now, p.1.now)) result ≡ placed first_of (option_copied tuple.entry) }
+    ensures { place result ≡ placed first_of (option_copied tuple.entry) }
 {
     let tuple = tuple?;
     Some((tuple.fields().first()?, tuple))

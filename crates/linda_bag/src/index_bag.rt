@@ -1,10 +1,11 @@
-//! The bag of a server that has many tuples: a look-up looks at those alone that have the template's head.
+//! The bag of a server that has many tuples: a look-up looks at those alone that have the template's
+//! head, its tag, its number of fields and the value that it begins with.
 
 ghost use Rattle.std.specs.Prelude.{◌≡◌, ◌↔◌, IsTrue};
 ghost use Rattle.std.specs.Ordering.{nat_cmp};
 ghost use Rattle.std.specs.BTreeSet.{contains};
 ghost use Rattle.std.specs.FinMap as map;
-ghost use Rattle.linda_bag.specs.FreeMatch.{IsFreeMatch};
+ghost use Rattle.linda_bag.specs.FreeMatch.{IsFreeMatch, rows_of};
 
 use crate::bags::Bag;
 use crate::by_id::{is_free_match, next_id};
@@ -15,8 +16,8 @@ use std::alloc::{AllocError, Global};
 use std::collections::{BTreeMap, BTreeSet};
 use std::marker::Model;
 
-/// A bag that keeps, beside its tuples in the order of their ids, an index of the ids by tag, number of fields and first
-/// field.
+/// A bag that keeps, beside its tuples in the order of their ids, an index of the ids by tag, number
+/// of fields and first field.
 #[derive(Drop)]
 pub struct IndexBag {
     alloc: Global,
@@ -110,7 +111,8 @@ fn is_free(
     passed: &BTreeSet<u64>,
     id: u64,
 ) -> bool
-    ensures { IsTrue result ↔ IsFreeMatch (map.from_entries {R = nat_cmp} tuples.now.entries) template.now (contains nat_cmp passed.now) id }
+    ensures { IsTrue result
+        ↔ IsFreeMatch (rows_of tuples.now) template.now (contains nat_cmp passed.now) id }
 {
     match tuples.get(&id) {
         Some(tuple) => is_free_match(template, passed, id, tuple),
