@@ -14,15 +14,19 @@ use Rattle.linda_bag.proofs.Maps.{get_is_lookup}
 use Rattle.linda_bag.proofs.Ahead.{IsAhead, IsKey, fewer_ahead, none_before, none_ahead}
 use Rattle.linda_bag.proofs.Free.{free_there}
 
+-- One of the entries has the key k.
+abbrev pub HasKey : {X : Type 0} → ℕ → List (ℕ × X) → Type 0
+HasKey k es = IsKey k (keys_of es)
+
 -- The keys of what is left are those that are ahead, and what is left is of the map m.
 pub record IsLeft {X : Type 0} (m : FinMap nat_cmp X) (Wanted : ℕ → Type 0) (left : List (ℕ × X)) : Type 0 where
   pub ahead : IsAhead Wanted (keys_of left)
   pub stored : All (λ e. get m e.0 ≡ Some e.1) left
 
-entry_key : {X : Type 0} (k : ℕ) (es : List (ℕ × X)) → IsSome (lookup (eq_by_cmp nat_cmp k) es) → IsKey k (keys_of es)
+entry_key : {X : Type 0} (k : ℕ) (es : List (ℕ × X)) → IsSome (lookup (eq_by_cmp nat_cmp k) es) → HasKey k es
 entry_key k [] found = absurd (true≢false (sym found))
 entry_key k (e ∷ es) found =
-    elim (k == e.0) as (λ b. (k == e.0) ≡ b → IsKey k (keys_of (e ∷ es))) [
+    elim (k == e.0) as (λ b. (k == e.0) ≡ b → HasKey k (e ∷ es)) [
       | true ↦ λ is. inl ((unsigned_Decides k e.0).0 is)
       | false ↦ λ is. inr (entry_key k es (subst (λ b. IsSome (cond b (Some e.1) (lookup (eq_by_cmp nat_cmp k) es))) (sym (unsigned_ties k e.0) ∙ is) found))
     ] refl
