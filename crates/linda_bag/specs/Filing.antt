@@ -42,6 +42,7 @@ abbrev pub Finds : (Rows → Type 0) → (Rows → Rows) → Option (BTreeSet �
 Finds Has part found = (rows : Rows) → Has rows → IsShelved HasIds found (part rows)
 
 module _ {K : Type 0} where
+  -- the row with its key, if it has one
   abbrev pub keyed : Option K → Tuple → Option (K × Tuple)
   keyed None row = None
   keyed (Some key) row = Some (key, row)
