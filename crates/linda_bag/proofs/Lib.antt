@@ -1,2 +1,11 @@
 pub mod Maps
+pub mod Viewed
+pub mod Refiling
+pub mod Ordered
+pub mod Bare
+pub mod Noted
+pub mod Placing
+pub mod Kept
+pub mod Ahead
+pub mod Free
 pub mod Left

@@ -1,7 +1,8 @@
 -- Which tuples of a bag a template may be answered with.
 use Rattle.std.specs.Prelude.{◌≡◌, ℕ, Bool, false, Some}
 use Rattle.std.specs.Ordering.{nat_cmp}
-use Rattle.std.specs.FinMap.{FinMap, get}
+use Rattle.std.specs.BTreeMap.{BTreeMap}
+use Rattle.std.specs.FinMap.{FinMap, get, from_entries}
 use Rattle.linda_tuple.specs.Tuple.{Tuple}
 use Rattle.linda_tuple.specs.Template.{Template}
 use Rattle.linda_tuple.specs.Matching.{Matches}
@@ -12,3 +13,7 @@ pub record IsFreeMatch (bag : FinMap nat_cmp Tuple) (shape : Template) (passed :
   pub stored : get bag id ≡ Some row
   pub matches : Matches shape row
   pub free : passed id ≡ false
+
+-- the finite map that a tree stands for
+abbrev pub rows_of : BTreeMap ℕ Tuple → FinMap nat_cmp Tuple
+rows_of tree = from_entries tree.entries

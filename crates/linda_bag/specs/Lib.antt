@@ -1,1 +1,3 @@
 pub mod FreeMatch
+pub mod Filing
+pub mod Candidates

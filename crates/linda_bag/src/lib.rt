@@ -1,15 +1,24 @@
 //! The bag of a server: the tuples that are in the space, each under an id of its own.
 //!
 //! Whoever keeps tuples says what `Bag` says, and contracts see the bag as a finite map from ids to
-//! `Tuple`s. So a store is written and proved once, for every bag. `ListBag` is the plain one.
+//! `Tuple`s. So a store is written and proved once, for every bag. `ListBag` is the plain one, and
+//! `IndexBag` the one whose look-ups stay fast: it looks at the tuples of the template's own tag and
+//! number of fields alone and, where the template begins with a value, at those that begin with it.
+//!
 //! `specs/FreeMatch` says which tuples a template may be answered with; the answer is always the
-//! least id among them. `proofs/Maps` has what follows of finite maps, for the crates above as well.
+//! least id among them. `specs/Filing` and `specs/Candidates` say what an index has and what is found
+//! in it. `proofs/Maps` has what follows of finite maps, for the crates above as well.
 #![tactic(auto)]
 
 mod bags;
+mod by_id;
+mod filing;
+mod index;
+mod index_bag;
 mod lists;
 
 pub use bags::Bag;
+pub use index_bag::IndexBag;
 pub use lists::ListBag;
 
 #[cfg(test)]

@@ -1,13 +1,12 @@
 //! The plain bag: an ordered list of ids with their tuples.
 
-ghost use Rattle.std.specs.Prelude.{◌≡◌, ◌↔◌, false, IsTrue};
+ghost use Rattle.std.specs.Prelude.{◌≡◌};
 ghost use Rattle.std.specs.Ordering.{nat_cmp};
-ghost use Rattle.std.specs.BTreeSet.{contains};
 ghost use Rattle.std.specs.FinMap as map;
-ghost use Rattle.linda_tuple.specs.Matching.{Matches};
 
 use crate::bags::Bag;
-use linda_tuple::{Template, Tuple, matches};
+use crate::by_id::{is_free_match, next_id};
+use linda_tuple::{Template, Tuple};
 use std::alloc::{AllocError, Global};
 use std::collections::{BTreeMap, BTreeSet};
 
@@ -65,16 +64,7 @@ impl Bag for ListBag {
         self.tuples.len()
     }
 
-    #[tactic(auto, using(crate::proofs::Maps::get_is_lookup))]
     fn next_from(&self, id: u64) -> Option<u64> {
-        let (next, _) = self.tuples.range(id..).next()?;
-        Some(*next)
+        next_id(&self.tuples, id)
     }
-}
-
-// Whether the template matches the tuple of this id and the id is not passed over.
-fn is_free_match(template: &Template, passed: &BTreeSet<u64>, id: u64, tuple: &Tuple) -> bool
-    ensures { IsTrue result ↔ (Matches template.now tuple.now × (contains nat_cmp passed.now id ≡ false)) }
-{
-    matches(template, tuple) && !passed.contains(&id)
 }

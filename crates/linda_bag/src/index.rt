@@ -1,0 +1,218 @@
+//! The index of a bag: which ids a template may be answered with, by its tag, by the number of its
+//! patterns, and by the value that stands first among them.
+
+ghost use Rattle.std.specs.Prelude.{◌≡◌, Some};
+ghost use Rattle.std.specs.Option.{option_copied};
+ghost use Rattle.std.specs.Ordering.{nat_cmp};
+ghost use Rattle.linda_bag.specs.Filing.{HasIds, Finds, IsShelved, IsFiled, place, placed};
+ghost use Rattle.linda_bag.specs.Candidates.{tag_of, count_of, first_of, first_value, with_first, with_fields, candidates};
+
+use crate::filing::{Shelf, refile, unfile};
+use linda_tuple::{Atom, Pattern, Template, Tuple};
+use std::alloc::{AllocError, Global};
+use std::collections::{BTreeMap, BTreeSet};
+
+/// The ids of the tuples of a bag, by tag.
+#[derive(Drop)]
+pub(crate) struct Index {
+    tags: BTreeMap<Atom, Counts>,
+}
+
+/// The ids of tuples of one tag, by the number of fields.
+#[derive(Drop)]
+struct Counts {
+    groups: BTreeMap<usize, Group>,
+}
+
+/// The ids of tuples of one tag and one number of fields: all of them, and those of each first
+/// field.
+#[derive(Drop)]
+struct Group {
+    ids: BTreeSet<u64>,
+    by_first: BTreeMap<Atom, BTreeSet<u64>>,
+}
+
+impl Index {
+    /// The ids of the tuples that have the template's tag, as many fields as it has patterns and,
+    /// where its first pattern is a value, that value first; nothing where there are none. Takes no
+    /// memory.
+    pub(crate) fn candidates(&self, template: &Template) -> Option<&BTreeSet<u64>>
+        ensures { Finds (⟦<Index as Shelf>⟧.has self.now) (candidates template.now) (option_copied result) }
+    {
+        let counts = self.tags.get(template.tag())?;
+        counts.candidates(template.fields())
+    }
+}
+
+impl Shelf for Index {
+    ghost has = { λ i rows. IsFiled (⟦<Atom as Ord>⟧.cmp) (⟦<Counts as Shelf>⟧.has) tag_of i.tags rows };
+
+    fn empty(alloc: Global) -> Index {
+        Index {
+            tags: BTreeMap::new(alloc),
+        }
+    }
+
+    fn put(
+        &mut self,
+        alloc: Global,
+        id: u64,
+        old: Option<&Tuple>,
+        new: &Tuple,
+    ) -> Result<(), AllocError> {
+        refile(
+            &mut self.tags,
+            alloc,
+            id,
+            tag_place(old),
+            tag_place(Some(new)),
+        )
+    }
+
+    fn remove(&mut self, id: u64, tuple: &Tuple) {
+        unfile(&mut self.tags, id, tuple.tag(), tuple);
+    }
+
+    fn is_empty(&self) -> bool {
+        self.tags.is_empty()
+    }
+}
+
+impl Counts {
+    /// Those of the ids whose tuples have as many fields as there are patterns and, where the first
+    /// is a value, that value first.
+    fn candidates(&self, patterns: &[Pattern]) -> Option<&BTreeSet<u64>>
+        ensures { Finds (⟦<Counts as Shelf>⟧.has self.now) (with_fields patterns.now) (option_copied result) }
+    {
+        let group = self.groups.get(&patterns.len())?;
+        group.candidates(first_value(patterns))
+    }
+}
+
+impl Shelf for Counts {
+    ghost has = { λ c rows. IsFiled nat_cmp (⟦<Group as Shelf>⟧.has) count_of c.groups rows };
+
+    fn empty(alloc: Global) -> Counts {
+        Counts {
+            groups: BTreeMap::new(alloc),
+        }
+    }
+
+    fn put(
+        &mut self,
+        alloc: Global,
+        id: u64,
+        old: Option<&Tuple>,
+        new: &Tuple,
+    ) -> Result<(), AllocError> {
+        let new_count = new.fields().len();
+        let Some(old) = old else {
+            return refile(&mut self.groups, alloc, id, None, Some((&new_count, new)));
+        };
+        let old_count = old.fields().len();
+        refile(
+            &mut self.groups,
+            alloc,
+            id,
+            Some((&old_count, old)),
+            Some((&new_count, new)),
+        )
+    }
+
+    fn remove(&mut self, id: u64, tuple: &Tuple) {
+        unfile(&mut self.groups, id, &tuple.fields().len(), tuple);
+    }
+
+    fn is_empty(&self) -> bool {
+        self.groups.is_empty()
+    }
+}
+
+impl Group {
+    /// Those of the ids whose tuples have the value first, where there is one; else all.
+    fn candidates(&self, first: Option<&Atom>) -> Option<&BTreeSet<u64>>
+        ensures { Finds (IsShelved (⟦<Group as Shelf>⟧.has) (Some self.now)) (with_first (option_copied first.entry))
+            (option_copied result) }
+    {
+        match first {
+            Some(first) => self.by_first.get(first),
+            None => Some(&self.ids),
+        }
+    }
+}
+
+impl Shelf for Group {
+    ghost has = { λ g rows. HasIds g.ids rows × IsFiled (⟦<Atom as Ord>⟧.cmp) HasIds first_of g.by_first rows };
+
+    fn empty(alloc: Global) -> Group {
+        Group {
+            ids: BTreeSet::new(alloc),
+            by_first: BTreeMap::new(alloc),
+        }
+    }
+
+    fn put(
+        &mut self,
+        alloc: Global,
+        id: u64,
+        old: Option<&Tuple>,
+        new: &Tuple,
+    ) -> Result<(), AllocError> {
+        let is_new = self.ids.insert(id)?;
+        match refile(
+            &mut self.by_first,
+            alloc,
+            id,
+            first_place(old),
+            first_place(Some(new)),
+        ) {
+            Ok(()) => Ok(()),
+            Err(error) => {
+                if is_new {
+                    self.ids.remove(&id);
+                }
+                Err(error)
+            }
+        }
+    }
+
+    fn remove(&mut self, id: u64, tuple: &Tuple) {
+        self.ids.remove(&id);
+        if let Some(first) = tuple.fields().first() {
+            unfile(&mut self.by_first, id, first, tuple);
+        }
+    }
+
+    fn is_empty(&self) -> bool {
+        self.ids.is_empty()
+    }
+}
+
+// The tag of the tuple, with the tuple.
+fn tag_place(tuple: Option<&Tuple>) -> Option<(&Atom, &Tuple)>
+    ensures { place result ≡ placed tag_of (option_copied tuple.entry) }
+{
+    let tuple = tuple?;
+    Some((tuple.tag(), tuple))
+}
+
+// The first field of the tuple, if it has one, with the tuple.
+fn first_place(tuple: Option<&Tuple>) -> Option<(&Atom, &Tuple)>
+    ensures { place result ≡ placed first_of (option_copied tuple.entry) }
+{
+    let tuple = tuple?;
+    Some((tuple.fields().first()?, tuple))
+}
+
+// The value that the first pattern asks for, if it asks for one.
+fn first_value(patterns: &[Pattern]) -> Option<&Atom>
+    ensures { option_copied result ≡ first_value patterns.now }
+{
+    match patterns.first()? {
+        Pattern::Value(value) => Some(value),
+        Pattern::IntFormal => None,
+        Pattern::TextFormal => None,
+        Pattern::BoolFormal => None,
+        Pattern::Any => None,
+    }
+}

@@ -1,0 +1,121 @@
+//! The bag of a server that has many tuples: a look-up looks at those alone that have the template's
+//! head, its tag, its number of fields and the value that it begins with.
+
+ghost use Rattle.std.specs.Prelude.{◌≡◌, ◌↔◌, IsTrue};
+ghost use Rattle.std.specs.Ordering.{nat_cmp};
+ghost use Rattle.std.specs.BTreeSet.{contains};
+ghost use Rattle.std.specs.FinMap as map;
+ghost use Rattle.linda_bag.specs.FreeMatch.{IsFreeMatch, rows_of};
+
+use crate::bags::Bag;
+use crate::by_id::{is_free_match, next_id};
+use crate::filing::Shelf;
+use crate::index::Index;
+use linda_tuple::{Template, Tuple};
+use std::alloc::{AllocError, Global};
+use std::collections::{BTreeMap, BTreeSet};
+use std::marker::Model;
+
+/// A bag that keeps, beside its tuples in the order of their ids, an index of the ids by tag, number
+/// of fields and first field.
+#[derive(Drop)]
+pub struct IndexBag {
+    alloc: Global,
+    tuples: BTreeMap<u64, Tuple>,
+    index: Index,
+}
+
+impl Model for IndexBag {
+    ghost use Rattle.std.specs.Coded.{coded_ℕ};
+    ghost use Rattle.std.specs.Ordering.{nat_cmp};
+    ghost use Rattle.std.specs.FinMap as map;
+    ghost use Rattle.std.specs.BTreeMap as tree;
+    ghost use Rattle.linda_tuple.specs.Tuple.{Tuple};
+    ghost use Rattle.linda_tuple.specs.Codes.{tuple_code};
+
+    ghost Value = { map.FinMap nat_cmp Tuple };
+
+    ghost coded = { map.code coded_ℕ tuple_code };
+
+    ghost view = { λ b. map.from_entries b.tuples.entries };
+
+    ghost invariant = { λ b. ⟦<Index as Shelf>⟧.has b.index (tree.get nat_cmp b.tuples) };
+}
+
+impl IndexBag {
+    /// A bag of no tuples, which takes no memory until one is inserted.
+    pub fn new(alloc: Global) -> IndexBag
+        ensures { ⟦<IndexBag as Bag>⟧.contents result ≡ map.empty }
+    {
+        IndexBag {
+            alloc,
+            tuples: BTreeMap::new(alloc),
+            index: Index::empty(alloc),
+        }
+    }
+}
+
+impl Bag for IndexBag {
+    ghost contents = { λ b. b };
+
+    fn empty(alloc: Global) -> IndexBag {
+        IndexBag::new(alloc)
+    }
+
+    fn insert(&mut self, id: u64, tuple: Tuple) -> Result<(), AllocError> {
+        self.index
+            .put(self.alloc, id, self.tuples.get(&id), &tuple)?;
+        match self.tuples.insert(id, tuple) {
+            Ok(_) => Ok(()),
+            Err(refused) => {
+                // Only a new id can be refused: it was in the index under no other tuple.
+                self.index.remove(id, &refused.value.1);
+                Err(AllocError)
+            }
+        }
+    }
+
+    fn remove(&mut self, id: u64) -> Option<Tuple> {
+        let tuple = self.tuples.remove(&id)?;
+        self.index.remove(id, &tuple);
+        Some(tuple)
+    }
+
+    #[tactic(auto, using(crate::proofs::Viewed::viewed))]
+    fn get(&self, id: u64) -> Option<&Tuple> {
+        self.tuples.get(&id)
+    }
+
+    fn least_match(&self, template: &Template, passed: &BTreeSet<u64>) -> Option<u64> {
+        for id in self.index.candidates(template)? {
+            if is_free(&self.tuples, template, passed, *id) {
+                return Some(*id);
+            }
+        }
+        None
+    }
+
+    fn len(&self) -> usize {
+        self.tuples.len()
+    }
+
+    fn next_from(&self, id: u64) -> Option<u64> {
+        next_id(&self.tuples, id)
+    }
+}
+
+// Whether there is a tuple under the id that may answer the template.
+fn is_free(
+    tuples: &BTreeMap<u64, Tuple>,
+    template: &Template,
+    passed: &BTreeSet<u64>,
+    id: u64,
+) -> bool
+    ensures { IsTrue result
+        ↔ IsFreeMatch (rows_of tuples.now) template.now (contains nat_cmp passed.now) id }
+{
+    match tuples.get(&id) {
+        Some(tuple) => is_free_match(template, passed, id, tuple),
+        None => false,
+    }
+}
