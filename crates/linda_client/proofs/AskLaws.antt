@@ -16,6 +16,7 @@ use Rattle.linda_client.specs.declared.outcome.Got.TheVariants as gots
 use Rattle.linda_client.specs.Ask.{ask_of, asks, first_ready, ready_at}
 use Rattle.linda_client.specs.Pending.{Pending, ask_at, ticket_count}
 use Rattle.linda_client.specs.React.{has_too_many}
+use Rattle.linda_client.proofs.TestLaws.{neither}
 
 asks_counted : (n : ℕ) (kinds : List Kind) → length (filter_map (λ b. ask_of b.0 b.1) (enumerate_from n kinds)) ≡ count_by is_ask kinds
 asks_counted n [] = refl
@@ -33,14 +34,10 @@ ask_count_is event = asks_counted 0 (bases_of event)
 pub passes_limit : (a n limit : ℕ) → a ≤ limit → nat_lt (limit - a) n ≡ nat_lt limit (a + n)
 passes_limit a n limit h = grind (arith, nat_tests)
 
-both_low : (a b : Bool) → a || b ≡ false → (a ≡ false) × (b ≡ false)
-both_low true b e = cc
-both_low false b e = (refl, e)
-
 -- An event that passes the tests is within its limits.
 pub limits_kept : (event : Tree) → is_too_deep event ≡ false → has_too_many event ≡ false → IsWithinLimits event
 limits_kept event depth few =
-    let parts = both_low (nat_lt 256 (length (bases_of event))) (nat_lt 64 (count_by is_ask (bases_of event))) few in
+    let parts = neither (nat_lt 256 (length (bases_of event))) (nat_lt 64 (count_by is_ask (bases_of event))) few in
     record { depth = depth; bases = ltb-false 256 (length (bases_of event)) parts.0; asks = ltb-false 64 (count_by is_ask (bases_of event)) parts.1 }
 
 -- An open ticket is in its range.

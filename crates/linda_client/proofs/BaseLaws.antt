@@ -1,5 +1,5 @@
 -- A base that an event asks for, or that is ready, is one of its bases, and gets what its kind can get.
-use Rattle.std.proofs.Common.{◌≡◌, ℕ, zero, suc, ◌+◌, ◌-◌, ◌≤◌, nat_lt, Bool, true, false, ◌&&◌, cond, List, [], ◌∷◌, refl, sym, ap, subst, ◌∙◌, arith}
+use Rattle.std.proofs.Common.{◌≡◌, ℕ, zero, suc, ◌+◌, ◌-◌, ◌≤◌, nat_lt, Bool, true, false, cond, List, [], ◌∷◌, refl, sym, ap, subst, ◌∙◌, arith}
 use Rattle.std.specs.Prelude.{Option, Some, None, IsSomeAnd, filter_map, find, slice_get, nat_le, option_map}
 use Rattle.std.specs.List.{enumerate_from, cons_option, position_or_len, AllZip}
 use Rattle.std.specs.Cmp.{booleans_Decides}
@@ -26,6 +26,7 @@ use Rattle.linda_client.specs.declared.outcome.Got.TheVariants as gots
 use Rattle.linda_client.specs.Ask.{ask_of, alarm_of, asks, alarms, first_alarm, first_ready, given_by, ready_at}
 use Rattle.linda_client.specs.Pending.{Pending, ask_at}
 use Rattle.linda_client.specs.Ending.{BaseGets, CanGet}
+use Rattle.linda_client.proofs.TestLaws.{both}
 
 same_atoms : (a b : Atom) → same_atom a b ≡ true → a ≡ b
 same_atoms a b e = (same_atom-decides a b).0 e
@@ -43,21 +44,17 @@ formal_fits patterns.BoolFormal (atoms.Text t) e = cc
 formal_fits patterns.BoolFormal (atoms.Bool b) e = tt
 formal_fits patterns.Any a e = tt
 
-pub both_true : (a b : Bool) → a && b ≡ true → (a ≡ true) × (b ≡ true)
-both_true true b e = (refl, e)
-both_true false b e = cc
-
 all_fits : (ps : List Pattern) (xs : List Atom) → are_fit ps xs ≡ true → AllZip Fits ps xs
 all_fits [] [] e = tt
 all_fits [] (x ∷ xs) e = cc
 all_fits (p ∷ ps) [] e = cc
-all_fits (p ∷ ps) (x ∷ xs) e = let parts = both_true (is_fit p x) (are_fit ps xs) e in (formal_fits p x parts.0, all_fits ps xs parts.1)
+all_fits (p ∷ ps) (x ∷ xs) e = let parts = both (is_fit p x) (are_fit ps xs) e in (formal_fits p x parts.0, all_fits ps xs parts.1)
 
 -- What the test of a match says.
 pub match_found : (shape : Template) (row : Tuple) → is_match shape row ≡ true → Matches shape row
 unfolding is_match
 match_found shape row e =
-    let parts = both_true (same_atom shape.tag row.tag) (are_fit shape.fields row.fields) e in
+    let parts = both (same_atom shape.tag row.tag) (are_fit shape.fields row.fields) e in
     record { tag = same_atoms shape.tag row.tag parts.0; fields = all_fits shape.fields row.fields parts.1 }
 
 -- an item that was made of a base: which base, and how

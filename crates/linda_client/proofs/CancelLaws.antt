@@ -8,6 +8,7 @@ use Rattle.linda_wire.specs.declared.message.Message.TheVariants as messages
 use Rattle.linda_client.specs.Pending.{Pending, ticket_count}
 use Rattle.linda_client.specs.Packets.{Packet, cancels_but, cancels_of, is_spared}
 use Rattle.linda_client.specs.Ending.{IsCancel, IsDue}
+use Rattle.linda_client.proofs.TestLaws.{not_true}
 
 row_step : (P : Packet → Type 0) (f : ℕ → Packet) (b : Bool) (a : ℕ) (xs : List ℕ) → (b ≡ true → P (f a)) → All P (map f xs) → All P (map f (cond b (a ∷ xs) xs))
 row_step P f true a xs h rest = All-cons P (f a) (map f xs) (h refl) rest
@@ -49,10 +50,6 @@ has_flat f a (suc n) t y low high h = elim (cases_eq a t) [
   | inl same ↦ Contains-append_left (f a) (flat_map f (range_with_len (a + 1) n)) y (subst (λ x. Contains (f x) y) (sym same) h)
   | inr apart ↦ Contains-append_right (f a) (flat_map f (range_with_len (a + 1) n)) y (has_flat f (a + 1) n t y (omega arith) (omega arith) h)
 ]
-
-not_true : (b : Bool) → not b ≡ true → b ≡ false
-not_true true e = cc
-not_true false e = refl
 
 -- What holds of each Cancel that is due holds of all Cancels.
 pub all_cancels : (P : Packet → Type 0) (count : ℕ) (own : Option (ℕ × ℕ)) (pending : Pending) → ((s k : ℕ) → IsDue count pending own s k → P (s, messages.Cancel k)) → All P (cancels_but count own pending)

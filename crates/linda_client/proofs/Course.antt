@@ -34,6 +34,7 @@ use Rattle.linda_client.specs.Progress.{IsGone}
 use Rattle.linda_client.proofs.BaseLaws.{alarm_gets, input_gets, match_found, read_gets}
 use Rattle.linda_client.proofs.AskLaws.{limits_kept}
 use Rattle.linda_client.proofs.ListLaws.{kept_there}
+use Rattle.linda_client.proofs.TestLaws.{apart, both, by_test, neither, not_false}
 
 -- The Accept that is unanswered, if there is one, is answered by the call.
 abbrev pub AcceptAnswered : Option Accepted → Call → Type 0
@@ -72,26 +73,6 @@ pub data Course (c : Client) (call : Call) : Reaction → Type 0 where
       → Course c call (commit (record c { clock = clock }) pending.event (cancels_but (servers c) own pending) base got)
   abandons : (pending : Pending) → c.task ≡ Syncing pending → pending.accepted ≡ None
       → Course c call (finish c (cancels_but (servers c) None pending) (outcomes.Dropped (all_nacks pending.event)))
-
--- either branch of a test, with what the test said
-pub by_test : {A : Type 0} (P : A → Type 0) (b : Bool) (x y : A) → (b ≡ true → P x) → (b ≡ false → P y) → P (cond b x y)
-by_test P true x y h k = h refl
-by_test P false x y h k = k refl
-
-both : (a b : Bool) → a && b ≡ true → (a ≡ true) × (b ≡ true)
-both true b e = (refl, e)
-both false b e = cc
-
-neither : (a b : Bool) → a || b ≡ false → (a ≡ false) × (b ≡ false)
-neither true b e = cc
-neither false b e = (refl, e)
-
-no_not : (b : Bool) → not b ≡ false → b ≡ true
-no_not true e = refl
-no_not false e = cc
-
-apart : (x y : ℕ) → (x == y) ≡ false → x ≢ y
-apart x y e = λ same. false≢true (sym e ∙ eq-eqb x y same)
 
 none_of : (o : Option Accepted) → is_some o ≡ false → o ≡ None
 none_of None e = refl
@@ -180,7 +161,7 @@ module _ (c : Client) (is : IsClient c) where
       by None there = strays call remove a within other
       by (Some ask) there =
           by_test (CourseOn c call) (not (is_fit ask remove a.tuple)) _ _ (λ _. rests c.clock other)
-          (λ fits. let parts = fit_parts remove ask (no_not (is_fit ask remove a.tuple) fits) in
+          (λ fits. let parts = fit_parts remove ask (not_false (is_fit ask remove a.tuple) fits) in
           by_test (CourseOn c call) (is_some pending.accepted) _ _
           (λ awaits. by_test (λ d. Course c call (no_reaction d)) (is_saved pending a) _ _ (λ _. rests c.clock other)
           (λ _. saves pending a task awaits within (subst (λ o. IsSomeAnd o (λ x. Matches x.template a.tuple)) (sym there) parts.1) other))

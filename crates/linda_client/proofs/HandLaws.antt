@@ -4,7 +4,7 @@ use Rattle.std.specs.Prelude.{Option, Some, None, Ok}
 use Rattle.std.specs.List.{list_any}
 use Rattle.std.proofs.lemmas.Bool.{false≢true}
 use Rattle.std.proofs.lemmas.Option.{none-some, same_Some}
-use Rattle.std.proofs.lemmas.List.Elements.{All-contains, All-nil, Contains-append_left}
+use Rattle.std.proofs.lemmas.List.Elements.{Contains-append_left}
 use Rattle.linda_tuple.specs.Tuple.{Tuple}
 use Rattle.linda_wire.specs.declared.message.Message.TheVariants as messages
 use Rattle.linda_wire.specs.declared.reply.Reply.TheVariants as replies
@@ -24,11 +24,8 @@ use Rattle.linda_client.specs.Offers.{AcceptIsAnswered, Becomes, InHand, IsAccep
 use Rattle.linda_client.proofs.AskLaws.{open_range}
 use Rattle.linda_client.proofs.CancelLaws.{cancels_exactly}
 use Rattle.linda_client.proofs.Course.{Course, Turn, abandons, accepts, arrives, begins, commits, commits_at_once, course, hands_on, oldest, pending_task, puts, rejects, repeats, rests, saves, stores, waits}
-use Rattle.linda_client.proofs.ListLaws.{in_front, none_any}
-
-both : (a b : Bool) → a && b ≡ true → (a ≡ true) × (b ≡ true)
-both true b e = (refl, e)
-both false b e = cc
+use Rattle.linda_client.proofs.TestLaws.{both}
+use Rattle.linda_client.proofs.ListLaws.{in_front, none_any, nowhere}
 
 module _ (P : Accepted → Type 0) (call : Call) (c : Client) (pending : Pending) (there : pending_in c.task ≡ Some pending) (server ticket id : ℕ) (within : server < servers c) (ask : Ask) (asked : ask_at pending ticket ≡ Some ask) where
   task_is : c.task ≡ Syncing pending
@@ -161,7 +158,7 @@ module _ (P : Accepted → Type 0) (call : Call) (c : Client) (pending : Pending
       same = same_pending own task
 
       by : InHand P pending server ticket id → Becomes P call c pending server ticket id r
-      by (inl saved) = absurd (All-contains (λ _. ⊥) [] saved.arrival (All-nil (λ _. ⊥)) (subst (λ l. Contains l saved.arrival) (sym (ap (λ (x : Pending). x.saved) same) ∙ none) saved.there))
+      by (inl saved) = nowhere saved.arrival (subst (λ l. Contains l saved.arrival) (sym (ap (λ (x : Pending). x.saved) same) ∙ none) saved.there)
       by (inr a) = inr (inr (gone_answers lost (sym (ap (λ (x : Pending). x.accepted) same) ∙ was) called a.0 a.1))
   becomes_on r (commits own clock spares base got task answered is_spares gets by) hand =
       let same = same_pending own task in

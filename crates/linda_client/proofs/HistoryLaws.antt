@@ -2,7 +2,7 @@
 use Rattle.std.proofs.Common.{◌≡◌, ℕ, ◌+◌, ◌<◌, ◌≤◌, Bool, true, false, cond, get_or, List, [], ◌∷◌, Contains, ◌⊎◌, inl, inr, refl, sym, ap, ◌∙◌, subst, arith}
 use Rattle.std.specs.Prelude.{Option, Some, None, is_some, Ok, Err, All, IfSome, IsSome, IsSomeAnd}
 use Rattle.std.proofs.lemmas.Option.{none-some, same_Some}
-use Rattle.std.proofs.lemmas.List.Elements.{All-cons, All-contains, All-nil, Contains-append_cases}
+use Rattle.std.proofs.lemmas.List.Elements.{All-contains, Contains-append_cases}
 use Rattle.std.proofs.lemmas.List.Sums.{sum_by-cons}
 use Rattle.linda_tuple.specs.Template.{Template}
 use Rattle.linda_wire.specs.declared.message.Message.{Message}
@@ -19,10 +19,11 @@ use Rattle.linda_client.specs.Packets.{Packet, accept_packet, unanswered}
 use Rattle.linda_client.specs.Reaction.{Answer, Reaction}
 use Rattle.linda_client.specs.React.{Call, new_client, new_pending, react}
 use Rattle.linda_client.specs.Ending.{EndsSync}
-use Rattle.linda_client.specs.History.{Event, NumbersAreOnce, TicketsAreOnce, all_sent, end_count, event_then, history, is_end, is_sync, sync_count}
+use Rattle.linda_client.specs.History.{Act, NumbersAreOnce, TicketsAreOnce, all_sent, end_count, act_then, history, is_end, is_sync, sync_count}
 use Rattle.linda_client.specs.Numbers.{IsAnswered, NumbersGoOn, number_of}
 use Rattle.linda_client.specs.Progress.{GoesOn, IsSoundPacket}
 use Rattle.linda_client.proofs.AskLaws.{open_range, same_asks}
+use Rattle.linda_client.proofs.ListLaws.{nowhere, only_one}
 use Rattle.linda_client.proofs.NumberLaws.{numbers_go}
 use Rattle.linda_client.proofs.ProgressLaws.{goes}
 use Rattle.linda_client.proofs.RangeLaws.{kept, new_is, rises}
@@ -30,13 +31,6 @@ use Rattle.linda_client.proofs.SoundLaws.{sound}
 
 abbrev sent : Client → List Call → List Packet
 sent c calls = all_sent (history c calls)
-
--- the only element of a list of one
-only_one : {X : Type 0} (x y : X) → Contains (x ∷ []) y → x ≡ y
-only_one x y there = All-contains (λ z. x ≡ z) (x ∷ []) y (All-cons (λ z. x ≡ z) x [] refl (All-nil (λ z. x ≡ z))) there
-
-nowhere : {X A : Type 0} (x : X) → Contains [] x → A
-nowhere x there = absurd (All-contains (λ _. ⊥) [] x (All-nil (λ _. ⊥)) there)
 
 -- What is unanswered has a number that was used.
 used : (c : Client) → IsClient c → (s n : ℕ) (m : Message) → unanswered c.task ≡ Some (s, m) → number_of m ≡ Some n → n < next_at c s
@@ -92,7 +86,7 @@ sent_later : (calls : List Call) (c : Client) → IsClient c → (s n : ℕ) (m 
 sent_later [] c is s n m there number = nowhere (s, m) there
 sent_later (call ∷ calls) c is s n m there number = by (react c call) refl there (λ d is_d here. sent_later calls d is_d s n m here number)
   where
-    by : (answer : Answer) → react c call ≡ answer → Contains (all_sent (event_then c call answer (λ d. history d calls))) (s, m)
+    by : (answer : Answer) → react c call ≡ answer → Contains (all_sent (act_then c call answer (λ d. history d calls))) (s, m)
         → ((d : Client) → IsClient d → Contains (sent d calls) (s, m) → OwnOrNew d s n m) → OwnOrNew c s n m
     by (Err fault) e here later = later c is here
     by (Ok r) e here later = split (Contains-append_cases r.packets (sent r.client calls) (s, m) here)
@@ -140,7 +134,7 @@ numbers_from : (calls : List Call) (c : Client) → IsClient c → NumbersAreOnc
 numbers_from [] c is s n a b p q f g = nowhere (s, a) p
 numbers_from (call ∷ calls) c is s n a b p q f g = by (react c call) refl p q (λ d is_d x y. numbers_from calls d is_d s n a b x y f g)
   where
-    by : (answer : Answer) → react c call ≡ answer → Contains (all_sent (event_then c call answer (λ d. history d calls))) (s, a) → Contains (all_sent (event_then c call answer (λ d. history d calls))) (s, b)
+    by : (answer : Answer) → react c call ≡ answer → Contains (all_sent (act_then c call answer (λ d. history d calls))) (s, a) → Contains (all_sent (act_then c call answer (λ d. history d calls))) (s, b)
         → ((d : Client) → IsClient d → Contains (sent d calls) (s, a) → Contains (sent d calls) (s, b) → a ≡ b) → a ≡ b
     by (Err fault) e x y later = later c is x y
     by (Ok r) e x y later = split (Contains-append_cases r.packets (sent r.client calls) (s, a) x) (Contains-append_cases r.packets (sent r.client calls) (s, b) y)
@@ -209,7 +203,7 @@ asks_later : (calls : List Call) (c : Client) → IsClient c → (s k : ℕ) (p 
 asks_later [] c is s k p x there = nowhere (s, messages.Ask k p x) there
 asks_later (call ∷ calls) c is s k p x there = by (react c call) refl there (λ d is_d here. asks_later calls d is_d s k p x here)
   where
-    by : (answer : Answer) → react c call ≡ answer → Contains (all_sent (event_then c call answer (λ d. history d calls))) (s, messages.Ask k p x)
+    by : (answer : Answer) → react c call ≡ answer → Contains (all_sent (act_then c call answer (λ d. history d calls))) (s, messages.Ask k p x)
         → ((d : Client) → IsClient d → Contains (sent d calls) (s, messages.Ask k p x) → AsksOrNew d k p x) → AsksOrNew c k p x
     by (Err fault) e here later = later c is here
     by (Ok r) e here later = split (Contains-append_cases r.packets (sent r.client calls) (s, messages.Ask k p x) here)
@@ -231,8 +225,8 @@ tickets_from : (calls : List Call) (c : Client) → IsClient c → TicketsAreOnc
 tickets_from [] c is s t k p q x y f g = nowhere (s, messages.Ask k p x) f
 tickets_from (call ∷ calls) c is s t k p q x y f g = by (react c call) refl f g (λ d is_d h i. tickets_from calls d is_d s t k p q x y h i)
   where
-    by : (answer : Answer) → react c call ≡ answer → Contains (all_sent (event_then c call answer (λ d. history d calls))) (s, messages.Ask k p x)
-        → Contains (all_sent (event_then c call answer (λ d. history d calls))) (t, messages.Ask k q y)
+    by : (answer : Answer) → react c call ≡ answer → Contains (all_sent (act_then c call answer (λ d. history d calls))) (s, messages.Ask k p x)
+        → Contains (all_sent (act_then c call answer (λ d. history d calls))) (t, messages.Ask k q y)
         → ((d : Client) → IsClient d → Contains (sent d calls) (s, messages.Ask k p x) → Contains (sent d calls) (t, messages.Ask k q y) → (p ≡ q) × (x ≡ y)) → (p ≡ q) × (x ≡ y)
     by (Err fault) e h i later = later c is h i
     by (Ok r) e h i later = split (Contains-append_cases r.packets (sent r.client calls) (s, messages.Ask k p x) h) (Contains-append_cases r.packets (sent r.client calls) (t, messages.Ask k q y) i)
@@ -299,12 +293,12 @@ ends_from [] c is = omega arith
 ends_from (call ∷ calls) c is = by (react c call) refl (λ d is_d. ends_from calls d is_d)
   where
     by : (answer : Answer) → react c call ≡ answer → ((d : Client) → IsClient d → end_count (history d calls) ≤ sync_count (history d calls) + pends d)
-        → end_count (event_then c call answer (λ d. history d calls)) ≤ sync_count (event_then c call answer (λ d. history d calls)) + pends c
+        → end_count (act_then c call answer (λ d. history d calls)) ≤ sync_count (act_then c call answer (λ d. history d calls)) + pends c
     by (Err fault) e later = later c is
     by (Ok r) e later =
-        let first : Event = record { call = call; reaction = r } in
-        let ends = sum_by-cons (λ (x : Event). weight (is_end x.reaction.outcome)) first (history r.client calls) in
-        let syncs = sum_by-cons (λ (x : Event). weight (is_sync x.call)) first (history r.client calls) in
+        let first : Act = record { call = call; reaction = r } in
+        let ends = sum_by-cons (λ (x : Act). weight (is_end x.reaction.outcome)) first (history r.client calls) in
+        let syncs = sum_by-cons (λ (x : Act). weight (is_sync x.call)) first (history r.client calls) in
         let now = ends_now c call r (pending_in c.task) (goes c call r is e) in
         let then = later r.client (kept c call r is e) in
         omega (arith, ends, syncs, now, then)

@@ -1,3 +1,4 @@
+pub mod TestLaws
 pub mod PacketLaws
 pub mod AskLaws
 pub mod ListLaws

@@ -45,3 +45,11 @@ not_any {X} p (y ∷ ys) e = by (p y) refl e (λ f. not_any p ys f)
 -- where none passes, one that is there does not
 pub none_any : {X : Type 0} (p : X → Bool) (xs : List X) (x : X) → Contains xs x → list_any p xs ≡ false → p x ≡ false
 none_any p xs x there none = All-contains (λ y. p y ≡ false) xs x (not_any p xs none) there
+
+-- the only element of a list of one
+pub only_one : {X : Type 0} (x y : X) → Contains (x ∷ []) y → x ≡ y
+only_one x y there = All-contains (λ z. x ≡ z) (x ∷ []) y (All-cons (λ z. x ≡ z) x [] refl (All-nil (λ z. x ≡ z))) there
+
+-- nothing is in an empty list
+pub nowhere : {X A : Type 0} (x : X) → Contains [] x → A
+nowhere x there = absurd (All-contains (λ _. ⊥) [] x (All-nil (λ _. ⊥)) there)

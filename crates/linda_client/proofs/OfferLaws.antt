@@ -17,22 +17,14 @@ use Rattle.linda_client.specs.Reaction.{Answer, Reaction, no_reaction}
 use Rattle.linda_client.specs.React as spec
 use Rattle.linda_client.specs.React.{Call, Receive, next_accept, react}
 use Rattle.linda_client.specs.Offers.{IsSaved, IsTreated}
-use Rattle.linda_client.proofs.Course.{by_test}
+use Rattle.linda_client.proofs.TestLaws.{both, by_test, not_false}
 use Rattle.linda_client.proofs.ListLaws.{any_one}
-
-both : (a b : Bool) → a && b ≡ true → (a ≡ true) × (b ≡ true)
-both true b e = (refl, e)
-both false b e = cc
 
 not_some : (o : Option Accepted) → is_some o ≡ false → IsSome o → ⊥
 not_some o none some = false≢true (sym none ∙ some)
 
 some_not : (o : Option Accepted) → is_some o ≡ true → o ≡ None → ⊥
 some_not o some none = false≢true (sym (ap is_some none) ∙ some)
-
-no_not : (b : Bool) → not b ≡ false → b ≡ true
-no_not true e = refl
-no_not false e = cc
 
 -- An offer that comes.
 module _ (c : Client) (server ticket id : ℕ) (row : Tuple) where
@@ -94,7 +86,7 @@ module _ (c : Client) (server ticket id : ℕ) (row : Tuple) where
     treated_free none fits =
         by_test TreatedOn ask.remove _ _
         (λ _. by_test TreatedOn (next_at c server == number_limit) _ _ (λ _. tt) (λ _. for_these _ (λ _ some. absurd (not_some pending.accepted none some)) (λ _ _. refl)))
-        (λ kept. absurd (false≢true (ap (λ b. b && is_match ask.template row) (sym kept) ∙ no_not (is_fit ask true row) fits)))
+        (λ kept. absurd (false≢true (ap (λ b. b && is_match ask.template row) (sym kept) ∙ not_false (is_fit ask true row) fits)))
 
   treated_on : (o : Option Pending) → pending_in c.task ≡ o → TreatedOn (spec.on_arrival c o true this)
   treated_on None there = treated_stray (ap (λ o. asked_in o ticket) there)

@@ -12,24 +12,24 @@ use Rattle.linda_client.specs.React.{Call, Out, Sync, Receive, Tick, Resend, Rec
 use Rattle.linda_client.specs.Numbers.{number_of}
 
 -- A call that was answered, and what it came to.
-pub record Event : Type 0 where
+pub record Act : Type 0 where
   pub call : Call
   pub reaction : Reaction
 
 -- a call with its answer, and what follows from the client after it; a call that is refused changes
 -- nothing, and is left out
-abbrev pub event_then : Client → Call → Answer → (Client → List Event) → List Event
-event_then c call (Ok r) follow = record { call = call; reaction = r } ∷ follow r.client
-event_then c call (Err fault) follow = follow c
+abbrev pub act_then : Client → Call → Answer → (Client → List Act) → List Act
+act_then c call (Ok r) follow = record { call = call; reaction = r } ∷ follow r.client
+act_then c call (Err fault) follow = follow c
 
 -- What comes of calls, one after another.
-abbrev pub history : Client → List Call → List Event
+abbrev pub history : Client → List Call → List Act
 history c [] = []
-history c (call ∷ calls) = event_then c call (react c call) (λ d. history d calls)
+history c (call ∷ calls) = act_then c call (react c call) (λ d. history d calls)
 
 -- all packets that were sent, in order
-abbrev pub all_sent : List Event → List Packet
-all_sent events = flat_map (λ e. e.reaction.packets) events
+abbrev pub all_sent : List Act → List Packet
+all_sent acts = flat_map (λ e. e.reaction.packets) acts
 
 -- whether an outcome is the end of a synchronization
 abbrev pub is_end : Option Outcome → Bool
@@ -49,12 +49,12 @@ is_sync (Reconnected server) = false
 is_sync Abandon = false
 
 -- how many synchronizations ended
-abbrev pub end_count : List Event → ℕ
-end_count events = count_by (λ e. is_end e.reaction.outcome) events
+abbrev pub end_count : List Act → ℕ
+end_count acts = count_by (λ e. is_end e.reaction.outcome) acts
 
 -- how many calls of `sync` were answered
-abbrev pub sync_count : List Event → ℕ
-sync_count events = count_by (λ e. is_sync e.call) events
+abbrev pub sync_count : List Act → ℕ
+sync_count acts = count_by (λ e. is_sync e.call) acts
 
 -- Two numbered messages to one server under one number are the same.
 abbrev pub NumbersAreOnce : List Packet → Type 0
@@ -68,6 +68,6 @@ TicketsAreOnce sent =
     → Contains sent (t, messages.Ask ticket q y) → (p ≡ q) × (x ≡ y)
 
 -- P holds of all that comes of calls of a new client, whatever they are.
-abbrev pub FromNew : (List Event → Type 0) → Type 0
+abbrev pub FromNew : (List Act → Type 0) → Type 0
 FromNew P = (number count : ℕ) (calls : List Call) → 1 ≤ count → count ≤ server_limit
     → P (history (new_client number count) calls)

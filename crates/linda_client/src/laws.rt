@@ -60,17 +60,17 @@ pub fn offers_in_hand_are_kept()
 /// From a new client, whatever is called and whatever comes: two numbered messages to one server under one
 /// number are the same.
 pub fn no_number_is_used_twice()
-    ensures { FromNew (λ events. NumbersAreOnce (all_sent events)) }
+    ensures { FromNew (λ acts. NumbersAreOnce (all_sent acts)) }
 {}
 
 /// From a new client, whatever is called and whatever comes: two Asks under one ticket ask the same, at
 /// whichever servers.
 pub fn no_ticket_is_used_twice()
-    ensures { FromNew (λ events. TicketsAreOnce (all_sent events)) }
+    ensures { FromNew (λ acts. TicketsAreOnce (all_sent acts)) }
 {}
 
 /// From a new client, whatever is called and whatever comes: there are never more ends of synchronizations
 /// than calls of `sync` that were answered.
 pub fn synchronizations_end_once()
-    ensures { FromNew (λ events. end_count events ≤ sync_count events) }
+    ensures { FromNew (λ acts. end_count acts ≤ sync_count acts) }
 {}

@@ -1,6 +1,6 @@
 -- Where the element of a number is, in two lists one after the other; and counts of them.
-use Rattle.std.proofs.Common.{◌≡◌, ℕ, zero, suc, ◌+◌, ◌<◌, ◌≤◌, min, Bool, true, false, ◌||◌, List, [], ◌∷◌, ◌++◌, length, map, Option, Some, None, option_map, zero-add, suc-add, add-zero, refl, sym, ap, ◌∙◌, append_assoc, arith, length-append, true≢false}
-use Rattle.std.specs.Prelude.{if◌then◌else◌, slice_get, ltb, is_some}
+use Rattle.std.proofs.Common.{◌≡◌, ℕ, zero, suc, ◌+◌, ◌<◌, ◌≤◌, min, Bool, true, false, ◌||◌, List, [], ◌∷◌, ◌++◌, length, map, Option, Some, None, option_map, zero-add, suc-add, refl, sym, ap, ◌∙◌, append_assoc, arith, length-append, true≢false}
+use Rattle.std.specs.Prelude.{slice_get, ltb, is_some}
 use Rattle.linda_event.specs.Limits.{is_too_deep}
 use Rattle.std.specs.List.{list_any}
 use Rattle.std.proofs.lemmas.Bool.Decides.{nat_tests}

@@ -1,8 +1,8 @@
 -- What is read off the nodes of an event, by what stands at its root.
-use Rattle.std.proofs.Common.{◌≡◌, ℕ, ◌+◌, ◌<◌, ◌≤◌, true, false, List, [], ◌∷◌, ◌++◌, ◌||◌, length, get_or, map, append-nil, arith, length-append, Option, Some, None, option_map, Bool, Bor, Vec, Box, Global, refl, sym, ap, ◌∙◌, rules}
+use Rattle.std.proofs.Common.{◌≡◌, ℕ, ◌+◌, ◌<◌, ◌≤◌, true, false, List, [], ◌∷◌, ◌++◌, ◌||◌, length, get_or, map, append-nil, Option, Some, None, option_map, Bool, Bor, Vec, Box, Global, refl, sym, ap, ◌∙◌, rules}
 use Rattle.std.specs.Prelude.{is_some, count_by, cond}
 use Rattle.std.proofs.lemmas.List.Sums.{sum_by-append}
-use Rattle.std.proofs.lemmas.List.{map-append, length-map}
+use Rattle.std.proofs.lemmas.List.{map-append}
 use Rattle.linda_event.specs.declared.event.Event.{Event, Choose, Wrap, Nack, the_lemmas}
 use Rattle.linda_event.specs.declared.base.Base.{Base}
 use Rattle.linda_event.specs.Trees.{leaf, choose, wrap, nack, tree_of, members_of}

@@ -8,9 +8,7 @@ use std::io;
 use std::io::Write;
 
 /// Out 1 of a tuple with a text for its tag and a byte that is no atom for its field, at 17.
-const BAD_FIELD: [u8; 18] = [
-    0, 0, 0, 0xe, 2, 0, 0, 0, 0, 0, 0, 0, 1, 2, 1, 0x61, 1, 9,
-];
+const BAD_FIELD: [u8; 18] = [0, 0, 0, 0xe, 2, 0, 0, 0, 0, 0, 0, 0, 1, 2, 1, 0x61, 1, 9];
 
 /// Keeps 32 bytes, and takes no memory for them.
 #[derive(Drop)]

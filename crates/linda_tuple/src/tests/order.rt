@@ -19,7 +19,10 @@ fn texts_stand_in_the_order_of_their_bytes(rt: HostRuntime) -> Result<(), Fail> 
         assert_eq!(rt; less.cmp(&more), Ordering::Less);
         assert_eq!(rt; more.cmp(&less), Ordering::Greater);
     }
-    assert_eq!(rt; short(rt.alloc(), "é")?.cmp(&short(rt.alloc(), "é")?), Ordering::Equal);
+    assert_eq!(rt;
+        short(rt.alloc(), "é")?.cmp(&short(rt.alloc(), "é")?),
+        Ordering::Equal
+    );
     Ok(())
 }
 
@@ -60,7 +63,10 @@ fn templates_are_equal_where_tag_and_patterns_are(rt: HostRuntime) -> Result<(),
     assert!(rt; formal == formal.try_clone(rt.alloc())?);
     let wild = Template::new(Atom::Int(0), vec![in rt.alloc(); Pattern::Any]?)?;
     assert!(rt; formal != wild);
-    let value = Template::new(Atom::Int(0), vec![in rt.alloc(); Pattern::Value(Atom::Int(0))]?)?;
+    let value = Template::new(
+        Atom::Int(0),
+        vec![in rt.alloc(); Pattern::Value(Atom::Int(0))]?,
+    )?;
     assert!(rt; formal != value);
     assert!(rt; formal != Template::new(Atom::Int(1), vec![in rt.alloc(); Pattern::IntFormal]?)?);
     Ok(())
