@@ -1,6 +1,6 @@
 //! A bank: what a server keeps on one disk, a body and then a journal.
 
-ghost use Rattle.std.specs.Prelude.{◌≡◌, ◌≢◌, ◌<◌, ◌≤◌, ◌+◌, ◌^◌, ◌++◌, ◌∷◌, [], ◌↔◌, ℕ, List, length, IfOk, IfErr, OnOk, IsErrOf, true, false};
+ghost use Rattle.std.specs.Prelude.{◌≡◌, ◌≢◌, ◌<◌, ◌≤◌, ◌+◌, ◌^◌, ◌++◌, ◌∷◌, [], ◌↔◌, ◌⊎◌, ℕ, List, length, IfOk, IfErr, OnOk, IsErrOf, true, false};
 ghost use Rattle.linda_state.specs.declared.deed.Deed as deed;
 ghost use Rattle.linda_disk.specs.View.{IsDurable};
 ghost use Rattle.linda_disk.specs.Run.{LeavesOnly};
@@ -195,6 +195,9 @@ impl<D: Disk> Bank<D> {
         ensures cause { IsErrOf result BankFault.Disk
             → D.failures self.old.disk < D.failures self.new.disk }
         ensures off { IsErrOf result BankFault.Disk → self.new.is_spent ≡ true }
+        // Want of memory before the first device call changes nothing; after it the bank is spent.
+        ensures memory { IsErrOf result BankFault.Memory
+            → (self.new ≡ self.old) ⊎ (self.new.is_spent ≡ true) }
         ensures known { (IsErrOf result BankFault.NoBank → ⊥)
             × ((offset : ℕ) → IsErrOf result (BankFault.Damaged offset) → ⊥) }
         ensures same { (self.new.generation ≡ self.old.generation)
