@@ -19,7 +19,7 @@ pub use bank::Bank;
 pub use fault::BankFault;
 pub use heading::{Heading, read_heading};
 pub use journal::{Journal, JournalFault, read_journal};
-pub use limits::MAX_DEEDS;
+pub use limits::{MAX_DEEDS, MIN_BYTES};
 pub use record::Record;
 
 #[cfg(test)]
