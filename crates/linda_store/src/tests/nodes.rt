@@ -1,9 +1,12 @@
 //! A node, call by call.
 
+ghost use Rattle.std.specs.Prelude.{◌≤◌, length, IfOk};
+ghost use Rattle.linda_store.specs.declared.work.TheConstants.{MAX_BATCH};
+
 use super::frame::{OUT, STORED_1_1, ask_by, joined, message, with_tuple};
 use crate::node::Node;
 use crate::volatile::Volatile;
-use crate::work::Work;
+use crate::work::{MAX_BATCH, Work};
 use linda_disk::Torn;
 use linda_wire::{Message, Reply, encode_reply};
 use std::alloc::Global;
@@ -64,10 +67,15 @@ fn a_node_that_closes_a_client_offers_what_it_held(rt: HostRuntime) -> Result<()
 }
 
 /// The messages of these frames, each of its client.
-fn batch(alloc: Global, frames: &[(u32, &[u8])]) -> Result<Vec<(u32, Message)>, Fail> {
+fn batch(alloc: Global, frames: &[(u32, &[u8])]) -> Result<Vec<(u32, Message)>, Fail>
+    ensures { IfOk result (λ messages. length messages.items ≤ MAX_BATCH) }
+{
     let mut messages = Vec::new(alloc);
     for (client, frame) in frames {
         messages.push((*client, message(alloc, frame)?))?;
+    }
+    if messages.len() > MAX_BATCH {
+        return Err(Fail::new("too many messages"));
     }
     Ok(messages)
 }
