@@ -1,5 +1,6 @@
 -- What the command line asks for, and how words that ask for nothing are refused.
-use Rattle.std.specs.Prelude.{◌≡◌, ◌≢◌, ◌≤◌, ◌⊎◌, ◌==◌, ℕ, Bool, true, false, List, [], ◌∷◌, length, codes, Result, IsErrAnd}
+use Rattle.std.specs.Prelude.{◌≡◌, ◌≢◌, ◌≤◌, ◌⊎◌, ◌==◌, ℕ, Bool, true, false, List, [], ◌∷◌, length}
+use Rattle.std.specs.Prelude.{codes, Result, IsErrAnd}
 use Rattle.clap.specs.Words.{App, Kinds, HasKind, new_app, with_subcommand}
 use Rattle.clap.specs.Simple.{on_top}
 use Rattle.clap.specs.declared.error.Error.{Error}
@@ -7,11 +8,13 @@ use Rattle.clap.specs.declared.error.kind.ErrorKind.TheVariants.{InvalidSubcomma
 
 -- The program's command as the parser has it: it wants a command below it, and the one there is `pipe`.
 abbrev pub linda : App
-linda = with_subcommand (on_top (λ s. record s { subcommand_required = true }) (new_app (codes "linda"))) (new_app (codes "pipe")).top
+linda = with_subcommand (on_top (λ s. record s { subcommand_required = true })
+    (new_app (codes "linda"))) (new_app (codes "pipe")).top
 
 -- The words are a program's name and `pipe`; the `--` that ends options may stand behind.
 abbrev pub AsksForPipe : List (List ℕ) → Type 0
-AsksForPipe words = (name : List ℕ) × ((words ≡ name ∷ codes "pipe" ∷ []) ⊎ (words ≡ name ∷ codes "pipe" ∷ codes "--" ∷ []))
+AsksForPipe words = (name : List ℕ)
+    × ((words ≡ name ∷ codes "pipe" ∷ []) ⊎ (words ≡ name ∷ codes "pipe" ∷ codes "--" ∷ []))
 
 -- whether a word begins with a hyphen
 abbrev pub has_hyphen : List ℕ → Bool

@@ -23,5 +23,7 @@ BeginsWithLine line text = HasNoFeed line × ((rest : List ℕ) × (text ≡ lin
 -- An unfinished line gets the front of a text. Behind that front the text has a line feed and a rest; with no line
 -- feed in the text, it all goes to the line.
 abbrev pub Extends : List ℕ → List ℕ → List ℕ → Option (List ℕ) → Type 0
-Extends line text longer (Some rest) = (front : List ℕ) × (HasNoFeed front × ((text ≡ front ++ LINE_FEED ∷ rest) × (longer ≡ line ++ front)))
+Extends line text longer (Some rest) =
+    (front : List ℕ) × (HasNoFeed front
+    × ((text ≡ front ++ LINE_FEED ∷ rest) × (longer ≡ line ++ front)))
 Extends line text longer None = HasNoFeed text × (longer ≡ line ++ text)

@@ -1,5 +1,6 @@
 -- What the pipe does: from lines to pieces, from pieces to a conversation, from replies to lines.
-use Rattle.std.specs.Prelude.{◌≡◌, ℕ, ◌+◌, ◌≤◌, false, List, [], ◌++◌, map, length, take, ◌⊎◌, Option, Some, None, Result, Ok, Err}
+use Rattle.std.specs.Prelude.{◌≡◌, ℕ, ◌+◌, ◌≤◌, false, List, [], ◌++◌, map, length, take, ◌⊎◌}
+use Rattle.std.specs.Prelude.{Option, Some, None, Result, Ok, Err}
 use Rattle.std.specs.List.{flat_map, concat}
 use Rattle.std.specs.Io.KnownBytes.{Appends, Consumes, IsAtEnd}
 use Rattle.hex.specs.Hex.{encode_lower}
@@ -48,11 +49,12 @@ IsDone stages.Open more left = (more ≡ []) × IsAtEnd left
 IsDone (stages.Malformed detail) more left = Unit {0}
 IsDone stages.Down more left = ⊥
 
--- How the pipe ends, after so many lines of a text of so many bytes, with so much of the text behind them and such bytes left to
--- the reader. Where reading failed, all whole lines were taken.
+-- How the pipe ends, after so many lines of a text of so many bytes, with so much of the text
+-- behind them and such bytes left to the reader. Where reading failed, all whole lines were taken.
 abbrev pub EndsAs : Result Unit PipeFault → ℕ → ℕ → List ℕ → Option (List ℕ) → Stage → Type 0
 EndsAs (Ok done) count size more left stage = IsDone stage more left
-EndsAs (Err (faults.NotHexadecimal n)) count size more left stage = (n ≡ count + 1) × HasBadLine more × (stage ≡ stages.Open)
+EndsAs (Err (faults.NotHexadecimal n)) count size more left stage =
+    (n ≡ count + 1) × HasBadLine more × (stage ≡ stages.Open)
 EndsAs (Err (faults.Memory n)) count size more left stage = (n ≡ count + 1) × (stage ≡ stages.Open)
 EndsAs (Err faults.Read) count size more left stage = HasNoFeed more × (stage ≡ stages.Open)
 EndsAs (Err faults.Write) count size more left stage = Unit {0}
@@ -84,7 +86,8 @@ IsTextOf read left text = (text ≡ read) ⊎ (IsAtEnd left × (text ≡ ended r
 
 -- From its reader and its writer as they were to what they are: what was read was taken line by line, and what was
 -- written are the lines of the replies.
-pub record IsPiped (reader_old reader_new writer_old writer_new : Option (List ℕ)) (result : Result Unit PipeFault) : Type 0 where
+pub record IsPiped (reader_old reader_new writer_old writer_new : Option (List ℕ))
+    (result : Result Unit PipeFault) : Type 0 where
   pub read : List ℕ
   pub text : List ℕ
   pub written : List ℕ

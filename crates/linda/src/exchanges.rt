@@ -1,6 +1,7 @@
 //! One connection to a server whose stream comes as lines of hexadecimal digits.
 
-ghost use Rattle.std.specs.Prelude.{◌≡◌, ◌+◌, ◌<◌, ◌≤◌, ◌^◌, ◌++◌, true, [], ℕ, List, Option, Ok, length, IfOk, IfErr, OnOk, OnErr};
+ghost use Rattle.std.specs.Prelude.{◌≡◌, ◌+◌, ◌<◌, ◌≤◌, ◌^◌, ◌++◌, true, [], ℕ, List, Option, Ok};
+ghost use Rattle.std.specs.Prelude.{length, IfOk, IfErr, OnOk, OnErr};
 ghost use Rattle.std.specs.Option.{option_copied};
 ghost use Rattle.std.specs.Io.KnownBytes.{IsAtEnd};
 ghost use Rattle.linda.specs.Lines.{ended};
@@ -169,7 +170,8 @@ impl Exchange {
     // Takes a piece of the stream and says whether the conversation goes on. Where memory runs out, in the server too,
     // no reply to the piece is kept.
     fn take_piece(&mut self, alloc: Global, piece: &[u8]) -> Result<bool, AllocError>
-        ensures ok { IfOk result (λ goes_on. Continues piece.now goes_on self.old (⟦<Volatile as Node>⟧.shown self.old.node)
+        ensures ok { IfOk result (λ goes_on.
+            Continues piece.now goes_on self.old (⟦<Volatile as Node>⟧.shown self.old.node)
             self.new (⟦<Volatile as Node>⟧.shown self.new.node)) }
         ensures err { OnErr result (self.new.replies.items ≡ self.old.replies.items) }
         ensures lines { self.new.lines ≡ self.old.lines }

@@ -6,6 +6,7 @@ use Rattle.std.specs.List.{cons_option, enumerate_from, list_any}
 use Rattle.std.proofs.lemmas.Bool.Decides.{nat_tests}
 use Rattle.std.proofs.lemmas.List.Sums.{sum_by-cons}
 use Rattle.std.proofs.lemmas.Option.{none-some, slice_get_within}
+use Rattle.linda_event.specs.declared.limits.TheConstants.{MAX_BASES, MAX_ASKS}
 use Rattle.linda_event.specs.Bases.{is_ready}
 use Rattle.linda_event.specs.Limits.{IsWithinLimits, is_ask, is_too_deep}
 use Rattle.linda_event.specs.Paths.{bases_of}
@@ -37,8 +38,8 @@ passes_limit a n limit h = grind (arith, nat_tests)
 -- An event that passes the tests is within its limits.
 pub limits_kept : (event : Tree) → is_too_deep event ≡ false → has_too_many event ≡ false → IsWithinLimits event
 limits_kept event depth few =
-    let parts = neither (nat_lt 256 (length (bases_of event))) (nat_lt 64 (count_by is_ask (bases_of event))) few in
-    record { depth = depth; bases = ltb-false 256 (length (bases_of event)) parts.0; asks = ltb-false 64 (count_by is_ask (bases_of event)) parts.1 }
+    let parts = neither (nat_lt MAX_BASES (length (bases_of event))) (nat_lt MAX_ASKS (count_by is_ask (bases_of event))) few in
+    record { depth = depth; bases = ltb-false MAX_BASES (length (bases_of event)) parts.0; asks = ltb-false MAX_ASKS (count_by is_ask (bases_of event)) parts.1 }
 
 -- An open ticket is in its range.
 pub open_range : (pending : Pending) (k : ℕ) (ask : Ask) → ask_at pending k ≡ Some ask → (pending.first ≤ k) × (k < pending.first + ticket_count pending)

@@ -7,6 +7,7 @@ use Rattle.std.proofs.lemmas.Option.{none-some, same_Some}
 use Rattle.linda_tuple.specs.Tuple.{Tuple}
 use Rattle.linda_tuple.specs.Matching.{Matches}
 use Rattle.linda_tuple.specs.Testing.{is_match}
+use Rattle.linda_wire.specs.declared.limits.TheConstants.{NUMBER_LIMIT}
 use Rattle.linda_event.specs.Trees.{Tree}
 use Rattle.linda_event.specs.Paths.{all_nacks}
 use Rattle.linda_event.specs.Limits.{IsWithinLimits, is_too_deep}
@@ -23,7 +24,7 @@ use Rattle.linda_client.specs.declared.outcome.Outcome.TheVariants as outcomes
 use Rattle.linda_client.specs.declared.task.Task.{Task}
 use Rattle.linda_client.specs.declared.task.Task.TheVariants.{Idle, Putting, Syncing}
 use Rattle.linda_client.specs.Ask.{asks, first_alarm, first_ready}
-use Rattle.linda_client.specs.Pending.{FitsOpen, IsOpenInput, Pending, ask_at, is_answer, is_fit, is_saved, number_limit}
+use Rattle.linda_client.specs.Pending.{FitsOpen, IsOpenInput, Pending, ask_at, is_answer, is_fit, is_saved}
 use Rattle.linda_client.specs.Client.{Client, IsClient, IsPendingOf, IsTaskOf, accepted_in, is_idle, is_out_of, next_at, pending_in, servers}
 use Rattle.linda_client.specs.Packets.{Packet, cancels_but, sent_again, spared, spared_by}
 use Rattle.linda_client.specs.Reaction.{Answer, Reaction, commit, finish, hand_on, no_reaction, send}
@@ -56,14 +57,14 @@ pub data Course (c : Client) (call : Call) : Reaction → Type 0 where
   hands_on : (server code detail : ℕ) → IsNotGone c call → Course c call (hand_on c server code detail)
   rejects : (a : Arrival) → a.server < servers c → IsNotGone c call → Course c call (send ((a.server, messages.Cancel a.ticket) ∷ []) c)
   repeats : (packets : List Packet) → ((p : Packet) → Contains packets p → Contains (sent_again c) p) → IsNotGone c call → Course c call (send packets c)
-  puts : (row : Tuple) → c.task ≡ Idle → next_at c (out_server c) ≢ number_limit → c.outs + 1 ≢ number_limit → Course c call (put c (out_server c) row)
+  puts : (row : Tuple) → c.task ≡ Idle → next_at c (out_server c) ≢ NUMBER_LIMIT → c.outs + 1 ≢ NUMBER_LIMIT → Course c call (put c (out_server c) row)
   stores : (server n id : ℕ) (row : Tuple) → c.task ≡ Putting server n row → call ≡ Receive server (replies.Stored n id) → Course c call (finish c [] (outcomes.Stored server id))
   commits_at_once : (event : Tree) (ready : ℕ × Got) → call ≡ Sync event → c.task ≡ Idle → first_ready c.clock event ≡ Some ready → Course c call (commit c event [] ready.0 ready.1)
-  begins : (event : Tree) → call ≡ Sync event → c.task ≡ Idle → IsWithinLimits event → c.ticket + length (asks event) ≤ number_limit → Course c call (ask_servers c event)
+  begins : (event : Tree) → call ≡ Sync event → c.task ≡ Idle → IsWithinLimits event → c.ticket + length (asks event) ≤ NUMBER_LIMIT → Course c call (ask_servers c event)
   saves : (pending : Pending) (a : Arrival) → c.task ≡ Syncing pending → is_some pending.accepted ≡ true → a.server < servers c → FitsOpen pending a → IsNotGone c call
       → Course c call (no_reaction (record c { task = Syncing (record pending { saved = pending.saved ++ a ∷ [] }) }))
   accepts : (pending : Pending) (rest : List Arrival) (a : Arrival) → c.task ≡ Syncing pending → Turn call pending rest a → a.server < servers c → IsOpenInput pending a.ticket
-      → next_at c a.server ≢ number_limit
+      → next_at c a.server ≢ NUMBER_LIMIT
       → Course c call (send ((a.server, messages.Accept (next_at c a.server) a.ticket a.id) ∷ [])
       (record c { next = used_at c a.server; task = Syncing (record { event = pending.event; first = pending.first; accepted = Some (next_accept c a.server a.ticket a.id); saved = rest }) }))
   waits : (pending : Pending) (own : Accepted) → c.task ≡ Syncing pending → pending.accepted ≡ Some own → call ≡ Receive own.server (replies.Gone own.n) → pending.saved ≡ []
@@ -135,8 +136,8 @@ module _ (c : Client) (is : IsClient c) where
       → ask_at pending a.ticket ≡ Some ask → Matches ask.template a.tuple → CourseOn c call (spec.take_up c (free pending rest) a ask)
   taken_up call pending rest a ask task answered turn within there fits =
       by_test (CourseOn c call) ask.remove _ _
-      (λ input. by_test (CourseOn c call) (next_at c a.server == number_limit) _ _ (λ _. tt)
-      (λ more. accepts pending rest a task (turn input) within (subst (λ o. IsSomeAnd o (λ x. x.remove ≡ true)) (sym there) input) (apart (next_at c a.server) number_limit more)))
+      (λ input. by_test (CourseOn c call) (next_at c a.server == NUMBER_LIMIT) _ _ (λ _. tt)
+      (λ more. accepts pending rest a task (turn input) within (subst (λ o. IsSomeAnd o (λ x. x.remove ≡ true)) (sym there) input) (apart (next_at c a.server) NUMBER_LIMIT more)))
       (λ copy. commits pending c.clock None ask.base (spec.got_by_read ask a) task answered refl (read_gets c.clock pending a.ticket ask a.server a.id a.tuple there copy fits) tt)
 
   strays : (call : Call) (remove : Bool) (a : Arrival) → a.server < servers c → IsNotGone c call → Course c call (spec.on_stray c remove a)
@@ -272,8 +273,8 @@ module _ (c : Client) (is : IsClient c) where
   begun : (event : Tree) → c.task ≡ Idle → IsWithinLimits event → (o : Option (ℕ × Got)) → first_ready c.clock event ≡ o → CourseOn c (Sync event) (spec.on_ready c event o)
   begun event idle within (Some ready) e = commits_at_once event ready refl idle e
   begun event idle within None e =
-      by_test (CourseOn c (Sync event)) (nat_lt number_limit (c.ticket + length (asks event))) _ _ (λ _. tt)
-      (λ low. begins event refl idle within (ltb-false number_limit (c.ticket + length (asks event)) low))
+      by_test (CourseOn c (Sync event)) (nat_lt NUMBER_LIMIT (c.ticket + length (asks event))) _ _ (λ _. tt)
+      (λ low. begins event refl idle within (ltb-false NUMBER_LIMIT (c.ticket + length (asks event)) low))
 
   dropped : (o : Option Pending) → pending_in c.task ≡ o → CourseOn c Abandon (spec.on_abandon c o)
   dropped None e = tt
@@ -286,9 +287,9 @@ module _ (c : Client) (is : IsClient c) where
   course_on : (call : Call) → CourseOn c call (react c call)
   course_on (Out row) =
       by_test (CourseOn c (Out row)) (not (is_idle c.task)) _ _ (λ _. tt)
-      (λ busy. by_test (CourseOn c (Out row)) ((next_at c (out_server c) == number_limit) || (c.outs + 1 == number_limit)) _ _ (λ _. tt)
-      (λ more. let parts = neither (next_at c (out_server c) == number_limit) (c.outs + 1 == number_limit) more in
-      puts row (idle_task c.task busy) (apart (next_at c (out_server c)) number_limit parts.0) (apart (c.outs + 1) number_limit parts.1)))
+      (λ busy. by_test (CourseOn c (Out row)) ((next_at c (out_server c) == NUMBER_LIMIT) || (c.outs + 1 == NUMBER_LIMIT)) _ _ (λ _. tt)
+      (λ more. let parts = neither (next_at c (out_server c) == NUMBER_LIMIT) (c.outs + 1 == NUMBER_LIMIT) more in
+      puts row (idle_task c.task busy) (apart (next_at c (out_server c)) NUMBER_LIMIT parts.0) (apart (c.outs + 1) NUMBER_LIMIT parts.1)))
   course_on (Sync event) =
       by_test (CourseOn c (Sync event)) (not (is_idle c.task)) _ _ (λ _. tt)
       (λ busy. by_test (CourseOn c (Sync event)) (is_too_deep event) _ _ (λ _. tt)

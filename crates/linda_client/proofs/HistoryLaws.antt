@@ -7,6 +7,7 @@ use Rattle.std.proofs.lemmas.List.Sums.{sum_by-cons}
 use Rattle.linda_tuple.specs.Template.{Template}
 use Rattle.linda_wire.specs.declared.message.Message.{Message}
 use Rattle.linda_wire.specs.declared.message.Message.TheVariants as messages
+use Rattle.linda_client.specs.declared.limits.TheConstants.{MAX_SERVERS}
 use Rattle.linda_client.specs.declared.arrival.Accepted.{Accepted}
 use Rattle.linda_client.specs.declared.ask.Ask.{Ask}
 use Rattle.linda_client.specs.declared.outcome.Outcome.{Outcome}
@@ -14,7 +15,7 @@ use Rattle.linda_client.specs.declared.outcome.Outcome.TheVariants.{Stored, Sync
 use Rattle.linda_client.specs.declared.task.Task.{Task}
 use Rattle.linda_client.specs.declared.task.Task.TheVariants.{Idle, Putting, Syncing}
 use Rattle.linda_client.specs.Pending.{Pending, ask_at}
-use Rattle.linda_client.specs.Client.{Client, IsClient, IsTaskOf, IsUsed, asked_in, next_at, pending_in, server_limit}
+use Rattle.linda_client.specs.Client.{Client, IsClient, IsTaskOf, IsUsed, asked_in, next_at, pending_in}
 use Rattle.linda_client.specs.Packets.{Packet, accept_packet, unanswered}
 use Rattle.linda_client.specs.Reaction.{Answer, Reaction}
 use Rattle.linda_client.specs.React.{Call, new_client, new_pending, react}
@@ -151,7 +152,7 @@ numbers_from (call ∷ calls) c is s n a b p q f g = by (react c call) refl p q 
         split (inr x) (inl y) = sym (now_and_later c call r is go s n b a y g (sent_later calls r.client after s n a x f))
         split (inr x) (inr y) = later r.client after x y
 
-pub numbers_once : (number count : ℕ) (calls : List Call) → 1 ≤ count → count ≤ server_limit → NumbersAreOnce (all_sent (history (new_client number count) calls))
+pub numbers_once : (number count : ℕ) (calls : List Call) → 1 ≤ count → count ≤ MAX_SERVERS → NumbersAreOnce (all_sent (history (new_client number count) calls))
 numbers_once number count calls low high = numbers_from calls (new_client number count) (new_is number count low high)
 
 -- What a ticket asks, which is open.
@@ -243,7 +244,7 @@ tickets_from (call ∷ calls) c is s t k p q x y f g = by (react c call) refl f 
         split (inr h) (inl i) = let same = ask_and_later r.client after k q p y x (now t q y i) (asks_later calls r.client after s k p x h) in (sym same.0, sym same.1)
         split (inr h) (inr i) = later r.client after h i
 
-pub tickets_once : (number count : ℕ) (calls : List Call) → 1 ≤ count → count ≤ server_limit → TicketsAreOnce (all_sent (history (new_client number count) calls))
+pub tickets_once : (number count : ℕ) (calls : List Call) → 1 ≤ count → count ≤ MAX_SERVERS → TicketsAreOnce (all_sent (history (new_client number count) calls))
 tickets_once number count calls low high = tickets_from calls (new_client number count) (new_is number count low high)
 
 -- one for what is so, none for what is not
@@ -303,5 +304,5 @@ ends_from (call ∷ calls) c is = by (react c call) refl (λ d is_d. ends_from c
         let then = later r.client (kept c call r is e) in
         omega (arith, ends, syncs, now, then)
 
-pub ends_once : (number count : ℕ) (calls : List Call) → 1 ≤ count → count ≤ server_limit → end_count (history (new_client number count) calls) ≤ sync_count (history (new_client number count) calls)
+pub ends_once : (number count : ℕ) (calls : List Call) → 1 ≤ count → count ≤ MAX_SERVERS → end_count (history (new_client number count) calls) ≤ sync_count (history (new_client number count) calls)
 ends_once number count calls low high = let all = ends_from calls (new_client number count) (new_is number count low high) in omega arith

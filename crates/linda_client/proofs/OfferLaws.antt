@@ -7,11 +7,12 @@ use Rattle.std.proofs.lemmas.List.Elements.{Contains-push}
 use Rattle.linda_tuple.specs.Tuple.{Tuple}
 use Rattle.linda_tuple.specs.Testing.{is_match}
 use Rattle.linda_wire.specs.declared.reply.Reply.TheVariants as replies
+use Rattle.linda_wire.specs.declared.limits.TheConstants.{NUMBER_LIMIT}
 use Rattle.linda_client.specs.declared.arrival.Accepted.{Accepted}
 use Rattle.linda_client.specs.declared.arrival.Arrival.{Arrival}
 use Rattle.linda_client.specs.declared.ask.Ask.{Ask}
 use Rattle.linda_client.specs.declared.task.Task.TheVariants.{Syncing}
-use Rattle.linda_client.specs.Pending.{Pending, ask_at, is_fit, is_saved, number_limit, same_arrival}
+use Rattle.linda_client.specs.Pending.{Pending, ask_at, is_fit, is_saved, same_arrival}
 use Rattle.linda_client.specs.Client.{Client, IsClient, asked_in, next_at, pending_in, servers}
 use Rattle.linda_client.specs.Reaction.{Answer, Reaction, no_reaction}
 use Rattle.linda_client.specs.React as spec
@@ -85,7 +86,7 @@ module _ (c : Client) (server ticket id : ℕ) (row : Tuple) where
     treated_free : is_some pending.accepted ≡ false → not (is_fit ask true row) ≡ false → TreatedOn (spec.take_up c pending this ask)
     treated_free none fits =
         by_test TreatedOn ask.remove _ _
-        (λ _. by_test TreatedOn (next_at c server == number_limit) _ _ (λ _. tt) (λ _. for_these _ (λ _ some. absurd (not_some pending.accepted none some)) (λ _ _. refl)))
+        (λ _. by_test TreatedOn (next_at c server == NUMBER_LIMIT) _ _ (λ _. tt) (λ _. for_these _ (λ _ some. absurd (not_some pending.accepted none some)) (λ _ _. refl)))
         (λ kept. absurd (false≢true (ap (λ b. b && is_match ask.template row) (sym kept) ∙ not_false (is_fit ask true row) fits)))
 
   treated_on : (o : Option Pending) → pending_in c.task ≡ o → TreatedOn (spec.on_arrival c o true this)

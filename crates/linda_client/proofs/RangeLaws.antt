@@ -5,12 +5,14 @@ use Rattle.std.proofs.Math.ListN.{length-set}
 use Rattle.std.proofs.lemmas.Bool.{false≢true}
 use Rattle.std.proofs.lemmas.List.{get_or-set_same, length-replicate}
 use Rattle.std.proofs.lemmas.List.Elements.{All-append, All-cons, All-nil, All-get_or, All-replicate, All-set, All-weaker}
+use Rattle.linda_wire.specs.declared.limits.TheConstants.{NUMBER_LIMIT}
+use Rattle.linda_client.specs.declared.limits.TheConstants.{MAX_SERVERS}
 use Rattle.linda_client.specs.declared.arrival.Accepted.{Accepted}
 use Rattle.linda_client.specs.declared.arrival.Arrival.{Arrival}
 use Rattle.linda_client.specs.declared.task.Task.{Task}
 use Rattle.linda_client.specs.declared.task.Task.TheVariants.{Idle, Putting, Syncing}
-use Rattle.linda_client.specs.Pending.{FitsOpen, number_limit}
-use Rattle.linda_client.specs.Client.{Client, IsClient, IsPendingOf, IsTaskOf, IsUsed, next_at, server_limit, servers}
+use Rattle.linda_client.specs.Pending.{FitsOpen}
+use Rattle.linda_client.specs.Client.{Client, IsClient, IsPendingOf, IsTaskOf, IsUsed, next_at, servers}
 use Rattle.linda_client.specs.Reaction.{Reaction}
 use Rattle.linda_client.specs.React.{Call, new_client, new_pending, out_server, react, used_at}
 use Rattle.linda_client.specs.Numbers.{Rises}
@@ -62,15 +64,15 @@ out_within c is = let low = is.servers_low in grind (arith, low)
 pub used_below : (c : Client) (s : ℕ) → s < servers c → get_or (used_at c s) s 0 ≡ next_at c s + 1
 used_below c s within = get_or-set_same c.next s (next_at c s + 1) 0 within
 
-next_range : (c : Client) → IsClient c → (s : ℕ) → s < servers c → (1 ≤ next_at c s) × (next_at c s ≤ number_limit)
-next_range c is s within = All-get_or (λ n. (1 ≤ n) × (n ≤ number_limit)) c.next s 0 within is.numbers
+next_range : (c : Client) → IsClient c → (s : ℕ) → s < servers c → (1 ≤ next_at c s) × (next_at c s ≤ NUMBER_LIMIT)
+next_range c is s within = All-get_or (λ n. (1 ≤ n) × (n ≤ NUMBER_LIMIT)) c.next s 0 within is.numbers
 
-numbers_used : (c : Client) → IsClient c → (s : ℕ) → s < servers c → next_at c s ≢ number_limit → All (λ n. (1 ≤ n) × (n ≤ number_limit)) (used_at c s)
+numbers_used : (c : Client) → IsClient c → (s : ℕ) → s < servers c → next_at c s ≢ NUMBER_LIMIT → All (λ n. (1 ≤ n) × (n ≤ NUMBER_LIMIT)) (used_at c s)
 numbers_used c is s within more =
     let range = next_range c is s within in
     let low : 1 ≤ next_at c s + 1 = omega arith in
-    let high : next_at c s + 1 ≤ number_limit = omega (arith, range.1, more) in
-    All-set (λ n. (1 ≤ n) × (n ≤ number_limit)) c.next s (next_at c s + 1) (low, high) is.numbers
+    let high : next_at c s + 1 ≤ NUMBER_LIMIT = omega (arith, range.1, more) in
+    All-set (λ n. (1 ≤ n) × (n ≤ NUMBER_LIMIT)) c.next s (next_at c s + 1) (low, high) is.numbers
 
 used_rises : (c d : Client) → Rises c d → (s n : ℕ) → IsUsed c s n → IsUsed d s n
 used_rises c d up s n used = let same = up.same_servers in let more = up.numbers s in let low = used.1.0 in let high = used.1.1 in let there = used.0 in (omega arith, (low, omega arith))
@@ -97,25 +99,25 @@ task_rises c d up (Syncing pending) h = record {
 same_is : (c d : Client) → IsClient c → d.next ≡ c.next → d.ticket ≡ c.ticket → d.outs ≡ c.outs → IsTaskOf d d.task → IsClient d
 same_is c d is n t o task = record {
   servers_low = subst (λ xs. 1 ≤ length xs) (sym n) is.servers_low;
-  servers_high = subst (λ xs. length xs ≤ server_limit) (sym n) is.servers_high;
-  numbers = subst (λ xs. All (λ k. (1 ≤ k) × (k ≤ number_limit)) xs) (sym n) is.numbers;
-  outs = subst (λ k. k < number_limit) (sym o) is.outs;
+  servers_high = subst (λ xs. length xs ≤ MAX_SERVERS) (sym n) is.servers_high;
+  numbers = subst (λ xs. All (λ k. (1 ≤ k) × (k ≤ NUMBER_LIMIT)) xs) (sym n) is.numbers;
+  outs = subst (λ k. k < NUMBER_LIMIT) (sym o) is.outs;
   ticket_low = subst (λ k. 1 ≤ k) (sym t) is.ticket_low;
-  ticket_high = subst (λ k. k ≤ number_limit) (sym t) is.ticket_high;
+  ticket_high = subst (λ k. k ≤ NUMBER_LIMIT) (sym t) is.ticket_high;
   task = task;
 }
 
 -- a number more is used at a server
-used_is : (c d : Client) (s : ℕ) → IsClient c → s < servers c → next_at c s ≢ number_limit → d.next ≡ used_at c s → d.ticket ≡ c.ticket → d.outs < number_limit → IsTaskOf d d.task → IsClient d
+used_is : (c d : Client) (s : ℕ) → IsClient c → s < servers c → next_at c s ≢ NUMBER_LIMIT → d.next ≡ used_at c s → d.ticket ≡ c.ticket → d.outs < NUMBER_LIMIT → IsTaskOf d d.task → IsClient d
 used_is c d s is within more n t o task =
     let same : servers d ≡ servers c = ap length n ∙ length-set c.next s (next_at c s + 1) in
     record {
       servers_low = let low = is.servers_low in omega arith;
       servers_high = let high = is.servers_high in omega arith;
-      numbers = subst (λ xs. All (λ k. (1 ≤ k) × (k ≤ number_limit)) xs) (sym n) (numbers_used c is s within more);
+      numbers = subst (λ xs. All (λ k. (1 ≤ k) × (k ≤ NUMBER_LIMIT)) xs) (sym n) (numbers_used c is s within more);
       outs = o;
       ticket_low = subst (λ k. 1 ≤ k) (sym t) is.ticket_low;
-      ticket_high = subst (λ k. k ≤ number_limit) (sym t) is.ticket_high;
+      ticket_high = subst (λ k. k ≤ NUMBER_LIMIT) (sym t) is.ticket_high;
       task = task;
     }
 
@@ -207,13 +209,13 @@ pub kept : (c : Client) (call : Call) (r : Reaction) → IsClient c → react c 
 kept c call r is e = kept_on c is call r (course c is call r e)
 
 -- A new client is as every client is.
-pub new_is : (number count : ℕ) → 1 ≤ count → count ≤ server_limit → IsClient (new_client number count)
+pub new_is : (number count : ℕ) → 1 ≤ count → count ≤ MAX_SERVERS → IsClient (new_client number count)
 new_is number count low high =
     let same : servers (new_client number count) ≡ count = length-replicate count (suc zero) in
     record {
       servers_low = omega arith;
       servers_high = omega arith;
-      numbers = All-replicate (λ n. (1 ≤ n) × (n ≤ number_limit)) count 1 (omega arith, omega arith);
+      numbers = All-replicate (λ n. (1 ≤ n) × (n ≤ NUMBER_LIMIT)) count 1 (omega arith, omega arith);
       outs = omega arith;
       ticket_low = omega arith;
       ticket_high = omega arith;

@@ -1,5 +1,6 @@
 -- What an event asks of the servers, its alarms, and what is ready at once.
-use Rattle.std.specs.Prelude.{ℕ, nat_le, true, false, if◌then◌else◌, List, Option, Some, None, filter_map, find, option_map, slice_get}
+use Rattle.std.specs.Prelude.{ℕ, nat_le, true, false, if◌then◌else◌, List, Option, Some, None}
+use Rattle.std.specs.Prelude.{filter_map, find, option_map, slice_get}
 use Rattle.std.specs.List.{enumerate_from}
 use Rattle.linda_event.specs.Trees.{Tree, Kind, input, read, alarm, always, never}
 use Rattle.linda_event.specs.Paths.{bases_of}

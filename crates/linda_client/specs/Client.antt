@@ -1,11 +1,14 @@
 -- A client as contracts see it, and what every client keeps.
-use Rattle.std.specs.Prelude.{ℕ, ◌+◌, ◌<◌, ◌≤◌, ◌==◌, Bool, true, false, ◌&&◌, List, length, Option, Some, None, All, IfSome, slice_index}
+use Rattle.std.specs.Prelude.{ℕ, ◌+◌, ◌<◌, ◌≤◌, ◌==◌, Bool, true, false, ◌&&◌, List, length, Option}
+use Rattle.std.specs.Prelude.{Some, None, All, IfSome, slice_index}
+use Rattle.linda_wire.specs.declared.limits.TheConstants.{NUMBER_LIMIT}
+use Rattle.linda_client.specs.declared.limits.TheConstants.{MAX_SERVERS}
 use Rattle.linda_client.specs.declared.task.Task.{Task}
 use Rattle.linda_client.specs.declared.task.Task.TheVariants.{Idle, Putting, Syncing}
 use Rattle.linda_client.specs.declared.arrival.Accepted.{Accepted}
 use Rattle.linda_client.specs.declared.arrival.Arrival.{Arrival}
 use Rattle.linda_client.specs.declared.ask.Ask.{Ask}
-use Rattle.linda_client.specs.Pending.{Pending, IsPending, ask_at, ticket_count, number_limit}
+use Rattle.linda_client.specs.Pending.{Pending, IsPending, ask_at, ticket_count}
 
 -- A client: its number, its clock, the next number at each server, the count of its outs, the next ticket,
 -- and what is pending.
@@ -16,10 +19,6 @@ pub record Client : Type 0 where
   pub outs : ℕ
   pub ticket : ℕ
   pub task : Task
-
--- the most servers of a client
-abbrev pub server_limit : ℕ
-server_limit = 16
 
 -- how many servers the client has
 abbrev pub servers : Client → ℕ
@@ -87,9 +86,9 @@ IsTaskOf c (Syncing pending) = IsPendingOf c pending
 -- What every client keeps.
 pub record IsClient (c : Client) : Type 0 where
   pub servers_low : 1 ≤ servers c
-  pub servers_high : servers c ≤ server_limit
-  pub numbers : All (λ n. (1 ≤ n) × (n ≤ number_limit)) c.next
-  pub outs : c.outs < number_limit
+  pub servers_high : servers c ≤ MAX_SERVERS
+  pub numbers : All (λ n. (1 ≤ n) × (n ≤ NUMBER_LIMIT)) c.next
+  pub outs : c.outs < NUMBER_LIMIT
   pub ticket_low : 1 ≤ c.ticket
-  pub ticket_high : c.ticket ≤ number_limit
+  pub ticket_high : c.ticket ≤ NUMBER_LIMIT
   pub task : IsTaskOf c c.task

@@ -1,5 +1,6 @@
 -- How a synchronization ends: what it commits to, what that gets, and whom it cancels.
-use Rattle.std.specs.Prelude.{◌≡◌, ℕ, ◌+◌, ◌<◌, ◌≤◌, false, true, ◌↔◌, List, Option, Some, None, All, Contains, IsSomeAnd, slice_get}
+use Rattle.std.specs.Prelude.{◌≡◌, ℕ, ◌+◌, ◌<◌, ◌≤◌, false, true, ◌↔◌, List, Option, Some, None}
+use Rattle.std.specs.Prelude.{All, Contains, IsSomeAnd, slice_get}
 use Rattle.linda_tuple.specs.Tuple.{Tuple}
 use Rattle.linda_tuple.specs.Matching.{Matches, bindings_of}
 use Rattle.linda_event.specs.Trees.{Tree, Kind, input, read, alarm, always}

@@ -1,11 +1,13 @@
 -- A client over many calls: what it sends, and which synchronizations end.
-use Rattle.std.specs.Prelude.{◌≡◌, ◌≤◌, ℕ, Bool, true, false, List, [], ◌∷◌, Option, Some, None, Ok, Err, Contains, count_by, flat_map}
+use Rattle.std.specs.Prelude.{◌≡◌, ◌≤◌, ℕ, Bool, true, false, List, [], ◌∷◌, Option, Some, None, Ok}
+use Rattle.std.specs.Prelude.{Err, Contains, count_by, flat_map}
 use Rattle.linda_tuple.specs.Template.{Template}
 use Rattle.linda_wire.specs.declared.message.Message.{Message}
 use Rattle.linda_wire.specs.declared.message.Message.TheVariants as messages
+use Rattle.linda_client.specs.declared.limits.TheConstants.{MAX_SERVERS}
 use Rattle.linda_client.specs.declared.outcome.Outcome.{Outcome}
 use Rattle.linda_client.specs.declared.outcome.Outcome.TheVariants.{Stored, Synced, Dropped}
-use Rattle.linda_client.specs.Client.{Client, server_limit}
+use Rattle.linda_client.specs.Client.{Client}
 use Rattle.linda_client.specs.Packets.{Packet}
 use Rattle.linda_client.specs.Reaction.{Answer, Reaction}
 use Rattle.linda_client.specs.React.{Call, Out, Sync, Receive, Tick, Resend, Reconnected, Abandon, new_client, react}
@@ -69,5 +71,5 @@ TicketsAreOnce sent =
 
 -- P holds of all that comes of calls of a new client, whatever they are.
 abbrev pub FromNew : (List Act → Type 0) → Type 0
-FromNew P = (number count : ℕ) (calls : List Call) → 1 ≤ count → count ≤ server_limit
+FromNew P = (number count : ℕ) (calls : List Call) → 1 ≤ count → count ≤ MAX_SERVERS
     → P (history (new_client number count) calls)

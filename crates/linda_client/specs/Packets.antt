@@ -1,5 +1,6 @@
 -- What a client sends for the tickets of a synchronization, and what it sends again.
-use Rattle.std.specs.Prelude.{ℕ, ◌==◌, Bool, false, ◌&&◌, not, if◌then◌else◌, List, [], ◌++◌, Option, Some, None, map, filter, flat_map, option_to_list}
+use Rattle.std.specs.Prelude.{ℕ, ◌==◌, Bool, false, ◌&&◌, not, if◌then◌else◌, List, [], ◌++◌}
+use Rattle.std.specs.Prelude.{Option, Some, None, map, filter, flat_map, option_to_list}
 use Rattle.std.specs.List.{enumerate_from, list_any, range_with_len}
 use Rattle.linda_wire.specs.declared.message.Message.{Message}
 use Rattle.linda_wire.specs.declared.message.Message.TheVariants as messages

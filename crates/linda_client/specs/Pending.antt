@@ -1,9 +1,12 @@
 -- A synchronization that is pending: its tickets, what it accepted and what it saved.
-use Rattle.std.specs.Prelude.{◌≡◌, ℕ, ◌+◌, ◌-◌, ◌^◌, ◌≤◌, ◌==◌, nat_lt, Bool, true, false, ◌&&◌, not, if◌then◌else◌, List, [], ◌∷◌, ◌++◌, drop, length, Option, Some, None, All, IfSome, IsSomeAnd, slice_get}
+use Rattle.std.specs.Prelude.{◌≡◌, ℕ, ◌+◌, ◌-◌, ◌^◌, ◌≤◌, ◌==◌, nat_lt, Bool, true, false, ◌&&◌}
+use Rattle.std.specs.Prelude.{not, if◌then◌else◌, List, [], ◌∷◌, ◌++◌, drop, length, Option, Some}
+use Rattle.std.specs.Prelude.{None, All, IfSome, IsSomeAnd, slice_get}
 use Rattle.std.specs.List.{list_any}
 use Rattle.linda_tuple.specs.Tuple.{Tuple}
 use Rattle.linda_tuple.specs.Matching.{Matches}
 use Rattle.linda_tuple.specs.Testing.{is_match}
+use Rattle.linda_wire.specs.declared.limits.TheConstants.{NUMBER_LIMIT}
 use Rattle.linda_event.specs.Trees.{Tree}
 use Rattle.linda_event.specs.Limits.{IsWithinLimits}
 use Rattle.linda_client.specs.declared.arrival.Arrival.{Arrival}
@@ -55,10 +58,6 @@ IsOpenInput pending ticket = IsSomeAnd (ask_at pending ticket) (λ ask. ask.remo
 abbrev pub FitsOpen : Pending → Arrival → Type 0
 FitsOpen pending arrival = IsSomeAnd (ask_at pending arrival.ticket) (λ ask. Matches ask.template arrival.tuple)
 
--- Numbers and tickets stay below this.
-abbrev pub number_limit : ℕ
-number_limit = 2 ^ 63
-
 -- The oldest arrival that it saved, where it saved some, is saved no more.
 abbrev pub drop_oldest : Pending → Pending
 drop_oldest pending = record pending { saved = drop 1 pending.saved }
@@ -81,7 +80,7 @@ let_go pending = record pending { accepted = None }
 pub record IsPending (pending : Pending) : Type 0 where
   pub within : IsWithinLimits pending.event
   pub first : 1 ≤ pending.first
-  pub last : pending.first + ticket_count pending ≤ number_limit
+  pub last : pending.first + ticket_count pending ≤ NUMBER_LIMIT
   pub accepted : IfSome pending.accepted (λ a. IsOpenInput pending a.ticket)
   pub saved : All (FitsOpen pending) pending.saved
   pub waiting : pending.accepted ≡ None → pending.saved ≡ []

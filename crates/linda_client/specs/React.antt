@@ -1,7 +1,11 @@
 -- The calls of a client, and what each comes to.
-use Rattle.std.specs.Prelude.{◌≡◌, ℕ, ◌+◌, ◌%◌, ◌==◌, nat_lt, max, Bool, true, false, ◌&&◌, ◌||◌, not, if◌then◌else◌, List, [], ◌∷◌, length, Option, Some, None, is_some, Ok, Err, count_by, filter, replicate, slice_set}
+use Rattle.std.specs.Prelude.{◌≡◌, ℕ, ◌+◌, ◌%◌, ◌==◌, nat_lt, max, Bool, true, false, ◌&&◌, ◌||◌}
+use Rattle.std.specs.Prelude.{not, if◌then◌else◌, List, [], ◌∷◌, length, Option, Some, None}
+use Rattle.std.specs.Prelude.{is_some, Ok, Err, count_by, filter, replicate, slice_set}
 use Rattle.linda_tuple.specs.Tuple.{Tuple}
 use Rattle.linda_tuple.specs.Matching.{bindings_of}
+use Rattle.linda_wire.specs.declared.limits.TheConstants.{NUMBER_LIMIT}
+use Rattle.linda_event.specs.declared.limits.TheConstants.{MAX_BASES, MAX_ASKS}
 use Rattle.linda_event.specs.Trees.{Tree}
 use Rattle.linda_event.specs.Paths as paths
 use Rattle.linda_event.specs.Limits.{is_ask, is_too_deep}
@@ -18,7 +22,7 @@ use Rattle.linda_client.specs.declared.outcome.Got.TheVariants as gots
 use Rattle.linda_client.specs.declared.outcome.Outcome.TheVariants as outcomes
 use Rattle.linda_client.specs.declared.task.Task.TheVariants.{Idle, Putting, Syncing}
 use Rattle.linda_client.specs.Ask.{asks, first_alarm, first_ready}
-use Rattle.linda_client.specs.Pending.{Pending, ask_at, is_answer, is_fit, is_saved, let_go, number_limit, save_last}
+use Rattle.linda_client.specs.Pending.{Pending, ask_at, is_answer, is_fit, is_saved, let_go, save_last}
 use Rattle.linda_client.specs.Client.{Client, IsClient, is_idle, is_out_of, next_at, pending_in, servers, with_pending}
 use Rattle.linda_client.specs.Packets.{ask_packets, cancels, sent_again}
 use Rattle.linda_client.specs.Reaction.{Answer, Reaction, commit, finish, hand_on, no_reaction, send}
@@ -65,7 +69,7 @@ put c server row = send ((server, messages.Out (next_at c server) row) ∷ [])
 abbrev pub on_out : Client → Tuple → Answer
 on_out c row =
     if not (is_idle c.task) then Err faults.Busy
-    else (if (next_at c (out_server c) == number_limit) || (c.outs + 1 == number_limit) then Err faults.Spent
+    else (if (next_at c (out_server c) == NUMBER_LIMIT) || (c.outs + 1 == NUMBER_LIMIT) then Err faults.Spent
     else Ok (put c (out_server c) row))
 
 -- a synchronization that has asked and waits
@@ -79,18 +83,20 @@ ask_servers c event = send (ask_packets (servers c) (new_pending c event))
 
 -- whether no base of the event is ready, and a ticket would reach the limit
 abbrev pub lacks_tickets : Client → Tree → Bool
-lacks_tickets c event = nat_lt number_limit (c.ticket + length (asks event)) && not
+lacks_tickets c event = nat_lt NUMBER_LIMIT (c.ticket + length (asks event)) && not
     (is_some (first_ready c.clock event))
 
 -- an event within its limits, given the base that is ready at once: it commits to that, or asks
 abbrev pub on_ready : Client → Tree → Option (ℕ × Got) → Answer
 on_ready c event (Some ready) = Ok (commit c event [] ready.0 ready.1)
 on_ready c event None =
-    (if nat_lt number_limit (c.ticket + length (asks event)) then Err faults.Spent else Ok (ask_servers c event))
+    (if nat_lt NUMBER_LIMIT (c.ticket + length (asks event)) then Err faults.Spent else Ok (ask_servers c event))
 
--- whether an event has more than 256 bases, or more than 64 of them are inputs or reads
+-- whether an event has too many bases, or too many inputs and reads among them
 abbrev pub has_too_many : Tree → Bool
-has_too_many event = nat_lt 256 (length (paths.bases_of event)) || nat_lt 64 (count_by is_ask (paths.bases_of event))
+has_too_many event =
+    nat_lt MAX_BASES (length (paths.bases_of event))
+    || nat_lt MAX_ASKS (count_by is_ask (paths.bases_of event))
 
 abbrev pub on_sync : Client → Tree → Answer
 on_sync c event =
@@ -111,7 +117,7 @@ next_accept c server ticket id = record { server = server; n = next_at c server;
 -- an offer of a server is accepted, for a ticket and an id, with the next number of that server
 abbrev pub accept : Client → Pending → ℕ → ℕ → ℕ → Answer
 accept c pending server ticket id =
-    if next_at c server == number_limit then Err faults.Spent
+    if next_at c server == NUMBER_LIMIT then Err faults.Spent
     else Ok (send ((server, messages.Accept (next_at c server) ticket id) ∷ [])
     (with_pending (use_number c server) (record pending { accepted = Some (next_accept c server ticket id) })))
 

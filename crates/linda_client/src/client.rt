@@ -9,27 +9,24 @@ mod tick;
 
 ghost use Rattle.std.specs.Prelude.{◌≡◌, ◌+◌, ◌↔◌, ◌<◌, ◌≤◌, ◌⊎◌, [], None, true, is_some, max};
 ghost use Rattle.std.specs.Prelude.{option_copied, IfOk, IfErr, OnOk, OnErr, IsErrOf};
+ghost use Rattle.linda_wire.specs.declared.limits.TheConstants.{NUMBER_LIMIT};
+ghost use Rattle.linda_client.specs.declared.limits.TheConstants.{MAX_SERVERS};
 ghost use Rattle.linda_client.specs.declared.fault.ClientFault.TheVariants as faults;
 ghost use Rattle.linda_client.specs.declared.task.Task.TheVariants as tasks;
 ghost use Rattle.linda_client.specs.Client.{IsClient, OfPending, is_idle, next_at, pending_in};
 ghost use Rattle.linda_client.specs.Client.{servers, with_pending};
 ghost use Rattle.linda_client.specs.Pending.{FitsOpen, IsOpenInput, IsPending, let_go};
-ghost use Rattle.linda_client.specs.Pending.{number_limit, save_last, take_oldest, ticket_count};
+ghost use Rattle.linda_client.specs.Pending.{save_last, take_oldest, ticket_count};
 ghost use Rattle.linda_client.specs.React.{new_client, out_server, put, use_number};
 
 use crate::arrival::{Accepted, Arrival};
 use crate::fault::ClientFault;
+use crate::limits::MAX_SERVERS;
 use crate::pending::Pending;
 use crate::task::Task;
 use linda_tuple::Tuple;
 use std::alloc::{AllocError, Global};
 use std::marker::Model;
-
-/// The most servers of a client.
-const MAX_SERVERS: u32 = 16;
-
-/// Numbers, tickets and the count of outs stay below this.
-const NUMBER_LIMIT: u64 = 1 << 63;
 
 /// A client of the tuple space: what it puts and waits for, over its servers. At most one out or one
 /// synchronization is pending. The client sends nothing itself: each call gives the packets to be sent.
@@ -69,7 +66,7 @@ impl Client {
     /// `ServersRange` where the servers are not 1 to 16; else `Memory` where memory runs out.
     pub fn new(alloc: Global, client: u32, servers: u32) -> Result<Client, ClientFault>
         ensures ok { IfOk result (λ c. c ≡ new_client client servers) }
-        ensures range { IsErrOf result ClientFault.ServersRange ↔ ((servers ≡ 0) ⊎ (16 < servers)) }
+        ensures range { IsErrOf result ClientFault.ServersRange ↔ ((servers ≡ 0) ⊎ (MAX_SERVERS < servers)) }
         ensures faults { IfErr result (λ f. (f ≡ faults.ServersRange) ⊎ (f ≡ faults.Memory)) }
     {
         if servers == 0 || servers > MAX_SERVERS {
@@ -138,7 +135,7 @@ impl Client {
     fn next_at(&self, server: u32) -> u64
         requires { server < servers self.now }
         ensures number { result ≡ next_at self.now server }
-        ensures ranges { (1 ≤ result) × (result ≤ number_limit) }
+        ensures ranges { (1 ≤ result) × (result ≤ NUMBER_LIMIT) }
     {
         self.next[server as usize]
     }
@@ -154,7 +151,7 @@ impl Client {
     // The count of outs so far.
     fn outs(&self) -> u64
         ensures count { result ≡ self.now.outs }
-        ensures range { result < number_limit }
+        ensures range { result < NUMBER_LIMIT }
     {
         self.outs
     }
@@ -176,8 +173,8 @@ impl Client {
     // The tuple is put at this server, under the next number there.
     fn put(&mut self, server: u32, tuple: Tuple)
         requires server { server < servers self.old }
-        requires number { next_at self.old server < number_limit }
-        requires outs { self.old.outs + 1 < number_limit }
+        requires number { next_at self.old server < NUMBER_LIMIT }
+        requires outs { self.old.outs + 1 < NUMBER_LIMIT }
         ensures { self.new ≡ (put self.old server tuple).client }
     {
         let n = self.next[server as usize];
@@ -202,7 +199,7 @@ impl Client {
     fn accept(&mut self, accepted: Accepted)
         requires server { accepted.server < servers self.old }
         requires number { accepted.n ≡ next_at self.old accepted.server }
-        requires room { accepted.n < number_limit }
+        requires room { accepted.n < NUMBER_LIMIT }
         requires input { OfPending self.old (λ p. IsOpenInput p accepted.ticket) }
         ensures { OfPending self.old (λ p. self.new
             ≡ with_pending (use_number self.old accepted.server) (take_oldest accepted p)) }

@@ -5,7 +5,8 @@
 //! hold, whatever is called and whatever servers reply, in whatever order and however often.
 
 ghost use Rattle.std.specs.Prelude.{◌≡◌, ◌≤◌, ℕ, All};
-ghost use Rattle.linda_client.specs.Client.{IsClient, pending_in, server_limit};
+ghost use Rattle.linda_client.specs.declared.limits.TheConstants.{MAX_SERVERS};
+ghost use Rattle.linda_client.specs.Client.{IsClient, pending_in};
 ghost use Rattle.linda_client.specs.Ending.{TakenBy};
 ghost use Rattle.linda_client.specs.History.{FromNew, NumbersAreOnce, TicketsAreOnce, all_sent, end_count, sync_count};
 ghost use Rattle.linda_client.specs.Numbers.{NumbersGoOn, Rises};
@@ -15,7 +16,7 @@ ghost use Rattle.linda_client.specs.React.{AtEachCall, new_client};
 
 /// A new client is as every client is, and so is a client after each call.
 pub fn calls_keep_clients()
-    ensures new { (number count : ℕ) → 1 ≤ count → count ≤ server_limit → IsClient (new_client number count) }
+    ensures new { (number count : ℕ) → 1 ≤ count → count ≤ MAX_SERVERS → IsClient (new_client number count) }
     ensures kept { AtEachCall (λ c call r. IsClient r.client) }
 {}
 

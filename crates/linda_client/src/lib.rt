@@ -15,6 +15,7 @@ mod ask;
 mod client;
 mod fault;
 mod laws;
+mod limits;
 mod outcome;
 mod packet;
 mod pending;
@@ -29,6 +30,7 @@ pub use laws::{
     offers_are_treated, offers_in_hand_are_kept, only_a_taken_takes, packets_are_sound,
     synchronizations_end_once, synchronizations_go_on,
 };
+pub use limits::MAX_SERVERS;
 pub use outcome::{Bindings, Got, Numbers, Outcome};
 pub use reaction::Reaction;
 

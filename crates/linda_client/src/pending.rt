@@ -4,6 +4,7 @@ ghost use Rattle.std.specs.Prelude.{◌≡◌, ◌+◌, ◌<◌, ◌≤◌, ◌�
 ghost use Rattle.std.specs.Prelude.{option_copied, is_some, slice_get, IfOk, IsTrue, OnOk, OnErr};
 ghost use Rattle.std.specs.List.{list_any};
 ghost use Rattle.linda_tuple.specs.Matching.{Matches, bindings_of};
+ghost use Rattle.linda_wire.specs.declared.limits.TheConstants.{NUMBER_LIMIT};
 ghost use Rattle.linda_event.specs.Limits.{IsWithinLimits};
 ghost use Rattle.linda_event.specs.Paths.{all_nacks};
 ghost use Rattle.linda_event.specs.Trees.{tree_of};
@@ -11,7 +12,7 @@ ghost use Rattle.linda_client.specs.Arrival.{arrival_of};
 ghost use Rattle.linda_client.specs.Ask.{asks as asks_of, alarms as alarms_of, first_alarm};
 ghost use Rattle.linda_client.specs.Packets.{ask_packets, cancels_but, is_of, sent_for, spared};
 ghost use Rattle.linda_client.specs.Pending.{FitsOpen, IsOpenInput, IsPending, ask_at, is_saved};
-ghost use Rattle.linda_client.specs.Pending.{let_go, number_limit, save_last, take_oldest};
+ghost use Rattle.linda_client.specs.Pending.{let_go, save_last, take_oldest};
 ghost use Rattle.linda_client.specs.Pending.{ticket_count};
 ghost use Rattle.linda_client.specs.React.{ask_of_taken, awaits};
 ghost use Rattle.linda_client.specs.Reaction.{commitment};
@@ -71,7 +72,7 @@ impl Pending {
         requires asks { asks.items ≡ asks_of (tree_of event) }
         requires alarms { alarms.items ≡ alarms_of (tree_of event) }
         requires first { 1 ≤ first }
-        requires last { first + length asks.items ≤ number_limit }
+        requires last { first + length asks.items ≤ NUMBER_LIMIT }
         ensures { result ≡ record { event = tree_of event; first = first; accepted = None; saved = [] } }
     {
         Pending {

@@ -1,5 +1,5 @@
 -- What a reader leaves, and what a fault counts, are bytes that are there.
-use Rattle.std.proofs.Common.{◌≡◌, ◌≢◌, ℕ, zero, suc, ◌-◌, ◌<◌, ◌≤◌, Bool, true, false, cond, List, [], ◌∷◌, length, drop, Ok, Err, sym, ap, subst, ◌∙◌, arith, length-drop}
+use Rattle.std.proofs.Common.{◌≡◌, ◌≢◌, ℕ, zero, suc, ◌-◌, ◌≤◌, Bool, true, false, cond, List, ◌∷◌, length, drop, Ok, Err, sym, ap, subst, ◌∙◌, arith, length-drop}
 use Rattle.linda_codec.specs.declared.fault.ReadFault.{ReadFault}
 use Rattle.linda_codec.specs.declared.fault.ReadFault.TheVariants.{Memory, Short, BadKind, BadBool, BadText, TooMany}
 use Rattle.linda_codec.specs.Steps.{Read, Reader, ◌>>=◌, many_at}

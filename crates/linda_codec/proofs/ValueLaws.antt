@@ -1,18 +1,18 @@
 -- The formats of atoms, tuples and templates are lawful.
-use Rattle.std.proofs.Common.{◌≡◌, ℕ, ◌≤◌, List, [], ◌∷◌, ◌++◌, Ok, refl, arith}
+use Rattle.std.proofs.Common.{◌≡◌, ℕ, List, [], ◌∷◌, ◌++◌, Ok, refl, arith}
 use Rattle.linda_tuple.specs.declared.atom.Atom.{Atom}
 use Rattle.linda_tuple.specs.declared.atom.Atom.TheVariants as atoms
 use Rattle.linda_tuple.specs.declared.pattern.Pattern.{Pattern}
 use Rattle.linda_tuple.specs.declared.pattern.Pattern.TheVariants as patterns
 use Rattle.linda_tuple.specs.declared.limits.TheConstants.{MAX_FIELDS}
 use Rattle.linda_tuple.specs.Atom.{IsSound}
-use Rattle.linda_tuple.specs.Tuple.{Tuple, IsWithin}
-use Rattle.linda_tuple.specs.Template.{Template, IsSoundPattern, IsWithinTemplate}
+use Rattle.linda_tuple.specs.Tuple.{IsWithin}
+use Rattle.linda_tuple.specs.Template.{IsSoundPattern, IsWithinTemplate}
 use Rattle.linda_codec.specs.declared.kinds.TheConstants.{INTEGER, TEXT, TRUTH, INT_FORMAL, TEXT_FORMAL, BOOL_FORMAL, WILDCARD}
 use Rattle.linda_codec.specs.Lawful.{IsFormat}
-use Rattle.linda_codec.specs.Formats.{made_at, no_kind, choice_at}
+use Rattle.linda_codec.specs.Formats.{made_at, no_kind}
 use Rattle.linda_codec.specs.Values as format
-use Rattle.linda_codec.proofs.FormatLaws.{byte_is, integer_is, truth_is, nothing_is, both_is, IsReader, body_is, made_again, made_is, known_as_is, sized_text_is, counted_is, no_kind_is, choice_is, AreBodies}
+use Rattle.linda_codec.proofs.FormatLaws.{byte_is, integer_is, truth_is, nothing_is, both_is, body_is, made_again, made_is, known_as_is, sized_text_is, counted_is, no_kind_is, choice_is, AreBodies}
 
 pub text_is : IsFormat format.text
 text_is = sized_text_is byte_is

@@ -1,7 +1,9 @@
 -- Formats: the one spelling of a value, which values have one, and its reader; and formats made of formats.
-use Rattle.std.specs.Prelude.{◌≡◌, ℕ, zero, suc, ◌<◌, ◌≤◌, ◌^◌, ◌==◌, ℤ, Bool, true, false, List, [], ◌∷◌, ◌++◌, length, take, drop, All, Ok, Err, FitsSigned, nat_lt, if◌then◌else◌}
+use Rattle.std.specs.Prelude.{◌≡◌, ℕ, zero, suc, ◌<◌, ◌≤◌, ◌^◌, ◌==◌, ℤ, Bool, true, false, List}
+use Rattle.std.specs.Prelude.{[], ◌∷◌, ◌++◌, length, take, drop, All, Ok, Err, FitsSigned, nat_lt}
+use Rattle.std.specs.Prelude.{if◌then◌else◌}
 use Rattle.std.specs.List.{flat_map}
-use Rattle.std.specs.Int.{Width, w8, w32, w64, byte_len, to_be_bytes, from_be_bytes, cast_signed, cast_unsigned}
+use Rattle.std.specs.Int.{Width, w32, w64, byte_len, to_be_bytes, from_be_bytes, cast_signed, cast_unsigned}
 use Rattle.std.specs.Str.{is_utf8}
 use Rattle.linda_codec.specs.declared.fault.ReadFault.TheVariants.{Short, BadKind, BadBool, BadText, TooMany}
 use Rattle.linda_codec.specs.Steps.{Reader, ◌>>=◌, many_at}
@@ -24,7 +26,9 @@ byte = record { spell = λ n. n ∷ []; Fits = λ n. n < 2 ^ 8; read = byte_at }
 
 -- An unsigned number of that width.
 abbrev pub number_at : Width → Reader ℕ
-number_at w bytes = if nat_lt (length bytes) (byte_len w) then Err Short else Ok (from_be_bytes w (take (byte_len w) bytes), drop (byte_len w) bytes)
+number_at w bytes =
+    if nat_lt (length bytes) (byte_len w) then Err Short
+    else Ok (from_be_bytes w (take (byte_len w) bytes), drop (byte_len w) bytes)
 
 -- A number of 32 bits.
 abbrev pub short_number : Format ℕ
@@ -83,7 +87,10 @@ abbrev pub sized_text : Format ℕ → Format (List ℕ)
 sized_text size = record {
   spell = λ t. size.spell (length t) ++ t;
   Fits = λ t. size.Fits (length t) × (is_utf8 t ≡ true);
-  read = λ bytes. size.read bytes >>= λ n. if nat_lt (length n.1) n.0 then Err Short else (if is_utf8 (take n.0 n.1) then Ok (take n.0 n.1, drop n.0 n.1) else Err (BadText (length n.1)));
+  read = λ bytes. size.read bytes >>= λ n.
+      if nat_lt (length n.1) n.0 then Err Short
+      else (if is_utf8 (take n.0 n.1) then Ok (take n.0 n.1, drop n.0 n.1)
+      else Err (BadText (length n.1)));
 }
 
 -- A count byte that is not above the limit.

@@ -1,8 +1,9 @@
 -- Reading at an offset: where a fault is told, and what is read there.
-use Rattle.std.specs.Prelude.{ℕ, ◌-◌, ◌<◌, ◌≤◌, List, length, drop, Result, Ok, Err}
+use Rattle.std.specs.Prelude.{◌≡◌, ℕ, ◌-◌, ◌<◌, ◌≤◌, List, ◌++◌, length, drop, Result, Ok, Err}
 use Rattle.linda_codec.specs.declared.fault.ReadFault.{ReadFault}
 use Rattle.linda_codec.specs.declared.fault.ReadFault.TheVariants.{Memory, Short, BadKind, BadBool, BadText, TooMany}
-use Rattle.linda_codec.specs.Steps.{Read, Reader}
+use Rattle.linda_codec.specs.Steps.{Read, Reader, Gives}
+use Rattle.linda_codec.specs.Formats.{Format}
 
 -- A fault told by its offset, where so many bytes were there in all.
 abbrev pub placed : ℕ → ReadFault → ReadFault
@@ -30,3 +31,15 @@ IsPlace from to (BadKind at) = (from ≤ at) × (at < to)
 IsPlace from to (BadBool at) = (from ≤ at) × (at < to)
 IsPlace from to (BadText at) = (from ≤ at) × (at < to)
 IsPlace from to (TooMany at) = (from ≤ at) × (at < to)
+
+-- A value that fits is spelled from the first offset to the second.
+abbrev pub IsSpelledAt : {A : Type 0} → Format A → List ℕ → ℕ → A × ℕ → Type 0
+IsSpelledAt f bytes at x =
+    f.Fits x.0 × (x.1 ≤ length bytes) × (drop at bytes ≡ f.spell x.0 ++ drop x.1 bytes)
+
+-- Where a value is spelled from the offset on, it is the answer, with the offset of the byte after it, unless
+-- memory runs out.
+abbrev pub ReadsSpelled : {A : Type 0} → Format A → List ℕ → ℕ → Result (A × ℕ) ReadFault → Type 0
+ReadsSpelled {A = A} f bytes at answer =
+    (value : A) (rest : List ℕ) → f.Fits value → drop at bytes ≡ f.spell value ++ rest
+    → Gives (λ x. x) answer (Ok (value, length bytes - length rest))

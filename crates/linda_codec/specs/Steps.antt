@@ -3,7 +3,8 @@ use Rattle.std.specs.Prelude.{◌≡◌, ◌≢◌, ℕ, zero, suc, List, [], �
 use Rattle.linda_codec.specs.declared.fault.ReadFault.{ReadFault}
 use Rattle.linda_codec.specs.declared.fault.ReadFault.TheVariants.{Memory}
 
--- What reading gives: the value and the bytes after it, or the first fault. A fault's number counts the bytes left, from the byte at fault to the end.
+-- What reading gives: the value and the bytes after it, or the first fault. A fault's number counts
+-- the bytes left, from the byte at fault to the end.
 abbrev pub Read : Type 0 → Type 0
 Read A = Result (A × List ℕ) ReadFault
 

@@ -8,9 +8,11 @@ use Rattle.linda_tuple.specs.declared.limits.TheConstants.{MAX_FIELDS}
 use Rattle.linda_tuple.specs.Atom.{IsSound}
 use Rattle.linda_tuple.specs.Tuple.{Tuple, IsWithin}
 use Rattle.linda_tuple.specs.Template.{Template, IsSoundPattern, IsWithinTemplate}
-use Rattle.linda_codec.specs.declared.kinds.TheConstants.{INTEGER, TEXT, TRUTH, INT_FORMAL, TEXT_FORMAL, BOOL_FORMAL, WILDCARD}
+use Rattle.linda_codec.specs.declared.kinds.TheConstants.{INTEGER, TEXT, TRUTH, INT_FORMAL}
+use Rattle.linda_codec.specs.declared.kinds.TheConstants.{TEXT_FORMAL, BOOL_FORMAL, WILDCARD}
 use Rattle.linda_codec.specs.Steps.{Reader}
-use Rattle.linda_codec.specs.Formats.{Format, byte, integer, truth, nothing, both, made_at, made, known_as, sized_text, counted, no_kind, choice_at}
+use Rattle.linda_codec.specs.Formats.{Format, byte, integer, truth, nothing, both, made_at, made}
+use Rattle.linda_codec.specs.Formats.{known_as, sized_text, counted, no_kind, choice_at}
 
 -- A text: a length byte and that many bytes of UTF-8.
 abbrev pub text : Format (List ℕ)
@@ -24,7 +26,10 @@ spell_atom (atoms.Bool b) = TRUTH ∷ truth.spell b
 
 -- The kinds of atoms, each with its body.
 abbrev pub atom_kinds : List (ℕ × Reader Atom)
-atom_kinds = (INTEGER, made_at (λ n. atoms.Int n) integer) ∷ (TEXT, made_at (λ t. atoms.Text t) text) ∷ (TRUTH, made_at (λ b. atoms.Bool b) truth) ∷ []
+atom_kinds =
+    (INTEGER, made_at (λ n. atoms.Int n) integer)
+    ∷ (TEXT, made_at (λ t. atoms.Text t) text)
+    ∷ (TRUTH, made_at (λ b. atoms.Bool b) truth) ∷ []
 
 abbrev pub atom : Format Atom
 atom = record { spell = spell_atom; Fits = IsSound; read = choice_at atom_kinds no_kind }
@@ -44,12 +49,22 @@ formal_kinds =
     ∷ (BOOL_FORMAL, made_at (λ n. patterns.BoolFormal) nothing) ∷ (WILDCARD, made_at (λ n. patterns.Any) nothing) ∷ []
 
 abbrev pub pattern : Format Pattern
-pattern = record { spell = spell_pattern; Fits = IsSoundPattern; read = choice_at formal_kinds (made_at (λ v. patterns.Value v) atom) }
+pattern = record {
+  spell = spell_pattern;
+  Fits = IsSoundPattern;
+  read = choice_at formal_kinds (made_at (λ v. patterns.Value v) atom);
+}
 
 -- A tuple: the tag, the count of the fields, the fields.
 abbrev pub tuple : Format Tuple
-tuple = known_as IsWithin (made (λ p. record { tag = p.0; fields = p.1 }) (λ t. (t.tag, t.fields)) (both atom (counted MAX_FIELDS atom)))
+tuple =
+    known_as IsWithin
+    (made (λ p. record { tag = p.0; fields = p.1 }) (λ t. (t.tag, t.fields))
+    (both atom (counted MAX_FIELDS atom)))
 
 -- A template: the tag, the count of the patterns, the patterns.
 abbrev pub template : Format Template
-template = known_as IsWithinTemplate (made (λ p. record { tag = p.0; fields = p.1 }) (λ t. (t.tag, t.fields)) (both atom (counted MAX_FIELDS pattern)))
+template =
+    known_as IsWithinTemplate
+    (made (λ p. record { tag = p.0; fields = p.1 }) (λ t. (t.tag, t.fields))
+    (both atom (counted MAX_FIELDS pattern)))

@@ -8,8 +8,9 @@ use thiserror::Error;
 
 /// What is wrong with the bytes: the first fault from left to right; or that memory ran out.
 ///
-/// Each number tells the byte at fault: its offset in the answers of `get_atom`, `get_tuple` and `get_template`, and the
-/// count of the bytes left, from that byte to the end, in the answers of the readers that hand back the bytes after the value.
+/// Each number tells the byte at fault: its offset in the answers of `get_atom`, `get_tuple` and
+/// `get_template`, and the count of the bytes left, from that byte to the end, in the answers of the
+/// readers that hand back the bytes after the value.
 #[derive(Clone, Copy, Debug, PartialEq, Eq, Error)]
 pub enum ReadFault {
     /// No memory for the value.

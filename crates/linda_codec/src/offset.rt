@@ -1,13 +1,8 @@
 //! Readers of atoms, tuples and templates at an offset, which give the value and the offset of the byte after it.
 
-ghost use Rattle.std.specs.Prelude.{◌≡◌, ◌≤◌, ◌-◌, ◌++◌, ℕ, List, length, drop, IsOk, IsErrOf, IfOk, IfErr, Ok};
-ghost use Rattle.linda_tuple.specs.declared.atom.Atom as atoms;
-ghost use Rattle.linda_tuple.specs.Atom.{IsSound};
-ghost use Rattle.linda_tuple.specs.Tuple.{Tuple, IsWithin};
-ghost use Rattle.linda_tuple.specs.Atom.{IsText};
-ghost use Rattle.linda_tuple.specs.Template.{Template, IsWithinTemplate};
+ghost use Rattle.std.specs.Prelude.{◌≡◌, length, drop, IsOk, IsErrOf, IfOk, IfErr};
 ghost use Rattle.linda_codec.specs.Steps.{Gives};
-ghost use Rattle.linda_codec.specs.Places.{placed, read_at, IsPlace};
+ghost use Rattle.linda_codec.specs.Places.{placed, read_at, IsPlace, IsSpelledAt, ReadsSpelled};
 ghost use Rattle.linda_codec.specs.Values as format;
 
 use crate::fault::ReadFault;
@@ -23,9 +18,9 @@ use std::alloc::Global;
 /// The first fault from the left, told by its offset; `Memory` where a text finds none.
 pub fn get_atom(alloc: Global, bytes: &[u8], at: usize) -> Result<(Atom, usize), ReadFault>
     // What is read is spelled so.
-    ensures found { IfOk result (λ x. IsSound x.0 × (x.1 ≤ length bytes.now) × (drop at bytes.now ≡ format.atom.spell x.0 ++ drop x.1 bytes.now)) }
+    ensures found { IfOk result (IsSpelledAt format.atom bytes.now at) }
     // What is spelled so is read, unless memory runs out.
-    ensures only { (atom : atoms.Atom) (rest : List ℕ) → IsSound atom → drop at bytes.now ≡ format.atom.spell atom ++ rest → Gives (λ x. x) result (Ok (atom, length bytes.now - length rest)) }
+    ensures only { ReadsSpelled format.atom bytes.now at result }
     // Which fault it is, and where.
     ensures exact { Gives (λ x. x) result (read_at format.atom.read bytes.now at) }
     // The offset of a fault is within what was read.
@@ -47,9 +42,9 @@ pub fn get_atom(alloc: Global, bytes: &[u8], at: usize) -> Result<(Atom, usize),
 /// The first fault from the left, told by its offset; `Memory` where the values find none.
 pub fn get_tuple(alloc: Global, bytes: &[u8], at: usize) -> Result<(Tuple, usize), ReadFault>
     // What is read is spelled so.
-    ensures found { IfOk result (λ x. IsWithin x.0 × (x.1 ≤ length bytes.now) × (drop at bytes.now ≡ format.tuple.spell x.0 ++ drop x.1 bytes.now)) }
+    ensures found { IfOk result (IsSpelledAt format.tuple bytes.now at) }
     // What is spelled so is read, unless memory runs out.
-    ensures only { (tuple : Tuple) (rest : List ℕ) → IsWithin tuple → drop at bytes.now ≡ format.tuple.spell tuple ++ rest → Gives (λ x. x) result (Ok (tuple, length bytes.now - length rest)) }
+    ensures only { ReadsSpelled format.tuple bytes.now at result }
     // Which fault it is, and where.
     ensures exact { Gives (λ x. x) result (read_at format.tuple.read bytes.now at) }
     // The offset of a fault is within what was read.
@@ -71,9 +66,9 @@ pub fn get_tuple(alloc: Global, bytes: &[u8], at: usize) -> Result<(Tuple, usize
 /// The first fault from the left, told by its offset; `Memory` where the values find none.
 pub fn get_template(alloc: Global, bytes: &[u8], at: usize) -> Result<(Template, usize), ReadFault>
     // What is read is spelled so.
-    ensures found { IfOk result (λ x. IsWithinTemplate x.0 × (x.1 ≤ length bytes.now) × (drop at bytes.now ≡ format.template.spell x.0 ++ drop x.1 bytes.now)) }
+    ensures found { IfOk result (IsSpelledAt format.template bytes.now at) }
     // What is spelled so is read, unless memory runs out.
-    ensures only { (template : Template) (rest : List ℕ) → IsWithinTemplate template → drop at bytes.now ≡ format.template.spell template ++ rest → Gives (λ x. x) result (Ok (template, length bytes.now - length rest)) }
+    ensures only { ReadsSpelled format.template bytes.now at result }
     // Which fault it is, and where.
     ensures exact { Gives (λ x. x) result (read_at format.template.read bytes.now at) }
     // The offset of a fault is within what was read.

@@ -1,6 +1,8 @@
 -- What a read gives, and what the crashes of a disk in memory leave, are outcomes of a crash; and moments
 -- are its calls.
-use Rattle.std.proofs.Common.{◌≡◌, ℕ, zero, suc, ◌+◌, ◌≤◌, inl, inr, true, max, List, [], ◌∷◌, ◌++◌, length, take, drop, replicate, refl, ap, subst, ◌∙◌, arith, length-append, append_assoc, length-take, length-drop}
+use Rattle.std.proofs.Common.{◌≡◌, ℕ, zero, suc, ◌+◌, ◌≤◌, inl, inr, true, max, List, [], ◌∷◌, ◌++◌}
+use Rattle.std.proofs.Common.{length, take, drop, replicate, refl, ap, subst, ◌∙◌, arith}
+use Rattle.std.proofs.Common.{length-append, append_assoc, length-take, length-drop}
 use Rattle.std.proofs.lemmas.Bool.Decides.{leb_tells}
 use Rattle.std.proofs.lemmas.List.{take_at, take_all, drop_at, length-replicate}
 use Rattle.linda_disk.specs.declared.call.DeviceCall.{DeviceCall}
@@ -9,7 +11,8 @@ use Rattle.linda_disk.specs.declared.torn.Torn.{Torn}
 use Rattle.linda_disk.specs.declared.torn.Torn.TheVariants.{Kept, Lost, Filled}
 use Rattle.linda_disk.specs.View.{IsTimed}
 use Rattle.linda_disk.specs.Image.{overlay, TornWrite, TornCut}
-use Rattle.linda_disk.specs.History.{History, content_from, synced_from, filled_from, Leaves, LeftSince, fits_from, fits, left, view_of}
+use Rattle.linda_disk.specs.History.{History, content_from, synced_from, filled_from, Leaves}
+use Rattle.linda_disk.specs.History.{LeftSince, fits_from, fits, left, view_of}
 
 -- A write that is not done is a torn one.
 pub not_written : (at n : ℕ) (file : List ℕ) → TornWrite at n file file

@@ -1,6 +1,7 @@
 -- Where the element of a number is, in two lists one after the other; and counts of them.
 use Rattle.std.proofs.Common.{◌≡◌, ℕ, zero, suc, ◌+◌, ◌<◌, ◌≤◌, min, Bool, true, false, ◌||◌, List, [], ◌∷◌, ◌++◌, length, map, Option, Some, None, option_map, zero-add, suc-add, refl, sym, ap, ◌∙◌, append_assoc, arith, length-append, true≢false}
 use Rattle.std.specs.Prelude.{slice_get, ltb, is_some}
+use Rattle.linda_event.specs.declared.limits.TheConstants.{MAX_DEPTH}
 use Rattle.linda_event.specs.Limits.{is_too_deep}
 use Rattle.std.specs.List.{list_any}
 use Rattle.std.proofs.lemmas.Bool.Decides.{nat_tests}
@@ -57,43 +58,43 @@ pub sum_fits : (limit count got sum : ℕ) → sum ≡ min (count + got) limit �
 sum_fits limit count got sum is = omega arith
 
 -- one node deeper
-same_depth : (top above deep : ℕ) → 64 < top → ltb 64 (min (above + 1) top + deep) ≡ ltb 64 (above + suc deep)
+same_depth : (top above deep : ℕ) → MAX_DEPTH < top → ltb MAX_DEPTH (min (above + 1) top + deep) ≡ ltb MAX_DEPTH (above + suc deep)
 same_depth top above deep high = grind (arith, nat_tests)
 
-pub deep_under : (top above m : ℕ) (ls : List (Place × Kind)) → 64 < top
-    → list_any (λ leaf. ltb 64 (min (above + 1) top + length leaf.0)) ls ≡ list_any (λ leaf. ltb 64 (above + length leaf.0)) (map (leaf_under m) ls)
+pub deep_under : (top above m : ℕ) (ls : List (Place × Kind)) → MAX_DEPTH < top
+    → list_any (λ leaf. ltb MAX_DEPTH (min (above + 1) top + length leaf.0)) ls ≡ list_any (λ leaf. ltb MAX_DEPTH (above + length leaf.0)) (map (leaf_under m) ls)
 deep_under top above m [] high = refl
 deep_under top above m (l ∷ ls) high = rw (same_depth top above (length l.0) high, deep_under top above m ls high)
 
 -- what is asked of a member is asked of its leaves, one node deeper
-pub deep_below : (top above above' m : ℕ) (ls : List (Place × Kind)) (deep : Bool) → 64 < top → above' ≡ min (above + 1) top
-    → deep ≡ list_any (λ leaf. ltb 64 (above' + length leaf.0)) ls → deep ≡ list_any (λ leaf. ltb 64 (above + length leaf.0)) (map (leaf_under m) ls)
-deep_below top above above' m ls deep high is asked = asked ∙ ap (λ a. list_any (λ leaf. ltb 64 (a + length leaf.0)) ls) is ∙ deep_under top above m ls high
+pub deep_below : (top above above' m : ℕ) (ls : List (Place × Kind)) (deep : Bool) → MAX_DEPTH < top → above' ≡ min (above + 1) top
+    → deep ≡ list_any (λ leaf. ltb MAX_DEPTH (above' + length leaf.0)) ls → deep ≡ list_any (λ leaf. ltb MAX_DEPTH (above + length leaf.0)) (map (leaf_under m) ls)
+deep_below top above above' m ls deep high is asked = asked ∙ ap (λ a. list_any (λ leaf. ltb MAX_DEPTH (a + length leaf.0)) ls) is ∙ deep_under top above m ls high
 
 pub any_more : {A : Type 0} (p : A → Bool) (next here rest : List A) → next ≡ here ++ rest → list_any p next ≡ (list_any p here || list_any p rest)
 any_more p next here rest split = ap (list_any p) split ∙ list_any-append p here rest
 
-pub deep_in : (top above above' m : ℕ) (next ls rest : List (Place × Kind)) (deep : Bool) → 64 < top → next ≡ map (leaf_under m) ls ++ rest → above' ≡ min (above + 1) top
-    → deep ≡ list_any (λ leaf. ltb 64 (above' + length leaf.0)) ls → deep ≡ true → true ≡ list_any (λ leaf. ltb 64 (above + length leaf.0)) next
+pub deep_in : (top above above' m : ℕ) (next ls rest : List (Place × Kind)) (deep : Bool) → MAX_DEPTH < top → next ≡ map (leaf_under m) ls ++ rest → above' ≡ min (above + 1) top
+    → deep ≡ list_any (λ leaf. ltb MAX_DEPTH (above' + length leaf.0)) ls → deep ≡ true → true ≡ list_any (λ leaf. ltb MAX_DEPTH (above + length leaf.0)) next
 deep_in top above above' m next ls rest deep high split is asked e =
-    sym (any_more (λ leaf. ltb 64 (above + length leaf.0)) next (map (leaf_under m) ls) rest split
-    ∙ ap (λ b. b || list_any (λ leaf. ltb 64 (above + length leaf.0)) rest) (sym (deep_below top above above' m ls deep high is asked) ∙ e))
+    sym (any_more (λ leaf. ltb MAX_DEPTH (above + length leaf.0)) next (map (leaf_under m) ls) rest split
+    ∙ ap (λ b. b || list_any (λ leaf. ltb MAX_DEPTH (above + length leaf.0)) rest) (sym (deep_below top above above' m ls deep high is asked) ∙ e))
 
-pub deep_not_in : (top above above' m : ℕ) (next ls rest : List (Place × Kind)) (deep : Bool) → 64 < top → next ≡ map (leaf_under m) ls ++ rest → above' ≡ min (above + 1) top
-    → deep ≡ list_any (λ leaf. ltb 64 (above' + length leaf.0)) ls → deep ≡ false
-    → list_any (λ leaf. ltb 64 (above + length leaf.0)) rest ≡ list_any (λ leaf. ltb 64 (above + length leaf.0)) next
+pub deep_not_in : (top above above' m : ℕ) (next ls rest : List (Place × Kind)) (deep : Bool) → MAX_DEPTH < top → next ≡ map (leaf_under m) ls ++ rest → above' ≡ min (above + 1) top
+    → deep ≡ list_any (λ leaf. ltb MAX_DEPTH (above' + length leaf.0)) ls → deep ≡ false
+    → list_any (λ leaf. ltb MAX_DEPTH (above + length leaf.0)) rest ≡ list_any (λ leaf. ltb MAX_DEPTH (above + length leaf.0)) next
 deep_not_in top above above' m next ls rest deep high split is asked e =
-    sym (any_more (λ leaf. ltb 64 (above + length leaf.0)) next (map (leaf_under m) ls) rest split
-    ∙ ap (λ b. b || list_any (λ leaf. ltb 64 (above + length leaf.0)) rest) (sym (deep_below top above above' m ls deep high is asked) ∙ e))
+    sym (any_more (λ leaf. ltb MAX_DEPTH (above + length leaf.0)) next (map (leaf_under m) ls) rest split
+    ∙ ap (λ b. b || list_any (λ leaf. ltb MAX_DEPTH (above + length leaf.0)) rest) (sym (deep_below top above above' m ls deep high is asked) ∙ e))
 
 pub any_end : {A : Type 0} (p : A → Bool) (next : List A) → next ≡ [] → false ≡ list_any p next
 any_end p next none = sym (ap (list_any p) none)
 
 -- at the root no node is above
-at_root : (ls : List (Place × Kind)) → list_any (λ leaf. ltb 64 (0 + length leaf.0)) ls ≡ list_any (λ leaf. ltb 64 (length leaf.0)) ls
+at_root : (ls : List (Place × Kind)) → list_any (λ leaf. ltb MAX_DEPTH (0 + length leaf.0)) ls ≡ list_any (λ leaf. ltb MAX_DEPTH (length leaf.0)) ls
 at_root ls = simp zero-add
 
-pub not_too_deep : (event : Tree) → false ≡ list_any (λ leaf. ltb 64 (0 + length leaf.0)) (leaves event) → is_too_deep event ≡ true → ⊥
+pub not_too_deep : (event : Tree) → false ≡ list_any (λ leaf. ltb MAX_DEPTH (0 + length leaf.0)) (leaves event) → is_too_deep event ≡ true → ⊥
 not_too_deep event asked deep = true≢false (sym deep ∙ sym (at_root (leaves event)) ∙ sym asked)
 
 -- the place of a leaf that was found in a member, after the member's number was appended

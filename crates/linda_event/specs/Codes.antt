@@ -6,7 +6,8 @@ use base.Stored.{Gv, gnil, gnum, gcons, coded_unit}
 use Rattle.linda_tuple.specs.declared.atom.Atom.{Atom}
 use Rattle.linda_tuple.specs.Template.{Template}
 use Rattle.linda_tuple.specs.Codes.{atom_code, template_code}
-use Rattle.linda_event.specs.Trees.{Kind, input, read, alarm, always, never, Tree, leaf, choose, wrap, nack, Trees, no_trees, and_tree}
+use Rattle.linda_event.specs.Trees.{Kind, input, read, alarm, always, never, Tree, leaf, choose}
+use Rattle.linda_event.specs.Trees.{wrap, nack, Trees, no_trees, and_tree}
 
 abbrev pub kind_parts : Kind → (Template ⊎ Template) ⊎ (ℕ ⊎ (Atom ⊎ Unit {0}))
 kind_parts (input template) = inl (inl template)
@@ -32,7 +33,9 @@ kind_again never = refl
 -- the code of a kind
 abbrev pub kind_code : Coded Kind
 kind_code =
-    code_by ((Template ⊎ Template) ⊎ (ℕ ⊎ (Atom ⊎ Unit {0}))) (coded⊎ (coded⊎ template_code template_code) (coded⊎ coded_ℕ (coded⊎ atom_code coded_unit))) kind_parts kind_of_parts kind_again
+    code_by ((Template ⊎ Template) ⊎ (ℕ ⊎ (Atom ⊎ Unit {0})))
+        (coded⊎ (coded⊎ template_code template_code)
+        (coded⊎ coded_ℕ (coded⊎ atom_code coded_unit))) kind_parts kind_of_parts kind_again
 
 abbrev mutual
   pub tree_stored : Tree → Gv
@@ -68,7 +71,10 @@ mutual
   trees_one no_trees no_trees e = refl
   trees_one no_trees (and_tree u us) e = cc
   trees_one (and_tree t ts) no_trees e = cc
-  trees_one (and_tree t ts) (and_tree u us) e = let first : t ≡ u = tree_one t u cc in let rest : ts ≡ us = trees_one ts us cc in cc
+  trees_one (and_tree t ts) (and_tree u us) e =
+      let first : t ≡ u = tree_one t u cc in
+      let rest : ts ≡ us = trees_one ts us cc in
+      cc
 
 -- the code of a tree
 abbrev pub tree_code : Coded Tree

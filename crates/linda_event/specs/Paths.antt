@@ -1,6 +1,8 @@
 -- The nodes of an event in tree order, and what stands above a base: its labels, and which nack numbers are
 -- raised.
-use Rattle.std.specs.Prelude.{ℕ, ◌+◌, ◌==◌, Bool, true, false, ◌&&◌, not, List, [], ◌∷◌, ◌++◌, Option, Some, None, option_map, map, filter, filter_map, reverse, slice_get}
+use Rattle.std.specs.Prelude.{ℕ, ◌+◌, ◌==◌, Bool, true, false, ◌&&◌, not, List, [], ◌∷◌, ◌++◌}
+use Rattle.std.specs.Prelude.{Option, Some, None, option_map, map, filter, filter_map, reverse}
+use Rattle.std.specs.Prelude.{slice_get}
 use Rattle.linda_event.specs.Trees.{Kind, Tree, leaf, choose, wrap, nack, Trees, no_trees, and_tree}
 
 -- What stands at a node.
@@ -97,14 +99,22 @@ labels_among found = filter_map (λ node. label_at node.mark) found
 abbrev pub nacks_among : List Node → List ℕ
 nacks_among found = filter_map (λ node. nack_at node.mark) found
 
+-- the labels on the way to a place, outermost first
+abbrev pub labels_above : Option Place → Tree → List ℕ
+labels_above place event = labels_among (filter (is_above place) (nodes event))
+
+-- the nack numbers that are not on the way to a place, in tree order
+abbrev pub nacks_beside : Option Place → Tree → List ℕ
+nacks_beside place event = nacks_among (filter (λ node. not (is_above place node)) (nodes event))
+
 -- The labels of all nodes above a base, innermost first.
 abbrev pub labels : Tree → ℕ → List ℕ
-labels event number = reverse (labels_among (filter (is_above (place_of event number)) (nodes event)))
+labels event number = reverse (labels_above (place_of event number) event)
 
 -- What a commitment to a base raises: the nack numbers of all nodes that are not above it, in tree order.
 -- Where there is no base of this number, no node is above it.
 abbrev pub raised : Tree → ℕ → List ℕ
-raised event number = nacks_among (filter (λ node. not (is_above (place_of event number) node)) (nodes event))
+raised event number = nacks_beside (place_of event number) event
 
 -- What is raised where nothing is chosen: all nack numbers of an event, in tree order.
 abbrev pub all_nacks : Tree → List ℕ

@@ -1,5 +1,6 @@
 -- Ways from the root of an event to a place in it, as the program finds and follows them.
-use Rattle.std.specs.Prelude.{◌≡◌, ℕ, ◌+◌, ◌==◌, List, [], ◌∷◌, ◌++◌, Option, Some, None, option_map, length, slice_get, if◌then◌else◌}
+use Rattle.std.specs.Prelude.{◌≡◌, ℕ, ◌+◌, ◌==◌, List, [], ◌∷◌, ◌++◌, Option, Some, None}
+use Rattle.std.specs.Prelude.{option_map, length, slice_get, if◌then◌else◌}
 use Rattle.linda_event.specs.Trees.{Kind}
 use Rattle.linda_event.specs.Paths.{Place}
 

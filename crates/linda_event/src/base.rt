@@ -34,7 +34,8 @@ pub fn bases<'a>(alloc: Global, event: &'a Event) -> Result<Vec<Base<'a>>, Alloc
 }
 
 fn push_bases<'a>(event: &'a Event, found: &mut Vec<Base<'a>>) -> Result<(), AllocError>
-    ensures { IfOk result (λ _. map kind_of found.new.items ≡ map kind_of found.old.items ++ bases_of (tree_of event.now)) }
+    ensures { IfOk result (λ _. map kind_of found.new.items ≡ map kind_of found.old.items
+        ++ bases_of (tree_of event.now)) }
 {
     match event {
         Event::Input(template) => found.push(Base::Input(template))?,

@@ -13,12 +13,14 @@
 mod base;
 mod event;
 mod limit;
+mod limits;
 mod path;
 mod ready;
 
 pub use base::{Base, bases};
 pub use event::Event;
-pub use limit::{EventFault, MAX_ASKS, MAX_BASES, MAX_DEPTH, ask_count, base_count, check};
+pub use limit::{EventFault, ask_count, base_count, check};
+pub use limits::{MAX_ASKS, MAX_BASES, MAX_DEPTH};
 pub use path::{all_nacks, labels_of, nacks_of};
 pub use ready::is_any_ready;
 

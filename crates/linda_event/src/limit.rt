@@ -1,22 +1,15 @@
-//! The limits of an event.
+//! Whether an event is within its limits.
 
 ghost use Rattle.std.specs.Prelude.{◌≡◌, ◌↔◌, ◌+◌, min, length, ltb, true, count_by, IsOk, IsErrOf};
 ghost use Rattle.std.specs.List.{list_any};
+ghost use Rattle.linda_event.specs.declared.limits.TheConstants.{MAX_DEPTH};
 ghost use Rattle.linda_event.specs.Trees.{tree_of};
 ghost use Rattle.linda_event.specs.Paths.{leaves, bases_of};
 ghost use Rattle.linda_event.specs.Limits.{is_ask, is_too_deep, IsWithinLimits};
 
 use crate::event::Event;
+use crate::limits::{MAX_ASKS, MAX_BASES, MAX_DEPTH};
 use thiserror::Error;
-
-/// The most choices, labels and nack numbers that may stand above a leaf.
-pub const MAX_DEPTH: usize = 64;
-
-/// The most bases of an event.
-pub const MAX_BASES: usize = 256;
-
-/// The most inputs and reads among the bases of an event.
-pub const MAX_ASKS: usize = 64;
 
 /// Why an event is refused. Its depth is judged first.
 #[derive(Clone, Copy, Debug, PartialEq, Eq, Error)]
@@ -90,7 +83,7 @@ pub fn ask_count(event: &Event) -> usize
 
 // Whether some leaf of the event stands under more than 64 nodes, of which so many are above the event.
 fn is_deep(event: &Event, above: usize) -> bool
-    ensures { result ≡ list_any (λ leaf. ltb 64 (above + length leaf.0)) (leaves (tree_of event.now)) }
+    ensures { result ≡ list_any (λ leaf. ltb MAX_DEPTH (above + length leaf.0)) (leaves (tree_of event.now)) }
 {
     match event {
         Event::Choose(members) => {

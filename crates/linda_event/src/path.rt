@@ -2,7 +2,8 @@
 
 ghost use Rattle.std.specs.Prelude.{◌≡◌, ◌++◌, not, map, filter, option_map, IfOk};
 ghost use Rattle.linda_event.specs.Trees.{tree_of};
-ghost use Rattle.linda_event.specs.Paths.{nodes, leaves, place_of, is_above, labels_among, nacks_among, labels, raised, all_nacks};
+ghost use Rattle.linda_event.specs.Paths.{leaves, place_of, labels_above, nacks_beside};
+ghost use Rattle.linda_event.specs.Paths.{labels, raised, all_nacks};
 ghost use Rattle.linda_event.specs.Ways.{IsFound, leaf_under, way_under};
 
 use crate::event::Event;
@@ -96,7 +97,9 @@ fn enter(
     left: usize,
     place: &mut Vec<usize>,
 ) -> Result<Option<usize>, AllocError>
-    ensures { IfOk result (λ rest. IsFound (map (leaf_under number) (leaves (tree_of member.now))) left place.old.items place.new.items rest) }
+    ensures { IfOk result (λ rest.
+        IsFound (map (leaf_under number) (leaves (tree_of member.now)))
+            left place.old.items place.new.items rest) }
 {
     place.push(number)?;
     let rest = descend(member, left, place)?;
@@ -126,7 +129,9 @@ fn way_in<'a>(way: Option<&'a [usize]>, number: usize) -> Option<&'a [usize]>
 }
 
 fn push_labels(event: &Event, way: Option<&[usize]>, found: &mut Vec<u64>) -> Result<(), AllocError>
-    ensures { IfOk result (λ _. found.new.items ≡ found.old.items ++ labels_among (filter (is_above (option_map (λ s. s.now) way.entry)) (nodes (tree_of event.now)))) }
+    ensures { IfOk result (λ _.
+        found.new.items ≡ found.old.items
+        ++ labels_above (option_map (λ s. s.now) way.entry) (tree_of event.now)) }
 {
     if way.is_none() {
         return Ok(());
@@ -148,7 +153,9 @@ fn push_labels(event: &Event, way: Option<&[usize]>, found: &mut Vec<u64>) -> Re
 }
 
 fn push_raised(event: &Event, way: Option<&[usize]>, found: &mut Vec<u64>) -> Result<(), AllocError>
-    ensures { IfOk result (λ _. found.new.items ≡ found.old.items ++ nacks_among (filter (λ node. not (is_above (option_map (λ s. s.now) way.entry) node)) (nodes (tree_of event.now)))) }
+    ensures { IfOk result (λ _.
+        found.new.items ≡ found.old.items
+        ++ nacks_beside (option_map (λ s. s.now) way.entry) (tree_of event.now)) }
 {
     match event {
         Event::Choose(members) => {

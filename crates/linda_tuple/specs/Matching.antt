@@ -16,7 +16,8 @@ Fits patterns.TextFormal atom = IsText atom
 Fits patterns.BoolFormal atom = IsBool atom
 Fits patterns.Any atom = Unit {0}
 
--- A template matches a tuple: the tags are equal, there are as many fields as patterns, and at each place the pattern fits the field.
+-- A template matches a tuple: the tags are equal, there are as many fields as patterns, and at each
+-- place the pattern fits the field.
 pub record Matches (template : Template) (tuple : Tuple) : Type 0 where
   pub tag : template.tag ≡ tuple.tag
   pub fields : AllZip Fits template.fields tuple.fields

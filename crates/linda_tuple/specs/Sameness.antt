@@ -1,5 +1,5 @@
 -- Whether two values are equal, as tests: what `==` computes.
-use Rattle.std.specs.Prelude.{◌≡◌, Bool, true, false, ◌&&◌, List, refl}
+use Rattle.std.specs.Prelude.{◌≡◌, Bool, true, false, refl}
 use Rattle.std.specs.Bool.{Decides}
 use Rattle.std.specs.Cmp.{IsEquivalence, booleans_Decides, decided, and_equiv, on_equiv}
 use Rattle.std.specs.Cmp.Lexicographic.{pointwise, lists_equiv}
@@ -82,7 +82,8 @@ same_atom-decides (atoms.Bool a) (atoms.Text t) = never (λ e. cc)
 same_atom-decides (atoms.Bool a) (atoms.Bool b) = Decides-like _ (λ e. ap atoms.Bool e) (λ e. cc) (booleans_Decides a b)
 
 pub same_pattern-decides : (p q : Pattern) → Decides (same_pattern p q) (p ≡ q)
-same_pattern-decides (patterns.Value a) (patterns.Value b) = Decides-like _ (λ e. ap patterns.Value e) (λ e. cc) (same_atom-decides a b)
+same_pattern-decides (patterns.Value a) (patterns.Value b) =
+    Decides-like _ (λ e. ap patterns.Value e) (λ e. cc) (same_atom-decides a b)
 same_pattern-decides (patterns.Value a) patterns.IntFormal = never (λ e. cc)
 same_pattern-decides (patterns.Value a) patterns.TextFormal = never (λ e. cc)
 same_pattern-decides (patterns.Value a) patterns.BoolFormal = never (λ e. cc)

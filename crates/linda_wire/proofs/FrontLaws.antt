@@ -1,5 +1,5 @@
 -- Laws of the front of a stream, for values of any framed format.
-use Rattle.std.proofs.Common.{◌≡◌, ℕ, ◌+◌, ◌<◌, ◌≤◌, List, [], ◌∷◌, ◌++◌, length, take, drop, Option, Some, None, Result, Ok, Err, refl, sym, ap, subst, ◌∙◌, append_assoc, arith}
+use Rattle.std.proofs.Common.{◌≡◌, ℕ, ◌+◌, ◌≤◌, List, [], ◌∷◌, ◌++◌, length, take, drop, Option, Some, None, Result, Ok, Err, refl, sym, ap, subst, ◌∙◌, append_assoc, arith}
 use Rattle.std.specs.Prelude.{IfOk, IfErr, IfSome, IsOk, IsErrOf}
 use Rattle.std.specs.List.{flat_map, AllByRecursion}
 use Rattle.std.proofs.lemmas.List.{take_at, drop_at, take-append-drop, take-append-le, drop-append-le, drop-drop, length-drop, length-take}
@@ -11,7 +11,7 @@ use Rattle.linda_wire.specs.declared.fault.FrameFault.{FrameFault}
 use Rattle.linda_wire.specs.declared.fault.FrameFault.TheVariants.{Memory, EmptyFrame, FrameTooLong, Malformed}
 use Rattle.linda_wire.specs.Frames.{length_field, told_length, frame}
 use Rattle.linda_wire.specs.Stream.{whole_of, IsFramed, payload_len, Front, Whole, Broken, front_with, front_by, front, IsWhole, Answers, HasFrame, IsFaultOf, HasNoValue, stream_of, FaultsStay, HasOneReading}
-use Rattle.linda_wire.specs.declared.limits.TheConstants.{LENGTH_BYTES, MAX_PAYLOAD}
+use Rattle.linda_wire.specs.declared.limits.TheConstants.{LENGTH_BYTES}
 use Rattle.linda_wire.proofs.PayloadLaws.{IsFaultOfPayload, whole_takes, whole_again, whole_place}
 use Rattle.linda_wire.proofs.LengthLaws.{IsFaultOfLength, payload_len-fault, payload_len-long, IsThere, length_field-length, length_field-told, payload_there, payload_len-append, payload_len-broken, payload_len-frame}
 

@@ -6,16 +6,16 @@ use Rattle.std.proofs.lemmas.List.{length-append}
 use Rattle.std.proofs.lemmas.List.Elements.{recursion_from_All}
 use Rattle.linda_tuple.specs.declared.atom.Atom.{Atom}
 use Rattle.linda_tuple.specs.declared.atom.Atom.TheVariants as atoms
-use Rattle.linda_tuple.specs.declared.pattern.Pattern.{Pattern}
 use Rattle.linda_tuple.specs.declared.pattern.Pattern.TheVariants as patterns
-use Rattle.linda_tuple.specs.declared.limits.TheConstants.{MAX_FIELDS}
+use Rattle.linda_tuple.specs.declared.limits.TheConstants.{MAX_TEXT, MAX_FIELDS}
 use Rattle.linda_tuple.specs.Atom.{IsSound}
 use Rattle.linda_tuple.specs.Tuple.{Tuple, IsWithin}
 use Rattle.linda_tuple.specs.Template.{Template, IsSoundPattern, IsWithinTemplate}
-use Rattle.linda_codec.specs.Formats.{Format, no_kind}
+use Rattle.linda_codec.specs.Formats.{Format, no_kind, made_at}
 use Rattle.linda_codec.specs.Lawful.{IsFormat}
 use Rattle.linda_codec.specs.Values as value
-use Rattle.linda_codec.proofs.FormatLaws.{byte_is, short_number_is, number_is, truth_is, both_is, body_is, made_again, no_kind_is, AreBodies, choice_is}
+use Rattle.linda_codec.proofs.FormatLaws.{byte_is, short_number_is, number_is, truth_is, both_is}
+use Rattle.linda_codec.proofs.FormatLaws.{IsReader, body_is, made_again, no_kind_is, AreBodies, choice_is}
 use Rattle.linda_codec.proofs.ValueLaws.{tuple_is, template_is}
 use Rattle.linda_wire.specs.declared.kinds.TheConstants as kind
 use Rattle.linda_wire.specs.declared.limits.TheConstants.{MAX_PAYLOAD}
@@ -39,30 +39,37 @@ ask_is = both_is number_is (both_is truth_is template_is)
 accept_is : IsFormat format.accept
 accept_is = both_is number_is (both_is number_is number_is)
 
+-- A body behind a kind byte that makes a message.
+message_body : {A : Type 0} {f : Format A} → IsFormat f → (kind : ℕ) (make : A → Message)
+    → ((a : A) → format.spell_message (make a) ≡ kind ∷ f.spell a)
+    → ((a : A) → f.Fits a → format.FitsMessage (make a))
+    → IsReader format.spell_message format.FitsMessage (kind ∷ []) (made_at make f)
+message_body is kind make spelled fits =
+    body_is is format.spell_message format.FitsMessage (kind ∷ []) make spelled fits
+
 message_bodies : AreBodies format.spell_message format.FitsMessage format.message_kinds
 message_bodies = (
-  body_is hello_is format.spell_message format.FitsMessage (kind.HELLO ∷ []) (λ p. Hello p.0 p.1.0 p.1.1) (λ p. refl) (λ p fits. fits),
-  (
-    body_is out_is format.spell_message format.FitsMessage (kind.OUT ∷ []) (λ p. Out p.0 p.1) (λ p. refl) (λ p fits. fits),
-    (
-      body_is ask_is format.spell_message format.FitsMessage (kind.ASK ∷ []) (λ p. Ask p.0 p.1.0 p.1.1) (λ p. refl) (λ p fits. fits),
-      (
-        body_is accept_is format.spell_message format.FitsMessage (kind.ACCEPT ∷ []) (λ p. Accept p.0 p.1.0 p.1.1) (λ p. refl) (λ p fits. fits),
-        (body_is number_is format.spell_message format.FitsMessage (kind.CANCEL ∷ []) (λ n. Cancel n) (λ n. refl) (λ n fits. fits), tt),
-      ),
-    ),
-  ),
+  message_body hello_is kind.HELLO format.hello_of (λ p. refl) (λ p fits. fits),
+  (message_body out_is kind.OUT format.out_of (λ p. refl) (λ p fits. fits),
+  (message_body ask_is kind.ASK format.ask_of (λ p. refl) (λ p fits. fits),
+  (message_body accept_is kind.ACCEPT format.accept_of (λ p. refl) (λ p fits. fits),
+  (message_body number_is kind.CANCEL format.cancel_of (λ n. refl) (λ n fits. fits), tt))))
 )
 
-message_again : (m : Message) (rest : List ℕ) → format.FitsMessage m → format.message.read (format.spell_message m ++ rest) ≡ Ok (m, rest)
-message_again (Hello version client fresh) rest fits = made_again hello_is (λ p. Hello p.0 p.1.0 p.1.1) (version, (client, fresh)) rest fits
-message_again (Out n tuple) rest fits = made_again out_is (λ p. Out p.0 p.1) (n, tuple) rest fits
-message_again (Ask ticket remove template) rest fits = made_again ask_is (λ p. Ask p.0 p.1.0 p.1.1) (ticket, (remove, template)) rest fits
-message_again (Accept n ticket id) rest fits = made_again accept_is (λ p. Accept p.0 p.1.0 p.1.1) (n, (ticket, id)) rest fits
-message_again (Cancel ticket) rest fits = made_again number_is (λ n. Cancel n) ticket rest fits
+message_again : (m : Message) (rest : List ℕ) → format.FitsMessage m
+    → format.message.read (format.spell_message m ++ rest) ≡ Ok (m, rest)
+message_again (Hello version client fresh) rest fits =
+    made_again hello_is format.hello_of (version, (client, fresh)) rest fits
+message_again (Out n tuple) rest fits = made_again out_is format.out_of (n, tuple) rest fits
+message_again (Ask ticket remove template) rest fits =
+    made_again ask_is format.ask_of (ticket, (remove, template)) rest fits
+message_again (Accept n ticket id) rest fits = made_again accept_is format.accept_of (n, (ticket, id)) rest fits
+message_again (Cancel ticket) rest fits = made_again number_is format.cancel_of ticket rest fits
 
 pub message_is : IsFormat format.message
-message_is = choice_is format.spell_message format.FitsMessage format.message_kinds no_kind message_bodies (no_kind_is format.spell_message format.FitsMessage) message_again
+message_is =
+    choice_is format.spell_message format.FitsMessage format.message_kinds no_kind
+    message_bodies (no_kind_is format.spell_message format.FitsMessage) message_again
 
 -- ---- replies
 
@@ -75,75 +82,91 @@ entry_is = both_is number_is (both_is number_is tuple_is)
 refusal_is : IsFormat format.refusal
 refusal_is = both_is byte_is number_is
 
+-- A body behind a kind byte that makes a reply.
+reply_body : {A : Type 0} {f : Format A} → IsFormat f → (kind : ℕ) (make : A → Reply)
+    → ((a : A) → format.spell_reply (make a) ≡ kind ∷ f.spell a)
+    → ((a : A) → f.Fits a → format.FitsReply (make a))
+    → IsReader format.spell_reply format.FitsReply (kind ∷ []) (made_at make f)
+reply_body is kind make spelled fits =
+    body_is is format.spell_reply format.FitsReply (kind ∷ []) make spelled fits
+
 reply_bodies : AreBodies format.spell_reply format.FitsReply format.reply_kinds
 reply_bodies = (
-  body_is number_is format.spell_reply format.FitsReply (kind.WELCOME ∷ []) (λ last. Welcome last) (λ n. refl) (λ n fits. fits),
-  (
-    body_is stored_is format.spell_reply format.FitsReply (kind.STORED ∷ []) (λ p. Stored p.0 p.1) (λ p. refl) (λ p fits. fits),
-    (
-      body_is entry_is format.spell_reply format.FitsReply (kind.OFFER ∷ []) (λ p. Offer p.0 p.1.0 p.1.1) (λ p. refl) (λ p fits. fits),
-      (
-        body_is entry_is format.spell_reply format.FitsReply (kind.READ ∷ []) (λ p. Read p.0 p.1.0 p.1.1) (λ p. refl) (λ p fits. fits),
-        (
-          body_is entry_is format.spell_reply format.FitsReply (kind.TAKEN ∷ []) (λ p. Taken p.0 p.1.0 p.1.1) (λ p. refl) (λ p fits. fits),
-          (
-            body_is number_is format.spell_reply format.FitsReply (kind.GONE ∷ []) (λ n. Gone n) (λ n. refl) (λ n fits. fits),
-            (body_is refusal_is format.spell_reply format.FitsReply (kind.REFUSED ∷ []) (λ p. Refused p.0 p.1) (λ p. refl) (λ p fits. fits), tt),
-          ),
-        ),
-      ),
-    ),
-  ),
+  reply_body number_is kind.WELCOME format.welcome_of (λ n. refl) (λ n fits. fits),
+  (reply_body stored_is kind.STORED format.stored_of (λ p. refl) (λ p fits. fits),
+  (reply_body entry_is kind.OFFER format.offer_of (λ p. refl) (λ p fits. fits),
+  (reply_body entry_is kind.READ format.read_of (λ p. refl) (λ p fits. fits),
+  (reply_body entry_is kind.TAKEN format.taken_of (λ p. refl) (λ p fits. fits),
+  (reply_body number_is kind.GONE format.gone_of (λ n. refl) (λ n fits. fits),
+  (reply_body refusal_is kind.REFUSED format.refused_of (λ p. refl) (λ p fits. fits), tt))))))
 )
 
-reply_again : (r : Reply) (rest : List ℕ) → format.FitsReply r → format.reply.read (format.spell_reply r ++ rest) ≡ Ok (r, rest)
-reply_again (Welcome last) rest fits = made_again number_is (λ n. Welcome n) last rest fits
-reply_again (Stored n id) rest fits = made_again stored_is (λ p. Stored p.0 p.1) (n, id) rest fits
-reply_again (Offer ticket id tuple) rest fits = made_again entry_is (λ p. Offer p.0 p.1.0 p.1.1) (ticket, (id, tuple)) rest fits
-reply_again (Read ticket id tuple) rest fits = made_again entry_is (λ p. Read p.0 p.1.0 p.1.1) (ticket, (id, tuple)) rest fits
-reply_again (Taken n id tuple) rest fits = made_again entry_is (λ p. Taken p.0 p.1.0 p.1.1) (n, (id, tuple)) rest fits
-reply_again (Gone n) rest fits = made_again number_is (λ n. Gone n) n rest fits
-reply_again (Refused code detail) rest fits = made_again refusal_is (λ p. Refused p.0 p.1) (code, detail) rest fits
+reply_again : (r : Reply) (rest : List ℕ) → format.FitsReply r
+    → format.reply.read (format.spell_reply r ++ rest) ≡ Ok (r, rest)
+reply_again (Welcome last) rest fits = made_again number_is format.welcome_of last rest fits
+reply_again (Stored n id) rest fits = made_again stored_is format.stored_of (n, id) rest fits
+reply_again (Offer ticket id tuple) rest fits = made_again entry_is format.offer_of (ticket, (id, tuple)) rest fits
+reply_again (Read ticket id tuple) rest fits = made_again entry_is format.read_of (ticket, (id, tuple)) rest fits
+reply_again (Taken n id tuple) rest fits = made_again entry_is format.taken_of (n, (id, tuple)) rest fits
+reply_again (Gone n) rest fits = made_again number_is format.gone_of n rest fits
+reply_again (Refused code detail) rest fits = made_again refusal_is format.refused_of (code, detail) rest fits
 
 pub reply_is : IsFormat format.reply
-reply_is = choice_is format.spell_reply format.FitsReply format.reply_kinds no_kind reply_bodies (no_kind_is format.spell_reply format.FitsReply) reply_again
+reply_is =
+    choice_is format.spell_reply format.FitsReply format.reply_kinds no_kind
+    reply_bodies (no_kind_is format.spell_reply format.FitsReply) reply_again
 
 -- ---- sizes
 
 -- No more than these bytes are in an atom's spelling.
 abbrev ATOM_BYTES : ℕ
-ATOM_BYTES = 257
+ATOM_BYTES = MAX_TEXT + 2
 
-atom_short : (a : Atom) → IsSound a → length (value.atom.spell a) ≤ ATOM_BYTES
+-- Each value's spelling is that short.
+abbrev AreShort : {A : Type 0} → (A → List ℕ) → (A → Type 0) → Type 0
+AreShort {A = A} spell Fits = (a : A) → Fits a → length (spell a) ≤ ATOM_BYTES
+
+atom_short : AreShort value.atom.spell IsSound
 atom_short (atoms.Int n) sound = omega arith
 atom_short (atoms.Text t) sound = omega (arith, sound.0)
 atom_short (atoms.Bool b) sound = omega arith
 
-pattern_short : (p : Pattern) → IsSoundPattern p → length (value.pattern.spell p) ≤ ATOM_BYTES
+pattern_short : AreShort value.pattern.spell IsSoundPattern
 pattern_short (patterns.Value v) sound = atom_short v sound
 pattern_short patterns.IntFormal sound = omega arith
 pattern_short patterns.TextFormal sound = omega arith
 pattern_short patterns.BoolFormal sound = omega arith
 pattern_short patterns.Any sound = omega arith
 
-many_short : {A : Type 0} (spell : A → List ℕ) (Fits : A → Type 0) → ((a : A) → Fits a → length (spell a) ≤ ATOM_BYTES) → (many : List A) → AllByRecursion Fits many → length (flat_map spell many) ≤ ATOM_BYTES * length many
+many_short : {A : Type 0} (spell : A → List ℕ) (Fits : A → Type 0) → AreShort spell Fits
+    → (many : List A) → AllByRecursion Fits many
+    → length (flat_map spell many) ≤ ATOM_BYTES * length many
 many_short spell Fits one [] fits = omega arith
-many_short spell Fits one (a ∷ many) fits = omega (arith, one a fits.0, many_short spell Fits one many fits.1, length-append (spell a) (flat_map spell many))
+many_short spell Fits one (a ∷ many) fits =
+    omega (arith, one a fits.0, many_short spell Fits one many fits.1,
+        length-append (spell a) (flat_map spell many))
 
 -- No more than these bytes are in the spelling of a tag, a count and that many values.
 abbrev VALUE_BYTES : ℕ
 VALUE_BYTES = ATOM_BYTES + 1 + ATOM_BYTES * MAX_FIELDS
 
-tagged_short : {A : Type 0} (spell : A → List ℕ) (Fits : A → Type 0) → ((a : A) → Fits a → length (spell a) ≤ ATOM_BYTES) → (tag : Atom) (many : List A) → IsSound tag → length many ≤ MAX_FIELDS → All Fits many
+tagged_short : {A : Type 0} (spell : A → List ℕ) (Fits : A → Type 0) → AreShort spell Fits
+    → (tag : Atom) (many : List A) → IsSound tag → length many ≤ MAX_FIELDS → All Fits many
     → length (value.atom.spell tag ++ length many ∷ flat_map spell many) ≤ VALUE_BYTES
 tagged_short spell Fits one tag many sound count fits =
-    omega (arith, count, atom_short tag sound, many_short spell Fits one many (recursion_from_All Fits many fits), length-append (value.atom.spell tag) (length many ∷ flat_map spell many))
+    omega (arith, count, atom_short tag sound,
+        many_short spell Fits one many (recursion_from_All Fits many fits),
+        length-append (value.atom.spell tag) (length many ∷ flat_map spell many))
 
 pub tuple_short : (t : Tuple) → IsWithin t → length (value.tuple.spell t) ≤ VALUE_BYTES
-tuple_short t within = tagged_short value.atom.spell IsSound atom_short t.tag t.fields within.tag within.count within.fields
+tuple_short t within =
+    tagged_short value.atom.spell IsSound atom_short t.tag t.fields
+    within.tag within.count within.fields
 
 pub template_short : (t : Template) → IsWithinTemplate t → length (value.template.spell t) ≤ VALUE_BYTES
-template_short t within = tagged_short value.pattern.spell IsSoundPattern pattern_short t.tag t.fields within.tag within.count within.fields
+template_short t within =
+    tagged_short value.pattern.spell IsSoundPattern pattern_short t.tag t.fields
+    within.tag within.count within.fields
 
 -- A payload is not empty, and no longer than a frame's may be.
 pub record IsPayload (payload : List ℕ) : Type 0 where
@@ -153,15 +176,19 @@ pub record IsPayload (payload : List ℕ) : Type 0 where
 pub message_size : (m : Message) → format.FitsMessage m → IsPayload (format.spell_message m)
 message_size (Hello version client fresh) fits = record { some = omega arith; short = omega arith }
 message_size (Out n tuple) fits = record { some = omega arith; short = omega (arith, tuple_short tuple fits.1) }
-message_size (Ask ticket remove template) fits = record { some = omega arith; short = omega (arith, template_short template fits.1.1) }
+message_size (Ask ticket remove template) fits =
+    record { some = omega arith; short = omega (arith, template_short template fits.1.1) }
 message_size (Accept n ticket id) fits = record { some = omega arith; short = omega arith }
 message_size (Cancel ticket) fits = record { some = omega arith; short = omega arith }
 
 pub reply_size : (r : Reply) → format.FitsReply r → IsPayload (format.spell_reply r)
 reply_size (Welcome last) fits = record { some = omega arith; short = omega arith }
 reply_size (Stored n id) fits = record { some = omega arith; short = omega arith }
-reply_size (Offer ticket id tuple) fits = record { some = omega arith; short = omega (arith, tuple_short tuple fits.1.1) }
-reply_size (Read ticket id tuple) fits = record { some = omega arith; short = omega (arith, tuple_short tuple fits.1.1) }
-reply_size (Taken n id tuple) fits = record { some = omega arith; short = omega (arith, tuple_short tuple fits.1.1) }
+reply_size (Offer ticket id tuple) fits =
+    record { some = omega arith; short = omega (arith, tuple_short tuple fits.1.1) }
+reply_size (Read ticket id tuple) fits =
+    record { some = omega arith; short = omega (arith, tuple_short tuple fits.1.1) }
+reply_size (Taken n id tuple) fits =
+    record { some = omega arith; short = omega (arith, tuple_short tuple fits.1.1) }
 reply_size (Gone n) fits = record { some = omega arith; short = omega arith }
 reply_size (Refused code detail) fits = record { some = omega arith; short = omega arith }

@@ -45,6 +45,22 @@ ask = both number (both truth value.template)
 abbrev pub accept : Format (ℕ × (ℕ × ℕ))
 accept = both number (both number number)
 
+-- the messages that these values are of
+abbrev pub hello_of : ℕ × (ℕ × Bool) → Message
+hello_of p = Hello p.0 p.1.0 p.1.1
+
+abbrev pub out_of : ℕ × Tuple → Message
+out_of p = Out p.0 p.1
+
+abbrev pub ask_of : ℕ × (Bool × Template) → Message
+ask_of p = Ask p.0 p.1.0 p.1.1
+
+abbrev pub accept_of : ℕ × (ℕ × ℕ) → Message
+accept_of p = Accept p.0 p.1.0 p.1.1
+
+abbrev pub cancel_of : ℕ → Message
+cancel_of ticket = Cancel ticket
+
 -- A message's kind byte and body.
 abbrev pub spell_message : Message → List ℕ
 spell_message (Hello version client fresh) = kind.HELLO ∷ hello.spell (version, (client, fresh))
@@ -64,9 +80,9 @@ FitsMessage (Cancel ticket) = number.Fits ticket
 -- The kinds of messages, each with its body.
 abbrev pub message_kinds : List (ℕ × Reader Message)
 message_kinds =
-    (kind.HELLO, made_at (λ p. Hello p.0 p.1.0 p.1.1) hello) ∷ (kind.OUT, made_at (λ p. Out p.0 p.1) out)
-    ∷ (kind.ASK, made_at (λ p. Ask p.0 p.1.0 p.1.1) ask) ∷ (kind.ACCEPT, made_at (λ p. Accept p.0 p.1.0 p.1.1) accept)
-    ∷ (kind.CANCEL, made_at (λ ticket. Cancel ticket) number) ∷ []
+    (kind.HELLO, made_at hello_of hello) ∷ (kind.OUT, made_at out_of out)
+    ∷ (kind.ASK, made_at ask_of ask) ∷ (kind.ACCEPT, made_at accept_of accept)
+    ∷ (kind.CANCEL, made_at cancel_of number) ∷ []
 
 abbrev pub message : Format Message
 message = record { spell = spell_message; Fits = FitsMessage; read = choice_at message_kinds no_kind }
@@ -88,6 +104,28 @@ entry = both number (both number value.tuple)
 -- The code, the detail.
 abbrev pub refusal : Format (ℕ × ℕ)
 refusal = both byte number
+
+-- the replies that these values are of
+abbrev pub welcome_of : ℕ → Reply
+welcome_of last = Welcome last
+
+abbrev pub stored_of : ℕ × ℕ → Reply
+stored_of p = Stored p.0 p.1
+
+abbrev pub offer_of : ℕ × (ℕ × Tuple) → Reply
+offer_of p = Offer p.0 p.1.0 p.1.1
+
+abbrev pub read_of : ℕ × (ℕ × Tuple) → Reply
+read_of p = Read p.0 p.1.0 p.1.1
+
+abbrev pub taken_of : ℕ × (ℕ × Tuple) → Reply
+taken_of p = Taken p.0 p.1.0 p.1.1
+
+abbrev pub gone_of : ℕ → Reply
+gone_of n = Gone n
+
+abbrev pub refused_of : ℕ × ℕ → Reply
+refused_of p = Refused p.0 p.1
 
 -- A reply's kind byte and body.
 abbrev pub spell_reply : Reply → List ℕ
@@ -112,10 +150,10 @@ FitsReply (Refused code detail) = refusal.Fits (code, detail)
 -- The kinds of replies, each with its body.
 abbrev pub reply_kinds : List (ℕ × Reader Reply)
 reply_kinds =
-    (kind.WELCOME, made_at (λ last. Welcome last) number) ∷ (kind.STORED, made_at (λ p. Stored p.0 p.1) stored)
-    ∷ (kind.OFFER, made_at (λ p. Offer p.0 p.1.0 p.1.1) entry) ∷ (kind.READ, made_at (λ p. Read p.0 p.1.0 p.1.1) entry)
-    ∷ (kind.TAKEN, made_at (λ p. Taken p.0 p.1.0 p.1.1) entry) ∷ (kind.GONE, made_at (λ n. Gone n) number)
-    ∷ (kind.REFUSED, made_at (λ p. Refused p.0 p.1) refusal) ∷ []
+    (kind.WELCOME, made_at welcome_of number) ∷ (kind.STORED, made_at stored_of stored)
+    ∷ (kind.OFFER, made_at offer_of entry) ∷ (kind.READ, made_at read_of entry)
+    ∷ (kind.TAKEN, made_at taken_of entry) ∷ (kind.GONE, made_at gone_of number)
+    ∷ (kind.REFUSED, made_at refused_of refusal) ∷ []
 
 abbrev pub reply : Format Reply
 reply = record { spell = spell_reply; Fits = FitsReply; read = choice_at reply_kinds no_kind }

@@ -1,9 +1,15 @@
 -- The refusals of a server, each with its code and detail.
 use Rattle.std.specs.Prelude.{ℕ}
-use Rattle.linda_wire.specs.declared.codes.TheConstants.{WRONG_VERSION, KNOWN_CLIENT, BUSY, OLD_NUMBER, NUMBER_GAP, NO_ROOM, TOO_MANY_CLIENTS, SERVER_DOWN, MALFORMED, TOO_MANY_ASKS, NO_HELLO, STORE_FULL, NUMBERS_SPENT}
+use Rattle.linda_wire.specs.declared.codes.TheConstants.{WRONG_VERSION, KNOWN_CLIENT, BUSY}
+use Rattle.linda_wire.specs.declared.codes.TheConstants.{OLD_NUMBER, NUMBER_GAP, NO_ROOM}
+use Rattle.linda_wire.specs.declared.codes.TheConstants.{TOO_MANY_CLIENTS, SERVER_DOWN, MALFORMED}
+use Rattle.linda_wire.specs.declared.codes.TheConstants.{TOO_MANY_ASKS, NO_HELLO, STORE_FULL}
+use Rattle.linda_wire.specs.declared.codes.TheConstants.{NUMBERS_SPENT}
 use Rattle.linda_wire.specs.declared.limits.TheConstants.{MAX_CLIENTS, VERSION}
 use Rattle.linda_wire.specs.declared.refusal.Refusal.{Refusal}
-use Rattle.linda_wire.specs.declared.refusal.Refusal.TheVariants.{Version, Known, Busy, Old, Gap, Full, Spent, TooManyClients, Down, Malformed, TooManyAsks, NoHello}
+use Rattle.linda_wire.specs.declared.refusal.Refusal.TheVariants.{Version, Known, Busy, Old, Gap}
+use Rattle.linda_wire.specs.declared.refusal.Refusal.TheVariants.{Full, Spent, TooManyClients, Down}
+use Rattle.linda_wire.specs.declared.refusal.Refusal.TheVariants.{Malformed, TooManyAsks, NoHello}
 use Rattle.linda_wire.specs.declared.reply.Reply.{Reply}
 use Rattle.linda_wire.specs.declared.reply.Reply.TheVariants.{Refused}
 

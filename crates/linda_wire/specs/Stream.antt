@@ -1,5 +1,7 @@
 -- What stands at the front of a stream of frames, for values of any format.
-use Rattle.std.specs.Prelude.{◌≡◌, ◌≢◌, ℕ, suc, ◌+◌, ◌-◌, ◌<◌, ◌≤◌, List, [], ◌∷◌, ◌++◌, All, length, take, drop, Option, Some, None, Result, Ok, Err, IsOk, nat_lt, ◌==◌, if◌then◌else◌}
+use Rattle.std.specs.Prelude.{◌≡◌, ◌≢◌, ℕ, suc, ◌+◌, ◌-◌, ◌<◌, ◌≤◌, List, [], ◌∷◌, ◌++◌, All}
+use Rattle.std.specs.Prelude.{length, take, drop, Option, Some, None, Result, Ok, Err, IsOk, nat_lt}
+use Rattle.std.specs.Prelude.{◌==◌, if◌then◌else◌}
 use Rattle.std.specs.List.{flat_map}
 use Rattle.linda_codec.specs.declared.fault.ReadFault.{ReadFault}
 use Rattle.linda_codec.specs.declared.fault.ReadFault.TheVariants as reading
@@ -20,7 +22,8 @@ use Rattle.linda_wire.specs.FrameLaws.{IsPayload}
 abbrev pub malformed_with : ℕ → ℕ → FrameFault
 malformed_with len left = Malformed (LENGTH_BYTES + len - left)
 
--- A fault of a value in a payload of so many bytes, as a fault of the frame; where the value is cut short it is told at the frame's end.
+-- A fault of a value in a payload of so many bytes, as a fault of the frame; where the value is cut
+-- short it is told at the frame's end.
 abbrev pub frame_fault : ℕ → ReadFault → FrameFault
 frame_fault len reading.Memory = Memory
 frame_fault len reading.Short = malformed_with len 0
@@ -53,7 +56,8 @@ abbrev pub GivesWhole : {A : Type 0} → Result A FrameFault → Result A FrameF
 GivesWhole (Ok value) there = there ≡ Ok value
 GivesWhole (Err fault) there = fault ≢ Memory → there ≡ Err fault
 
--- What the code returned says whether a value stands there, and which fault if not; it takes no memory, so none can run out.
+-- What the code returned says whether a value stands there, and which fault if not; it takes no
+-- memory, so none can run out.
 abbrev pub Judges : {U A : Type 0} → Result U FrameFault → Result A FrameFault → Type 0
 Judges (Ok unit) there = IsOk there
 Judges (Err fault) there = (fault ≢ Memory) × (there ≡ Err fault)
@@ -83,7 +87,8 @@ front_with (Err fault) rest = Broken fault
 -- What stands at the front, the payload's length being known.
 abbrev pub front_by : {A : Type 0} → Format A → List ℕ → Result (Option ℕ) FrameFault → Front A
 front_by f bytes (Ok None) = Partial
-front_by f bytes (Ok (Some len)) = front_with (whole_of f (take len (drop LENGTH_BYTES bytes))) (drop (LENGTH_BYTES + len) bytes)
+front_by f bytes (Ok (Some len)) =
+    front_with (whole_of f (take len (drop LENGTH_BYTES bytes))) (drop (LENGTH_BYTES + len) bytes)
 front_by f bytes (Err fault) = Broken fault
 
 -- What stands at the front of a stream of values of this format.
@@ -110,7 +115,8 @@ HasNoValue Partial = Unit {0}
 HasNoValue (Whole value rest) = ⊥
 HasNoValue (Broken fault) = Unit {0}
 
--- The answer to a call for the next value: what stands at the front, which is taken off where it is a value. A fault changes nothing, nor does want of memory.
+-- The answer to a call for the next value: what stands at the front, which is taken off where it is
+-- a value. A fault changes nothing, nor does want of memory.
 abbrev pub Answers : {A : Type 0} → (List ℕ → Front A) → List ℕ → Result (Option A) FrameFault → List ℕ → Type 0
 Answers at_front old (Ok (Some value)) new = at_front old ≡ Whole value new
 Answers at_front old (Ok None) new = (at_front old ≡ Partial) × (new ≡ old)
@@ -118,9 +124,13 @@ Answers at_front old (Err fault) new = (fault ≢ Memory → at_front old ≡ Br
 
 -- All of a frame is at the front, and its length is within its limits.
 abbrev pub HasFrame : List ℕ → Type 0
-HasFrame bytes = (0 < told_length bytes) × (told_length bytes ≤ MAX_PAYLOAD) × (LENGTH_BYTES + told_length bytes ≤ length bytes)
+HasFrame bytes =
+    (0 < told_length bytes) × (told_length bytes ≤ MAX_PAYLOAD)
+    × (LENGTH_BYTES + told_length bytes ≤ length bytes)
 
--- What a fault tells of the frame at the front: of its length, once that is there, that it is 0 or too great; else, once all of the frame is there, that it finds no memory, or an offset from its kind to its end.
+-- What a fault tells of the frame at the front: of its length, once that is there, that it is 0 or
+-- too great; else, once all of the frame is there, that it finds no memory, or an offset from its
+-- kind to its end.
 abbrev pub IsFaultOf : List ℕ → FrameFault → Type 0
 IsFaultOf bytes Memory = HasFrame bytes
 IsFaultOf bytes EmptyFrame = (LENGTH_BYTES ≤ length bytes) × (told_length bytes ≡ 0)
@@ -135,10 +145,14 @@ stream_of f values rest = flat_map (λ value. frame (f.spell value)) values ++ r
 
 -- A fault at the front stays there, whatever comes after it.
 abbrev pub FaultsStay : {A : Type 0} → Format A → Type 0
-FaultsStay f = (bytes more : List ℕ) (fault : FrameFault) → front f bytes ≡ Broken fault → front f (bytes ++ more) ≡ Broken fault
+FaultsStay f =
+    (bytes more : List ℕ) (fault : FrameFault) → front f bytes ≡ Broken fault
+    → front f (bytes ++ more) ≡ Broken fault
 
--- Two lists of values, each before bytes with no value at their front: where all the bytes are the same, so are the values and the bytes after them.
+-- Two lists of values, each before bytes with no value at their front: where all the bytes are the
+-- same, so are the values and the bytes after them.
 abbrev pub HasOneReading : {A : Type 0} → Format A → Type 0
 HasOneReading {A = A} f =
-    (these those : List A) (rest other : List ℕ) → All f.Fits these → All f.Fits those → HasNoValue (front f rest) → HasNoValue (front f other)
+    (these those : List A) (rest other : List ℕ) → All f.Fits these → All f.Fits those
+    → HasNoValue (front f rest) → HasNoValue (front f other)
     → stream_of f these rest ≡ stream_of f those other → (these ≡ those) × (rest ≡ other)

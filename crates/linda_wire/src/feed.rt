@@ -70,7 +70,8 @@ impl<T: Framed> FrameFeed<T> {
     /// bytes, else with its last byte. It stays at the front, so the same fault is answered from then
     /// on. `Memory` where the value at the front finds none. An error changes nothing.
     pub fn next(&mut self, alloc: Global) -> Result<Option<T>, FrameFault>
-        ensures found { IfOk result (λ o. IfSome o (λ v. (self.old ≡ frame (T.format.spell v) ++ self.new) × T.format.Fits v)) }
+        ensures found { IfOk result (λ o.
+            IfSome o (λ v. (self.old ≡ frame (T.format.spell v) ++ self.new) × T.format.Fits v)) }
         ensures partial { (result ≡ Ok None) ↔ (front T.format self.old ≡ Partial) }
         ensures told { IfErr result (λ fault. IsFaultOf self.old fault) }
         // Memory runs out only where a value stands at the front.

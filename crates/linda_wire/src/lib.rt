@@ -26,7 +26,7 @@ pub use fault::FrameFault;
 pub use feed::{Feed, FrameFeed, ReplyFeed};
 pub use framed::Framed;
 pub use laws::{faults_stay, one_reading, one_reply_reading, reply_faults_stay};
-pub use limits::{LENGTH_BYTES, MAX_ASKS, MAX_CLIENTS, MAX_PAYLOAD, VERSION};
+pub use limits::{LENGTH_BYTES, MAX_ASKS, MAX_CLIENTS, MAX_PAYLOAD, NUMBER_LIMIT, VERSION};
 pub use message::{Message, encode_message};
 pub use refusal::Refusal;
 pub use reply::{Reply, encode_reply};

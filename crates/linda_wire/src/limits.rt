@@ -9,6 +9,9 @@ pub const MAX_PAYLOAD: usize = 65535;
 /// The version of the protocol that is spoken here.
 pub const VERSION: u8 = 1;
 
+/// Ids, and the numbers and tickets of a client, stay below this.
+pub const NUMBER_LIMIT: u64 = 1 << 63;
+
 /// The most asks that a client may have open at a server.
 pub const MAX_ASKS: usize = 64;
 

@@ -4,13 +4,13 @@ ghost use Rattle.std.specs.Prelude.{◌≡◌};
 ghost use Rattle.linda_client.specs.React.{Out, on_stored, react};
 ghost use Rattle.linda_client.specs.Reaction.{Does, shown};
 
-use super::{Client, NUMBER_LIMIT};
+use super::Client;
 use crate::fault::ClientFault;
 use crate::outcome::Outcome;
 use crate::packet::one_packet;
 use crate::reaction::Reaction;
 use linda_tuple::Tuple;
-use linda_wire::Message;
+use linda_wire::{Message, NUMBER_LIMIT};
 use std::alloc::Global;
 
 impl Client {

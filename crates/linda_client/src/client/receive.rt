@@ -11,7 +11,7 @@ ghost use Rattle.linda_client.specs.React as spec;
 ghost use Rattle.linda_client.specs.React.{got_by_read, react};
 ghost use Rattle.linda_client.specs.Reaction.{Does, commitment};
 
-use super::{Client, NUMBER_LIMIT};
+use super::Client;
 use crate::arrival::{Accepted, Arriving};
 use crate::ask::Ask;
 use crate::fault::ClientFault;
@@ -20,7 +20,7 @@ use crate::packet::one_packet;
 use crate::pending::{Pending, bound};
 use crate::reaction::Reaction;
 use linda_tuple::Tuple;
-use linda_wire::{Message, Reply};
+use linda_wire::{Message, NUMBER_LIMIT, Reply};
 use std::alloc::{AllocError, Global};
 
 impl Client {

@@ -7,7 +7,7 @@ ghost use Rattle.linda_client.specs.declared.fault.ClientFault.TheVariants as fa
 ghost use Rattle.linda_client.specs.React.{Sync, has_too_many, lacks_tickets, react};
 ghost use Rattle.linda_client.specs.Reaction.{Does};
 
-use super::{Client, NUMBER_LIMIT};
+use super::Client;
 use crate::ask::asks_and_alarms;
 use crate::fault::ClientFault;
 use crate::outcome::Outcome;
@@ -15,6 +15,7 @@ use crate::pending::Pending;
 use crate::reaction::Reaction;
 use crate::ready::first_ready;
 use linda_event::{Event, EventFault, ask_count, check, is_any_ready};
+use linda_wire::NUMBER_LIMIT;
 use std::alloc::Global;
 
 impl Client {

@@ -98,7 +98,7 @@ impl Framed for Message {
 }
 
 fn hello_from(body: &[u8]) -> Result<(Message, &[u8]), ReadFault>
-    ensures { GivesAlways (λ x. (x.0, x.1.now)) result (made_at (λ p. Hello p.0 p.1.0 p.1.1) format.hello body.now) }
+    ensures { GivesAlways (λ x. (x.0, x.1.now)) result (made_at format.hello_of format.hello body.now) }
 {
     let (version, rest) = read_u8(body)?;
     let (client, rest) = read_u32(rest)?;
@@ -112,7 +112,7 @@ fn hello_from(body: &[u8]) -> Result<(Message, &[u8]), ReadFault>
 }
 
 fn out_from(alloc: Global, body: &[u8]) -> Result<(Message, &[u8]), ReadFault>
-    ensures { Gives (λ x. (x.0, x.1.now)) result (made_at (λ p. Out p.0 p.1) format.out body.now) }
+    ensures { Gives (λ x. (x.0, x.1.now)) result (made_at format.out_of format.out body.now) }
 {
     let (n, rest) = read_u64(body)?;
     let (tuple, rest) = read_tuple(alloc, rest)?;
@@ -120,14 +120,14 @@ fn out_from(alloc: Global, body: &[u8]) -> Result<(Message, &[u8]), ReadFault>
 }
 
 fn skip_out(body: &[u8]) -> Result<&[u8], ReadFault>
-    ensures { GivesAlways (λ rest. rest.now) result (left_by (made_at (λ p. Out p.0 p.1) format.out body.now)) }
+    ensures { GivesAlways (λ rest. rest.now) result (left_by (made_at format.out_of format.out body.now)) }
 {
     let (_n, rest) = read_u64(body)?;
     skip_tuple(rest)
 }
 
 fn ask_from(alloc: Global, body: &[u8]) -> Result<(Message, &[u8]), ReadFault>
-    ensures { Gives (λ x. (x.0, x.1.now)) result (made_at (λ p. Ask p.0 p.1.0 p.1.1) format.ask body.now) }
+    ensures { Gives (λ x. (x.0, x.1.now)) result (made_at format.ask_of format.ask body.now) }
 {
     let (ticket, rest) = read_u64(body)?;
     let (remove, rest) = read_bool(rest)?;
@@ -141,7 +141,7 @@ fn ask_from(alloc: Global, body: &[u8]) -> Result<(Message, &[u8]), ReadFault>
 }
 
 fn skip_ask(body: &[u8]) -> Result<&[u8], ReadFault>
-    ensures { GivesAlways (λ rest. rest.now) result (left_by (made_at (λ p. Ask p.0 p.1.0 p.1.1) format.ask body.now)) }
+    ensures { GivesAlways (λ rest. rest.now) result (left_by (made_at format.ask_of format.ask body.now)) }
 {
     let (_ticket, rest) = read_u64(body)?;
     let (_remove, rest) = read_bool(rest)?;
@@ -149,7 +149,7 @@ fn skip_ask(body: &[u8]) -> Result<&[u8], ReadFault>
 }
 
 fn accept_from(body: &[u8]) -> Result<(Message, &[u8]), ReadFault>
-    ensures { GivesAlways (λ x. (x.0, x.1.now)) result (made_at (λ p. Accept p.0 p.1.0 p.1.1) format.accept body.now) }
+    ensures { GivesAlways (λ x. (x.0, x.1.now)) result (made_at format.accept_of format.accept body.now) }
 {
     let (n, rest) = read_u64(body)?;
     let (ticket, rest) = read_u64(rest)?;
@@ -158,7 +158,7 @@ fn accept_from(body: &[u8]) -> Result<(Message, &[u8]), ReadFault>
 }
 
 fn cancel_from(body: &[u8]) -> Result<(Message, &[u8]), ReadFault>
-    ensures { GivesAlways (λ x. (x.0, x.1.now)) result (made_at (λ ticket. Cancel ticket) number body.now) }
+    ensures { GivesAlways (λ x. (x.0, x.1.now)) result (made_at format.cancel_of number body.now) }
 {
     let (ticket, rest) = read_u64(body)?;
     Ok((Message::Cancel { ticket }, rest))

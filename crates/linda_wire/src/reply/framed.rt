@@ -98,14 +98,14 @@ impl Framed for Reply {
 }
 
 fn welcome_from(body: &[u8]) -> Result<(Reply, &[u8]), ReadFault>
-    ensures { GivesAlways (λ x. (x.0, x.1.now)) result (made_at (λ last. replies.Welcome last) number body.now) }
+    ensures { GivesAlways (λ x. (x.0, x.1.now)) result (made_at format.welcome_of number body.now) }
 {
     let (last, rest) = read_u64(body)?;
     Ok((Reply::Welcome { last }, rest))
 }
 
 fn stored_from(body: &[u8]) -> Result<(Reply, &[u8]), ReadFault>
-    ensures { GivesAlways (λ x. (x.0, x.1.now)) result (made_at (λ p. replies.Stored p.0 p.1) format.stored body.now) }
+    ensures { GivesAlways (λ x. (x.0, x.1.now)) result (made_at format.stored_of format.stored body.now) }
 {
     let (n, rest) = read_u64(body)?;
     let (id, rest) = read_u64(rest)?;
@@ -113,14 +113,14 @@ fn stored_from(body: &[u8]) -> Result<(Reply, &[u8]), ReadFault>
 }
 
 fn gone_from(body: &[u8]) -> Result<(Reply, &[u8]), ReadFault>
-    ensures { GivesAlways (λ x. (x.0, x.1.now)) result (made_at (λ n. replies.Gone n) number body.now) }
+    ensures { GivesAlways (λ x. (x.0, x.1.now)) result (made_at format.gone_of number body.now) }
 {
     let (n, rest) = read_u64(body)?;
     Ok((Reply::Gone { n }, rest))
 }
 
 fn refused_from(body: &[u8]) -> Result<(Reply, &[u8]), ReadFault>
-    ensures { GivesAlways (λ x. (x.0, x.1.now)) result (made_at (λ p. replies.Refused p.0 p.1) format.refusal body.now) }
+    ensures { GivesAlways (λ x. (x.0, x.1.now)) result (made_at format.refused_of format.refusal body.now) }
 {
     let (code, rest) = read_u8(body)?;
     let (detail, rest) = read_u64(rest)?;
@@ -138,9 +138,9 @@ fn read_entry(alloc: Global, body: &[u8]) -> Result<(u64, u64, Tuple, &[u8]), Re
 }
 
 fn skip_entry(body: &[u8]) -> Result<&[u8], ReadFault>
-    ensures offer { GivesAlways (λ rest. rest.now) result (left_by (made_at (λ p. replies.Offer p.0 p.1.0 p.1.1) format.entry body.now)) }
-    ensures read { GivesAlways (λ rest. rest.now) result (left_by (made_at (λ p. replies.Read p.0 p.1.0 p.1.1) format.entry body.now)) }
-    ensures taken { GivesAlways (λ rest. rest.now) result (left_by (made_at (λ p. replies.Taken p.0 p.1.0 p.1.1) format.entry body.now)) }
+    ensures offer { GivesAlways (λ rest. rest.now) result (left_by (made_at format.offer_of format.entry body.now)) }
+    ensures read { GivesAlways (λ rest. rest.now) result (left_by (made_at format.read_of format.entry body.now)) }
+    ensures taken { GivesAlways (λ rest. rest.now) result (left_by (made_at format.taken_of format.entry body.now)) }
 {
     let (_number, rest) = read_u64(body)?;
     let (_id, rest) = read_u64(rest)?;

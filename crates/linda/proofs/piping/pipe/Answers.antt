@@ -1,5 +1,6 @@
 use Rattle.std.proofs.Common.{arith, ◌≤◌, ◌+◌, ℕ, ◌*◌, Bool, Ok, subst}
 use Rattle.std.proofs.lemmas.Result.{err_from_is_err_and}
+use Rattle.linda.specs.declared.piping.TheConstants.{BUFFER}
 use Rattle.linda.specs.Exchanges.{TurnsTo}
 use Rattle.linda.proofs.Nodes.{shown}
 use Rattle.linda.proofs.Ends.{none_read, turns_spent}
@@ -31,7 +32,7 @@ pub loop-turn-preserved : goal.loop-turn-preserved
 loop-turn-preserved g c =
     let h = c.in_ok-read_once.ensures.turns _ _ _ c.loop-turn.invariant.piping in
     record {
-      count = more_lines c.loop-turn._turn _ _ 65537 c.loop-turn.invariant.count (omega (arith, c.in_ok-read_once.ensures.count));
+      count = more_lines c.loop-turn._turn _ _ (BUFFER + 1) c.loop-turn.invariant.count (omega (arith, c.in_ok-read_once.ensures.count));
       piping =
           subst
           (λ (b : Bool). TurnsTo (c.loop-turn._turn + 1) (g.R.Read.remaining c.args.reader.now) (g.R.Read.remaining c.read_once.new.reader) (g.W.Write.contents c.args.writer.now)

@@ -1,6 +1,6 @@
-use Rattle.std.proofs.Common.{◌≡◌, ◌∙◌, sym, subst}
-use Rattle.linda_codec.specs.Steps.{GivesAlways, left_by}
-use Rattle.linda_codec.specs.Formats.{number, both, made_at}
+use Rattle.std.proofs.Common.{◌∙◌, sym, subst}
+use Rattle.linda_codec.specs.Steps.{GivesAlways}
+use Rattle.linda_codec.specs.Formats.{number, both}
 use Rattle.linda_codec.specs.Values as value
 use Rattle.linda_codec.proofs.SkipLaws.{left_made, left_behind}
 use Rattle.linda_wire.specs.Frames as format
