@@ -1,5 +1,5 @@
 -- A synchronization that is pending: its tickets, what it accepted and what it saved.
-use Rattle.std.specs.Prelude.{◌≡◌, ℕ, ◌+◌, ◌-◌, ◌^◌, ◌≤◌, ◌==◌, nat_lt, Bool, true, false, ◌&&◌}
+use Rattle.std.specs.Prelude.{◌≡◌, ℕ, ◌+◌, ◌-◌, ◌≤◌, ◌==◌, nat_lt, Bool, true, false, ◌&&◌}
 use Rattle.std.specs.Prelude.{not, if◌then◌else◌, List, [], ◌∷◌, ◌++◌, drop, length, Option, Some}
 use Rattle.std.specs.Prelude.{None, All, IfSome, IsSomeAnd, slice_get}
 use Rattle.std.specs.List.{list_any}

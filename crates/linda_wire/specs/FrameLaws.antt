@@ -50,10 +50,16 @@ message_body is kind make spelled fits =
 message_bodies : AreBodies format.spell_message format.FitsMessage format.message_kinds
 message_bodies = (
   message_body hello_is kind.HELLO format.hello_of (λ p. refl) (λ p fits. fits),
-  (message_body out_is kind.OUT format.out_of (λ p. refl) (λ p fits. fits),
-  (message_body ask_is kind.ASK format.ask_of (λ p. refl) (λ p fits. fits),
-  (message_body accept_is kind.ACCEPT format.accept_of (λ p. refl) (λ p fits. fits),
-  (message_body number_is kind.CANCEL format.cancel_of (λ n. refl) (λ n fits. fits), tt))))
+  (
+    message_body out_is kind.OUT format.out_of (λ p. refl) (λ p fits. fits),
+    (
+      message_body ask_is kind.ASK format.ask_of (λ p. refl) (λ p fits. fits),
+      (
+        message_body accept_is kind.ACCEPT format.accept_of (λ p. refl) (λ p fits. fits),
+        (message_body number_is kind.CANCEL format.cancel_of (λ n. refl) (λ n fits. fits), tt),
+      ),
+    ),
+  ),
 )
 
 message_again : (m : Message) (rest : List ℕ) → format.FitsMessage m
@@ -93,12 +99,22 @@ reply_body is kind make spelled fits =
 reply_bodies : AreBodies format.spell_reply format.FitsReply format.reply_kinds
 reply_bodies = (
   reply_body number_is kind.WELCOME format.welcome_of (λ n. refl) (λ n fits. fits),
-  (reply_body stored_is kind.STORED format.stored_of (λ p. refl) (λ p fits. fits),
-  (reply_body entry_is kind.OFFER format.offer_of (λ p. refl) (λ p fits. fits),
-  (reply_body entry_is kind.READ format.read_of (λ p. refl) (λ p fits. fits),
-  (reply_body entry_is kind.TAKEN format.taken_of (λ p. refl) (λ p fits. fits),
-  (reply_body number_is kind.GONE format.gone_of (λ n. refl) (λ n fits. fits),
-  (reply_body refusal_is kind.REFUSED format.refused_of (λ p. refl) (λ p fits. fits), tt))))))
+  (
+    reply_body stored_is kind.STORED format.stored_of (λ p. refl) (λ p fits. fits),
+    (
+      reply_body entry_is kind.OFFER format.offer_of (λ p. refl) (λ p fits. fits),
+      (
+        reply_body entry_is kind.READ format.read_of (λ p. refl) (λ p fits. fits),
+        (
+          reply_body entry_is kind.TAKEN format.taken_of (λ p. refl) (λ p fits. fits),
+          (
+            reply_body number_is kind.GONE format.gone_of (λ n. refl) (λ n fits. fits),
+            (reply_body refusal_is kind.REFUSED format.refused_of (λ p. refl) (λ p fits. fits), tt),
+          ),
+        ),
+      ),
+    ),
+  ),
 )
 
 reply_again : (r : Reply) (rest : List ℕ) → format.FitsReply r
@@ -143,8 +159,12 @@ many_short : {A : Type 0} (spell : A → List ℕ) (Fits : A → Type 0) → Are
     → length (flat_map spell many) ≤ ATOM_BYTES * length many
 many_short spell Fits one [] fits = omega arith
 many_short spell Fits one (a ∷ many) fits =
-    omega (arith, one a fits.0, many_short spell Fits one many fits.1,
-        length-append (spell a) (flat_map spell many))
+    omega (
+      arith,
+      one a fits.0,
+      many_short spell Fits one many fits.1,
+      length-append (spell a) (flat_map spell many),
+    )
 
 -- No more than these bytes are in the spelling of a tag, a count and that many values.
 abbrev VALUE_BYTES : ℕ
@@ -154,9 +174,13 @@ tagged_short : {A : Type 0} (spell : A → List ℕ) (Fits : A → Type 0) → A
     → (tag : Atom) (many : List A) → IsSound tag → length many ≤ MAX_FIELDS → All Fits many
     → length (value.atom.spell tag ++ length many ∷ flat_map spell many) ≤ VALUE_BYTES
 tagged_short spell Fits one tag many sound count fits =
-    omega (arith, count, atom_short tag sound,
-        many_short spell Fits one many (recursion_from_All Fits many fits),
-        length-append (value.atom.spell tag) (length many ∷ flat_map spell many))
+    omega (
+      arith,
+      count,
+      atom_short tag sound,
+      many_short spell Fits one many (recursion_from_All Fits many fits),
+      length-append (value.atom.spell tag) (length many ∷ flat_map spell many),
+    )
 
 pub tuple_short : (t : Tuple) → IsWithin t → length (value.tuple.spell t) ≤ VALUE_BYTES
 tuple_short t within =

@@ -1,42 +1,44 @@
 //! Each kind of frame, both ways.
 
 use super::samples::*;
-use crate::{Feed, Message, Reply, ReplyFeed, encode_message, encode_reply};
-use linda_tuple::{Atom, Pattern, Template, Tuple};
-use std::alloc::Global;
+use crate::{Feed, Message, Reply, ReplyFeed};
+use linda_tuple::{Atom, Pattern, Template};
+use std::alloc::{AllocError, Global};
 use std::test::*;
 
-// The tuple ("a", 3).
+// A template of the tag "a".
 fn template(alloc: Global, patterns: Vec<Pattern>) -> Result<Template, Fail> {
     Ok(Template::new(text(alloc, "a")?, patterns)?)
 }
 
-// Whether a message is written as these bytes, and so is a copy of what a feed reads from them.
-fn is_written(alloc: Global, message: &Message, bytes: &[u8]) -> Result<bool, Fail> {
-    let mut out = Vec::new(alloc);
-    encode_message(&mut out, message)?;
+// Whether a copy of what a feed of these bytes gives is spelled as they are.
+fn is_read(alloc: Global, bytes: &[u8]) -> Result<bool, Fail> {
     let mut feed = Feed::new(alloc);
     feed.feed(bytes)?;
-    let Some(read) = feed.next(alloc)? else {
-        return Ok(false);
-    };
-    let mut again = Vec::new(alloc);
-    encode_message(&mut again, &read.try_clone(alloc)?)?;
-    Ok(out.as_slice() == bytes && again.as_slice() == bytes && feed.rest() == 0)
+    match feed.next(alloc)? {
+        Some(message) => Ok(is_spelled(alloc, &message.try_clone(alloc)?, bytes)?),
+        None => Ok(false),
+    }
+}
+
+// Whether a message is written as these bytes, and so is a copy of what a feed reads from them.
+fn is_written(alloc: Global, message: &Message, bytes: &[u8]) -> Result<bool, Fail> {
+    Ok(is_spelled(alloc, message, bytes)? && is_read(alloc, bytes)?)
+}
+
+// Whether a copy of what a feed of these bytes gives is spelled as they are.
+fn is_reply_read(alloc: Global, bytes: &[u8]) -> Result<bool, Fail> {
+    let mut feed = ReplyFeed::new(alloc);
+    feed.feed(bytes)?;
+    match feed.next(alloc)? {
+        Some(reply) => Ok(is_reply_spelled(alloc, &reply.try_clone(alloc)?, bytes)?),
+        None => Ok(false),
+    }
 }
 
 // Whether a reply is written as these bytes, and so is a copy of what a feed reads from them.
 fn is_reply_written(alloc: Global, reply: &Reply, bytes: &[u8]) -> Result<bool, Fail> {
-    let mut out = Vec::new(alloc);
-    encode_reply(&mut out, reply)?;
-    let mut feed = ReplyFeed::new(alloc);
-    feed.feed(bytes)?;
-    let Some(read) = feed.next(alloc)? else {
-        return Ok(false);
-    };
-    let mut again = Vec::new(alloc);
-    encode_reply(&mut again, &read.try_clone(alloc)?)?;
-    Ok(out.as_slice() == bytes && again.as_slice() == bytes && feed.rest() == 0)
+    Ok(is_reply_spelled(alloc, reply, bytes)? && is_reply_read(alloc, bytes)?)
 }
 
 #[test]
@@ -59,7 +61,8 @@ fn hello_and_out_in_frames(rt: HostRuntime) -> Result<(), Fail> {
 #[test]
 fn ask_to_take_in_a_frame(rt: HostRuntime) -> Result<(), Fail> {
     let alloc = rt.alloc();
-    let patterns = Vec::from_array(alloc, [Pattern::IntFormal])?;
+    let mut patterns = Vec::new(alloc);
+    patterns.push(Pattern::IntFormal)?;
     let ask = Message::Ask {
         ticket: 1,
         remove: true,
@@ -69,20 +72,23 @@ fn ask_to_take_in_a_frame(rt: HostRuntime) -> Result<(), Fail> {
     Ok(())
 }
 
+// An integer and each formal but that of integers, and a wildcard.
+fn patterns(alloc: Global) -> Result<Vec<Pattern>, AllocError> {
+    let mut patterns = Vec::new(alloc);
+    patterns.push(Pattern::Value(Atom::Int(3)))?;
+    patterns.push(Pattern::TextFormal)?;
+    patterns.push(Pattern::BoolFormal)?;
+    patterns.push(Pattern::Any)?;
+    Ok(patterns)
+}
+
 #[test]
 fn ask_to_read_in_a_frame(rt: HostRuntime) -> Result<(), Fail> {
     let alloc = rt.alloc();
-    let value = Pattern::Value(Atom::Int(3));
-    let patterns = [
-        value,
-        Pattern::TextFormal,
-        Pattern::BoolFormal,
-        Pattern::Any,
-    ];
     let ask = Message::Ask {
         ticket: u64::MAX,
         remove: false,
-        template: template(alloc, Vec::from_array(alloc, patterns)?)?,
+        template: template(alloc, patterns(alloc)?)?,
     };
     assert!(rt; is_written(alloc, &ask, &ASK_TO_READ)?);
     Ok(())
@@ -112,7 +118,7 @@ fn replies_of_numbers_in_frames(rt: HostRuntime) -> Result<(), Fail> {
 }
 
 #[test]
-fn replies_with_tuples_in_frames(rt: HostRuntime) -> Result<(), Fail> {
+fn offer_in_a_frame(rt: HostRuntime) -> Result<(), Fail> {
     let alloc = rt.alloc();
     let offer = Reply::Offer {
         ticket: 1,
@@ -120,12 +126,24 @@ fn replies_with_tuples_in_frames(rt: HostRuntime) -> Result<(), Fail> {
         tuple: tuple(alloc)?,
     };
     assert!(rt; is_reply_written(alloc, &offer, &OFFER)?);
+    Ok(())
+}
+
+#[test]
+fn read_in_a_frame(rt: HostRuntime) -> Result<(), Fail> {
+    let alloc = rt.alloc();
     let read = Reply::Read {
         ticket: 5,
         id: 6,
         tuple: tuple(alloc)?,
     };
     assert!(rt; is_reply_written(alloc, &read, &READ)?);
+    Ok(())
+}
+
+#[test]
+fn taken_in_a_frame(rt: HostRuntime) -> Result<(), Fail> {
+    let alloc = rt.alloc();
     let taken = Reply::Taken {
         n: 2,
         id: 1,

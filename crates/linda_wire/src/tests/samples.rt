@@ -1,5 +1,6 @@
-//! A frame of each kind, by hand.
+//! A frame of each kind, by hand, and whether a message or a reply is spelled as one.
 
+use crate::{Message, Reply, encode_message, encode_reply};
 use linda_tuple::{Atom, Text, Tuple};
 use std::alloc::{AllocError, Global};
 use std::test::*;
@@ -40,6 +41,31 @@ pub(crate) fn text(alloc: Global, content: &str) -> Result<Atom, AllocError> {
     Ok(Atom::Text(Text::new(String::from_str(alloc, content)?)))
 }
 
+// The tuple ("a", 3).
 pub(crate) fn tuple(alloc: Global) -> Result<Tuple, Fail> {
-    Ok(Tuple::new(text(alloc, "a")?, Vec::from_array(alloc, [Atom::Int(3)])?)?)
+    let mut fields = Vec::new(alloc);
+    fields.push(Atom::Int(3))?;
+    Ok(Tuple::new(text(alloc, "a")?, fields)?)
+}
+
+// Whether a message is spelled as these bytes.
+pub(crate) fn is_spelled(
+    alloc: Global,
+    message: &Message,
+    bytes: &[u8],
+) -> Result<bool, AllocError> {
+    let mut out = Vec::new(alloc);
+    encode_message(&mut out, message)?;
+    Ok(out.as_slice() == bytes)
+}
+
+// Whether a reply is spelled as these bytes.
+pub(crate) fn is_reply_spelled(
+    alloc: Global,
+    reply: &Reply,
+    bytes: &[u8],
+) -> Result<bool, AllocError> {
+    let mut out = Vec::new(alloc);
+    encode_reply(&mut out, reply)?;
+    Ok(out.as_slice() == bytes)
 }

@@ -1,71 +1,66 @@
 //! Streams of frames, in pieces of any size.
 
 use super::samples::*;
-use crate::{Feed, FrameFault, Message, Reply, ReplyFeed};
-use linda_tuple::{Atom, Pattern, Tuple};
-use std::alloc::{AllocError, Global};
+use crate::{Feed, ReplyFeed};
+use std::alloc::Global;
 use std::test::*;
 
-fn is_hello(message: Option<Message>) -> bool {
-    matches!(
-        message,
-        Some(Message::Hello {
-            version: 1,
-            client: 7,
-            fresh: false
-        })
-    )
-}
+// The Hello and the Ask of the samples, one behind the other.
+const STREAM: [u8; 30] =
+    *b"\0\0\0\x07\x01\x01\0\0\0\x07\0\0\0\0\x0f\x03\0\0\0\0\0\0\0\x01\x01\x02\x01a\x01\x04";
 
-fn is_ask(message: Option<Message>) -> bool {
-    match message {
-        Some(
-            Message::Ask {
-                ticket: 1,
-                remove: true,
-                template,
-            },
-        ) => matches!(template.fields(), [Pattern::IntFormal]),
-        _ => false,
+// Whether the feed's next message is spelled as this frame.
+fn gives(alloc: Global, feed: &mut Feed, frame: &[u8]) -> Result<bool, Fail> {
+    match feed.next(alloc)? {
+        Some(message) => Ok(is_spelled(alloc, &message, frame)?),
+        None => Ok(false),
     }
 }
 
-fn is_offer(alloc: Global, reply: Option<Reply>) -> Result<bool, AllocError> {
-    let tag = text(alloc, "a")?;
-    match reply {
-        Some(
-            Reply::Offer {
-                ticket: 1,
-                id: 1,
-                tuple,
-            },
-        ) => Ok(*tuple.tag() == tag && matches!(tuple.fields(), [Atom::Int(3)])),
-        _ => Ok(false),
+// Whether the feed has no message yet.
+fn gives_nothing(alloc: Global, feed: &mut Feed) -> Result<bool, Fail> {
+    let message = feed.next(alloc)?;
+    Ok(message.is_none())
+}
+
+// Whether the feed's next reply is spelled as this frame.
+fn gives_reply(alloc: Global, feed: &mut ReplyFeed, frame: &[u8]) -> Result<bool, Fail> {
+    match feed.next(alloc)? {
+        Some(reply) => Ok(is_reply_spelled(alloc, &reply, frame)?),
+        None => Ok(false),
     }
+}
+
+// Whether the feed, which has all of the stream, gives its messages and nothing more, and what is left is counted.
+fn gives_both(alloc: Global, feed: &mut Feed) -> Result<bool, Fail> {
+    let hello = gives(alloc, feed, &HELLO)? && feed.rest() == 19;
+    let ask = gives(alloc, feed, &ASK)?;
+    let nothing = gives_nothing(alloc, feed)?;
+    Ok(hello && ask && nothing && feed.rest() == 0)
+}
+
+// Whether the feed gives the stream's messages where it is cut in the second one's length.
+fn gives_both_cut(alloc: Global, feed: &mut Feed) -> Result<bool, Fail> {
+    feed.feed(&STREAM[..13])?;
+    let hello = gives(alloc, feed, &HELLO)?;
+    let nothing = gives_nothing(alloc, feed)? && feed.rest() == 2;
+    feed.feed(&STREAM[13..])?;
+    let ask = gives(alloc, feed, &ASK)?;
+    Ok(hello && nothing && ask && gives_nothing(alloc, feed)?)
 }
 
 #[test]
-fn a_stream_in_any_pieces(rt: HostRuntime) -> Result<(), Fail> {
-    let alloc = rt.alloc();
-    let mut stream = Vec::from_slice(alloc, &HELLO)?;
-    stream.extend_from_slice(&ASK)?;
+fn a_stream_in_one_piece(rt: HostRuntime) -> Result<(), Fail> {
+    let mut feed = Feed::new(rt.alloc());
+    feed.feed(&STREAM)?;
+    assert!(rt; gives_both(rt.alloc(), &mut feed)?);
+    Ok(())
+}
 
-    let mut whole = Feed::new(alloc);
-    whole.feed(&stream)?;
-    assert!(rt; is_hello(whole.next(alloc)?));
-    assert_eq!(rt; whole.rest(), 19);
-    assert!(rt; is_ask(whole.next(alloc)?));
-    assert!(rt; whole.next(alloc)?.is_none());
-    assert_eq!(rt; whole.rest(), 0);
-
-    let mut cut = Feed::new(alloc);
-    cut.feed(&stream[..13])?;
-    assert!(rt; is_hello(cut.next(alloc)?));
-    assert!(rt; cut.next(alloc)?.is_none());
-    assert_eq!(rt; cut.rest(), 2);
-    cut.feed(&stream[13..])?;
-    assert!(rt; is_ask(cut.next(alloc)?));
-    assert!(rt; cut.next(alloc)?.is_none());
+#[test]
+fn a_stream_in_two_pieces(rt: HostRuntime) -> Result<(), Fail> {
+    let mut feed = Feed::new(rt.alloc());
+    assert!(rt; gives_both_cut(rt.alloc(), &mut feed)?);
     Ok(())
 }
 
@@ -77,14 +72,23 @@ fn a_stream_byte_by_byte(rt: HostRuntime) -> Result<(), Fail> {
         assert!(rt; feed.next(alloc)?.is_none(), "byte {i}");
         feed.feed(&[*byte])?;
     }
-    assert!(rt; is_hello(feed.next(alloc)?));
+    assert!(rt; gives(alloc, &mut feed, &HELLO)?);
     for (i, byte) in ASK.iter().enumerate() {
         assert!(rt; feed.next(alloc)?.is_none(), "byte {i}");
         feed.feed(&[*byte])?;
     }
-    assert!(rt; is_ask(feed.next(alloc)?));
+    assert!(rt; gives(alloc, &mut feed, &ASK)?);
     assert_eq!(rt; feed.rest(), 0);
     Ok(())
+}
+
+// Whether the feed of replies gives the Gone and the Offer, the second cut behind its length and kind.
+fn gives_replies(alloc: Global, feed: &mut ReplyFeed) -> Result<bool, Fail> {
+    feed.feed(&OFFER[..5])?;
+    let gone = gives_reply(alloc, feed, &GONE)?;
+    let waits = feed.next(alloc)?.is_none() && feed.rest() == 5;
+    feed.feed(&OFFER[5..])?;
+    Ok(gone && waits && gives_reply(alloc, feed, &OFFER)? && feed.rest() == 0)
 }
 
 #[test]
@@ -95,12 +99,6 @@ fn a_stream_of_replies_byte_by_byte(rt: HostRuntime) -> Result<(), Fail> {
         assert!(rt; feed.next(alloc)?.is_none(), "byte {i}");
         feed.feed(&[*byte])?;
     }
-    feed.feed(&OFFER[..5])?;
-    assert!(rt; matches!(feed.next(alloc)?, Some(Reply::Gone { n: 2 })));
-    assert!(rt; feed.next(alloc)?.is_none());
-    assert_eq!(rt; feed.rest(), 5);
-    feed.feed(&OFFER[5..])?;
-    assert!(rt; is_offer(alloc, feed.next(alloc)?)?);
-    assert_eq!(rt; feed.rest(), 0);
+    assert!(rt; gives_replies(alloc, &mut feed)?);
     Ok(())
 }
