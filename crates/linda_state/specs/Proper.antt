@@ -22,8 +22,8 @@ HasRoom st (Out client n tuple) = st.next < NUMBER_LIMIT
 HasRoom st (Take client n id) = IsSome (map.get st.bag id)
 HasRoom st (Pass client n id) = Unit {0}
 
--- The deed may be done in this state: its number is the client's next and below the limit, a new client comes only while
--- there is a place for it, an Out only while there are ids, and a Take takes a tuple that is there.
+-- The deed may be done in this state: its number is the client's next and below the limit, a new client comes
+-- only while there is a place for it, an Out only while there are ids, and a Take takes a tuple that is there.
 pub record IsAllowed (st : State) (d : Deed) : Type 0 where
   pub number : number_of d ≡ number_in (map.get st.book (client_of d)) + 1
   pub below : number_of d < NUMBER_LIMIT
@@ -32,7 +32,9 @@ pub record IsAllowed (st : State) (d : Deed) : Type 0 where
 
 -- Each deed of the list is allowed in the state after those before it.
 abbrev pub IsProper : State → List Deed → Type 0
-IsProper st ds = (before : List Deed) (d : Deed) (later : List Deed) (mid : State) → ds ≡ before ++ d ∷ later → IsAfter st before mid → IsAllowed mid d
+IsProper st ds =
+    (before : List Deed) (d : Deed) (later : List Deed) (mid : State)
+    → ds ≡ before ++ d ∷ later → IsAfter st before mid → IsAllowed mid d
 
 -- These deeds are a proper list from the first state, and lead to the other.
 pub record AreDone (st : State) (ds : List Deed) (new : State) : Type 0 where
