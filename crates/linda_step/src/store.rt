@@ -1,13 +1,16 @@
 //! The store of a server: a state that keeps its ranges, changed by one message after another.
 
-ghost use Rattle.std.specs.Prelude.{◌≡◌, ◌++◌, true, false, IfOk, OnOk, OnErr, IsErr, option_to_list};
+ghost use Rattle.std.specs.Prelude.{◌≡◌, ◌≤◌, ◌++◌, true, false, length};
+ghost use Rattle.std.specs.Prelude.{IfOk, OnOk, OnErr, IsErr, option_to_list};
+ghost use Rattle.linda_state.specs.DeedFormat.{payload};
 ghost use Rattle.linda_state.specs.State.{IsState, empty_state};
 ghost use Rattle.linda_step.specs.Soft.{no_asks};
 ghost use Rattle.linda_step.specs.Dispatch.{on_close};
 ghost use Rattle.linda_step.specs.Answer.{IsStep};
-ghost use Rattle.linda_step.specs.History.{Answers, IsOneMore, says};
+ghost use Rattle.linda_step.specs.History.{History, Answers, IsOneMore, says};
 ghost use Rattle.linda_step.specs.Store.{IsOrderly};
 
+use crate::size::{self, MAX_BATCH};
 use crate::soft::Soft;
 use crate::step::{Step, Steps, answer_message};
 use linda_bag::Bag;
@@ -136,6 +139,17 @@ impl<B: Bag> Store<B> {
             }
         }
         Ok(steps)
+    }
+
+    /// How many bytes the deeds of the messages will spell, each of its client, one after another, as
+    /// `step_all` does them. Takes no memory, and changes nothing.
+    #[tactic(auto, using(crate::proofs::DemandLaws::all_bytes))]
+    pub fn size_of(&self, messages: &[(u32, Message)]) -> u64
+        requires { length messages.now ≤ MAX_BATCH }
+        ensures { (all : History) → Answers self.now.state self.now.soft messages.now all
+            → result ≡ length (payload all.deeds) }
+    {
+        size::bytes_of(&self.state, messages) as u64
     }
 
     // Does one message more.

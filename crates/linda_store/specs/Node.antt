@@ -11,7 +11,7 @@ use Rattle.linda_step.specs.History.{Coming, says, leaves, History, Happens, com
 use Rattle.linda_step.specs.Course.{IsFront}
 use Rattle.linda_store.specs.declared.work.Work.{Work}
 use Rattle.linda_store.specs.declared.work.Work.TheVariants as works
-use Rattle.linda_store.specs.declared.work.TheConstants.{MAX_BATCH}
+use Rattle.linda_step.specs.declared.size.TheConstants.{MAX_BATCH}
 use Rattle.linda_store.specs.declared.node.NodeFault.{NodeFault}
 use Rattle.linda_store.specs.declared.node.NodeFault.TheVariants as faults
 
