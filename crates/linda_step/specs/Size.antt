@@ -25,19 +25,23 @@ numbers_of st = record { last = last_number st; clients = map.len st.book; next 
 -- what a numbered message asks for: its number, whether it puts a tuple, and the bytes of its deed
 abbrev pub demand_of : Message → Option Demand
 demand_of (messages.Hello version client fresh) = None
-demand_of (messages.Out n tuple) = Some (record { n = n; is_out = true; size = HEAD_BYTES + length (value.tuple.spell tuple) })
+demand_of (messages.Out n tuple) =
+    Some (record { n = n; is_out = true; size = HEAD_BYTES + length (value.tuple.spell tuple) })
 demand_of (messages.Ask ticket remove template) = None
-demand_of (messages.Accept n ticket id) = Some (record { n = n; is_out = false; size = HEAD_BYTES + ID_BYTES })
+demand_of (messages.Accept n ticket id) =
+    Some (record { n = n; is_out = false; size = HEAD_BYTES + ID_BYTES })
 demand_of (messages.Cancel ticket) = None
 
 -- whether a number or an id that it needs is spent, where this is the next id
 abbrev pub is_spent_for : Demand → ℕ → Bool
-is_spent_for d next = if d.is_out then (d.n == NUMBER_LIMIT) || (next == NUMBER_LIMIT) else d.n == NUMBER_LIMIT
+is_spent_for d next =
+    if d.is_out then (d.n == NUMBER_LIMIT) || (next == NUMBER_LIMIT) else d.n == NUMBER_LIMIT
 
 -- Whether it is met, where these are the client's last number, the count of clients and the next id: its number is
 -- the client's next one, there is a place for the client, and nothing that it needs is spent.
 abbrev pub is_met : Demand → ℕ → ℕ → ℕ → Bool
-is_met d last clients next = (d.n == last + 1) && (not ((last == 0) && nat_le MAX_CLIENTS clients) && not (is_spent_for d next))
+is_met d last clients next =
+    (d.n == last + 1) && (not ((last == 0) && nat_le MAX_CLIENTS clients) && not (is_spent_for d next))
 
 -- a demand, where it is met
 abbrev pub if_met : Option Demand → ℕ → ℕ → ℕ → Option Demand
@@ -65,7 +69,8 @@ bytes_of (Some d) = d.size
 -- the bytes of what is done of messages, one after another
 abbrev pub bytes_from : Numbers → List (ℕ × Message) → ℕ
 bytes_from ns [] = 0
-bytes_from ns (m ∷ ms) = bytes_of (done_of ns m.0 m.1) + bytes_from (numbers_after ns m.0 (done_of ns m.0 m.1)) ms
+bytes_from ns (m ∷ ms) =
+    bytes_of (done_of ns m.0 m.1) + bytes_from (numbers_after ns m.0 (done_of ns m.0 m.1)) ms
 
 -- the last number of a client behind these, each a client with its number; or else this one
 abbrev pub last_behind : List (ℕ × ℕ) → ℕ → ℕ → ℕ

@@ -7,7 +7,7 @@ ghost use Rattle.linda_state.specs.State.{IsState, empty_state};
 ghost use Rattle.linda_step.specs.Soft.{no_asks};
 ghost use Rattle.linda_step.specs.Dispatch.{on_close};
 ghost use Rattle.linda_step.specs.Answer.{IsStep};
-ghost use Rattle.linda_step.specs.History.{History, Answers, IsOneMore, says};
+ghost use Rattle.linda_step.specs.History.{History, Answers, IsOneMore, says, history_of};
 ghost use Rattle.linda_step.specs.Store.{IsOrderly};
 
 use crate::size::{self, MAX_BATCH};
@@ -85,7 +85,8 @@ impl<B: Bag> Store<B> {
         client: u32,
         message: &Message,
     ) -> Result<Step, AllocError>
-        ensures ok { IfOk result (λ s. IsStep self.old.state self.old.soft client message.now (record { deed = s.deed; sends = s.sends.items; soft = self.new.soft }) self.new.state) }
+        ensures ok { IfOk result (λ s. IsStep self.old.state self.old.soft client message.now
+            (record { deed = s.deed; sends = s.sends.items; soft = self.new.soft }) self.new.state) }
         ensures unspent { OnOk result ((self.old.is_spent ≡ false) × (self.new.is_spent ≡ false)) }
         ensures err { OnErr result ((self.new.state ≡ self.old.state) × (self.new.is_spent ≡ true)) }
         ensures dropped { OnErr result (self.old.is_spent ≡ false → self.new.soft ≡ no_asks) }
@@ -116,7 +117,7 @@ impl<B: Bag> Store<B> {
         messages: &[(u32, Message)],
     ) -> Result<Steps, AllocError>
         ensures ok { IfOk result (λ s. Answers self.old.state self.old.soft messages.now
-            (record { deeds = s.deeds.items; sends = s.sends.items; soft = self.new.soft; state = self.new.state })) }
+            (history_of self.new.state self.new.soft s.deeds.items s.sends.items)) }
         ensures unspent { OnOk result ((self.old.is_spent ≡ false) × (self.new.is_spent ≡ false)) }
         ensures err { OnErr result (self.new.is_spent ≡ true) }
         ensures dropped { OnErr result (self.old.is_spent ≡ false → self.new.soft ≡ no_asks) }
@@ -163,7 +164,7 @@ impl<B: Bag> Store<B> {
         requires { self.old.is_spent ≡ false }
         ensures ok { OnOk result (IsOneMore self.old.state self.old.soft (says client message.now)
             steps.old.deeds.items steps.old.sends.items
-            (record { deeds = steps.new.deeds.items; sends = steps.new.sends.items; soft = self.new.soft; state = self.new.state })) }
+            (history_of self.new.state self.new.soft steps.new.deeds.items steps.new.sends.items)) }
         ensures unspent { OnOk result (self.new.is_spent ≡ false) }
     {
         let step = self.step(alloc, client, message)?;
@@ -189,7 +190,8 @@ impl<B: Bag> Store<B> {
     /// `AllocError` where memory runs out, and then the store is spent; and always where it is spent
     /// already.
     pub fn close(&mut self, alloc: Global, client: u32) -> Result<Vec<(u32, Reply)>, AllocError>
-        ensures ok { IfOk result (λ sends. record { sends = sends.items; soft = self.new.soft } ≡ on_close self.old.state.bag client self.old.soft) }
+        ensures ok { IfOk result (λ sends. record { sends = sends.items; soft = self.new.soft }
+            ≡ on_close self.old.state.bag client self.old.soft) }
         ensures unspent { OnOk result ((self.old.is_spent ≡ false) × (self.new.is_spent ≡ false)) }
         ensures state { self.new.state ≡ self.old.state }
         ensures err { OnErr result (self.new.is_spent ≡ true) }
