@@ -1,3 +1,6 @@
 pub mod MoveLaws
 pub mod OfferLaws
 pub mod ReplyLaws
+pub mod NumberLaws
+pub mod TakeLaws
+pub mod StepLaws
