@@ -1,6 +1,7 @@
 -- In a proper list each number of a client stands for one deed alone.
-use Rattle.std.proofs.Common.{◌≡◌, ℕ, ◌+◌, ◌≤◌, Bool, true, false, cond, ◌==◌, List, [], ◌∷◌, ◌++◌, Some, None, Contains, ◌⊎◌, inl, inr, refl, sym, ap, ◌∙◌, subst, arith, append_assoc, append-nil, eq-eqb, ne_eqb}
+use Rattle.std.proofs.Common.{◌≡◌, ℕ, ◌+◌, ◌<◌, ◌≤◌, Bool, true, false, cond, ◌==◌, List, [], ◌∷◌, ◌++◌, Some, None, Contains, ◌⊎◌, inl, inr, refl, sym, ap, ◌∙◌, subst, arith, append_assoc, append-nil, eq-eqb, ne_eqb, length, take, get_or}
 use Rattle.std.proofs.lemmas.Bool.{cond-true, cond-false, cases_eq}
+use Rattle.std.proofs.lemmas.List.{take_more}
 use Rattle.std.proofs.lemmas.List.Elements.{Contains-push_cases}
 use Rattle.linda_book.specs.Entries.{number_in}
 use Rattle.linda_state.specs.declared.deed.Deed.{Deed}
@@ -23,6 +24,17 @@ last_more ds d c = ap (λ o. number_in (entry_after empty_state c o)) (last_of-j
     by : (b : Bool) → number_in (entry_after empty_state c (last_later c ds (cond b (Some ([], d)) None))) ≡ cond b (number_of d) (last_in ds c)
     by true = refl
     by false = refl
+
+-- The same of the deed at a place, which is the client's or another's.
+module _ (ds : List Deed) (i : ℕ) (d : Deed) (c : ℕ) (lt : i < length ds) (is : d ≡ get_or ds i d) where
+  last_up_to : last_in (take (i + 1) ds) c ≡ cond (client_of d == c) (number_of d) (last_in (take i ds) c)
+  last_up_to = ap (λ l. last_in l c) (take_more ds i d lt ∙ ap (λ e. take i ds ++ e ∷ []) (sym is)) ∙ last_more (take i ds) d c
+
+  pub last_of_own : client_of d ≡ c → last_in (take (i + 1) ds) c ≡ number_of d
+  last_of_own mine = last_up_to ∙ cond-true (client_of d == c) _ _ (eq-eqb (client_of d) c mine)
+
+  pub last_of_other : (client_of d ≡ c → ⊥) → last_in (take (i + 1) ds) c ≡ last_in (take i ds) c
+  last_of_other other = last_up_to ∙ cond-false (client_of d == c) _ _ (ne_eqb (client_of d) c other)
 
 -- One deed more, whose number is the next one of its client.
 module _ (ds : List Deed) (d : Deed) (was : NumbersEachOnce ds) (next : number_of d ≡ last_in ds (client_of d) + 1) where

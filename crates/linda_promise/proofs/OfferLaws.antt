@@ -119,8 +119,8 @@ module _ (bag : Bagged) (x : Coming) where
 
   repeated : (old : Soft) (id : ℕ) (pair : ℕ × ℕ) → get old.holds id ≡ Some pair → All (IsSought old) (offer_of bag id pair)
   repeated old id pair held = all_of_id (IsSought old) _ id (λ tuple there other k t e.
-    let same = same_offer pair other id k tuple t e in
-    inl (ap (get old.holds) (sym same.1.0) ∙ held ∙ ap Some same.0, ap (get bag) (sym same.1.0) ∙ there ∙ ap Some same.1.1))
+      let same = same_offer pair other id k tuple t e in
+      inl (ap (get old.holds) (sym same.1.0) ∙ held ∙ ap Some same.0, ap (get bag) (sym same.1.0) ∙ there ∙ ap Some same.1.1))
 
   module _ (old : Soft) (id : ℕ) (w : Wait) (tuple : Tuple) (asked : IsAskOf x w) (removes : w.1.remove ≡ true) (there : get bag id ≡ Some tuple) (fits : is_match w.1.template tuple ≡ true) where
     asker : HasTaker old x w.0 tuple
@@ -139,9 +139,9 @@ module _ (bag : Bagged) (x : Coming) where
       holds = λ k pair h. held k pair (new_or_before old.holds id k w.0 pair h);
       waits = itself old;
       offers = all_of_id (IsSought old) _ id (λ s s_there other k t e.
-        let same = same_offer w.0 other id k s t e in
-        let t_is : tuple ≡ t = same_Some tuple s (sym there ∙ s_there) ∙ same.1.1 in
-        inr (subst (λ p. HasTaker old x p t) same.0 (subst (HasTaker old x w.0) t_is asker)));
+          let same = same_offer w.0 other id k s t e in
+          let t_is : tuple ≡ t = same_Some tuple s (sym there ∙ s_there) ∙ same.1.1 in
+          inr (subst (λ p. HasTaker old x p t) same.0 (subst (HasTaker old x w.0) t_is asker)));
     }
       where
         held : (k : ℕ) (pair : ℕ × ℕ) → ((k ≡ id) × (w.0 ≡ pair)) ⊎ (get old.holds k ≡ Some pair) → (get old.holds k ≡ Some pair) ⊎ MakesOffer bag old x (offer_of bag id w.0) k pair

@@ -134,3 +134,12 @@ module _ (st : State) (c : ℕ) (old : Soft) (is : IsState st) where
 -- The deed of a step is the one that is reported.
 pub step_reported : (st new : State) (c : ℕ) (old : Soft) (m : Message) (answered : Answer) → IsState st → IsStep st old c m answered new → answered.deed ≡ reported_deed c m (last_number st c) answered.sends
 step_reported st new c old m answered is step = reported st c old is new m answered step
+
+-- What is reported by these numbers and sends is the deed of the step that has them.
+pub as_reported : (c : ℕ) (m : Message) (last : ℕ) (sends : List (ℕ × Reply)) (o : Option Deed) → o ≡ reported_deed c m last sends → (st new : State) (old : Soft) (answered : Answer)
+    → IsState st → IsStep st old c m answered new → last_number st c ≡ last → answered.sends ≡ sends → o ≡ answered.deed
+as_reported c m last sends o o_is st new old answered is step last_is sends_is =
+    o_is
+    ∙ ap (λ l. reported_deed c m l sends) (sym last_is)
+    ∙ ap (reported_deed c m (last_number st c)) (sym sends_is)
+    ∙ sym (step_reported st new c old m answered is step)

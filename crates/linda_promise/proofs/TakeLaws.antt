@@ -1,9 +1,9 @@
 -- What a Take of a list takes was put before it, and is taken by it alone; and what a Taken and a Gone report.
-use Rattle.std.proofs.Common.{◌≡◌, ℕ, zero, suc, ◌+◌, ◌-◌, ◌<◌, ◌≤◌, nat_lt, Bool, true, false, true≢false, cond, ◌||◌, ◌==◌, List, [], ◌∷◌, ◌++◌, length, filter, take, drop, Option, Some, None, is_some, IsSome, All, Contains, slice_get, refl, sym, ap, ◌∙◌, subst, arith, eq-eqb, ltb-false, drop-cons, zero-lt-suc}
+use Rattle.std.proofs.Common.{◌≡◌, ℕ, zero, suc, ◌+◌, ◌-◌, ◌<◌, ◌≤◌, nat_lt, Bool, true, false, true≢false, cond, ◌||◌, ◌==◌, List, [], ◌∷◌, ◌++◌, length, filter, take, drop, Option, Some, None, is_some, IsSome, All, Contains, slice_get, refl, sym, ap, ◌∙◌, subst, arith, eq-eqb, ltb-false, drop-cons, zero-lt-suc, get_or, ◌⊎◌, inl, inr}
 use Rattle.std.proofs.lemmas.Bool.{or_left, or_right}
 use Rattle.std.proofs.lemmas.Option.{none-some, slice_get_within}
-use Rattle.std.proofs.lemmas.List.{take-append-drop}
-use Rattle.std.proofs.lemmas.List.Elements.{All-nil, All-cons, All-weaker, All-contains, Contains-append_right}
+use Rattle.std.proofs.lemmas.List.{take-append-drop, take_more}
+use Rattle.std.proofs.lemmas.List.Elements.{All-nil, All-cons, All-weaker, All-contains, Contains-append_right, Contains-push_cases}
 use Rattle.std.specs.FinMap.{get}
 use Rattle.linda_bag.proofs.Maps.{get_empty}
 use Rattle.linda_tuple.specs.Tuple.{Tuple}
@@ -89,8 +89,8 @@ taken_for_good : (before later more : List Deed) (c n id : ℕ) → is_taken id 
 taken_for_good before later more c n id =
     is_taken-joined id (before ++ Take c n id ∷ later) more
     ∙ or_left (is_taken id (before ++ Take c n id ∷ later)) (is_taken id more)
-        (is_taken-joined id before (Take c n id ∷ later)
-        ∙ or_right (is_taken id before) (is_taken id (Take c n id ∷ later)) (or_left (id == id) (is_taken id later) (eq-eqb id id refl)))
+    (is_taken-joined id before (Take c n id ∷ later)
+    ∙ or_right (is_taken id before) (is_taken id (Take c n id ∷ later)) (or_left (id == id) (is_taken id later) (eq-eqb id id refl)))
 
 -- Each Take of a proper list hands its tuple over.
 pub handed_over : (ds : List Deed) (c n id : ℕ) → IsProper empty_state ds → Contains ds (Take c n id) → (tuple : Tuple) × HandsOver ds c id tuple
@@ -177,3 +177,23 @@ module _ (ds : List Deed) (c n : ℕ) where
       let pass = gone_reports one.before one.later one.deed (subst (IsProper empty_state) one.parts proper) one.reply in
       let passed = among one.deed one.before one.later (Pass c n pass.0) one.parts (pass.1 ∙ ap (λ x. Pass x n pass.0) one.client) in
       record { id = pass.0; passed = passed; untaken = λ other taken. apart pass.0 other ((numbers_once ds proper).one (Pass c n pass.0) (Take c n other) passed taken refl refl) }
+
+-- ---- who takes a tuple
+
+-- Nobody took it so far, nor does the next deed.
+pub nobody_more : (ds : List Deed) (i : ℕ) (d : Deed) (id : ℕ) → i < length ds → d ≡ get_or ds i d → ((c n : ℕ) → Contains (take i ds) (Take c n id) → ⊥) → ((c n : ℕ) → d ≡ Take c n id → ⊥)
+    → (c n : ℕ) → Contains (take (i + 1) ds) (Take c n id) → ⊥
+nobody_more ds i d id lt is before here c n there = by (Contains-push_cases (take i ds) d (Take c n id) (subst (λ l. Contains l (Take c n id)) front there))
+  where
+    front : take (i + 1) ds ≡ take i ds ++ d ∷ []
+    front = take_more ds i d lt ∙ ap (λ e. take i ds ++ e ∷ []) (sym is)
+
+    by : Contains (take i ds) (Take c n id) ⊎ (d ≡ Take c n id) → ⊥
+    by (inl earlier) = before c n earlier
+    by (inr now) = here c n now
+
+-- Who takes it is the only one.
+pub same_taker : (ds : List Deed) (i : ℕ) (d : Deed) (t : ℕ × ℕ) (id : ℕ) → i < length ds → d ≡ get_or ds i d → d ≡ Take t.0 t.1 id → IsTakenOnce ds → (c n : ℕ) → Contains ds (Take c n id) → t ≡ (c, n)
+same_taker ds i d t id lt is found once c n there =
+    let here : Contains ds (Take t.0 t.1 id) = subst (Contains ds) found (i, lt, sym is) in
+    ap (λ e. (client_of e, number_of e)) (one_take ds t.0 c t.1 n id once here there)

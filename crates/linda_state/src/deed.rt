@@ -1,7 +1,7 @@
 //! Deeds: what a server did, and what it keeps on a disk.
 
 ghost use Rattle.std.specs.Prelude.{◌≡◌, IfOk, OnErr};
-ghost use Rattle.linda_state.specs.Deed.{PutsTuple};
+ghost use Rattle.linda_state.specs.Deed.{client_of, number_of, PutsTuple};
 
 use linda_tuple::Tuple;
 use std::alloc::{AllocError, Global};
@@ -18,6 +18,28 @@ pub enum Deed {
 }
 
 impl Deed {
+    /// The client whose deed it is.
+    pub fn client(&self) -> u32
+        ensures { result ≡ client_of self.now }
+    {
+        match self {
+            Deed::Out { client, .. } => *client,
+            Deed::Take { client, .. } => *client,
+            Deed::Pass { client, .. } => *client,
+        }
+    }
+
+    /// The number of the message that it answers.
+    pub fn number(&self) -> u64
+        ensures { result ≡ number_of self.now }
+    {
+        match self {
+            Deed::Out { n, .. } => *n,
+            Deed::Take { n, .. } => *n,
+            Deed::Pass { n, .. } => *n,
+        }
+    }
+
     /// A copy with memory of its own.
     ///
     /// # Errors

@@ -24,8 +24,10 @@ pub use end::{ConverseFault, End};
 pub use laws::a_server_stays_sound;
 pub use linda_disk::Torn;
 pub use linda_promise::{
-    a_tuple_is_taken_by_one, closings_offer_what_is_wanted, deeds_are_told, each_reply_is_kept,
-    replies_tell_deeds, steps_do_what_is_said, steps_offer_what_is_wanted, takes_are_handed_over,
+    a_number_stands_for_one_deed, closings_offer_only_what_is_sought, last_number,
+    replies_report_what_was_done, replies_tell_the_deed, reported_deed, steps_do_as_they_are_asked,
+    steps_offer_only_what_is_sought, taker_of, takes_hand_over_what_was_put,
+    two_takes_of_a_tuple_are_one, what_is_reported_is_kept,
 };
 pub use linda_state::{
     Book, Class, Deed, KeptReply, NUMBER_LIMIT, State, deeds_are_done_one_by_one,
