@@ -27,7 +27,8 @@ pub record HasTaker (soft : Soft) (x : Coming) (pair : ℕ × ℕ) (tuple : Tupl
   pub matches : is_match wait.1.template tuple ≡ true
 
 -- The tuple of this id is in the bag, is offered now to this client and ticket, and has a taker in them.
-pub record MakesOffer (bag : Bagged) (soft : Soft) (x : Coming) (sends : List (ℕ × Reply)) (id : ℕ) (pair : ℕ × ℕ) : Type 0 where
+pub record MakesOffer (bag : Bagged) (soft : Soft) (x : Coming) (sends : List (ℕ × Reply)) (id : ℕ)
+    (pair : ℕ × ℕ) : Type 0 where
   pub tuple : Tuple
   pub there : map.get bag id ≡ Some tuple
   pub sent : Contains sends (pair.0, replies.Offer pair.1 id tuple)
@@ -39,10 +40,15 @@ OffersAgain bag old id pair tuple = (map.get old.holds id ≡ Some pair) × (map
 
 -- From the old holds and waits to the new ones by what is sent: what is held was held so, or is offered now; what waits
 -- waited, or asks now; and each offer is one that is made again, or has a taker.
-pub record OffersWhatIsSought (bag : Bagged) (x : Coming) (old : Soft) (sends : List (ℕ × Reply)) (new : Soft) : Type 0 where
-  pub holds : (id : ℕ) (pair : ℕ × ℕ) → map.get new.holds id ≡ Some pair → (map.get old.holds id ≡ Some pair) ⊎ MakesOffer bag old x sends id pair
+pub record OffersWhatIsSought (bag : Bagged) (x : Coming) (old : Soft) (sends : List (ℕ × Reply))
+    (new : Soft) : Type 0 where
+  pub holds :
+      (id : ℕ) (pair : ℕ × ℕ) → map.get new.holds id ≡ Some pair
+      → (map.get old.holds id ≡ Some pair) ⊎ MakesOffer bag old x sends id pair
   pub waits : (w : Wait) → Contains new.waits w → Seeks old x w
-  pub offers : (pair : ℕ × ℕ) (id : ℕ) (tuple : Tuple) → Contains sends (pair.0, replies.Offer pair.1 id tuple) → OffersAgain bag old id pair tuple ⊎ HasTaker old x pair tuple
+  pub offers :
+      (pair : ℕ × ℕ) (id : ℕ) (tuple : Tuple) → Contains sends (pair.0, replies.Offer pair.1 id tuple)
+      → OffersAgain bag old id pair tuple ⊎ HasTaker old x pair tuple
 
 -- whether the reply is an offer
 abbrev pub is_offer : Reply → Bool

@@ -1,5 +1,6 @@
 -- Which deed a step does for a message, and how it is told from the reply.
-use Rattle.std.specs.Prelude.{◌≡◌, ◌≢◌, ℕ, ◌+◌, ◌==◌, Bool, false, if◌then◌else◌, List, [], ◌∷◌, Option, Some, None, IsSome}
+use Rattle.std.specs.Prelude.{◌≡◌, ◌≢◌, ℕ, ◌+◌, ◌==◌, Bool, false, if◌then◌else◌}
+use Rattle.std.specs.Prelude.{List, [], ◌∷◌, Option, Some, None, IsSome}
 use Rattle.std.specs.FinMap as map
 use Rattle.linda_wire.specs.declared.message.Message.{Message}
 use Rattle.linda_wire.specs.declared.message.Message.TheVariants as messages
@@ -41,7 +42,7 @@ HoldsWhatIsThere st soft = (id : ℕ) → IsSome (map.get soft.holds id) → IsS
 -- the deed that the first reply to a client's message reports
 abbrev pub deed_behind : ℕ → Message → List (ℕ × Reply) → Option Deed
 deed_behind c (messages.Out n tuple) ((to, replies.Stored m id) ∷ sends) = Some (deeds.Out c n tuple)
-deed_behind c (messages.Accept n ticket id) ((to, replies.Taken m other tuple) ∷ sends) = Some (deeds.Take c n id)
+deed_behind c (messages.Accept n ticket id) ((to, replies.Taken m other row) ∷ sends) = Some (deeds.Take c n id)
 deed_behind c (messages.Accept n ticket id) ((to, replies.Gone m) ∷ sends) = Some (deeds.Pass c n id)
 deed_behind c _ _ = None
 
@@ -52,4 +53,5 @@ comes_next (Some n) last = n == last + 1
 
 -- The deed that was done for a client's message, told from the client's last number before it and from what was sent.
 abbrev pub reported_deed : ℕ → Message → ℕ → List (ℕ × Reply) → Option Deed
-reported_deed c m last sends = if comes_next (number_of_message m) last then deed_behind c m sends else None
+reported_deed c m last sends =
+    if comes_next (number_of_message m) last then deed_behind c m sends else None
