@@ -23,3 +23,4 @@ pub mod OutcomeLaws
 pub mod CourseLaws
 pub mod SizeLaws
 pub mod DemandLaws
+pub mod ExistLaws

@@ -36,6 +36,15 @@ pub fn one_answer()
         → IsOneEach soft.holds → IsAnswer st soft c m a → IsAnswer st soft c m b → a ≡ b }
 {}
 
+/// Whatever comes to a server in order has an outcome: a message an answer, and a list of messages and closings all
+/// that they lead to.
+pub fn all_that_comes_has_an_outcome()
+    ensures message { (st : State) (soft : Soft) (c : ℕ) (m : Message) → IsOrderly st soft
+        → (answered : Answer) × ((new : State) × IsStep st soft c m answered new) }
+    ensures comings { (st : State) (soft : Soft) (xs : List Coming) → IsOrderly st soft
+        → (all : History) × Happens st soft xs all }
+{}
+
 /// Each step leaves a server as every store is: in its ranges, and with nobody who waits in vain.
 pub fn steps_keep_order()
     ensures { (st new : State) (soft : Soft) (c : ℕ) (m : Message) (answered : Answer)
