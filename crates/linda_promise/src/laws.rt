@@ -53,14 +53,10 @@ pub fn two_takes_of_a_tuple_are_one()
         → IsTakenOnce ds → Contains ds (Take c n id) → Contains ds (Take d m id) → Take c n id ≡ Take d m id }
 {}
 
-/// Of a proper list: each number of a client stands for one deed alone.
-pub fn a_number_stands_for_one_deed()
-    ensures { (ds : List Deed) → IsProper empty_state ds → NumbersEachOnce ds }
-{}
-
-/// Who is told Taken did that Take, and is told the tuple that was put under the id. Who is told Gone passed on,
-/// and took nothing by that number.
+/// Each number of a client stands for one deed alone. Who is told Taken did that Take, and is told the tuple that
+/// was put under the id. Who is told Gone passed on, and took nothing by that number.
 pub fn replies_report_what_was_done()
+    ensures once { (ds : List Deed) → IsProper empty_state ds → NumbersEachOnce ds }
     ensures taken { (ds : List Deed) (c n id : ℕ) (tuple : Tuple)
         → ReportsOne ds c (replies.Taken n id tuple) → Contains ds (Take c n id) }
     ensures tuple { (ds : List Deed) (c n id : ℕ) (tuple : Tuple)

@@ -24,8 +24,8 @@ pub use end::{ConverseFault, End};
 pub use laws::a_server_stays_sound;
 pub use linda_disk::Torn;
 pub use linda_promise::{
-    a_number_stands_for_one_deed, closings_offer_only_what_is_sought, last_number,
-    replies_report_what_was_done, replies_tell_the_deed, reported_deed, steps_do_as_they_are_asked,
+    closings_offer_only_what_is_sought, last_number, replies_report_what_was_done,
+    replies_tell_the_deed, reported_deed, steps_do_as_they_are_asked,
     steps_offer_only_what_is_sought, taker_of, takes_hand_over_what_was_put,
     two_takes_of_a_tuple_are_one, what_is_reported_is_kept,
 };
@@ -36,9 +36,8 @@ pub use linda_state::{
 pub use linda_step::{
     MAX_BATCH, Step, Steps, Store, a_cancelled_request_is_over, a_closed_client_has_left,
     a_list_has_one_outcome, a_repeated_message_gets_the_same_reply, all_that_comes_has_an_outcome,
-    deeds_are_answered_as_kept,
-    no_history_takes_a_tuple_twice, no_history_with_stops_takes_a_tuple_twice, one_answer,
-    steps_do_proper_lists, steps_keep_order,
+    deeds_are_answered_as_kept, no_history_takes_a_tuple_twice,
+    no_history_with_stops_takes_a_tuple_twice, one_answer, steps_do_proper_lists, steps_keep_order,
 };
 pub use node::{Node, NodeFault};
 pub use sending::send;
