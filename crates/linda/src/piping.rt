@@ -7,7 +7,7 @@ ghost use Rattle.linda.specs.Piping.{IsPiped};
 
 use crate::exchanges::Exchange;
 use crate::faults::PipeFault;
-use linda_store::{Node, Volatile};
+use linda_store::{MAX_READS, Node, Volatile};
 use std::alloc::Global;
 use std::io::{Read, Write};
 
@@ -35,7 +35,7 @@ pub fn pipe<R: Read, W: Write>(
 {
     let mut exchange = Exchange::new(alloc);
     let mut buffer = [0; BUFFER];
-    for _turn in 0..u32::MAX {
+    for _turn in 0..MAX_READS {
         if !read_once(alloc, &mut exchange, &mut buffer, reader, writer)? {
             return Ok(());
         }

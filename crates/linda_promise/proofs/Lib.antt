@@ -1,9 +1,6 @@
-pub mod SoftSendLaws
-pub mod KeepLaws
-pub mod HandLaws
-pub mod NumberedLaws
-pub mod TellLaws
+pub mod MoveLaws
 pub mod OfferLaws
-pub mod SpreadLaws
-pub mod DeedOfLaws
-pub mod LearnLaws
+pub mod ReplyLaws
+pub mod NumberLaws
+pub mod TakeLaws
+pub mod StepLaws

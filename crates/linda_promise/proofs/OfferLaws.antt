@@ -1,193 +1,218 @@
--- To whom tuples are offered.
-use Rattle.std.proofs.Common.{◌≡◌, ℕ, Bool, true, false, true≢false, ◌&&◌, not, ◌==◌, List, [], ◌∷◌, ◌++◌, map, filter, Option, Some, None, option_to_list, Contains, slice_get, ◌⊎◌, inl, inr, refl, sym, ap, ◌∙◌, subst}
-use Rattle.std.proofs.lemmas.Option.{none-some, same_Some, slice_get-get_or, get_or_from_slice_get, slice_get_within, slice_get-map}
-use Rattle.std.proofs.lemmas.List.Elements.{All-contains, All-contains_itself, All-filter, Contains-append_left, Contains-append_right, Contains-append_cases, Contains-push_cases}
-use Rattle.std.specs.Option.{option_map}
-use Rattle.std.specs.FinMap.{get, remove, entries}
+-- What a move offers is sought.
+use Rattle.std.proofs.Common.{◌≡◌, ℕ, Bool, true, false, true≢false, ◌&&◌, not, List, [], ◌∷◌, ◌++◌, map, Option, Some, None, option_to_list, All, Contains, ◌⊎◌, inl, inr, refl, sym, ap, ◌∙◌, subst}
+use Rattle.std.proofs.lemmas.Option.{none-some, same_Some}
+use Rattle.std.proofs.lemmas.Bool.{and_parts}
+use Rattle.std.proofs.lemmas.List.Elements.{All-nil, All-cons, All-append, All-map, All-push, All-filter, All-weaker, All-contains, All-contains_itself, Contains-append_left, Contains-append_right}
+use Rattle.std.specs.FinMap.{get, insert}
 use Rattle.linda_tuple.specs.Tuple.{Tuple}
 use Rattle.linda_tuple.specs.Testing.{is_match}
-use Rattle.linda_hold.specs.Waits.{Wait, is_reader, is_taker, readers, without_readers, longest, without_client, same_pair}
-use Rattle.linda_hold.specs.Holds.{held_in}
+use Rattle.linda_hold.specs.Waits.{Wait, is_reader, is_taker, readers, without_readers, longest, same_pair}
+use Rattle.linda_wire.specs.declared.message.Message.{Message}
 use Rattle.linda_wire.specs.declared.reply.Reply.{Reply}
 use Rattle.linda_wire.specs.declared.reply.Reply.TheVariants as replies
+use Rattle.linda_state.specs.State.{State, IsState}
 use Rattle.linda_step.specs.Soft.{Soft, Bagged}
-use Rattle.linda_step.specs.Dispatch.{read_to, offer_to, held_for, dispatch, release, release_tuple, release_all, on_close}
-use Rattle.linda_step.specs.History.{Coming}
-use Rattle.linda_step.proofs.ApartLaws.{held_before, new_or_before}
+use Rattle.linda_step.specs.Dispatch.{Sends, read_to, offer_to, held_for, dispatch, on_close}
+use Rattle.linda_step.specs.Asking.{offer_of}
+use Rattle.linda_step.specs.Answer.{Answer, IsStep}
+use Rattle.linda_step.specs.History.{Coming, says}
+use Rattle.linda_step.proofs.ApartLaws.{new_or_before}
 use Rattle.linda_step.proofs.WaitLaws.{found_passes, found_has}
-use Rattle.linda_promise.specs.Offering.{Asks, IsWanted, IsOffered, Spreads}
+use Rattle.linda_promise.specs.Offers.{IsAskOf, Seeks, HasTaker, MakesOffer, OffersAgain, OffersWhatIsSought, is_offer}
+use Rattle.linda_promise.proofs.MoveLaws.{Move, gives_up, tells, dispatches, repeats, reads, offers, waits, goes_on, KnownIn, step_move, close_move}
 
-pub place_of : {X : Type 0} (xs : List X) (x : X) → Contains xs x → (i : ℕ) × (slice_get xs i ≡ Some x)
-place_of xs x there = (there.0, slice_get-get_or xs there.0 x there.1 ∙ ap (λ y. Some y) there.2)
+-- two offers that are one
+same_offer : (p q : ℕ × ℕ) (i k : ℕ) (s t : Tuple) → ◌≡◌ {A = ℕ × Reply} (p.0, replies.Offer p.1 i s) (q.0, replies.Offer q.1 k t) → (p ≡ q) × ((i ≡ k) × (s ≡ t))
+same_offer p q i k s t e =
+    let reply : replies.Offer p.1 i s ≡ replies.Offer q.1 k t = ap (λ (send : ℕ × Reply). send.1) e in
+    let ticket : p.1 ≡ q.1 = cc in
+    let id : i ≡ k = cc in
+    let tuple : s ≡ t = cc in
+    (λ n. (ap (λ (send : ℕ × Reply). send.0) e n, ticket n), (id, tuple))
 
-pub contains_at : {X : Type 0} (xs : List X) (i : ℕ) (x : X) → slice_get xs i ≡ Some x → Contains xs x
-contains_at xs i x there = (i, slice_get_within xs i x there, get_or_from_slice_get xs i x x there)
-
-pub nothing_in : {X : Type 0} (x : X) → Contains [] x → ⊥
-nothing_in x there = none-some x (place_of [] x there).1
-
--- what a mapped list has is of an element
-pub record Mapped {X Y : Type 0} (f : X → Y) (xs : List X) (y : Y) : Type 0 where
-  pub from : X
-  pub there : Contains xs from
-  pub is : f from ≡ y
-
-pub mapped : {X Y : Type 0} (f : X → Y) (xs : List X) (y : Y) → Contains (map f xs) y → Mapped f xs y
-mapped f xs y there = by (slice_get xs (place_of (map f xs) y there).0) refl (sym (slice_get-map f xs (place_of (map f xs) y there).0) ∙ (place_of (map f xs) y there).1)
-  where
-    by : (o : Option _) → slice_get xs (place_of (map f xs) y there).0 ≡ o → option_map f o ≡ Some y → Mapped f xs y
-    by None e g = absurd (none-some y g)
-    by (Some x) e g = record { from = x; there = contains_at xs (place_of (map f xs) y there).0 x e; is = same_Some (f x) y g }
-
--- what a filtered list has the list has
-pub filtered : {X : Type 0} (p : X → Bool) (xs : List X) (x : X) → Contains (filter p xs) x → Contains xs x
-filtered {X} p xs x there = All-contains (Contains xs) (filter p xs) x (All-filter {X = X} p (Contains xs) xs (All-contains_itself xs)) there
-
--- what an option has
-pub only_of : {X : Type 0} (o : Option X) (x : X) → Contains (option_to_list o) x → o ≡ Some x
-only_of None x there = absurd (nothing_in x there)
-only_of (Some y) x there = by (Contains-push_cases [] y x there)
-  where
-    by : Contains [] x ⊎ (y ≡ x) → Some y ≡ Some x
-    by (inl never) = absurd (nothing_in x never)
-    by (inr same) = ap (λ z. Some z) same
-
-taker_parts : (row : Tuple) (w : Wait) → is_taker row w ≡ true → (w.1.remove ≡ true) × (is_match w.1.template row ≡ true)
-taker_parts row w = by w.1.remove
-  where
-    by : (b : Bool) → (b && is_match w.1.template row) ≡ true → (b ≡ true) × (is_match w.1.template row ≡ true)
-    by true e = (refl, e)
-    by false e = absurd (true≢false (sym e))
+one_of : {X : Type 0} (x : X) → Contains (x ∷ []) x
+one_of x = (0, Rattle.std.proofs.Common.zero-lt-suc 0, refl)
 
 module _ (bag : Bagged) (x : Coming) where
-  -- nothing is sent, and nothing more is held or waits
-  pub fewer_spreads : (old new : Soft) → ((id : ℕ) (pair : ℕ × ℕ) → get new.holds id ≡ Some pair → get old.holds id ≡ Some pair) → ((w : Wait) → Contains new.waits w → Contains old.waits w) → Spreads bag x old [] new
-  fewer_spreads old new holds waits = record {
-    holds = λ id pair h. inl (holds id pair h);
-    waits = λ w there. inl (waits w there);
-    offers = λ pair id row sent. absurd (nothing_in _ sent);
-  }
+  -- What is said of one send: if it is an offer, it is made again or has a taker.
+  abbrev IsSought : Soft → ℕ × Reply → Type 0
+  IsSought old send =
+      (pair : ℕ × ℕ) (id : ℕ) (tuple : Tuple) → send ≡ (pair.0, replies.Offer pair.1 id tuple) → OffersAgain bag old id pair tuple ⊎ HasTaker old x pair tuple
 
-  -- a tuple that is there is dispatched
-  module _ (id : ℕ) (row : Tuple) (there : get bag id ≡ Some row) (old : Soft) where
-    wanted_by : (w : Wait) → longest row old.waits ≡ Some w → IsWanted old x w.0 row
-    wanted_by w found =
-        let takes = taker_parts row w (found_passes {X = Wait} (is_taker row) old.waits w found) in
-        record { wait = w; asks = inl (found_has {X = Wait} (is_taker row) (Contains old.waits) old.waits w found (All-contains_itself old.waits)); pair_is = refl; removes = takes.0; matches = takes.1 }
+  -- the same as `OffersWhatIsSought`, of all elements
+  record IsFair (old : Soft) (told : Sends) : Type 0 where
+    holds : (id : ℕ) (pair : ℕ × ℕ) → get told.soft.holds id ≡ Some pair → (get old.holds id ≡ Some pair) ⊎ MakesOffer bag old x told.sends id pair
+    waits : All (Seeks old x) told.soft.waits
+    offers : All (IsSought old) told.sends
 
-    abbrev sends_of : Option Wait → List (ℕ × Reply)
-    sends_of o = map (read_to id row) (readers row old.waits) ++ map (offer_to id row) (option_to_list o)
+  no_offer : (old : Soft) (c : ℕ) (r : Reply) → is_offer r ≡ false → IsSought old (c, r)
+  no_offer old c r none pair id tuple e = absurd (true≢false (sym (ap (λ (send : ℕ × Reply). is_offer send.1) e) ∙ none))
 
-    offered_by : (pair : ℕ × ℕ) (k : ℕ) (r : Tuple) → Contains (dispatch id row old).sends (pair.0, replies.Offer pair.1 k r) → IsWanted old x pair r
-    offered_by pair k r sent =
-        by (Contains-append_cases (map (read_to id row) (readers row old.waits)) (map (offer_to id row) (option_to_list (longest row old.waits))) (pair.0, replies.Offer pair.1 k r) sent)
+  all_wait : (old : Soft) (ws : List Wait) → All (Contains old.waits) ws → All (Seeks old x) ws
+  all_wait old ws there = All-weaker (Contains old.waits) (Seeks old x) (λ w h. inl h) ws there
+
+  itself : (old : Soft) → All (Seeks old x) old.waits
+  itself old = all_wait old old.waits (All-contains_itself old.waits)
+
+  -- ---- a tuple that is dispatched
+
+  module _ (old : Soft) (id : ℕ) (tuple : Tuple) (there : get bag id ≡ Some tuple) where
+    taker_of : (w : Wait) → longest tuple old.waits ≡ Some w → HasTaker old x w.0 tuple
+    taker_of w found =
+        let parts = and_parts w.1.remove (is_match w.1.template tuple) (found_passes {X = Wait} (is_taker tuple) old.waits w found) in
+        record {
+          wait = w;
+          seeks = inl (found_has {X = Wait} (is_taker tuple) (Contains old.waits) old.waits w found (All-contains_itself old.waits));
+          pair_is = refl;
+          removes = parts.0;
+          matches = parts.1;
+        }
+
+    taker_sought : (w : Wait) → longest tuple old.waits ≡ Some w → IsSought old (offer_to id tuple w)
+    taker_sought w found pair k other e =
+        let same = same_offer w.0 pair id k tuple other e in
+        inr (subst (λ p. HasTaker old x p other) same.0 (subst (HasTaker old x w.0) same.1.1 (taker_of w found)))
+
+    reads_sought : All (IsSought old) (map (read_to id tuple) (readers tuple old.waits))
+    reads_sought = All-map (IsSought old) (read_to id tuple) (readers tuple old.waits) (λ k d within. no_offer old _ _ refl)
+
+    abbrev left : Soft
+    left = record { holds = old.holds; waits = without_readers tuple old.waits }
+
+    left_wait : All (Contains old.waits) left.waits
+    left_wait = All-filter (λ (w : Wait). not (is_reader tuple w)) (Contains old.waits) old.waits (All-contains_itself old.waits)
+
+    dispatched_by : (o : Option Wait) → longest tuple old.waits ≡ o
+        → IsFair old (record { sends = map (read_to id tuple) (readers tuple old.waits) ++ map (offer_to id tuple) (option_to_list o); soft = held_for id o left })
+    dispatched_by None found = record {
+      holds = λ k pair h. inl h;
+      waits = all_wait old left.waits left_wait;
+      offers = All-append (IsSought old) (map (read_to id tuple) (readers tuple old.waits)) [] reads_sought (All-nil (IsSought old));
+    }
+    dispatched_by (Some w) found = record {
+      holds = λ k pair h. held k pair (new_or_before old.holds id k w.0 pair h);
+      waits = all_wait old _ (All-filter (λ (v : Wait). not (same_pair w.0 v.0)) (Contains old.waits) left.waits left_wait);
+      offers =
+          All-append (IsSought old) (map (read_to id tuple) (readers tuple old.waits)) (offer_to id tuple w ∷ []) reads_sought
+          (All-cons (IsSought old) (offer_to id tuple w) [] (taker_sought w found) (All-nil (IsSought old)));
+    }
       where
-        read : Mapped (read_to id row) (readers row old.waits) (pair.0, replies.Offer pair.1 k r) → IsWanted old x pair r
-        read m = absurd (never m.from m.is)
-          where
-            never : (w : Wait) → read_to id row w ≡ (pair.0, replies.Offer pair.1 k r) → ⊥
-            never w e = let f : replies.Read w.0.1 id row ≡ replies.Offer pair.1 k r = ap (λ (s : ℕ × Reply). s.1) e in cc
+        all_sends : List (ℕ × Reply)
+        all_sends = map (read_to id tuple) (readers tuple old.waits) ++ offer_to id tuple w ∷ []
 
-        offer : Mapped (offer_to id row) (option_to_list (longest row old.waits)) (pair.0, replies.Offer pair.1 k r) → IsWanted old x pair r
-        offer m =
-            let f : replies.Offer m.from.0.1 id row ≡ replies.Offer pair.1 k r = ap (λ (s : ℕ × Reply). s.1) m.is in
-            let row_is : row ≡ r = cc in
-            let ticket_is : m.from.0.1 ≡ pair.1 = cc in
-            let client_is : m.from.0.0 ≡ pair.0 = ap (λ (s : ℕ × Reply). s.0) m.is in
-            let pair_is : m.from.0 ≡ pair = ap (λ c. (c, m.from.0.1)) client_is ∙ ap (λ k. (pair.0, k)) ticket_is in
-            subst (λ p. IsWanted old x p r) pair_is (subst (IsWanted old x m.from.0) row_is (wanted_by m.from (only_of (longest row old.waits) m.from m.there)))
+        made : MakesOffer bag old x all_sends id w.0
+        made = record { tuple = tuple; there = there; sent = Contains-append_right (map (read_to id tuple) (readers tuple old.waits)) (offer_to id tuple w ∷ []) (offer_to id tuple w) (one_of (offer_to id tuple w)); taker = taker_of w found }
 
-        by : Contains (map (read_to id row) (readers row old.waits)) (pair.0, replies.Offer pair.1 k r) ⊎ Contains (map (offer_to id row) (option_to_list (longest row old.waits))) (pair.0, replies.Offer pair.1 k r) → IsWanted old x pair r
-        by (inl in_reads) = read (mapped (read_to id row) (readers row old.waits) _ in_reads)
-        by (inr in_offers) = offer (mapped (offer_to id row) (option_to_list (longest row old.waits)) _ in_offers)
+        held : (k : ℕ) (pair : ℕ × ℕ) → ((k ≡ id) × (w.0 ≡ pair)) ⊎ (get old.holds k ≡ Some pair) → (get old.holds k ≡ Some pair) ⊎ MakesOffer bag old x all_sends k pair
+        held k pair (inr before) = inl before
+        held k pair (inl new) = inr (subst (λ i. MakesOffer bag old x all_sends i pair) (sym new.0) (subst (MakesOffer bag old x all_sends id) new.1 made))
 
-    held_by : (o : Option Wait) → longest row old.waits ≡ o → (k : ℕ) (pair : ℕ × ℕ) → get (held_for id o (record { holds = old.holds; waits = without_readers row old.waits })).holds k ≡ Some pair
-        → (get old.holds k ≡ Some pair) ⊎ IsOffered bag old x (sends_of o) k pair
-    held_by None found k pair h = inl h
-    held_by (Some w) found k pair h = by (new_or_before old.holds id k w.0 pair h)
-      where
-        by : ((k ≡ id) × (w.0 ≡ pair)) ⊎ (get old.holds k ≡ Some pair) → (get old.holds k ≡ Some pair) ⊎ IsOffered bag old x (sends_of (Some w)) k pair
-        by (inr before) = inl before
-        by (inl new) = inr (subst (λ i. IsOffered bag old x (sends_of (Some w)) i pair) (sym new.0) (subst (IsOffered bag old x (sends_of (Some w)) id) new.1 (record {
-          row = row;
-          there = there;
-          sent = Contains-append_right (map (read_to id row) (readers row old.waits)) (offer_to id row w ∷ []) (offer_to id row w) (contains_at (offer_to id row w ∷ []) 0 _ refl);
-          wanted = wanted_by w found;
-        })))
+  -- ---- an offer to a request that asks
 
-    waits_by : (o : Option Wait) (v : Wait) → Contains (held_for id o (record { holds = old.holds; waits = without_readers row old.waits })).waits v → Contains old.waits v
-    waits_by None v h = filtered (λ (w : Wait). not (is_reader row w)) old.waits v h
-    waits_by (Some w) v h = filtered (λ (w : Wait). not (is_reader row w)) old.waits v (filtered (λ (u : Wait). not (same_pair w.0 u.0)) (without_readers row old.waits) v h)
+  -- what is sent of the tuple of an id
+  all_of_id : (P : ℕ × Reply → Type 0) (f : Tuple → ℕ × Reply) (id : ℕ) → ((tuple : Tuple) → get bag id ≡ Some tuple → P (f tuple)) → All P (map f (option_to_list (get bag id)))
+  all_of_id P f id gives = by (get bag id) refl
+    where
+      by : (o : Option Tuple) → get bag id ≡ o → All P (map f (option_to_list o))
+      by None there = All-nil P
+      by (Some tuple) there = All-cons P (f tuple) [] (gives tuple there) (All-nil P)
 
-    pub dispatch_spreads : Spreads bag x old (dispatch id row old).sends (dispatch id row old).soft
-    dispatch_spreads = record {
-      holds = held_by (longest row old.waits) refl;
-      waits = λ w h. inl (waits_by (longest row old.waits) w h);
-      offers = λ pair k r sent. inr (offered_by pair k r sent);
+  repeated : (old : Soft) (id : ℕ) (pair : ℕ × ℕ) → get old.holds id ≡ Some pair → All (IsSought old) (offer_of bag id pair)
+  repeated old id pair held = all_of_id (IsSought old) _ id (λ tuple there other k t e.
+      let same = same_offer pair other id k tuple t e in
+      inl (ap (get old.holds) (sym same.1.0) ∙ held ∙ ap Some same.0, ap (get bag) (sym same.1.0) ∙ there ∙ ap Some same.1.1))
+
+  module _ (old : Soft) (id : ℕ) (w : Wait) (tuple : Tuple) (asked : IsAskOf x w) (removes : w.1.remove ≡ true) (there : get bag id ≡ Some tuple) (fits : is_match w.1.template tuple ≡ true) where
+    asker : HasTaker old x w.0 tuple
+    asker = record { wait = w; seeks = inr asked; pair_is = refl; removes = removes; matches = fits }
+
+    made_to_asker : MakesOffer bag old x (offer_of bag id w.0) id w.0
+    made_to_asker = record {
+      tuple = tuple;
+      there = there;
+      sent = subst (λ o. Contains {X = ℕ × Reply} (map (λ (t : Tuple). (w.0.0, replies.Offer w.0.1 id t)) (option_to_list o)) (w.0.0, replies.Offer w.0.1 id tuple)) (sym there) (one_of _);
+      taker = asker;
     }
 
-  -- what is wanted of a smaller store is wanted
-  asks_more : (old mid : Soft) (w : Wait) → ((v : Wait) → Contains mid.waits v → Asks old x v) → Asks mid x w → Asks old x w
-  asks_more old mid w waits (inl there) = waits w there
-  asks_more old mid w waits (inr comes) = inr comes
+    first_offer : IsFair old (record { sends = offer_of bag id w.0; soft = record { holds = insert old.holds id w.0; waits = old.waits } })
+    first_offer = record {
+      holds = λ k pair h. held k pair (new_or_before old.holds id k w.0 pair h);
+      waits = itself old;
+      offers = all_of_id (IsSought old) _ id (λ s s_there other k t e.
+          let same = same_offer w.0 other id k s t e in
+          let t_is : tuple ≡ t = same_Some tuple s (sym there ∙ s_there) ∙ same.1.1 in
+          inr (subst (λ p. HasTaker old x p t) same.0 (subst (HasTaker old x w.0) t_is asker)));
+    }
+      where
+        held : (k : ℕ) (pair : ℕ × ℕ) → ((k ≡ id) × (w.0 ≡ pair)) ⊎ (get old.holds k ≡ Some pair) → (get old.holds k ≡ Some pair) ⊎ MakesOffer bag old x (offer_of bag id w.0) k pair
+        held k pair (inr before) = inl before
+        held k pair (inl new) = inr (subst (λ i. MakesOffer bag old x (offer_of bag id w.0) i pair) (sym new.0) (subst (MakesOffer bag old x (offer_of bag id w.0) id) new.1 made_to_asker))
 
-  wanted_more : (old mid : Soft) (pair : ℕ × ℕ) (row : Tuple) → ((v : Wait) → Contains mid.waits v → Asks old x v) → IsWanted mid x pair row → IsWanted old x pair row
-  wanted_more old mid pair row waits w = record { wait = w.wait; asks = asks_more old mid w.wait waits w.asks; pair_is = w.pair_is; removes = w.removes; matches = w.matches }
+  -- ---- one after the other
 
-  -- One after the other.
-  pub spreads_then : (old mid new : Soft) (first later : List (ℕ × Reply)) → Spreads bag x old first mid → Spreads bag x mid later new → Spreads bag x old (first ++ later) new
-  spreads_then old mid new first later a b = record {
-    holds = λ id pair h. held id pair (b.holds id pair h);
-    waits = λ w there. asks_more old mid w a.waits (b.waits w there);
-    offers = λ pair id row sent. offered pair id row (Contains-append_cases first later _ sent);
-  }
-    where
-      before : (id : ℕ) (pair : ℕ × ℕ) → (get old.holds id ≡ Some pair) ⊎ IsOffered bag old x first id pair → (get old.holds id ≡ Some pair) ⊎ IsOffered bag old x (first ++ later) id pair
-      before id pair (inl was) = inl was
-      before id pair (inr o) = inr (record { row = o.row; there = o.there; sent = Contains-append_left first later _ o.sent; wanted = o.wanted })
+  module _ (old : Soft) (first later : Sends) (a : IsFair old first) (b : IsFair first.soft later) where
+    seeks_first : (w : Wait) → Seeks first.soft x w → Seeks old x w
+    seeks_first w (inl there) = All-contains (Seeks old x) first.soft.waits w a.waits there
+    seeks_first w (inr asked) = inr asked
 
-      held : (id : ℕ) (pair : ℕ × ℕ) → (get mid.holds id ≡ Some pair) ⊎ IsOffered bag mid x later id pair → (get old.holds id ≡ Some pair) ⊎ IsOffered bag old x (first ++ later) id pair
-      held id pair (inl was) = before id pair (a.holds id pair was)
-      held id pair (inr o) = inr (record { row = o.row; there = o.there; sent = Contains-append_right first later _ o.sent; wanted = wanted_more old mid pair o.row a.waits o.wanted })
+    taker_first : (pair : ℕ × ℕ) (tuple : Tuple) → HasTaker first.soft x pair tuple → HasTaker old x pair tuple
+    taker_first pair tuple t = record { wait = t.wait; seeks = seeks_first t.wait t.seeks; pair_is = t.pair_is; removes = t.removes; matches = t.matches }
 
-      -- what was offered first and is held then is offered again
-      again : (pair : ℕ × ℕ) (id : ℕ) (row : Tuple) → get bag id ≡ Some row → (get old.holds id ≡ Some pair) ⊎ IsOffered bag old x first id pair → ((get old.holds id ≡ Some pair) × (get bag id ≡ Some row)) ⊎ IsWanted old x pair row
-      again pair id row there (inl was) = inl (was, there)
-      again pair id row there (inr o) = inr (subst (IsWanted old x pair) (same_Some o.row row (sym o.there ∙ there)) o.wanted)
+    held_first : (id : ℕ) (pair : ℕ × ℕ) → (get old.holds id ≡ Some pair) ⊎ MakesOffer bag old x first.sends id pair → (get old.holds id ≡ Some pair) ⊎ MakesOffer bag old x (first.sends ++ later.sends) id pair
+    held_first id pair (inl before) = inl before
+    held_first id pair (inr o) = inr (record { tuple = o.tuple; there = o.there; sent = Contains-append_left first.sends later.sends _ o.sent; taker = o.taker })
 
-      late : (pair : ℕ × ℕ) (id : ℕ) (row : Tuple) → ((get mid.holds id ≡ Some pair) × (get bag id ≡ Some row)) ⊎ IsWanted mid x pair row → ((get old.holds id ≡ Some pair) × (get bag id ≡ Some row)) ⊎ IsWanted old x pair row
-      late pair id row (inl h) = again pair id row h.1 (a.holds id pair h.0)
-      late pair id row (inr w) = inr (wanted_more old mid pair row a.waits w)
+    held_both : (id : ℕ) (pair : ℕ × ℕ) → (get first.soft.holds id ≡ Some pair) ⊎ MakesOffer bag first.soft x later.sends id pair → (get old.holds id ≡ Some pair) ⊎ MakesOffer bag old x (first.sends ++ later.sends) id pair
+    held_both id pair (inl before) = held_first id pair (a.holds id pair before)
+    held_both id pair (inr o) = inr (record { tuple = o.tuple; there = o.there; sent = Contains-append_right first.sends later.sends _ o.sent; taker = taker_first pair o.tuple o.taker })
 
-      offered : (pair : ℕ × ℕ) (id : ℕ) (row : Tuple) → Contains first (pair.0, replies.Offer pair.1 id row) ⊎ Contains later (pair.0, replies.Offer pair.1 id row)
-          → ((get old.holds id ≡ Some pair) × (get bag id ≡ Some row)) ⊎ IsWanted old x pair row
-      offered pair id row (inl sent) = a.offers pair id row sent
-      offered pair id row (inr sent) = late pair id row (b.offers pair id row sent)
+    -- what is made again was held, or offered first
+    again_first : (pair : ℕ × ℕ) (id : ℕ) (tuple : Tuple) → get bag id ≡ Some tuple → (get old.holds id ≡ Some pair) ⊎ MakesOffer bag old x first.sends id pair → OffersAgain bag old id pair tuple ⊎ HasTaker old x pair tuple
+    again_first pair id tuple there (inl before) = inl (before, there)
+    again_first pair id tuple there (inr o) = inr (subst (HasTaker old x pair) (same_Some o.tuple tuple (sym o.there ∙ there)) o.taker)
 
-  pub same_spreads : (old : Soft) → Spreads bag x old [] old
-  same_spreads old = fewer_spreads old old (λ id pair h. h) (λ w h. h)
+    sought_first : (send : ℕ × Reply) → IsSought first.soft send → IsSought old send
+    sought_first send sought pair id tuple e = by (sought pair id tuple e)
+      where
+        by : OffersAgain bag first.soft id pair tuple ⊎ HasTaker first.soft x pair tuple → OffersAgain bag old id pair tuple ⊎ HasTaker old x pair tuple
+        by (inl h) = again_first pair id tuple h.1 (a.holds id pair h.0)
+        by (inr t) = inr (taker_first pair tuple t)
 
-  freed_row_spreads : (id : ℕ) (o : Option Tuple) (old : Soft) → get bag id ≡ o → Spreads bag x old (release_tuple id o old).sends (release_tuple id o old).soft
-  freed_row_spreads id None old there = same_spreads old
-  freed_row_spreads id (Some row) old there =
-      let mid : Soft = record { holds = remove old.holds id; waits = old.waits } in
-      spreads_then old mid (dispatch id row mid).soft [] (dispatch id row mid).sends
-      (fewer_spreads old mid (λ k pair h. held_before old.holds id k pair h) (λ w h. h))
-      (dispatch_spreads id row there mid)
+    both_fair : IsFair old (record { sends = first.sends ++ later.sends; soft = later.soft })
+    both_fair = record {
+      holds = λ id pair h. held_both id pair (b.holds id pair h);
+      waits = All-weaker (Seeks first.soft x) (Seeks old x) seeks_first later.soft.waits b.waits;
+      offers = All-append (IsSought old) first.sends later.sends a.offers (All-weaker (IsSought first.soft) (IsSought old) sought_first later.sends b.offers);
+    }
 
-  pub freed_spreads : (id : ℕ) (old : Soft) → Spreads bag x old (release bag id old).sends (release bag id old).soft
-  freed_spreads id old = freed_row_spreads id (get bag id) old refl
+  -- ---- all moves
 
-  all_freed_spreads : (ids : List ℕ) (old : Soft) → Spreads bag x old (release_all bag ids old).sends (release_all bag ids old).soft
-  all_freed_spreads [] old = same_spreads old
-  all_freed_spreads (id ∷ ids) old =
-      spreads_then old (release bag id old).soft (release_all bag ids (release bag id old).soft).soft (release bag id old).sends (release_all bag ids (release bag id old).soft).sends
-      (freed_spreads id old) (all_freed_spreads ids (release bag id old).soft)
+  fair : (Known : ℕ → Reply → Type 0) (old : Soft) (told : Sends) → Move Known bag x old told → IsFair old told
+  fair Known _ _ (gives_up old new less) =
+      record { holds = λ id pair h. inl (less.holds id pair h); waits = all_wait old new.waits less.waits; offers = All-nil (IsSought old) }
+  fair Known _ _ (tells old c r none known) =
+      record { holds = λ id pair h. inl h; waits = itself old; offers = All-cons (IsSought old) (c, r) [] (no_offer old c r none) (All-nil (IsSought old)) }
+  fair Known _ _ (dispatches old id tuple there) = dispatched_by old id tuple there (longest tuple old.waits) refl
+  fair Known _ _ (repeats old id pair held) = record { holds = λ k p h. inl h; waits = itself old; offers = repeated old id pair held }
+  fair Known _ _ (reads old id pair) =
+      record { holds = λ k p h. inl h; waits = itself old; offers = all_of_id (IsSought old) _ id (λ tuple there. no_offer old pair.0 _ refl) }
+  fair Known _ _ (offers old id w tuple asked removes there fits) = first_offer old id w tuple asked removes there fits
+  fair Known _ _ (waits old w asked) =
+      record { holds = λ id pair h. inl h; waits = All-push (Seeks old x) old.waits w (itself old) (inr asked); offers = All-nil (IsSought old) }
+  fair Known _ _ (goes_on old first later a b) = both_fair old first later (fair Known old first a) (fair Known first.soft later b)
 
-  pub closing_spreads : (client : ℕ) (old : Soft) → Spreads bag x old (on_close bag client old).sends (on_close bag client old).soft
-  closing_spreads client old =
-      let mid : Soft = record { holds = old.holds; waits = without_client client old.waits } in
-      let ids = held_in client (entries old.holds) in
-      spreads_then old mid (release_all bag ids mid).soft [] (release_all bag ids mid).sends
-      (fewer_spreads old mid (λ k pair h. h) (λ w h. filtered (λ (v : Wait). not (client == v.0.0)) old.waits w h))
-      (all_freed_spreads ids mid)
+  sought : (Known : ℕ → Reply → Type 0) (old : Soft) (told : Sends) → Move Known bag x old told → OffersWhatIsSought bag x old told.sends told.soft
+  sought Known old told move =
+      let f = fair Known old told move in
+      record {
+        holds = f.holds;
+        waits = λ w there. All-contains (Seeks old x) told.soft.waits w f.waits there;
+        offers = λ pair id tuple sent. All-contains (IsSought old) told.sends (pair.0, replies.Offer pair.1 id tuple) f.offers sent pair id tuple refl;
+      }
+
+-- A step, and a closing.
+pub step_sought : (st new : State) (old : Soft) (c : ℕ) (m : Message) (answered : Answer) → IsState st → IsStep st old c m answered new → OffersWhatIsSought new.bag (says c m) old answered.sends answered.soft
+step_sought st new old c m answered is step = sought new.bag (says c m) (KnownIn new) old _ (step_move st new c old is m answered step)
+
+pub close_sought : (bag : Bagged) (x : Coming) (client : ℕ) (old : Soft) → OffersWhatIsSought bag x old (on_close bag client old).sends (on_close bag client old).soft
+close_sought bag x client old = sought bag x (λ c r. Unit {0}) old (on_close bag client old) (close_move (λ c r. Unit {0}) bag x client old)

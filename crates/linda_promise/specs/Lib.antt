@@ -1,5 +1,4 @@
-pub mod Learning
-pub mod Numbers
-pub mod Doing
-pub mod Offering
-pub mod Replying
+pub mod Deeds
+pub mod Replies
+pub mod Offers
+pub mod Steps

@@ -1,11 +1,15 @@
 //! What the deeds and replies of a server come to, in the words of those who stand above it.
-//!
-//! Each law is told by the contract of a function that does nothing.
 #![tactic(auto)]
 
+mod deed;
 mod laws;
 
+pub use deed::{last_number, reported_deed, taker_of};
 pub use laws::{
-    a_tuple_is_taken_by_one, closings_offer_what_is_wanted, deeds_are_told, each_reply_is_kept,
-    replies_tell_deeds, steps_do_what_is_said, steps_offer_what_is_wanted, takes_are_handed_over,
+    closings_offer_only_what_is_sought, replies_report_what_was_done, replies_tell_the_deed,
+    steps_do_as_they_are_asked, steps_offer_only_what_is_sought, takes_hand_over_what_was_put,
+    two_takes_of_a_tuple_are_one, what_is_reported_is_kept,
 };
+
+#[cfg(test)]
+mod tests;

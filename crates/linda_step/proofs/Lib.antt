@@ -21,3 +21,6 @@ pub mod WaitLaws
 pub mod GrowthLaws
 pub mod OutcomeLaws
 pub mod CourseLaws
+pub mod SizeLaws
+pub mod DemandLaws
+pub mod ExistLaws

@@ -17,7 +17,7 @@ one_coming st soft (says c m) a b s t orderly first second =
     (same, one_after st (option_to_list b.deed) s t (subst (λ (x : Answer). IsAfter st (option_to_list x.deed) s) same first.state_is) second.state_is)
 one_coming st soft (leaves c) a b s t orderly first second = (first.0 ∙ sym second.0, first.1 ∙ sym second.1)
 
-came_orderly : (st new : State) (soft : Soft) (x : Coming) (a : Answer) → IsOrderly st soft → Comes st soft x a new → IsOrderly new a.soft
+pub came_orderly : (st new : State) (soft : Soft) (x : Coming) (a : Answer) → IsOrderly st soft → Comes st soft x a new → IsOrderly new a.soft
 came_orderly st new soft (says c m) a orderly step = step_orderly st new soft c orderly m a step
 came_orderly st new soft (leaves c) a orderly closed =
     subst (λ (s : State). IsOrderly s a.soft) (sym closed.1) (subst (λ (x : Answer). IsOrderly st x.soft) (sym closed.0) (close_orderly st soft c orderly))

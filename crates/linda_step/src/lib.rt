@@ -10,16 +10,18 @@
 
 mod kept;
 mod laws;
+mod size;
 mod soft;
 mod step;
 mod store;
 
 pub use laws::{
     a_cancelled_request_is_over, a_closed_client_has_left, a_list_has_one_outcome,
-    a_repeated_message_gets_the_same_reply, deeds_are_answered_as_kept,
-    no_history_takes_a_tuple_twice, no_history_with_stops_takes_a_tuple_twice, one_answer,
-    steps_do_proper_lists, steps_keep_order,
+    a_repeated_message_gets_the_same_reply, all_that_comes_has_an_outcome,
+    deeds_are_answered_as_kept, no_history_takes_a_tuple_twice,
+    no_history_with_stops_takes_a_tuple_twice, one_answer, steps_do_proper_lists, steps_keep_order,
 };
+pub use size::MAX_BATCH;
 pub use step::{Step, Steps};
 pub use store::Store;
 

@@ -17,7 +17,7 @@ use Rattle.linda_state.proofs.AfterLaws.{joined_after}
 use Rattle.linda_state.proofs.ProperLaws.{front_proper, takes_below, proper_state}
 use Rattle.linda_step.proofs.AnswerLaws.{step_proper}
 use Rattle.linda_step.proofs.OrderLaws.{step_orderly, close_orderly, no_asks_orderly}
-use Rattle.linda_promise.specs.Replying.{tells_deed, IsReplyTo, IsKept}
+use Rattle.linda_promise.specs.Replies.{reports_deed, ReportsOne, KeepsReply}
 use Rattle.std.specs.Prelude.{Result, Ok, Err}
 use Rattle.std.specs.Global.{Vec}
 use Rattle.linda_step.specs.Course.{IsFront}
@@ -25,11 +25,10 @@ use Rattle.linda_store.specs.declared.node.NodeFault.{NodeFault}
 use Rattle.linda_store.specs.declared.node.NodeFault.TheVariants as faults
 use Rattle.linda_store.specs.Node.{Node, NodeAnswer, Sent, IsFull, IsDown, MayRemain, IsDone, WentDown, IsOpened, Works, Closes, Snaps, Stops}
 use Rattle.linda_store.specs.Sound.{IsSound, AreBacked, added}
-use Rattle.linda_promise.proofs.SoftSendLaws.{closing_soft}
-use Rattle.linda_promise.proofs.KeepLaws.{step_kept, soft_kept, kept_reply}
+use Rattle.linda_promise.proofs.ReplyLaws.{step_backed, close_backed, book_reports}
 
 -- A reply to a deed is one whatever is done later.
-pub reply_later : (ds es : List Deed) (c : ℕ) (r : Reply) → IsReplyTo ds c r → IsReplyTo (ds ++ es) c r
+pub reply_later : (ds es : List Deed) (c : ℕ) (r : Reply) → ReportsOne ds c r → ReportsOne (ds ++ es) c r
 reply_later ds es c r told = record {
   before = told.before;
   deed = told.deed;
@@ -41,7 +40,7 @@ reply_later ds es c r told = record {
 
 pub backed_later : (ds es : List Deed) (sends : List (ℕ × Reply)) → AreBacked ds sends → AreBacked (ds ++ es) sends
 backed_later ds es sends backed =
-    All-weaker (λ (s : ℕ × Reply). tells_deed s.1 ≡ true → IsReplyTo ds s.0 s.1) (λ (s : ℕ × Reply). tells_deed s.1 ≡ true → IsReplyTo (ds ++ es) s.0 s.1)
+    All-weaker (λ (s : ℕ × Reply). reports_deed s.1 ≡ true → ReportsOne ds s.0 s.1) (λ (s : ℕ × Reply). reports_deed s.1 ≡ true → ReportsOne (ds ++ es) s.0 s.1)
     (λ s told tells. reply_later ds es s.0 s.1 (told tells)) sends backed
 
 -- After these deeds the server is in this state, in order, and what it sent tells of them.
@@ -52,10 +51,10 @@ pub record Stands (ds : List Deed) (now : State) (soft : Soft) (sends : List (�
   pub backed : AreBacked ds sends
 
 -- what is kept after deeds is backed by them
-kept_backed : (ds : List Deed) (st : State) (sends : List (ℕ × Reply)) → IsAfter empty_state ds st → All (λ (s : ℕ × Reply). tells_deed s.1 ≡ true → IsKept st s.0 s.1) sends → AreBacked ds sends
+kept_backed : (ds : List Deed) (st : State) (sends : List (ℕ × Reply)) → IsAfter empty_state ds st → All (λ (s : ℕ × Reply). reports_deed s.1 ≡ true → KeepsReply st s.0 s.1) sends → AreBacked ds sends
 kept_backed ds st sends after kept =
-    All-weaker (λ (s : ℕ × Reply). tells_deed s.1 ≡ true → IsKept st s.0 s.1) (λ (s : ℕ × Reply). tells_deed s.1 ≡ true → IsReplyTo ds s.0 s.1)
-    (λ s k tells. kept_reply ds st s.0 s.1 after (k tells)) sends kept
+    All-weaker (λ (s : ℕ × Reply). reports_deed s.1 ≡ true → KeepsReply st s.0 s.1) (λ (s : ℕ × Reply). reports_deed s.1 ≡ true → ReportsOne ds s.0 s.1)
+    (λ s k tells. book_reports ds st s.0 s.1 after (k tells)) sends kept
 
 -- One thing more leaves it so.
 came : (mid new : State) (soft : Soft) (x : Coming) (ds : List Deed) (before : List (ℕ × Reply)) (answered : Answer) → Stands ds mid soft before → Comes mid soft x answered new
@@ -66,9 +65,9 @@ came mid new soft (says c m) ds before answered stands step =
       proper = done.0;
       after = done.1;
       orderly = step_orderly mid new soft c stands.orderly m answered step;
-      backed = All-append (λ (s : ℕ × Reply). tells_deed s.1 ≡ true → IsReplyTo (ds ++ option_to_list answered.deed) s.0 s.1) before answered.sends
+      backed = All-append (λ (s : ℕ × Reply). reports_deed s.1 ≡ true → ReportsOne (ds ++ option_to_list answered.deed) s.0 s.1) before answered.sends
           (backed_later ds (option_to_list answered.deed) before stands.backed)
-          (kept_backed (ds ++ option_to_list answered.deed) new answered.sends done.1 (step_kept mid new c stands.orderly.state_is soft m answered step));
+          (kept_backed (ds ++ option_to_list answered.deed) new answered.sends done.1 (step_backed mid new soft c m answered stands.orderly.state_is step));
     }
 came mid new soft (leaves c) ds before answered stands closed =
     subst (λ (s : State). Stands (ds ++ option_to_list answered.deed) s answered.soft (before ++ answered.sends)) (sym closed.1)
@@ -78,8 +77,8 @@ came mid new soft (leaves c) ds before answered stands closed =
       proper = stands.proper;
       after = stands.after;
       orderly = close_orderly mid soft c stands.orderly;
-      backed = All-append (λ (s : ℕ × Reply). tells_deed s.1 ≡ true → IsReplyTo ds s.0 s.1) before (on_close mid.bag c soft).sends stands.backed
-          (kept_backed ds mid (on_close mid.bag c soft).sends stands.after (soft_kept mid (on_close mid.bag c soft).sends (closing_soft mid.bag c soft)));
+      backed = All-append (λ (s : ℕ × Reply). reports_deed s.1 ≡ true → ReportsOne ds s.0 s.1) before (on_close mid.bag c soft).sends stands.backed
+          (kept_backed ds mid (on_close mid.bag c soft).sends stands.after (close_backed mid mid.bag c soft));
     })))
 
 -- So do many things.
@@ -98,7 +97,7 @@ happened mid soft (x ∷ xs) ds before all stands happens =
 
 module _ (ds : List Deed) (old : Node) (sound : IsSound ds old) where
   begins : old.is_down ≡ false → Stands ds old.state old.soft []
-  begins up = record { proper = sound.proper; after = sound.after; orderly = sound.orderly up; backed = All-nil (λ (s : ℕ × Reply). tells_deed s.1 ≡ true → IsReplyTo ds s.0 s.1) }
+  begins up = record { proper = sound.proper; after = sound.after; orderly = sound.orderly up; backed = All-nil (λ (s : ℕ × Reply). reports_deed s.1 ≡ true → ReportsOne ds s.0 s.1) }
 
   -- What may remain of a call goes on from what was done.
   remains_proper : (xs : List Coming) (es : List Deed) → old.is_down ≡ false → MayRemain old xs es → IsProper empty_state (ds ++ es)

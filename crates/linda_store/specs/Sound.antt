@@ -9,7 +9,7 @@ use Rattle.linda_state.specs.Proper.{IsProper}
 use Rattle.linda_step.specs.Store.{IsOrderly}
 use Rattle.linda_store.specs.declared.node.NodeFault.{NodeFault}
 use Rattle.linda_store.specs.Node.{Node}
-use Rattle.linda_promise.specs.Replying.{tells_deed, IsReplyTo}
+use Rattle.linda_promise.specs.Replies.{reports_deed, ReportsOne}
 
 -- Its deeds are a proper list and its state is the one after them; while it is up it is in order, and while it is down
 -- the deeds that it may have done besides would go on from there.
@@ -21,7 +21,7 @@ pub record IsSound (ds : List Deed) (node : Node) : Type 0 where
 
 -- What is sent tells only of these deeds.
 abbrev pub AreBacked : List Deed → List (ℕ × Reply) → Type 0
-AreBacked ds sends = All (λ (send : ℕ × Reply). tells_deed send.1 ≡ true → IsReplyTo ds send.0 send.1) sends
+AreBacked ds sends = All (λ (send : ℕ × Reply). reports_deed send.1 ≡ true → ReportsOne ds send.0 send.1) sends
 
 -- the deeds that a stop has added
 abbrev pub added : Result (Vec Deed) NodeFault → List Deed

@@ -19,30 +19,32 @@ mod turn;
 mod volatile;
 mod work;
 
-pub use conversation::converse;
+pub use conversation::{MAX_READS, converse};
 pub use end::{ConverseFault, End};
 pub use laws::a_server_stays_sound;
 pub use linda_disk::Torn;
 pub use linda_promise::{
-    a_tuple_is_taken_by_one, closings_offer_what_is_wanted, deeds_are_told, each_reply_is_kept,
-    replies_tell_deeds, steps_do_what_is_said, steps_offer_what_is_wanted, takes_are_handed_over,
+    closings_offer_only_what_is_sought, last_number, replies_report_what_was_done,
+    replies_tell_the_deed, reported_deed, steps_do_as_they_are_asked,
+    steps_offer_only_what_is_sought, taker_of, takes_hand_over_what_was_put,
+    two_takes_of_a_tuple_are_one, what_is_reported_is_kept,
 };
 pub use linda_state::{
-    Book, Class, Deed, KeptReply, NUMBER_LIMIT, State, no_tuple_is_taken_twice,
-    proper_lists_keep_the_ranges,
+    Book, Class, Deed, KeptReply, NUMBER_LIMIT, State, deeds_are_done_one_by_one,
+    no_tuple_is_taken_twice, proper_lists_keep_the_ranges,
 };
 pub use linda_step::{
-    Step, Steps, Store, a_cancelled_request_is_over, a_closed_client_has_left,
-    a_list_has_one_outcome, a_repeated_message_gets_the_same_reply, deeds_are_answered_as_kept,
-    no_history_takes_a_tuple_twice, no_history_with_stops_takes_a_tuple_twice, one_answer,
-    steps_do_proper_lists, steps_keep_order,
+    MAX_BATCH, Step, Steps, Store, a_cancelled_request_is_over, a_closed_client_has_left,
+    a_list_has_one_outcome, a_repeated_message_gets_the_same_reply, all_that_comes_has_an_outcome,
+    deeds_are_answered_as_kept, no_history_takes_a_tuple_twice,
+    no_history_with_stops_takes_a_tuple_twice, one_answer, steps_do_proper_lists, steps_keep_order,
 };
 pub use node::{Node, NodeFault};
 pub use sending::send;
 pub use session::Session;
 pub use stage::{Stage, Taken};
 pub use volatile::Volatile;
-pub use work::{MAX_BATCH, Work};
+pub use work::Work;
 
 #[cfg(test)]
 mod tests;

@@ -1,0 +1,40 @@
+-- Replies that report a deed: Stored, Taken and Gone; where they are kept, and of which deed they tell.
+use Rattle.std.specs.Prelude.{◌≡◌, ℕ, Bool, true, false, List, ◌∷◌, ◌++◌, All, Some}
+use Rattle.std.specs.FinMap as map
+use Rattle.linda_wire.specs.declared.reply.Reply.{Reply}
+use Rattle.linda_wire.specs.declared.reply.Reply.TheVariants as replies
+use Rattle.linda_book.specs.Entries.{Entry}
+use Rattle.linda_state.specs.declared.deed.Deed.{Deed}
+use Rattle.linda_state.specs.Deed.{client_of, number_of}
+use Rattle.linda_state.specs.State.{State, empty_state}
+use Rattle.linda_state.specs.After.{reply_of_deed}
+use Rattle.linda_step.specs.Answer.{reply_of_kept}
+
+-- whether a deed stands behind the reply
+abbrev pub reports_deed : Reply → Bool
+reports_deed (replies.Welcome last) = false
+reports_deed (replies.Stored n id) = true
+reports_deed (replies.Taken n id tuple) = true
+reports_deed (replies.Gone n) = true
+reports_deed (replies.Offer ticket id tuple) = false
+reports_deed (replies.Read ticket id tuple) = false
+reports_deed (replies.Refused code detail) = false
+
+-- The book of this state has the reply for its client.
+pub record KeepsReply (st : State) (c : ℕ) (r : Reply) : Type 0 where
+  pub entry : Entry
+  pub kept : map.get st.book c ≡ Some entry
+  pub reply : r ≡ reply_of_kept entry.0 entry.1
+
+-- It has each of these that reports a deed.
+abbrev pub KeepsReports : State → List (ℕ × Reply) → Type 0
+KeepsReports st sends = All (λ (send : ℕ × Reply). reports_deed send.1 ≡ true → KeepsReply st send.0 send.1) sends
+
+-- The reply reports one of these deeds, which is the client's, as the book had it when it was done.
+pub record ReportsOne (ds : List Deed) (c : ℕ) (r : Reply) : Type 0 where
+  pub before : List Deed
+  pub deed : Deed
+  pub later : List Deed
+  pub parts : ds ≡ before ++ deed ∷ later
+  pub client : client_of deed ≡ c
+  pub reply : r ≡ reply_of_kept (number_of deed) (reply_of_deed empty_state before deed)

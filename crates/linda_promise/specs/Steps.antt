@@ -1,0 +1,57 @@
+-- Which deed a step does for a message, and how it is told from the reply.
+use Rattle.std.specs.Prelude.{◌≡◌, ◌≢◌, ℕ, ◌+◌, ◌==◌, Bool, false, if◌then◌else◌}
+use Rattle.std.specs.Prelude.{List, [], ◌∷◌, Option, Some, None, IsSome}
+use Rattle.std.specs.FinMap as map
+use Rattle.linda_wire.specs.declared.message.Message.{Message}
+use Rattle.linda_wire.specs.declared.message.Message.TheVariants as messages
+use Rattle.linda_wire.specs.declared.reply.Reply.{Reply}
+use Rattle.linda_wire.specs.declared.reply.Reply.TheVariants as replies
+use Rattle.linda_state.specs.declared.deed.Deed.{Deed}
+use Rattle.linda_state.specs.declared.deed.Deed.TheVariants as deeds
+use Rattle.linda_state.specs.Deed.{client_of, number_of}
+use Rattle.linda_state.specs.State.{State}
+use Rattle.linda_step.specs.Soft.{Soft}
+
+-- the number that a message bears, if it bears one
+abbrev pub number_of_message : Message → Option ℕ
+number_of_message (messages.Hello version client fresh) = None
+number_of_message (messages.Out n tuple) = Some n
+number_of_message (messages.Ask ticket remove template) = None
+number_of_message (messages.Accept n ticket id) = Some n
+number_of_message (messages.Cancel ticket) = None
+
+-- What an Accept names is held no longer for its client and ticket.
+abbrev pub LetsGo : ℕ → Message → Soft → Type 0
+LetsGo c (messages.Hello version client fresh) soft = Unit {0}
+LetsGo c (messages.Out n tuple) soft = Unit {0}
+LetsGo c (messages.Ask ticket remove template) soft = Unit {0}
+LetsGo c (messages.Accept n ticket id) soft = map.get soft.holds id ≢ Some (c, ticket)
+LetsGo c (messages.Cancel ticket) soft = Unit {0}
+
+-- The deed does what the client's message asks: it is the client's, it bears the message's number, and an offer that
+-- was accepted is let go.
+pub record DoesAsAsked (c : ℕ) (m : Message) (soft : Soft) (d : Deed) : Type 0 where
+  pub client : client_of d ≡ c
+  pub number : number_of_message m ≡ Some (number_of d)
+  pub let_go : LetsGo c m soft
+
+-- All that is held is in the bag.
+abbrev pub HoldsWhatIsThere : State → Soft → Type 0
+HoldsWhatIsThere st soft = (id : ℕ) → IsSome (map.get soft.holds id) → IsSome (map.get st.bag id)
+
+-- the deed that the first reply to a client's message reports
+abbrev pub deed_behind : ℕ → Message → List (ℕ × Reply) → Option Deed
+deed_behind c (messages.Out n tuple) ((to, replies.Stored m id) ∷ sends) = Some (deeds.Out c n tuple)
+deed_behind c (messages.Accept n ticket id) ((to, replies.Taken m other row) ∷ sends) = Some (deeds.Take c n id)
+deed_behind c (messages.Accept n ticket id) ((to, replies.Gone m) ∷ sends) = Some (deeds.Pass c n id)
+deed_behind c _ _ = None
+
+-- whether this is a number, and the one behind the last
+abbrev pub comes_next : Option ℕ → ℕ → Bool
+comes_next None last = false
+comes_next (Some n) last = n == last + 1
+
+-- The deed that was done for a client's message, told from the client's last number before it and from what was sent.
+abbrev pub reported_deed : ℕ → Message → ℕ → List (ℕ × Reply) → Option Deed
+reported_deed c m last sends =
+    if comes_next (number_of_message m) last then deed_behind c m sends else None

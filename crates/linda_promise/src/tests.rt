@@ -1,0 +1,3 @@
+//! Tests, with values worked by hand.
+
+mod deeds;
