@@ -1,5 +1,7 @@
 -- The one text in which a value is written.
-use Rattle.std.specs.Prelude.{ℕ, ◌==◌, List, [], ◌∷◌, ◌++◌, if◌then◌else◌}
+use Rattle.std.specs.Prelude.{◌≡◌, ℕ, ◌==◌, List, [], ◌∷◌, ◌++◌, if◌then◌else◌}
+use Rattle.std.specs.Prelude.{String, string_bytes}
+use Rattle.std.specs.declared.alloc.Global.{Global}
 use Rattle.std.specs.List.{flat_map}
 use Rattle.std.specs.Fmt.{signed_decimal}
 use Rattle.linda_tuple.specs.declared.atom.Atom.{Atom}
@@ -7,12 +9,18 @@ use Rattle.linda_tuple.specs.declared.atom.Atom.TheVariants as atoms
 use Rattle.linda_tuple.specs.Tuple.{Tuple}
 use Rattle.linda_text.specs.Letters.{truth_word}
 
--- A byte of a string: `"`, `\`, line feed, tab and carriage return as escapes, every other one as itself.
+-- These bytes were written behind what stood there.
+abbrev pub IsWrittenBehind : String Global → String Global → List ℕ → Type 0
+IsWrittenBehind old new bytes = string_bytes new ≡ string_bytes old ++ bytes
+
+-- A byte of a string: `"`, `\`, line feed, tab and carriage return as escapes, each other one as
+-- itself.
 abbrev pub written_byte : ℕ → List ℕ
 written_byte b =
     if b == 34 then 92 ∷ 34 ∷ []
     else (if b == 92 then 92 ∷ 92 ∷ []
-    else (if b == 10 then 92 ∷ 110 ∷ [] else (if b == 9 then 92 ∷ 116 ∷ [] else (if b == 13 then 92 ∷ 114 ∷ [] else b ∷ []))))
+    else (if b == 10 then 92 ∷ 110 ∷ []
+    else (if b == 9 then 92 ∷ 116 ∷ [] else (if b == 13 then 92 ∷ 114 ∷ [] else b ∷ []))))
 
 abbrev pub written_string : List ℕ → List ℕ
 written_string bytes = 34 ∷ (flat_map written_byte bytes ++ 34 ∷ [])
@@ -26,5 +34,9 @@ written_atom (atoms.Bool b) = truth_word b
 abbrev pub written_field : Atom → List ℕ
 written_field field = 44 ∷ 32 ∷ written_atom field
 
+-- The fields behind a tag, and the closing parenthesis.
+abbrev pub written_fields : List Atom → List ℕ
+written_fields fields = flat_map written_field fields ++ 41 ∷ []
+
 abbrev pub written_tuple : Tuple → List ℕ
-written_tuple tuple = 40 ∷ (written_atom tuple.tag ++ (flat_map written_field tuple.fields ++ 41 ∷ []))
+written_tuple tuple = 40 ∷ (written_atom tuple.tag ++ written_fields tuple.fields)

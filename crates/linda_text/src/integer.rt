@@ -3,7 +3,8 @@
 ghost use Rattle.std.specs.Prelude.{◌≡◌, ◌≤◌, length, IfOk};
 ghost use Rattle.std.specs.Str.{IsUtf8};
 ghost use Rattle.std.specs.Str.Parse.{IsNumeral, without_leading_sign};
-ghost use Rattle.linda_text.specs.Reading.{digit_count, positive_len, numeral_len, number_of, integer_at};
+ghost use Rattle.linda_text.specs.Reading.{digit_count, positive_len, numeral_len};
+ghost use Rattle.linda_text.specs.Reading.{number_of, integer_at};
 ghost use Rattle.linda_text.specs.Steps.{GivesAlways};
 
 use crate::fault::TextFault;

@@ -1,10 +1,11 @@
 //! Writing atoms and tuples: each value has one text that is written.
 
-ghost use Rattle.std.specs.Prelude.{◌≡◌, ◌++◌, IfOk, OnOk};
+ghost use Rattle.std.specs.Prelude.{◌≡◌, IfOk, OnOk};
 ghost use Rattle.std.specs.Char.{encode_utf8};
 ghost use Rattle.std.specs.List.{flat_map};
 ghost use Rattle.std.specs.String.{string_bytes};
-ghost use Rattle.linda_text.specs.Written.{written_byte, written_string, written_atom, written_field, written_tuple};
+ghost use Rattle.linda_text.specs.Written.{written_byte, written_string, written_atom};
+ghost use Rattle.linda_text.specs.Written.{written_field, written_tuple, IsWrittenBehind};
 
 use linda_tuple::{Atom, Tuple};
 use std::alloc::{AllocError, Global};
@@ -39,7 +40,7 @@ pub fn write_atom(alloc: Global, atom: &Atom) -> Result<String, AllocError>
 }
 
 fn push_fields(out: &mut String, fields: &[Atom]) -> Result<(), AllocError>
-    ensures { OnOk result (string_bytes out.new ≡ string_bytes out.old ++ flat_map written_field fields.now) }
+    ensures { OnOk result (IsWrittenBehind out.old out.new (flat_map written_field fields.now)) }
 {
     for field in fields {
         out.push_str(", ")?;
@@ -49,7 +50,7 @@ fn push_fields(out: &mut String, fields: &[Atom]) -> Result<(), AllocError>
 }
 
 fn push_atom(out: &mut String, atom: &Atom) -> Result<(), AllocError>
-    ensures { OnOk result (string_bytes out.new ≡ string_bytes out.old ++ written_atom atom.now) }
+    ensures { OnOk result (IsWrittenBehind out.old out.new (written_atom atom.now)) }
 {
     match atom {
         Atom::Int(number) => write!(out, "{number}"),
@@ -60,7 +61,7 @@ fn push_atom(out: &mut String, atom: &Atom) -> Result<(), AllocError>
 }
 
 fn push_string(out: &mut String, text: &str) -> Result<(), AllocError>
-    ensures { OnOk result (string_bytes out.new ≡ string_bytes out.old ++ written_string text.now) }
+    ensures { OnOk result (IsWrittenBehind out.old out.new (written_string text.now)) }
 {
     out.push_str("\"")?;
     push_content(out, text)?;
@@ -68,7 +69,7 @@ fn push_string(out: &mut String, text: &str) -> Result<(), AllocError>
 }
 
 fn push_content(out: &mut String, text: &str) -> Result<(), AllocError>
-    ensures { OnOk result (string_bytes out.new ≡ string_bytes out.old ++ flat_map written_byte text.now) }
+    ensures { OnOk result (IsWrittenBehind out.old out.new (flat_map written_byte text.now)) }
 {
     for c in text.chars() {
         push_char(out, c)?;
@@ -78,7 +79,7 @@ fn push_content(out: &mut String, text: &str) -> Result<(), AllocError>
 
 // A character of a string, as itself or as an escape.
 fn push_char(out: &mut String, c: char) -> Result<(), AllocError>
-    ensures { OnOk result (string_bytes out.new ≡ string_bytes out.old ++ flat_map written_byte (encode_utf8 c)) }
+    ensures { OnOk result (IsWrittenBehind out.old out.new (flat_map written_byte (encode_utf8 c))) }
 {
     match c {
         '"' => out.push_str("\\\""),
