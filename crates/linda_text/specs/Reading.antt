@@ -5,7 +5,8 @@ use Rattle.std.specs.Prelude.{Option, Some, None, Result, Ok, Err}
 use Rattle.std.specs.Char.{is_ascii_digit}
 use Rattle.std.specs.Int.Signed.{mag}
 use Rattle.std.specs.Str.{is_utf8}
-use Rattle.std.specs.Str.Parse.{signed_digits_value, true_text, false_text}
+use Rattle.std.specs.Str.Parse.{signed_digits_value, digits_value, without_leading_plus}
+use Rattle.std.specs.Str.Parse.{true_text, false_text}
 use Rattle.linda_tuple.specs.declared.atom.Atom.{Atom}
 use Rattle.linda_tuple.specs.declared.atom.Atom.TheVariants as atoms
 use Rattle.linda_tuple.specs.declared.pattern.Pattern.{Pattern}
@@ -73,6 +74,23 @@ unfoldable pub integer_at : Reader ℤ
 integer_at bytes = do
   len ← numeral_len bytes
   number ← number_of (take len bytes)
+  Ok (number, drop len bytes)
+
+-- The length of a number without a sign: a 0 alone, or digits that do not begin with 0.
+unfoldable pub natural_len : List ℕ → Result ℕ TextFault
+natural_len [] = Err (SyntaxAt 0)
+natural_len (b ∷ rest) = if b == 48 then Ok 1 else positive_len (b ∷ rest)
+
+-- The number that digits write, within 64 bits.
+unfoldable pub natural_of : List ℕ → Result ℕ TextFault
+natural_of numeral =
+    if nat_lt (digits_value 10 (without_leading_plus numeral)) (2 ^ 64)
+    then Ok (digits_value 10 (without_leading_plus numeral)) else Err NumberRange
+
+unfoldable pub natural_at : Reader ℕ
+natural_at bytes = do
+  len ← natural_len bytes
+  number ← natural_of (take len bytes)
   Ok (number, drop len bytes)
 
 -- ---- strings

@@ -34,9 +34,9 @@ fn numeral_len(bytes: &[u8]) -> Result<usize, TextFault>
     }
 }
 
-// The length of the digits at the front, of which the first is not 0.
+/// The length of the digits at the front, of which the first is not 0.
 #[tactic(auto, unfolding(crate::specs::Reading::positive_len))]
-fn positive_len(bytes: &[u8]) -> Result<usize, TextFault>
+pub(crate) fn positive_len(bytes: &[u8]) -> Result<usize, TextFault>
     ensures value { GivesAlways (λ n. n) result (positive_len bytes.now) }
     ensures within { IfOk result (λ n. n ≤ length bytes.now) }
 {

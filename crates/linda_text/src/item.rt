@@ -8,7 +8,7 @@ use crate::fault::TextFault;
 use crate::field::Field;
 use crate::integer::read_integer;
 use crate::string::{read_string, skip_string};
-use crate::word::read_word;
+use crate::word::skip_word;
 use linda_tuple::{Atom, Pattern};
 use std::alloc::Global;
 
@@ -25,11 +25,11 @@ pub(crate) fn read_atom(alloc: Global, bytes: &[u8]) -> Result<(Atom, &[u8]), Te
             Ok((Atom::Text(text), rest))
         }
         [b't', ..] => {
-            let rest = read_word(bytes, b"true")?;
+            let rest = skip_word(bytes, b"true")?;
             Ok((Atom::Bool(true), rest))
         }
         [b'f', ..] => {
-            let rest = read_word(bytes, b"false")?;
+            let rest = skip_word(bytes, b"false")?;
             Ok((Atom::Bool(false), rest))
         }
         [_, ..] => {
@@ -47,8 +47,8 @@ pub(crate) fn skip_atom(bytes: &[u8]) -> Result<&[u8], TextFault>
     match bytes {
         [] => Err(TextFault::SyntaxAt(0)),
         [b'"', rest @ ..] => skip_string(rest),
-        [b't', ..] => read_word(bytes, b"true"),
-        [b'f', ..] => read_word(bytes, b"false"),
+        [b't', ..] => skip_word(bytes, b"true"),
+        [b'f', ..] => skip_word(bytes, b"false"),
         [_, ..] => {
             let (_number, rest) = read_integer(bytes)?;
             Ok(rest)

@@ -13,7 +13,7 @@ ghost use Rattle.linda_text.specs.Places.{placed, read_at};
 ghost use Rattle.linda_text.specs.Steps.{Gives};
 
 use crate::fault::TextFault;
-use crate::row::{build_template, read_spaced_atom, skip_template};
+use crate::row::{skip_template, split_spaced_atom, split_template};
 use linda_tuple::{Atom, Template};
 use std::alloc::Global;
 
@@ -65,7 +65,7 @@ pub fn read_atom_at(alloc: Global, text: &str, at: usize) -> Result<(Atom, usize
     ensures memory { IsErrOf result TextFault.Memory
         → (atom : atoms.Atom) × (rest : List ℕ) × IsAtomAt text.now at atom rest }
 {
-    match read_spaced_atom(alloc, tail(text, at)) {
+    match split_spaced_atom(alloc, tail(text, at)) {
         Ok((atom, rest)) => Ok((atom, text.len() - rest.len())),
         Err(fault) => Err(fault.placed(text.len())),
     }
@@ -77,7 +77,7 @@ fn judged_template(alloc: Global, bytes: &[u8]) -> Result<(Template, &[u8]), Tex
     ensures memory { IsErrOf result TextFault.Memory → IsOk (template_at bytes.now) }
 {
     skip_template(bytes)?;
-    build_template(alloc, bytes)
+    split_template(alloc, bytes)
 }
 
 // The bytes from the offset on; past the end there are none.
@@ -93,7 +93,7 @@ fn tail(text: &str, at: usize) -> &[u8]
 
 impl TextFault {
     /// The fault told by its offset, where it counts the bytes left of so many.
-    pub(crate) fn placed(self, len: usize) -> TextFault
+    pub fn placed(self, len: usize) -> TextFault
         ensures value { result ≡ placed len self }
         ensures memory { result ≡ TextFault.Memory → self ≡ TextFault.Memory }
     {

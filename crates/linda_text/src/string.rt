@@ -47,7 +47,7 @@ fn fill<'a>(bytes: &'a [u8], buffer: &mut [u8; MAX_TEXT]) -> Result<(usize, &'a 
     ensures value { GivesAlways (λ x. (take x.0 buffer.new, x.1.now)) result (short_at bytes.now) }
     ensures within { IfOk result (λ x. x.0 ≤ MAX_TEXT) }
 {
-    let mut count = 0;
+    let mut count: usize = 0;
     let mut rest = bytes;
     loop {
         let (said, after) = read_said(rest)?;

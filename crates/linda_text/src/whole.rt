@@ -13,7 +13,7 @@ ghost use Rattle.linda_text.specs.Steps.{Gives, GivesAlways};
 
 use crate::blank::skip_blanks;
 use crate::fault::TextFault;
-use crate::row::{build_template, build_tuple, skip_template, skip_tuple};
+use crate::row::{build_tuple, skip_template, skip_tuple, split_template};
 use linda_tuple::{Template, Tuple};
 use std::alloc::Global;
 
@@ -75,7 +75,7 @@ fn only_template(alloc: Global, text: &str) -> Result<Template, TextFault>
 {
     let bytes = text.as_bytes();
     check_end(skip_template(bytes)?)?;
-    let (template, _rest) = build_template(alloc, bytes)?;
+    let (template, _rest) = split_template(alloc, bytes)?;
     Ok(template)
 }
 

@@ -1,6 +1,6 @@
 use Rattle.std.proofs.Common.{◌≡◌, length}
 use Rattle.linda_text.specs.Reading.{word_at}
-use Rattle.linda_text.proofs.word.read_word.Given as goal
+use Rattle.linda_text.proofs.word.skip_word.Given as goal
 
 -- The rest of the word is read from the rest of the bytes as all of it from all of them.
 abbrev pub invariant-loop-letters : goal.invariant-loop-letters

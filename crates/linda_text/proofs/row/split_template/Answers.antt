@@ -1,6 +1,6 @@
 use Rattle.linda_text.proofs.AtomLaws.{pattern_is}
 use Rattle.linda_text.proofs.RowLaws.{tag_is_sound, are_within}
-use Rattle.linda_text.proofs.row.build_template.Goals as goal
+use Rattle.linda_text.proofs.row.split_template.Goals as goal
 
 pub from_parts-requires : goal.from_parts-requires
 from_parts-requires c =

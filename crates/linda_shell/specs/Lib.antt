@@ -1,0 +1,5 @@
+pub mod Words
+pub mod EventTexts
+pub mod Limits
+pub mod Steps
+pub mod Reading
