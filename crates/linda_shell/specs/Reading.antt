@@ -1,7 +1,7 @@
 -- What the reader gives: the event, or the first fault from the left.
-use Rattle.std.specs.Prelude.{ℕ, zero, suc, true, ◌==◌, if◌then◌else◌}
+use Rattle.std.specs.Prelude.{ℕ, zero, suc, if◌then◌else◌}
 use Rattle.std.specs.Prelude.{List, [], ◌∷◌, length, Result, Ok, Err}
-use Rattle.linda_text.specs.Reading.{wrong, after_blanks, word_at, natural_at}
+use Rattle.linda_text.specs.Reading.{wrong, after_blanks, natural_at}
 use Rattle.linda_text.specs.Reading.{template_at, spaced_atom_at, ended}
 use Rattle.linda_event.specs.Trees.{Tree, leaf, choose, wrap, nack, members_of}
 use Rattle.linda_event.specs.Trees.{input, read, alarm, always, never}
@@ -11,7 +11,7 @@ use Rattle.linda_shell.specs.declared.keyword.Keyword.{Keyword}
 use Rattle.linda_shell.specs.declared.keyword.Keyword.TheVariants as keywords
 use Rattle.linda_shell.specs.declared.limits.TheConstants.{MAX_NESTED}
 use Rattle.linda_shell.specs.Steps.{Read, Reader, ◌>>=◌, lifted, made}
-use Rattle.linda_shell.specs.Words.{keyword_at, label_at, mark_at}
+use Rattle.linda_shell.specs.Words.{keyword_at, label_at, open_at, mark_at}
 
 -- The members of a choice, of which there is one at least and so many at most, and the closing
 -- bracket.
@@ -24,16 +24,11 @@ some_members_at member (suc most) bytes = do
     others ← some_members_at member most more.1
     Ok (first.0 ∷ others.0, others.1)) else Ok (first.0 ∷ [], more.1)
 
--- The members of a choice behind the opening bracket; each takes one byte at least.
-abbrev pub list_at : Reader Tree → Reader (List Tree)
-list_at member [] = some_members_at member 0 []
-list_at member (b ∷ rest) =
-    if b == 93 then Ok ([], rest)
-    else some_members_at member (suc (length rest)) (b ∷ rest)
-
+-- The members of a choice between brackets; each takes one byte at least.
 unfoldable pub members_at : Reader Tree → Reader (List Tree)
-members_at member bytes =
-    lifted (word_at (91 ∷ []) (after_blanks bytes)) >>= λ rest. list_at member (after_blanks rest)
+members_at member bytes = do
+  some ← lifted (open_at bytes)
+  if some.0 then some_members_at member (length some.1) some.1 else Ok ([], some.1)
 
 -- A number, and the event under it.
 unfoldable pub under_at : (ℕ → Tree → Tree) → Reader Tree → Reader Tree

@@ -83,6 +83,18 @@ label_at bytes = do
   behind ← word_end number.1
   Ok (number.0, behind)
 
+-- Whether members follow an opening bracket, and what stands there; or what stands behind the closing
+-- one.
+abbrev pub inside : List ℕ → Bool × List ℕ
+inside [] = (true, [])
+inside (b ∷ rest) = if b == 93 then (false, rest) else (true, b ∷ rest)
+
+-- The opening bracket behind blanks, and whether members follow it.
+unfoldable pub open_at : Reader Bool
+open_at bytes = do
+  rest ← word_at (91 ∷ []) (after_blanks bytes)
+  Ok (inside (after_blanks rest))
+
 -- A comma, after which a member follows, or the closing bracket.
 unfoldable pub mark_at : Reader Bool
 mark_at [] = wrong []

@@ -1,0 +1,2 @@
+pub mod MemberLoop
+pub mod TreeLaws

@@ -1,0 +1,16 @@
+//! The texts of events, as people type them: `choose [in ("a", ?i), alarm 3]`.
+//!
+//! `read_event` reads them. `specs/EventTexts` is their grammar.
+#![tactic(auto)]
+
+mod fault;
+mod keyword;
+mod limits;
+mod node;
+mod token;
+
+pub use fault::EventTextFault;
+pub use limits::MAX_NESTED;
+
+#[cfg(test)]
+mod tests;

@@ -1,0 +1,1 @@
+//! Texts and faults, worked by hand from the grammar.
