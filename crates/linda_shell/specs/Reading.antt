@@ -20,9 +20,8 @@ some_members_at member zero bytes = lifted (wrong bytes)
 some_members_at member (suc most) bytes = do
   first ← member (after_blanks bytes)
   more ← lifted (mark_at (after_blanks first.1))
-  if more.0 then (do
-    others ← some_members_at member most more.1
-    Ok (first.0 ∷ others.0, others.1)) else Ok (first.0 ∷ [], more.1)
+  others ← if more.0 then some_members_at member most more.1 else Ok ([], more.1)
+  Ok (first.0 ∷ others.0, others.1)
 
 -- The members of a choice between brackets; each takes one byte at least.
 unfoldable pub members_at : Reader Tree → Reader (List Tree)

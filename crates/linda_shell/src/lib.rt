@@ -3,12 +3,14 @@
 //! `read_event` reads them. `specs/EventTexts` is their grammar.
 #![tactic(auto)]
 
+mod event;
 mod fault;
 mod keyword;
 mod limits;
 mod node;
 mod token;
 
+pub use event::read_event;
 pub use fault::EventTextFault;
 pub use limits::MAX_NESTED;
 
