@@ -3,3 +3,6 @@ pub mod MemberLoop
 pub mod TreeLaws
 pub mod WordLaws
 pub mod EventLaws
+pub mod SkipLaws
+pub mod AgainLaws
+pub mod AloneLaws

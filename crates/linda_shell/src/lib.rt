@@ -8,6 +8,7 @@ mod fault;
 mod keyword;
 mod limits;
 mod node;
+mod skipping;
 mod token;
 
 pub use event::read_event;

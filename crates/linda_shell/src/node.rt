@@ -69,9 +69,7 @@ fn build_members(
     bytes: &[u8],
     room: usize,
 ) -> Result<(Vec<Event>, &[u8]), EventTextFault>
-    ensures {
-        Gives (λ x. (map tree_of x.0.items, x.1.now)) result (members_at (event_at room) bytes.now)
-    }
+    ensures { Gives (λ x. (map tree_of x.0.items, x.1.now)) result (members_at (event_at room) bytes.now) }
 {
     let mut members = Vec::new(alloc);
     let (some, mut rest) = open_list(bytes)?;

@@ -24,7 +24,7 @@ pub use laws::{a_text_stands_for_one_value, what_is_written_stands_for_its_value
 pub use number::split_number;
 pub use offset::{read_atom_at, read_template_at};
 pub use row::{skip_spaced_atom, skip_template, split_spaced_atom, split_template};
-pub use whole::{read_template, read_tuple};
+pub use whole::{check_end, read_template, read_tuple};
 pub use word::skip_word;
 pub use written::{write_atom, write_tuple};
 

@@ -79,8 +79,12 @@ fn only_template(alloc: Global, text: &str) -> Result<Template, TextFault>
     Ok(template)
 }
 
-// Nothing but blanks is left.
-fn check_end(bytes: &[u8]) -> Result<(), TextFault>
+/// Sees that nothing but blanks is left.
+///
+/// # Errors
+///
+/// `SyntaxAt` with the count of bytes left from the first one on that is no blank.
+pub fn check_end(bytes: &[u8]) -> Result<(), TextFault>
     ensures { GivesAlways (λ u. u) result (ended (tt {0}) (after_blanks bytes.now)) }
 {
     match skip_blanks(bytes) {
