@@ -1,6 +1,6 @@
 -- Each text of an event within its limits is read again, as that event.
-use Rattle.std.proofs.Common.{◌≡◌, inl, inr, ℕ, zero, suc, ◌^◌, ◌+◌, ◌<◌, ◌≤◌, Bool, true, false, List, [], ◌∷◌, ◌++◌, length, Ok, refl, sym, ap, subst, ◌∙◌, append_assoc, arith}
-use Rattle.std.specs.Prelude.{max, ◌==◌}
+use Rattle.std.proofs.Common.{◌≡◌, inl, inr, ℕ, zero, suc, ◌^◌, ◌+◌, ◌<◌, ◌≤◌, Bool, true, false, List, [], ◌∷◌, ◌++◌, length, Ok, refl, ap, ◌∙◌, append_assoc, arith}
+use Rattle.std.specs.Prelude.{◌==◌}
 use Rattle.std.specs.Char.{is_ascii_alphanumeric}
 use Rattle.std.specs.Fmt.{decimal}
 use Rattle.std.proofs.Math.Nat.{le-max_left, le-max_right}
@@ -15,10 +15,10 @@ use Rattle.linda_text.proofs.RowLaws.{template_is, spaced_atom_is}
 use Rattle.linda_event.specs.Trees.{Kind, input, read, alarm, always, never, Tree, leaf, choose, wrap, nack, Trees, no_trees, and_tree, members_of}
 use Rattle.linda_shell.specs.declared.keyword.Keyword.{Keyword}
 use Rattle.linda_shell.specs.declared.keyword.Keyword.TheVariants as keywords
-use Rattle.linda_shell.specs.Words.{keyword_text, EndsWord, keyword_at, label_at, inside, open_at, mark_at}
+use Rattle.linda_shell.specs.Words.{keyword_text, EndsWord, inside, mark_at}
 use Rattle.linda_shell.specs.EventTexts.{Begins, IsBaseText, IsEventText, IsListText, AreMore}
 use Rattle.linda_shell.specs.Limits.{IsSoundBase, IsSoundEvent, AreSoundEvents, height, height_of_all}
-use Rattle.linda_shell.specs.Steps.{Read, Reader, ◌>>=◌, lifted, made}
+use Rattle.linda_shell.specs.Steps.{Reader, lifted, made}
 use Rattle.linda_shell.specs.Reading.{some_members_at, members_at, under_at, node_at, event_at}
 use Rattle.linda_shell.proofs.WordLaws.{ends_both, ends_numeral, keyword_again, keyword_begins, keyword_inside, keyword_long, number_again, label_again, comma_again, close_again, open_again}
 use Rattle.linda_shell.proofs.EventLaws.{rest_at}

@@ -3,14 +3,14 @@ use Rattle.std.proofs.Common.{◌≡◌, ◌≢◌, ℕ, List, [], ◌∷◌, �
 use Rattle.std.specs.Prelude.{IsOk}
 use Rattle.std.proofs.lemmas.List.{append-nil}
 use Rattle.linda_text.specs.declared.fault.TextFault.TheVariants.{Memory}
-use Rattle.linda_text.specs.Grammar.{AreBlanks, IsAlone}
+use Rattle.linda_text.specs.Grammar.{AreBlanks}
 use Rattle.linda_text.specs.Reading.{after_blanks, ended}
 use Rattle.linda_text.proofs.Blanks.{blanks_take, blanks_again}
 use Rattle.linda_event.specs.Trees.{Tree}
 use Rattle.linda_shell.specs.declared.fault.EventTextFault.{EventTextFault}
 use Rattle.linda_shell.specs.declared.fault.EventTextFault.TheVariants.{Text}
 use Rattle.linda_shell.specs.declared.limits.TheConstants.{MAX_NESTED}
-use Rattle.linda_shell.specs.EventTexts.{IsEventText, IsEventAlone}
+use Rattle.linda_shell.specs.EventTexts.{IsEventAlone}
 use Rattle.linda_shell.specs.Words.{EndsWord}
 use Rattle.linda_shell.specs.Steps.{lifted, settled_fault}
 use Rattle.linda_shell.specs.Reading.{event_at, only_event}

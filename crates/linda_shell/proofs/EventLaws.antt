@@ -1,25 +1,23 @@
 -- What the reader of events reads is a text of the event, and each such text is read again.
-use Rattle.std.proofs.Common.{◌≡◌, ℕ, zero, suc, ◌^◌, ◌+◌, ◌<◌, ◌≤◌, Bool, true, false, cond, List, [], ◌∷◌, ◌++◌, length, Ok, Err, refl, sym, ap, subst, ◌∙◌, append_assoc, arith}
+use Rattle.std.proofs.Common.{◌≡◌, ℕ, zero, suc, ◌^◌, ◌<◌, ◌≤◌, Bool, true, false, cond, List, [], ◌∷◌, ◌++◌, length, Ok, refl, sym, ap, subst, ◌∙◌, append_assoc, arith}
 use Rattle.std.specs.Prelude.{max}
 use Rattle.std.specs.Fmt.{decimal}
-use Rattle.std.proofs.Math.Nat.{le-max_left, le-max_right, max-le}
-use Rattle.std.proofs.lemmas.List.{length-append}
-use Rattle.linda_tuple.specs.declared.atom.Atom.{Atom}
+use Rattle.std.proofs.Math.Nat.{max-le}
 use Rattle.linda_tuple.specs.Template.{Template, IsWithinTemplate}
 use Rattle.linda_text.specs.Grammar.{AreBlanks, IsAtomText, IsTemplateText}
 use Rattle.linda_text.specs.Reading.{after_blanks, natural_at, template_at, spaced_atom_at}
-use Rattle.linda_text.proofs.Blanks.{blanks_take, blanks_again}
+use Rattle.linda_text.proofs.Blanks.{blanks_take}
 use Rattle.linda_text.proofs.RowLaws.{template_is, spaced_atom_is}
 use Rattle.linda_event.specs.Trees.{Kind, input, read, alarm, always, never, Tree, leaf, choose, wrap, nack, Trees, no_trees, and_tree, members_of}
 use Rattle.linda_shell.specs.declared.keyword.Keyword.{Keyword}
 use Rattle.linda_shell.specs.declared.keyword.Keyword.TheVariants as keywords
-use Rattle.linda_shell.specs.Words.{keyword_text, EndsWord, keyword_at, label_at, inside, open_at, mark_at}
+use Rattle.linda_shell.specs.Words.{keyword_text, EndsWord, keyword_at, label_at, open_at, mark_at}
 use Rattle.linda_shell.specs.EventTexts.{Begins, IsBaseText, IsEventText, IsListText, AreMore}
 use Rattle.linda_shell.specs.Limits.{IsSoundBase, IsSoundEvent, AreSoundEvents, height, height_of_all}
 use Rattle.linda_shell.specs.Steps.{Read, Reader, ◌>>=◌, lifted, made}
 use Rattle.linda_shell.specs.Reading.{some_members_at, members_at, under_at, node_at, event_at}
 use Rattle.linda_shell.proofs.Steps.{bind_ok, ok_is, lifted_ok}
-use Rattle.linda_shell.proofs.WordLaws.{ends_front, ends_both, keyword_takes, keyword_again, keyword_begins, keyword_inside, keyword_long, number_takes, number_again, label_takes, label_again, mark_of, mark_takes, comma_again, close_again, opened, open_takes, open_again}
+use Rattle.linda_shell.proofs.WordLaws.{ends_front, keyword_takes, number_takes, label_takes, mark_of, mark_takes, opened, open_takes}
 
 -- ---- what is read is a text of the event
 

@@ -6,3 +6,4 @@ pub mod EventLaws
 pub mod SkipLaws
 pub mod AgainLaws
 pub mod AloneLaws
+pub mod WrittenLaws

@@ -1,14 +1,12 @@
 -- Reading the members of a choice one after the other, as a loop does.
-use Rattle.std.proofs.Common.{◌≡◌, ◌≢◌, ℕ, suc, ◌-◌, ◌+◌, ◌≤◌, ◌<◌, Bool, true, false, List, [], ◌∷◌, ◌++◌, length, Result, Ok, Err, refl, sym, ap, ◌∙◌, append_assoc, arith}
-use Rattle.std.specs.Prelude.{◌==◌}
-use Rattle.std.proofs.lemmas.List.{append-nil}
+use Rattle.std.proofs.Common.{◌≡◌, ◌≢◌, ℕ, suc, ◌-◌, ◌+◌, ◌≤◌, ◌<◌, Bool, true, false, List, [], ◌∷◌, ◌++◌, length, Ok, Err, refl, sym, ap, ◌∙◌, append_assoc, arith}
 use Rattle.linda_text.specs.declared.fault.TextFault.{TextFault}
 use Rattle.linda_text.specs.declared.fault.TextFault.TheVariants.{Memory, SyntaxAt}
 use Rattle.linda_text.specs.Reading.{after_blanks}
 use Rattle.linda_event.specs.Trees.{Tree}
 use Rattle.linda_shell.specs.declared.fault.EventTextFault.{EventTextFault}
 use Rattle.linda_shell.specs.declared.fault.EventTextFault.TheVariants.{Text}
-use Rattle.linda_shell.specs.Steps.{Read, Reader, ◌>>=◌, lifted}
+use Rattle.linda_shell.specs.Steps.{Read, Reader, ◌>>=◌}
 use Rattle.linda_shell.specs.Words.{open_at, mark_at}
 use Rattle.linda_shell.specs.Reading.{some_members_at, members_at}
 

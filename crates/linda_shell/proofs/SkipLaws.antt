@@ -1,6 +1,6 @@
 -- What reading leaves behind an event, by what each step leaves.
-use Rattle.std.proofs.Common.{◌≡◌, ℕ, zero, suc, ◌-◌, ◌+◌, ◌≤◌, ◌<◌, Bool, true, false, List, [], ◌∷◌, length, Result, Ok, Err, refl, sym, ap, ◌∙◌, arith}
-use Rattle.std.specs.Prelude.{IsOk, cond}
+use Rattle.std.proofs.Common.{◌≡◌, ℕ, zero, suc, ◌-◌, ◌+◌, ◌≤◌, ◌<◌, Bool, true, false, List, ◌∷◌, length, Result, Ok, Err, refl, sym, ap, ◌∙◌, arith}
+use Rattle.std.specs.Prelude.{IsOk}
 use Rattle.linda_text.specs.declared.fault.TextFault.{TextFault}
 use Rattle.linda_text.specs.declared.fault.TextFault.TheVariants.{SyntaxAt}
 use Rattle.linda_text.specs.Reading.{after_blanks}

@@ -1,5 +1,5 @@
 -- What a reader that did not fail gave.
-use Rattle.std.proofs.Common.{◌≡◌, ℕ, List, Result, Ok, Err, refl, ap}
+use Rattle.std.proofs.Common.{◌≡◌, Result, Ok, Err, refl, ap}
 use Rattle.linda_text.specs.declared.fault.TextFault.{TextFault}
 use Rattle.linda_shell.specs.declared.fault.EventTextFault.{EventTextFault}
 use Rattle.linda_shell.specs.Steps.{◌>>=◌, lifted}

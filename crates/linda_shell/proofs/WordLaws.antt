@@ -1,13 +1,12 @@
 -- What the readers of keywords, labels, commas and brackets read is such a text, and each such text is read again.
-use Rattle.std.proofs.Common.{◌≡◌, inl, inr, ℕ, suc, ◌^◌, ◌<◌, ◌≤◌, Bool, true, false, cond, List, [], ◌∷◌, ◌++◌, length, Ok, Err, refl, sym, ap, subst, ◌∙◌, append_assoc, arith}
+use Rattle.std.proofs.Common.{◌≡◌, ℕ, suc, ◌^◌, ◌<◌, ◌≤◌, Bool, true, false, cond, List, [], ◌∷◌, ◌++◌, length, Ok, Err, refl, ap, subst, ◌∙◌, arith}
 use Rattle.std.specs.Prelude.{Option, Some, None, ◌==◌}
-use Rattle.std.specs.Char.{is_ascii_digit, is_ascii_alphanumeric}
+use Rattle.std.specs.Char.{is_ascii_alphanumeric}
 use Rattle.std.specs.Fmt.{decimal}
-use Rattle.std.proofs.lemmas.Bool.{eqb-true, ne_eqb, or_parts}
-use Rattle.linda_text.specs.declared.fault.TextFault.{TextFault}
+use Rattle.std.proofs.lemmas.Bool.{eqb-true, or_parts}
 use Rattle.linda_text.specs.declared.fault.TextFault.TheVariants.{SyntaxAt}
 use Rattle.linda_text.specs.Grammar.{AreBlanks, EndsNumeral}
-use Rattle.linda_text.specs.Steps.{Reader, ◌>>=◌}
+use Rattle.linda_text.specs.Steps.{◌>>=◌}
 use Rattle.linda_text.specs.Reading.{after_blanks, wrong, word_at, natural_at}
 use Rattle.linda_text.proofs.Steps.{bind_ok, ok_is}
 use Rattle.linda_text.proofs.Blanks.{blanks_take, blanks_again, no_blank, beyond_blanks}

@@ -4,13 +4,12 @@ use Rattle.std.specs.Fmt.{decimal}
 use Rattle.linda_event.specs.Trees.{Kind, input, read, alarm, always, never}
 use Rattle.linda_event.specs.Trees.{Tree, leaf, choose, wrap, nack, Trees, no_trees, and_tree}
 use Rattle.linda_text.specs.Grammar.{AreBlanks, IsAtomText, IsTemplateText, IsAlone}
-use Rattle.linda_shell.specs.declared.keyword.Keyword.{Keyword}
 use Rattle.linda_shell.specs.declared.keyword.Keyword.TheVariants as keywords
 use Rattle.linda_shell.specs.Words.{keyword_text, EndsWord}
 use Rattle.linda_shell.specs.Limits.{IsWithinEvent}
 
--- A word and what stands behind it, with blanks between them or none; one at least where a letter or
--- digit would follow.
+-- A word and what stands behind it, with blanks between them or none; one at least where a letter
+-- or digit would follow.
 abbrev pub Begins : List ℕ → (List ℕ → Type 0) → List ℕ → Type 0
 Begins word IsRest text =
     (blanks rest : List ℕ) × AreBlanks blanks × EndsWord (blanks ++ rest) × IsRest rest

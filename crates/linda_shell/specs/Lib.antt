@@ -3,3 +3,4 @@ pub mod EventTexts
 pub mod Limits
 pub mod Steps
 pub mod Reading
+pub mod Written

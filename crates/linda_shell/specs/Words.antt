@@ -27,7 +27,8 @@ EndsWord (b ∷ rest) = is_ascii_alphanumeric b ≡ false
 
 -- ---- which keyword may stand at the front: two begin with `a`, and two with `n`
 
--- Whether the third letter of what begins with `a` is that of `always`; here are those behind the first.
+-- Whether the third letter of what begins with `a` is that of `always`; here are those behind the
+-- first.
 abbrev pub is_always : List ℕ → Bool
 is_always [] = false
 is_always (b ∷ []) = false
@@ -83,8 +84,8 @@ label_at bytes = do
   behind ← word_end number.1
   Ok (number.0, behind)
 
--- Whether members follow an opening bracket, and what stands there; or what stands behind the closing
--- one.
+-- Whether members follow an opening bracket, and what stands there; or what stands behind the
+-- closing one.
 abbrev pub inside : List ℕ → Bool × List ℕ
 inside [] = (true, [])
 inside (b ∷ rest) = if b == 93 then (false, rest) else (true, b ∷ rest)

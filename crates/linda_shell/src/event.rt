@@ -1,7 +1,7 @@
 //! Events that are all of a text, but for blanks before and behind them.
 //!
-//! A text is judged first, which takes no memory; then the event is made. So every fault is told before want
-//! of memory.
+//! A text is judged first, which takes no memory; then the event is made. So every fault is told
+//! before want of memory.
 
 ghost use Rattle.std.specs.Prelude.{◌≡◌, length, IfOk, IsOk, IsErrOf, Ok};
 ghost use Rattle.linda_event.specs.Trees.{Tree, tree_of};
@@ -23,8 +23,8 @@ use std::alloc::Global;
 ///
 /// # Errors
 ///
-/// The first fault from the left: one of texts, or `TooManyNested` where a node would stand under 1,000
-/// others; `Text(Memory)` where an event stands there and finds none.
+/// The first fault from the left: one of texts, or `TooManyNested` where a node would stand under
+/// 1,000 others; `Text(Memory)` where an event stands there and finds none.
 pub fn read_event(alloc: Global, text: &str) -> Result<Event, EventTextFault>
     // What is read stands there.
     ensures found { IfOk result (λ event. IsEventAlone text.now (tree_of event)) }

@@ -32,8 +32,8 @@ pub(crate) fn read_label(bytes: &[u8]) -> Result<(u64, &[u8]), TextFault>
     Ok((number, end_word(rest)?))
 }
 
-/// Whether members stand behind the opening bracket behind the blanks, and the bytes from the first one on; or
-/// those behind the closing bracket.
+/// Whether members stand behind the opening bracket behind the blanks, and the bytes from the first
+/// one on; or those behind the closing bracket.
 #[tactic(auto, unfolding(crate::specs::Words::open_at))]
 pub(crate) fn open_list(bytes: &[u8]) -> Result<(bool, &[u8]), TextFault>
     ensures { GivesAlways (λ x. (x.0, x.1.now)) result (open_at bytes.now) }

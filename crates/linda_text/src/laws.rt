@@ -4,15 +4,16 @@ ghost use Rattle.std.specs.Prelude.{◌≡◌, ℕ, List};
 ghost use Rattle.linda_tuple.specs.declared.atom.Atom as atoms;
 ghost use Rattle.linda_tuple.specs.Tuple.{Tuple};
 ghost use Rattle.linda_tuple.specs.Template.{Template};
-ghost use Rattle.linda_text.specs.Grammar.{IsAtomText, IsTupleText, IsAlone};
+ghost use Rattle.linda_text.specs.Grammar.{IsAtomText, IsTupleText, IsTemplateText, IsAlone};
 ghost use Rattle.linda_text.specs.Grammar.{IsTupleAlone, IsTemplateAlone};
-ghost use Rattle.linda_text.specs.Written.{written_atom, written_tuple};
+ghost use Rattle.linda_text.specs.Written.{written_atom, written_tuple, written_template};
 
-/// What is written of a value is a text of it; so `read_tuple` reads a tuple that was written, by its
-/// clause `only`.
+/// What is written of a value is a text of it; so `read_tuple` reads a tuple that was written, by
+/// its clause `only`.
 pub fn what_is_written_stands_for_its_value()
     ensures atoms { (atom : atoms.Atom) → IsAlone IsAtomText atom (written_atom atom) }
     ensures tuples { (tuple : Tuple) → IsAlone IsTupleText tuple (written_tuple tuple) }
+    ensures templates { (template : Template) → IsAlone IsTemplateText template (written_template template) }
 {}
 
 /// A text stands for one tuple and for one template, if any.

@@ -1,7 +1,8 @@
 //! The texts of atoms, tuples and templates: `read_..` reads them, `write_..` writes them.
 //!
-//! `split_..` and `skip_..` are for texts that are made of these: they take a value or a token off the front
-//! of bytes, and tell a fault by the count of bytes left, which `TextFault::placed` turns into its offset.
+//! `split_..` and `skip_..` are for texts that are made of these: they take a value or a token off
+//! the front of bytes, and tell a fault by the count of bytes left, which `TextFault::placed` turns
+//! into its offset; `push_..` appends a value's text.
 #![tactic(auto)]
 
 mod blank;
@@ -26,7 +27,7 @@ pub use offset::{read_atom_at, read_template_at};
 pub use row::{skip_spaced_atom, skip_template, split_spaced_atom, split_template};
 pub use whole::{check_end, read_template, read_tuple};
 pub use word::skip_word;
-pub use written::{write_atom, write_tuple};
+pub use written::{push_atom, push_template, write_atom, write_tuple};
 
 #[cfg(test)]
 mod tests;

@@ -13,8 +13,8 @@ use crate::integer::positive_len;
 ///
 /// # Errors
 ///
-/// `SyntaxAt` with the count of bytes left where no digit stands at the front; `NumberRange` where the number
-/// needs more than 64 bits.
+/// `SyntaxAt` with the count of bytes left where no digit stands at the front; `NumberRange` where
+/// the number needs more than 64 bits.
 #[tactic(auto, unfolding(crate::specs::Reading::natural_at))]
 pub fn split_number(bytes: &[u8]) -> Result<(u64, &[u8]), TextFault>
     ensures { GivesAlways (λ x. (x.0, x.1.now)) result (natural_at bytes.now) }

@@ -1,7 +1,8 @@
-//! Readers of what stands in a text from an offset on, which give the value and the offset behind it.
+//! Readers of what stands in a text from an offset on, which give the value and the offset behind
+//! it.
 //!
-//! A text is judged first, which takes no memory; then the value is made. So every fault is told before
-//! want of memory.
+//! A text is judged first, which takes no memory; then the value is made. So every fault is told
+//! before want of memory.
 
 ghost use Rattle.std.specs.Prelude.{◌≡◌, ◌≤◌, ◌-◌, ℕ, List, length, drop};
 ghost use Rattle.std.specs.Prelude.{IfOk, IsOk, IsErrOf, Ok};
@@ -17,8 +18,8 @@ use crate::row::{skip_template, split_spaced_atom, split_template};
 use linda_tuple::{Atom, Template};
 use std::alloc::Global;
 
-/// The template that stands from the offset on, behind blanks or none, and the offset of the byte behind
-/// it. Past the end there are no bytes.
+/// The template that stands from the offset on, behind blanks or none, and the offset of the byte
+/// behind it. Past the end there are no bytes.
 ///
 /// # Errors
 ///
@@ -46,12 +47,13 @@ pub fn read_template_at(
     }
 }
 
-/// The atom that stands from the offset on, behind blanks or none, and the offset of the byte behind it.
-/// Past the end there are no bytes.
+/// The atom that stands from the offset on, behind blanks or none, and the offset of the byte
+/// behind it. Past the end there are no bytes.
 ///
 /// # Errors
 ///
-/// The first fault from the left; `Memory` where an atom stands there that is a string and finds none.
+/// The first fault from the left; `Memory` where an atom stands there that is a string and finds
+/// none.
 pub fn read_atom_at(alloc: Global, text: &str, at: usize) -> Result<(Atom, usize), TextFault>
     // What is read stands there, and ends within the text.
     ensures found { IfOk result (λ x. IsAtomAt text.now at x.0 (drop x.1 text.now)) }

@@ -1,4 +1,5 @@
-//! Tuples and templates at the front of bytes: blanks, the opening parenthesis, the tag, the fields.
+//! Tuples and templates at the front of bytes: blanks, the opening parenthesis, the tag, the
+//! fields.
 
 ghost use Rattle.std.specs.Prelude.{◌≡◌, IsOk, IsErrOf};
 ghost use Rattle.linda_text.specs.Reading.{after_blanks, tag_at, row_at};
@@ -59,8 +60,8 @@ pub fn skip_template(bytes: &[u8]) -> Result<&[u8], TextFault>
 ///
 /// # Errors
 ///
-/// The first fault from the left, told by the count of bytes left; `Memory` where an atom stands there that
-/// is a string and finds none.
+/// The first fault from the left, told by the count of bytes left; `Memory` where an atom stands
+/// there that is a string and finds none.
 #[tactic(auto, unfolding(crate::specs::Reading::spaced_atom_at))]
 pub fn split_spaced_atom(alloc: Global, bytes: &[u8]) -> Result<(Atom, &[u8]), TextFault>
     ensures value { Gives (λ x. (x.0, x.1.now)) result (spaced_atom_at bytes.now) }

@@ -1,6 +1,7 @@
 //! Strings between quotes: each character stands as itself or as an escape.
 //!
-//! What a string says is put into an array first, so that a fault of it is told without taking memory.
+//! What a string says is put into an array first, so that a fault of it is told without taking
+//! memory.
 
 ghost use Rattle.std.specs.Prelude.{◌≡◌, ◌<◌, ◌≤◌, false, length, take, IfOk, IsOk, IsErrOf};
 ghost use Rattle.linda_tuple.specs.declared.limits.TheConstants.{MAX_TEXT};
@@ -41,8 +42,8 @@ pub(crate) fn skip_string(bytes: &[u8]) -> Result<&[u8], TextFault>
     }
 }
 
-// Puts what the string says into the buffer; gives how many bytes that are, and those behind the closing
-// quote.
+// Puts what the string says into the buffer; gives how many bytes that are, and those behind the
+// closing quote.
 fn fill<'a>(bytes: &'a [u8], buffer: &mut [u8; MAX_TEXT]) -> Result<(usize, &'a [u8]), TextFault>
     ensures value { GivesAlways (λ x. (take x.0 buffer.new, x.1.now)) result (short_at bytes.now) }
     ensures within { IfOk result (λ x. x.0 ≤ MAX_TEXT) }

@@ -1,6 +1,6 @@
-//! Events that are read.
+//! Events that are read, and the texts that are written of them.
 
-use crate::read_event;
+use crate::{read_event, write_event};
 use linda_event::{Event, base_count};
 use linda_text::{read_template, write_atom};
 use std::alloc::Global;
@@ -74,6 +74,36 @@ fn a_choice_may_be_empty(rt: HostRuntime) -> Result<(), Fail> {
         ("choose[ \t]", 0),
     ] {
         assert_eq!(rt; base_count(&read_event(rt.alloc(), text)?), count, "{text}");
+    }
+    Ok(())
+}
+
+#[test]
+fn each_event_is_written_in_one_way(rt: HostRuntime) -> Result<(), Fail> {
+    let rows: [(&str, &str); 9] = [
+        ("in(\"a\",?i,_,?s,?b,5)", "in (\"a\", ?i, _, ?s, ?b, 5)"),
+        (" rd\t( true ) ", "rd (true)"),
+        ("alarm  18446744073709551615", "alarm 18446744073709551615"),
+        ("always-1", "always -1"),
+        ("always\"\t\"", "always \"\\t\""),
+        ("choose[ ]", "choose []"),
+        (
+            "choose[never,alarm 0 ,never]",
+            "choose [never, alarm 0, never]",
+        ),
+        ("wrap 1  nack\t2 never", "wrap 1 nack 2 never"),
+        (
+            "choose [choose[never],wrap 3 choose [ ]]",
+            "choose [choose [never], wrap 3 choose []]",
+        ),
+    ];
+    for (read, written) in rows {
+        let event = read_event(rt.alloc(), read)?;
+        assert_eq!(rt;
+            write_event(rt.alloc(), &event)?.as_str(),
+            written,
+            "{read}"
+        );
     }
     Ok(())
 }
