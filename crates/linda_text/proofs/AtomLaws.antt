@@ -17,7 +17,7 @@ use Rattle.linda_text.specs.declared.fault.TextFault.TheVariants.{SyntaxAt, Text
 use Rattle.linda_text.specs.Letters.{is_special, escaped, truth_word}
 use Rattle.linda_text.specs.Grammar.{IsForm, IsContent, IsAtomText, IsPatternText, EndsNumeral}
 use Rattle.linda_text.specs.Steps.{Reader}
-use Rattle.linda_text.specs.Reading.{after_blanks, wrong, word_at, named, with_byte, with_escape, content_at, judged, string_at, integer_at, made, atom_at, formal_at, pattern_at}
+use Rattle.linda_text.specs.Reading.{after_blanks, wrong, word_at, named, with_byte, with_escape, content_at, if_short, if_text, short_at, string_at, integer_at, made, atom_at, formal_at, pattern_at}
 use Rattle.linda_text.proofs.Steps.{bind_ok, guard_then, guard_right, ok_is}
 use Rattle.linda_text.proofs.Blanks.{no_blank, beyond_blanks}
 use Rattle.linda_text.proofs.Numerals.{integer_takes, integer_again, number_begins}
@@ -120,18 +120,21 @@ abbrev IsString : List ℕ → List ℕ → Type 0
 IsString t text = (content : List ℕ) × IsContent t content × (text ≡ content ++ 34 ∷ [])
 
 string_takes : (bytes : List ℕ) (x : List ℕ × List ℕ) → string_at bytes ≡ Ok x → Begins IsString (λ t. (length t ≤ MAX_TEXT) × (is_utf8 t ≡ true)) bytes x
-unfolding string_at
+unfolding string_at short_at
 string_takes bytes x e =
-    let c = bind_ok (content_at false bytes) judged x e in
-    let g = guard_then (ltb MAX_TEXT (length c.0.0)) TextTooLong (cond (is_utf8 c.0.0) (Ok c.0) (wrong c.0.1)) x c.2 in
-    let r = guard_right (is_utf8 c.0.0) (SyntaxAt (length c.0.1)) c.0 x g.1 in
-    let s = content_takes false bytes c.0 c.1 in
+    let h = bind_ok (short_at bytes) if_text x e in
+    let c = bind_ok (content_at false bytes) if_short h.0 h.1 in
+    let g = guard_then (ltb MAX_TEXT (length c.0.0)) TextTooLong (Ok c.0) h.0 c.2 in
+    let r = guard_right (is_utf8 h.0.0) (SyntaxAt (length h.0.1)) h.0 x h.2 in
     let short : length c.0.0 ≤ MAX_TEXT = ltb-false _ _ g.0 in
-    subst (λ (y : List ℕ × List ℕ). Begins IsString (λ t. (length t ≤ MAX_TEXT) × (is_utf8 t ≡ true)) bytes y) r.1
-    (s.0 ++ 34 ∷ [], (s.0, s.1, refl), (short, r.0), s.2 ∙ sym (append_assoc s.0 (34 ∷ []) c.0.1))
+    let s = content_takes false bytes c.0 c.1 in
+    let Found : List ℕ × List ℕ → Type 0 = Begins IsString (λ t. (length t ≤ MAX_TEXT) × (is_utf8 t ≡ true)) bytes in
+    let begins : is_utf8 c.0.0 ≡ true → Found c.0 = λ text. (s.0 ++ 34 ∷ [], (s.0, s.1, refl), (short, text), s.2 ∙ sym (append_assoc s.0 (34 ∷ []) c.0.1)) in
+    let same : c.0 ≡ h.0 = ok_is c.0 h.0 g.1 in
+    subst Found (same ∙ r.1) (begins (ap (λ (y : List ℕ × List ℕ). is_utf8 y.0) same ∙ r.0))
 
 string_again : (t content rest : List ℕ) → IsContent t content → length t ≤ MAX_TEXT → is_utf8 t ≡ true → string_at ((content ++ 34 ∷ []) ++ rest) ≡ Ok (t, rest)
-unfolding string_at
+unfolding string_at short_at
 string_again t content rest is short text =
     let not_long : ltb MAX_TEXT (length t) ≡ false = le-ltb _ _ short in
     rw (append_assoc content (34 ∷ []) rest, content_again t content rest is, not_long, text) refl

@@ -1,5 +1,6 @@
 pub mod Steps
 pub mod Loop
+pub mod SkipLaws
 pub mod Contents
 pub mod Numerals
 pub mod Blanks

@@ -6,7 +6,7 @@ use Rattle.std.specs.Fmt.{decimal, signed_decimal}
 use Rattle.std.specs.Int.{w64, IsInRange}
 use Rattle.std.specs.Int.Signed.{mag}
 use Rattle.std.specs.Str.{IsUtf8, IsAscii}
-use Rattle.std.specs.Str.Parse.{AllDigits, IsNumeral, digits_value, signed_digits_value, without_leading_sign}
+use Rattle.std.specs.Str.Parse.{AllDigits, IsNumeral, digits_value, signed_digits_value, without_leading_sign, without_leading_plus}
 use Rattle.std.proofs.lemmas.Str.Parse.{IsNumeralModel, numerals_by_value, tells_digits, digit_from_value}
 use Rattle.std.proofs.lemmas.Str.{digit_value_digit, IsUtf8-from_ascii, IsUtf8-append}
 use Rattle.std.proofs.lemmas.Fmt.{IsAscii-from_digits, decimal-digits_value, decimal_is_IsNumeral, decimal_digit, first_decimal}
@@ -14,7 +14,7 @@ use Rattle.std.proofs.lemmas.Bool.{le-leb, leb-true, and_parts, and_from, ne_eqb
 use Rattle.std.proofs.lemmas.List.{take_at, drop_at, take-append-drop}
 use Rattle.linda_text.specs.declared.fault.TextFault.TheVariants.{SyntaxAt, NumberRange}
 use Rattle.linda_text.specs.Grammar.{EndsNumeral}
-use Rattle.linda_text.specs.Reading.{digit_count, positive_len, numeral_len, number_of, integer_at}
+use Rattle.linda_text.specs.Reading.{digit_count, positive_len, numeral_len, number_of, integer_at, natural_len, natural_of, natural_at}
 use Rattle.linda_text.specs.Steps.{◌>>=◌}
 use Rattle.linda_text.proofs.Steps.{bind_ok, guard_right, ok_is}
 
@@ -239,3 +239,91 @@ number_begins (pos (suc n)) lt = first_of_digits (decimal (suc n)) (positive_dec
     first_of_digits [] p = absurd (omega (arith, p.some))
     first_of_digits (d ∷ ds) p = (d, ds, refl, omega (arith, p.first.0), p.first.1)
 number_begins (negsuc n) lt = (45, decimal (suc n), refl, omega arith, omega arith)
+
+-- ---- numbers without a sign
+
+-- The texts of numbers without a sign, whatever their size.
+abbrev pub IsNaturalText : List ℕ → Type 0
+IsNaturalText text = (text ≡ 48 ∷ []) ⊎ IsPositive text
+
+natural_by : (t : Bool) (b n : ℕ) (rest : List ℕ) → (b == 48) ≡ t → cond t (Ok 1) (positive_len (b ∷ rest)) ≡ Ok n → IsNaturalText (take n (b ∷ rest))
+natural_by true b n rest zero_is e =
+    let one : 1 ≡ n = ok_is _ _ e in
+    let same : b ≡ 48 = eqb-true b 48 zero_is in
+    subst (λ (k : ℕ). IsNaturalText (take k (b ∷ rest))) one (inl (ap (λ (d : ℕ). d ∷ []) same))
+natural_by false b n rest zero_is e = inr (positive_taken (b ∷ rest) n e)
+
+pub natural_taken : (bytes : List ℕ) (n : ℕ) → natural_len bytes ≡ Ok n → IsNaturalText (take n bytes)
+unfolding natural_len
+natural_taken [] n e = absurd cc
+natural_taken (b ∷ rest) n e = natural_by (b == 48) b n rest refl e
+
+without_plus : (ds : List ℕ) → IsPositive ds → without_leading_plus ds ≡ ds
+without_plus [] p = refl
+without_plus (d ∷ ds) p =
+    let plus : (d == 43) ≡ false = ne_eqb d 43 (λ e. omega (arith, p.first.0)) in
+    rw plus refl
+
+pub natural_is_numeral : (text : List ℕ) → IsNaturalText text → IsNumeral 10 (without_leading_plus text)
+natural_is_numeral text (inl e) = subst (λ (t : List ℕ). IsNumeral 10 (without_leading_plus t)) (sym e) (omega arith, (omega arith, tt))
+natural_is_numeral text (inr p) = subst (λ (t : List ℕ). IsNumeral 10 t) (sym (without_plus text p)) (p.some, p.digits)
+
+pub natural_is_utf8 : (text : List ℕ) → IsNaturalText text → IsUtf8 text
+natural_is_utf8 text (inl e) = numeral_is_utf8 text (inl e)
+natural_is_utf8 text (inr p) = numeral_is_utf8 text (inr (inl p))
+
+-- The text of a number is the one that is written of it.
+natural_text : (text : List ℕ) → IsNaturalText text → digits_value 10 (without_leading_plus text) < 2 ^ 64 → text ≡ decimal (digits_value 10 (without_leading_plus text))
+natural_text text (inl e) lt = subst (λ (t : List ℕ). t ≡ decimal (digits_value 10 (without_leading_plus t))) (sym e) (sym (decimal_digit 0 (omega arith)))
+natural_text text (inr p) lt =
+    let plain : without_leading_plus text ≡ text = without_plus text p in
+    let small : digits_value 10 text < 2 ^ 64 = subst (λ (t : List ℕ). digits_value 10 t < 2 ^ 64) plain lt in
+    sym (ap (λ (t : List ℕ). decimal (digits_value 10 t)) plain ∙ written text p small)
+
+pub natural_takes : (bytes : List ℕ) (x : ℕ × List ℕ) → natural_at bytes ≡ Ok x → (bytes ≡ decimal x.0 ++ x.1) × (x.0 < 2 ^ 64)
+unfolding natural_at natural_of
+natural_takes bytes x e =
+    let n = bind_ok (natural_len bytes) (λ len. natural_of (take len bytes) >>= λ number. Ok (number, drop len bytes)) x e in
+    let v = bind_ok (natural_of (take n.0 bytes)) (λ number. Ok (number, drop n.0 bytes)) x n.2 in
+    let value : ℕ = digits_value 10 (without_leading_plus (take n.0 bytes)) in
+    let g = guard_right (ltb value (2 ^ 64)) NumberRange value v.0 v.1 in
+    let lt : value < 2 ^ 64 = ltb-true _ _ g.0 in
+    let text : take n.0 bytes ≡ decimal value = natural_text (take n.0 bytes) (natural_taken bytes n.0 n.1) lt in
+    let whole : bytes ≡ decimal value ++ drop n.0 bytes = sym (take-append-drop n.0 bytes) ∙ ap (λ (t : List ℕ). t ++ drop n.0 bytes) text in
+    let found : ℕ × List ℕ = (v.0, drop n.0 bytes) in
+    subst (λ (y : ℕ × List ℕ). (bytes ≡ decimal y.0 ++ y.1) × (y.0 < 2 ^ 64)) {x = found} (ok_is found x v.2)
+    (subst (λ (z : ℕ). (bytes ≡ decimal z ++ drop n.0 bytes) × (z < 2 ^ 64)) g.1 (whole, lt))
+
+natural_len_again : (n : ℕ) (rest : List ℕ) → n < 2 ^ 64 → EndsNumeral rest → natural_len (decimal n ++ rest) ≡ Ok (length (decimal n))
+unfolding natural_len
+natural_len_again zero rest lt end = rw (decimal_digit 0 (omega arith)) (zero_len rest)
+  where
+    zero_len : (others : List ℕ) → natural_len (48 ∷ others) ≡ Ok 1
+    zero_len others = refl
+natural_len_again (suc n) rest lt end = digits_len (decimal (suc n)) rest (positive_decimal (suc n) lt (omega arith)) end
+  where
+    digits_len : (ds others : List ℕ) → IsPositive ds → EndsNumeral others → natural_len (ds ++ others) ≡ Ok (length ds)
+    digits_len [] others p end = absurd (omega (arith, p.some))
+    digits_len (d ∷ ds) others p end =
+        let not_zero : (d == 48) ≡ false = ne_eqb d 48 (λ e. omega (arith, p.first.0)) in
+        rw not_zero (positive_again (d ∷ ds) others p end)
+
+plain_decimal : (n : ℕ) → n < 2 ^ 64 → without_leading_plus (decimal n) ≡ decimal n
+plain_decimal zero lt = rw (decimal_digit 0 (omega arith)) refl
+plain_decimal (suc n) lt = without_plus (decimal (suc n)) (positive_decimal (suc n) lt (omega arith))
+
+pub natural_again : (n : ℕ) (rest : List ℕ) → n < 2 ^ 64 → EndsNumeral rest → natural_at (decimal n ++ rest) ≡ Ok (n, rest)
+unfolding natural_at natural_of
+natural_again n rest lt end =
+    let len = natural_len_again n rest lt end in
+    let small : ltb n (2 ^ 64) ≡ true = lt-ltb _ _ lt in
+    rw (len, take_at (decimal n) rest (length (decimal n)) refl, drop_at (decimal n) rest (length (decimal n)) refl, plain_decimal n lt, value_decimal n lt, small) refl
+
+-- The first byte of such a number's text is a digit.
+pub natural_begins : (n : ℕ) → n < 2 ^ 64 → (d : ℕ) × (ds : List ℕ) × (decimal n ≡ d ∷ ds) × (48 ≤ d) × (d ≤ 57)
+natural_begins zero lt = (48, [], decimal_digit 0 (omega arith), omega arith, omega arith)
+natural_begins (suc n) lt = first_of (decimal (suc n)) (positive_decimal (suc n) lt (omega arith))
+  where
+    first_of : (xs : List ℕ) → IsPositive xs → (d : ℕ) × (ds : List ℕ) × (xs ≡ d ∷ ds) × (48 ≤ d) × (d ≤ 57)
+    first_of [] p = absurd (omega (arith, p.some))
+    first_of (d ∷ ds) p = (d, ds, refl, omega (arith, p.first.0), p.first.1)

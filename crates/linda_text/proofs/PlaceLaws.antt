@@ -1,5 +1,6 @@
 -- Reading all of a text, or from an offset on, from the laws of the reader.
-use Rattle.std.proofs.Common.{◌≡◌, ◌≢◌, ℕ, ◌-◌, ◌+◌, ◌≤◌, List, [], ◌∷◌, ◌++◌, length, take, drop, Ok, Err, refl, sym, ap, subst, ◌∙◌, append_assoc, arith}
+use Rattle.std.proofs.Common.{◌≡◌, ◌≢◌, ℕ, ◌-◌, ◌+◌, ◌≤◌, List, [], ◌∷◌, ◌++◌, length, take, drop, Result, Ok, Err, refl, sym, ap, subst, ◌∙◌, append_assoc, arith}
+use Rattle.std.specs.Prelude.{IsOk}
 use Rattle.std.proofs.lemmas.List.{drop_at, take-append-drop, length-append, append-nil}
 use Rattle.linda_text.specs.declared.fault.TextFault.{TextFault}
 use Rattle.linda_text.specs.declared.fault.TextFault.TheVariants.{Memory}
@@ -46,6 +47,20 @@ no_fault {read = read} is bytes tail at n fault told is_tail fails is_told a res
     let failed : read tail ≡ Err fault = fails (λ m. not_memory (is_told ∙ ap (placed n) m)) in
     absurd cc
 
+-- ---- where memory ran out
+
+there : {A : Type 0} (read : Result A TextFault) → IsOk read → (a : A) × (read ≡ Ok a)
+there (Ok a) ok = (a, refl)
+there (Err fault) ok = absurd cc
+
+-- A value stands from the offset on.
+pub stands_there : {A : Type 0} {IsText : A → List ℕ → Type 0} {Fits : A → Type 0} {Ends : List ℕ → Type 0} {read : Reader A} → IsSpaced IsText Fits Ends read → (bytes tail : List ℕ) (at : ℕ)
+    → tail ≡ drop at bytes → IsOk (read tail) → (a : A) × (rest : List ℕ) × (Fits a × Stands IsText a (drop at bytes) rest)
+stands_there {read = read} is bytes tail at is_tail ok =
+    let x = there (read tail) ok in
+    let t = is.takes (drop at bytes) x.0 (ap read (sym is_tail) ∙ x.1) in
+    (x.0.0, x.0.1, (t.0, t.1))
+
 -- ---- all of a text
 
 nothing_left : {A : Type 0} (a b : A) (left : List ℕ) → ended a left ≡ Ok b → (left ≡ []) × (a ≡ b)
@@ -86,6 +101,14 @@ alone_no_fault {read = read} is bytes n fault placed_one fails is_placed a fits 
 
 -- A text is of one value.
 pub one_value : {A : Type 0} {IsText : A → List ℕ → Type 0} {Fits : A → Type 0} {read : Reader A} → IsSpaced IsText Fits Anything read → (one other : A) (text : List ℕ)
-    → Fits one → Fits other → IsAlone IsText one text → IsAlone IsText other text → one ≡ other
-one_value {read = read} is one other text fits fits_too alone alone_too =
-    ok_is one other (sym (only_again is text one fits alone) ∙ only_again is text other fits_too alone_too)
+    → (Fits one × IsAlone IsText one text) → (Fits other × IsAlone IsText other text) → one ≡ other
+one_value {read = read} is one other text alone alone_too =
+    ok_is one other (sym (only_again is text one alone.0 alone.1) ∙ only_again is text other alone_too.0 alone_too.1)
+
+-- A value is all there is.
+pub alone_there : {A : Type 0} {IsText : A → List ℕ → Type 0} {Fits : A → Type 0} {Ends : List ℕ → Type 0} {read : Reader A} → IsSpaced IsText Fits Ends read → (bytes : List ℕ)
+    → IsOk (only_of (read bytes)) → (a : A) × (Fits a × IsAlone IsText a bytes)
+alone_there {read = read} is bytes ok =
+    let a = there (only_of (read bytes)) ok in
+    let f = alone_found is bytes a.0 a.1 in
+    (a.0, (f.0, f.1))

@@ -11,8 +11,11 @@ use Rattle.std.proofs.lemmas.Str.{encode_ascii, inside_one, encodes-append}
 use Rattle.linda_tuple.specs.declared.atom.Atom.{Atom}
 use Rattle.linda_tuple.specs.declared.atom.Atom.TheVariants as atoms
 use Rattle.linda_tuple.specs.Tuple.{Tuple}
-use Rattle.linda_text.specs.Grammar.{IsForm, IsContent, IsAtomText, AreFields, IsTupleText, IsAlone}
-use Rattle.linda_text.specs.Written.{written_byte, written_atom, written_field, written_tuple}
+use Rattle.linda_tuple.specs.declared.pattern.Pattern.{Pattern}
+use Rattle.linda_tuple.specs.declared.pattern.Pattern.TheVariants as patterns
+use Rattle.linda_tuple.specs.Template.{Template}
+use Rattle.linda_text.specs.Grammar.{IsForm, IsContent, IsAtomText, IsPatternText, AreFields, IsRowText, IsTupleText, IsTemplateText, IsAlone}
+use Rattle.linda_text.specs.Written.{written_byte, written_atom, written_pattern, written_field, written_row, written_tuple, written_template}
 
 -- None of the five that are written as escapes.
 abbrev pub StandsAsItself : ℕ → Type 0
@@ -69,20 +72,35 @@ content_is : (t : List ℕ) → IsContent t (flat_map written_byte t)
 content_is [] = refl
 content_is (b ∷ t) = (written_byte b, flat_map written_byte t, form_by (b == 34) (b == 92) (b == 10) (b == 9) (b == 13) b refl refl refl refl refl, content_is t, flat_map-cons written_byte b t)
 
-atom_written : (a : Atom) → IsAtomText a (written_atom a)
+pub atom_written : (a : Atom) → IsAtomText a (written_atom a)
 atom_written (atoms.Int n) = refl
 atom_written (atoms.Text t) = (flat_map written_byte t, content_is t, refl)
 atom_written (atoms.Bool b) = refl
 
-fields_written : (fields : List Atom) → AreFields IsAtomText fields (flat_map written_field fields ++ 41 ∷ [])
-fields_written [] = ([], tt, refl)
-fields_written (a ∷ fields) =
-    let parts : flat_map written_field (a ∷ fields) ++ 41 ∷ [] ≡ 44 ∷ (32 ∷ (written_atom a ++ (flat_map written_field fields ++ 41 ∷ []))) =
-    ap (λ (t : List ℕ). t ++ 41 ∷ []) (flat_map-cons written_field a fields) ∙ append_assoc (written_field a) (flat_map written_field fields) (41 ∷ []) in
-    ([], 32 ∷ [], written_atom a, flat_map written_field fields ++ 41 ∷ [], tt, (refl, tt), atom_written a, fields_written fields, parts)
+pattern_written : (p : Pattern) → IsPatternText p (written_pattern p)
+pattern_written (patterns.Value v) = atom_written v
+pattern_written patterns.IntFormal = refl
+pattern_written patterns.TextFormal = refl
+pattern_written patterns.BoolFormal = refl
+pattern_written patterns.Any = refl
+
+fields_written : {A : Type 0} (IsText : A → List ℕ → Type 0) (written : A → List ℕ) → ((a : A) → IsText a (written a)) → (fields : List A) → AreFields IsText fields (flat_map (written_field written) fields ++ 41 ∷ [])
+fields_written IsText written is [] = ([], tt, refl)
+fields_written IsText written is (a ∷ fields) =
+    let rest : List ℕ = flat_map (written_field written) fields ++ 41 ∷ [] in
+    let parts : flat_map (written_field written) (a ∷ fields) ++ 41 ∷ [] ≡ 44 ∷ (32 ∷ (written a ++ rest)) =
+    ap (λ (t : List ℕ). t ++ 41 ∷ []) (flat_map-cons (written_field written) a fields) ∙ append_assoc (written_field written a) (flat_map (written_field written) fields) (41 ∷ []) in
+    ([], 32 ∷ [], written a, rest, tt, (refl, tt), is a, fields_written IsText written is fields, parts)
+
+row_written : {A : Type 0} (IsText : A → List ℕ → Type 0) (written : A → List ℕ) → ((a : A) → IsText a (written a)) → (tag : Atom) (fields : List A) → IsRowText IsText tag fields (written_row written tag fields)
+row_written IsText written is tag fields =
+    ([], written_atom tag, flat_map (written_field written) fields ++ 41 ∷ [], tt, atom_written tag, fields_written IsText written is fields, refl)
 
 tuple_written : (t : Tuple) → IsTupleText t (written_tuple t)
-tuple_written t = ([], written_atom t.tag, flat_map written_field t.fields ++ 41 ∷ [], tt, atom_written t.tag, fields_written t.fields, refl)
+tuple_written t = row_written IsAtomText written_atom atom_written t.tag t.fields
+
+pub template_written : (t : Template) → IsTemplateText t (written_template t)
+template_written t = row_written IsPatternText written_pattern pattern_written t.tag t.fields
 
 alone : {A : Type 0} (IsText : A → List ℕ → Type 0) (a : A) (text : List ℕ) → IsText a text → IsAlone IsText a text
 alone IsText a text is = ([], tt, ([], text, tt, is, sym (append-nil text)))
@@ -92,3 +110,6 @@ atom_alone a = alone IsAtomText a (written_atom a) (atom_written a)
 
 pub tuple_alone : (t : Tuple) → IsAlone IsTupleText t (written_tuple t)
 tuple_alone t = alone IsTupleText t (written_tuple t) (tuple_written t)
+
+pub template_alone : (t : Template) → IsAlone IsTemplateText t (written_template t)
+template_alone t = alone IsTemplateText t (written_template t) (template_written t)

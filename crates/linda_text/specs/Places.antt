@@ -1,7 +1,9 @@
 -- Reading at an offset: where a fault is told, and what is read there.
 use Rattle.std.specs.Prelude.{ℕ, ◌-◌, List, length, drop, Result, Ok, Err}
 use Rattle.linda_text.specs.declared.fault.TextFault.{TextFault}
-use Rattle.linda_text.specs.declared.fault.TextFault.TheVariants.{Memory, SyntaxAt, TooManyFields, TextTooLong, NumberRange}
+use Rattle.linda_text.specs.declared.fault.TextFault.TheVariants.{Memory, SyntaxAt}
+use Rattle.linda_text.specs.declared.fault.TextFault.TheVariants.{TooManyFields, TextTooLong}
+use Rattle.linda_text.specs.declared.fault.TextFault.TheVariants.{NumberRange}
 use Rattle.linda_text.specs.Steps.{Read, Reader}
 
 -- A fault told by its offset, where so many bytes were there in all.

@@ -1,9 +1,12 @@
 -- What the readers give: the value, or the first fault from the left.
-use Rattle.std.specs.Prelude.{ℕ, zero, suc, ◌^◌, ◌==◌, ◌&&◌, ℤ, Bool, true, false, not, List, [], ◌∷◌, length, take, drop, Option, Some, None, Result, Ok, Err, nat_lt, if◌then◌else◌}
+use Rattle.std.specs.Prelude.{ℕ, zero, suc, ◌^◌, ◌==◌, ◌&&◌, ℤ, Bool, true, false, not, nat_lt}
+use Rattle.std.specs.Prelude.{List, [], ◌∷◌, length, take, drop, if◌then◌else◌}
+use Rattle.std.specs.Prelude.{Option, Some, None, Result, Ok, Err}
 use Rattle.std.specs.Char.{is_ascii_digit}
 use Rattle.std.specs.Int.Signed.{mag}
 use Rattle.std.specs.Str.{is_utf8}
-use Rattle.std.specs.Str.Parse.{signed_digits_value, true_text, false_text}
+use Rattle.std.specs.Str.Parse.{signed_digits_value, digits_value, without_leading_plus}
+use Rattle.std.specs.Str.Parse.{true_text, false_text}
 use Rattle.linda_tuple.specs.declared.atom.Atom.{Atom}
 use Rattle.linda_tuple.specs.declared.atom.Atom.TheVariants as atoms
 use Rattle.linda_tuple.specs.declared.pattern.Pattern.{Pattern}
@@ -12,7 +15,8 @@ use Rattle.linda_tuple.specs.declared.limits.TheConstants.{MAX_FIELDS, MAX_TEXT}
 use Rattle.linda_tuple.specs.Tuple.{Tuple}
 use Rattle.linda_tuple.specs.Template.{Template}
 use Rattle.linda_text.specs.declared.fault.TextFault.{TextFault}
-use Rattle.linda_text.specs.declared.fault.TextFault.TheVariants.{SyntaxAt, TooManyFields, TextTooLong, NumberRange}
+use Rattle.linda_text.specs.declared.fault.TextFault.TheVariants.{SyntaxAt, TooManyFields}
+use Rattle.linda_text.specs.declared.fault.TextFault.TheVariants.{TextTooLong, NumberRange}
 use Rattle.linda_text.specs.Letters.{is_blank, is_special, escaped}
 use Rattle.linda_text.specs.Steps.{Read, Reader, ◌>>=◌}
 
@@ -31,7 +35,8 @@ after_blanks (b ∷ rest) = if is_blank b then after_blanks rest else b ∷ rest
 unfoldable pub word_at : List ℕ → List ℕ → Result (List ℕ) TextFault
 word_at [] bytes = Ok bytes
 word_at (w ∷ word) [] = Err (SyntaxAt 0)
-word_at (w ∷ word) (b ∷ rest) = if b == w then word_at word rest else Err (SyntaxAt (suc (length rest)))
+word_at (w ∷ word) (b ∷ rest) =
+    if b == w then word_at word rest else Err (SyntaxAt (suc (length rest)))
 
 -- The word, and what it stands for.
 abbrev pub named : {A : Type 0} → A → List ℕ → Reader A
@@ -47,21 +52,45 @@ digit_count (b ∷ rest) = if is_ascii_digit b then suc (digit_count rest) else 
 -- The length of digits of which the first is not 0.
 unfoldable pub positive_len : List ℕ → Result ℕ TextFault
 positive_len [] = Err (SyntaxAt 0)
-positive_len (b ∷ rest) = if is_ascii_digit b && not (b == 48) then Ok (suc (digit_count rest)) else Err (SyntaxAt (suc (length rest)))
+positive_len (b ∷ rest) =
+    if is_ascii_digit b && not (b == 48) then Ok (suc (digit_count rest))
+    else Err (SyntaxAt (suc (length rest)))
 
--- The length of a numeral: a 0 alone, or digits that do not begin with 0, before which a minus may stand.
+-- The length of a numeral: a 0 alone, or digits that do not begin with 0, before which a minus may
+-- stand.
 unfoldable pub numeral_len : List ℕ → Result ℕ TextFault
 numeral_len [] = Err (SyntaxAt 0)
-numeral_len (b ∷ rest) = if b == 48 then Ok 1 else (if b == 45 then (positive_len rest >>= λ n. Ok (suc n)) else positive_len (b ∷ rest))
+numeral_len (b ∷ rest) =
+    if b == 48 then Ok 1
+    else (if b == 45 then (positive_len rest >>= λ n. Ok (suc n)) else positive_len (b ∷ rest))
 
 -- The number that a numeral writes, within 64 bits.
 unfoldable pub number_of : List ℕ → Result ℤ TextFault
-number_of numeral = if nat_lt (mag (signed_digits_value 10 numeral)) (2 ^ 63) then Ok (signed_digits_value 10 numeral) else Err NumberRange
+number_of numeral =
+    if nat_lt (mag (signed_digits_value 10 numeral)) (2 ^ 63)
+    then Ok (signed_digits_value 10 numeral) else Err NumberRange
 
 unfoldable pub integer_at : Reader ℤ
 integer_at bytes = do
   len ← numeral_len bytes
   number ← number_of (take len bytes)
+  Ok (number, drop len bytes)
+
+-- The length of a number without a sign: a 0 alone, or digits that do not begin with 0.
+unfoldable pub natural_len : List ℕ → Result ℕ TextFault
+natural_len [] = Err (SyntaxAt 0)
+natural_len (b ∷ rest) = if b == 48 then Ok 1 else positive_len (b ∷ rest)
+
+-- The number that digits write, within 64 bits.
+unfoldable pub natural_of : List ℕ → Result ℕ TextFault
+natural_of numeral =
+    if nat_lt (digits_value 10 (without_leading_plus numeral)) (2 ^ 64)
+    then Ok (digits_value 10 (without_leading_plus numeral)) else Err NumberRange
+
+unfoldable pub natural_at : Reader ℕ
+natural_at bytes = do
+  len ← natural_len bytes
+  number ← natural_of (take len bytes)
   Ok (number, drop len bytes)
 
 -- ---- strings
@@ -79,7 +108,9 @@ escape_at (e ∷ rest) = chosen (escaped e) (e ∷ rest) rest
 unfoldable pub said_at : Reader (Option ℕ)
 said_at [] = wrong []
 said_at (b ∷ rest) =
-    if b == 34 then Ok (None, rest) else (if b == 92 then escape_at rest else (if is_special b then wrong (b ∷ rest) else Ok (Some b, rest)))
+    if b == 34 then Ok (None, rest)
+    else (if b == 92 then escape_at rest
+    else (if is_special b then wrong (b ∷ rest) else Ok (Some b, rest)))
 
 -- A byte of a string, and those behind it.
 abbrev pub with_byte : ℕ → Read (List ℕ) → Read (List ℕ)
@@ -90,19 +121,32 @@ abbrev pub with_escape : Option ℕ → Read (List ℕ) → Read (List ℕ) → 
 with_escape None fault read = fault
 with_escape (Some b) fault read = with_byte b read
 
--- What a string says whose quote was opened, up to its closing quote; in an escape, a backslash stands before the first byte.
+-- What a string says whose quote was opened, up to its closing quote; in an escape, a backslash
+-- stands before the first byte.
 unfoldable pub content_at : Bool → Reader (List ℕ)
 content_at in_escape [] = wrong []
-content_at true (e ∷ rest) = with_escape (escaped e) (wrong (e ∷ rest)) (content_at false rest)
+content_at true (e ∷ rest) =
+    with_escape (escaped e) (wrong (e ∷ rest)) (content_at false rest)
 content_at false (b ∷ rest) =
-    if b == 34 then Ok ([], rest) else (if b == 92 then content_at true rest else (if is_special b then wrong (b ∷ rest) else with_byte b (content_at false rest)))
+    if b == 34 then Ok ([], rest)
+    else (if b == 92 then content_at true rest
+    else (if is_special b then wrong (b ∷ rest) else with_byte b (content_at false rest)))
 
--- A string may not be too long. (The bytes of every `str` are UTF-8, and then so is what its strings say.)
-abbrev pub judged : List ℕ × List ℕ → Read (List ℕ)
-judged found = if nat_lt MAX_TEXT (length found.0) then Err TextTooLong else (if is_utf8 found.0 then Ok found else wrong found.1)
+-- What was found, if it is not too long for a string.
+abbrev pub if_short : List ℕ × List ℕ → Read (List ℕ)
+if_short found = if nat_lt MAX_TEXT (length found.0) then Err TextTooLong else Ok found
+
+-- What was found, if it is UTF-8. (The bytes of every `str` are, and then so is what its strings
+-- say.)
+abbrev pub if_text : List ℕ × List ℕ → Read (List ℕ)
+if_text found = if is_utf8 found.0 then Ok found else wrong found.1
+
+-- What a string says that is not too long.
+unfoldable pub short_at : Reader (List ℕ)
+short_at bytes = content_at false bytes >>= if_short
 
 unfoldable pub string_at : Reader (List ℕ)
-string_at bytes = content_at false bytes >>= judged
+string_at bytes = short_at bytes >>= if_text
 
 -- ---- atoms and patterns
 
@@ -115,30 +159,36 @@ atom_at [] = wrong []
 atom_at (b ∷ rest) =
     if b == 34 then made (λ t. atoms.Text t) (string_at rest)
     else (if b == 116 then named (atoms.Bool true) true_text (b ∷ rest)
-    else (if b == 102 then named (atoms.Bool false) false_text (b ∷ rest) else made (λ n. atoms.Int n) (integer_at (b ∷ rest))))
+    else (if b == 102 then named (atoms.Bool false) false_text (b ∷ rest)
+    else made (λ n. atoms.Int n) (integer_at (b ∷ rest))))
 
 -- The letter behind a question mark.
 unfoldable pub formal_at : Reader Pattern
 formal_at [] = wrong []
 formal_at (b ∷ rest) =
     if b == 105 then Ok (patterns.IntFormal, rest)
-    else (if b == 115 then Ok (patterns.TextFormal, rest) else (if b == 98 then Ok (patterns.BoolFormal, rest) else wrong (b ∷ rest)))
+    else (if b == 115 then Ok (patterns.TextFormal, rest)
+    else (if b == 98 then Ok (patterns.BoolFormal, rest) else wrong (b ∷ rest)))
 
 unfoldable pub pattern_at : Reader Pattern
 pattern_at [] = wrong []
 pattern_at (b ∷ rest) =
-    if b == 63 then formal_at rest else (if b == 95 then Ok (patterns.Any, rest) else made (λ v. patterns.Value v) (atom_at (b ∷ rest)))
+    if b == 63 then formal_at rest
+    else (if b == 95 then Ok (patterns.Any, rest)
+    else made (λ v. patterns.Value v) (atom_at (b ∷ rest)))
 
 -- ---- tuples and templates
 
 -- A comma, after which a field follows, or the closing parenthesis.
 unfoldable pub more_at : Reader Bool
 more_at [] = wrong []
-more_at (b ∷ rest) = if b == 44 then Ok (true, rest) else (if b == 41 then Ok (false, rest) else wrong (b ∷ rest))
+more_at (b ∷ rest) =
+    if b == 44 then Ok (true, rest) else (if b == 41 then Ok (false, rest) else wrong (b ∷ rest))
 
 -- The closing parenthesis, where no more fields may follow.
 unfoldable pub no_more_at : List ℕ → Result (List ℕ) TextFault
-no_more_at bytes = more_at (after_blanks bytes) >>= λ more. if more.0 then Err TooManyFields else Ok more.1
+no_more_at bytes =
+    more_at (after_blanks bytes) >>= λ more. if more.0 then Err TooManyFields else Ok more.1
 
 -- The fields behind a tag, of which so many may follow.
 unfoldable pub fields_at : {A : Type 0} → Reader A → ℕ → Reader (List A)

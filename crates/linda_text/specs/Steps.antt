@@ -3,7 +3,8 @@ use Rattle.std.specs.Prelude.{◌≡◌, ◌≢◌, ℕ, List, Result, Ok, Err}
 use Rattle.linda_text.specs.declared.fault.TextFault.{TextFault}
 use Rattle.linda_text.specs.declared.fault.TextFault.TheVariants.{Memory}
 
--- What reading gives: the value and the bytes after it, or the first fault. A fault's number counts the bytes left, from the byte at fault to the end.
+-- What reading gives: the value and the bytes after it, or the first fault. A fault's number counts
+-- the bytes left, from the byte at fault to the end.
 abbrev pub Read : Type 0 → Type 0
 Read A = Result (A × List ℕ) TextFault
 
@@ -13,16 +14,24 @@ Reader A = List ℕ → Read A
 
 -- A step, and the next one with what it gave; the first fault ends both.
 infixl 10 ◌>>=◌
-abbrev pub ◌>>=◌ : {A B : Type 0} → Result A TextFault → (A → Result B TextFault) → Result B TextFault
+abbrev pub ◌>>=◌ : {A B : Type 0}
+    → Result A TextFault → (A → Result B TextFault) → Result B TextFault
 (Ok x) >>= f = f x
 (Err fault) >>= f = Err fault
+
+-- The bytes that reading leaves behind the value, or the fault.
+abbrev pub left_by : {A : Type 0} → Read A → Result (List ℕ) TextFault
+left_by (Ok x) = Ok x.1
+left_by (Err fault) = Err fault
 
 -- What the code returned, seen by view, is what reading gives, unless memory ran out.
 abbrev pub Gives : {X Y : Type 0} → (X → Y) → Result X TextFault → Result Y TextFault → Type 0
 Gives view (Ok x) read = read ≡ Ok (view x)
 Gives view (Err fault) read = fault ≢ Memory → read ≡ Err fault
 
--- What the code returned, seen by view, is what reading gives; it takes no memory, so none can run out.
-abbrev pub GivesAlways : {X Y : Type 0} → (X → Y) → Result X TextFault → Result Y TextFault → Type 0
+-- What the code returned, seen by view, is what reading gives; it takes no memory, so none can run
+-- out.
+abbrev pub GivesAlways : {X Y : Type 0}
+    → (X → Y) → Result X TextFault → Result Y TextFault → Type 0
 GivesAlways view (Ok x) read = read ≡ Ok (view x)
 GivesAlways view (Err fault) read = (fault ≢ Memory) × (read ≡ Err fault)

@@ -1,18 +1,29 @@
 -- The one text in which a value is written.
-use Rattle.std.specs.Prelude.{ℕ, ◌==◌, List, [], ◌∷◌, ◌++◌, if◌then◌else◌}
+use Rattle.std.specs.Prelude.{◌≡◌, ℕ, ◌==◌, List, [], ◌∷◌, ◌++◌, if◌then◌else◌}
+use Rattle.std.specs.Prelude.{String, string_bytes}
+use Rattle.std.specs.declared.alloc.Global.{Global}
 use Rattle.std.specs.List.{flat_map}
 use Rattle.std.specs.Fmt.{signed_decimal}
 use Rattle.linda_tuple.specs.declared.atom.Atom.{Atom}
 use Rattle.linda_tuple.specs.declared.atom.Atom.TheVariants as atoms
+use Rattle.linda_tuple.specs.declared.pattern.Pattern.{Pattern}
+use Rattle.linda_tuple.specs.declared.pattern.Pattern.TheVariants as patterns
 use Rattle.linda_tuple.specs.Tuple.{Tuple}
-use Rattle.linda_text.specs.Letters.{truth_word}
+use Rattle.linda_tuple.specs.Template.{Template}
+use Rattle.linda_text.specs.Letters.{truth_word, int_word, text_word, bool_word, any_word}
 
--- A byte of a string: `"`, `\`, line feed, tab and carriage return as escapes, every other one as itself.
+-- These bytes were written behind what stood there.
+abbrev pub IsWrittenBehind : String Global → String Global → List ℕ → Type 0
+IsWrittenBehind old new bytes = string_bytes new ≡ string_bytes old ++ bytes
+
+-- A byte of a string: `"`, `\`, line feed, tab and carriage return as escapes, each other one as
+-- itself.
 abbrev pub written_byte : ℕ → List ℕ
 written_byte b =
     if b == 34 then 92 ∷ 34 ∷ []
     else (if b == 92 then 92 ∷ 92 ∷ []
-    else (if b == 10 then 92 ∷ 110 ∷ [] else (if b == 9 then 92 ∷ 116 ∷ [] else (if b == 13 then 92 ∷ 114 ∷ [] else b ∷ []))))
+    else (if b == 10 then 92 ∷ 110 ∷ []
+    else (if b == 9 then 92 ∷ 116 ∷ [] else (if b == 13 then 92 ∷ 114 ∷ [] else b ∷ []))))
 
 abbrev pub written_string : List ℕ → List ℕ
 written_string bytes = 34 ∷ (flat_map written_byte bytes ++ 34 ∷ [])
@@ -22,9 +33,24 @@ written_atom (atoms.Int n) = signed_decimal n
 written_atom (atoms.Text t) = written_string t
 written_atom (atoms.Bool b) = truth_word b
 
+abbrev pub written_pattern : Pattern → List ℕ
+written_pattern (patterns.Value v) = written_atom v
+written_pattern patterns.IntFormal = int_word
+written_pattern patterns.TextFormal = text_word
+written_pattern patterns.BoolFormal = bool_word
+written_pattern patterns.Any = any_word
+
 -- A field behind its comma and one space.
-abbrev pub written_field : Atom → List ℕ
-written_field field = 44 ∷ 32 ∷ written_atom field
+abbrev pub written_field : {A : Type 0} → (A → List ℕ) → A → List ℕ
+written_field written field = 44 ∷ 32 ∷ written field
+
+-- The opening parenthesis, the tag, the fields behind it, and the closing parenthesis.
+abbrev pub written_row : {A : Type 0} → (A → List ℕ) → Atom → List A → List ℕ
+written_row written tag fields =
+    40 ∷ (written_atom tag ++ (flat_map (written_field written) fields ++ 41 ∷ []))
 
 abbrev pub written_tuple : Tuple → List ℕ
-written_tuple tuple = 40 ∷ (written_atom tuple.tag ++ (flat_map written_field tuple.fields ++ 41 ∷ []))
+written_tuple tuple = written_row written_atom tuple.tag tuple.fields
+
+abbrev pub written_template : Template → List ℕ
+written_template template = written_row written_pattern template.tag template.fields

@@ -6,7 +6,7 @@ ghost use Rattle.linda_text.specs.Reading.{after_blanks};
 
 /// The bytes behind the blanks at the front.
 #[tactic(auto, unfolding(crate::specs::Reading::after_blanks))]
-pub(crate) fn skip_blanks(bytes: &[u8]) -> &[u8]
+pub fn skip_blanks(bytes: &[u8]) -> &[u8]
     ensures { result.now ≡ after_blanks bytes.now }
 {
     let mut rest = bytes;

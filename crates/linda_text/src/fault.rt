@@ -12,8 +12,8 @@ pub enum TextFault {
     /// No memory for the value.
     #[error("out of memory")]
     Memory,
-    /// No text goes on with the character there, or the text ends there too early. The number is its offset in
-    /// bytes; within this crate it counts the bytes from there to the end.
+    /// No text goes on with the character there, or the text ends there too early. The number is
+    /// its offset in bytes; of `split_..` and `skip_..` it counts the bytes from there to the end.
     #[error("no text goes on at {0}")]
     SyntaxAt(usize),
     /// A comma stands behind the 16th field.

@@ -1,52 +1,64 @@
-//! The fields of tuples and of templates: a comma before each, the closing parenthesis behind the last.
+//! The fields of tuples and of templates: a comma before each, the closing parenthesis behind the
+//! last.
 
 ghost use Rattle.std.specs.Prelude.{◌≡◌};
 ghost use Rattle.linda_tuple.specs.declared.limits.TheConstants.{MAX_FIELDS};
-ghost use Rattle.linda_text.specs.Reading.{after_blanks, more_at, no_more_at, fields_at, atom_at, pattern_at};
-ghost use Rattle.linda_text.specs.Steps.{Gives, GivesAlways};
+ghost use Rattle.linda_text.specs.Reading.{after_blanks, more_at, no_more_at, fields_at};
+ghost use Rattle.linda_text.specs.Steps.{Reader, Gives, GivesAlways, left_by};
 
 use crate::blank::skip_blanks;
 use crate::fault::TextFault;
-use crate::item::{read_atom, read_pattern};
-use linda_tuple::{Atom, MAX_FIELDS, Pattern};
+use linda_tuple::MAX_FIELDS;
 use std::alloc::Global;
 
-/// The fields of a tuple, and the bytes behind the closing parenthesis.
-pub(crate) fn read_atoms(alloc: Global, bytes: &[u8]) -> Result<(Vec<Atom>, &[u8]), TextFault>
-    ensures { Gives (λ x. (x.0.items, x.1.now)) result (fields_at atom_at MAX_FIELDS bytes.now) }
-{
-    let mut atoms = Vec::new(alloc);
-    let mut rest = bytes;
-    for _ in 0..MAX_FIELDS {
-        let (more, after) = read_more(rest)?;
-        if !more {
-            return Ok((atoms, after));
-        }
-        let (atom, after) = read_atom(alloc, skip_blanks(after))?;
-        atoms.push(atom)?;
-        rest = after;
-    }
-    let rest = read_no_more(rest)?;
-    Ok((atoms, rest))
+/// What a field may be: an atom in a tuple, a pattern in a template. No blanks stand before it.
+pub(crate) trait Field: Drop {
+    ghost reading: { Reader Self };
+
+    /// The field at the front, and the bytes behind it; `Memory` may be told before a fault.
+    fn read(alloc: Global, bytes: &[u8]) -> Result<(Self, &[u8]), TextFault>
+        ensures { Gives (λ x. (x.0, x.1.now)) result (reading bytes.now) };
+
+    /// The bytes behind the field at the front.
+    fn skip(bytes: &[u8]) -> Result<&[u8], TextFault>
+        ensures { GivesAlways (λ rest. rest.now) result (left_by (reading bytes.now)) };
 }
 
-/// The patterns of a template, and the bytes behind the closing parenthesis.
-pub(crate) fn read_patterns(alloc: Global, bytes: &[u8]) -> Result<(Vec<Pattern>, &[u8]), TextFault>
-    ensures { Gives (λ x. (x.0.items, x.1.now)) result (fields_at pattern_at MAX_FIELDS bytes.now) }
+/// The fields that follow a tag, and the bytes behind the closing parenthesis.
+pub(crate) fn read_fields<F: Field>(
+    alloc: Global,
+    bytes: &[u8],
+) -> Result<(Vec<F>, &[u8]), TextFault>
+    ensures { Gives (λ x. (x.0.items, x.1.now)) result (fields_at F.reading MAX_FIELDS bytes.now) }
 {
-    let mut patterns = Vec::new(alloc);
+    let mut fields = Vec::new(alloc);
     let mut rest = bytes;
     for _ in 0..MAX_FIELDS {
         let (more, after) = read_more(rest)?;
         if !more {
-            return Ok((patterns, after));
+            return Ok((fields, after));
         }
-        let (pattern, after) = read_pattern(alloc, skip_blanks(after))?;
-        patterns.push(pattern)?;
+        let (field, after) = F::read(alloc, skip_blanks(after))?;
+        fields.push(field)?;
         rest = after;
     }
     let rest = read_no_more(rest)?;
-    Ok((patterns, rest))
+    Ok((fields, rest))
+}
+
+/// The bytes behind the closing parenthesis behind the fields.
+pub(crate) fn skip_fields<F: Field>(bytes: &[u8]) -> Result<&[u8], TextFault>
+    ensures { GivesAlways (λ rest. rest.now) result (left_by (fields_at F.reading MAX_FIELDS bytes.now)) }
+{
+    let mut rest = bytes;
+    for _ in 0..MAX_FIELDS {
+        let (more, after) = read_more(rest)?;
+        if !more {
+            return Ok(after);
+        }
+        rest = F::skip(skip_blanks(after))?;
+    }
+    read_no_more(rest)
 }
 
 // Whether a comma stands behind the blanks, or the closing parenthesis; and the bytes behind it.

@@ -3,7 +3,8 @@
 ghost use Rattle.std.specs.Prelude.{◌≡◌, ◌≤◌, length, IfOk};
 ghost use Rattle.std.specs.Str.{IsUtf8};
 ghost use Rattle.std.specs.Str.Parse.{IsNumeral, without_leading_sign};
-ghost use Rattle.linda_text.specs.Reading.{digit_count, positive_len, numeral_len, number_of, integer_at};
+ghost use Rattle.linda_text.specs.Reading.{digit_count, positive_len, numeral_len};
+ghost use Rattle.linda_text.specs.Reading.{number_of, integer_at};
 ghost use Rattle.linda_text.specs.Steps.{GivesAlways};
 
 use crate::fault::TextFault;
@@ -33,9 +34,9 @@ fn numeral_len(bytes: &[u8]) -> Result<usize, TextFault>
     }
 }
 
-// The length of the digits at the front, of which the first is not 0.
+/// The length of the digits at the front, of which the first is not 0.
 #[tactic(auto, unfolding(crate::specs::Reading::positive_len))]
-fn positive_len(bytes: &[u8]) -> Result<usize, TextFault>
+pub(crate) fn positive_len(bytes: &[u8]) -> Result<usize, TextFault>
     ensures value { GivesAlways (λ n. n) result (positive_len bytes.now) }
     ensures within { IfOk result (λ n. n ≤ length bytes.now) }
 {

@@ -1,20 +1,22 @@
-//! Atoms and patterns, without blanks before them.
+//! Atoms and patterns, without blanks before them: read, or passed over without taking memory.
 
-ghost use Rattle.std.specs.Prelude.{◌≡◌};
+ghost use Rattle.std.specs.Prelude.{◌≡◌, IsOk, IsErrOf};
 ghost use Rattle.linda_text.specs.Reading.{atom_at, formal_at, pattern_at};
-ghost use Rattle.linda_text.specs.Steps.{Gives, GivesAlways};
+ghost use Rattle.linda_text.specs.Steps.{Gives, GivesAlways, left_by};
 
 use crate::fault::TextFault;
+use crate::field::Field;
 use crate::integer::read_integer;
-use crate::string::read_string;
-use crate::word::read_word;
+use crate::string::{read_string, skip_string};
+use crate::word::skip_word;
 use linda_tuple::{Atom, Pattern};
 use std::alloc::Global;
 
 /// The atom at the front, and the bytes behind it.
 #[tactic(auto, unfolding(crate::specs::Reading::atom_at))]
 pub(crate) fn read_atom(alloc: Global, bytes: &[u8]) -> Result<(Atom, &[u8]), TextFault>
-    ensures { Gives (λ x. (x.0, x.1.now)) result (atom_at bytes.now) }
+    ensures value { Gives (λ x. (x.0, x.1.now)) result (atom_at bytes.now) }
+    ensures memory { IsErrOf result TextFault.Memory → IsOk (atom_at bytes.now) }
 {
     match bytes {
         [] => Err(TextFault::SyntaxAt(0)),
@@ -23,11 +25,11 @@ pub(crate) fn read_atom(alloc: Global, bytes: &[u8]) -> Result<(Atom, &[u8]), Te
             Ok((Atom::Text(text), rest))
         }
         [b't', ..] => {
-            let rest = read_word(bytes, b"true")?;
+            let rest = skip_word(bytes, b"true")?;
             Ok((Atom::Bool(true), rest))
         }
         [b'f', ..] => {
-            let rest = read_word(bytes, b"false")?;
+            let rest = skip_word(bytes, b"false")?;
             Ok((Atom::Bool(false), rest))
         }
         [_, ..] => {
@@ -37,18 +39,65 @@ pub(crate) fn read_atom(alloc: Global, bytes: &[u8]) -> Result<(Atom, &[u8]), Te
     }
 }
 
-/// The pattern at the front, and the bytes behind it.
-#[tactic(auto, unfolding(crate::specs::Reading::pattern_at))]
-pub(crate) fn read_pattern(alloc: Global, bytes: &[u8]) -> Result<(Pattern, &[u8]), TextFault>
-    ensures { Gives (λ x. (x.0, x.1.now)) result (pattern_at bytes.now) }
+/// The bytes behind the atom at the front.
+#[tactic(auto, unfolding(crate::specs::Reading::atom_at))]
+pub(crate) fn skip_atom(bytes: &[u8]) -> Result<&[u8], TextFault>
+    ensures { GivesAlways (λ rest. rest.now) result (left_by (atom_at bytes.now)) }
 {
     match bytes {
         [] => Err(TextFault::SyntaxAt(0)),
-        [b'?', rest @ ..] => read_formal(rest),
-        [b'_', rest @ ..] => Ok((Pattern::Any, rest)),
+        [b'"', rest @ ..] => skip_string(rest),
+        [b't', ..] => skip_word(bytes, b"true"),
+        [b'f', ..] => skip_word(bytes, b"false"),
         [_, ..] => {
-            let (value, rest) = read_atom(alloc, bytes)?;
-            Ok((Pattern::Value(value), rest))
+            let (_number, rest) = read_integer(bytes)?;
+            Ok(rest)
+        }
+    }
+}
+
+impl Field for Atom {
+    ghost use Rattle.linda_text.specs.Reading.{atom_at};
+
+    ghost reading = { atom_at };
+
+    fn read(alloc: Global, bytes: &[u8]) -> Result<(Atom, &[u8]), TextFault> {
+        read_atom(alloc, bytes)
+    }
+
+    fn skip(bytes: &[u8]) -> Result<&[u8], TextFault> {
+        skip_atom(bytes)
+    }
+}
+
+impl Field for Pattern {
+    ghost use Rattle.linda_text.specs.Reading.{pattern_at};
+
+    ghost reading = { pattern_at };
+
+    #[tactic(auto, unfolding(crate::specs::Reading::pattern_at))]
+    fn read(alloc: Global, bytes: &[u8]) -> Result<(Pattern, &[u8]), TextFault> {
+        match bytes {
+            [] => Err(TextFault::SyntaxAt(0)),
+            [b'?', rest @ ..] => read_formal(rest),
+            [b'_', rest @ ..] => Ok((Pattern::Any, rest)),
+            [_, ..] => {
+                let (value, rest) = read_atom(alloc, bytes)?;
+                Ok((Pattern::Value(value), rest))
+            }
+        }
+    }
+
+    #[tactic(auto, unfolding(crate::specs::Reading::pattern_at))]
+    fn skip(bytes: &[u8]) -> Result<&[u8], TextFault> {
+        match bytes {
+            [] => Err(TextFault::SyntaxAt(0)),
+            [b'?', rest @ ..] => {
+                let (_formal, rest) = read_formal(rest)?;
+                Ok(rest)
+            }
+            [b'_', rest @ ..] => Ok(rest),
+            [_, ..] => skip_atom(bytes),
         }
     }
 }

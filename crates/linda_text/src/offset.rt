@@ -1,61 +1,85 @@
-//! Readers of what stands in a text from an offset on, which give the value and the offset behind it.
+//! Readers of what stands in a text from an offset on, which give the value and the offset behind
+//! it.
+//!
+//! A text is judged first, which takes no memory; then the value is made. So every fault is told
+//! before want of memory.
 
-ghost use Rattle.std.specs.Prelude.{◌≡◌, ◌≤◌, ◌-◌, ℕ, List, length, drop, IfOk, Ok};
+ghost use Rattle.std.specs.Prelude.{◌≡◌, ◌≤◌, ◌-◌, ℕ, List, length, drop};
+ghost use Rattle.std.specs.Prelude.{IfOk, IsOk, IsErrOf, Ok};
 ghost use Rattle.linda_tuple.specs.declared.atom.Atom as atoms;
-ghost use Rattle.linda_tuple.specs.Atom.{IsSound};
-ghost use Rattle.linda_tuple.specs.Template.{Template, IsWithinTemplate};
-ghost use Rattle.linda_text.specs.Grammar.{IsAtomText, IsTemplateText, Stands, EndsNumeral};
+ghost use Rattle.linda_tuple.specs.Template.{Template};
+ghost use Rattle.linda_text.specs.Grammar.{IsAtomAt, IsTemplateAt, EndsNumeral};
 ghost use Rattle.linda_text.specs.Reading.{spaced_atom_at, template_at};
 ghost use Rattle.linda_text.specs.Places.{placed, read_at};
 ghost use Rattle.linda_text.specs.Steps.{Gives};
 
 use crate::fault::TextFault;
-use crate::row::{read_spaced_atom, read_template_row};
+use crate::row::{skip_template, split_spaced_atom, split_template};
 use linda_tuple::{Atom, Template};
 use std::alloc::Global;
 
-/// The template that stands from the offset on, behind blanks or none, and the offset of the byte behind it. Past
-/// the end there are no bytes.
+/// The template that stands from the offset on, behind blanks or none, and the offset of the byte
+/// behind it. Past the end there are no bytes.
 ///
 /// # Errors
 ///
-/// The first fault from the left; `Memory` where the values find none.
+/// The first fault from the left; `Memory` where a template stands there and finds none.
 pub fn read_template_at(
     alloc: Global,
     text: &str,
     at: usize,
 ) -> Result<(Template, usize), TextFault>
-    // What is read stands there.
-    ensures found { IfOk result (λ x. IsWithinTemplate x.0 × (x.1 ≤ length text.now) × Stands IsTemplateText x.0 (drop at text.now) (drop x.1 text.now)) }
+    // What is read stands there, and ends within the text.
+    ensures found { IfOk result (λ x. IsTemplateAt text.now at x.0 (drop x.1 text.now)) }
+    ensures within { IfOk result (λ x. x.1 ≤ length text.now) }
     // What stands there is read, unless memory runs out.
-    ensures only { (template : Template) (rest : List ℕ) → IsWithinTemplate template → Stands IsTemplateText template (drop at text.now) rest → Gives (λ x. x) result (Ok (template, length text.now - length rest)) }
+    ensures only { (template : Template) (rest : List ℕ) → IsTemplateAt text.now at template rest
+        → Gives (λ x. x) result (Ok (template, length text.now - length rest)) }
     // Which fault it is, and where.
     ensures exact { Gives (λ x. x) result (read_at template_at text.now at) }
+    // Memory runs out only where a template stands there.
+    ensures memory { IsErrOf result TextFault.Memory
+        → (template : Template) × (rest : List ℕ) × IsTemplateAt text.now at template rest }
 {
-    match read_template_row(alloc, tail(text, at)) {
+    match judged_template(alloc, tail(text, at)) {
         Ok((template, rest)) => Ok((template, text.len() - rest.len())),
         Err(fault) => Err(fault.placed(text.len())),
     }
 }
 
-/// The atom that stands from the offset on, behind blanks or none, and the offset of the byte behind it. Past the
-/// end there are no bytes.
+/// The atom that stands from the offset on, behind blanks or none, and the offset of the byte
+/// behind it. Past the end there are no bytes.
 ///
 /// # Errors
 ///
-/// The first fault from the left; `Memory` where a string finds none.
+/// The first fault from the left; `Memory` where an atom stands there that is a string and finds
+/// none.
 pub fn read_atom_at(alloc: Global, text: &str, at: usize) -> Result<(Atom, usize), TextFault>
-    // What is read stands there.
-    ensures found { IfOk result (λ x. IsSound x.0 × (x.1 ≤ length text.now) × Stands IsAtomText x.0 (drop at text.now) (drop x.1 text.now)) }
+    // What is read stands there, and ends within the text.
+    ensures found { IfOk result (λ x. IsAtomAt text.now at x.0 (drop x.1 text.now)) }
+    ensures within { IfOk result (λ x. x.1 ≤ length text.now) }
     // What stands there, with no digit behind it, is read, unless memory runs out.
-    ensures only { (atom : atoms.Atom) (rest : List ℕ) → IsSound atom → EndsNumeral rest → Stands IsAtomText atom (drop at text.now) rest → Gives (λ x. x) result (Ok (atom, length text.now - length rest)) }
+    ensures only { (atom : atoms.Atom) (rest : List ℕ) → IsAtomAt text.now at atom rest → EndsNumeral rest
+        → Gives (λ x. x) result (Ok (atom, length text.now - length rest)) }
     // Which fault it is, and where.
     ensures exact { Gives (λ x. x) result (read_at spaced_atom_at text.now at) }
+    // Memory runs out only where an atom stands there.
+    ensures memory { IsErrOf result TextFault.Memory
+        → (atom : atoms.Atom) × (rest : List ℕ) × IsAtomAt text.now at atom rest }
 {
-    match read_spaced_atom(alloc, tail(text, at)) {
+    match split_spaced_atom(alloc, tail(text, at)) {
         Ok((atom, rest)) => Ok((atom, text.len() - rest.len())),
         Err(fault) => Err(fault.placed(text.len())),
     }
+}
+
+// The template at the front, once its text is judged.
+fn judged_template(alloc: Global, bytes: &[u8]) -> Result<(Template, &[u8]), TextFault>
+    ensures value { Gives (λ x. (x.0, x.1.now)) result (template_at bytes.now) }
+    ensures memory { IsErrOf result TextFault.Memory → IsOk (template_at bytes.now) }
+{
+    skip_template(bytes)?;
+    split_template(alloc, bytes)
 }
 
 // The bytes from the offset on; past the end there are none.
@@ -71,7 +95,7 @@ fn tail(text: &str, at: usize) -> &[u8]
 
 impl TextFault {
     /// The fault told by its offset, where it counts the bytes left of so many.
-    pub(crate) fn placed(self, len: usize) -> TextFault
+    pub fn placed(self, len: usize) -> TextFault
         ensures value { result ≡ placed len self }
         ensures memory { result ≡ TextFault.Memory → self ≡ TextFault.Memory }
     {

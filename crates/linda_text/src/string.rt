@@ -1,9 +1,12 @@
 //! Strings between quotes: each character stands as itself or as an escape.
+//!
+//! What a string says is put into an array first, so that a fault of it is told without taking
+//! memory.
 
-ghost use Rattle.std.specs.Prelude.{◌≡◌, ◌<◌, false, length, IfOk};
+ghost use Rattle.std.specs.Prelude.{◌≡◌, ◌<◌, ◌≤◌, false, length, take, IfOk, IsOk, IsErrOf};
 ghost use Rattle.linda_tuple.specs.declared.limits.TheConstants.{MAX_TEXT};
-ghost use Rattle.linda_text.specs.Reading.{content_at, said_at, escape_at, string_at};
-ghost use Rattle.linda_text.specs.Steps.{Gives, GivesAlways};
+ghost use Rattle.linda_text.specs.Reading.{content_at, short_at, said_at, escape_at, string_at};
+ghost use Rattle.linda_text.specs.Steps.{Gives, GivesAlways, left_by};
 
 use crate::fault::TextFault;
 use linda_tuple::{MAX_TEXT, Text};
@@ -12,29 +15,66 @@ use std::alloc::Global;
 /// What the string says whose quote was opened, and the bytes behind its closing quote.
 #[tactic(auto, unfolding(crate::specs::Reading::string_at))]
 pub(crate) fn read_string(alloc: Global, bytes: &[u8]) -> Result<(Text, &[u8]), TextFault>
-    ensures { Gives (λ x. (x.0, x.1.now)) result (string_at bytes.now) }
+    ensures value { Gives (λ x. (x.0, x.1.now)) result (string_at bytes.now) }
+    ensures memory { IsErrOf result TextFault.Memory → IsOk (string_at bytes.now) }
 {
-    let (content, rest) = read_content(alloc, bytes)?;
-    if content.len() > MAX_TEXT {
-        return Err(TextFault::TextTooLong);
-    }
-    match String::from_utf8(content) {
-        Ok(string) => Ok((Text::new(string), rest)),
+    let mut buffer = [0; MAX_TEXT];
+    let (count, rest) = fill(bytes, &mut buffer)?;
+    match std::str::from_utf8(&buffer[..count]) {
+        Ok(text) => {
+            let string = String::from_str(alloc, text)?;
+            Ok((Text::new(string), rest))
+        }
         Err(_) => Err(TextFault::SyntaxAt(rest.len())),
     }
 }
 
-fn read_content(alloc: Global, bytes: &[u8]) -> Result<(Vec<u8>, &[u8]), TextFault>
-    ensures { Gives (λ x. (x.0.items, x.1.now)) result (content_at false bytes.now) }
+/// The bytes behind the closing quote of the string whose quote was opened.
+#[tactic(auto, unfolding(crate::specs::Reading::string_at))]
+pub(crate) fn skip_string(bytes: &[u8]) -> Result<&[u8], TextFault>
+    ensures { GivesAlways (λ rest. rest.now) result (left_by (string_at bytes.now)) }
 {
-    let mut content = Vec::new(alloc);
+    let mut buffer = [0; MAX_TEXT];
+    let (count, rest) = fill(bytes, &mut buffer)?;
+    match std::str::from_utf8(&buffer[..count]) {
+        Ok(_) => Ok(rest),
+        Err(_) => Err(TextFault::SyntaxAt(rest.len())),
+    }
+}
+
+// Puts what the string says into the buffer; gives how many bytes that are, and those behind the
+// closing quote.
+fn fill<'a>(bytes: &'a [u8], buffer: &mut [u8; MAX_TEXT]) -> Result<(usize, &'a [u8]), TextFault>
+    ensures value { GivesAlways (λ x. (take x.0 buffer.new, x.1.now)) result (short_at bytes.now) }
+    ensures within { IfOk result (λ x. x.0 ≤ MAX_TEXT) }
+{
+    let mut count: usize = 0;
     let mut rest = bytes;
     loop {
         let (said, after) = read_said(rest)?;
         let Some(byte) = said else {
-            return Ok((content, after));
+            return Ok((count, after));
         };
-        content.push(byte)?;
+        if count == MAX_TEXT {
+            skip_content(after)?;
+            return Err(TextFault::TextTooLong);
+        }
+        buffer[count] = byte;
+        count += 1;
+        rest = after;
+    }
+}
+
+// The bytes behind the closing quote, however much the string says before it.
+fn skip_content(bytes: &[u8]) -> Result<&[u8], TextFault>
+    ensures { GivesAlways (λ rest. rest.now) result (left_by (content_at false bytes.now)) }
+{
+    let mut rest = bytes;
+    loop {
+        let (said, after) = read_said(rest)?;
+        if said.is_none() {
+            return Ok(after);
+        }
         rest = after;
     }
 }

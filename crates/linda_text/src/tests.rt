@@ -5,6 +5,7 @@ use linda_tuple::{Atom, Text};
 use std::alloc::{AllocError, Global};
 
 mod faults;
+mod limits;
 mod offsets;
 mod templates;
 mod tuples;

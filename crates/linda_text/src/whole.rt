@@ -1,16 +1,19 @@
 //! Tuples and templates that are all of a text, but for blanks before and behind them.
+//!
+//! A text is judged first, which takes no memory; then the value is made. So every fault is told
+//! before want of memory.
 
-ghost use Rattle.std.specs.Prelude.{◌≡◌, length, IfOk, Ok};
-ghost use Rattle.linda_tuple.specs.Tuple.{Tuple, IsWithin};
-ghost use Rattle.linda_tuple.specs.Template.{Template, IsWithinTemplate};
-ghost use Rattle.linda_text.specs.Grammar.{IsTupleText, IsTemplateText, IsAlone};
-ghost use Rattle.linda_text.specs.Reading.{tuple_at, template_at, only_of};
+ghost use Rattle.std.specs.Prelude.{◌≡◌, length, IfOk, IsOk, IsErrOf, Ok};
+ghost use Rattle.linda_tuple.specs.Tuple.{Tuple};
+ghost use Rattle.linda_tuple.specs.Template.{Template};
+ghost use Rattle.linda_text.specs.Grammar.{IsTupleAlone, IsTemplateAlone};
+ghost use Rattle.linda_text.specs.Reading.{after_blanks, tuple_at, template_at, ended, only_of};
 ghost use Rattle.linda_text.specs.Places.{told};
-ghost use Rattle.linda_text.specs.Steps.{Gives};
+ghost use Rattle.linda_text.specs.Steps.{Gives, GivesAlways};
 
 use crate::blank::skip_blanks;
 use crate::fault::TextFault;
-use crate::row::{read_template_row, read_tuple_row};
+use crate::row::{build_tuple, skip_template, skip_tuple, split_template};
 use linda_tuple::{Template, Tuple};
 use std::alloc::Global;
 
@@ -18,14 +21,16 @@ use std::alloc::Global;
 ///
 /// # Errors
 ///
-/// The first fault from the left; `Memory` where the values find none.
+/// The first fault from the left; `Memory` where a tuple stands there and finds none.
 pub fn read_tuple(alloc: Global, text: &str) -> Result<Tuple, TextFault>
     // What is read stands there.
-    ensures found { IfOk result (λ t. IsWithin t × IsAlone IsTupleText t text.now) }
-    // What stands there is read, unless memory runs out: so a text is refused only where it is none of a tuple.
-    ensures only { (tuple : Tuple) → IsWithin tuple → IsAlone IsTupleText tuple text.now → Gives (λ t. t) result (Ok tuple) }
+    ensures found { IfOk result (IsTupleAlone text.now) }
+    // What stands there is read, unless memory runs out: so a text is refused only where none does.
+    ensures only { (tuple : Tuple) → IsTupleAlone text.now tuple → Gives (λ t. t) result (Ok tuple) }
     // Which fault it is, and where.
     ensures exact { Gives (λ t. t) result (told (length text.now) (only_of (tuple_at text.now))) }
+    // Memory runs out only where a tuple stands there.
+    ensures memory { IsErrOf result TextFault.Memory → (tuple : Tuple) × IsTupleAlone text.now tuple }
 {
     match only_tuple(alloc, text) {
         Ok(tuple) => Ok(tuple),
@@ -37,14 +42,16 @@ pub fn read_tuple(alloc: Global, text: &str) -> Result<Tuple, TextFault>
 ///
 /// # Errors
 ///
-/// The first fault from the left; `Memory` where the values find none.
+/// The first fault from the left; `Memory` where a template stands there and finds none.
 pub fn read_template(alloc: Global, text: &str) -> Result<Template, TextFault>
     // What is read stands there.
-    ensures found { IfOk result (λ t. IsWithinTemplate t × IsAlone IsTemplateText t text.now) }
-    // What stands there is read, unless memory runs out: so a text is refused only where it is none of a template.
-    ensures only { (template : Template) → IsWithinTemplate template → IsAlone IsTemplateText template text.now → Gives (λ t. t) result (Ok template) }
+    ensures found { IfOk result (IsTemplateAlone text.now) }
+    // What stands there is read, unless memory runs out: so a text is refused only where none does.
+    ensures only { (template : Template) → IsTemplateAlone text.now template → Gives (λ t. t) result (Ok template) }
     // Which fault it is, and where.
     ensures exact { Gives (λ t. t) result (told (length text.now) (only_of (template_at text.now))) }
+    // Memory runs out only where a template stands there.
+    ensures memory { IsErrOf result TextFault.Memory → (template : Template) × IsTemplateAlone text.now template }
 {
     match only_template(alloc, text) {
         Ok(template) => Ok(template),
@@ -53,21 +60,35 @@ pub fn read_template(alloc: Global, text: &str) -> Result<Template, TextFault>
 }
 
 fn only_tuple(alloc: Global, text: &str) -> Result<Tuple, TextFault>
-    ensures { Gives (λ t. t) result (only_of (tuple_at text.now)) }
+    ensures value { Gives (λ t. t) result (only_of (tuple_at text.now)) }
+    ensures memory { IsErrOf result TextFault.Memory → IsOk (only_of (tuple_at text.now)) }
 {
-    let (tuple, rest) = read_tuple_row(alloc, text.as_bytes())?;
-    match skip_blanks(rest) {
-        [] => Ok(tuple),
-        left => Err(TextFault::SyntaxAt(left.len())),
-    }
+    let bytes = text.as_bytes();
+    check_end(skip_tuple(bytes)?)?;
+    let (tuple, _rest) = build_tuple(alloc, bytes)?;
+    Ok(tuple)
 }
 
 fn only_template(alloc: Global, text: &str) -> Result<Template, TextFault>
-    ensures { Gives (λ t. t) result (only_of (template_at text.now)) }
+    ensures value { Gives (λ t. t) result (only_of (template_at text.now)) }
+    ensures memory { IsErrOf result TextFault.Memory → IsOk (only_of (template_at text.now)) }
 {
-    let (template, rest) = read_template_row(alloc, text.as_bytes())?;
-    match skip_blanks(rest) {
-        [] => Ok(template),
+    let bytes = text.as_bytes();
+    check_end(skip_template(bytes)?)?;
+    let (template, _rest) = split_template(alloc, bytes)?;
+    Ok(template)
+}
+
+/// Sees that nothing but blanks is left.
+///
+/// # Errors
+///
+/// `SyntaxAt` with the count of bytes left from the first one on that is no blank.
+pub fn check_end(bytes: &[u8]) -> Result<(), TextFault>
+    ensures { GivesAlways (λ u. u) result (ended (tt {0}) (after_blanks bytes.now)) }
+{
+    match skip_blanks(bytes) {
+        [] => Ok(()),
         left => Err(TextFault::SyntaxAt(left.len())),
     }
 }

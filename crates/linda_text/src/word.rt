@@ -7,8 +7,13 @@ ghost use Rattle.linda_text.specs.Steps.{GivesAlways};
 use crate::fault::TextFault;
 
 /// The bytes behind the word at the front.
+///
+/// # Errors
+///
+/// `SyntaxAt` with the count of bytes left from the first wrong one on, or 0 where the bytes end
+/// too early.
 #[tactic(auto, unfolding(crate::specs::Reading::word_at))]
-pub(crate) fn read_word<'a>(bytes: &'a [u8], word: &[u8]) -> Result<&'a [u8], TextFault>
+pub fn skip_word<'a>(bytes: &'a [u8], word: &[u8]) -> Result<&'a [u8], TextFault>
     ensures { GivesAlways (λ rest. rest.now) result (word_at word.now bytes.now) }
 {
     let mut rest = bytes;

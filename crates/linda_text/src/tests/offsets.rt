@@ -38,7 +38,7 @@ fn faults_are_told_by_their_offset_in_the_whole_text(rt: HostRuntime) {
         ("in", 2, TextFault::SyntaxAt(2)),
         ("in", 9, TextFault::SyntaxAt(2)),
         ("é(1)", 1, TextFault::SyntaxAt(1)),
-        ("rd (1, -0)", 2, TextFault::SyntaxAt(8)),
+        ("rd (\"a\", -0)", 2, TextFault::SyntaxAt(10)),
         ("rd (99999999999999999999)", 2, TextFault::NumberRange),
     ];
     for (text, at, fault) in rows {

@@ -1,7 +1,7 @@
-//! Templates that are read, and their faults.
+//! Templates that are read.
 
 use super::text;
-use crate::{TextFault, read_template};
+use crate::read_template;
 use linda_tuple::{Atom, Pattern};
 use std::test::*;
 
@@ -26,32 +26,4 @@ fn a_template_may_hold_values_alone(rt: HostRuntime) -> Result<(), Fail> {
     assert!(rt; *template.tag() == Atom::Bool(true));
     assert!(rt; template.fields() == [Pattern::Value(Atom::Bool(false))].as_slice());
     Ok(())
-}
-
-#[test]
-fn faults_of_templates_at_their_offsets(rt: HostRuntime) {
-    let rows: [(&str, TextFault); 12] = [
-        ("", TextFault::SyntaxAt(0)),
-        ("(?i)", TextFault::SyntaxAt(1)),
-        ("(_)", TextFault::SyntaxAt(1)),
-        ("(1, ?x)", TextFault::SyntaxAt(5)),
-        ("(1, ? i)", TextFault::SyntaxAt(5)),
-        ("(1, ?", TextFault::SyntaxAt(5)),
-        ("(1, ?ii)", TextFault::SyntaxAt(6)),
-        ("(1, __)", TextFault::SyntaxAt(5)),
-        ("(1, ?I)", TextFault::SyntaxAt(5)),
-        ("(1, 9223372036854775808", TextFault::NumberRange),
-        ("(1, _) _", TextFault::SyntaxAt(7)),
-        (
-            "(0,_,_,_,_,_,_,_,_,_,_,_,_,_,_,_,_,",
-            TextFault::TooManyFields,
-        ),
-    ];
-    for (text, fault) in rows {
-        assert_eq!(rt;
-            read_template(rt.alloc(), text).err(),
-            Some(fault),
-            "{text}"
-        );
-    }
 }

@@ -1,16 +1,14 @@
-use Rattle.std.proofs.Common.{◌≡◌, ap, arith, subst}
-use Rattle.std.specs.Str.{IsUtf8}
-use Rattle.std.specs.String.{string_bytes}
-use Rattle.std.proofs.lemmas.Bool.{false≢true}
-use Rattle.std.proofs.lemmas.Str.{IsUtf8-string_bytes}
+use Rattle.std.proofs.Common.{◌≡◌, refl, ◌∙◌}
+use Rattle.std.specs.Prelude.{IsOk}
 use Rattle.linda_text.proofs.Contents.{is_string, is_no_text}
 use Rattle.linda_text.proofs.string.read_string.Goals as goal
 
-pub returns-in-Ok : goal.returns-in-Ok
-returns-in-Ok c =
-    let same : string_bytes c.in-Ok.string ≡ c.in_ok-content.content.items = ap (λ v. v.items) c.in-Ok.ensures.ok in
-    rw (c.new.ensures, same)
-    (is_string c.args.bytes.now c.in_ok-content.content.items c.in_ok-content.rest.now c.in_ok-content.ensures (omega (arith, c.if-len-gt-MAX_TEXT.false)) (subst IsUtf8 same (IsUtf8-string_bytes c.in-Ok.string)))
+pub returns-in_err-string-in-Ok-clause-memory : goal.returns-in_err-string-in-Ok-clause-memory
+returns-in_err-string-in-Ok-clause-memory c = λ _. rw (is_string c.args.bytes.now _ c.in_ok-count.rest.now c.in_ok-count.ensures.value c.in-Ok.ensures.cases.1) refl
 
-pub returns : goal.returns
-returns c = λ _. is_no_text c.args.bytes.now c.in_ok-content.content.items c.in_ok-content.rest.now c.in_ok-content.ensures (omega (arith, c.if-len-gt-MAX_TEXT.false)) (λ text. absurd (false≢true (c.in-Err.ensures.succeeds text)))
+pub returns-in_ok-string-in-Ok-clause-value : goal.returns-in_ok-string-in-Ok-clause-value
+returns-in_ok-string-in-Ok-clause-value c =
+    rw (c.new.ensures, c.in_ok-string-in-Ok.ensures.ok, c.in-Ok.ensures.cases.0) (is_string c.args.bytes.now _ c.in_ok-count.rest.now c.in_ok-count.ensures.value c.in-Ok.ensures.cases.1)
+
+pub returns-in-Err-clause-value : goal.returns-in-Err-clause-value
+returns-in-Err-clause-value c = λ _. is_no_text c.args.bytes.now _ c.in_ok-count.rest.now c.in_ok-count.ensures.value c.in-Err.ensures.cases.0

@@ -6,4 +6,4 @@ use Rattle.linda_text.proofs.written.push_fields.Given as goal
 
 -- What was written of the fields so far.
 abbrev pub invariant-loop-field : goal.invariant-loop-field
-invariant-loop-field l = string_bytes l.out ≡ string_bytes l.initial.out ++ flat_map written_field (take l.field-index l.fields)
+invariant-loop-field g l = string_bytes l.out ≡ string_bytes l.initial.out ++ flat_map (written_field g.F.Written.written) (take l.field-index l.fields)

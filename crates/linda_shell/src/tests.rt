@@ -1,0 +1,5 @@
+//! Texts and faults, worked by hand from the grammar.
+
+mod events;
+mod faults;
+mod nested;

@@ -1,0 +1,96 @@
+//! Writing events: each event has one text that is written.
+
+ghost use Rattle.std.specs.Prelude.{◌≡◌, [], ◌∷◌, ◌++◌, IfOk, OnOk};
+ghost use Rattle.std.specs.Fmt.{decimal};
+ghost use Rattle.std.specs.String.{string_bytes};
+ghost use Rattle.linda_event.specs.Trees.{tree_of};
+ghost use Rattle.linda_text.specs.Written.{IsWrittenBehind};
+ghost use Rattle.linda_shell.specs.Words.{keyword_text};
+ghost use Rattle.linda_shell.specs.Written.{written_event, written_comma};
+
+use crate::keyword::Keyword;
+use linda_event::Event;
+use linda_text::{push_atom, push_template};
+use std::alloc::{AllocError, Global};
+
+/// The text of the event, as `choose [in ("a", ?i), alarm 3]`.
+///
+/// # Errors
+///
+/// `AllocError` where memory runs out.
+pub fn write_event(alloc: Global, event: &Event) -> Result<String, AllocError>
+    ensures { IfOk result (λ s. string_bytes s ≡ written_event (tree_of event.now)) }
+{
+    let mut out = String::new(alloc);
+    push_event(&mut out, event)?;
+    Ok(out)
+}
+
+fn push_event(out: &mut String, event: &Event) -> Result<(), AllocError>
+    ensures { OnOk result (IsWrittenBehind out.old out.new (written_event (tree_of event.now))) }
+{
+    match event {
+        Event::Input(template) => {
+            push_keyword(out, Keyword::In)?;
+            push_template(out, template)
+        }
+        Event::Read(template) => {
+            push_keyword(out, Keyword::Rd)?;
+            push_template(out, template)
+        }
+        Event::Alarm(time) => {
+            push_keyword(out, Keyword::Alarm)?;
+            write!(out, "{time}")
+        }
+        Event::Always(value) => {
+            push_keyword(out, Keyword::Always)?;
+            push_atom(out, value)
+        }
+        Event::Never => out.push_str(Keyword::Never.text()),
+        Event::Choose(members) => {
+            push_keyword(out, Keyword::Choose)?;
+            out.push_str("[")?;
+            for (number, member) in members.iter().enumerate() {
+                push_comma(out, number == 0)?;
+                push_event(out, member)?;
+            }
+            out.push_str("]")
+        }
+        Event::Wrap(label, below) => {
+            push_keyword(out, Keyword::Wrap)?;
+            push_number(out, *label)?;
+            push_event(out, below)
+        }
+        Event::Nack(number, below) => {
+            push_keyword(out, Keyword::Nack)?;
+            push_number(out, *number)?;
+            push_event(out, below)
+        }
+    }
+}
+
+// A keyword and a blank.
+fn push_keyword(out: &mut String, keyword: Keyword) -> Result<(), AllocError>
+    ensures { OnOk result (IsWrittenBehind out.old out.new (keyword_text keyword ++ 32 ∷ [])) }
+{
+    out.push_str(keyword.text())?;
+    out.push_str(" ")
+}
+
+// A number and a blank.
+fn push_number(out: &mut String, number: u64) -> Result<(), AllocError>
+    ensures { OnOk result (IsWrittenBehind out.old out.new (decimal number ++ 32 ∷ [])) }
+{
+    write!(out, "{number}")?;
+    out.push_str(" ")
+}
+
+// What stands before a member of a choice.
+fn push_comma(out: &mut String, first: bool) -> Result<(), AllocError>
+    ensures { OnOk result (IsWrittenBehind out.old out.new (written_comma first)) }
+{
+    if first {
+        return Ok(());
+    }
+    out.push_str(", ")
+}

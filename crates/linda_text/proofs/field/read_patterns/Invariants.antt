@@ -1,9 +1,0 @@
-use Rattle.std.proofs.Common.{◌≡◌, ◌-◌}
-use Rattle.linda_tuple.specs.declared.limits.TheConstants.{MAX_FIELDS}
-use Rattle.linda_text.specs.Reading.{fields_at, pattern_at}
-use Rattle.linda_text.proofs.Loop.{with_front}
-use Rattle.linda_text.proofs.field.read_patterns.Given as goal
-
--- What was read so far and what is still read are what there is to read.
-abbrev pub invariant-loop : goal.invariant-loop
-invariant-loop l = with_front l.patterns.items (fields_at pattern_at (MAX_FIELDS - l.counter) l.rest) ≡ fields_at pattern_at MAX_FIELDS l.bytes
