@@ -1,5 +1,5 @@
 use Rattle.linda_bag.proofs.Bare.{set_bare}
-use Rattle.linda_bag.proofs.index.GroupShelf.is_empty.Goals as goal
+use Rattle.linda_bag.proofs.index.GroupShelfTuple.is_empty.Goals as goal
 
 pub returns : goal.returns
 returns c = λ rows known.

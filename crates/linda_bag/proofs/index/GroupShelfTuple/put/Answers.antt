@@ -2,7 +2,7 @@ use Rattle.std.proofs.Common.{Some, refl}
 use Rattle.linda_bag.specs.Candidates.{first_of}
 use Rattle.linda_bag.proofs.Noted.{noted_with, taken_back, still_there}
 use Rattle.linda_bag.proofs.Refiling.{refiled_as}
-use Rattle.linda_bag.proofs.index.GroupShelf.put.Goals as goal
+use Rattle.linda_bag.proofs.index.GroupShelfTuple.put.Goals as goal
 
 pub returns-in-Ok-clause-ok : goal.returns-in-Ok-clause-ok
 returns-in-Ok-clause-ok c = λ rows there known. (

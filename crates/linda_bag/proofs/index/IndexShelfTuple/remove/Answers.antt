@@ -2,7 +2,7 @@ use Rattle.std.proofs.Common.{refl}
 use Rattle.linda_bag.specs.Candidates.{tag_of}
 use Rattle.linda_bag.proofs.Placing.{tag_placed}
 use Rattle.linda_bag.proofs.Refiling.{refiled_as}
-use Rattle.linda_bag.proofs.index.IndexShelf.remove.Goals as goal
+use Rattle.linda_bag.proofs.index.IndexShelfTuple.remove.Goals as goal
 
 pub returns : goal.returns
 returns c =

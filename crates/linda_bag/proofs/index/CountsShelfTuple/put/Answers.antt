@@ -5,7 +5,7 @@ use Rattle.linda_bag.specs.Filing.{placed}
 use Rattle.linda_bag.specs.Candidates.{count_of}
 use Rattle.linda_bag.proofs.Placing.{count_placed}
 use Rattle.linda_bag.proofs.Refiling.{refiled_as}
-use Rattle.linda_bag.proofs.index.CountsShelf.put.Goals as goal
+use Rattle.linda_bag.proofs.index.CountsShelfTuple.put.Goals as goal
 
 pub returns-in_default-clause-ok : goal.returns-in_default-clause-ok
 returns-in_default-clause-ok c =

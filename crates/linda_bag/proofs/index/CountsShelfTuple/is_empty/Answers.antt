@@ -2,7 +2,7 @@ use Rattle.std.proofs.Common.{length}
 use Rattle.linda_tuple.specs.Tuple.{Tuple}
 use Rattle.linda_bag.proofs.Ordered.{number_itself}
 use Rattle.linda_bag.proofs.Bare.{map_bare}
-use Rattle.linda_bag.proofs.index.CountsShelf.is_empty.Goals as goal
+use Rattle.linda_bag.proofs.index.CountsShelfTuple.is_empty.Goals as goal
 
 pub returns : goal.returns
 returns c = λ rows filed.

@@ -2,7 +2,7 @@ use Rattle.std.proofs.Common.{refl}
 use Rattle.linda_bag.specs.Candidates.{count_of}
 use Rattle.linda_bag.proofs.Placing.{count_placed}
 use Rattle.linda_bag.proofs.Refiling.{refiled_as}
-use Rattle.linda_bag.proofs.index.CountsShelf.remove.Goals as goal
+use Rattle.linda_bag.proofs.index.CountsShelfTuple.remove.Goals as goal
 
 pub returns : goal.returns
 returns c =

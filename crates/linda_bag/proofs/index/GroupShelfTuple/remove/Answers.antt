@@ -3,7 +3,7 @@ use Rattle.linda_bag.specs.Candidates.{first_of}
 use Rattle.linda_bag.proofs.Noted.{noted_with}
 use Rattle.linda_bag.proofs.Placing.{first_placed}
 use Rattle.linda_bag.proofs.Refiling.{refiled_as}
-use Rattle.linda_bag.proofs.index.GroupShelf.remove.Goals as goal
+use Rattle.linda_bag.proofs.index.GroupShelfTuple.remove.Goals as goal
 
 pub returns-in-Some : goal.returns-in-Some
 returns-in-Some c = λ rows there known.

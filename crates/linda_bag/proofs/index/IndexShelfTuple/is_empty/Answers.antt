@@ -1,7 +1,7 @@
 use Rattle.linda_tuple.specs.Tuple.{Tuple}
 use Rattle.linda_bag.proofs.Ordered.{atom_itself}
 use Rattle.linda_bag.proofs.Bare.{map_bare}
-use Rattle.linda_bag.proofs.index.IndexShelf.is_empty.Goals as goal
+use Rattle.linda_bag.proofs.index.IndexShelfTuple.is_empty.Goals as goal
 
 pub returns : goal.returns
 returns c = λ rows filed.
