@@ -1,3 +1,5 @@
 pub mod Lists
 pub mod Linking
 pub mod Viewed
+pub mod Parts
+pub mod HeldParts

@@ -1,4 +1,5 @@
 pub mod Waits
 pub mod Holds
-pub mod Linked
+pub mod Named
+pub mod Held
 pub mod Codes

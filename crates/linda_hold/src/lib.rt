@@ -9,7 +9,9 @@
 #![tactic(auto)]
 
 mod asks;
+mod held;
 mod holding;
+mod names;
 mod waiting;
 
 pub use asks::Asked;
