@@ -1,5 +1,5 @@
 -- The holds of a client: the ids that are filed under it are those that contracts count.
-use Rattle.std.proofs.Common.{◌≡◌, ℕ, ◌==◌, cond, List, [], Option, None, Some, is_some, length, refl, sym, ap, ◌∙◌, nat_cmp, BTreeMap}
+use Rattle.std.proofs.Common.{◌≡◌, ℕ, ◌==◌, cond, [], Option, None, Some, is_some, refl, sym, ap, ◌∙◌, nat_cmp, BTreeMap}
 use Rattle.std.specs.BTreeSet.{BTreeSet}
 use Rattle.std.specs.BTreeSet as sets
 use Rattle.std.specs.BTreeMap as tree
@@ -10,7 +10,7 @@ use Rattle.linda_bag.specs.Filing.{HasIds, IsBare, row_at, placed, rows_at}
 use Rattle.linda_bag.proofs.Maps.{same_entries}
 use Rattle.linda_hold.specs.Holds.{HeldFor, held_in}
 use Rattle.linda_hold.specs.Named.{Requests, client_of}
-use Rattle.linda_hold.proofs.Parts.{part, found_some, found_none}
+use Rattle.linda_hold.proofs.Parts.{found_some, found_none}
 
 module _ (by_id : BTreeMap ℕ (ℕ × ℕ)) (ordered : tree.IsOrdered nat_cmp by_id) (holds : HeldFor) (view_is : map.from_entries by_id.entries ≡ holds) (client : ℕ) where
   abbrev pub own : Requests

@@ -1,5 +1,5 @@
 -- The part of a map that passes a test of its values: its keys are those of a set that has them.
-use Rattle.std.proofs.Common.{◌≡◌, ℕ, Bool, true, false, cond, ◌||◌, List, [], ◌∷◌, Option, None, Some, is_some, filter, refl, sym, ap, ◌∙◌, nat_cmp, Less, BTreeMap}
+use Rattle.std.proofs.Common.{◌≡◌, ℕ, Bool, true, false, cond, ◌||◌, List, [], ◌∷◌, is_some, filter, refl, sym, ap, ◌∙◌, nat_cmp, Less, BTreeMap}
 use Rattle.std.specs.BTreeSet.{BTreeSet}
 use Rattle.std.specs.BTreeSet as sets
 use Rattle.std.specs.BTreeMap as tree

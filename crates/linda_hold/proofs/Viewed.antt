@@ -1,5 +1,5 @@
 -- The holds as contracts see them, and the maps that keep them.
-use Rattle.std.proofs.Common.{◌≡◌, ℕ, Bool, Option, None, Some, BTreeMap, refl, sym, ap, ◌∙◌, nat_cmp}
+use Rattle.std.proofs.Common.{◌≡◌, ℕ, Option, None, Some, BTreeMap, refl, sym, ap, ◌∙◌, nat_cmp}
 use Rattle.std.specs.BTreeMap as tree
 use Rattle.std.specs.FinMap as map
 use Rattle.linda_bag.proofs.Maps.{get_is_lookup}

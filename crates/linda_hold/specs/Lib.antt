@@ -2,4 +2,6 @@ pub mod Waits
 pub mod Holds
 pub mod Named
 pub mod Held
+pub mod Heads
+pub mod Index
 pub mod Codes

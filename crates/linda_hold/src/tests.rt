@@ -69,22 +69,22 @@ fn see_longest(
     Ok(())
 }
 
-/// Sees which reads the tuple `(kind)` answers, in order.
-fn see_readers(
+/// Takes out the reads that the tuple `(kind)` answers, and sees which they are, in order.
+fn take_readers(
     rt: &impl Abort,
     alloc: Global,
-    waits: &Waits,
+    waits: &mut Waits,
     kind: i64,
     want: &[(u32, u64)],
 ) -> Result<(), Fail> {
     let tuple = tuple(alloc, kind)?;
-    let readers = waits.readers(alloc, &tuple)?;
+    let readers = waits.take_readers(alloc, &tuple)?;
     assert_eq!(rt; readers.as_slice(), want);
     Ok(())
 }
 
 /// Sees the five requests of `requests_wait_in_order_of_arrival`.
-fn see_five(rt: &impl Abort, alloc: Global, waits: &Waits) -> Result<(), Fail> {
+fn see_five(rt: &impl Abort, alloc: Global, waits: &mut Waits) -> Result<(), Fail> {
     assert_eq!(rt; waits.len(), 5);
     assert!(rt; waits.contains(3, 9));
     assert!(rt; !waits.contains(9, 3));
@@ -92,8 +92,8 @@ fn see_five(rt: &impl Abort, alloc: Global, waits: &Waits) -> Result<(), Fail> {
     assert_eq!(rt; waits.count_of(4), 0);
     see_longest(rt, alloc, waits, 7, Some((3, 9)))?;
     see_longest(rt, alloc, waits, 8, None)?;
-    see_readers(rt, alloc, waits, 7, [(2, 1), (1, 2)].as_slice())?;
-    see_readers(rt, alloc, waits, 8, [(2, 2)].as_slice())
+    take_readers(rt, alloc, waits, 7, [(2, 1), (1, 2)].as_slice())?;
+    take_readers(rt, alloc, waits, 8, [(2, 2)].as_slice())
 }
 
 #[test]
@@ -109,7 +109,7 @@ fn requests_wait_in_order_of_arrival(rt: HostRuntime) -> Result<(), Fail> {
         (1, 2, true, 8, false),
     ];
     add_rows(&rt, alloc, &mut waits, rows.as_slice())?;
-    see_five(&rt, alloc, &waits)
+    see_five(&rt, alloc, &mut waits)
 }
 
 /// Removes one request after another and sees who waits longest then.
@@ -140,8 +140,7 @@ fn removal_keeps_the_order_of_the_rest(rt: HostRuntime) -> Result<(), Fail> {
 
 /// Takes out the reads of `(7)`, and sees the two requests that are left.
 fn take_out_reads(rt: &impl Abort, alloc: Global, waits: &mut Waits) -> Result<(), Fail> {
-    let seven = tuple(alloc, 7)?;
-    waits.remove_readers(&seven);
+    take_readers(rt, alloc, waits, 7, [(1, 1), (2, 2)].as_slice())?;
     assert_eq!(rt; waits.len(), 2);
     assert!(rt; waits.contains(1, 2));
     assert!(rt; waits.contains(2, 1));

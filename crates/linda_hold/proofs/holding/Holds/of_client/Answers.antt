@@ -1,9 +1,6 @@
-use Rattle.std.proofs.Common.{nat_cmp, sym, ap, subst, ◌∙◌, Some, None}
+use Rattle.std.proofs.Common.{nat_cmp, ◌∙◌}
 use Rattle.std.specs.BTreeMap as tree
-use Rattle.std.specs.Option.{option_copied}
 use Rattle.std.proofs.lemmas.Result.{IfOk-weaker}
-use Rattle.linda_bag.specs.Filing.{HasIds, IsShelved, rows_at}
-use Rattle.linda_hold.specs.Named.{client_of}
 use Rattle.linda_hold.proofs.HeldParts.{own_ids, no_ids}
 use Rattle.linda_hold.proofs.holding.Holds.of_client.Goals as goal
 
