@@ -21,4 +21,5 @@ count_of w = Some (length w.1.template.fields)
 -- the waits for a tuple of this tag and of as many fields
 abbrev pub alike : Tuple → Waiting → Waiting
 alike row waiting =
-    rows_at nat_cmp count_of (length row.fields) (rows_at atom_ord.ghosts.cmp tag_of row.tag waiting)
+    rows_at nat_cmp count_of (length row.fields)
+    (rows_at atom_ord.ghosts.cmp tag_of row.tag waiting)

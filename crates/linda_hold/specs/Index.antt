@@ -1,4 +1,5 @@
--- How the requests that wait are found: by themselves, by their client, and by the head of what they ask for.
+-- How the requests that wait are found: by themselves, by their client, and by the head of what they
+-- ask for.
 use Rattle.std.specs.Prelude.{ℕ, List, [], ◌∷◌, Option, None, Some}
 use Rattle.std.specs.Option.{option_map}
 use Rattle.linda_hold.specs.declared.index.Index.{Index}
@@ -13,7 +14,8 @@ requests_of waiting k = option_map (λ w. w.0) (waiting k)
 
 -- The index has these waits: the requests by their names, and the numbers by what they ask for.
 abbrev pub HasWaits : Index → Waiting → Type 0
-HasWaits index waiting = HasNames index.names (requests_of waiting) × heads.ghosts.has index.heads waiting
+HasWaits index waiting =
+    HasNames index.names (requests_of waiting) × heads.ghosts.has index.heads waiting
 
 -- the wait, if there is one, before the others
 abbrev pub before : Option Wait → List Wait → List Wait

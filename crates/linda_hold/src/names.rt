@@ -59,7 +59,8 @@ impl Names {
         requires { tree.get pair_cmp self.old.by_request new ≡ None }
         ensures ok { OnOk result (Refiles (HasNames self.old) (HasNames self.new)
             number old (Some new)) }
-        ensures err { OnErr result (Refiles (HasNames self.old) (HasNames self.new) number old old) }
+        ensures err { OnErr result (Refiles (HasNames self.old) (HasNames self.new)
+            number old old) }
     {
         self.by_request.insert(new, number)?;
         let new_place = client_place(Some(&new));

@@ -73,8 +73,8 @@ impl Waits {
     ///
     /// # Errors
     ///
-    /// `AllocError` where memory runs out, or the numbers do, which takes 2^64 arrivals; and then the
-    /// waits are as before and what was asked is dropped.
+    /// `AllocError` where memory runs out, or the numbers do, which takes 2^64 arrivals while somebody
+    /// waits; and then the waits are as before and what was asked is dropped.
     pub fn add(&mut self, client: u32, ticket: u64, asked: Asked) -> Result<(), AllocError>
         requires { is_waiting (client, ticket) self.old ≡ false }
         ensures ok { OnOk result (self.new ≡ self.old ++ ((client, ticket), asked) ∷ []) }
