@@ -35,7 +35,7 @@ module _ (m : FinMap nat_cmp Tuple) (shape : Template) (passed : ℕ → Bool) (
   )
 
 -- A row is found under its own key.
-at_own : {K : Type 0} (cmp : K → K → Ordering) (key_of : Tuple → Option K) (rows : Rows) (id : ℕ) (row : Tuple) (key q : K) → rows id ≡ Some row → key_of row ≡ Some key → is_eq (cmp key q) ≡ true → rows_at cmp key_of q rows id ≡ Some row
+at_own : {K : Type 0} (cmp : K → K → Ordering) (key_of : Tuple → Option K) (rows : Rows Tuple) (id : ℕ) (row : Tuple) (key q : K) → rows id ≡ Some row → key_of row ≡ Some key → is_eq (cmp key q) ≡ true → rows_at cmp key_of q rows id ≡ Some row
 at_own cmp key_of rows id row key q there own tie =
     ap (λ o. row_at cmp q (placed key_of o)) there
     ∙ ap (λ k. row_at cmp q (keyed k row)) own
@@ -45,7 +45,7 @@ atom_tie : (a b : Atom) → a ≡ b → is_eq (atom_ord.ghosts.cmp b a) ≡ true
 atom_tie a b same = subst (λ x. is_eq (atom_ord.ghosts.cmp x a) ≡ true) same (atom_itself a)
 
 -- The value that the first pattern asks for is the first field of what the patterns fit.
-first_there : (fields : List Pattern) (rows : Rows) (id : ℕ) (row : Tuple) (atoms : List Atom) → atoms ≡ row.fields → AllZip Fits fields atoms → rows id ≡ Some row → with_first (first_value fields) rows id ≡ Some row
+first_there : (fields : List Pattern) (rows : Rows Tuple) (id : ℕ) (row : Tuple) (atoms : List Atom) → atoms ≡ row.fields → AllZip Fits fields atoms → rows id ≡ Some row → with_first (first_value fields) rows id ≡ Some row
 first_there [] rows id row atoms same fit there = there
 first_there (patterns.Value v ∷ rest) rows id row [] same fit there = absurd fit
 first_there (patterns.Value v ∷ rest) rows id row (atom ∷ atoms) same fit there =
@@ -55,7 +55,7 @@ first_there (patterns.TextFormal ∷ rest) rows id row atoms same fit there = th
 first_there (patterns.BoolFormal ∷ rest) rows id row atoms same fit there = there
 first_there (patterns.Any ∷ rest) rows id row atoms same fit there = there
 
-pub candidate_there : (shape : Template) (rows : Rows) (id : ℕ) (row : Tuple) → Matches shape row → rows id ≡ Some row → candidates shape rows id ≡ Some row
+pub candidate_there : (shape : Template) (rows : Rows Tuple) (id : ℕ) (row : Tuple) → Matches shape row → rows id ≡ Some row → candidates shape rows id ≡ Some row
 candidate_there shape rows id row match there =
     let tagged = at_own atom_ord.ghosts.cmp tag_of rows id row row.tag shape.tag there refl (atom_tie shape.tag row.tag match.tag) in
     let long = AllZip-long Fits shape.fields row.fields match.fields in
@@ -63,5 +63,5 @@ candidate_there shape rows id row match there =
     first_there shape.fields (rows_at nat_cmp count_of (length shape.fields) (rows_at atom_ord.ghosts.cmp tag_of shape.tag rows)) id row row.fields refl match.fields counted
 
 -- So where there is no candidate there is no match.
-pub no_candidate : (shape : Template) (rows : Rows) (id : ℕ) (row : Tuple) → IsBare (candidates shape rows) → Matches shape row → rows id ≡ Some row → ⊥
+pub no_candidate : (shape : Template) (rows : Rows Tuple) (id : ℕ) (row : Tuple) → IsBare (candidates shape rows) → Matches shape row → rows id ≡ Some row → ⊥
 no_candidate shape rows id row bare match there = true≢false (ap is_some (sym (candidate_there shape rows id row match there) ∙ bare id))

@@ -3,22 +3,21 @@ use Rattle.std.proofs.Common.{◌≡◌, ℕ, Bool, true, false, cond, Option, S
 use Rattle.std.specs.Ordering.{is_eq}
 use Rattle.std.specs.Map.{lookup}
 use Rattle.std.specs.BTreeMap as tree
-use Rattle.linda_tuple.specs.Tuple.{Tuple}
 use Rattle.linda_bag.specs.Filing.{Rows, with_row, Refiles}
 use Rattle.linda_bag.proofs.Refiling.{same_row, same_rows}
 use Rattle.linda_bag.proofs.Ordered.{number_itself}
 
-module _ (Old New : Rows → Type 0) (rows : Rows) (id : ℕ) where
+module _ {T : Type 0} (Old New : Rows T → Type 0) (rows : Rows T) (id : ℕ) where
   -- It has what it had.
-  pub as_before : (row : Option Tuple) → rows id ≡ row → Refiles Old New id row row → Old rows → New rows
+  pub as_before : (row : Option T) → rows id ≡ row → Refiles Old New id row row → Old rows → New rows
   as_before row there refiles has = subst New (same_rows rows id row there) (refiles rows there has)
 
   -- The tree has another row under the id, and so has the index.
-  pub as_after : (now : Rows) (before after : Option Tuple) → rows id ≡ before → ((q : ℕ) → now q ≡ cond (is_eq (nat_cmp id q)) after (rows q)) → Refiles Old New id before after → Old rows → New now
+  pub as_after : (now : Rows T) (before after : Option T) → rows id ≡ before → ((q : ℕ) → now q ≡ cond (is_eq (nat_cmp id q)) after (rows q)) → Refiles Old New id before after → Old rows → New now
   as_after now before after there changed refiles has = subst New (λ j. λ q. sym (changed q) j) (refiles rows there has)
 
   -- The index was given a row that the tree was not, and it was taken from the index again.
-  pub undone : (Mid : Rows → Type 0) (row other : Tuple) (before : Option Tuple) → rows id ≡ before → rows id ≡ None → other ≡ row → Refiles Old Mid id before (Some row) → Refiles Mid New id (Some other) None → Old rows → New rows
+  pub undone : (Mid : Rows T → Type 0) (row other : T) (before : Option T) → rows id ≡ before → rows id ≡ None → other ≡ row → Refiles Old Mid id before (Some row) → Refiles Mid New id (Some other) None → Old rows → New rows
   undone Mid row other before there none same put gone has =
       let mid = with_row rows id (Some row) in
       let here : mid id ≡ Some other = ap (λ b. cond b (Some row) (rows id)) (number_itself id) ∙ ap Some (sym same) in
@@ -32,5 +31,5 @@ module _ (Old New : Rows → Type 0) (rows : Rows) (id : ℕ) where
       back q = twice q (is_eq (nat_cmp id q)) ∙ same_row rows id None none q
 
 -- Trees with the same entries have the same rows.
-pub same_rows_as : (Has : Rows → Type 0) (old new : BTreeMap ℕ Tuple) → new.entries ≡ old.entries → Has (tree.get nat_cmp old) → Has (tree.get nat_cmp new)
+pub same_rows_as : {T : Type 0} (Has : Rows T → Type 0) (old new : BTreeMap ℕ T) → new.entries ≡ old.entries → Has (tree.get nat_cmp old) → Has (tree.get nat_cmp new)
 same_rows_as Has old new same = subst Has (λ j. λ q. lookup (tree.is_at (nat_cmp q)) (sym same j))

@@ -7,7 +7,6 @@ use Rattle.std.specs.Cmp.{IsTotalOrder, unsigned_tied, unsigned_Decides}
 use Rattle.std.specs.Bool.{Decides}
 use Rattle.std.proofs.lemmas.Bool.Decides.{Decides-at}
 use Rattle.std.specs.BTreeMap.{BTreeMap, UpdatesBy, get, get_by}
-use Rattle.linda_tuple.specs.Tuple.{Tuple}
 use Rattle.linda_bag.specs.Filing.{Rows, with_row, IsBare, Refiles, IsShelved, row_at, placed, rows_at, IsFiled, RefilesBy, RefilesAt}
 
 -- An order that answers "equal", and one that does not.
@@ -30,22 +29,22 @@ pub id_told : (x y : ℕ) → Decides (is_eq (nat_cmp x y)) (x ≡ y)
 id_told x y = Decides-at _ _ (unsigned_tied x y) (unsigned_Decides x y)
 
 -- A row that is there already may be written again.
-pub same_row : (rows : Rows) (id : ℕ) (row : Option Tuple) → rows id ≡ row → (q : ℕ) → with_row rows id row q ≡ rows q
+pub same_row : {T : Type 0} (rows : Rows T) (id : ℕ) (row : Option T) → rows id ≡ row → (q : ℕ) → with_row rows id row q ≡ rows q
 same_row rows id row there q =
     elim (is_eq (nat_cmp id q)) as (λ b. is_eq (nat_cmp id q) ≡ b → cond b row (rows q) ≡ rows q) [
       | true ↦ λ is. sym there ∙ ap rows ((id_told id q).0 is)
       | false ↦ λ is. refl
     ] refl
 
-pub same_rows : (rows : Rows) (id : ℕ) (row : Option Tuple) → rows id ≡ row → with_row rows id row ≡ rows
+pub same_rows : {T : Type 0} (rows : Rows T) (id : ℕ) (row : Option T) → rows id ≡ row → with_row rows id row ≡ rows
 same_rows rows id row there = λ j. λ q. same_row rows id row there q j
 
 -- So there are rows still.
-pub still_some : (rows : Rows) (id : ℕ) (row : Option Tuple) → rows id ≡ row → (IsBare rows → ⊥) → IsBare (with_row rows id row) → ⊥
+pub still_some : {T : Type 0} (rows : Rows T) (id : ℕ) (row : Option T) → rows id ≡ row → (IsBare rows → ⊥) → IsBare (with_row rows id row) → ⊥
 still_some rows id row there some bare = some (λ q. sym (same_row rows id row there q) ∙ bare q)
 
 -- The row of a place, under its key and under another.
-module _ {K : Type 0} (cmp : K → K → Ordering) (k : K) (row : Tuple) (q : K) where
+module _ {K T : Type 0} (cmp : K → K → Ordering) (k : K) (row : T) (q : K) where
   at_place : is_eq (cmp k q) ≡ true → row_at cmp q (Some (k, row)) ≡ Some row
   at_place tie = ap (λ b. cond b (Some row) None) tie
 
@@ -64,7 +63,7 @@ module _ {K : Type 0} {cmp : K → K → Ordering} (order : IsTotalOrder cmp) wh
   pub key_itself : (k : K) → is_eq (cmp k k) ≡ true
   key_itself k = itself (cmp k k) (order.antisymm k k)
 
-  tied_place : (i k : K) (row : Tuple) (q : K) → is_eq (cmp i k) ≡ true → row_at cmp q (Some (i, row)) ≡ row_at cmp q (Some (k, row))
+  tied_place : {T : Type 0} (i k : K) (row : T) (q : K) → is_eq (cmp i k) ≡ true → row_at cmp q (Some (i, row)) ≡ row_at cmp q (Some (k, row))
   tied_place i k row q tie = ap (λ (f : K → Ordering). cond (is_eq (f q)) (Some row) None) (one_key i k tie)
 
   -- Under keys that differ no third key is tied to both.
@@ -75,17 +74,17 @@ module _ {K : Type 0} {cmp : K → K → Ordering} (order : IsTotalOrder cmp) wh
         | false ↦ λ is. refl
       ] refl
 
-module _ {S : Type 0} (Has : S → Rows → Type 0) where
+module _ {S T : Type 0} (Has : S → Rows T → Type 0) where
   -- Where rows have this under the id already, a shelf has them with it written again.
-  again : (shelf : Option S) (rows : Rows) (id : ℕ) (row : Option Tuple) → rows id ≡ row → IsShelved Has shelf rows → IsShelved Has shelf (with_row rows id row)
+  again : (shelf : Option S) (rows : Rows T) (id : ℕ) (row : Option T) → rows id ≡ row → IsShelved Has shelf rows → IsShelved Has shelf (with_row rows id row)
   again shelf rows id row there = subst (IsShelved Has shelf) (sym (same_rows rows id row there))
 
   -- A shelf that has rows still is no empty one.
-  pub kept_shelf : (shelf new : S) (id : ℕ) (row : Option Tuple) → Refiles (Has shelf) (Has new) id row row → Refiles (IsShelved Has (Some shelf)) (IsShelved Has (Some new)) id row row
+  pub kept_shelf : (shelf new : S) (id : ℕ) (row : Option T) → Refiles (Has shelf) (Has new) id row row → Refiles (IsShelved Has (Some shelf)) (IsShelved Has (Some new)) id row row
   kept_shelf shelf new id row kept rows there known = (kept rows there known.0, still_some rows id row there known.1)
 
   -- A shelf was written through what a map lent of it.
-  pub written : {K : Type 0} (cmp : K → K → Ordering) (old new : BTreeMap K S) (k : K) (shelf shelf' : S) (id : ℕ) (b a : Option Tuple) → Some shelf ≡ get cmp old k → UpdatesBy cmp (cmp k) old new (Some shelf') → Refiles (IsShelved Has (Some shelf)) (IsShelved Has (Some shelf')) id b a → RefilesAt cmp Has old new k id b a
+  pub written : {K : Type 0} (cmp : K → K → Ordering) (old new : BTreeMap K S) (k : K) (shelf shelf' : S) (id : ℕ) (b a : Option T) → Some shelf ≡ get cmp old k → UpdatesBy cmp (cmp k) old new (Some shelf') → Refiles (IsShelved Has (Some shelf)) (IsShelved Has (Some shelf')) id b a → RefilesAt cmp Has old new k id b a
   written cmp old new k shelf shelf' id b a was updates refiles = record {
     here = subst (λ s. Refiles (IsShelved Has s) (IsShelved Has (get cmp new k)) id b a) was (subst (λ s. Refiles (IsShelved Has (Some shelf)) (IsShelved Has s) id b a) (sym updates.1) refiles);
     apart = updates.2;
@@ -95,17 +94,17 @@ module _ {S : Type 0} (Has : S → Rows → Type 0) where
   pub no_shelf : {K : Type 0} (cmp : K → K → Ordering) (m : BTreeMap K S) (id : ℕ) → RefilesBy cmp Has m m id None None
   no_shelf cmp m id parts there filed q = again (get cmp m q) (parts q) id None (there q) (filed q)
 
-module _ {K S : Type 0} {cmp : K → K → Ordering} (order : IsTotalOrder cmp) {Has : S → Rows → Type 0} where
+module _ {K S T : Type 0} {cmp : K → K → Ordering} (order : IsTotalOrder cmp) {Has : S → Rows T → Type 0} where
   -- The shelf that changed stands under each key that the order ties to its own; under the others stands what stood there.
-  at_key : {old new : BTreeMap K S} {k : K} {id : ℕ} {b a : Option Tuple} → RefilesAt cmp Has old new k id b a → (q : K) → is_eq (cmp k q) ≡ true → Refiles (IsShelved Has (get cmp old q)) (IsShelved Has (get cmp new q)) id b a
+  at_key : {old new : BTreeMap K S} {k : K} {id : ℕ} {b a : Option T} → RefilesAt cmp Has old new k id b a → (q : K) → is_eq (cmp k q) ≡ true → Refiles (IsShelved Has (get cmp old q)) (IsShelved Has (get cmp new q)) id b a
   at_key {old} {new} {k} {id} {b} {a} change q tie =
       subst (λ (f : K → Ordering). Refiles (IsShelved Has (get_by f old)) (IsShelved Has (get_by f new)) id b a) (one_key order k q tie) change.here
 
-  past_key : {old new : BTreeMap K S} {k : K} {id : ℕ} {b a : Option Tuple} → RefilesAt cmp Has old new k id b a → (q : K) → is_eq (cmp k q) ≡ false → (rows : Rows) → IsShelved Has (get cmp old q) rows → IsShelved Has (get cmp new q) rows
+  past_key : {old new : BTreeMap K S} {k : K} {id : ℕ} {b a : Option T} → RefilesAt cmp Has old new k id b a → (q : K) → is_eq (cmp k q) ≡ false → (rows : Rows T) → IsShelved Has (get cmp old q) rows → IsShelved Has (get cmp new q) rows
   past_key change q apart rows = subst (λ s. IsShelved Has s rows) (sym (change.apart q apart))
 
   -- One shelf changed: what it had under the id is `before`, what it has is `after`, and these say nothing of other keys.
-  one_shelf : {old new : BTreeMap K S} {k : K} {id : ℕ} {b a : Option Tuple} → RefilesAt cmp Has old new k id b a → (before after : Option (K × Tuple)) → ((q : K) → is_eq (cmp k q) ≡ true → (row_at cmp q before ≡ b) × (row_at cmp q after ≡ a)) → ((q : K) → is_eq (cmp k q) ≡ false → row_at cmp q after ≡ row_at cmp q before) → RefilesBy cmp Has old new id before after
+  one_shelf : {old new : BTreeMap K S} {k : K} {id : ℕ} {b a : Option T} → RefilesAt cmp Has old new k id b a → (before after : Option (K × T)) → ((q : K) → is_eq (cmp k q) ≡ true → (row_at cmp q before ≡ b) × (row_at cmp q after ≡ a)) → ((q : K) → is_eq (cmp k q) ≡ false → row_at cmp q after ≡ row_at cmp q before) → RefilesBy cmp Has old new id before after
   one_shelf {old} {new} {k} {id} {b} {a} change before after at apart parts there filed q =
       elim (is_eq (cmp k q)) as (λ t. is_eq (cmp k q) ≡ t → IsShelved Has (get cmp new q) (with_row (parts q) id (row_at cmp q after))) [
         | true ↦ λ tie.
@@ -116,20 +115,20 @@ module _ {K S : Type 0} {cmp : K → K → Ordering} (order : IsTotalOrder cmp) 
       ] refl
 
   -- The id was taken from a shelf; it was put on one, or was not, and was nowhere before.
-  pub taken : {old new : BTreeMap K S} {k : K} {id : ℕ} {row : Tuple} → RefilesAt cmp Has old new k id (Some row) None → RefilesBy cmp Has old new id (Some (k, row)) None
+  pub taken : {old new : BTreeMap K S} {k : K} {id : ℕ} {row : T} → RefilesAt cmp Has old new k id (Some row) None → RefilesBy cmp Has old new id (Some (k, row)) None
   taken {k = k} {row = row} change =
       one_shelf change (Some (k, row)) None (λ q tie. (at_place cmp k row q tie, refl)) (λ q off. sym (past_place cmp k row q off))
 
-  pub put_first : {old new : BTreeMap K S} {k : K} {id : ℕ} {row : Tuple} → RefilesAt cmp Has old new k id None (Some row) → RefilesBy cmp Has old new id None (Some (k, row))
+  pub put_first : {old new : BTreeMap K S} {k : K} {id : ℕ} {row : T} → RefilesAt cmp Has old new k id None (Some row) → RefilesBy cmp Has old new id None (Some (k, row))
   put_first {k = k} {row = row} change =
       one_shelf change None (Some (k, row)) (λ q tie. (refl, at_place cmp k row q tie)) (λ q off. past_place cmp k row q off)
 
   pub put_none : {old new : BTreeMap K S} {k : K} {id : ℕ} → RefilesAt cmp Has old new k id None None → RefilesBy cmp Has old new id None None
   put_none change = one_shelf change None None (λ q tie. (refl, refl)) (λ q off. refl)
 
-  module _ {old new : BTreeMap K S} (i k : K) {id : ℕ} (was : Tuple) where
+  module _ {old new : BTreeMap K S} (i k : K) {id : ℕ} (was : T) where
     -- The id was under a tied key, and was filed anew there, or was not.
-    pub put_again : (row : Tuple) → is_eq (cmp i k) ≡ true → RefilesAt cmp Has old new k id (Some was) (Some row) → RefilesBy cmp Has old new id (Some (i, was)) (Some (k, row))
+    pub put_again : (row : T) → is_eq (cmp i k) ≡ true → RefilesAt cmp Has old new k id (Some was) (Some row) → RefilesBy cmp Has old new id (Some (i, was)) (Some (k, row))
     put_again row same change =
         one_shelf change (Some (i, was)) (Some (k, row))
         (λ q tie. (tied_place order i k was q same ∙ at_place cmp k was q tie, at_place cmp k row q tie))
@@ -149,7 +148,7 @@ module _ {K S : Type 0} {cmp : K → K → Ordering} (order : IsTotalOrder cmp) 
         (λ q off. refl)
 
   -- Two shelves changed, under keys that differ: the id was put on one, and taken from the other.
-  pub moved : {old mid new : BTreeMap K S} (i k : K) {id : ℕ} (was row : Tuple) → is_eq (cmp i k) ≡ false → RefilesAt cmp Has old mid k id None (Some row) → RefilesAt cmp Has mid new i id (Some was) None → RefilesBy cmp Has old new id (Some (i, was)) (Some (k, row))
+  pub moved : {old mid new : BTreeMap K S} (i k : K) {id : ℕ} (was row : T) → is_eq (cmp i k) ≡ false → RefilesAt cmp Has old mid k id None (Some row) → RefilesAt cmp Has mid new i id (Some was) None → RefilesBy cmp Has old new id (Some (i, was)) (Some (k, row))
   moved {old} {mid} {new} i k {id} was row differ put gone parts there filed q =
       elim (is_eq (cmp k q)) as (λ t. is_eq (cmp k q) ≡ t → IsShelved Has (get cmp new q) (with_row (parts q) id (cond t (Some row) None))) [
         | true ↦ λ tie.
@@ -164,8 +163,8 @@ module _ {K S : Type 0} {cmp : K → K → Ordering} (order : IsTotalOrder cmp) 
       ] refl
 
 -- Where each row has the key that `key_of` gives it, the rows change as their places do.
-module _ {K S : Type 0} (cmp : K → K → Ordering) (Has : S → Rows → Type 0) (key_of : Tuple → Option K) (old new : BTreeMap K S) (id : ℕ) (before after : Option Tuple) where
-  abbrev at : K → Option Tuple → Option Tuple
+module _ {K S T : Type 0} (cmp : K → K → Ordering) (Has : S → Rows T → Type 0) (key_of : T → Option K) (old new : BTreeMap K S) (id : ℕ) (before after : Option T) where
+  abbrev at : K → Option T → Option T
   at k row = row_at cmp k (placed key_of row)
 
   pub refiled : RefilesBy cmp Has old new id (placed key_of before) (placed key_of after) → Refiles (IsFiled cmp Has key_of old) (IsFiled cmp Has key_of new) id before after
@@ -181,6 +180,6 @@ module _ {K S : Type 0} (cmp : K → K → Ordering) (Has : S → Rows → Type 
           ]
 
   -- So they do where another name of their places is given.
-  pub refiled_as : (b a : Option (K × Tuple)) → b ≡ placed key_of before → a ≡ placed key_of after → RefilesBy cmp Has old new id b a → Refiles (IsFiled cmp Has key_of old) (IsFiled cmp Has key_of new) id before after
+  pub refiled_as : (b a : Option (K × T)) → b ≡ placed key_of before → a ≡ placed key_of after → RefilesBy cmp Has old new id b a → Refiles (IsFiled cmp Has key_of old) (IsFiled cmp Has key_of new) id before after
   refiled_as b a was is change =
       refiled (subst (λ x. RefilesBy cmp Has old new id (placed key_of before) x) is (subst (λ x. RefilesBy cmp Has old new id x a) was change))

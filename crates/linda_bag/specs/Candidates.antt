@@ -33,14 +33,15 @@ first_value (patterns.BoolFormal ∷ rest) = None
 first_value (patterns.Any ∷ rest) = None
 
 -- those of the rows whose first field is the value, where there is one
-abbrev pub with_first : Option Atom → Rows → Rows
+abbrev pub with_first : Option Atom → Rows Tuple → Rows Tuple
 with_first None rows = rows
 with_first (Some v) rows = rows_at atom_ord.ghosts.cmp first_of v rows
 
--- those of the rows that have as many fields as there are patterns and, where the first is a value, that value first
-abbrev pub with_fields : List Pattern → Rows → Rows
+-- those of the rows that have as many fields as there are patterns and, where the first is a value,
+-- that value first
+abbrev pub with_fields : List Pattern → Rows Tuple → Rows Tuple
 with_fields fields rows = with_first (first_value fields) (rows_at nat_cmp count_of (length fields) rows)
 
 -- those of the rows that have the template's tag too
-abbrev pub candidates : Template → Rows → Rows
+abbrev pub candidates : Template → Rows Tuple → Rows Tuple
 candidates template rows = with_fields template.fields (rows_at atom_ord.ghosts.cmp tag_of template.tag rows)

@@ -1,6 +1,7 @@
 //! What a bag promises, however it keeps its tuples.
 
-ghost use Rattle.std.specs.Prelude.{◌≡◌, ◌≤◌, ◌<◌, ℕ, None, IfNone, IfSome, IsSome, OnOk, OnErr, option_copied};
+ghost use Rattle.std.specs.Prelude.{◌≡◌, ◌≤◌, ◌<◌, ℕ, None, IfNone, IfSome, IsSome, OnOk, OnErr};
+ghost use Rattle.std.specs.Prelude.{option_copied};
 ghost use Rattle.std.specs.Ordering.{nat_cmp};
 ghost use Rattle.std.specs.BTreeSet.{contains};
 ghost use Rattle.std.specs.FinMap as map;
@@ -42,9 +43,12 @@ pub trait Bag: Drop {
     /// The least id outside `passed` whose tuple the template matches; nothing only where there is
     /// none. Takes no memory.
     fn least_match(&self, template: &Template, passed: &BTreeSet<u64>) -> Option<u64>
-        ensures found { IfSome result (IsFreeMatch (contents self.now) template.now (contains nat_cmp passed.now)) }
-        ensures least { IfSome result (λ id. (k : ℕ) → k < id → IsFreeMatch (contents self.now) template.now (contains nat_cmp passed.now) k → ⊥) }
-        ensures none { IfNone result ((k : ℕ) → IsFreeMatch (contents self.now) template.now (contains nat_cmp passed.now) k → ⊥) };
+        ensures found { IfSome result
+            (IsFreeMatch (contents self.now) template.now (contains nat_cmp passed.now)) }
+        ensures least { IfSome result (λ id. (k : ℕ) → k < id
+            → IsFreeMatch (contents self.now) template.now (contains nat_cmp passed.now) k → ⊥) }
+        ensures none { IfNone result ((k : ℕ)
+            → IsFreeMatch (contents self.now) template.now (contains nat_cmp passed.now) k → ⊥) };
 
     /// How many tuples there are. Takes no memory.
     fn len(&self) -> usize
@@ -55,6 +59,7 @@ pub trait Bag: Drop {
     fn next_from(&self, id: u64) -> Option<u64>
         ensures found { IfSome result (λ next. IsSome (map.get (contents self.now) next)) }
         ensures above { IfSome result (λ next. id ≤ next) }
-        ensures least { IfSome result (λ next. (k : ℕ) → id ≤ k → k < next → map.get (contents self.now) k ≡ None) }
+        ensures least { IfSome result (λ next. (k : ℕ) → id ≤ k → k < next
+            → map.get (contents self.now) k ≡ None) }
         ensures none { IfNone result ((k : ℕ) → id ≤ k → map.get (contents self.now) k ≡ None) };
 }

@@ -1,6 +1,7 @@
 //! What every bag looks up in the tree that has its tuples by their ids.
 
-ghost use Rattle.std.specs.Prelude.{◌≡◌, ◌≤◌, ◌<◌, ◌↔◌, ℕ, false, None, IfNone, IfSome, IsSome, IsTrue};
+ghost use Rattle.std.specs.Prelude.{◌≡◌, ◌≤◌, ◌<◌, ◌↔◌, ℕ, false, None};
+ghost use Rattle.std.specs.Prelude.{IfNone, IfSome, IsSome, IsTrue};
 ghost use Rattle.std.specs.Ordering.{nat_cmp};
 ghost use Rattle.std.specs.BTreeSet.{contains};
 ghost use Rattle.std.specs.FinMap as map;
@@ -17,7 +18,8 @@ pub(crate) fn is_free_match(
     id: u64,
     tuple: &Tuple,
 ) -> bool
-    ensures { IsTrue result ↔ (Matches template.now tuple.now × (contains nat_cmp passed.now id ≡ false)) }
+    ensures { IsTrue result
+        ↔ (Matches template.now tuple.now × (contains nat_cmp passed.now id ≡ false)) }
 {
     matches(template, tuple) && !passed.contains(&id)
 }

@@ -1,20 +1,20 @@
-//! Ids that are filed under what their tuples have: what each part of an index promises, and how a
-//! part is made of shelves that stand under keys.
+//! Ids that are filed under what their rows have: what each part of an index promises, and how a
+//! part is made of shelves that stand under keys. A row may be of any type: in a bag it is a tuple.
 
 ghost use Rattle.std.specs.Prelude.{◌≡◌, ℕ, ◌↔◌, Option, None, Some, OnOk, OnErr, IfOk, IsTrue};
 ghost use Rattle.std.specs.Option.{option_copied, option_map, is_some};
 ghost use Rattle.std.specs.Ordering.{nat_cmp};
 ghost use Rattle.std.specs.BTreeSet.{contains};
-ghost use Rattle.linda_tuple.specs.Tuple.{Tuple};
-ghost use Rattle.linda_bag.specs.Filing.{Rows, no_rows, place, HasIds, IsBare, Refiles, RefilesBy, RefilesAt};
+ghost use Rattle.linda_bag.specs.Filing.{Rows, no_rows, place, HasIds, IsBare};
+ghost use Rattle.linda_bag.specs.Filing.{Refiles, RefilesBy, RefilesAt};
 
-use linda_tuple::{Atom, Tuple};
+use linda_tuple::Atom;
 use std::alloc::{AllocError, Global};
 use std::cmp::Ordering;
 use std::collections::{BTreeMap, BTreeSet};
 
 /// What ids may be filed under.
-pub(crate) trait Key: Ord + Drop {
+pub trait Key: Ord + Drop {
     /// A copy with memory of its own.
     fn copy(&self, alloc: Global) -> Result<Self, AllocError>
         ensures { IfOk result (λ key. key ≡ self.now) };
@@ -26,66 +26,72 @@ impl Key for Atom {
     }
 }
 
+impl Key for u32 {
+    fn copy(&self, _alloc: Global) -> Result<u32, AllocError> {
+        Ok(*self)
+    }
+}
+
 impl Key for usize {
     fn copy(&self, _alloc: Global) -> Result<usize, AllocError> {
         Ok(*self)
     }
 }
 
-/// A part of an index: ids of tuples.
-pub(crate) trait Shelf: Drop {
-    // the shelf has the ids of these tuples and no others, each filed by its tuple
-    ghost has: { Self → Rows → Type 0 };
+/// A part of an index: ids of rows.
+pub trait Shelf<T>: Drop {
+    // the shelf has the ids of these rows and no others, each filed by its row
+    ghost has: { Self → Rows T → Type 0 };
 
     /// A shelf without ids.
     fn empty(alloc: Global) -> Self
         ensures { has result no_rows };
 
-    /// Files the id by the tuple `new`, and no more by the tuple `old` that it was filed by before.
+    /// Files the id by the row `new`, and no more by the row `old` that it was filed by before.
     ///
     /// # Errors
     ///
     /// `AllocError` where memory runs out, and then each id is filed as before.
-    fn put(
+    fn put<'a>(
         &mut self,
         alloc: Global,
         id: u64,
-        old: Option<&Tuple>,
-        new: &Tuple,
+        old: Option<&'a T>,
+        new: &'a T,
     ) -> Result<(), AllocError>
         ensures ok { OnOk result (Refiles (has self.old) (has self.new)
             id (option_copied old.entry) (Some new.now)) }
         ensures err { OnErr result (Refiles (has self.old) (has self.new)
             id (option_copied old.entry) (option_copied old.entry)) };
 
-    /// Takes out the id, which is filed by the tuple. Takes no memory.
-    fn remove(&mut self, id: u64, tuple: &Tuple)
-        ensures { Refiles (has self.old) (has self.new) id (Some tuple.now) None };
+    /// Takes out the id, which is filed by the row. Takes no memory.
+    fn remove(&mut self, id: u64, row: &T)
+        ensures { Refiles (has self.old) (has self.new) id (Some row.now) None };
 
     /// Whether there is no id.
     fn is_empty(&self) -> bool
-        ensures { (rows : Rows) → has self.now rows → (IsTrue result ↔ IsBare rows) };
+        ensures { (rows : Rows T) → has self.now rows → (IsTrue result ↔ IsBare rows) };
 }
 
-impl Shelf for BTreeSet<u64> {
+impl<T> Shelf<T> for BTreeSet<u64> {
     ghost has = { HasIds };
 
     fn empty(alloc: Global) -> BTreeSet<u64> {
         BTreeSet::new(alloc)
     }
 
-    fn put(
+    fn put<'a>(
         &mut self,
         _alloc: Global,
         id: u64,
-        _old: Option<&Tuple>,
-        _new: &Tuple,
+        _old: Option<&'a T>,
+        _new: &'a T,
     ) -> Result<(), AllocError> {
         self.insert(id)?;
         Ok(())
     }
 
-    fn remove(&mut self, id: u64, _tuple: &Tuple) {
+    fn remove(&mut self, id: u64, _row: &T) {
         self.remove(&id);
     }
 
@@ -95,50 +101,50 @@ impl Shelf for BTreeSet<u64> {
 }
 
 /// Files the id under one key in place of another: by `old` it was filed before, by `new` it is filed
-/// now. Each is a key and the tuple that has it, or nothing where the tuple has no such key, or where
-/// there is no tuple.
+/// now. Each is a key and the row that has it, or nothing where the row has no such key, or where
+/// there is no row.
 ///
 /// # Errors
 ///
 /// `AllocError` where memory runs out, and then each id is filed as before.
-pub(crate) fn refile<K: Key, S: Shelf>(
+pub fn refile<'a, K: Key, T, S: Shelf<T>>(
     shelves: &mut BTreeMap<K, S>,
     alloc: Global,
     id: u64,
-    old: Option<(&K, &Tuple)>,
-    new: Option<(&K, &Tuple)>,
+    old: Option<(&'a K, &'a T)>,
+    new: Option<(&'a K, &'a T)>,
 ) -> Result<(), AllocError>
     ensures ok { OnOk result (RefilesBy K.cmp S.has shelves.old shelves.new
         id (place old.entry) (place new.entry)) }
     ensures err { OnErr result (RefilesBy K.cmp S.has shelves.old shelves.new
         id (place old.entry) (place old.entry)) }
 {
-    let Some((key, tuple)) = new else {
-        if let Some((old_key, old_tuple)) = old {
-            unfile(shelves, id, old_key, old_tuple);
+    let Some((key, row)) = new else {
+        if let Some((old_key, old_row)) = old {
+            unfile(shelves, id, old_key, old_row);
         }
         return Ok(());
     };
-    let Some((old_key, old_tuple)) = old else {
-        return file(shelves, alloc, id, key, None, tuple);
+    let Some((old_key, old_row)) = old else {
+        return file(shelves, alloc, id, key, None, row);
     };
     if let Ordering::Equal = old_key.cmp(key) {
-        return file(shelves, alloc, id, key, Some(old_tuple), tuple);
+        return file(shelves, alloc, id, key, Some(old_row), row);
     }
-    file(shelves, alloc, id, key, None, tuple)?;
-    take(shelves, id, old_key, old_tuple);
+    file(shelves, alloc, id, key, None, row)?;
+    take(shelves, id, old_key, old_row);
     Ok(())
 }
 
-/// Files the id by the tuple `new` under its key, where it was filed by `old`, if at all; on a new
+/// Files the id by the row `new` under its key, where it was filed by `old`, if at all; on a new
 /// shelf where none stands under the key.
-fn file<K: Key, S: Shelf>(
+fn file<'a, K: Key, T, S: Shelf<T>>(
     shelves: &mut BTreeMap<K, S>,
     alloc: Global,
     id: u64,
     key: &K,
-    old: Option<&Tuple>,
-    new: &Tuple,
+    old: Option<&'a T>,
+    new: &'a T,
 ) -> Result<(), AllocError>
     ensures ok { OnOk result (RefilesAt K.cmp S.has shelves.old shelves.new key.now
         id (option_copied old.entry) (Some new.now)) }
@@ -154,26 +160,21 @@ fn file<K: Key, S: Shelf>(
     Ok(())
 }
 
-/// Takes out the id, which is filed under the key of the tuple, and the shelf there with it where
+/// Takes out the id, which is filed under the key of the row, and the shelf there with it where
 /// that is empty then. Takes no memory.
-pub(crate) fn unfile<K: Key, S: Shelf>(
-    shelves: &mut BTreeMap<K, S>,
-    id: u64,
-    key: &K,
-    tuple: &Tuple,
-)
-    ensures { RefilesBy K.cmp S.has shelves.old shelves.new id (Some (key.now, tuple.now)) None }
+pub fn unfile<K: Key, T, S: Shelf<T>>(shelves: &mut BTreeMap<K, S>, id: u64, key: &K, row: &T)
+    ensures { RefilesBy K.cmp S.has shelves.old shelves.new id (Some (key.now, row.now)) None }
 {
-    take(shelves, id, key, tuple);
+    take(shelves, id, key, row);
 }
 
 // Takes the id from the shelf under the key, and that shelf away where it is empty then.
-fn take<K: Key, S: Shelf>(shelves: &mut BTreeMap<K, S>, id: u64, key: &K, tuple: &Tuple)
-    ensures { RefilesAt K.cmp S.has shelves.old shelves.new key.now id (Some tuple.now) None }
+fn take<K: Key, T, S: Shelf<T>>(shelves: &mut BTreeMap<K, S>, id: u64, key: &K, row: &T)
+    ensures { RefilesAt K.cmp S.has shelves.old shelves.new key.now id (Some row.now) None }
 {
     let mut is_bare = false;
     if let Some(shelf) = shelves.get_mut(key) {
-        shelf.remove(id, tuple);
+        shelf.remove(id, row);
         is_bare = shelf.is_empty();
     }
     if is_bare {

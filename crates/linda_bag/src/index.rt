@@ -5,7 +5,8 @@ ghost use Rattle.std.specs.Prelude.{◌≡◌, Some};
 ghost use Rattle.std.specs.Option.{option_copied};
 ghost use Rattle.std.specs.Ordering.{nat_cmp};
 ghost use Rattle.linda_bag.specs.Filing.{HasIds, Finds, IsShelved, IsFiled, place, placed};
-ghost use Rattle.linda_bag.specs.Candidates.{tag_of, count_of, first_of, first_value, with_first, with_fields, candidates};
+ghost use Rattle.linda_bag.specs.Candidates.{tag_of, count_of, first_of, first_value};
+ghost use Rattle.linda_bag.specs.Candidates.{with_first, with_fields, candidates};
 
 use crate::filing::{Shelf, refile, unfile};
 use linda_tuple::{Atom, Pattern, Template, Tuple};
@@ -37,15 +38,17 @@ impl Index {
     /// where its first pattern is a value, that value first; nothing where there are none. Takes no
     /// memory.
     pub(crate) fn candidates(&self, template: &Template) -> Option<&BTreeSet<u64>>
-        ensures { Finds (⟦<Index as Shelf>⟧.has self.now) (candidates template.now) (option_copied result) }
+        ensures { Finds (⟦<Index as Shelf<Tuple>>⟧.has self.now) (candidates template.now)
+            (option_copied result) }
     {
         let counts = self.tags.get(template.tag())?;
         counts.candidates(template.fields())
     }
 }
 
-impl Shelf for Index {
-    ghost has = { λ i rows. IsFiled (⟦<Atom as Ord>⟧.cmp) (⟦<Counts as Shelf>⟧.has) tag_of i.tags rows };
+impl Shelf<Tuple> for Index {
+    ghost has = { λ i rows. IsFiled (⟦<Atom as Ord>⟧.cmp) (⟦<Counts as Shelf<Tuple>>⟧.has)
+        tag_of i.tags rows };
 
     fn empty(alloc: Global) -> Index {
         Index {
@@ -53,12 +56,12 @@ impl Shelf for Index {
         }
     }
 
-    fn put(
+    fn put<'a>(
         &mut self,
         alloc: Global,
         id: u64,
-        old: Option<&Tuple>,
-        new: &Tuple,
+        old: Option<&'a Tuple>,
+        new: &'a Tuple,
     ) -> Result<(), AllocError> {
         refile(
             &mut self.tags,
@@ -82,15 +85,16 @@ impl Counts {
     /// Those of the ids whose tuples have as many fields as there are patterns and, where the first
     /// is a value, that value first.
     fn candidates(&self, patterns: &[Pattern]) -> Option<&BTreeSet<u64>>
-        ensures { Finds (⟦<Counts as Shelf>⟧.has self.now) (with_fields patterns.now) (option_copied result) }
+        ensures { Finds (⟦<Counts as Shelf<Tuple>>⟧.has self.now) (with_fields patterns.now)
+            (option_copied result) }
     {
         let group = self.groups.get(&patterns.len())?;
         group.candidates(first_value(patterns))
     }
 }
 
-impl Shelf for Counts {
-    ghost has = { λ c rows. IsFiled nat_cmp (⟦<Group as Shelf>⟧.has) count_of c.groups rows };
+impl Shelf<Tuple> for Counts {
+    ghost has = { λ c rows. IsFiled nat_cmp (⟦<Group as Shelf<Tuple>>⟧.has) count_of c.groups rows };
 
     fn empty(alloc: Global) -> Counts {
         Counts {
@@ -98,12 +102,12 @@ impl Shelf for Counts {
         }
     }
 
-    fn put(
+    fn put<'a>(
         &mut self,
         alloc: Global,
         id: u64,
-        old: Option<&Tuple>,
-        new: &Tuple,
+        old: Option<&'a Tuple>,
+        new: &'a Tuple,
     ) -> Result<(), AllocError> {
         let new_count = new.fields().len();
         let Some(old) = old else {
@@ -131,8 +135,8 @@ impl Shelf for Counts {
 impl Group {
     /// Those of the ids whose tuples have the value first, where there is one; else all.
     fn candidates(&self, first: Option<&Atom>) -> Option<&BTreeSet<u64>>
-        ensures { Finds (IsShelved (⟦<Group as Shelf>⟧.has) (Some self.now)) (with_first (option_copied first.entry))
-            (option_copied result) }
+        ensures { Finds (IsShelved (⟦<Group as Shelf<Tuple>>⟧.has) (Some self.now))
+            (with_first (option_copied first.entry)) (option_copied result) }
     {
         match first {
             Some(first) => self.by_first.get(first),
@@ -141,8 +145,9 @@ impl Group {
     }
 }
 
-impl Shelf for Group {
-    ghost has = { λ g rows. HasIds g.ids rows × IsFiled (⟦<Atom as Ord>⟧.cmp) HasIds first_of g.by_first rows };
+impl Shelf<Tuple> for Group {
+    ghost has = { λ g rows. HasIds g.ids rows
+        × IsFiled (⟦<Atom as Ord>⟧.cmp) HasIds first_of g.by_first rows };
 
     fn empty(alloc: Global) -> Group {
         Group {
@@ -151,12 +156,12 @@ impl Shelf for Group {
         }
     }
 
-    fn put(
+    fn put<'a>(
         &mut self,
         alloc: Global,
         id: u64,
-        old: Option<&Tuple>,
-        new: &Tuple,
+        old: Option<&'a Tuple>,
+        new: &'a Tuple,
     ) -> Result<(), AllocError> {
         let is_new = self.ids.insert(id)?;
         match refile(

@@ -39,7 +39,7 @@ impl Model for IndexBag {
 
     ghost view = { λ b. map.from_entries b.tuples.entries };
 
-    ghost invariant = { λ b. ⟦<Index as Shelf>⟧.has b.index (tree.get nat_cmp b.tuples) };
+    ghost invariant = { λ b. ⟦<Index as Shelf<Tuple>>⟧.has b.index (tree.get nat_cmp b.tuples) };
 }
 
 impl IndexBag {

@@ -7,7 +7,8 @@
 //!
 //! `specs/FreeMatch` says which tuples a template may be answered with; the answer is always the
 //! least id among them. `specs/Filing` and `specs/Candidates` say what an index has and what is found
-//! in it. `proofs/Maps` has what follows of finite maps, for the crates above as well.
+//! in it. `filing` is written for rows of any type, so that `linda_hold` files its requests by it;
+//! `proofs/Maps` has what follows of finite maps, for the crates above as well.
 #![tactic(auto)]
 
 mod bags;
@@ -18,6 +19,7 @@ mod index_bag;
 mod lists;
 
 pub use bags::Bag;
+pub use filing::{Key, Shelf, refile, unfile};
 pub use index_bag::IndexBag;
 pub use lists::ListBag;
 

@@ -8,7 +8,9 @@ use Rattle.linda_hold.specs.Waits.{Wait}
 
 -- the code of what is asked
 abbrev pub asked_code : Coded Asked
-asked_code = code_by (Bool × Template) (coded× coded_bool template_code) (λ a. (a.remove, a.template)) (λ p. record { remove = p.0; template = p.1 }) (λ _. refl)
+asked_code =
+    code_by (Bool × Template) (coded× coded_bool template_code) (λ a. (a.remove, a.template))
+    (λ p. record { remove = p.0; template = p.1 }) (λ _. refl)
 
 -- the code of a wait
 abbrev pub wait_code : Coded Wait

@@ -14,7 +14,8 @@ IsHeldAt holds pair None = (id : ℕ) → map.get holds id ≡ Some pair → ⊥
 
 -- No request holds two tuples.
 abbrev pub IsOneEach : HeldFor → Type 0
-IsOneEach holds = (i k : ℕ) (pair : ℕ × ℕ) → map.get holds i ≡ Some pair → map.get holds k ≡ Some pair → i ≡ k
+IsOneEach holds =
+    (i k : ℕ) (pair : ℕ × ℕ) → map.get holds i ≡ Some pair → map.get holds k ≡ Some pair → i ≡ k
 
 -- the ids that are held for a client, in the order of the entries
 abbrev pub held_in : ℕ → List (ℕ × (ℕ × ℕ)) → List ℕ

@@ -1,4 +1,7 @@
 pub mod Waits
 pub mod Holds
-pub mod Linked
+pub mod Named
+pub mod Held
+pub mod Heads
+pub mod Index
 pub mod Codes

@@ -1,4 +1,5 @@
--- Waits: the requests that no tuple has answered yet, in order of arrival, and what is picked from them.
+-- Waits: the requests that no tuple has answered yet, in order of arrival, and what is picked from
+-- them.
 use Rattle.std.specs.Prelude.{ℕ, ◌==◌, Bool, ◌&&◌, not, List, Option, filter, find}
 use Rattle.std.specs.List.{list_any, IsDistinct}
 use Rattle.std.specs.Map.{keys_of}

@@ -1,14 +1,13 @@
 //! The tuples that are held for requests.
 
-ghost use Rattle.std.specs.Prelude.{◌≡◌, ℕ, true, false, None, Some, IfOk, OnOk, OnErr, length};
+ghost use Rattle.std.specs.Prelude.{◌≡◌, ℕ, None, Some, IfOk, OnOk, OnErr, length};
 ghost use Rattle.std.specs.Option.{is_some};
 ghost use Rattle.std.specs.Ordering.{nat_cmp};
 ghost use Rattle.std.specs.FinMap as map;
-ghost use Rattle.std.specs.BTreeMap as tree;
 ghost use Rattle.std.specs.BTreeSet as set;
 ghost use Rattle.linda_hold.specs.Holds.{IsHeldAt, IsOneEach, held_in};
-ghost use Rattle.linda_hold.specs.Linked.{Sets};
 
+use crate::held::Held;
 use std::alloc::{AllocError, Global};
 use std::collections::{BTreeMap, BTreeSet};
 use std::marker::Model;
@@ -18,9 +17,9 @@ use std::marker::Model;
 /// an id.
 #[derive(Drop)]
 pub struct Holds {
+    alloc: Global,
     by_id: BTreeMap<u64, (u32, u64)>,
-    by_pair: BTreeMap<(u32, u64), u64>,
-    ids: BTreeSet<u64>,
+    held: Held,
 }
 
 impl Model for Holds {
@@ -29,8 +28,7 @@ impl Model for Holds {
     ghost use Rattle.std.specs.Ordering.{nat_cmp};
     ghost use Rattle.std.specs.FinMap as map;
     ghost use Rattle.std.specs.BTreeMap as tree;
-    ghost use Rattle.std.specs.BTreeSet as set;
-    ghost use Rattle.linda_hold.specs.Linked.{IsLinked, pair_cmp};
+    ghost use Rattle.linda_hold.specs.Held.{HasHeld};
 
     ghost Value = { map.FinMap nat_cmp (ℕ × ℕ) };
 
@@ -38,7 +36,8 @@ impl Model for Holds {
 
     ghost view = { λ h. map.from_entries h.by_id.entries };
 
-    ghost invariant = { λ h. IsLinked (tree.get nat_cmp h.by_id) (tree.get pair_cmp h.by_pair) (set.contains nat_cmp h.ids) };
+    ghost invariant = { λ h. tree.IsOrdered nat_cmp h.by_id
+        × HasHeld h.held (tree.get nat_cmp h.by_id) };
 }
 
 impl Holds {
@@ -47,9 +46,9 @@ impl Holds {
         ensures { result ≡ map.empty }
     {
         Holds {
+            alloc,
             by_id: BTreeMap::new(alloc),
-            by_pair: BTreeMap::new(alloc),
-            ids: BTreeSet::new(alloc),
+            held: Held::empty(alloc),
         }
     }
 
@@ -66,17 +65,17 @@ impl Holds {
         ensures value { IsHeldAt self.now (client, ticket) result }
         ensures one_each { IsOneEach self.now }
     {
-        self.by_pair.get(&(client, ticket)).copied()
+        self.held.names.number_of(client, ticket)
     }
 
     /// The ids of all tuples that are held.
     pub fn ids(&self) -> &BTreeSet<u64>
         ensures { (id : ℕ) → set.contains nat_cmp result.now id ≡ is_some (map.get self.now id) }
     {
-        &self.ids
+        &self.held.ids
     }
 
-    /// The ids that are held for the client, rising. It walks over all holds.
+    /// The ids that are held for the client, rising. It looks at the holds of this client alone.
     ///
     /// # Errors
     ///
@@ -84,15 +83,20 @@ impl Holds {
     pub fn of_client(&self, alloc: Global, client: u32) -> Result<Vec<u64>, AllocError>
         ensures { IfOk result (λ v. v.items ≡ held_in client (map.entries self.now)) }
     {
-        held_ids(alloc, &self.by_id, client)
+        match self.held.names.of_client(client) {
+            Some(ids) => copied(alloc, ids),
+            None => Ok(Vec::new(alloc)),
+        }
     }
 
-    /// How many tuples are held for the client. It walks over all holds and takes no memory.
+    /// How many tuples are held for the client. It walks over none of them, and takes no memory.
     pub fn count_of(&self, client: u32) -> usize
         ensures { result ≡ length (held_in client (map.entries self.now)) }
     {
-        let pairs = self.by_id.values();
-        pairs.filter(|pair| pair.0 == client).count()
+        match self.held.names.of_client(client) {
+            Some(ids) => ids.len(),
+            None => 0,
+        }
     }
 
     /// Lets the tuple be held for the client and the ticket. If it was held for others, it is theirs
@@ -106,39 +110,17 @@ impl Holds {
         ensures ok { OnOk result (self.new ≡ map.insert self.old id (client, ticket)) }
         ensures err { OnErr result (self.new ≡ self.old) }
     {
-        match self.get(id) {
-            None => self.insert_new(id, (client, ticket)),
-            Some(old) => self.hand_over(id, old, (client, ticket)),
-        }
-    }
-
-    fn insert_new(&mut self, id: u64, pair: (u32, u64)) -> Result<(), AllocError>
-        requires free { map.get self.old id ≡ None }
-        requires empty { IsHeldAt self.old pair None }
-        ensures ok { OnOk result (self.new ≡ map.insert self.old id pair) }
-        ensures err { OnErr result (self.new ≡ self.old) }
-    {
-        self.by_pair.insert(pair, id)?;
-        match insert_id(&mut self.ids, &mut self.by_id, id, pair) {
-            Ok(()) => Ok(()),
-            Err(error) => {
-                self.by_pair.remove(&pair);
-                Err(error)
+        let request = (client, ticket);
+        let old = self.by_id.get(&id).copied();
+        self.held.put(self.alloc, id, old, request)?;
+        match self.by_id.insert(id, request) {
+            Ok(_) => Ok(()),
+            Err(_) => {
+                // Only a new id can be refused: it was held for no other request.
+                self.held.remove(id, request);
+                Err(AllocError)
             }
         }
-    }
-
-    fn hand_over(&mut self, id: u64, old: (u32, u64), pair: (u32, u64)) -> Result<(), AllocError>
-        requires was { map.get self.old id ≡ Some old }
-        requires empty { IsHeldAt self.old pair None }
-        ensures ok { OnOk result (self.new ≡ map.insert self.old id pair) }
-        ensures err { OnErr result (self.new ≡ self.old) }
-    {
-        self.by_pair.insert(pair, id)?;
-        // The id is there, so this takes no memory and does not fail.
-        self.by_id.insert(id, pair)?;
-        self.by_pair.remove(&old);
-        Ok(())
     }
 
     /// Lets the tuple be held for the client and the ticket no more; where it is not held, nothing
@@ -146,50 +128,20 @@ impl Holds {
     pub fn remove(&mut self, id: u64)
         ensures { self.new ≡ map.remove self.old id }
     {
-        if let Some(held_for) = self.by_id.remove(&id) {
-            self.by_pair.remove(&held_for);
-            self.ids.remove(&id);
+        if let Some(request) = self.by_id.remove(&id) {
+            self.held.remove(id, request);
         }
     }
 }
 
-// Puts the id into the set, and the pair under it into the map; neither has it. Where memory runs out,
-// both are as before.
-fn insert_id(
-    ids: &mut BTreeSet<u64>,
-    by_id: &mut BTreeMap<u64, (u32, u64)>,
-    id: u64,
-    pair: (u32, u64),
-) -> Result<(), AllocError>
-    requires { set.contains nat_cmp ids.old id ≡ false }
-    ensures put { OnOk result (tree.Updates nat_cmp by_id.old by_id.new id (Some pair)) }
-    ensures noted { OnOk result (Sets (set.contains nat_cmp ids.old) (set.contains nat_cmp ids.new) id true) }
-    ensures err { OnErr result (tree.IsUnchanged by_id.old by_id.new) }
-    ensures ids_err { OnErr result ((q : ℕ) → set.contains nat_cmp ids.new q ≡ set.contains nat_cmp ids.old q) }
+// The numbers of the set, rising.
+fn copied(alloc: Global, numbers: &BTreeSet<u64>) -> Result<Vec<u64>, AllocError>
+    ensures keys { IfOk result (λ v. v.items ≡ numbers.now.keys) }
+    ensures ordered { set.IsOrdered nat_cmp numbers.now }
 {
-    ids.insert(id)?;
-    match by_id.insert(id, pair) {
-        Ok(_) => Ok(()),
-        Err(_) => {
-            ids.remove(&id);
-            Err(AllocError)
-        }
+    let mut found = Vec::new(alloc);
+    for number in numbers {
+        found.push(*number)?;
     }
-}
-
-fn held_ids(
-    alloc: Global,
-    by_id: &BTreeMap<u64, (u32, u64)>,
-    client: u32,
-) -> Result<Vec<u64>, AllocError>
-    ensures held { IfOk result (λ v. v.items ≡ held_in client by_id.now.entries) }
-    ensures ordered { tree.IsOrdered nat_cmp by_id.now }
-{
-    let mut held = Vec::new(alloc);
-    for (id, pair) in by_id {
-        if pair.0 == client {
-            held.push(*id)?;
-        }
-    }
-    Ok(held)
+    Ok(found)
 }

@@ -9,8 +9,13 @@
 #![tactic(auto)]
 
 mod asks;
+mod heads;
+mod held;
 mod holding;
+mod index;
+mod names;
 mod waiting;
+mod walks;
 
 pub use asks::Asked;
 pub use holding::Holds;

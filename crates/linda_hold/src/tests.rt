@@ -1,7 +1,7 @@
 //! Each public call once, in the orders that the server's rules ask for.
 
 use crate::{Asked, Holds, Waits};
-use linda_tuple::{Atom, Template, Tuple};
+use linda_tuple::{Atom, Pattern, Template, Tuple};
 use std::alloc::Global;
 use std::process::Abort;
 use std::test::Fail;
@@ -37,8 +37,8 @@ fn hold(holds: &mut Holds, id: u64, client: u32, ticket: u64) -> Result<bool, Fa
     }
 }
 
-/// Adds one request for `(kind)` after another: each row has the client, the ticket, whether it is an input, the kind, and
-/// whether it can be added.
+/// Adds one request for `(kind)` after another: each row has the client, the ticket, whether it is an
+/// input, the kind, and whether it can be added.
 fn add_rows(
     rt: &impl Abort,
     alloc: Global,
@@ -69,22 +69,22 @@ fn see_longest(
     Ok(())
 }
 
-/// Sees which reads the tuple `(kind)` answers, in order.
-fn see_readers(
+/// Takes out the reads that the tuple `(kind)` answers, and sees which they are, in order.
+fn take_readers(
     rt: &impl Abort,
     alloc: Global,
-    waits: &Waits,
+    waits: &mut Waits,
     kind: i64,
     want: &[(u32, u64)],
 ) -> Result<(), Fail> {
     let tuple = tuple(alloc, kind)?;
-    let readers = waits.readers(alloc, &tuple)?;
+    let readers = waits.take_readers(alloc, &tuple)?;
     assert_eq!(rt; readers.as_slice(), want);
     Ok(())
 }
 
 /// Sees the five requests of `requests_wait_in_order_of_arrival`.
-fn see_five(rt: &impl Abort, alloc: Global, waits: &Waits) -> Result<(), Fail> {
+fn see_five(rt: &impl Abort, alloc: Global, waits: &mut Waits) -> Result<(), Fail> {
     assert_eq!(rt; waits.len(), 5);
     assert!(rt; waits.contains(3, 9));
     assert!(rt; !waits.contains(9, 3));
@@ -92,8 +92,8 @@ fn see_five(rt: &impl Abort, alloc: Global, waits: &Waits) -> Result<(), Fail> {
     assert_eq!(rt; waits.count_of(4), 0);
     see_longest(rt, alloc, waits, 7, Some((3, 9)))?;
     see_longest(rt, alloc, waits, 8, None)?;
-    see_readers(rt, alloc, waits, 7, [(2, 1), (1, 2)].as_slice())?;
-    see_readers(rt, alloc, waits, 8, [(2, 2)].as_slice())
+    take_readers(rt, alloc, waits, 7, [(2, 1), (1, 2)].as_slice())?;
+    take_readers(rt, alloc, waits, 8, [(2, 2)].as_slice())
 }
 
 #[test]
@@ -109,7 +109,7 @@ fn requests_wait_in_order_of_arrival(rt: HostRuntime) -> Result<(), Fail> {
         (1, 2, true, 8, false),
     ];
     add_rows(&rt, alloc, &mut waits, rows.as_slice())?;
-    see_five(&rt, alloc, &waits)
+    see_five(&rt, alloc, &mut waits)
 }
 
 /// Removes one request after another and sees who waits longest then.
@@ -138,10 +138,51 @@ fn removal_keeps_the_order_of_the_rest(rt: HostRuntime) -> Result<(), Fail> {
     remove_in_turn(&rt, alloc, &mut waits)
 }
 
+/// A request for the tuple `(7, number)`, to take it.
+fn asked_for_two(alloc: Global, number: i64) -> Result<Asked, Fail> {
+    let mut fields = Vec::new(alloc);
+    fields.push(Pattern::Value(Atom::Int(number)))?;
+    let template = Template::new(Atom::Int(7), fields)?;
+    Ok(Asked {
+        remove: true,
+        template,
+    })
+}
+
+/// Sees who has waited longest for the tuple `(7, number)`, and that `(7)` finds nobody among them.
+fn see_longest_of_two(
+    rt: &impl Abort,
+    alloc: Global,
+    waits: &Waits,
+    number: i64,
+    want: Option<(u32, u64)>,
+) -> Result<(), Fail> {
+    let mut fields = Vec::new(alloc);
+    fields.push(Atom::Int(number))?;
+    let tuple = Tuple::new(Atom::Int(7), fields)?;
+    assert_eq!(rt; waits.longest(&tuple), want);
+    assert_eq!(rt; waits.is_awaited(&tuple), want.is_some());
+    see_longest(rt, alloc, waits, 7, None)
+}
+
+// Requests for tuples of one tag and of two numbers of fields; those of one come and go.
+#[test]
+fn a_tuple_is_for_requests_with_as_many_fields(rt: HostRuntime) -> Result<(), Fail> {
+    let alloc = rt.alloc();
+    let mut waits = Waits::new(alloc);
+    assert!(rt; wait(&mut waits, 1, 1, asked(alloc, true, 7)?)?);
+    waits.remove(1, 1);
+    see_longest_of_two(&rt, alloc, &waits, 5, None)?;
+    assert!(rt; wait(&mut waits, 2, 1, asked_for_two(alloc, 4)?)?);
+    assert!(rt; wait(&mut waits, 2, 2, asked_for_two(alloc, 5)?)?);
+    see_longest_of_two(&rt, alloc, &waits, 5, Some((2, 2)))?;
+    waits.remove_client(2);
+    see_longest_of_two(&rt, alloc, &waits, 5, None)
+}
+
 /// Takes out the reads of `(7)`, and sees the two requests that are left.
 fn take_out_reads(rt: &impl Abort, alloc: Global, waits: &mut Waits) -> Result<(), Fail> {
-    let seven = tuple(alloc, 7)?;
-    waits.remove_readers(&seven);
+    take_readers(rt, alloc, waits, 7, [(1, 1), (2, 2)].as_slice())?;
     assert_eq!(rt; waits.len(), 2);
     assert!(rt; waits.contains(1, 2));
     assert!(rt; waits.contains(2, 1));
@@ -162,7 +203,8 @@ fn a_tuple_takes_out_the_reads_that_it_answers(rt: HostRuntime) -> Result<(), Fa
     take_out_reads(&rt, alloc, &mut waits)
 }
 
-/// Lets tuples be held, one after another: each row has the id, the client, the ticket, and whether that can be.
+/// Lets tuples be held, one after another: each row has the id, the client, the ticket, and whether
+/// that can be.
 fn hold_rows(
     rt: &impl Abort,
     holds: &mut Holds,
@@ -220,6 +262,19 @@ fn see_handed_over(rt: &impl Abort, holds: &Holds) {
     assert_eq!(rt; holds.find(1, 1), None);
     assert_eq!(rt; holds.find(2, 4), Some(5));
     assert_eq!(rt; holds.ids().len(), 1);
+}
+
+// The greatest id there may be is a client's like any other; that of a neighbour is not.
+#[test]
+fn the_greatest_id_is_found_by_its_client(rt: HostRuntime) -> Result<(), Fail> {
+    let alloc = rt.alloc();
+    let mut holds = Holds::new(alloc);
+    let rows = [(u64::MAX, 4, 9, true), (0, 5, 9, true), (7, 4, 8, true)];
+    hold_rows(&rt, &mut holds, rows.as_slice())?;
+    let held = holds.of_client(alloc, 4)?;
+    assert_eq!(rt; held.as_slice(), [7, u64::MAX].as_slice());
+    assert_eq!(rt; holds.count_of(5), 1);
+    Ok(())
 }
 
 #[test]

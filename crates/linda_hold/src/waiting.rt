@@ -1,30 +1,45 @@
 //! The requests that wait for a tuple.
 
-ghost use Rattle.std.specs.Prelude.{◌≡◌, ◌==◌, ◌&&◌, ◌++◌, ◌∷◌, [], false, not, length, map, IfOk, OnOk, OnErr};
+ghost use Rattle.std.specs.Prelude.{◌≡◌, ◌<◌, ◌++◌, ◌∷◌, [], All, false, true, length, map};
+ghost use Rattle.std.specs.Prelude.{IfOk, OnOk, OnErr, IfSome, IfNone};
 ghost use Rattle.std.specs.Option.{option_map};
-ghost use Rattle.linda_tuple.specs.Testing.{is_match};
-ghost use Rattle.linda_hold.specs.Waits.{AreDistinct, is_awaited, is_waiting, longest, readers, same_pair, waits_of, without, without_client, without_readers};
+ghost use Rattle.std.specs.BTreeMap as tree;
+ghost use Rattle.linda_hold.specs.Waits.{AreDistinct, is_awaited, is_waiting, longest, readers};
+ghost use Rattle.linda_hold.specs.Waits.{waits_of, without, without_client, without_readers};
 
 use crate::asks::Asked;
-use indexmap::IndexMap;
-use linda_tuple::{Tuple, matches};
+use crate::heads::Wait;
+use crate::index::Index;
+use crate::walks::{first_input, is_answering_one, reads_among};
+use linda_tuple::Tuple;
 use std::alloc::{AllocError, Global};
+use std::collections::BTreeMap;
 use std::marker::Model;
 
 /// The requests that no tuple has answered yet, in order of arrival. Each is named by its client and
 /// its ticket, and no two have the same name.
+///
+/// Each has a number, greater than those of all that came before it and wait still.
 #[derive(Drop)]
 pub struct Waits {
-    asks: IndexMap<(u32, u64), Asked>,
+    alloc: Global,
+    by_arrival: BTreeMap<u64, Wait>,
+    index: Index,
 }
 
 impl Model for Waits {
     ghost use Rattle.std.specs.Prelude.{List};
-    ghost use Rattle.linda_hold.specs.Waits.{Wait};
+    ghost use Rattle.std.specs.Ordering.{nat_cmp};
+    ghost use Rattle.std.specs.BTreeMap as tree;
+    ghost use Rattle.linda_hold.specs.Waits as seen;
+    ghost use Rattle.linda_hold.specs.Index.{HasWaits};
 
-    ghost Value = { List Wait };
+    ghost Value = { List seen.Wait };
 
-    ghost view = { λ w. w.asks.entries };
+    ghost view = { λ w. tree.values w.by_arrival };
+
+    ghost invariant = { λ w. tree.IsOrdered nat_cmp w.by_arrival
+        × HasWaits w.index (tree.get nat_cmp w.by_arrival) };
 }
 
 impl Waits {
@@ -33,7 +48,9 @@ impl Waits {
         ensures { result ≡ [] }
     {
         Waits {
-            asks: IndexMap::new(alloc),
+            alloc,
+            by_arrival: BTreeMap::new(alloc),
+            index: Index::empty(alloc),
         }
     }
 
@@ -42,112 +59,144 @@ impl Waits {
         ensures count { result ≡ length self.now }
         ensures distinct { AreDistinct self.now }
     {
-        self.asks.len()
+        self.by_arrival.len()
     }
 
-    /// Whether the client waits with the ticket.
+    /// Whether the client waits with the ticket. Takes no memory.
     pub fn contains(&self, client: u32, ticket: u64) -> bool
         ensures { result ≡ is_waiting (client, ticket) self.now }
     {
-        self.asks.contains_key(&(client, ticket))
+        self.index.names.number_of(client, ticket).is_some()
     }
 
     /// Lets the client wait with the ticket, last in order.
     ///
     /// # Errors
     ///
-    /// `AllocError` where memory runs out, and then the waits are as before and what was asked is
-    /// dropped.
+    /// `AllocError` where memory runs out, or the numbers do, which takes 2^64 arrivals while somebody
+    /// waits; and then the waits are as before and what was asked is dropped.
     pub fn add(&mut self, client: u32, ticket: u64, asked: Asked) -> Result<(), AllocError>
         requires { is_waiting (client, ticket) self.old ≡ false }
         ensures ok { OnOk result (self.new ≡ self.old ++ ((client, ticket), asked) ∷ []) }
         ensures err { OnErr result (self.new ≡ self.old) }
     {
-        self.asks.insert((client, ticket), asked)?;
-        Ok(())
+        let number = next_number(&self.by_arrival)?;
+        let wait = ((client, ticket), asked);
+        self.index.put(self.alloc, number, &wait)?;
+        match self.by_arrival.insert(number, wait) {
+            Ok(_) => Ok(()),
+            Err(refused) => {
+                self.index.remove(number, &refused.value.1);
+                Err(AllocError)
+            }
+        }
     }
 
     /// Takes out the wait of the client with the ticket; where there is none, nothing changes. The
-    /// others keep their order.
+    /// others keep their order. Takes no memory, and walks over nobody's waits.
     pub fn remove(&mut self, client: u32, ticket: u64)
         ensures { self.new ≡ without (client, ticket) self.old }
     {
-        let name = (client, ticket);
-        self.asks.retain(
-            |pair: &(u32, u64), asked: &mut Asked| -> bool
-                ensures { (result ≡ not (same_pair name pair.now)) × (asked.new ≡ asked.old) }
-            { *pair != name },
-        );
+        if let Some(number) = self.index.names.number_of(client, ticket) {
+            if let Some(wait) = self.by_arrival.remove(&number) {
+                self.index.remove(number, &wait);
+            }
+        }
     }
 
-    /// Takes out all waits of the client. The others keep their order.
+    /// Takes out all waits of the client. The others keep their order. Takes no memory, and walks
+    /// over the client's own waits alone.
     pub fn remove_client(&mut self, client: u32)
         ensures { self.new ≡ without_client client self.old }
     {
-        self.asks.retain(
-            |pair: &(u32, u64), asked: &mut Asked| -> bool
-                ensures { (result ≡ not (client == pair.now.0)) × (asked.new ≡ asked.old) }
-            { pair.0 != client },
-        );
-    }
-
-    /// Takes out the reads that the tuple answers. The others keep their order.
-    pub fn remove_readers(&mut self, tuple: &Tuple)
-        ensures { self.new ≡ without_readers tuple.now self.old }
-    {
-        self.asks.retain(
-            |_pair: &(u32, u64), asked: &mut Asked| -> bool
-                ensures { (result ≡ not (not asked.old.remove && is_match asked.old.template tuple.entry.now)) × (asked.new ≡ asked.old) }
-            { !asked.is_read_of(tuple) },
-        );
-    }
-
-    /// Whether some request waits that the tuple answers. Takes no memory.
-    pub fn is_awaited(&self, tuple: &Tuple) -> bool
-        ensures { result ≡ is_awaited tuple.now self.now }
-    {
-        for (_, asked) in &self.asks {
-            if matches(&asked.template, tuple) {
-                return true;
-            }
+        while let Some(ticket) = self.first_ticket(client) {
+            self.remove(client, ticket);
         }
-        false
     }
 
-    /// The client and the ticket of the input that has waited longest of those that the tuple
-    /// answers. Takes no memory.
-    pub fn longest(&self, tuple: &Tuple) -> Option<(u32, u64)>
-        ensures { result ≡ option_map (λ w. w.0) (longest tuple.now self.now) }
+    // The ticket of some request of the client that waits; nothing where none does.
+    fn first_ticket(&self, client: u32) -> Option<u64>
+        ensures waits { IfSome result (λ ticket. is_waiting (client, ticket) self.now ≡ true) }
+        ensures none { IfNone result (waits_of client self.now ≡ []) }
     {
-        for (pair, asked) in &self.asks {
-            if asked.is_input_of(tuple) {
-                return Some(*pair);
-            }
-        }
-        None
+        let number = self.index.names.of_client(client)?.first()?;
+        let wait = self.by_arrival.get(number)?;
+        Some(wait.0.1)
     }
 
-    /// The client and the ticket of each read that the tuple answers, in order of arrival.
+    /// Takes out the reads that the tuple answers, and gives the client and the ticket of each, in
+    /// order of arrival. The others keep their order.
     ///
     /// # Errors
     ///
-    /// `AllocError` where memory runs out.
-    pub fn readers(&self, alloc: Global, tuple: &Tuple) -> Result<Vec<(u32, u64)>, AllocError>
-        ensures { IfOk result (λ v. v.items ≡ map (λ w. w.0) (readers tuple.now self.now)) }
+    /// `AllocError` where memory runs out, and then the waits are as before.
+    pub fn take_readers(
+        &mut self,
+        alloc: Global,
+        tuple: &Tuple,
+    ) -> Result<Vec<(u32, u64)>, AllocError>
+        ensures found { IfOk result (λ v. v.items ≡ map (λ w. w.0) (readers tuple.now self.old)) }
+        ensures left { OnOk result (self.new ≡ without_readers tuple.now self.old) }
+        ensures err { OnErr result (self.new ≡ self.old) }
     {
-        let mut found = Vec::new(alloc);
-        for (pair, asked) in &self.asks {
-            if asked.is_read_of(tuple) {
-                found.push(*pair)?;
-            }
+        let found = self.readers(alloc, tuple)?;
+        for (client, ticket) in &found {
+            self.remove(*client, *ticket);
         }
         Ok(found)
     }
 
-    /// How many requests of the client wait. It walks over all waits.
+    // The client and the ticket of each read that the tuple answers, in order of arrival.
+    fn readers(&self, alloc: Global, tuple: &Tuple) -> Result<Vec<(u32, u64)>, AllocError>
+        ensures found { IfOk result (λ v. v.items ≡ map (λ w. w.0) (readers tuple.now self.now)) }
+        ensures distinct { AreDistinct self.now }
+    {
+        match self.index.heads.alike(tuple) {
+            Some(numbers) => reads_among(alloc, &self.by_arrival, numbers, tuple),
+            None => Ok(Vec::new(alloc)),
+        }
+    }
+
+    /// Whether some request waits that the tuple answers. It looks at those alone that ask for its
+    /// tag and its number of fields, and takes no memory.
+    pub fn is_awaited(&self, tuple: &Tuple) -> bool
+        ensures { result ≡ is_awaited tuple.now self.now }
+    {
+        match self.index.heads.alike(tuple) {
+            Some(numbers) => is_answering_one(&self.by_arrival, numbers, tuple),
+            None => false,
+        }
+    }
+
+    /// The client and the ticket of the input that has waited longest of those that the tuple
+    /// answers. It looks at those alone that ask for its tag and its number of fields, and takes no
+    /// memory.
+    pub fn longest(&self, tuple: &Tuple) -> Option<(u32, u64)>
+        ensures { result ≡ option_map (λ w. w.0) (longest tuple.now self.now) }
+    {
+        match self.index.heads.alike(tuple) {
+            Some(numbers) => first_input(&self.by_arrival, numbers, tuple),
+            None => None,
+        }
+    }
+
+    /// How many requests of the client wait. It walks over none of them, and takes no memory.
     pub fn count_of(&self, client: u32) -> usize
         ensures { result ≡ length (waits_of client self.now) }
     {
-        self.asks.keys().filter(|pair| pair.0 == client).count()
+        match self.index.names.of_client(client) {
+            Some(numbers) => numbers.len(),
+            None => 0,
+        }
+    }
+}
+
+// The number of the next to arrive, which is greater than all that are there.
+fn next_number(by_arrival: &BTreeMap<u64, Wait>) -> Result<u64, AllocError>
+    ensures { IfOk result (λ k. All (λ q. q < k) (tree.keys by_arrival.now)) }
+{
+    match by_arrival.last_key_value() {
+        Some((last, _)) => last.checked_add(1).ok_or(AllocError),
+        None => Ok(0),
     }
 }

@@ -82,9 +82,8 @@ impl Soft {
         ensures soft { OnOk result (self.new ≡ (dispatch id tuple.now self.old).soft) }
     {
         let longest = self.waits.longest(tuple);
-        let readers = self.waits.readers(alloc, tuple)?;
+        let readers = self.waits.take_readers(alloc, tuple)?;
         answer_reads(alloc, readers, id, tuple, sends)?;
-        self.waits.remove_readers(tuple);
         if let Some((client, ticket)) = longest {
             let tuple = tuple.try_clone(alloc)?;
             sends.push((client, Reply::Offer { ticket, id, tuple }))?;

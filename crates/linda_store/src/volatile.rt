@@ -8,7 +8,7 @@ ghost use Rattle.linda_store.specs.Node.{in_hand};
 
 use crate::node::{Node, NodeFault};
 use crate::work::Work;
-use linda_bag::ListBag;
+use linda_bag::IndexBag;
 use linda_disk::Torn;
 use linda_hold::Holds;
 use linda_state::{Deed, State};
@@ -22,9 +22,9 @@ use std::snapshot::Snapshot;
 /// to a stop too.
 #[derive(Drop)]
 pub struct Volatile {
-    store: Store<ListBag>,
+    store: Store<IndexBag>,
     // The state before the last call, which contracts alone see.
-    before: Snapshot<State<ListBag>>,
+    before: Snapshot<State<IndexBag>>,
 }
 
 impl Volatile {
@@ -39,7 +39,7 @@ impl Volatile {
     }
 
     /// What the server keeps, in its ranges. Takes no memory.
-    pub fn state(&self) -> &State<ListBag>
+    pub fn state(&self) -> &State<IndexBag>
         ensures state { (⟦<Volatile as Node>⟧.shown self.now).is_down ≡ false
             → result.now ≡ (⟦<Volatile as Node>⟧.shown self.now).state }
         ensures ranges { IsState result.now }
@@ -144,7 +144,7 @@ impl Node for Volatile {
 }
 
 // Does all of the work.
-fn do_work(alloc: Global, store: &mut Store<ListBag>, work: Work) -> Result<Steps, AllocError>
+fn do_work(alloc: Global, store: &mut Store<IndexBag>, work: Work) -> Result<Steps, AllocError>
     ensures ok { IfOk result (λ s. Happens store.old.state store.old.soft (in_hand work)
         (record { deeds = s.deeds.items; sends = s.sends.items; soft = store.new.soft; state = store.new.state })) }
     ensures unspent { OnOk result (store.new.is_spent ≡ false) }

@@ -1,6 +1,7 @@
 //! Asks, cancels and closes, row by row of the server's table, with values worked by hand.
 
 use super::script::{Script, run};
+use linda_bag::{Bag, IndexBag, ListBag};
 use std::alloc::Global;
 use std::process::Abort;
 use std::test::Fail;
@@ -59,7 +60,12 @@ fn a_read_gets_the_least_and_an_input_the_least_that_is_free(rt: HostRuntime) ->
 /// Plays lines over a store with the tuples 3 and 4, in which client 8 has 64 open asks: the tickets 1 to 63 wait for a
 /// tuple 5, the even ones to read it, and ticket 64 was offered the tuple 3.
 fn at_64_asks(rt: &impl Abort, alloc: Global, lines: &str) -> Result<(), Fail> {
-    let mut script = Script::with_tuples(alloc, &[3, 4])?;
+    play_at_64_asks::<ListBag>(rt, alloc, lines)?;
+    play_at_64_asks::<IndexBag>(rt, alloc, lines)
+}
+
+fn play_at_64_asks<B: Bag>(rt: &impl Abort, alloc: Global, lines: &str) -> Result<(), Fail> {
+    let mut script = Script::<B>::with_tuples(alloc, &[3, 4])?;
     script.asks(64)?;
     script.play(rt, "8 in 64 any\n> 8 offer 64 1 3")?;
     script.play(rt, lines)
@@ -173,7 +179,12 @@ fn a_ticket_of_another_client_is_not_given_up(rt: HostRuntime) -> Result<(), Fai
 /// Plays lines over a store with the tuples 3, 4 and 5. Client 7 holds all three, asked for in another order, and
 /// waits for the tuple 6 and for any. Then client 8 waits for the tuple 5, client 9 for any, and client 8 for any.
 fn before_a_close(rt: &impl Abort, alloc: Global, lines: &str) -> Result<(), Fail> {
-    let mut script = Script::with_tuples(alloc, &[3, 4, 5])?;
+    play_before_a_close::<ListBag>(rt, alloc, lines)?;
+    play_before_a_close::<IndexBag>(rt, alloc, lines)
+}
+
+fn play_before_a_close<B: Bag>(rt: &impl Abort, alloc: Global, lines: &str) -> Result<(), Fail> {
+    let mut script = Script::<B>::with_tuples(alloc, &[3, 4, 5])?;
     let before = "
         7 in 10 5
         > 7 offer 10 3 5

@@ -6,13 +6,19 @@ ghost use Rattle.std.specs.Prelude.{◌<◌, ◌≤◌};
 use super::script::{Script, tuple_a};
 use super::state::{SPENT, state_of_one};
 use crate::store::Store;
+use linda_bag::ListBag;
 use linda_book::KeptReply;
 use std::alloc::Global;
 use std::process::Abort;
 use std::test::Fail;
 
 /// The last number of client 7 is this, with this reply; this is the next id.
-fn script_of_one(alloc: Global, n: u64, reply: KeptReply, next: u64) -> Result<Script, Fail>
+fn script_of_one(
+    alloc: Global,
+    n: u64,
+    reply: KeptReply,
+    next: u64,
+) -> Result<Script<ListBag>, Fail>
     requires number { (1 ≤ n) × (n < NUMBER_LIMIT) }
     requires next { (1 ≤ next) × (next ≤ NUMBER_LIMIT) }
 {

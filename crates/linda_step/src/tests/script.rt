@@ -9,7 +9,7 @@
 
 use crate::step::Step;
 use crate::store::Store;
-use linda_bag::{Bag, ListBag};
+use linda_bag::{Bag, IndexBag, ListBag};
 use linda_state::{Deed, State};
 use linda_tuple::{Atom, Pattern, Template, Text, Tuple};
 use linda_wire::{Message, Reply};
@@ -41,7 +41,7 @@ pub(crate) fn number_of(tuple: &Tuple) -> Option<i64> {
 }
 
 /// The number of the tuple under this id.
-pub(crate) fn number_at(state: &State<ListBag>, id: u64) -> Option<i64> {
+pub(crate) fn number_at<B: Bag>(state: &State<B>, id: u64) -> Option<i64> {
     match state.bag.get(id) {
         Some(tuple) => number_of(tuple),
         None => None,
@@ -226,23 +226,25 @@ fn step_lines(alloc: Global, step: &Step) -> Result<Vec<String>, Fail> {
     Ok(lines)
 }
 
-/// Plays these lines over a store in which client 7 has put tuples of these fields as its messages 1, 2, ..
+/// Plays these lines over a store in which client 7 has put tuples of these fields as its messages 1, 2, ..: over one with
+/// the plain bag, and over one with the index.
 pub(crate) fn run(rt: &impl Abort, alloc: Global, fields: &[i64], lines: &str) -> Result<(), Fail> {
-    Script::with_tuples(alloc, fields)?.play(rt, lines)
+    Script::<ListBag>::with_tuples(alloc, fields)?.play(rt, lines)?;
+    Script::<IndexBag>::with_tuples(alloc, fields)?.play(rt, lines)
 }
 
 /// A store under test, and what came of the last thing that was said, of which so much was heard.
 #[derive(Drop)]
-pub(crate) struct Script {
+pub(crate) struct Script<B: Bag> {
     alloc: Global,
-    store: Store<ListBag>,
+    store: Store<B>,
     came: Vec<String>,
     heard: usize,
 }
 
-impl Script {
+impl<B: Bag> Script<B> {
     /// With this store.
-    pub(crate) fn with(alloc: Global, store: Store<ListBag>) -> Script {
+    pub(crate) fn with(alloc: Global, store: Store<B>) -> Script<B> {
         Script {
             alloc,
             store,
@@ -252,7 +254,7 @@ impl Script {
     }
 
     /// With a store in which client 7 has put tuples of these fields as its messages 1, 2, ..
-    pub(crate) fn with_tuples(alloc: Global, fields: &[i64]) -> Result<Script, Fail> {
+    pub(crate) fn with_tuples(alloc: Global, fields: &[i64]) -> Result<Script<B>, Fail> {
         let mut script = Script::with(alloc, Store::new(alloc));
         let mut n: u64 = 0;
         for field in fields {

@@ -1,7 +1,7 @@
 use Rattle.std.proofs.Common.{sym, ap, ◌∙◌, nat_cmp}
 use Rattle.std.specs.BTreeMap as tree
 use Rattle.std.specs.FinMap as map
-use Rattle.linda_bag.specs.contracts.index.IndexShelf.TheImpl as index
+use Rattle.linda_bag.specs.contracts.index.IndexShelfTuple.TheImpl as index
 use Rattle.linda_bag.proofs.Maps.{one_set}
 use Rattle.linda_bag.proofs.Kept.{as_before, as_after, undone, same_rows_as}
 use Rattle.linda_bag.proofs.index_bag.IndexBagBag.insert.Goals as goal

@@ -1,7 +1,7 @@
 use Rattle.std.proofs.Common.{sym, ap, ◌∙◌, nat_cmp}
 use Rattle.std.specs.BTreeMap as tree
 use Rattle.std.specs.FinMap as map
-use Rattle.linda_bag.specs.contracts.index.IndexShelf.TheImpl as index
+use Rattle.linda_bag.specs.contracts.index.IndexShelfTuple.TheImpl as index
 use Rattle.linda_bag.proofs.Maps.{one_gone}
 use Rattle.linda_bag.proofs.Viewed.{viewed}
 use Rattle.linda_bag.proofs.Kept.{as_after}

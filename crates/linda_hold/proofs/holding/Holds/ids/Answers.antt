@@ -4,4 +4,4 @@ use Rattle.linda_hold.proofs.Viewed.{viewed}
 use Rattle.linda_hold.proofs.holding.Holds.ids.Goals as goal
 
 pub returns : goal.returns
-returns c id = c.self.invariant.held id ∙ sym (ap is_some (viewed c.self.inside.by_id c.args.self.now c.self.view_is id))
+returns c id = c.self.invariant.1.0 id ∙ sym (ap is_some (viewed c.self.inside.by_id c.args.self.now c.self.view_is id))

@@ -1,12 +1,17 @@
-use Rattle.std.proofs.Common.{◌≡◌, sym, ap, subst, ◌∙◌, IfOk}
-use Rattle.std.specs.FinMap as map
-use Rattle.linda_bag.proofs.Maps.{same_entries}
-use Rattle.linda_hold.specs.Holds.{held_in}
+use Rattle.std.proofs.Common.{nat_cmp, ◌∙◌}
+use Rattle.std.specs.BTreeMap as tree
+use Rattle.std.proofs.lemmas.Result.{IfOk-weaker}
+use Rattle.linda_hold.proofs.HeldParts.{own_ids, no_ids}
 use Rattle.linda_hold.proofs.holding.Holds.of_client.Goals as goal
 
-pub returns : goal.returns
-returns c =
-    subst
-    (λ es. IfOk c.held_ids.result (λ v. v.items ≡ held_in c.args.client es))
-    (sym (same_entries c.self.inside.by_id c.held_ids.ensures.ordered) ∙ ap map.entries c.self.view_is)
-    c.held_ids.ensures.held
+pub returns-in-Some : goal.returns-in-Some
+returns-in-Some c =
+    let found = c.in-Some.ensures (tree.get nat_cmp c.self.inside.by_id) c.self.invariant.1.1 in
+    IfOk-weaker c.copied.result _ _
+    (λ v same. same ∙ own_ids c.self.inside.by_id c.self.invariant.0 c.args.self.now c.self.view_is c.args.client _ c.copied.ensures.ordered found.0)
+    c.copied.ensures.keys
+
+pub returns-in-None : goal.returns-in-None
+returns-in-None c =
+    let found = c.in-None.ensures (tree.get nat_cmp c.self.inside.by_id) c.self.invariant.1.1 in
+    c.new.ensures.items ∙ no_ids c.self.inside.by_id c.self.invariant.0 c.args.self.now c.self.view_is c.args.client found

@@ -1,10 +1,12 @@
 use Rattle.std.proofs.Common.{ap, ◌∙◌}
-use Rattle.linda_hold.specs.Waits.{same_pair, is_waiting}
-use Rattle.linda_hold.proofs.Lists.{lookup_any}
+use Rattle.std.specs.Option.{is_some}
+use Rattle.linda_hold.specs.Waits.{is_waiting}
+use Rattle.linda_hold.proofs.Entries.{waits_where_found}
 use Rattle.linda_hold.proofs.waiting.Waits.contains.Goals as goal
 
 pub returns : goal.returns
 returns c =
-    c.contains_key.ensures
-    ∙ lookup_any (same_pair (c.args.client, c.args.ticket)) c.self.inside.asks.entries
+    c.is_some.ensures
+    ∙ ap is_some c.number_of.ensures
+    ∙ waits_where_found c.self.inside.by_arrival c.self.invariant.0 c.self.invariant.1.0.0 (c.args.client, c.args.ticket)
     ∙ ap (is_waiting (c.args.client, c.args.ticket)) c.self.view_is

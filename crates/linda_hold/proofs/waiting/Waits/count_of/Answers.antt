@@ -1,15 +1,19 @@
-use Rattle.std.proofs.Common.{rules, ◌==◌, length, ap, ◌∙◌}
-use Rattle.std.specs.Map.{keys_of}
-use Rattle.std.proofs.lemmas.Iterator.Consumers.{YieldsList-from_rest, YieldsList-from_filter, count_from_yields_List}
+use Rattle.std.proofs.Common.{length, nat_cmp, ap, ◌∙◌}
+use Rattle.std.specs.BTreeMap as tree
 use Rattle.linda_hold.specs.Waits.{waits_of}
-use Rattle.linda_hold.proofs.Lists.{count_mapped}
+use Rattle.linda_hold.specs.Index.{requests_of}
+use Rattle.linda_hold.proofs.WaitParts.{own_count, own_none}
 use Rattle.linda_hold.proofs.waiting.Waits.count_of.Goals as goal
 
-pub returns : goal.returns
-returns c =
-    let waits = c.self.inside.asks.entries in
-    let keys = YieldsList-from_rest (keys_of waits) (c.filter.ensures.source ∙ c.keys.ensures.rest) in
-    let found = YieldsList-from_filter _ (λ pair. c.args.client == pair.0) keys c.filter.ensures.closure (λ x b q told. search rules) in
-    count_from_yields_List c.filter.result _ c.count.ensures.ran found
-    ∙ count_mapped (λ pair. c.args.client == pair.0) (λ w. w.0) waits
-    ∙ ap (λ all. length (waits_of c.args.client all)) c.self.view_is
+pub returns-in-Some : goal.returns-in-Some
+returns-in-Some c =
+    let found = c.in-Some.ensures (requests_of (tree.get nat_cmp c.self.inside.by_arrival)) c.self.invariant.1.0 in
+    c.len.ensures.len
+    ∙ own_count c.self.inside.by_arrival c.self.invariant.0 c.args.client _ c.len.ensures.ordered found.0
+    ∙ ap (λ waits. length (waits_of c.args.client waits)) c.self.view_is
+
+pub returns-in-None : goal.returns-in-None
+returns-in-None c =
+    let found = c.in-None.ensures (requests_of (tree.get nat_cmp c.self.inside.by_arrival)) c.self.invariant.1.0 in
+    ap length (own_none c.self.inside.by_arrival c.self.invariant.0 c.args.client found)
+    ∙ ap (λ waits. length (waits_of c.args.client waits)) c.self.view_is

@@ -1,7 +1,18 @@
-use Rattle.std.proofs.Common.{rules, ap, ◌∙◌}
-use Rattle.indexmap.proofs.CallerLemmas.{filter-RetainsPairs}
-use Rattle.linda_hold.specs.Waits.{without_client}
+use Rattle.std.proofs.Common.{◌==◌, ◌<◌, length, sym, ap, subst, ◌∙◌}
+use Rattle.linda_hold.specs.Waits.{same_pair, without_client}
+use Rattle.linda_hold.proofs.Lists.{all_left, fewer, others_stay}
 use Rattle.linda_hold.proofs.waiting.Waits.remove_client.Goals as goal
 
+pub loop-ticket-smaller : goal.loop-ticket-smaller
+loop-ticket-smaller c =
+    subst (λ waits. length waits < length c.loop-ticket.self) (sym c.remove.ensures)
+    (fewer (λ w. same_pair (c.args.client, c.in-Some.ticket) w.0) c.loop-ticket.self c.in-Some.ensures.waits)
+
+pub loop-ticket-preserved : goal.loop-ticket-preserved
+loop-ticket-preserved c =
+    ap (without_client c.args.client) c.remove.ensures
+    ∙ others_stay c.args.client c.in-Some.ticket c.loop-ticket.self
+    ∙ c.loop-ticket.invariant
+
 pub returns : goal.returns
-returns c = filter-RetainsPairs _ _ _ (λ k v b w g call. search rules) _ _ c.retain.ensures.filtered ∙ ap (without_client c.args.client) c.self.view_is
+returns c = sym (all_left (λ w. c.args.client == w.0.0) c.loop-ticket.self c.in_default.ensures.none) ∙ c.loop-ticket.invariant

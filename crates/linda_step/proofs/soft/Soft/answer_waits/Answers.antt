@@ -24,7 +24,7 @@ returns-in_ok-insert-clause-sends c =
     (c.in_ok-push.ensures.items
     ∙ ap (λ row. c.answer_reads.new.sends.items ++ offer_for c.args.id row (c.in-Some.client, c.in-Some.ticket) ∷ []) c.in_ok-tuple.ensures
     ∙ ap (λ sends. sends ++ offer_for c.args.id c.args.tuple.now (c.in-Some.client, c.in-Some.ticket) ∷ [])
-    (c.in_ok-answer_reads.ensures ∙ ap (λ pairs. c.args.sends.now.items ++ map (read_for c.args.id c.args.tuple.now) pairs) c.in_ok-readers.ensures)
+    (c.in_ok-answer_reads.ensures ∙ ap (λ pairs. c.args.sends.now.items ++ map (read_for c.args.id c.args.tuple.now) pairs) c.in_ok-readers.ensures.found)
     ∙ append_assoc c.args.sends.now.items (map (read_for c.args.id c.args.tuple.now) (map (λ w. w.0) (readers c.args.tuple.now soft.waits))) (offer_for c.args.id c.args.tuple.now (c.in-Some.client, c.in-Some.ticket) ∷ [])
     ∙ ap (λ t. c.args.sends.now.items ++ t.sends) (sym told))
 
@@ -37,5 +37,5 @@ returns-in_default-clause-sends c =
     (λ s. c.answer_reads.new.sends.items ≡ c.args.sends.now.items ++ (dispatch c.args.id c.args.tuple.now s).sends)
     c.self.view_is
     (c.in_ok-answer_reads.ensures
-    ∙ ap (λ pairs. c.args.sends.now.items ++ map (read_for c.args.id c.args.tuple.now) pairs) c.in_ok-readers.ensures
+    ∙ ap (λ pairs. c.args.sends.now.items ++ map (read_for c.args.id c.args.tuple.now) pairs) c.in_ok-readers.ensures.found
     ∙ ap (λ t. c.args.sends.now.items ++ t.sends) (sym told))

@@ -1,0 +1,28 @@
+-- How the requests that wait are found: by themselves, by their client, and by the head of what they
+-- ask for.
+use Rattle.std.specs.Prelude.{ℕ, List, [], ◌∷◌, Option, None, Some}
+use Rattle.std.specs.Option.{option_map}
+use Rattle.linda_hold.specs.declared.index.Index.{Index}
+use Rattle.linda_hold.specs.contracts.heads.HeadsShelfWait.TheImpl as heads
+use Rattle.linda_hold.specs.Named.{Requests, HasNames}
+use Rattle.linda_hold.specs.Waits.{Wait}
+use Rattle.linda_hold.specs.Heads.{Waiting}
+
+-- the request of the wait under each number
+abbrev pub requests_of : Waiting → Requests
+requests_of waiting k = option_map (λ w. w.0) (waiting k)
+
+-- The index has these waits: the requests by their names, and the numbers by what they ask for.
+abbrev pub HasWaits : Index → Waiting → Type 0
+HasWaits index waiting =
+    HasNames index.names (requests_of waiting) × heads.ghosts.has index.heads waiting
+
+-- the wait, if there is one, before the others
+abbrev pub before : Option Wait → List Wait → List Wait
+before None waits = waits
+before (Some w) waits = w ∷ waits
+
+-- the waits under these numbers, in their order
+abbrev pub waits_at : Waiting → List ℕ → List Wait
+waits_at waiting [] = []
+waits_at waiting (k ∷ ks) = before (waiting k) (waits_at waiting ks)

@@ -1,0 +1,61 @@
+//! How requests that wait are found: by themselves, by their client, and by what they ask for.
+
+ghost use Rattle.std.specs.Prelude.{◌≡◌, None, Some, OnOk, OnErr};
+ghost use Rattle.std.specs.BTreeMap as tree;
+ghost use Rattle.linda_bag.specs.Filing.{no_rows, Refiles};
+ghost use Rattle.linda_hold.specs.Named.{pair_cmp};
+ghost use Rattle.linda_hold.specs.Index.{HasWaits};
+
+use crate::heads::{Heads, Wait};
+use crate::names::Names;
+use linda_bag::Shelf;
+use std::alloc::{AllocError, Global};
+
+/// The numbers of requests that wait.
+#[derive(Drop)]
+pub(crate) struct Index {
+    pub(crate) names: Names,
+    pub(crate) heads: Heads,
+}
+
+impl Index {
+    /// No requests. Takes no memory until one is put in.
+    pub(crate) fn empty(alloc: Global) -> Index
+        ensures { HasWaits result no_rows }
+    {
+        Index {
+            names: Names::empty(alloc),
+            heads: Heads::empty(alloc),
+        }
+    }
+
+    /// Gives the number, which no wait has, to this one.
+    ///
+    /// # Errors
+    ///
+    /// `AllocError` where memory runs out, and then each wait is found as before.
+    pub(crate) fn put(&mut self, alloc: Global, number: u64, wait: &Wait) -> Result<(), AllocError>
+        requires { tree.get pair_cmp self.old.names.by_request wait.now.0 ≡ None }
+        ensures ok { OnOk result (Refiles (HasWaits self.old) (HasWaits self.new)
+            number None (Some wait.now)) }
+        ensures err { OnErr result (Refiles (HasWaits self.old) (HasWaits self.new)
+            number None None) }
+    {
+        self.names.put(alloc, number, None, wait.0)?;
+        match self.heads.put(alloc, number, None, wait) {
+            Ok(()) => Ok(()),
+            Err(error) => {
+                self.names.remove(number, wait.0);
+                Err(error)
+            }
+        }
+    }
+
+    /// Takes the number from the wait, which has it. Takes no memory.
+    pub(crate) fn remove(&mut self, number: u64, wait: &Wait)
+        ensures { Refiles (HasWaits self.old) (HasWaits self.new) number (Some wait.now) None }
+    {
+        self.names.remove(number, wait.0);
+        self.heads.remove(number, wait);
+    }
+}
