@@ -3,7 +3,7 @@ use Rattle.std.proofs.Common.{◌≡◌, ◌≢◌, ℕ, ◌+◌, ◌<◌, ◌�
 use Rattle.std.proofs.lemmas.Bool.{cond-true, cases_lt, cases_eq}
 use Rattle.std.specs.FinMap.{FinMap, get, insert, remove, len}
 use Rattle.linda_wire.specs.declared.limits.TheConstants.{MAX_CLIENTS}
-use Rattle.linda_state.specs.declared.state.TheConstants.{NUMBER_LIMIT}
+use Rattle.linda_wire.specs.declared.limits.TheConstants.{NUMBER_LIMIT}
 use Rattle.linda_tuple.specs.Tuple.{Tuple}
 use Rattle.linda_bag.proofs.Maps.{get_inserted, get_same, get_other, get_removed, get_removed_same, get_removed_other, len_new, len_old}
 use Rattle.linda_state.specs.declared.deed.Deed.{Deed}

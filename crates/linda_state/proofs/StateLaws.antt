@@ -2,7 +2,7 @@
 use Rattle.std.proofs.Common.{◌<◌, ◌≤◌, IfSome, sym, subst, nat_cmp, arith}
 use Rattle.std.specs.FinMap.{len-empty}
 use Rattle.linda_wire.specs.declared.limits.TheConstants.{MAX_CLIENTS}
-use Rattle.linda_state.specs.declared.state.TheConstants.{NUMBER_LIMIT}
+use Rattle.linda_wire.specs.declared.limits.TheConstants.{NUMBER_LIMIT}
 use Rattle.linda_tuple.specs.Tuple.{Tuple}
 use Rattle.linda_bag.proofs.Maps.{get_empty}
 use Rattle.linda_book.specs.Entries.{Entry}

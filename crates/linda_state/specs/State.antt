@@ -3,7 +3,7 @@ use Rattle.std.specs.Prelude.{ℕ, ◌<◌, ◌≤◌, IfSome}
 use Rattle.std.specs.Ordering.{nat_cmp}
 use Rattle.std.specs.FinMap as map
 use Rattle.linda_wire.specs.declared.limits.TheConstants.{MAX_CLIENTS}
-use Rattle.linda_state.specs.declared.state.TheConstants.{NUMBER_LIMIT}
+use Rattle.linda_wire.specs.declared.limits.TheConstants.{NUMBER_LIMIT}
 use Rattle.linda_tuple.specs.Tuple.{Tuple}
 use Rattle.linda_book.specs.Entries.{Entry}
 

@@ -22,4 +22,5 @@ pub use laws::{deeds_are_done_one_by_one, no_tuple_is_taken_twice, proper_lists_
 pub use limits::{HEAD_BYTES, ID_BYTES, MAX_DEED_BYTES, MAX_TUPLE_BYTES};
 pub use linda_book::{Book, Class, KeptReply};
 pub use size::{deed_len, tuple_len};
-pub use state::{NUMBER_LIMIT, State};
+pub use linda_wire::NUMBER_LIMIT;
+pub use state::State;

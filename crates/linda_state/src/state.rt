@@ -16,12 +16,9 @@ use crate::deed::Deed;
 use linda_bag::Bag;
 use linda_book::{Book, KeptReply};
 use linda_tuple::Tuple;
-use linda_wire::MAX_CLIENTS;
+use linda_wire::{MAX_CLIENTS, NUMBER_LIMIT};
 use std::alloc::{AllocError, Global};
 use std::marker::Model;
-
-/// Ids and numbers stay below this.
-pub const NUMBER_LIMIT: u64 = 1 << 63;
 
 /// All that a server keeps over a restart. The bag may be any that does what `Bag` says. A state may
 /// hold any values; a store keeps them in the ranges of `IsState`.

@@ -15,7 +15,7 @@ use Rattle.linda_book.specs.Classes.{class_of}
 use Rattle.linda_book.specs.declared.classes.Class.TheVariants.{Fresh}
 use Rattle.linda_state.specs.declared.deed.Deed.{Deed}
 use Rattle.linda_state.specs.declared.deed.Deed.TheVariants as deeds
-use Rattle.linda_state.specs.declared.state.TheConstants.{NUMBER_LIMIT}
+use Rattle.linda_wire.specs.declared.limits.TheConstants.{NUMBER_LIMIT}
 use Rattle.linda_state.specs.Deed.{client_of, number_of}
 use Rattle.linda_state.specs.DeedFormat.{spell_deed, payload}
 use Rattle.linda_state.specs.State.{State, IsState}

@@ -4,7 +4,7 @@ use Rattle.std.proofs.lemmas.Option.{none-some}
 use Rattle.std.proofs.lemmas.Bool.{eqb-false, or_parts, and_cases}
 use Rattle.std.specs.FinMap.{get, len}
 use Rattle.linda_wire.specs.declared.limits.TheConstants.{MAX_CLIENTS}
-use Rattle.linda_state.specs.declared.state.TheConstants.{NUMBER_LIMIT}
+use Rattle.linda_wire.specs.declared.limits.TheConstants.{NUMBER_LIMIT}
 use Rattle.linda_tuple.specs.Tuple.{Tuple}
 use Rattle.linda_book.specs.declared.classes.Class.{Class}
 use Rattle.linda_book.specs.declared.classes.Class.TheVariants.{Fresh, Kept, Old, Gap}

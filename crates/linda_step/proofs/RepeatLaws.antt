@@ -1,7 +1,7 @@
 -- A message that did a deed and comes again gets the reply that it got first.
 use Rattle.std.proofs.Common.{◌≡◌, ℕ, ◌<◌, ◌≤◌, Bool, ◌||◌, ◌==◌, Some, IfSome, IsSome, option_map, refl, ap, ◌∙◌, subst, arith}
 use Rattle.std.specs.FinMap.{get}
-use Rattle.linda_state.specs.declared.state.TheConstants.{NUMBER_LIMIT}
+use Rattle.linda_wire.specs.declared.limits.TheConstants.{NUMBER_LIMIT}
 use Rattle.linda_book.specs.declared.classes.Class.TheVariants.{Kept}
 use Rattle.linda_book.specs.Entries.{Entry, number_in}
 use Rattle.linda_book.specs.Classes.{class_of}

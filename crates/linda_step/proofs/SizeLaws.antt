@@ -5,7 +5,7 @@ use mir.Val.{bool_byte}
 use Rattle.std.proofs.lemmas.Option.{none-some, same_Some}
 use Rattle.linda_wire.specs.declared.limits.TheConstants.{MAX_CLIENTS}
 use Rattle.linda_wire.specs.declared.message.Message.{Message}
-use Rattle.linda_state.specs.declared.state.TheConstants.{NUMBER_LIMIT}
+use Rattle.linda_wire.specs.declared.limits.TheConstants.{NUMBER_LIMIT}
 use Rattle.linda_state.specs.State.{State}
 use Rattle.linda_step.specs.declared.size.Demand.{Demand}
 use Rattle.linda_step.specs.Answer.{last_number}

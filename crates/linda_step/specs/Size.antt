@@ -8,7 +8,7 @@ use Rattle.linda_wire.specs.declared.limits.TheConstants.{MAX_CLIENTS}
 use Rattle.linda_wire.specs.declared.message.Message.{Message}
 use Rattle.linda_wire.specs.declared.message.Message.TheVariants as messages
 use Rattle.linda_state.specs.declared.limits.TheConstants.{HEAD_BYTES, ID_BYTES}
-use Rattle.linda_state.specs.declared.state.TheConstants.{NUMBER_LIMIT}
+use Rattle.linda_wire.specs.declared.limits.TheConstants.{NUMBER_LIMIT}
 use Rattle.linda_state.specs.State.{State}
 use Rattle.linda_step.specs.declared.size.Demand.{Demand}
 use Rattle.linda_step.specs.Answer.{last_number}

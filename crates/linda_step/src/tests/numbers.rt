@@ -1,6 +1,6 @@
 //! The numbers of messages, row by row of the server's table, with values worked by hand.
 
-ghost use Rattle.linda_state.specs.declared.state.TheConstants.{NUMBER_LIMIT};
+ghost use Rattle.linda_wire.specs.declared.limits.TheConstants.{NUMBER_LIMIT};
 ghost use Rattle.std.specs.Prelude.{◌<◌, ◌≤◌};
 
 use super::script::{Script, tuple_a};

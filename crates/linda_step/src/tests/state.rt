@@ -1,7 +1,7 @@
 //! States for tests.
 
 ghost use Rattle.std.specs.Prelude.{◌<◌, ◌≤◌, IfOk};
-ghost use Rattle.linda_state.specs.declared.state.TheConstants.{NUMBER_LIMIT};
+ghost use Rattle.linda_wire.specs.declared.limits.TheConstants.{NUMBER_LIMIT};
 ghost use Rattle.linda_state.specs.State.{IsState};
 
 use linda_bag::ListBag;

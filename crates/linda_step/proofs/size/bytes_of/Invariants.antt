@@ -1,7 +1,7 @@
 use Rattle.std.proofs.Common.{◌≡◌, ℕ, ◌+◌, ◌*◌, ◌≤◌, take, drop, length}
 use Rattle.linda_wire.specs.declared.limits.TheConstants.{MAX_CLIENTS}
 use Rattle.linda_state.specs.declared.limits.TheConstants.{MAX_DEED_BYTES}
-use Rattle.linda_state.specs.declared.state.TheConstants.{NUMBER_LIMIT}
+use Rattle.linda_wire.specs.declared.limits.TheConstants.{NUMBER_LIMIT}
 use Rattle.linda_step.specs.Size.{bytes_from, numbers_of}
 use Rattle.linda_step.proofs.SizeLaws.{numbers_behind}
 use Rattle.linda_step.proofs.size.bytes_of.Given as goal

@@ -4,7 +4,7 @@ use Rattle.std.proofs.lemmas.Bool.{cases_eq}
 use Rattle.std.specs.FinMap.{FinMap, get, insert, len, len-empty}
 use Rattle.std.specs.FinMap as map
 use Rattle.linda_wire.specs.declared.limits.TheConstants.{MAX_CLIENTS}
-use Rattle.linda_state.specs.declared.state.TheConstants.{NUMBER_LIMIT}
+use Rattle.linda_wire.specs.declared.limits.TheConstants.{NUMBER_LIMIT}
 use Rattle.linda_tuple.specs.Tuple.{Tuple}
 use Rattle.linda_bag.proofs.Maps.{get_empty, get_same, get_other, len_new}
 use Rattle.linda_book.specs.Entries.{Entry}
