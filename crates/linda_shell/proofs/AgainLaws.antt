@@ -18,7 +18,8 @@ use Rattle.linda_shell.specs.declared.keyword.Keyword.TheVariants as keywords
 use Rattle.linda_shell.specs.Words.{keyword_text, EndsWord, inside, mark_at}
 use Rattle.linda_shell.specs.EventTexts.{Begins, IsBaseText, IsEventText, IsListText, AreMore}
 use Rattle.linda_shell.specs.Limits.{IsSoundBase, IsSoundEvent, AreSoundEvents, height, height_of_all}
-use Rattle.linda_shell.specs.Steps.{Reader, lifted, made}
+use Rattle.linda_text.specs.Reading.{made}
+use Rattle.linda_shell.specs.Steps.{Reader, lifted}
 use Rattle.linda_shell.specs.Reading.{some_members_at, members_at, under_at, node_at, event_at}
 use Rattle.linda_shell.proofs.WordLaws.{ends_both, ends_numeral, keyword_again, keyword_begins, keyword_inside, keyword_long, number_again, label_again, comma_again, close_again, open_again}
 use Rattle.linda_shell.proofs.EventLaws.{rest_at}

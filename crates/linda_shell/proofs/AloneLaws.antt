@@ -14,7 +14,7 @@ use Rattle.linda_shell.specs.EventTexts.{IsEventAlone}
 use Rattle.linda_shell.specs.Words.{EndsWord}
 use Rattle.linda_shell.specs.Steps.{lifted, settled_fault}
 use Rattle.linda_shell.specs.Reading.{event_at, only_event}
-use Rattle.linda_shell.proofs.Steps.{bind_ok, ok_is}
+use Rattle.linda_text.proofs.Steps.{bind_ok, ok_is}
 use Rattle.linda_shell.proofs.EventLaws.{event_takes}
 use Rattle.linda_shell.proofs.AgainLaws.{event_again, event_begins, blank_ends}
 

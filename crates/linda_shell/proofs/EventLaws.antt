@@ -14,9 +14,12 @@ use Rattle.linda_shell.specs.declared.keyword.Keyword.TheVariants as keywords
 use Rattle.linda_shell.specs.Words.{keyword_text, EndsWord, keyword_at, label_at, open_at, mark_at}
 use Rattle.linda_shell.specs.EventTexts.{Begins, IsBaseText, IsEventText, IsListText, AreMore}
 use Rattle.linda_shell.specs.Limits.{IsSoundBase, IsSoundEvent, AreSoundEvents, height, height_of_all}
-use Rattle.linda_shell.specs.Steps.{Read, Reader, ◌>>=◌, lifted, made}
+use Rattle.linda_text.specs.Steps.{◌>>=◌}
+use Rattle.linda_text.specs.Reading.{made}
+use Rattle.linda_shell.specs.Steps.{Read, Reader, lifted}
 use Rattle.linda_shell.specs.Reading.{some_members_at, members_at, under_at, node_at, event_at}
-use Rattle.linda_shell.proofs.Steps.{bind_ok, ok_is, lifted_ok}
+use Rattle.linda_text.proofs.Steps.{bind_ok, ok_is}
+use Rattle.linda_shell.proofs.Lifted.{lifted_ok}
 use Rattle.linda_shell.proofs.WordLaws.{ends_front, keyword_takes, number_takes, label_takes, mark_of, mark_takes, opened, open_takes}
 
 -- ---- what is read is a text of the event

@@ -1,4 +1,4 @@
-pub mod Steps
+pub mod Lifted
 pub mod MemberLoop
 pub mod TreeLaws
 pub mod WordLaws

@@ -6,7 +6,8 @@ use Rattle.linda_text.specs.Reading.{after_blanks}
 use Rattle.linda_event.specs.Trees.{Tree}
 use Rattle.linda_shell.specs.declared.fault.EventTextFault.{EventTextFault}
 use Rattle.linda_shell.specs.declared.fault.EventTextFault.TheVariants.{Text}
-use Rattle.linda_shell.specs.Steps.{Read, Reader, ◌>>=◌}
+use Rattle.linda_text.specs.Steps.{◌>>=◌}
+use Rattle.linda_shell.specs.Steps.{Read, Reader}
 use Rattle.linda_shell.specs.Words.{open_at, mark_at}
 use Rattle.linda_shell.specs.Reading.{some_members_at, members_at}
 

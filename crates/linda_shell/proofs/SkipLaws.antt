@@ -1,50 +1,19 @@
 -- What reading leaves behind an event, by what each step leaves.
 use Rattle.std.proofs.Common.{◌≡◌, ℕ, zero, suc, ◌-◌, ◌+◌, ◌≤◌, ◌<◌, Bool, true, false, List, ◌∷◌, length, Result, Ok, Err, refl, sym, ap, ◌∙◌, arith}
-use Rattle.std.specs.Prelude.{IsOk}
 use Rattle.linda_text.specs.declared.fault.TextFault.{TextFault}
 use Rattle.linda_text.specs.declared.fault.TextFault.TheVariants.{SyntaxAt}
 use Rattle.linda_text.specs.Reading.{after_blanks}
 use Rattle.linda_event.specs.Trees.{Tree, choose, members_of}
 use Rattle.linda_shell.specs.declared.fault.EventTextFault.{EventTextFault}
 use Rattle.linda_shell.specs.declared.fault.EventTextFault.TheVariants.{Text}
-use Rattle.linda_shell.specs.Steps.{Read, Reader, ◌>>=◌, lifted, left_by}
+use Rattle.linda_text.specs.Steps.{◌>>=◌, left_by}
+use Rattle.linda_shell.specs.Steps.{Read, Reader, lifted}
 use Rattle.linda_shell.specs.declared.keyword.Keyword.{Keyword}
 use Rattle.linda_shell.specs.declared.keyword.Keyword.TheVariants as keywords
 use Rattle.linda_shell.specs.Words.{keyword_at, open_at, mark_at}
 use Rattle.linda_shell.specs.Reading.{some_members_at, members_at, event_at}
+use Rattle.linda_text.proofs.SkipLaws.{left_then, left_fault, left_made}
 use Rattle.linda_shell.proofs.EventLaws.{rest_at}
-
--- Where bytes are left, a value stands before them.
-pub is_there : {A : Type 0} (read : Read A) (rest : List ℕ) → left_by read ≡ Ok rest → IsOk read
-is_there (Ok x) rest e = refl
-is_there (Err fault) rest e = absurd cc
-
--- A fault that is told of what is left is the fault.
-pub is_fault : {A : Type 0} (read : Read A) (fault : EventTextFault) → left_by read ≡ Err fault → read ≡ Err fault
-is_fault (Ok x) fault e = absurd cc
-is_fault (Err f) fault e = cc
-
-abbrev left : List ℕ → Result (List ℕ) EventTextFault
-left rest = Ok rest
-
-left_is : (x y : List ℕ) → left x ≡ left y → x ≡ y
-left_is x y e = cc
-
--- A step that leaves these bytes, and the next one.
-pub left_then : {A B : Type 0} (step : Read A) (next : A × List ℕ → Read B) (rest : List ℕ) (total : Result (List ℕ) EventTextFault) → left_by step ≡ Ok rest
-    → ((a : A) → left_by (next (a, rest)) ≡ total) → left_by (step >>= next) ≡ total
-left_then (Ok x) next rest total e others = rw (left_is x.1 rest e) (others x.0)
-left_then (Err fault) next rest total e others = absurd cc
-
--- A step that fails.
-pub left_fault : {A B : Type 0} (step : Read A) (next : A × List ℕ → Read B) (fault : EventTextFault) → left_by step ≡ Err fault → left_by (step >>= next) ≡ Err fault
-left_fault (Ok x) next fault e = absurd cc
-left_fault (Err f) next fault e = e
-
--- What a step leaves is left where the next one only makes something of the value.
-pub left_made : {A B : Type 0} (step : Read A) (make : A → B) → left_by (step >>= λ x. Ok (make x.0, x.1)) ≡ left_by step
-left_made (Ok x) make = refl
-left_made (Err fault) make = refl
 
 -- ---- the loop over members
 

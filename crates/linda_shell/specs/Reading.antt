@@ -10,7 +10,9 @@ use Rattle.linda_shell.specs.declared.fault.EventTextFault.TheVariants.{TooManyN
 use Rattle.linda_shell.specs.declared.keyword.Keyword.{Keyword}
 use Rattle.linda_shell.specs.declared.keyword.Keyword.TheVariants as keywords
 use Rattle.linda_shell.specs.declared.limits.TheConstants.{MAX_NESTED}
-use Rattle.linda_shell.specs.Steps.{Reader, ◌>>=◌, lifted, made}
+use Rattle.linda_text.specs.Steps.{◌>>=◌}
+use Rattle.linda_text.specs.Reading.{made}
+use Rattle.linda_shell.specs.Steps.{Reader, lifted}
 use Rattle.linda_shell.specs.Words.{keyword_at, label_at, open_at, mark_at}
 
 -- The members of a choice, of which there is one at least and so many at most, and the closing

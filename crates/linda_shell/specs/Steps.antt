@@ -15,26 +15,10 @@ Read A = Result (A × List ℕ) EventTextFault
 abbrev pub Reader : Type 0 → Type 0
 Reader A = List ℕ → Read A
 
--- A step, and the next one with what it gave; the first fault ends both.
-infixl 10 ◌>>=◌
-abbrev pub ◌>>=◌ : {A B : Type 0}
-    → Result A EventTextFault → (A → Result B EventTextFault) → Result B EventTextFault
-(Ok x) >>= f = f x
-(Err fault) >>= f = Err fault
-
 -- What reading a text below an event gave.
 abbrev pub lifted : {A : Type 0} → Result A TextFault → Result A EventTextFault
 lifted (Ok x) = Ok x
 lifted (Err fault) = Err (Text fault)
-
--- What is read, as what that makes.
-abbrev pub made : {A M : Type 0} → (A → M) → Read A → Read M
-made make read = read >>= λ a. Ok (make a.0, a.1)
-
--- The bytes that reading leaves behind the value, or the fault.
-abbrev pub left_by : {A : Type 0} → Read A → Result (List ℕ) EventTextFault
-left_by (Ok x) = Ok x.1
-left_by (Err fault) = Err fault
 
 -- What the code returned, seen by view, is what reading gives, unless memory ran out.
 abbrev pub Gives : {X Y : Type 0}

@@ -2,7 +2,8 @@
 
 ghost use Rattle.std.specs.Prelude.{◌≡◌};
 ghost use Rattle.linda_shell.specs.Reading.{event_at, members_at};
-ghost use Rattle.linda_shell.specs.Steps.{GivesAlways, left_by};
+ghost use Rattle.linda_text.specs.Steps.{left_by};
+ghost use Rattle.linda_shell.specs.Steps.{GivesAlways};
 
 use crate::fault::EventTextFault;
 use crate::keyword::{Keyword, read_keyword};

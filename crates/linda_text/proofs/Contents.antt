@@ -10,7 +10,7 @@ use Rattle.linda_text.specs.declared.fault.TextFault.{TextFault}
 use Rattle.linda_text.specs.declared.fault.TextFault.TheVariants.{SyntaxAt, TextTooLong}
 use Rattle.linda_text.specs.Letters.{is_special, escaped}
 use Rattle.linda_text.specs.Steps.{Read, ◌>>=◌, left_by}
-use Rattle.linda_text.specs.Reading.{wrong, chosen, escape_at, said_at, with_byte, with_escape, content_at, if_short, if_text, short_at, string_at}
+use Rattle.linda_text.specs.Reading.{wrong, chosen, escape_at, said_at, with_byte, with_escape, content_at, short_at, string_at}
 use Rattle.linda_text.proofs.Loop.{with_front, regroup, nothing_before}
 use Rattle.linda_text.proofs.SkipLaws.{is_fault, left_made}
 

@@ -6,34 +6,34 @@ use Rattle.linda_text.specs.Steps.{Read, Reader, ◌>>=◌, left_by}
 use Rattle.linda_text.specs.Reading.{after_blanks, more_at, no_more_at, fields_at}
 
 -- Where bytes are left, a value stands before them.
-pub is_there : {A : Type 0} (read : Read A) (rest : List ℕ) → left_by read ≡ Ok rest → IsOk read
+pub is_there : {F A : Type 0} (read : Result (A × List ℕ) F) (rest : List ℕ) → left_by read ≡ Ok rest → IsOk read
 is_there (Ok x) rest e = refl
 is_there (Err fault) rest e = absurd cc
 
 -- A fault that is told of what is left is the fault.
-pub is_fault : {A : Type 0} (read : Read A) (fault : TextFault) → left_by read ≡ Err fault → read ≡ Err fault
+pub is_fault : {F A : Type 0} (read : Result (A × List ℕ) F) (fault : F) → left_by read ≡ Err fault → read ≡ Err fault
 is_fault (Ok x) fault e = absurd cc
 is_fault (Err f) fault e = cc
 
-abbrev left : List ℕ → Result (List ℕ) TextFault
-left rest = Ok rest
+abbrev left : (F : Type 0) → List ℕ → Result (List ℕ) F
+left F rest = Ok rest
 
-left_is : (x y : List ℕ) → left x ≡ left y → x ≡ y
+left_is : {F : Type 0} (x y : List ℕ) → left F x ≡ left F y → x ≡ y
 left_is x y e = cc
 
 -- A step that leaves these bytes, and the next one.
-pub left_then : {A B : Type 0} (step : Read A) (next : A × List ℕ → Read B) (rest : List ℕ) (total : Result (List ℕ) TextFault) → left_by step ≡ Ok rest
+pub left_then : {F A B : Type 0} (step : Result (A × List ℕ) F) (next : A × List ℕ → Result (B × List ℕ) F) (rest : List ℕ) (total : Result (List ℕ) F) → left_by step ≡ Ok rest
     → ((a : A) → left_by (next (a, rest)) ≡ total) → left_by (step >>= next) ≡ total
 left_then (Ok x) next rest total e others = rw (left_is x.1 rest e) (others x.0)
 left_then (Err fault) next rest total e others = absurd cc
 
 -- A step that fails.
-pub left_fault : {A B : Type 0} (step : Read A) (next : A × List ℕ → Read B) (fault : TextFault) → left_by step ≡ Err fault → left_by (step >>= next) ≡ Err fault
+pub left_fault : {F A B : Type 0} (step : Result (A × List ℕ) F) (next : A × List ℕ → Result (B × List ℕ) F) (fault : F) → left_by step ≡ Err fault → left_by (step >>= next) ≡ Err fault
 left_fault (Ok x) next fault e = absurd cc
 left_fault (Err f) next fault e = e
 
 -- What a step leaves is left where the next one only makes something of the value.
-pub left_made : {A B : Type 0} (step : Read A) (make : A → B) → left_by (step >>= λ x. Ok (make x.0, x.1)) ≡ left_by step
+pub left_made : {F A B : Type 0} (step : Result (A × List ℕ) F) (make : A → B) → left_by (step >>= λ x. Ok (make x.0, x.1)) ≡ left_by step
 left_made (Ok x) make = refl
 left_made (Err fault) make = refl
 

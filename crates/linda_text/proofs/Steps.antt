@@ -4,7 +4,7 @@ use Rattle.linda_text.specs.declared.fault.TextFault.{TextFault}
 use Rattle.linda_text.specs.Steps.{◌>>=◌}
 
 -- The value of a step that did not fail.
-pub bind_ok : {A B : Type 0} (step : Result A TextFault) (next : A → Result B TextFault) (y : B) → (step >>= next) ≡ Ok y → (x : A) × (step ≡ Ok x) × (next x ≡ Ok y)
+pub bind_ok : {F A B : Type 0} (step : Result A F) (next : A → Result B F) (y : B) → (step >>= next) ≡ Ok y → (x : A) × (step ≡ Ok x) × (next x ≡ Ok y)
 bind_ok (Ok x) next y e = (x, refl, e)
 bind_ok (Err fault) next y e = absurd cc
 
@@ -18,8 +18,8 @@ pub guard_right : {A : Type 0} (b : Bool) (fault : TextFault) (x y : A) → cond
 guard_right true fault x y e = (refl, cc)
 guard_right false fault x y e = absurd cc
 
-abbrev done : {A : Type 0} → A → Result A TextFault
-done x = Ok x
+abbrev done : (F : Type 0) {A : Type 0} → A → Result A F
+done F x = Ok x
 
-pub ok_is : {A : Type 0} (x y : A) → done x ≡ done y → x ≡ y
+pub ok_is : {F A : Type 0} (x y : A) → done F x ≡ done F y → x ≡ y
 ok_is x y e = cc

@@ -151,7 +151,7 @@ string_at bytes = short_at bytes >>= if_text
 -- ---- atoms and patterns
 
 -- What is read, as what that makes.
-abbrev pub made : {A M : Type 0} → (A → M) → Read A → Read M
+abbrev pub made : {F A M : Type 0} → (A → M) → Result (A × List ℕ) F → Result (M × List ℕ) F
 made make read = read >>= λ a. Ok (make a.0, a.1)
 
 unfoldable pub atom_at : Reader Atom

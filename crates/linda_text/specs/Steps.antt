@@ -12,15 +12,14 @@ Read A = Result (A × List ℕ) TextFault
 abbrev pub Reader : Type 0 → Type 0
 Reader A = List ℕ → Read A
 
--- A step, and the next one with what it gave; the first fault ends both.
+-- A step, and the next one with what it gave; the first fault ends both, whatever faults are.
 infixl 10 ◌>>=◌
-abbrev pub ◌>>=◌ : {A B : Type 0}
-    → Result A TextFault → (A → Result B TextFault) → Result B TextFault
+abbrev pub ◌>>=◌ : {F A B : Type 0} → Result A F → (A → Result B F) → Result B F
 (Ok x) >>= f = f x
 (Err fault) >>= f = Err fault
 
 -- The bytes that reading leaves behind the value, or the fault.
-abbrev pub left_by : {A : Type 0} → Read A → Result (List ℕ) TextFault
+abbrev pub left_by : {F A : Type 0} → Result (A × List ℕ) F → Result (List ℕ) F
 left_by (Ok x) = Ok x.1
 left_by (Err fault) = Err fault
 

@@ -1,6 +1,6 @@
 use Rattle.std.proofs.Common.{length, arith}
 use Rattle.std.proofs.lemmas.Result.{err_from_is_err_and}
-use Rattle.linda_shell.specs.Steps.{left_by}
+use Rattle.linda_text.specs.Steps.{left_by}
 use Rattle.linda_shell.specs.Reading.{event_at, members_at}
 use Rattle.linda_shell.proofs.SkipLaws.{choice_left, open_fails, opens_none, opens_some, goes_on, closes, fails_inside, fails_behind, ends}
 use Rattle.linda_shell.proofs.skipping.+skipping.Goals as goal

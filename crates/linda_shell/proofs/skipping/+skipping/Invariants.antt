@@ -1,5 +1,5 @@
 use Rattle.std.proofs.Common.{◌≡◌, ◌-◌, ◌+◌, ◌*◌, length}
-use Rattle.linda_shell.specs.Steps.{left_by}
+use Rattle.linda_text.specs.Steps.{left_by}
 use Rattle.linda_shell.specs.Reading.{event_at, some_members_at, members_at}
 use Rattle.linda_shell.proofs.skipping.+skipping.Given as goal
 

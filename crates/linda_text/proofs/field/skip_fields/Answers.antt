@@ -1,4 +1,3 @@
-use Rattle.std.proofs.Common.{◌∙◌, sym}
 use Rattle.std.proofs.lemmas.Result.{err_from_is_err_and}
 use Rattle.linda_tuple.specs.declared.limits.TheConstants.{MAX_FIELDS}
 use Rattle.linda_text.specs.Reading.{fields_at}

@@ -1,9 +1,8 @@
-use Rattle.std.proofs.Common.{◌≡◌, ◌≤◌, ◌∙◌, false, sym, ap, length, take, arith, rules}
+use Rattle.std.proofs.Common.{◌≡◌, ◌∙◌, false, length, take, arith, rules}
 use Rattle.std.proofs.lemmas.List.{length-take-le, take_more_set}
 use Rattle.std.proofs.lemmas.Result.{err_from_is_err_and}
-use Rattle.linda_tuple.specs.declared.limits.TheConstants.{MAX_TEXT}
 use Rattle.linda_text.specs.Reading.{content_at}
-use Rattle.linda_text.proofs.Contents.{starts, goes_on, is_short, short_fails, is_long, long_fails}
+use Rattle.linda_text.proofs.Contents.{goes_on, is_short, short_fails, is_long, long_fails}
 use Rattle.linda_text.proofs.string.fill.Goals as goal
 
 pub returns-in_err-said-clause-value : goal.returns-in_err-said-clause-value

@@ -1,5 +1,4 @@
-use Rattle.std.proofs.Common.{◌≡◌, refl, ◌∙◌}
-use Rattle.std.specs.Prelude.{IsOk}
+use Rattle.std.proofs.Common.{refl}
 use Rattle.linda_text.proofs.Contents.{is_string, is_no_text}
 use Rattle.linda_text.proofs.string.read_string.Goals as goal
 
