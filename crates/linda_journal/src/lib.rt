@@ -14,13 +14,15 @@ mod making;
 mod opening;
 mod payload;
 mod record;
+mod size;
 
 pub use bank::Bank;
 pub use fault::BankFault;
 pub use heading::{Heading, read_heading};
 pub use journal::{Journal, JournalFault, read_journal};
-pub use limits::{MAX_DEEDS, MIN_BYTES};
+pub use limits::{MAX_DEED_BYTES, MAX_DEEDS, MAX_TUPLE_BYTES, MIN_BYTES};
 pub use record::Record;
+pub use size::{deed_len, tuple_len};
 
 #[cfg(test)]
 mod tests;
