@@ -16,6 +16,12 @@ number_of (Out client n tuple) = n
 number_of (Take client n id) = n
 number_of (Pass client n id) = n
 
+-- The deed puts a tuple.
+abbrev pub PutsTuple : Deed → Type 0
+PutsTuple (Out client n tuple) = Unit {0}
+PutsTuple (Take client n id) = ⊥
+PutsTuple (Pass client n id) = ⊥
+
 -- the tuples put, in order
 abbrev pub outs_of : List Deed → List Tuple
 outs_of [] = []
