@@ -10,6 +10,7 @@ ghost use Rattle.linda_journal.specs.declared.limits.TheConstants.{MIN_BYTES};
 ghost use Rattle.linda_journal.specs.Journal.{AreAt, deeds_of};
 ghost use Rattle.linda_journal.specs.Image.{IsFaultOfBank};
 ghost use Rattle.linda_journal.specs.Bank.{IsBank, IsSettled, IsOldOrMore, IsNoneOrNew};
+ghost use Rattle.linda_journal.specs.Renewal.{IsWhole};
 
 use crate::fault::BankFault;
 use crate::gate::{open_gate, stage};
@@ -18,7 +19,8 @@ use crate::making::{inscribe, spell_front};
 use crate::opening::load;
 use crate::record::{Record, spell_body};
 use crate::size::record_len;
-use linda_disk::Disk;
+use crate::whole::Whole;
+use linda_disk::{Disk, DiskFault};
 use linda_state::Deed;
 use std::alloc::Global;
 
@@ -235,6 +237,48 @@ impl<D: Disk> Bank<D> {
         self.records += 1;
         self.is_spent = false;
         Ok(())
+    }
+}
+
+/// Opens the first gate of a disk on which all of a new bank stands: a write of that gate and a sync.
+///
+/// # Errors
+///
+/// `Device` where the device failed, `Memory` where the disk found none; each hands the disk back, on which the gate
+/// may be open.
+pub fn unlock<D: Disk>(whole: Whole<D>, limit: usize) -> Result<Bank<D>, (DiskFault, D)>
+    ensures done { (body : List ℕ) → D.honest whole.disk
+        → IsWhole whole.generation body whole.end (D.view whole.disk)
+        → IfOk result (λ b. IsSettled whole.generation body [] b.end (D.view b.disk)) }
+    ensures new { IfOk result (λ b. (b.generation ≡ whole.generation) × (b.limit ≡ limit)
+        × (b.end ≡ whole.end) × (b.records ≡ 0) × (b.is_spent ≡ false)) }
+    // At no moment a crash leaves another bank than the whole new one.
+    ensures any_moment { (body : List ℕ) → D.honest whole.disk
+        → IsWhole whole.generation body whole.end (D.view whole.disk)
+        → IfOk result (λ b. LeavesOnly (D.view whole.disk) (D.view b.disk)
+        (IsNoneOrNew whole.generation body))
+        × IfErr result (λ e. LeavesOnly (D.view whole.disk) (D.view e.1)
+        (IsNoneOrNew whole.generation body)) }
+    ensures honest { IfOk result (λ b. D.honest whole.disk ↔ D.honest b.disk)
+        × IfErr result (λ e. D.honest whole.disk ↔ D.honest e.1) }
+    ensures cause { IfErr result (λ e. e.0 ≡ DiskFault.Device
+        → D.failures whole.disk < D.failures e.1) }
+{
+    let Whole {
+        mut disk,
+        generation,
+        end,
+    } = whole;
+    match open_gate(&mut disk, 0) {
+        Err(fault) => Err((fault, disk)),
+        Ok(()) => Ok(Bank {
+            disk,
+            generation,
+            limit,
+            end,
+            records: 0,
+            is_spent: false,
+        }),
     }
 }
 
