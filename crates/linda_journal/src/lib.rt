@@ -24,6 +24,7 @@ pub use fault::BankFault;
 pub use heading::{Heading, read_heading};
 pub use journal::{Journal, JournalFault, read_journal};
 pub use limits::{MAX_DEED_BYTES, MAX_DEEDS, MAX_TUPLE_BYTES, MIN_BYTES, PIECE};
+pub use making::spell_front;
 pub use record::Record;
 pub use size::{deed_len, tuple_len};
 pub use whole::{Whole, fill};
