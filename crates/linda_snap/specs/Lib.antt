@@ -4,3 +4,5 @@ pub mod Rising
 pub mod Reading
 pub mod Stands
 pub mod Switch
+pub mod Replay
+pub mod Choice

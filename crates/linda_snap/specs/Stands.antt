@@ -39,14 +39,18 @@ pub record IsInUse (file other : List ℕ) (st : State) : Type 0 where
 abbrev pub Stands : List ℕ → List ℕ → State → Type 0
 Stands left right st = IsInUse left right st ⊎ IsInUse right left st
 
--- On two disks the bank in use, which ends at this offset, stands for the state, and a crash now leaves them so.
-pub record IsUp (generation end : ℕ) (used other : View) (st : State) : Type 0 where
+-- On a disk the bank of this generation, which ends at this offset, stands for the state, and a crash now leaves it so.
+pub record IsStored (generation end : ℕ) (v : View) (st : State) : Type 0 where
   pub opening : State
   pub ranges : IsState opening
   pub fits : FitsState opening
   pub records : List (List Deed)
-  pub settled : IsSettled generation (spell_state opening) records end used
+  pub settled : IsSettled generation (spell_state opening) records end v
   pub done : AreDone opening (deeds_in records) st
+
+-- So it is of the one of two disks that is in use; and the other one holds a lesser bank or none, and a crash leaves it so.
+pub record IsUp (generation end : ℕ) (used other : View) (st : State) : Type 0 where
+  pub stored : IsStored generation end used st
   pub lesser : IsLesser generation other.seen
   pub durable : IsDurable other
 
