@@ -1,9 +1,8 @@
 -- Which of two banks is chosen, and that bytes are one choice.
-use Rattle.std.proofs.Common.{◌≡◌, ◌≢◌, ℕ, ◌+◌, ◌<◌, ◌≤◌, ◌^◌, ◌⊎◌, inl, inr, Bool, true, false, ◌==◌, ltb, cond, List, [], ◌∷◌, ◌++◌, Result, Ok, Err, length, take, drop, refl, sym, ap, subst, ◌∙◌, ne_eqb, arith}
+use Rattle.std.proofs.Common.{◌≡◌, ◌≢◌, ℕ, ◌<◌, ◌≤◌, ◌⊎◌, inl, inr, Bool, true, false, ltb, cond, List, ◌++◌, Result, Ok, Err, length, take, drop, refl, sym, ap, subst, ◌∙◌, eq-eqb, ne_eqb, arith}
 use Rattle.std.specs.Prelude.{IfOk, IfErr}
-use Rattle.std.proofs.lemmas.Bool.{lt-ltb, le-ltb}
+use Rattle.std.proofs.lemmas.Bool.{cases_lt, lt-ltb, le-ltb}
 use Rattle.std.proofs.lemmas.List.{take-append-drop, length-take}
-use Rattle.linda_codec.specs.Formats.{short_number, number}
 use Rattle.linda_journal.specs.declared.heading.Heading.{Heading}
 use Rattle.linda_journal.specs.declared.heading.Heading.TheVariants.{NoBank, Foreign, Bank}
 use Rattle.linda_journal.specs.Heading.{IsHeading}
@@ -13,12 +12,12 @@ use Rattle.linda_state.specs.State.{State}
 use Rattle.linda_state.specs.After.{IsAfter}
 use Rattle.linda_state.specs.Proper.{IsProper}
 use Rattle.linda_state.proofs.AfterLaws.{one_after}
-use Rattle.linda_disk.specs.View.{View}
+use Rattle.linda_disk.specs.View.{View, IsDurable}
 use Rattle.linda_journal.specs.declared.record.Record.{Record}
 use Rattle.linda_journal.specs.declared.fault.BankFault.{BankFault}
 use Rattle.linda_journal.specs.declared.fault.BankFault.TheVariants as banks
 use Rattle.linda_journal.specs.Journal.{deeds_of}
-use Rattle.linda_journal.specs.Bank.{IsCandidate, headed, IsBank, IsSettled}
+use Rattle.linda_journal.specs.Bank.{IsCandidate, IsBank, IsSettled}
 use Rattle.linda_journal.specs.Image.{IsFaultOfBank}
 use Rattle.linda_journal.proofs.Apart.{format_apart}
 use Rattle.linda_journal.proofs.ImageLaws.{is_candidate, one_bank, only_faults}
@@ -28,18 +27,17 @@ use Rattle.linda_snap.specs.declared.choice.ChoiceFault.{ChoiceFault}
 use Rattle.linda_snap.specs.declared.choice.ChoiceFault.TheVariants.{NoStore, Damaged, Disk, Memory}
 use Rattle.linda_snap.specs.Snapshot.{spell_state, IsSnapshot}
 use Rattle.linda_snap.specs.Replay.{joined, IsReplayFault}
-use Rattle.linda_snap.specs.Stands.{deeds_in, StandsOn, IsLesser, IsInUse, Stands, IsStored}
+use Rattle.linda_snap.specs.Stands.{deeds_in, StandsOn, IsLesser, IsInUse, Stands, IsStored, IsUp}
 use Rattle.linda_snap.specs.Choice.{choice, IsChoice, IsRecovered, IsUnrecovered, IsFaultOfFile, IsFaultOfBoth, chosen, fault_on, fault_of_replay}
 use Rattle.linda_snap.proofs.SnapshotLaws.{one_snapshot}
 use Rattle.linda_snap.proofs.ReplayLaws.{none_improper}
-use Rattle.linda_snap.proofs.StandsLaws.{heading_of}
+use Rattle.linda_snap.proofs.StandsLaws.{heading_of, stands_on}
 
 -- What the first bytes of a file begin with, the file begins with.
 pub heading_of_front : (file : List ℕ) (h : Heading) → 17 ≤ length file → IsHeading (take 17 file) h → IsHeading file h
 heading_of_front file NoBank long is = λ candidate. is (omega (arith, long, length-take 17 file), (take 16 candidate.1.0, ap (take 17) candidate.1.1))
 heading_of_front file Foreign long is =
-    let split : take 17 file ++ drop 17 file ≡ file = take-append-drop 17 file in
-    (
+    let split : take 17 file ++ drop 17 file ≡ file = take-append-drop 17 file in (
       (long, (is.0.1.0 ++ drop 17 file, sym split ∙ ap (λ l. l ++ drop 17 file) is.0.1.1)),
       λ generation rest low high starts. is.1 generation (take 4 rest) low high (ap (take 17) starts),
     )
@@ -220,3 +218,99 @@ module _ {X E : Type 0} (left right : List ℕ) (state_of : X → State) (fault_
       → IfOk result (λ x. state_of x ≡ st) × IfErr result (λ e. (fault_of e ≡ Disk) ⊎ (fault_of e ≡ Memory))
   only_chosen (Ok x) found fault st stands = (one_stands left right (state_of x) st found stands, tt)
   only_chosen (Err e) found fault st stands = (tt, only_told left right (fault_of e) st stands fault)
+
+-- ---- what was chosen
+
+chosen_lesser_left : (left right : List ℕ) (generation : ℕ) (st : State) → IsChoice left right (Ok false) → StandsOn left generation st → IsLesser generation right
+chosen_lesser_left left right generation st is on = by is.left_heading is.right_heading is.left_is is.right_is is.told_is
+  where
+    here : IsHeading left (Bank generation)
+    here = heading_of left generation (spell_state on.opening) on.records on.bank
+
+    lesser : (a b : ℕ) → choice (Bank a) (Bank b) ≡ Ok false → b < a
+    lesser a b e =
+        elim (cases_lt b a) [
+          | inl lt ↦ lt
+          | inr le ↦ elim (cases_lt a b) [
+            | inl lt ↦ absurd (sides_differ (sym e ∙ greater_right a b lt))
+            | inr ge ↦
+                let same : a ≡ b = omega (arith, le, ge) in
+                absurd (never_err (Damaged false 5) false (sym (ap (λ t. cond t (Err (Damaged false 5)) (cond (ltb b a) (Ok false) (Ok true))) (eq-eqb a b same)) ∙ e))
+          ]
+        ]
+
+    same_generation : (a : ℕ) → IsHeading left (Bank a) → a ≡ generation
+    same_generation a is = bank_is a generation (one_heading left (Bank a) (Bank generation) is here)
+      where
+        bank_is : (x y : ℕ) → Bank x ≡ Bank y → x ≡ y
+        bank_is x y e = cc
+
+    by : (l r : Heading) → IsHeading left l → IsHeading right r → choice l r ≡ Ok false → IsLesser generation right
+    by Foreign r one two e = absurd (never_err (Damaged false 1) false e)
+    by NoBank Foreign one two e = absurd (never_err (Damaged true 1) false e)
+    by NoBank NoBank one two e = absurd (never_err NoStore false e)
+    by NoBank (Bank b) one two e = absurd (one (opens left generation here))
+    by (Bank a) Foreign one two e = absurd (never_err (Damaged true 1) false e)
+    by (Bank a) NoBank one two e = inl two
+    by (Bank a) (Bank b) one two e = inr (b, two, subst (λ n. b < n) (same_generation a one) (lesser a b e))
+
+chosen_lesser_right : (left right : List ℕ) (generation : ℕ) (st : State) → IsChoice left right (Ok true) → StandsOn right generation st → IsLesser generation left
+chosen_lesser_right left right generation st is on = by is.left_heading is.right_heading is.left_is is.right_is is.told_is
+  where
+    here : IsHeading right (Bank generation)
+    here = heading_of right generation (spell_state on.opening) on.records on.bank
+
+    lesser : (a b : ℕ) → choice (Bank a) (Bank b) ≡ Ok true → a < b
+    lesser a b e =
+        elim (cases_lt a b) [
+          | inl lt ↦ lt
+          | inr le ↦ elim (cases_lt b a) [
+            | inl lt ↦ absurd (sides_differ (sym (greater_left a b lt) ∙ e))
+            | inr ge ↦
+                let same : a ≡ b = omega (arith, le, ge) in
+                absurd (never_err (Damaged false 5) true (sym (ap (λ t. cond t (Err (Damaged false 5)) (cond (ltb b a) (Ok false) (Ok true))) (eq-eqb a b same)) ∙ e))
+          ]
+        ]
+
+    same_generation : (b : ℕ) → IsHeading right (Bank b) → b ≡ generation
+    same_generation b is = bank_is b generation (one_heading right (Bank b) (Bank generation) is here)
+      where
+        bank_is : (x y : ℕ) → Bank x ≡ Bank y → x ≡ y
+        bank_is x y e = cc
+
+    by : (l r : Heading) → IsHeading left l → IsHeading right r → choice l r ≡ Ok true → IsLesser generation left
+    by Foreign r one two e = absurd (never_err (Damaged false 1) true e)
+    by NoBank Foreign one two e = absurd (never_err (Damaged true 1) true e)
+    by NoBank NoBank one two e = absurd (never_err NoStore true e)
+    by NoBank (Bank b) one two e = inl one
+    by (Bank a) Foreign one two e = absurd (never_err (Damaged true 1) true e)
+    by (Bank a) NoBank one two e = absurd (sides_differ e)
+    by (Bank a) (Bank b) one two e = inr (a, one, subst (λ n. a < n) (same_generation b two) (lesser a b e))
+
+-- What was chosen is up,
+pub up_left : (left right : List ℕ) (generation end : ℕ) (used other : View) (st : State) → IsChoice left right (Ok false) → IsStored generation end used st → used.seen ≡ left → other.seen ≡ right → IsDurable other → IsUp generation end used other st
+up_left left right generation end used other st is stored here there durable = record {
+  stored = stored;
+  lesser = subst (IsLesser generation) (sym there) (chosen_lesser_left left right generation st is (subst (λ l. StandsOn l generation st) here (stands_on generation end used st stored)));
+  durable = durable;
+}
+
+pub up_right : (left right : List ℕ) (generation end : ℕ) (used other : View) (st : State) → IsChoice left right (Ok true) → IsStored generation end used st → used.seen ≡ right → other.seen ≡ left → IsDurable other → IsUp generation end used other st
+up_right left right generation end used other st is stored here there durable = record {
+  stored = stored;
+  lesser = subst (IsLesser generation) (sym there) (chosen_lesser_right left right generation st is (subst (λ l. StandsOn l generation st) here (stands_on generation end used st stored)));
+  durable = durable;
+}
+
+-- and stands.
+pub used_here : (used_file other_file : List ℕ) (generation end : ℕ) (used other : View) (st : State) → IsUp generation end used other st → used.seen ≡ used_file → other.seen ≡ other_file → IsInUse used_file other_file st
+used_here used_file other_file generation end used other st up here there = record {
+  generation = generation;
+  stands = subst (λ l. StandsOn l generation st) here (stands_on generation end used st up.stored);
+  lesser = subst (IsLesser generation) there up.lesser;
+}
+
+-- What is told of the one that was chosen.
+pub chosen_fault : (left right : List ℕ) (side : Bool) (fault : BankFault) (told : ChoiceFault) → IsChoice left right (Ok side) → told ≡ fault_on side fault → (fault ≢ banks.Disk → IsFaultOfFile (chosen side left right) fault) → told ≢ Disk → IsFaultOfBoth left right told
+chosen_fault left right side fault told is told_is there disk =
+    inr record { side = side; choice_is = is; fault = fault; told_is = told_is; fault_is = there (λ e. disk (told_is ∙ ap (fault_on side) e)) }

@@ -1,10 +1,9 @@
 -- Which state stands on two banks, while one of them becomes a new one.
-use Rattle.std.proofs.Common.{◌≡◌, ℕ, ◌+◌, ◌<◌, ◌≤◌, ◌^◌, inl, inr, List, [], ◌∷◌, ◌++◌, length, refl, sym, ap, subst, ◌∙◌, length-append, arith}
+use Rattle.std.proofs.Common.{ℕ, ◌+◌, inl, inr, List, [], sym, subst, arith}
 use Rattle.linda_state.specs.State.{State, IsState}
-use Rattle.linda_state.specs.Proper.{AreDone}
 use Rattle.linda_state.proofs.ProperLaws.{none_done}
 use Rattle.linda_state.specs.declared.deed.Deed.{Deed}
-use Rattle.linda_disk.specs.View.{View, IsDurable, IsTimed}
+use Rattle.linda_disk.specs.View.{View, IsTimed}
 use Rattle.linda_disk.specs.Run.{LeavesOnly}
 use Rattle.linda_disk.proofs.RunLaws.{started, weaker, joined}
 use Rattle.linda_journal.specs.declared.heading.Heading.TheVariants as headings
@@ -13,7 +12,7 @@ use Rattle.linda_journal.specs.Bank.{IsBank, IsSettled, IsNoneOrNew}
 use Rattle.linda_journal.specs.Renewal.{IsNoBank, IsSameOrNone}
 use Rattle.linda_journal.proofs.ImageLaws.{is_candidate}
 use Rattle.linda_snap.specs.Snapshot.{spell_state, FitsState}
-use Rattle.linda_snap.specs.Stands.{StandsOn, IsLesser, IsInUse, Stands, IsStored, IsUp, StandsBeside}
+use Rattle.linda_snap.specs.Stands.{StandsOn, IsLesser, IsStored, IsUp, StandsBeside}
 use Rattle.linda_snap.specs.Switch.{IsOldNoneOrNew}
 
 -- ---- the runs of a renewal

@@ -291,11 +291,7 @@ fn choose(left: Heading, right: Heading) -> Result<bool, ChoiceFault>
 }
 
 // The state that a body and the records behind it come to.
-fn recover<B: Bag>(
-    alloc: Global,
-    body: &[u8],
-    records: &[Record],
-) -> Result<State<B>, BankFault>
+fn recover<B: Bag>(alloc: Global, body: &[u8], records: &[Record]) -> Result<State<B>, BankFault>
     ensures found { IfOk result (λ st. IsRecovered body.now records.now st) }
     ensures fault { IfErr result (IsUnrecovered body.now records.now) }
 {

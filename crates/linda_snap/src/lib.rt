@@ -6,11 +6,11 @@ mod cursor;
 mod kinds;
 mod putting;
 mod reading;
+mod renewal;
 mod replay;
 mod reply;
-mod renewal;
 
 pub use choice::{ChoiceFault, Chosen, choose_bank};
 pub use putting::put_state;
-pub use renewal::{SwitchFault, switch};
 pub use reading::{SnapshotFault, get_state};
+pub use renewal::{SwitchFault, switch};

@@ -156,11 +156,7 @@ fn is_place(low: u64, id: u64, next: u64) -> bool
 }
 
 // Reads so many clients with what is kept for them; the clients rise.
-fn read_clients(
-    alloc: Global,
-    bytes: &[u8],
-    count: u32,
-) -> Result<(Book, &[u8]), SnapshotFault>
+fn read_clients(alloc: Global, bytes: &[u8], count: u32) -> Result<(Book, &[u8]), SnapshotFault>
     ensures found { IfOk result (λ x. IsRun format.kept IsNumbered count bytes.now
         (entries x.0) x.1.now) }
     ensures fault { IfErr result (λ f. f ≢ SnapshotFault.Memory

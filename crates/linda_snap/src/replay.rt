@@ -51,11 +51,7 @@ pub(crate) fn replay<B: Bag>(
 }
 
 // Does the deeds one after the other, and tells whether each was allowed where it came.
-fn redo_all<B: Bag>(
-    alloc: Global,
-    state: &mut State<B>,
-    deeds: &[Deed],
-) -> Result<bool, AllocError>
+fn redo_all<B: Bag>(alloc: Global, state: &mut State<B>, deeds: &[Deed]) -> Result<bool, AllocError>
     requires { IsState state.old }
     ensures done { IfOk result (λ done. done ≡ true → GoesOn state.old deeds.now state.new) }
     ensures refused { IfOk result (λ done. done ≡ false → Stops state.old deeds.now) }

@@ -1,4 +1,4 @@
-use Rattle.std.proofs.Common.{◌≡◌, ◌≤◌, length, take, subst, sym, ap, ◌∙◌, arith}
+use Rattle.std.proofs.Common.{◌≤◌, length, take, subst, ap, ◌∙◌, arith}
 use Rattle.linda_journal.specs.Heading.{IsHeading}
 use Rattle.linda_snap.proofs.ChoiceLaws.{heading_of_front}
 use Rattle.linda_snap.proofs.choice.look_at.Goals as goal

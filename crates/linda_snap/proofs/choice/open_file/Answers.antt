@@ -1,4 +1,4 @@
-use Rattle.std.proofs.Common.{◌≡◌, subst, sym}
+use Rattle.std.proofs.Common.{subst}
 use Rattle.linda_journal.specs.Journal.{deeds_of}
 use Rattle.linda_journal.specs.Bank.{IsBank}
 use Rattle.linda_snap.specs.Choice.{IsRecovered, IsUnrecovered}

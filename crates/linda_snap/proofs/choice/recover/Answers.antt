@@ -1,4 +1,3 @@
-use Rattle.linda_snap.specs.Choice.{IsUnrecovered}
 use Rattle.linda_snap.proofs.ChoiceLaws.{unrecovered}
 use Rattle.linda_snap.proofs.choice.recover.Goals as goal
 
