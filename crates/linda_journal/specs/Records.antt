@@ -3,7 +3,8 @@ use Rattle.std.specs.Prelude.{ℕ, ◌≤◌, List, [], ◌∷◌, ◌++◌, All
 use Rattle.std.specs.List.{flat_map}
 use Rattle.linda_tuple.specs.Tuple.{Tuple}
 use Rattle.linda_codec.specs.Steps.{Reader}
-use Rattle.linda_codec.specs.Formats.{Format, short_number, number, both, made_at, no_kind, choice_at}
+use Rattle.linda_codec.specs.Formats.{Format, short_number, number, both, made_at, no_kind}
+use Rattle.linda_codec.specs.Formats.{choice_at}
 use Rattle.linda_codec.specs.Values as value
 use Rattle.linda_state.specs.declared.deed.Deed.{Deed}
 use Rattle.linda_state.specs.declared.deed.Deed.TheVariants.{Out, Take, Pass}

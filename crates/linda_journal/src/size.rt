@@ -3,7 +3,8 @@
 ghost use Rattle.std.specs.Prelude.{◌≡◌, ◌≤◌, length};
 ghost use Rattle.linda_tuple.specs.Atom.{IsSound};
 ghost use Rattle.linda_codec.specs.Values as value;
-ghost use Rattle.linda_journal.specs.declared.limits.TheConstants.{MAX_DEEDS, MAX_DEED_BYTES, MAX_TUPLE_BYTES};
+ghost use Rattle.linda_journal.specs.declared.limits.TheConstants.{MAX_DEEDS, MAX_DEED_BYTES};
+ghost use Rattle.linda_journal.specs.declared.limits.TheConstants.{MAX_TUPLE_BYTES};
 ghost use Rattle.linda_journal.specs.declared.size.TheConstants.{ATOM_BYTES};
 ghost use Rattle.linda_journal.specs.Records as format;
 

@@ -1,5 +1,6 @@
 -- Which of two banks is chosen, and why none is.
-use Rattle.std.specs.Prelude.{◌≡◌, ℕ, ◌==◌, ◌⊎◌, nat_lt, Bool, true, false, if◌then◌else◌, List, Result, Ok, Err}
+use Rattle.std.specs.Prelude.{◌≡◌, ℕ, ◌==◌, ◌⊎◌, nat_lt, Bool, true, false, if◌then◌else◌, List}
+use Rattle.std.specs.Prelude.{Result, Ok, Err}
 use Rattle.linda_state.specs.State.{State}
 use Rattle.linda_state.specs.Proper.{AreDone}
 use Rattle.linda_disk.specs.View.{View}
@@ -105,10 +106,14 @@ abbrev pub fault_of_device : DiskFault → ChoiceFault
 fault_of_device device.Device = Disk
 fault_of_device device.Memory = Memory
 
--- Since entry a crash leaves of the disk that was chosen, and of the other one, only what it could leave of them then.
+-- Since entry a crash leaves of a disk only what it could leave then.
+abbrev pub LeavesNothingNew : View → View → Type 0
+LeavesNothingNew old new = LeavesOnly old new old.may_leave
+
+-- So it is of the disk that was chosen, and of the other one.
 pub record ChosenLeaves (right : Bool) (left_old right_old used other : View) : Type 0 where
-  pub left : right ≡ false → LeavesOnly left_old used left_old.may_leave × LeavesOnly right_old other right_old.may_leave
-  pub right_one : right ≡ true → LeavesOnly right_old used right_old.may_leave × LeavesOnly left_old other left_old.may_leave
+  pub left : right ≡ false → LeavesNothingNew left_old used × LeavesNothingNew right_old other
+  pub right_one : right ≡ true → LeavesNothingNew right_old used × LeavesNothingNew left_old other
 
 -- What a fault of one bank is told as.
 abbrev pub fault_on : Bool → BankFault → ChoiceFault

@@ -15,12 +15,14 @@ joined records = deeds_in (deeds_of records)
 
 -- Whatever was done before, these deeds go on from one state to the other.
 abbrev pub GoesOn : State → List Deed → State → Type 0
-GoesOn old ds new = (st : State) (before : List Deed) → IsState st → AreDone st before old → AreDone st (before ++ ds) new
+GoesOn old ds new =
+    (st : State) (before : List Deed) → IsState st → AreDone st before old → AreDone st (before ++ ds) new
 
 -- Whatever was done before, and whatever comes later, these deeds cannot be done in this state.
 abbrev pub Stops : State → List Deed → Type 0
 Stops old ds =
-    (st : State) (before later : List Deed) → IsState st → AreDone st before old → IsProper st (before ++ ds ++ later) → ⊥
+    (st : State) (before later : List Deed) → IsState st → AreDone st before old
+    → IsProper st (before ++ ds ++ later) → ⊥
 
 -- The first record whose deeds cannot be done after those before it is the one with this gate.
 pub record IsImproper (st : State) (records : List Record) (gate : ℕ) : Type 0 where

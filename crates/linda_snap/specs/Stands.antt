@@ -15,7 +15,8 @@ use Rattle.linda_snap.specs.Snapshot.{spell_state, FitsState}
 abbrev pub deeds_in : List (List Deed) → List Deed
 deeds_in records = flat_map (λ ds. ds) records
 
--- The bytes are a bank of this generation, with a snapshot of a state from which the deeds of its records lead to that one.
+-- The bytes are a bank of this generation, with a snapshot of a state from which the deeds of its records lead to
+-- that one.
 pub record StandsOn (file : List ℕ) (generation : ℕ) (st : State) : Type 0 where
   pub opening : State
   pub ranges : IsState opening
@@ -48,7 +49,8 @@ pub record IsStored (generation end : ℕ) (v : View) (st : State) : Type 0 wher
   pub settled : IsSettled generation (spell_state opening) records end v
   pub done : AreDone opening (deeds_in records) st
 
--- So it is of the one of two disks that is in use; and the other one holds a lesser bank or none, and a crash leaves it so.
+-- So it is of the one of two disks that is in use; and the other one holds a lesser bank or none, and a crash leaves
+-- it so.
 pub record IsUp (generation end : ℕ) (used other : View) (st : State) : Type 0 where
   pub stored : IsStored generation end used st
   pub lesser : IsLesser generation other.seen

@@ -1,14 +1,17 @@
 //! Which of two banks stands, and for which state.
 
-ghost use Rattle.std.specs.Prelude.{◌≡◌, ◌≢◌, ◌<◌, ◌↔◌, ◌⊎◌, ℕ, List, true, false, length, Ok, Err, IfOk, IfErr, OnOk, IsErrOf};
+ghost use Rattle.std.specs.Prelude.{◌≡◌, ◌≢◌, ◌<◌, ◌↔◌, ◌⊎◌, ℕ, List, true, false, length, Ok};
+ghost use Rattle.std.specs.Prelude.{Err, IfOk, IfErr, OnOk, IsErrOf};
 ghost use Rattle.linda_state.specs.State as states;
 ghost use Rattle.linda_disk.specs.View.{IsDurable};
 ghost use Rattle.linda_disk.specs.Disk.{CountsFailure};
 ghost use Rattle.linda_disk.specs.Run.{LeavesOnly};
 ghost use Rattle.linda_journal.specs.Heading.{IsHeading};
 ghost use Rattle.linda_snap.specs.Stands.{IsStored, IsUp, Stands};
-ghost use Rattle.linda_snap.specs.Choice.{choice, chosen, IsChoice, ChosenLeaves, IsRecovered, IsUnrecovered};
-ghost use Rattle.linda_snap.specs.Choice.{IsFaultOfFile, IsFaultOfBoth, fault_on, fault_of_device, fault_of_replay};
+ghost use Rattle.linda_snap.specs.Choice.{choice, chosen, IsChoice, ChosenLeaves, IsRecovered};
+ghost use Rattle.linda_snap.specs.Choice.{IsUnrecovered};
+ghost use Rattle.linda_snap.specs.Choice.{IsFaultOfFile, IsFaultOfBoth, fault_on};
+ghost use Rattle.linda_snap.specs.Choice.{fault_of_device, fault_of_replay};
 
 use crate::reading::{SnapshotFault, get_state};
 use crate::replay::{ReplayFault, replay};

@@ -9,7 +9,8 @@ ghost use Rattle.linda_snap.specs.declared.reading.SnapshotFault.TheVariants.{Me
 ghost use Rattle.linda_snap.specs.Snapshot as format;
 ghost use Rattle.linda_snap.specs.Snapshot.{IsSnapshot};
 ghost use Rattle.linda_snap.specs.Reading.{IsRun, IsNoRun, IsPlacedBelow, IsNumbered};
-ghost use Rattle.linda_snap.specs.Reading.{IsListed, IsNotListed, IsNoSnapshot, ANY_COUNT, fault_of_read};
+ghost use Rattle.linda_snap.specs.Reading.{IsListed, IsNotListed, IsNoSnapshot, ANY_COUNT};
+ghost use Rattle.linda_snap.specs.Reading.{fault_of_read};
 ghost use Rattle.linda_wire.specs.declared.limits.TheConstants.{MAX_CLIENTS};
 
 use crate::reply::{read_placed, read_reply};
