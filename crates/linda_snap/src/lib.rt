@@ -14,3 +14,6 @@ pub use choice::{ChoiceFault, Chosen, choose_bank};
 pub use putting::put_state;
 pub use reading::{SnapshotFault, get_state};
 pub use renewal::{SwitchFault, switch};
+
+#[cfg(test)]
+mod tests;
