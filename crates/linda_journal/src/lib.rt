@@ -2,6 +2,7 @@
 #![tactic(auto)]
 
 mod bank;
+mod closed;
 mod deed;
 mod fault;
 mod gate;
@@ -14,13 +15,18 @@ mod making;
 mod opening;
 mod payload;
 mod record;
+mod size;
+mod whole;
 
-pub use bank::Bank;
+pub use bank::{Bank, unlock};
+pub use closed::{Closed, shut};
 pub use fault::BankFault;
 pub use heading::{Heading, read_heading};
 pub use journal::{Journal, JournalFault, read_journal};
-pub use limits::{MAX_DEEDS, MIN_BYTES};
+pub use limits::{MAX_DEEDS, MIN_BYTES, PIECE};
+pub use making::spell_front;
 pub use record::Record;
+pub use whole::{Whole, fill};
 
 #[cfg(test)]
 mod tests;

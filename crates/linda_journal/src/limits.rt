@@ -8,3 +8,6 @@ pub const MIN_BYTES: usize = 17;
 
 /// The offset of the length of a bank's body.
 pub(crate) const LENGTH_PLACE: usize = 13;
+
+/// The bytes of a piece in which a new bank is written.
+pub const PIECE: usize = 65536;

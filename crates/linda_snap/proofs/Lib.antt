@@ -1,0 +1,8 @@
+pub mod SnapshotLaws
+pub mod RisingLaws
+pub mod PuttingLaws
+pub mod ReadingLaws
+pub mod StateLaws
+pub mod StandsLaws
+pub mod ReplayLaws
+pub mod ChoiceLaws
