@@ -1,0 +1,6 @@
+pub mod World
+pub mod Steps
+pub mod Reached
+pub mod Promises
+pub mod Honest
+pub mod Reasons
