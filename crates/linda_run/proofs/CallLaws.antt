@@ -1,6 +1,6 @@
 -- What a call of a client leaves true of what it sent and asked before, and what is true of what it sends and is given now.
-use Rattle.std.proofs.Common.{◌≡◌, ◌≢◌, ℕ, zero, suc, ◌+◌, ◌-◌, ◌<◌, ◌≤◌, Bool, true, false, cond, List, [], ◌∷◌, Contains, ◌⊎◌, inl, inr, refl, sym, ap, ◌∙◌, subst, arith, slice_get, ltb-true, ltb-false}
-use Rattle.std.specs.Prelude.{Option, Some, None, is_some, Ok, Err, All, IfSome, IsSome, IsSomeAnd, nat_lt}
+use Rattle.std.proofs.Common.{◌≡◌, ℕ, zero, suc, ◌+◌, ◌-◌, ◌<◌, ◌≤◌, Bool, true, false, cond, [], ◌∷◌, Contains, ◌⊎◌, inl, inr, refl, sym, ap, ◌∙◌, subst, arith, slice_get, ltb-true, ltb-false}
+use Rattle.std.specs.Prelude.{Option, Some, None, is_some, Ok, Err, IfSome, IsSomeAnd, nat_lt}
 use Rattle.std.proofs.lemmas.Option.{none-some, same_Some, slice_get_within}
 use Rattle.std.proofs.lemmas.List.Elements.{All-contains, All-get_or}
 use Rattle.linda_tuple.specs.Tuple.{Tuple}
@@ -22,14 +22,14 @@ use Rattle.linda_client.specs.Ask.{asks}
 use Rattle.linda_client.specs.Pending.{Pending, ask_at, number_limit, ticket_count}
 use Rattle.linda_client.specs.Client.{Client, IsClient, IsTaskOf, IsUsed, asked_in, next_at, pending_in, servers}
 use Rattle.linda_client.specs.Packets.{Packet, accept_packet, unanswered}
-use Rattle.linda_client.specs.Reaction.{Answer, Reaction}
+use Rattle.linda_client.specs.Reaction.{Reaction}
 use Rattle.linda_client.specs.React.{Call, Receive, new_pending, on_reply, react}
-use Rattle.linda_client.specs.Ending.{IsEnd, IsTaking, TakenBy}
-use Rattle.linda_client.specs.Numbers.{NumbersGoOn, UsesNumber, UsesNoNumber, Rises, number_of}
-use Rattle.linda_client.specs.Progress.{GoesOn, IsSoundPacket}
-use Rattle.linda_run.specs.World.{Handed, handed_by}
-use Rattle.linda_run.specs.Reasons.{OfTicket, HasSent, IsSaid}
-use Rattle.linda_run.proofs.Below.{OfCalls}
+use Rattle.linda_client.specs.Ending.{IsEnd, TakenBy}
+use Rattle.linda_client.specs.Numbers.{NumbersGoOn, UsesNoNumber, Rises, number_of}
+use Rattle.linda_client.specs.Progress.{Continues, GoesOn, IsSoundPacket}
+use Rattle.linda_run.specs.World.{handed_by}
+use Rattle.linda_run.specs.Reasons.{OfTicket, Asks, HasSent, IsSaid}
+use Rattle.linda_run.specs.Below.{OfCalls}
 use Rattle.linda_run.proofs.PlaceLaws.{place}
 
 -- An open ticket is one of the synchronization's, and was used by the client.
@@ -99,6 +99,43 @@ received_within c s reply r e = by (nat_lt s (servers c)) refl e
     by true low f = ltb-true s (servers c) low
     by false high f = absurd (refuses faults.NoServer r f)
 
+-- A client later on: tickets and numbers rise, what is open and was used asked the same before, and what is unanswered was so
+-- before or has the next number.
+pub record IsLater (c new : Client) : Type 0 where
+  pub tickets : c.ticket ≤ new.ticket
+  pub numbers : (s : ℕ) → next_at c s ≤ next_at new s
+  pub asked : (k : ℕ) (ask : Ask) → asked_in (pending_in new.task) k ≡ Some ask → k < c.ticket → asked_in (pending_in c.task) k ≡ Some ask
+  pub from : (p : Packet) → unanswered new.task ≡ Some p → (unanswered c.task ≡ Some p) ⊎ (number_of p.1 ≡ Some (next_at c p.0))
+
+pub same_later : (c : Client) → IsLater c c
+same_later c = record { tickets = omega arith; numbers = λ s. omega arith; asked = λ k ask e low. e; from = λ p e. inl e }
+
+-- What was true of tickets and numbers that were used is true later on.
+module _ (c new : Client) (later : IsLater c new) where
+  pub ticket_still : (k : ℕ) (P : Ask → Type 0) → OfTicket k P c → OfTicket k P new
+  ticket_still k P old = record {
+    below = let low = old.below in let more = later.tickets in omega (arith, low, more);
+    asked = λ ask e. old.asked ask (later.asked k ask e old.below);
+  }
+
+  pub sent_still : (s n : ℕ) (m : Message) → HasSent s n m c → HasSent s n m new
+  sent_still s n m old = record {
+    used = let low = old.used in let more = later.numbers s in omega (arith, low, more);
+    own = to_some (λ (p : Packet). p.0 ≡ s → number_of p.1 ≡ Some n → p.1 ≡ m) (unanswered new.task) (λ p e. by p (later.from p e));
+  }
+    where
+      by : (p : Packet) → (unanswered c.task ≡ Some p) ⊎ (number_of p.1 ≡ Some (next_at c p.0)) → p.0 ≡ s → number_of p.1 ≡ Some n → p.1 ≡ m
+      by p (inl was) here number = from_some (λ (p : Packet). p.0 ≡ s → number_of p.1 ≡ Some n → p.1 ≡ m) (unanswered c.task) p was old.own here number
+      by p (inr next) here number =
+          absurd (let low = old.used in let n_is : n ≡ next_at c s = same_Some n (next_at c s) (sym number ∙ next ∙ ap (λ x. Some (next_at c x)) here) in omega (arith, low, n_is))
+
+  pub said_still : (s : ℕ) (m : Message) → IsSaid s m c → IsSaid s m new
+  said_still s (messages.Hello version client fresh) old = tt
+  said_still s (messages.Out n row) old = sent_still s n (messages.Out n row) old
+  said_still s (messages.Ask k remove template) old = ticket_still k (Asks remove template) old
+  said_still s (messages.Accept n k id) old = sent_still s n (messages.Accept n k id) old
+  said_still s (messages.Cancel k) old = tt
+
 module _ (laws : OfCalls) (c : Client) (call : Call) (r : Reaction) (is : IsClient c) (answer : react c call ≡ Ok r) where
   pub rises : Rises c r.client
   rises = laws.rises c call r is answer
@@ -122,11 +159,13 @@ module _ (laws : OfCalls) (c : Client) (call : Call) (r : Reaction) (is : IsClie
       by None (inr starts) =
           absurd (let range = open_range (new_pending c starts.event) k ask (sym (ap (λ o. asked_in o k) starts.after) ∙ e) in omega (arith, range.0, low))
 
-  pub ticket_still : (k : ℕ) (P : Ask → Type 0) → OfTicket k P c → OfTicket k P r.client
-  ticket_still k P old = record {
-    below = let low = old.below in let more = rises.tickets in omega (arith, low, more);
-    asked = λ ask e. old.asked ask (open_before k ask e old.below);
-  }
+  -- A synchronization that goes on asks the same.
+  pub asks_on : (pending then : Pending) → pending_in c.task ≡ Some pending → pending_in r.client.task ≡ Some then → (k : ℕ) → ask_at then k ≡ ask_at pending k
+  asks_on pending then was now k = by (subst (λ o. GoesOn c call o r) was (laws.goes_on c call r is answer)).1
+    where
+      by : IsEnd c pending r ⊎ Continues c call pending r → ask_at then k ≡ ask_at pending k
+      by (inl ends) = absurd (none-some then (sym (ap pending_in ends.idle) ∙ now))
+      by (inr on) = ap (λ (p : Pending). ask_at p k) (same_Some then on.later (sym now ∙ on.after)) ∙ same_ask pending on.later k on.event on.first
 
   -- What is unanswered was so before, or has the next number.
   pub unanswered_from : (p : Packet) → unanswered r.client.task ≡ Some p → (unanswered c.task ≡ Some p) ⊎ (number_of p.1 ≡ Some (next_at c p.0))
@@ -139,23 +178,8 @@ module _ (laws : OfCalls) (c : Client) (call : Call) (r : Reaction) (is : IsClie
       ]
       by (inr (q, one)) = inr (subst (λ (o : Packet). number_of o.1 ≡ Some (next_at c o.0)) (same_Some q p (sym one.unanswered_is ∙ e)) one.number)
 
-  pub sent_still : (s n : ℕ) (m : Message) → HasSent s n m c → HasSent s n m r.client
-  sent_still s n m old = record {
-    used = let low = old.used in let more = rises.numbers s in omega (arith, low, more);
-    own = to_some (λ (p : Packet). p.0 ≡ s → number_of p.1 ≡ Some n → p.1 ≡ m) (unanswered r.client.task) (λ p e. by p (unanswered_from p e));
-  }
-    where
-      by : (p : Packet) → (unanswered c.task ≡ Some p) ⊎ (number_of p.1 ≡ Some (next_at c p.0)) → p.0 ≡ s → number_of p.1 ≡ Some n → p.1 ≡ m
-      by p (inl was) here number = from_some (λ (p : Packet). p.0 ≡ s → number_of p.1 ≡ Some n → p.1 ≡ m) (unanswered c.task) p was old.own here number
-      by p (inr next) here number =
-          absurd (let low = old.used in let n_is : n ≡ next_at c s = same_Some n (next_at c s) (sym number ∙ next ∙ ap (λ x. Some (next_at c x)) here) in omega (arith, low, n_is))
-
-  pub said_still : (s : ℕ) (m : Message) → IsSaid s m c → IsSaid s m r.client
-  said_still s (messages.Hello version client fresh) old = tt
-  said_still s (messages.Out n row) old = sent_still s n (messages.Out n row) old
-  said_still s (messages.Ask k remove template) old = ticket_still k _ old
-  said_still s (messages.Accept n k id) old = sent_still s n (messages.Accept n k id) old
-  said_still s (messages.Cancel k) old = tt
+  pub later : IsLater c r.client
+  later = record { tickets = rises.tickets; numbers = rises.numbers; asked = open_before; from = unanswered_from }
 
   -- A numbered message that is sent has a used number, and is what is unanswered then.
   numbered_sent : (s n : ℕ) (m : Message) → Contains r.packets (s, m) → number_of m ≡ Some n → HasSent s n m r.client

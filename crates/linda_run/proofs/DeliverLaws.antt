@@ -1,8 +1,8 @@
 -- What becomes of packets where some count as delivered, and others are sent.
-use Rattle.std.proofs.Common.{◌≡◌, ℕ, zero, suc, Bool, true, false, List, [], ◌∷◌, ◌++◌, map, Some, All, Contains, slice_get, ◌⊎◌, inl, inr, refl, sym, ap, ◌∙◌, subst}
+use Rattle.std.proofs.Common.{◌≡◌, ℕ, zero, suc, Bool, true, List, [], ◌∷◌, ◌++◌, map, Some, All, Contains, slice_get, ◌⊎◌, inl, inr, sym, ap, ◌∙◌, subst}
 use Rattle.std.specs.Prelude.{option_map}
 use Rattle.std.proofs.lemmas.Option.{none-some, same_Some, slice_get-map}
-use Rattle.std.proofs.lemmas.List.Elements.{All-cons, All-head, All-tail, All-append, All-map, All-contains, Contains-append_left, Contains-append_right}
+use Rattle.std.proofs.lemmas.List.Elements.{All-cons, All-head, All-tail, All-append, All-map, All-contains}
 use Rattle.linda_wire.specs.declared.message.Message.{Message}
 use Rattle.linda_run.specs.declared.packet.Body.{Body}
 use Rattle.linda_run.specs.declared.packet.Body.TheVariants as bodies
@@ -75,7 +75,7 @@ same_but_one (suc k) (suc i) (q ∷ ps) p there = same_but_one k i ps p there
 pub same_or_delivered : (k : ℕ) (ps : List Packet) (p : Packet) → Contains ps p → Contains (delivered_at k ps) p ⊎ (slice_get ps k ≡ Some p)
 same_or_delivered k ps p there =
     let at = place ps p there in
-    elim (same_but_one k at.0 ps p at.1) [ | inl same ↦ inl (placed (delivered_at k ps) at.0 p same) | inr it ↦ inr it ]
+    elim (same_but_one k at.0 ps p at.1) [ inl same ↦ inl (placed (delivered_at k ps) at.0 p same) | inr it ↦ inr it ]
 
 -- Messages that are delivered leave each other and each packet that is no message as it was.
 message_still : (ps : List Packet) (s j k : ℕ) (m : ℕ × Message) → IsMessageAt ps s k m → IsMessageAt (delivered_at j ps) s k m

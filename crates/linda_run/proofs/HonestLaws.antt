@@ -1,13 +1,11 @@
 -- Each step keeps a world honest, and what is honest is safe.
-use Rattle.std.proofs.Common.{◌≡◌, ◌≢◌, ℕ, ◌+◌, ◌<◌, ◌≤◌, Bool, true, false, true≢false, List, [], ◌∷◌, ◌++◌, length, map, option_to_list, Contains, slice_get, set, ◌⊎◌, inl, inr, refl, sym, ap, ◌∙◌, subst, arith, append-nil, append_assoc}
-use Rattle.std.specs.Prelude.{Option, Some, None, All, IfSome, Result, Ok, Err, option_map}
-use Rattle.std.specs.Global.{Vec}
+use Rattle.std.proofs.Common.{◌≡◌, ◌≢◌, ℕ, ◌≤◌, true, true≢false, List, [], ◌∷◌, ◌++◌, length, option_to_list, Contains, slice_get, set, ◌⊎◌, inl, inr, refl, sym, ap, ◌∙◌, subst, arith, append-nil, append_assoc}
+use Rattle.std.specs.Prelude.{Some, None, IfSome, Result, Ok, Err, option_map}
 use Rattle.std.proofs.lemmas.Option.{none-some, same_Some}
 use Rattle.std.proofs.lemmas.List.{length-set}
 use Rattle.std.proofs.lemmas.List.Elements.{All-nil, All-cons, All-weaker, All-contains, All-contains_itself, Contains-append_left, Contains-push_cases}
-use Rattle.std.specs.FinMap.{get, insert}
+use Rattle.std.specs.FinMap.{get}
 use Rattle.linda_bag.proofs.Maps.{get_empty}
-use Rattle.linda_wire.specs.declared.message.Message.{Message}
 use Rattle.linda_wire.specs.declared.message.Message.TheVariants as messages
 use Rattle.linda_wire.specs.declared.reply.Reply.{Reply}
 use Rattle.linda_wire.specs.declared.reply.Reply.TheVariants as replies
@@ -23,29 +21,29 @@ use Rattle.linda_state.proofs.StateLaws.{empty_is_state}
 use Rattle.linda_state.proofs.AfterLaws.{none_after}
 use Rattle.linda_state.proofs.ProperLaws.{none_proper}
 use Rattle.linda_step.specs.Store.{IsOrderly}
-use Rattle.linda_step.specs.History.{Coming, says}
+use Rattle.linda_step.specs.History.{says}
 use Rattle.linda_step.proofs.OrderLaws.{no_asks_orderly}
-use Rattle.linda_promise.specs.Replying.{tells_deed, IsReplyTo, IsHandedOver, IsPassed}
+use Rattle.linda_promise.specs.Replying.{tells_deed, IsReplyTo, IsHandedOver}
 use Rattle.linda_store.specs.declared.node.NodeFault.{NodeFault}
 use Rattle.linda_store.specs.declared.node.NodeFault.TheVariants as faults
 use Rattle.linda_store.specs.Node.{Node, NodeAnswer, Sent, IsFull, IsDown, Works, Closes}
-use Rattle.linda_store.specs.Sound.{IsSound, AreBacked, added}
+use Rattle.linda_store.specs.Sound.{IsSound, AreBacked}
 use Rattle.linda_client.specs.Client.{Client, IsClient, next_at}
 use Rattle.linda_client.specs.Packets as packets
 use Rattle.linda_client.specs.Packets.{unanswered}
 use Rattle.linda_client.specs.Numbers.{number_of}
-use Rattle.linda_client.specs.Reaction.{Reaction}
-use Rattle.linda_client.specs.React.{Call, Receive, new_client, react}
+use Rattle.linda_client.specs.React.{Call, new_client}
 use Rattle.linda_run.specs.declared.event.WorldEvent.{WorldEvent}
 use Rattle.linda_run.specs.declared.packet.Body.{Body}
 use Rattle.linda_run.specs.declared.packet.Body.TheVariants as bodies
 use Rattle.linda_run.specs.declared.packet.Packet.{Packet}
-use Rattle.linda_run.specs.World.{Server, Member, World, Handed, handed_by, place_of, given_by, member_then, sent_by, sent_from}
-use Rattle.linda_run.specs.Steps.{Told, Task, Takes, Leaves, Saves, Halts, silent, Does, sends_of, HasReacted, HasServed, HasJoined, Steps}
+use Rattle.linda_run.specs.World.{Server, Member, World, handed_by, place_of, given_by, member_then, sent_by, sent_from}
+use Rattle.linda_run.specs.declared.seen.Seen.{Seen}
+use Rattle.linda_run.specs.Steps.{Told, Task, Takes, Leaves, Saves, Halts, served, silent, Does, sends_of, HasReacted, HasServed, HasJoined, Steps}
 use Rattle.linda_run.specs.Reached.{IsNew, IsStart, IsReached, begins, joins, goes}
-use Rattle.linda_run.specs.Promises.{OfEach, IsOnce, IsGivenOnce, OfServer, DeedsStay, IsRightful, IsBacked, IsGone, OfPackets, IsSafe, IsHanded}
-use Rattle.linda_run.specs.Honest.{IsEarned, OfServers, IsHonest}
-use Rattle.linda_run.proofs.Below.{OfSound, OfDeeds, OfCalls}
+use Rattle.linda_run.specs.Promises.{OfEach, IsOnce, OfServer, DeedsStay, IsRightful, IsBacked, IsGone, OfPackets, IsSafe, IsHanded}
+use Rattle.linda_run.specs.Honest.{IsEarned, IsHonest}
+use Rattle.linda_run.specs.Below.{OfSound, OfDeeds, OfCalls}
 use Rattle.linda_run.proofs.PlaceLaws.{set_there, each_of_set, each_of_insert, same_or_apart, placed, none_there, none_twice, pushed_once}
 use Rattle.linda_run.proofs.DeliverLaws.{of_more}
 use Rattle.linda_run.proofs.CallLaws.{from_some, to_some, rises, unanswered_from, IsGiven, given_now, given_used}
@@ -353,6 +351,9 @@ start_honest w start = record {
       lost = λ down. absurd (true≢false (sym down ∙ is.unused.is_up));
     }
 
+abbrev saw : Seen → Told
+saw seen = Ok seen
+
 module _ (of_sound : OfSound) (of_deeds : OfDeeds) (of_calls : OfCalls) where
   pub step_honest : (w new : World) (told : Told) → IsHonest w → Course w told new → IsHonest new
   step_honest w new told honest (reacts call c ks called reaction) = reacted_honest of_deeds of_calls call c ks w new told honest called reaction
@@ -399,3 +400,24 @@ module _ (of_sound : OfSound) (of_deeds : OfDeeds) (of_calls : OfCalls) where
 
   pub reached_safe : (w : World) → IsReached w → IsSafe w
   reached_safe w reached = honest_safe w (reached_honest w reached)
+
+  -- What is handed over by a step is what was put.
+  pub reached_handed : (w new : World) (event : WorldEvent) (seen : Seen) → IsReached w → Steps w event (Ok seen) new → IfSome seen.client (λ c. IsHanded new c (handed_by seen.outcome))
+  reached_handed w new event seen reached step = by (course w new event (Ok seen) step)
+    where
+      same_seen : (a b : Seen) → saw a ≡ saw b → a ≡ b
+      same_seen a b e = cc
+
+      by_answer : (s : ℕ) (a : NodeAnswer) → Ok seen ≡ served s a → IfSome seen.client (λ c. IsHanded new c (handed_by seen.outcome))
+      by_answer s (Sent sends) e = subst (λ (x : Seen). IfSome x.client (λ c. IsHanded new c (handed_by x.outcome))) (sym (same_seen seen _ e)) tt
+      by_answer s IsFull e = subst (λ (x : Seen). IfSome x.client (λ c. IsHanded new c (handed_by x.outcome))) (sym (same_seen seen _ e)) tt
+      by_answer s IsDown e = absurd (never s e)
+        where
+          never : (s : ℕ) → Ok seen ≡ Err s → ⊥
+          never s e = cc
+
+      by : Course w (Ok seen) new → IfSome seen.client (λ c. IsHanded new c (handed_by seen.outcome))
+      by (reacts call c ks called reaction) =
+          subst (λ (x : Seen). IfSome x.client (λ c. IsHanded new c (handed_by x.outcome))) (sym (same_seen seen _ reaction.told_is))
+          (handed_right of_deeds of_calls call c ks w new (Ok seen) (reached_honest w reached) called reaction)
+      by (serves task s ks asked is) = by_answer s is.answer is.told_is

@@ -1,5 +1,5 @@
 -- Lists and maps in which one place was set, and lists in which nothing stands twice.
-use Rattle.std.proofs.Common.{◌≡◌, ◌≢◌, ℕ, zero, suc, ◌+◌, List, [], ◌∷◌, ◌++◌, length, Option, Some, Contains, slice_get, set, ◌⊎◌, inl, inr, refl, sym, ap, ◌∙◌, subst}
+use Rattle.std.proofs.Common.{◌≡◌, ◌≢◌, ℕ, zero, suc, List, [], ◌∷◌, ◌++◌, length, Some, Contains, slice_get, set, ◌⊎◌, inl, inr, refl, sym, ap, ◌∙◌, subst}
 use Rattle.std.proofs.lemmas.Option.{none-some, same_Some, slice_get-get_or, get_or_from_slice_get, slice_get_within}
 use Rattle.std.proofs.lemmas.Bool.Decides.{eqb_tells}
 use Rattle.std.specs.FinMap.{FinMap, get, insert}
@@ -8,7 +8,7 @@ use Rattle.linda_bag.proofs.Maps.{get_same, get_other}
 use Rattle.linda_run.specs.Promises.{IsOnce}
 
 pub same_or_apart : (i k : ℕ) → (i ≡ k) ⊎ (i ≢ k)
-same_or_apart i k = elim (eqb_tells i k) [ | inl same ↦ inl same.1 | inr apart ↦ inr apart.1 ]
+same_or_apart i k = elim (eqb_tells i k) [ inl same ↦ inl same.1 | inr apart ↦ inr apart.1 ]
 
 -- What stands at a place where one was set: the new one there, and the old ones elsewhere.
 pub set_there : {X : Type 0} (xs : List X) (i : ℕ) (x old : X) → slice_get xs i ≡ Some old → slice_get (set xs i x) i ≡ Some x
@@ -62,7 +62,7 @@ place_pushed : {X : Type 0} (xs : List X) (x y : X) (i : ℕ) → slice_get (xs 
 place_pushed [] x y zero found = inr (refl, same_Some x y found)
 place_pushed [] x y (suc i) found = absurd (none-some y found)
 place_pushed (z ∷ xs) x y zero found = inl found
-place_pushed (z ∷ xs) x y (suc i) found = elim (place_pushed xs x y i found) [ | inl before ↦ inl before | inr last ↦ inr (ap suc last.0, last.1) ]
+place_pushed (z ∷ xs) x y (suc i) found = elim (place_pushed xs x y i found) [ inl before ↦ inl before | inr last ↦ inr (ap suc last.0, last.1) ]
 
 -- One more stands once, if it was not there.
 pub pushed_once : {X : Type 0} (xs : List X) (x : X) → IsOnce xs → (Contains xs x → ⊥) → IsOnce (xs ++ x ∷ [])

@@ -1,5 +1,5 @@
 -- What each step keeps of deeds, replies and what was given: whatever is told was done.
-use Rattle.std.specs.Prelude.{◌≡◌, ◌≢◌, ℕ, ◌<◌, ◌≤◌, List, length, Some, All, Contains, IfSome}
+use Rattle.std.specs.Prelude.{◌≡◌, ◌≢◌, ℕ, ◌<◌, ◌≤◌, List, length, Some, Contains, IfSome}
 use Rattle.std.specs.List.{slice_get}
 use Rattle.linda_state.specs.declared.deed.Deed.TheVariants.{Take}
 use Rattle.linda_store.specs.Sound.{IsSound}

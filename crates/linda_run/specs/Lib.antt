@@ -4,3 +4,4 @@ pub mod Reached
 pub mod Promises
 pub mod Honest
 pub mod Reasons
+pub mod Below

@@ -1,9 +1,8 @@
 -- What holds in every world that a run leads to, whatever is lost, repeated, delayed or stopped.
-use Rattle.std.specs.Prelude.{◌≡◌, ℕ, Bool, true, false, List, ◌++◌, Option, Some, None, All, Contains, IfSome, IsSome, ◌⊎◌}
+use Rattle.std.specs.Prelude.{◌≡◌, ℕ, Bool, true, false, List, ◌++◌, Option, Some, All, Contains, IfSome, IsSome, ◌⊎◌}
 use Rattle.std.specs.List.{slice_get}
 use Rattle.std.specs.FinMap as map
 use Rattle.linda_wire.specs.declared.message.Message.TheVariants as messages
-use Rattle.linda_wire.specs.declared.reply.Reply.{Reply}
 use Rattle.linda_wire.specs.declared.reply.Reply.TheVariants as replies
 use Rattle.linda_tuple.specs.Tuple.{Tuple}
 use Rattle.linda_state.specs.declared.deed.Deed.{Deed}
@@ -90,4 +89,4 @@ AreHeldRightly w = (s : ℕ) (server : Server) (id : ℕ) (pair : ℕ × ℕ)
     → slice_get w.servers s ≡ Some server → server.node.is_down ≡ false
     → map.get server.node.soft.holds id ≡ Some pair
     → IsOpenAt w.members pair.0 pair.1
-      ⊎ (HasCancel w.packets s pair.0 pair.1 ⊎ HasOffer w.packets s pair.0 pair.1 id)
+    ⊎ (HasCancel w.packets s pair.0 pair.1 ⊎ HasOffer w.packets s pair.0 pair.1 id)

@@ -13,6 +13,9 @@ mod packet;
 mod seen;
 
 pub use event::WorldEvent;
-pub use laws::{deeds_stay, worlds_are_safe};
+pub use laws::{
+    deeds_are_learned, deeds_stay, holds_have_reasons, servers_stay_sound,
+    what_is_handed_over_was_put, worlds_are_safe,
+};
 pub use packet::{Body, Packet};
 pub use seen::Seen;

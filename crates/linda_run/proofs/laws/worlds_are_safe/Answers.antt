@@ -1,35 +1,5 @@
-use Rattle.linda_run.proofs.Below.{OfSound, OfDeeds, OfCalls}
 use Rattle.linda_run.proofs.HonestLaws.{reached_safe}
 use Rattle.linda_run.proofs.laws.worlds_are_safe.Goals as goal
 
 pub returns : goal.returns
-returns c =
-    let of_sound : OfSound = record {
-      works = c.a_server_stays_sound.ensures.works;
-      works_backed = c.a_server_stays_sound.ensures.works_backed;
-      closes = c.a_server_stays_sound.ensures.closes;
-      closes_backed = c.a_server_stays_sound.ensures.closes_backed;
-      snaps = c.a_server_stays_sound.ensures.snaps;
-      stops = c.a_server_stays_sound.ensures.stops;
-    } in
-    let of_deeds : OfDeeds = record {
-      taken_once = c.no_tuple_is_taken_twice.ensures;
-      handed = c.takes_are_handed_over.ensures;
-      one_take = c.a_tuple_is_taken_by_one.ensures;
-      numbered = c.replies_tell_deeds.ensures.once;
-      told_take = c.replies_tell_deeds.ensures.taken;
-      told_tuple = c.replies_tell_deeds.ensures.tuple;
-      told_gone = c.replies_tell_deeds.ensures.gone;
-    } in
-    let of_calls : OfCalls = record {
-      new = c.calls_keep_clients.ensures.new;
-      kept = c.calls_keep_clients.ensures.kept;
-      rises = c.numbers_go_on.ensures.rises;
-      numbers = c.numbers_go_on.ensures.numbers;
-      packets = c.packets_are_sound.ensures;
-      goes_on = c.synchronizations_go_on.ensures;
-      taken = c.only_a_taken_takes.ensures;
-      treated = c.offers_are_treated.ensures;
-      in_hand = c.offers_in_hand_are_kept.ensures;
-    } in
-    reached_safe of_sound of_deeds of_calls
+returns c = reached_safe c.laws_below.ensures.sound c.laws_below.ensures.deeds c.laws_below.ensures.calls

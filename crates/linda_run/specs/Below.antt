@@ -1,5 +1,5 @@
 -- The laws of the layers below that a run stands on, as their functions' contracts state them.
-use Rattle.std.specs.Prelude.{◌≡◌, ◌≤◌, ℕ, ◌-◌, List, ◌++◌, Some, Ok, All, Contains, Result}
+use Rattle.std.specs.Prelude.{◌≡◌, ◌≤◌, ℕ, ◌-◌, List, ◌++◌, Some, All, Contains, Result}
 use Rattle.std.specs.List.{slice_get}
 use Rattle.std.specs.Global.{Vec}
 use Rattle.linda_tuple.specs.Tuple.{Tuple}
@@ -23,7 +23,7 @@ use Rattle.linda_promise.specs.Replying.{IsHandedOver, IsPassed, IsReplyTo}
 use Rattle.linda_store.specs.declared.node.NodeFault.{NodeFault}
 use Rattle.linda_store.specs.Node.{Node, NodeAnswer, Sent, Works, Closes, Snaps, Stops}
 use Rattle.linda_store.specs.Sound.{IsSound, AreBacked, added}
-use Rattle.linda_client.specs.Client.{Client, IsClient, pending_in, server_limit}
+use Rattle.linda_client.specs.Client.{IsClient, pending_in, server_limit}
 use Rattle.linda_client.specs.Ending.{TakenBy}
 use Rattle.linda_client.specs.Numbers.{NumbersGoOn, Rises}
 use Rattle.linda_client.specs.Offers.{KeepsOffers, TreatsOffers}
