@@ -1,0 +1,2 @@
+pub mod LearnLaws
+pub mod ServedLaws

@@ -1,0 +1,3 @@
+pub mod MessageCode
+pub mod Code
+pub mod Answer
