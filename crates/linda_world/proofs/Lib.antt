@@ -1,2 +1,3 @@
 pub mod LearnLaws
 pub mod ServedLaws
+pub mod MemberLaws

@@ -34,6 +34,6 @@ pub record Serves (task : Task) (s : ℕ) (old : Server) (ps : List Packet) (tol
   pub told_is : told ≡ served s answer
 
 -- A server did that; or memory ran out, and its deeds and the packets are as before.
-abbrev pub ServesOrNot : Task → ℕ → Server → List Packet → Result Seen WorldFault → Server → List Packet → Type 0
-ServesOrNot task s old ps result new later =
-    Tells (λ told. Serves task s old ps told new later) (λ fault. ⊥) ((new.deeds ≡ old.deeds) × (later ≡ ps)) result
+abbrev pub ServesOrNot : {E : Type 0} → Task → ℕ → Server → List Packet → Result Told E → Server → List Packet → Type 0
+ServesOrNot task s old ps (Ok told) new later = Serves task s old ps told new later
+ServesOrNot task s old ps (Err short) new later = (new.deeds ≡ old.deeds) × (later ≡ ps)

@@ -1,3 +1,5 @@
 pub mod MessageCode
 pub mod Code
 pub mod Answer
+pub mod Call
+pub mod Member

@@ -6,8 +6,10 @@
 //! held is held for a reason.
 #![tactic(auto)]
 
+mod call;
 mod fault;
 mod learn;
+mod member;
 mod post;
 mod server;
 

@@ -6,15 +6,17 @@ ghost use Rattle.linda_store.specs.Node.{IsBatch, in_hand};
 ghost use Rattle.linda_run.specs.Steps.{Takes, Leaves, Saves, Halts};
 ghost use Rattle.linda_world.specs.Answer.{ServesOrNot};
 
-use crate::fault::WorldFault;
 use crate::learn::{last_number, told_deed};
 use crate::post::{append_both, packets_from, refuse_full};
 use linda_disk::Torn;
 use linda_run::{Packet, Seen, deeds_are_learned};
 use linda_store::{Deed, Node, NodeFault, Work};
 use linda_wire::Message;
-use std::alloc::Global;
+use std::alloc::{AllocError, Global};
 use std::marker::Model;
+
+/// What a server's call tells: what is seen of it, or that the server of this number is down.
+pub(crate) type Told = Result<Seen, u32>;
 
 /// A node, and all deeds that it ever did.
 #[derive(Drop)]
@@ -55,7 +57,7 @@ impl<N: Node> Server<N> {
         client: u32,
         message: Message,
         packets: &mut Vec<Packet>,
-    ) -> Result<Seen, WorldFault>
+    ) -> Result<Told, AllocError>
         requires { IsSound self.old.deeds self.old.node }
         ensures { ServesOrNot (Takes client message) server self.old packets.old.items result self.new packets.new.items }
     {
@@ -66,14 +68,14 @@ impl<N: Node> Server<N> {
                 let deed = told_deed(client, message, last, &sends);
                 let more = packets_from(alloc, server, sends)?;
                 append_both(packets, more, &mut self.deeds, deed)?;
-                return Ok(served(false));
+                return Ok(Ok(served(false)));
             }
             Err(NodeFault::Full) => {
                 let mut more = packets_from(alloc, server, refuse_full(alloc, client)?)?;
                 packets.append(&mut more)?;
-                return Ok(served(true));
+                return Ok(Ok(served(true)));
             }
-            Err(NodeFault::Down) => return Err(WorldFault::Down(server)),
+            Err(NodeFault::Down) => return Ok(Err(server)),
         }
     }
 
@@ -84,28 +86,28 @@ impl<N: Node> Server<N> {
         server: u32,
         client: u32,
         packets: &mut Vec<Packet>,
-    ) -> Result<Seen, WorldFault>
+    ) -> Result<Told, AllocError>
         ensures { ServesOrNot (Leaves client) server self.old packets.old.items result self.new packets.new.items }
     {
         match self.node.close(alloc, client) {
             Ok(sends) => {
                 let mut more = packets_from(alloc, server, sends)?;
                 packets.append(&mut more)?;
-                return Ok(served(false));
+                return Ok(Ok(served(false)));
             }
-            Err(NodeFault::Full) => return Ok(served(true)),
-            Err(NodeFault::Down) => return Err(WorldFault::Down(server)),
+            Err(NodeFault::Full) => return Ok(Ok(served(true))),
+            Err(NodeFault::Down) => return Ok(Err(server)),
         }
     }
 
     /// Writes a snapshot. Nothing is sent.
-    pub(crate) fn snapshot(&mut self, alloc: Global, server: u32) -> Result<Seen, WorldFault>
+    pub(crate) fn snapshot(&mut self, alloc: Global, server: u32) -> Result<Told, AllocError>
         ensures { ServesOrNot Saves server self.old [] result self.new [] }
     {
         match self.node.snapshot(alloc) {
             Ok(()) => return Ok(served(false)),
-            Err(NodeFault::Full) => return Ok(served(true)),
-            Err(NodeFault::Down) => return Err(WorldFault::Down(server)),
+            Err(NodeFault::Full) => return Ok(Ok(served(true))),
+            Err(NodeFault::Down) => return Ok(Err(server)),
         }
     }
 
@@ -117,17 +119,17 @@ impl<N: Node> Server<N> {
         work: Work,
         at: u64,
         torn: Torn,
-    ) -> Result<Seen, WorldFault>
+    ) -> Result<Told, AllocError>
         requires { IsBatch work }
         ensures { ServesOrNot (Halts (in_hand work)) server self.old [] result self.new [] }
     {
         match self.node.stop(alloc, work, at, torn) {
             Ok(mut added) => {
                 self.deeds.append(&mut added)?;
-                return Ok(served(false));
+                return Ok(Ok(served(false)));
             }
-            Err(NodeFault::Full) => return Ok(served(true)),
-            Err(NodeFault::Down) => return Err(WorldFault::Down(server)),
+            Err(NodeFault::Full) => return Ok(Ok(served(true))),
+            Err(NodeFault::Down) => return Ok(Err(server)),
         }
     }
 }
