@@ -1,11 +1,12 @@
 //! What holds of every world that a run leads to, and of every step: each told by the contract of a function that does
 //! nothing but call the laws of the layers below.
 
-ghost use Rattle.std.specs.Prelude.{◌≡◌, ℕ, List, [], ◌∷◌, Ok, IfSome, option_to_list};
+ghost use Rattle.std.specs.Prelude.{◌≡◌, ◌≤◌, ℕ, List, [], ◌∷◌, length, Ok, IfSome, option_to_list};
 ghost use Rattle.linda_wire.specs.declared.message.Message.{Message};
 ghost use Rattle.linda_wire.specs.declared.reply.Reply.{Reply};
 ghost use Rattle.linda_state.specs.declared.deed.Deed.{Deed};
 ghost use Rattle.linda_step.specs.History.{says};
+ghost use Rattle.linda_client.specs.Client.{server_limit};
 ghost use Rattle.linda_promise.specs.Learning.{deed_told};
 ghost use Rattle.linda_promise.specs.Numbers.{last_number};
 ghost use Rattle.linda_store.specs.Node.{Node, Sent, Works};
@@ -62,6 +63,14 @@ pub fn deeds_stay()
 /// The deeds of each server are a proper list, and the state of its node is the one after them.
 pub fn servers_stay_sound()
     ensures { (w : World) → IsReached w → OfServers w (λ s server. IsSound server.deeds server.node) }
+{
+    laws_below();
+}
+
+/// A world has 1 to 16 servers.
+pub fn servers_are_few()
+    ensures some { (w : World) → IsReached w → 1 ≤ length w.servers }
+    ensures few { (w : World) → IsReached w → length w.servers ≤ server_limit }
 {
     laws_below();
 }

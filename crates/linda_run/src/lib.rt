@@ -14,7 +14,7 @@ mod seen;
 
 pub use event::WorldEvent;
 pub use laws::{
-    deeds_are_learned, deeds_stay, holds_have_reasons, servers_stay_sound,
+    deeds_are_learned, deeds_stay, holds_have_reasons, servers_are_few, servers_stay_sound,
     what_is_handed_over_was_put, worlds_are_safe,
 };
 pub use packet::{Body, Packet};

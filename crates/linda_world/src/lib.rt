@@ -9,8 +9,13 @@
 mod call;
 mod fault;
 mod learn;
+mod mark;
 mod member;
 mod post;
+mod scene;
 mod server;
+mod world;
 
 pub use fault::WorldFault;
+pub use linda_run::{Body, Packet, Seen, WorldEvent};
+pub use world::World;

@@ -105,7 +105,7 @@ impl<N: Node> Server<N> {
         ensures { ServesOrNot Saves server self.old [] result self.new [] }
     {
         match self.node.snapshot(alloc) {
-            Ok(()) => return Ok(served(false)),
+            Ok(()) => return Ok(Ok(served(false))),
             Err(NodeFault::Full) => return Ok(Ok(served(true))),
             Err(NodeFault::Down) => return Ok(Err(server)),
         }
