@@ -1,0 +1,9 @@
+pub mod PlaceLaws
+pub mod DeliverLaws
+pub mod CallLaws
+pub mod Course
+pub mod HonestLaws
+pub mod NumberLaws
+pub mod ComingLaws
+pub mod ServeLaws
+pub mod ReasonLaws

@@ -1,0 +1,109 @@
+//! What holds of every world that a run leads to, and of every step: each told by the contract of a function that does
+//! nothing but call the laws of the layers below.
+
+ghost use Rattle.std.specs.Prelude.{◌≡◌, ◌≤◌, ℕ, List, [], ◌∷◌, length, Ok, IfSome, option_to_list};
+ghost use Rattle.linda_wire.specs.declared.message.Message.{Message};
+ghost use Rattle.linda_wire.specs.declared.reply.Reply.{Reply};
+ghost use Rattle.linda_state.specs.declared.deed.Deed.{Deed};
+ghost use Rattle.linda_step.specs.History.{says};
+ghost use Rattle.linda_client.specs.Client.{server_limit};
+ghost use Rattle.linda_promise.specs.Learning.{deed_told};
+ghost use Rattle.linda_promise.specs.Numbers.{last_number};
+ghost use Rattle.linda_store.specs.Node.{Node, Sent, Works};
+ghost use Rattle.linda_store.specs.Sound.{IsSound};
+ghost use Rattle.linda_run.specs.declared.event.WorldEvent.{WorldEvent};
+ghost use Rattle.linda_run.specs.declared.seen.Seen.{Seen};
+ghost use Rattle.linda_run.specs.World.{World, handed_by};
+ghost use Rattle.linda_run.specs.Steps.{Told, Steps};
+ghost use Rattle.linda_run.specs.Reached.{IsReached};
+ghost use Rattle.linda_run.specs.Promises.{AreHeldRightly, DeedsStay, IsHanded, IsSafe};
+ghost use Rattle.linda_run.specs.Honest.{OfServers};
+ghost use Rattle.linda_run.specs.Below.{OfSound, OfDeeds, OfSteps, OfCalls};
+
+use linda_client::{
+    calls_keep_clients, numbers_go_on, offers_are_treated, offers_in_hand_are_kept,
+    only_a_taken_takes, packets_are_sound, synchronizations_go_on,
+};
+use linda_store::{
+    a_server_stays_sound, a_tuple_is_taken_by_one, closings_offer_what_is_wanted, deeds_are_told,
+    no_tuple_is_taken_twice, replies_tell_deeds, steps_do_what_is_said, steps_offer_what_is_wanted,
+    takes_are_handed_over,
+};
+
+/// No tuple is taken twice. What clients were given, over all of them, are pairs that differ; each was put once and
+/// taken once, by that client; each reply that tells of a deed is the book's for one of its server's; and a Gone tells of
+/// an Accept that took nothing, and never will.
+pub fn worlds_are_safe()
+    ensures { (w : World) → IsReached w → IsSafe w }
+{
+    laws_below();
+}
+
+/// Each tuple that is held at a server that is up is held for a ticket that is open, or a Cancel of that ticket was sent,
+/// or the Offer was sent and never delivered.
+pub fn holds_have_reasons()
+    ensures { (w : World) → IsReached w → AreHeldRightly w }
+{
+    laws_below();
+}
+
+/// The tuple that a client is given by a step is the one that was put under its id, and that this client took.
+pub fn what_is_handed_over_was_put()
+    ensures { (w new : World) (event : WorldEvent) (seen : Seen) → IsReached w → Steps w event (Ok seen) new
+        → IfSome seen.client (λ c. IsHanded new c (handed_by seen.outcome)) }
+{
+    laws_below();
+}
+
+/// What servers did stays, at each step, and more comes behind it.
+pub fn deeds_stay()
+    ensures { (w new : World) (event : WorldEvent) (told : Told) → Steps w event told new → DeedsStay w new }
+{}
+
+/// The deeds of each server are a proper list, and the state of its node is the one after them.
+pub fn servers_stay_sound()
+    ensures { (w : World) → IsReached w → OfServers w (λ s server. IsSound server.deeds server.node) }
+{
+    laws_below();
+}
+
+/// A world has 1 to 16 servers.
+pub fn servers_are_few()
+    ensures some { (w : World) → IsReached w → 1 ≤ length w.servers }
+    ensures few { (w : World) → IsReached w → length w.servers ≤ server_limit }
+{
+    laws_below();
+}
+
+/// Which deed a node did for a message can be told from the deeds of before and from what it sends.
+pub fn deeds_are_learned()
+    ensures { (ds es : List Deed) (old new : Node) (c : ℕ) (m : Message) (sends : List (ℕ × Reply))
+        → IsSound ds old → Works old (says c m ∷ []) (Sent sends) es new
+        → es ≡ option_to_list (deed_told c m (last_number ds c) sends) }
+{
+    deeds_are_told();
+}
+
+// The laws of the layers below.
+fn laws_below()
+    ensures sound { OfSound }
+    ensures deeds { OfDeeds }
+    ensures steps { OfSteps }
+    ensures calls { OfCalls }
+{
+    a_server_stays_sound();
+    no_tuple_is_taken_twice();
+    takes_are_handed_over();
+    a_tuple_is_taken_by_one();
+    replies_tell_deeds();
+    steps_offer_what_is_wanted();
+    closings_offer_what_is_wanted();
+    steps_do_what_is_said();
+    calls_keep_clients();
+    numbers_go_on();
+    packets_are_sound();
+    synchronizations_go_on();
+    only_a_taken_takes();
+    offers_are_treated();
+    offers_in_hand_are_kept();
+}

@@ -1,0 +1,13 @@
+use Rattle.std.proofs.Common.{◌≡◌, Some, sym, ap, ◌∙◌}
+use Rattle.std.specs.Option.{option_map}
+use Rattle.linda_bag.proofs.Viewed.{viewed}
+use Rattle.linda_run.specs.World.{Member}
+use Rattle.linda_world.proofs.member.Members.got.Goals as goal
+
+pub returns-in-Some : goal.returns-in-Some
+returns-in-Some c =
+    ap (λ l. Some l) c.got.ensures
+    ∙ ap (option_map (λ (m : Member). m.got)) (c.in-Some.ensures.value ∙ viewed c.self.inside.by_number c.args.self.now c.self.view_is c.args.number)
+
+pub returns-in-None : goal.returns-in-None
+returns-in-None c = ap (option_map (λ (m : Member). m.got)) (c.in-None.ensures.value ∙ viewed c.self.inside.by_number c.args.self.now c.self.view_is c.args.number)

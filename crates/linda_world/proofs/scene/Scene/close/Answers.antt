@@ -1,0 +1,14 @@
+use Rattle.std.proofs.Common.{◌≡◌, ◌<◌, [], length, refl, sym, ap, ◌∙◌, subst, arith}
+use Rattle.std.proofs.lemmas.Option.{slice_get_read}
+use Rattle.linda_run.specs.World.{World}
+use Rattle.linda_run.specs.Steps.{HasServed, Leaves}
+use Rattle.linda_world.specs.Refusal.{refusal_at}
+use Rattle.linda_world.specs.Scene.{AsksOrNot}
+use Rattle.linda_world.proofs.SceneLaws.{asked_at}
+use Rattle.linda_world.proofs.scene.Scene.close.Goals as goal
+
+pub returns : goal.returns
+returns g c =
+    let within : c.args.server < length c.self.inside.servers.items = omega (arith, c.if-server-len.false, c.len.ensures) in
+    asked_at (Leaves c.args.client) c.args.server c.self.inside.servers.items c.self.inside.members c.self.inside.packets.items c.close.new.packets.items c.index_mut.result.now c.close.new.self within c.index_mut.ensures.value
+    c.args.self.now c.self.view_is c.close.result c.asked.result c.asked.ensures c.close.ensures

@@ -1,0 +1,9 @@
+pub mod MessageCode
+pub mod Code
+pub mod Answer
+pub mod Call
+pub mod Member
+pub mod Refusal
+pub mod Scene
+pub mod World
+pub mod WorldCode

@@ -1,0 +1,62 @@
+-- Why an event is refused, if it is. A refused event changes nothing.
+use Rattle.std.specs.Prelude.{ℕ, ◌==◌, nat_lt, Bool, true, false, ◌&&◌, if◌then◌else◌, List, length, Option, Some, None}
+use Rattle.std.specs.List.{slice_get, list_all}
+use Rattle.std.specs.FinMap as map
+use Rattle.linda_event.specs.Trees.{tree_of}
+use Rattle.linda_store.specs.declared.work.TheConstants.{MAX_BATCH}
+use Rattle.linda_client.specs.React as calls
+use Rattle.linda_client.specs.React.{Receive, Resend, Abandon}
+use Rattle.linda_run.specs.declared.event.WorldEvent.{WorldEvent}
+use Rattle.linda_run.specs.declared.event.WorldEvent.TheVariants as events
+use Rattle.linda_run.specs.declared.packet.Body.{Body}
+use Rattle.linda_run.specs.declared.packet.Body.TheVariants as bodies
+use Rattle.linda_run.specs.declared.packet.Packet.{Packet}
+use Rattle.linda_run.specs.World.{World}
+use Rattle.linda_world.specs.declared.fault.WorldFault.{WorldFault}
+use Rattle.linda_world.specs.declared.fault.WorldFault.TheVariants as faults
+use Rattle.linda_world.specs.Member.{refusal_to}
+
+-- there is no such server
+abbrev pub refusal_at : World → ℕ → Option WorldFault
+refusal_at w s = if nat_lt s (length w.servers) then None else Some faults.NoServer
+
+-- whether the packet is a message to the server
+abbrev pub is_message_body : Body → Bool
+is_message_body (bodies.Message m) = true
+is_message_body (bodies.Reply r) = false
+
+abbrev pub is_message_to : Option Packet → ℕ → Bool
+is_message_to None s = false
+is_message_to (Some p) s = (p.server == s) && is_message_body p.body
+
+abbrev pub is_message_at : List Packet → ℕ → ℕ → Bool
+is_message_at ps s k = is_message_to (slice_get ps k) s
+
+-- a server cannot be stopped at work on these packets: there is no such server, one is no message to it, or they are too many
+abbrev pub refusal_of_stop : World → ℕ → List ℕ → Option WorldFault
+refusal_of_stop w s ks =
+    if nat_lt s (length w.servers) then (if list_all (is_message_at w.packets s) ks then (if nat_lt MAX_BATCH (length ks) then Some faults.TooManyPackets else None) else Some faults.NoPacket)
+    else Some faults.NoServer
+
+-- a packet cannot be delivered: there is no such server, or its client refuses it
+abbrev pub refusal_by : World → Packet → Body → Option WorldFault
+refusal_by w p (bodies.Message m) = refusal_at w p.server
+refusal_by w p (bodies.Reply r) = refusal_to (map.get w.members p.client) (Receive p.server r)
+
+abbrev pub refusal_of_packet : World → Option Packet → Option WorldFault
+refusal_of_packet w None = Some faults.NoPacket
+refusal_of_packet w (Some p) = refusal_by w p p.body
+
+-- Why the event is refused, if it is.
+abbrev pub refusal : World → WorldEvent → Option WorldFault
+refusal w (events.Out c row) = refusal_to (map.get w.members c) (calls.Out row)
+refusal w (events.Sync c event) = refusal_to (map.get w.members c) (calls.Sync (tree_of event))
+refusal w (events.Abandon c) = refusal_to (map.get w.members c) Abandon
+refusal w (events.Deliver k) = refusal_of_packet w (slice_get w.packets k)
+refusal w (events.Tick c now) = refusal_to (map.get w.members c) (calls.Tick now)
+refusal w (events.Resend c) = refusal_to (map.get w.members c) Resend
+refusal w (events.Reconnect c s) = refusal_to (map.get w.members c) (calls.Reconnected s)
+refusal w (events.Close s c) = refusal_at w s
+refusal w (events.Snapshot s) = refusal_at w s
+refusal w (events.Stop s packets at torn) = refusal_of_stop w s packets.items
+refusal w (events.StopSnapshot s at torn) = refusal_at w s

@@ -1,0 +1,35 @@
+-- What an event of a world comes to: a step, a refusal, or want of memory.
+use Rattle.std.specs.Prelude.{◌≡◌, List, Option, Some, Result, Ok, Err, map}
+use Rattle.linda_run.specs.declared.event.WorldEvent.{WorldEvent}
+use Rattle.linda_run.specs.declared.seen.Seen.{Seen}
+use Rattle.linda_run.specs.World.{Server, World}
+use Rattle.linda_run.specs.Steps.{Told, Steps}
+use Rattle.linda_world.specs.declared.fault.WorldFault.{WorldFault}
+use Rattle.linda_world.specs.declared.fault.WorldFault.TheVariants as faults
+use Rattle.linda_world.specs.Answer.{Tells}
+use Rattle.linda_world.specs.Member.{SameGot}
+use Rattle.linda_world.specs.Refusal.{refusal}
+
+-- It shows the same: what each server did, what each client was given, and all packets.
+pub record IsShownAs (old new : World) : Type 0 where
+  pub deeds : map (λ (s : Server). s.deeds) new.servers ≡ map (λ (s : Server). s.deeds) old.servers
+  pub got : SameGot old.members new.members
+  pub packets : new.packets ≡ old.packets
+
+-- what the world answers where a server told this, or memory ran out
+abbrev pub answer_of : Told → Result Seen WorldFault
+answer_of (Ok seen) = Ok seen
+answer_of (Err s) = Err (faults.Down s)
+
+abbrev pub seen_of : {E : Type 0} → Result Told E → Result Seen WorldFault
+seen_of (Ok told) = answer_of told
+seen_of (Err short) = Err faults.Memory
+
+-- This came of it; or it is refused so, and nothing changed; or memory ran out, and what is shown is as before.
+abbrev pub AsksOrNot : (World → Told → World → Type 0) → Option WorldFault → World → Result Seen WorldFault → World → Type 0
+AsksOrNot Comes refused old result new =
+    Tells (λ told. Comes old told new) (λ fault. (refused ≡ Some fault) × (new ≡ old)) (IsShownAs old new) result
+
+-- What an event comes to.
+abbrev pub Answers : World → WorldEvent → Result Seen WorldFault → World → Type 0
+Answers old event result new = AsksOrNot (λ w told then. Steps w event told then) (refusal old event) old result new

@@ -1,0 +1,86 @@
+-- The machine as contracts see it: a world, and whether memory ran out.
+use Rattle.std.specs.Prelude.{◌≡◌, ℕ, Bool, true, false, List, [], ◌∷◌, ◌++◌, Option, Some, None, Result, Ok, Err, map}
+use Rattle.std.specs.FinMap as maps
+use Rattle.linda_run.specs.declared.event.WorldEvent.{WorldEvent}
+use Rattle.linda_run.specs.declared.seen.Seen.{Seen}
+use Rattle.linda_run.specs.World as run
+use Rattle.linda_run.specs.Steps as steps
+use Rattle.linda_run.specs.Steps.{Told, HasJoined}
+use Rattle.linda_run.specs.Reached.{IsReached}
+use Rattle.linda_run.specs.Reached as reached
+use Rattle.linda_world.specs.declared.fault.WorldFault.{WorldFault}
+use Rattle.linda_world.specs.declared.fault.WorldFault.TheVariants as faults
+use Rattle.linda_world.specs.Answer.{Tells}
+use Rattle.linda_world.specs.Refusal.{refusal}
+use Rattle.linda_world.specs.Scene.{IsShownAs}
+
+pub record World : Type 0 where
+  pub world : run.World
+  pub is_spent : Bool
+
+-- What it shows, the deeds of its servers, what its clients were given, and its packets, is that of a world that a run leads
+-- to; and until memory ran out it is that world.
+pub record IsRun (w : World) : Type 0 where
+  pub now : run.World
+  pub reached : IsReached now
+  pub shown : IsShownAs now w.world
+  pub whole : w.is_spent ≡ false → w.world ≡ now
+
+-- Memory ran out, now or before: it is spent, and shows what it showed; and where it was spent before, nothing changed.
+pub record IsShort (old new : World) : Type 0 where
+  pub spent : new.is_spent ≡ true
+  pub shown : IsShownAs old.world new.world
+  pub same : old.is_spent ≡ true → new ≡ old
+
+-- It was not spent, and a step took place; it is not spent then.
+pub record IsStep (old : World) (event : WorldEvent) (new : World) (told : Told) : Type 0 where
+  pub was : old.is_spent ≡ false
+  pub now : new.is_spent ≡ false
+  pub step : steps.Steps old.world event told new.world
+
+-- It was not spent, and refuses the event; nothing changed.
+pub record Refuses (refused : Option WorldFault) (old new : World) (fault : WorldFault) : Type 0 where
+  pub was : old.is_spent ≡ false
+  pub why : refused ≡ Some fault
+  pub same : new ≡ old
+
+-- What an event comes to: a step, where a server that is down is told as a fault; a refusal; or want of memory.
+abbrev pub Steps : World → WorldEvent → Result Seen WorldFault → World → Type 0
+Steps old event result new = Tells (IsStep old event new) (Refuses (refusal old.world event) old new) (IsShort old new) result
+
+-- These events, one after another, none of them refused and no server down, lead from one to the other.
+abbrev pub Runs : World → List WorldEvent → World → Type 0
+Runs old [] new = new ≡ old
+Runs old (event ∷ events) new = (seen : Seen) × ((mid : World) × (Steps old event (Ok seen) mid × Runs mid events new))
+
+-- These events were done before the one that was answered by the fault, and none after it.
+pub record StopsAt (old : World) (events : List WorldEvent) (fault : WorldFault) (new : World) : Type 0 where
+  pub before : List WorldEvent
+  pub event : WorldEvent
+  pub later : List WorldEvent
+  pub parts : events ≡ before ++ event ∷ later
+  pub mid : World
+  pub runs : Runs old before mid
+  pub step : Steps mid event (Err fault) new
+
+-- What a list of events comes to.
+abbrev pub Ran : World → List WorldEvent → Result (Unit {0}) WorldFault → World → Type 0
+Ran old events (Ok done) new = Runs old events new
+Ran old events (Err fault) new = StopsAt old events fault new
+
+-- A client joined, and nothing is spent.
+pub record IsJoin (c : ℕ) (old new : World) : Type 0 where
+  pub was : old.is_spent ≡ false
+  pub now : new.is_spent ≡ false
+  pub joined : HasJoined c old.world new.world
+
+-- why a client cannot join: its number is known
+abbrev pub refusal_of_client : Option run.Member → Option WorldFault
+refusal_of_client None = None
+refusal_of_client (Some member) = Some faults.ClientKnown
+
+-- What the joining of a client comes to.
+abbrev pub Joins : World → ℕ → Result (Unit {0}) WorldFault → World → Type 0
+Joins old c (Ok done) new = IsJoin c old new
+Joins old c (Err faults.Memory) new = IsShort old new
+Joins old c (Err fault) new = Refuses (refusal_of_client (maps.get old.world.members c)) old new fault

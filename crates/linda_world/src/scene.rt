@@ -1,0 +1,240 @@
+//! What a world is made of, and each event as one step of it.
+
+ghost use Rattle.std.specs.Prelude.{◌≡◌, ◌<◌, Some, [], ◌∷◌, length};
+ghost use Rattle.std.specs.FinMap as map;
+ghost use Rattle.linda_run.specs.Steps.{HasReacted, HasServed, IsStopped, Halts, Leaves, Saves, Takes};
+ghost use Rattle.linda_run.specs.declared.event.WorldEvent.TheVariants as events;
+ghost use Rattle.linda_client.specs.React.{Receive};
+ghost use Rattle.linda_run.specs.Reached.{IsReached};
+ghost use Rattle.linda_world.specs.Call.{call_of};
+ghost use Rattle.linda_world.specs.Member.{refusal_to};
+ghost use Rattle.linda_world.specs.Refusal.{refusal_at, refusal_of_stop};
+ghost use Rattle.linda_world.specs.Scene.{Answers, AsksOrNot, seen_of};
+
+use crate::call::Call;
+use crate::fault::WorldFault;
+use crate::mark::{are_messages, mark, mark_all, messages_at};
+use crate::member::Members;
+use crate::server::{Server, Told};
+use linda_disk::Torn;
+use linda_run::{Body, Packet, Seen, WorldEvent, servers_stay_sound};
+use linda_store::{MAX_BATCH, Node, Work};
+use linda_wire::{Message, Reply};
+use std::alloc::{AllocError, Global};
+use std::marker::Model;
+
+/// The servers, the clients and all packets.
+#[derive(Drop)]
+pub(crate) struct Scene<N: Node> {
+    servers: Vec<Server<N>>,
+    members: Members,
+    packets: Vec<Packet>,
+}
+
+impl<N: Node> Model for Scene<N> {
+    ghost use Rattle.linda_run.specs.World as seen;
+    ghost use Rattle.linda_world.specs.Code.{world_code};
+
+    ghost Value = { seen.World };
+
+    ghost coded = { world_code };
+
+    ghost view = { λ s. record { servers = s.servers.items; members = s.members; packets = s.packets.items } };
+}
+
+/// What the world answers where a server told this, or memory ran out.
+fn asked(told: Result<Told, AllocError>) -> Result<Seen, WorldFault>
+    ensures { result ≡ seen_of told }
+{
+    match told {
+        Ok(Ok(seen)) => Ok(seen),
+        Ok(Err(server)) => Err(WorldFault::Down(server)),
+        Err(_) => Err(WorldFault::Memory),
+    }
+}
+
+impl<N: Node> Scene<N> {
+    // A client makes a call of its own.
+    fn react(&mut self, alloc: Global, client: u32, call: Call) -> Result<Seen, WorldFault>
+        ensures { AsksOrNot (HasReacted (call_of call) client []) (refusal_to (map.get self.old.members client) (call_of call))
+            self.old result self.new }
+    {
+        self.members.react(alloc, client, call, &mut self.packets)
+    }
+
+    // A server closes a client.
+    fn close(&mut self, alloc: Global, server: u32, client: u32) -> Result<Seen, WorldFault>
+        ensures { AsksOrNot (HasServed (Leaves client) server []) (refusal_at self.old server) self.old result self.new }
+    {
+        if server as usize >= self.servers.len() {
+            return Err(WorldFault::NoServer);
+        }
+        let packets = &mut self.packets;
+        asked(self.servers[server as usize].close(alloc, server, client, packets))
+    }
+
+    // A server writes a snapshot.
+    fn snapshot(&mut self, alloc: Global, server: u32) -> Result<Seen, WorldFault>
+        ensures { AsksOrNot (HasServed Saves server []) (refusal_at self.old server) self.old result self.new }
+    {
+        if server as usize >= self.servers.len() {
+            return Err(WorldFault::NoServer);
+        }
+        asked(self.servers[server as usize].snapshot(alloc, server))
+    }
+
+    // A server is stopped while it writes a snapshot.
+    fn stop_snapshot(
+        &mut self,
+        alloc: Global,
+        server: u32,
+        at: u64,
+        torn: Torn,
+    ) -> Result<Seen, WorldFault>
+        ensures { AsksOrNot (HasServed (Halts []) server []) (refusal_at self.old server) self.old result self.new }
+    {
+        if server as usize >= self.servers.len() {
+            return Err(WorldFault::NoServer);
+        }
+        let work = Work::Snapshot;
+        asked(self.servers[server as usize].stop(alloc, server, work, at, torn))
+    }
+
+    // A server is stopped at work on these packets.
+    fn stop(
+        &mut self,
+        alloc: Global,
+        server: u32,
+        ks: Vec<usize>,
+        at: u64,
+        torn: Torn,
+    ) -> Result<Seen, WorldFault>
+        ensures { AsksOrNot (IsStopped server ks.items) (refusal_of_stop self.old server ks.items) self.old result self.new }
+    {
+        if server as usize >= self.servers.len() {
+            return Err(WorldFault::NoServer);
+        }
+        if !are_messages(&self.packets, server, &ks) {
+            return Err(WorldFault::NoPacket);
+        }
+        if ks.len() > MAX_BATCH {
+            return Err(WorldFault::TooManyPackets);
+        }
+        let Ok(messages) = messages_at(alloc, &self.packets, server, &ks) else {
+            return Err(WorldFault::Memory);
+        };
+        let work = Work::Messages(messages);
+        match self.servers[server as usize].stop(alloc, server, work, at, torn) {
+            Ok(told) => {
+                mark_all(&mut self.packets, &ks);
+                return asked(Ok(told));
+            }
+            Err(short) => return asked(Err(short)),
+        }
+    }
+
+    // A message is delivered to its server.
+    fn hear(
+        &mut self,
+        alloc: Global,
+        k: usize,
+        server: u32,
+        client: u32,
+        message: Message,
+    ) -> Result<Seen, WorldFault>
+        requires reached { IsReached self.old }
+        requires packet { k < length self.old.packets }
+        ensures { AsksOrNot (HasServed (Takes client message) server (k ∷ [])) (refusal_at self.old server) self.old result self.new }
+    {
+        servers_stay_sound();
+        if server as usize >= self.servers.len() {
+            return Err(WorldFault::NoServer);
+        }
+        let packets = &mut self.packets;
+        match self.servers[server as usize].take(alloc, server, client, message, packets) {
+            Ok(told) => {
+                mark(&mut self.packets, k);
+                return asked(Ok(told));
+            }
+            Err(short) => return asked(Err(short)),
+        }
+    }
+
+    // A reply is delivered to its client.
+    fn receive(
+        &mut self,
+        alloc: Global,
+        k: usize,
+        server: u32,
+        client: u32,
+        reply: Reply,
+    ) -> Result<Seen, WorldFault>
+        requires { k < length self.old.packets }
+        ensures { AsksOrNot (HasReacted (Receive server reply) client (k ∷ []))
+            (refusal_to (map.get self.old.members client) (Receive server reply)) self.old result self.new }
+    {
+        let call = Call::Receive(server, reply);
+        match self.members.react(alloc, client, call, &mut self.packets) {
+            Ok(seen) => {
+                mark(&mut self.packets, k);
+                return Ok(seen);
+            }
+            Err(fault) => return Err(fault),
+        }
+    }
+
+    // The packet of this number is delivered.
+    fn deliver(&mut self, alloc: Global, k: usize) -> Result<Seen, WorldFault>
+        requires { IsReached self.old }
+        ensures { Answers self.old (events.Deliver k) result self.new }
+    {
+        if k >= self.packets.len() {
+            return Err(WorldFault::NoPacket);
+        }
+        let packet = &self.packets[k];
+        let (server, client) = (packet.server, packet.client);
+        match &packet.body {
+            Body::Message(message) => {
+                if server as usize >= self.servers.len() {
+                    return Err(WorldFault::NoServer);
+                }
+                let message = message.try_clone(alloc)?;
+                return self.hear(alloc, k, server, client, message);
+            }
+            Body::Reply(reply) => {
+                let reply = reply.try_clone(alloc)?;
+                return self.receive(alloc, k, server, client, reply);
+            }
+        }
+    }
+
+    /// Does one event: a step, or a refusal that changes nothing; or memory runs out, and what is shown is as
+    /// before.
+    pub(crate) fn step(&mut self, alloc: Global, event: WorldEvent) -> Result<Seen, WorldFault>
+        requires { IsReached self.old }
+        ensures { Answers self.old event result self.new }
+    {
+        match event {
+            WorldEvent::Out { client, tuple } => self.react(alloc, client, Call::Out(tuple)),
+            WorldEvent::Sync { client, event } => self.react(alloc, client, Call::Sync(event)),
+            WorldEvent::Abandon(client) => self.react(alloc, client, Call::Abandon),
+            WorldEvent::Deliver(k) => self.deliver(alloc, k),
+            WorldEvent::Tick { client, now } => self.react(alloc, client, Call::Tick(now)),
+            WorldEvent::Resend(client) => self.react(alloc, client, Call::Resend),
+            WorldEvent::Reconnect { client, server } => {
+                self.react(alloc, client, Call::Reconnected(server))
+            }
+            WorldEvent::Close { server, client } => self.close(alloc, server, client),
+            WorldEvent::Snapshot(server) => self.snapshot(alloc, server),
+            WorldEvent::Stop {
+                server,
+                packets,
+                at,
+                torn,
+            } => self.stop(alloc, server, packets, at, torn),
+            WorldEvent::StopSnapshot { server, at, torn } => {
+                self.stop_snapshot(alloc, server, at, torn)
+            }
+        }
+    }
+}

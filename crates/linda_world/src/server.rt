@@ -1,0 +1,135 @@
+//! A server of a world: its node, and all that it has done.
+
+ghost use Rattle.std.specs.Prelude.{◌≡◌, ◌≤◌, [], None};
+ghost use Rattle.linda_store.specs.Sound.{IsSound};
+ghost use Rattle.linda_store.specs.Node.{IsBatch, in_hand};
+ghost use Rattle.linda_run.specs.Steps.{Takes, Leaves, Saves, Halts};
+ghost use Rattle.linda_world.specs.Answer.{ServesOrNot};
+
+use crate::learn::{last_number, told_deed};
+use crate::post::{append_both, packets_from, refuse_full};
+use linda_disk::Torn;
+use linda_run::{Packet, Seen, deeds_are_learned};
+use linda_store::{Deed, Node, NodeFault, Work};
+use linda_wire::Message;
+use std::alloc::{AllocError, Global};
+use std::marker::Model;
+
+/// What a server's call tells: what is seen of it, or that the server of this number is down.
+pub(crate) type Told = Result<Seen, u32>;
+
+/// A node, and all deeds that it ever did.
+#[derive(Drop)]
+pub(crate) struct Server<N: Node> {
+    node: N,
+    deeds: Vec<Deed>,
+}
+
+impl<N: Node> Model for Server<N> {
+    ghost use Rattle.linda_run.specs.World as seen;
+    ghost use Rattle.linda_world.specs.Code.{server_code};
+
+    ghost Value = { seen.Server };
+
+    ghost coded = { server_code };
+
+    ghost view = { λ s. record { deeds = s.deeds.items; node = N.shown s.node } };
+}
+
+/// A server did what it was asked, or had no room.
+fn served(full: bool) -> Seen
+    ensures { result ≡ record { client = None; outcome = None; fault = None; full = full } }
+{
+    Seen {
+        client: None,
+        outcome: None,
+        fault: None,
+        full,
+    }
+}
+
+impl<N: Node> Server<N> {
+    /// Takes a message of a client.
+    pub(crate) fn take(
+        &mut self,
+        alloc: Global,
+        server: u32,
+        client: u32,
+        message: Message,
+        packets: &mut Vec<Packet>,
+    ) -> Result<Told, AllocError>
+        requires { IsSound self.old.deeds self.old.node }
+        ensures { ServesOrNot (Takes client message) server self.old packets.old.items result self.new packets.new.items }
+    {
+        deeds_are_learned();
+        let last = last_number(&self.deeds, client);
+        match self.node.handle(alloc, client, &message) {
+            Ok(sends) => {
+                let deed = told_deed(client, message, last, &sends);
+                let more = packets_from(alloc, server, sends)?;
+                append_both(packets, more, &mut self.deeds, deed)?;
+                return Ok(Ok(served(false)));
+            }
+            Err(NodeFault::Full) => {
+                let mut more = packets_from(alloc, server, refuse_full(alloc, client)?)?;
+                packets.append(&mut more)?;
+                return Ok(Ok(served(true)));
+            }
+            Err(NodeFault::Down) => return Ok(Err(server)),
+        }
+    }
+
+    /// Closes a client.
+    pub(crate) fn close(
+        &mut self,
+        alloc: Global,
+        server: u32,
+        client: u32,
+        packets: &mut Vec<Packet>,
+    ) -> Result<Told, AllocError>
+        ensures { ServesOrNot (Leaves client) server self.old packets.old.items result self.new packets.new.items }
+    {
+        match self.node.close(alloc, client) {
+            Ok(sends) => {
+                let mut more = packets_from(alloc, server, sends)?;
+                packets.append(&mut more)?;
+                return Ok(Ok(served(false)));
+            }
+            Err(NodeFault::Full) => return Ok(Ok(served(true))),
+            Err(NodeFault::Down) => return Ok(Err(server)),
+        }
+    }
+
+    /// Writes a snapshot. Nothing is sent.
+    pub(crate) fn snapshot(&mut self, alloc: Global, server: u32) -> Result<Told, AllocError>
+        ensures { ServesOrNot Saves server self.old [] result self.new [] }
+    {
+        match self.node.snapshot(alloc) {
+            Ok(()) => return Ok(Ok(served(false))),
+            Err(NodeFault::Full) => return Ok(Ok(served(true))),
+            Err(NodeFault::Down) => return Ok(Err(server)),
+        }
+    }
+
+    /// Is stopped in this work, and opened again. Nothing is sent.
+    pub(crate) fn stop(
+        &mut self,
+        alloc: Global,
+        server: u32,
+        work: Work,
+        at: u64,
+        torn: Torn,
+    ) -> Result<Told, AllocError>
+        requires { IsBatch work }
+        ensures { ServesOrNot (Halts (in_hand work)) server self.old [] result self.new [] }
+    {
+        match self.node.stop(alloc, work, at, torn) {
+            Ok(mut added) => {
+                self.deeds.append(&mut added)?;
+                return Ok(Ok(served(false)));
+            }
+            Err(NodeFault::Full) => return Ok(Ok(served(true))),
+            Err(NodeFault::Down) => return Ok(Err(server)),
+        }
+    }
+}
