@@ -3,6 +3,7 @@ use Rattle.std.proofs.Common.{◌≡◌, ℕ, zero, suc, ◌+◌, ◌-◌, ◌<�
 use Rattle.std.specs.Prelude.{Option, Some, None, is_some, Ok, Err, IfSome, IsSomeAnd, nat_lt}
 use Rattle.std.proofs.lemmas.Option.{none-some, same_Some, slice_get_within}
 use Rattle.std.proofs.lemmas.List.Elements.{All-contains, All-get_or}
+use Rattle.linda_wire.specs.declared.limits.TheConstants.{NUMBER_LIMIT}
 use Rattle.linda_tuple.specs.Tuple.{Tuple}
 use Rattle.linda_wire.specs.declared.message.Message.{Message}
 use Rattle.linda_wire.specs.declared.message.Message.TheVariants as messages
@@ -19,7 +20,7 @@ use Rattle.linda_client.specs.declared.outcome.Outcome.TheVariants.{Stored, Sync
 use Rattle.linda_client.specs.declared.task.Task.{Task}
 use Rattle.linda_client.specs.declared.task.Task.TheVariants.{Idle, Putting, Syncing}
 use Rattle.linda_client.specs.Ask.{asks}
-use Rattle.linda_client.specs.Pending.{Pending, ask_at, number_limit, ticket_count}
+use Rattle.linda_client.specs.Pending.{Pending, ask_at, ticket_count}
 use Rattle.linda_client.specs.Client.{Client, IsClient, IsTaskOf, IsUsed, asked_in, next_at, pending_in, servers}
 use Rattle.linda_client.specs.Packets.{Packet, accept_packet, unanswered}
 use Rattle.linda_client.specs.Reaction.{Reaction}
@@ -79,7 +80,7 @@ unanswered_used c (Syncing pending) p n is e number = accept_used c pending.acce
 
 -- the next number at a server is not the first that no message has
 pub next_above : (c : Client) (s : ℕ) → IsClient c → s < servers c → 0 < next_at c s
-next_above c s is within = (All-get_or (λ n. (1 ≤ n) × (n ≤ number_limit)) c.next s 0 within is.numbers).0
+next_above c s is within = (All-get_or (λ n. (1 ≤ n) × (n ≤ NUMBER_LIMIT)) c.next s 0 within is.numbers).0
 
 pub from_some : {X : Type 0} (P : X → Type 0) (o : Option X) (x : X) → o ≡ Some x → IfSome o P → P x
 from_some P o x e h = subst (λ p. IfSome p P) e h

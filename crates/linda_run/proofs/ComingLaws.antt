@@ -23,10 +23,10 @@ use Rattle.linda_step.specs.History.{Coming, says, leaves, Comes, History, nothi
 use Rattle.linda_step.specs.Course.{IsFront}
 use Rattle.linda_step.specs.Store.{IsOrderly}
 use Rattle.linda_step.proofs.OrderLaws.{step_orderly, close_orderly}
-use Rattle.linda_promise.specs.Doing.{number_said, IsLetGo, IsDeedOf}
-use Rattle.linda_promise.specs.Learning.{deed_told}
-use Rattle.linda_promise.specs.Numbers.{last_number}
-use Rattle.linda_promise.specs.Offering.{Asks, IsWanted, IsOffered, Spreads}
+use Rattle.linda_promise.specs.Steps.{number_of_message, LetsGo, DoesAsAsked}
+use Rattle.linda_promise.specs.Steps.{reported_deed}
+use Rattle.linda_promise.specs.Deeds.{last_in as last_number}
+use Rattle.linda_promise.specs.Offers.{Seeks, HasTaker, MakesOffer, OffersWhatIsSought}
 use Rattle.linda_store.specs.Node.{Node, Sent as Gives, MayRemain, Works}
 use Rattle.linda_store.specs.Sound.{IsSound}
 use Rattle.linda_client.specs.declared.arrival.Accepted.{Accepted}
@@ -48,7 +48,7 @@ IsSpoken ms s (says c m) = OfMember ms c (IsSaid s m)
 IsSpoken ms s (leaves c) = Unit {0}
 
 -- a numbered message was sent under its number
-said_numbered : (s n : ℕ) (m : Message) (c : Client) → number_said m ≡ Some n → IsSaid s m c → HasSent s n m c
+said_numbered : (s n : ℕ) (m : Message) (c : Client) → number_of_message m ≡ Some n → IsSaid s m c → HasSent s n m c
 said_numbered s n (messages.Hello version client fresh) c e is = absurd (none-some n e)
 said_numbered s n (messages.Out k row) c e is = subst (λ x. HasSent s x (messages.Out k row) c) (same_Some k n e) is
 said_numbered s n (messages.Ask k remove template) c e is = absurd (none-some n e)
@@ -57,7 +57,7 @@ said_numbered s n (messages.Cancel k) c e is = absurd (none-some n e)
 
 -- The deeds of what comes have numbers that were used.
 module _ (laws : OfSteps) (ms : Members) (s : ℕ) where
-  used_deed : (c : ℕ) (m : Message) (soft : Soft) (d : Deed) → OfMember ms c (IsSaid s m) → IsDeedOf c m soft d → IsUsedBy ms s d
+  used_deed : (c : ℕ) (m : Message) (soft : Soft) (d : Deed) → OfMember ms c (IsSaid s m) → DoesAsAsked c m soft d → IsUsedBy ms s d
   used_deed c m soft d is of = record {
     member = is.member;
     known = ap (get ms) of.client ∙ is.known;
@@ -137,13 +137,13 @@ module _ (laws : OfSteps) (ms : Members) (ps : List Sent) (s : ℕ) (ds es : Lis
   answered : Answer
   answered = record { deed = one.deed; sends = sends; soft = new.soft }
 
-  spreads_by : (y : Coming) (a : Answer) (t : State) → Comes old.state old.soft y a t → Spreads t.bag y old.soft a.sends a.soft
+  spreads_by : (y : Coming) (a : Answer) (t : State) → Comes old.state old.soft y a t → OffersWhatIsSought t.bag y old.soft a.sends a.soft
   spreads_by (says c m) a t comes = laws.step_spreads old.state t old.soft c m a orderly.state_is comes
   spreads_by (leaves c) a t comes =
-      subst (λ (u : State). Spreads u.bag (leaves c) old.soft a.sends a.soft) (sym comes.1)
-      (subst (λ (b : Answer). Spreads old.state.bag (leaves c) old.soft b.sends b.soft) (sym comes.0) (laws.close_spreads old.state.bag (leaves c) c old.soft))
+      subst (λ (u : State). OffersWhatIsSought u.bag (leaves c) old.soft a.sends a.soft) (sym comes.1)
+      (subst (λ (b : Answer). OffersWhatIsSought old.state.bag (leaves c) old.soft b.sends b.soft) (sym comes.0) (laws.close_spreads old.state.bag (leaves c) c old.soft))
 
-  spreads : Spreads new.state.bag x old.soft sends new.soft
+  spreads : OffersWhatIsSought new.state.bag x old.soft sends new.soft
   spreads = spreads_by x (record { deed = one.deed; sends = sends; soft = new.soft }) new.state one.comes
 
   after_by : (y : Coming) (a : Answer) (t : State) → Comes old.state old.soft y a t → IsAfter old.state (option_to_list a.deed) t
@@ -152,11 +152,11 @@ module _ (laws : OfSteps) (ms : Members) (ps : List Sent) (s : ℕ) (ds es : Lis
       subst (λ (b : Answer). IsAfter old.state (option_to_list b.deed) t) (sym comes.0) (subst (IsAfter old.state []) (sym comes.1) (none_after old.state orderly.state_is))
 
   -- what asks is of a client that asks so
-  asks_so : (v : Wait) → Asks old.soft x v → IsWaitOf ms v
+  asks_so : (v : Wait) → Seeks old.soft x v → IsWaitOf ms v
   asks_so v (inl waits) = All-contains (IsWaitOf ms) old.soft.waits v waited.waits waits
   asks_so v (inr comes) = subst (IsSpoken ms s) comes spoken
 
-  wanted_suits : (pair : ℕ × ℕ) (row : Tuple) → IsWanted old.soft x pair row → OfMember ms pair.0 (OfTicket pair.1 (Suits row))
+  wanted_suits : (pair : ℕ × ℕ) (row : Tuple) → HasTaker old.soft x pair row → OfMember ms pair.0 (OfTicket pair.1 (Suits row))
   wanted_suits pair row wanted =
       let is = asks_so wanted.wait wanted.asks in
       subst (λ (p : ℕ × ℕ). OfMember ms p.0 (OfTicket p.1 (Suits row))) wanted.pair_is (record {
@@ -182,14 +182,14 @@ module _ (laws : OfSteps) (ms : Members) (ps : List Sent) (s : ℕ) (ds es : Lis
   fits_then : (id : ℕ) (pair : ℕ × ℕ) (row : Tuple) → get new.soft.holds id ≡ Some pair → get new.state.bag id ≡ Some row → OfMember ms pair.0 (OfTicket pair.1 (Suits row))
   fits_then id pair row held there = by (spreads.holds id pair held)
     where
-      by : (get old.soft.holds id ≡ Some pair) ⊎ IsOffered new.state.bag old.soft x sends id pair → OfMember ms pair.0 (OfTicket pair.1 (Suits row))
+      by : (get old.soft.holds id ≡ Some pair) ⊎ MakesOffer new.state.bag old.soft x sends id pair → OfMember ms pair.0 (OfTicket pair.1 (Suits row))
       by (inl was) = held_suits id pair row was there
       by (inr offered) = subst (λ t. OfMember ms pair.0 (OfTicket pair.1 (Suits t))) (same_Some offered.row row (sym offered.there ∙ there)) (wanted_suits pair offered.row offered.wanted)
 
   offer_suits : (pair : ℕ × ℕ) (id : ℕ) (row : Tuple) → Contains sends (pair.0, replies.Offer pair.1 id row) → OfMember ms pair.0 (OfTicket pair.1 (Suits row))
   offer_suits pair id row there = by (spreads.offers pair id row there)
     where
-      by : ((get old.soft.holds id ≡ Some pair) × (get new.state.bag id ≡ Some row)) ⊎ IsWanted old.soft x pair row → OfMember ms pair.0 (OfTicket pair.1 (Suits row))
+      by : ((get old.soft.holds id ≡ Some pair) × (get new.state.bag id ≡ Some row)) ⊎ HasTaker old.soft x pair row → OfMember ms pair.0 (OfTicket pair.1 (Suits row))
       by (inl held) = held_suits id pair row held.0 held.1
       by (inr wanted) = wanted_suits pair row wanted
 
@@ -220,16 +220,16 @@ module _ (laws : OfSteps) (ms : Members) (ps : List Sent) (s : ℕ) (ds es : Lis
         none e = subst (λ l. last_number l c < a.n) (sym (ap (λ l. ds ++ l) e ∙ append-nil ds)) low
 
         -- the message whose deed this is would be the Accept, which is let go
-        let_go : (y : ℕ) (m : Message) (d : Deed) → y ≡ c → OfMember ms y (IsSaid s m) → number_said m ≡ Some (number_of d) → a.n ≡ number_of d → IsLetGo y m new.soft → ⊥
+        let_go : (y : ℕ) (m : Message) (d : Deed) → y ≡ c → OfMember ms y (IsSaid s m) → number_of_message m ≡ Some (number_of d) → a.n ≡ number_of d → LetsGo y m new.soft → ⊥
         let_go y m d y_is is number same gone =
             let member_is : is.member ≡ member = same_Some is.member member (sym is.known ∙ ap (get ms) y_is ∙ known) in
             let said = said_numbered s (number_of d) m is.member.client number is.holds in
             let waits : unanswered is.member.client.task ≡ Some (s, messages.Accept a.n k id) = ap (λ (m : Member). unanswered m.client.task) member_is ∙ awaits in
             let m_is : messages.Accept a.n k id ≡ m =
             from_some (λ (p : Packet). p.0 ≡ s → sent.number_of p.1 ≡ Some (number_of d) → p.1 ≡ m) (unanswered is.member.client.task) (s, messages.Accept a.n k id) waits said.own refl (ap (λ n. Some n) same) in
-            subst (λ z. IsLetGo y z new.soft) (sym m_is) gone (held ∙ ap (λ z. Some (z, k)) (sym y_is))
+            subst (λ z. LetsGo y z new.soft) (sym m_is) gone (held ∙ ap (λ z. Some (z, k)) (sym y_is))
 
-        done : (y : ℕ) (m : Message) (d : Deed) → x ≡ says y m → one.deed ≡ Some d → IsDeedOf y m new.soft d → last_number (ds ++ es) c < a.n
+        done : (y : ℕ) (m : Message) (d : Deed) → x ≡ says y m → one.deed ≡ Some d → DoesAsAsked y m new.soft d → last_number (ds ++ es) c < a.n
         done y m d x_is e is = subst (λ l. last_number (ds ++ l) c < a.n) (sym es_are) (by_client (client_of d == c) refl)
           where
             es_are : es ≡ d ∷ []
@@ -288,7 +288,7 @@ module _ (laws : OfSteps) (ms : Members) (ps : List Sent) (s : ℕ) (ds es : Lis
                 ∙ ap (λ z. Some (z, messages.Accept a.n a.ticket a.id)) accepted.0.server_is ∙ ap (λ z. Some (s, messages.Accept a.n z a.id)) accepted.0.ticket_is ∙ ap (λ z. Some (s, messages.Accept a.n pair.1 z)) accepted.0.id_is in
                 inr (accepted.0, not_done pair.0 pair.1 id a is.member is.known awaits held accepted.1)
 
-        by : (get old.soft.holds id ≡ Some pair) ⊎ IsOffered new.state.bag old.soft x sends id pair → HasReason ms news s (ds ++ es) id pair
+        by : (get old.soft.holds id ≡ Some pair) ⊎ MakesOffer new.state.bag old.soft x sends id pair → HasReason ms news s (ds ++ es) id pair
         by (inr offer) = inl (offered pair.0 pair.1 id offer.row offer.sent)
         by (inl was) = elim (waited.held id pair was) [
           | inl offer ↦ inl (offers pair.0 pair.1 id offer)
@@ -309,10 +309,10 @@ module _ (laws : OfSteps) (ms : Members) (ps : List Sent) (s : ℕ) (ds es : Lis
     }
 
 -- The deed of a message is the one that is told by the deeds of before and by what is sent.
-pub learned : ((st new : State) (c : ℕ) (old : Soft) (m : Message) (answered : Answer) → IsState st → IsStep st old c m answered new → answered.deed ≡ deed_told c m (number_in (get st.book c)) answered.sends)
-    → (ds es : List Deed) (old new : Node) (c : ℕ) (m : Message) (sends : List (ℕ × Reply)) → IsSound ds old → Works old (says c m ∷ []) (Gives sends) es new → es ≡ option_to_list (deed_told c m (last_number ds c) sends)
+pub learned : ((st new : State) (c : ℕ) (old : Soft) (m : Message) (answered : Answer) → IsState st → IsStep st old c m answered new → answered.deed ≡ reported_deed c m (number_in (get st.book c)) answered.sends)
+    → (ds es : List Deed) (old new : Node) (c : ℕ) (m : Message) (sends : List (ℕ × Reply)) → IsSound ds old → Works old (says c m ∷ []) (Gives sends) es new → es ≡ option_to_list (reported_deed c m (last_number ds c) sends)
 learned told ds es old new c m sends sound done =
     let one = single old (says c m) es sends new done.happens in
     one.deeds_are
     ∙ ap option_to_list (told old.state new.state c old.soft m (record { deed = one.deed; sends = sends; soft = new.soft }) (sound.orderly done.was_up).state_is one.comes)
-    ∙ ap (λ o. option_to_list (deed_told c m (number_in o) sends)) (sound.after.book c)
+    ∙ ap (λ o. option_to_list (reported_deed c m (number_in o) sends)) (sound.after.book c)

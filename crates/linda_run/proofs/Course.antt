@@ -6,7 +6,7 @@ use Rattle.linda_wire.specs.declared.message.Message.{Message}
 use Rattle.linda_wire.specs.declared.reply.Reply.{Reply}
 use Rattle.linda_event.specs.Trees.{tree_of}
 use Rattle.linda_step.specs.History.{comings}
-use Rattle.linda_promise.specs.Replying.{tells_deed, IsReplyTo}
+use Rattle.linda_promise.specs.Replies.{reports_deed, ReportsOne}
 use Rattle.linda_client.specs.React as calls
 use Rattle.linda_client.specs.React.{Call, Receive, Resend, Abandon}
 use Rattle.linda_run.specs.declared.event.WorldEvent.{WorldEvent}
@@ -58,13 +58,13 @@ course w new (events.StopSnapshot s at torn) told step = serves (Halts []) s [] 
 
 -- A reply that a client receives is one of the packets, and told what was done.
 pub received_told : (w : World) (call : Call) (c : ℕ) (ks : List ℕ) → IsCalled w call c ks → OfPackets (IsBacked w.servers) w.packets
-    → (s : ℕ) (r : Reply) → call ≡ Receive s r → tells_deed r ≡ true → OfServer w.servers s (λ ds. IsReplyTo ds c r)
+    → (s : ℕ) (r : Reply) → call ≡ Receive s r → reports_deed r ≡ true → OfServer w.servers s (λ ds. ReportsOne ds c r)
 received_told w call c ks (own _ _ none) backed s r e tells = absurd (none s r e)
 received_told w call c ks (carried k p r there body) backed s x e tells =
     let s_is : p.server ≡ s = cc in
     let r_is : r ≡ x = cc in
     let told = subst (IsBacked w.servers p.server p.client) body (of_one (IsBacked w.servers) w.packets k p backed there) in
-    subst (λ y. OfServer w.servers s (λ ds. IsReplyTo ds p.client y)) r_is (subst (λ t. OfServer w.servers t (λ ds. IsReplyTo ds p.client r)) s_is (told (ap tells_deed r_is ∙ tells)))
+    subst (λ y. OfServer w.servers s (λ ds. ReportsOne ds p.client y)) r_is (subst (λ t. OfServer w.servers t (λ ds. ReportsOne ds p.client r)) s_is (told (ap reports_deed r_is ∙ tells)))
 
 -- A reply that is on its way stays as it was, or is the one that the client receives.
 pub received_or_same : (w : World) (call : Call) (c : ℕ) (ks : List ℕ) → IsCalled w call c ks → (p : Packet) (r : Reply) → p.body ≡ bodies.Reply r → Contains w.packets p

@@ -5,6 +5,7 @@ use Rattle.std.proofs.lemmas.Option.{none-some, same_Some}
 use Rattle.std.proofs.lemmas.List.{length-set}
 use Rattle.std.proofs.lemmas.List.Elements.{All-nil, All-cons, All-weaker, All-contains, All-contains_itself, Contains-append_left, Contains-push_cases}
 use Rattle.std.specs.FinMap.{get}
+use Rattle.linda_client.specs.declared.limits.TheConstants.{MAX_SERVERS}
 use Rattle.linda_bag.proofs.Maps.{get_empty}
 use Rattle.linda_wire.specs.declared.message.Message.TheVariants as messages
 use Rattle.linda_wire.specs.declared.reply.Reply.{Reply}
@@ -23,7 +24,8 @@ use Rattle.linda_state.proofs.ProperLaws.{none_proper}
 use Rattle.linda_step.specs.Store.{IsOrderly}
 use Rattle.linda_step.specs.History.{says}
 use Rattle.linda_step.proofs.OrderLaws.{no_asks_orderly}
-use Rattle.linda_promise.specs.Replying.{tells_deed, IsReplyTo, IsHandedOver}
+use Rattle.linda_promise.specs.Replies.{reports_deed, ReportsOne}
+use Rattle.linda_promise.specs.Deeds.{HandsOver}
 use Rattle.linda_store.specs.declared.node.NodeFault.{NodeFault}
 use Rattle.linda_store.specs.declared.node.NodeFault.TheVariants as faults
 use Rattle.linda_store.specs.Node.{Node, NodeAnswer, Sent, IsFull, IsDown, Works, Closes}
@@ -51,10 +53,10 @@ use Rattle.linda_run.proofs.Course.{IsCalled, Course, reacts, serves, course, re
 
 -- nothing that is told, and what is told where there is no room
 backed_none : (ds : List Deed) → AreBacked ds []
-backed_none ds = All-nil (λ (send : ℕ × Reply). tells_deed send.1 ≡ true → IsReplyTo ds send.0 send.1)
+backed_none ds = All-nil (λ (send : ℕ × Reply). reports_deed send.1 ≡ true → ReportsOne ds send.0 send.1)
 
 backed_full : (ds : List Deed) (c : ℕ) → AreBacked ds ((c, refused refusals.Full) ∷ [])
-backed_full ds c = All-cons (λ (send : ℕ × Reply). tells_deed send.1 ≡ true → IsReplyTo ds send.0 send.1) (c, refused refusals.Full) [] (λ tells. absurd (true≢false (sym tells))) (backed_none ds)
+backed_full ds c = All-cons (λ (send : ℕ × Reply). reports_deed send.1 ≡ true → ReportsOne ds send.0 send.1) (c, refused refusals.Full) [] (λ tells. absurd (true≢false (sym tells))) (backed_none ds)
 
 silent_sends : {A : Type 0} (task : Task) (result : Result A NodeFault) → sends_of task IsFull ≡ [] → sends_of task (silent result) ≡ []
 silent_sends task (Ok done) none = refl
@@ -97,9 +99,9 @@ module _ (w new : World) (stay : DeedsStay w new) where
 
   backed_still : (s c : ℕ) (body : Body) → IsBacked w.servers s c body → IsBacked new.servers s c body
   backed_still s c (bodies.Message m) old = tt
-  backed_still s c (bodies.Reply r) old = λ tells. of_server_still (λ ds. IsReplyTo ds c r) later s (old tells)
+  backed_still s c (bodies.Reply r) old = λ tells. of_server_still (λ ds. ReportsOne ds c r) later s (old tells)
     where
-      later : (ds more : List Deed) → IsReplyTo ds c r → IsReplyTo (ds ++ more) c r
+      later : (ds more : List Deed) → ReportsOne ds c r → ReportsOne (ds ++ more) c r
       later ds more is = record {
         before = is.before;
         deed = is.deed;
@@ -175,7 +177,7 @@ module _ (laws : OfSound) (task : Task) (s : ℕ) (ks : List ℕ) (w new : World
     backed = of_more (IsBacked new.servers) (sent_from s) ks w.packets new.packets (sends_of task served.answer) served.packets
         (All-weaker (λ (p : Packet). IsBacked w.servers p.server p.client p.body) (λ (p : Packet). IsBacked new.servers p.server p.client p.body)
         (λ p. backed_still w new stay p.server p.client p.body) w.packets honest.backed)
-        (All-weaker (λ (r : ℕ × Reply). tells_deed r.1 ≡ true → IsReplyTo after.deeds r.0 r.1) (λ (r : ℕ × Reply). IsBacked new.servers s r.0 (bodies.Reply r.1))
+        (All-weaker (λ (r : ℕ × Reply). reports_deed r.1 ≡ true → ReportsOne after.deeds r.0 r.1) (λ (r : ℕ × Reply). IsBacked new.servers s r.0 (bodies.Reply r.1))
         (λ r tells is. (after, (after_there, tells is))) (sends_of task served.answer)
         (does_backed laws served.server.deeds served.deeds served.server.node served.node served.answer was task served.done));
     clients = same_members (λ c m. IsClient m.client) w new served.members honest.clients;
@@ -219,7 +221,7 @@ module _ (of_deeds : OfDeeds) (of_calls : OfCalls) (call : Call) (c : ℕ) (ks :
 
   -- what is given now
   module _ (g : IsGiven of_calls was_client call reacts.reaction is_client reacts.answer) where
-    backing : OfServer w.servers g.server (λ ds. IsReplyTo ds c (replies.Taken g.number g.id g.tuple))
+    backing : OfServer w.servers g.server (λ ds. ReportsOne ds c (replies.Taken g.number g.id g.tuple))
     backing = received_told w call c ks called honest.backed g.server (replies.Taken g.number g.id g.tuple) g.call_is refl
 
     sound : IsSound backing.0.deeds backing.0.node
@@ -231,11 +233,11 @@ module _ (of_deeds : OfDeeds) (of_calls : OfCalls) (call : Call) (c : ℕ) (ks :
     given_is : given_by reacts.reaction.outcome ≡ (g.server, g.id) ∷ []
     given_is = ap (λ o. option_to_list (option_map place_of o)) g.handed
 
-    handed_over : IsHandedOver backing.0.deeds c g.id g.tuple
+    handed_over : HandsOver backing.0.deeds c g.id g.tuple
     handed_over =
         let handed = of_deeds.handed backing.0.deeds c g.number g.id sound.proper taken in
         let same : handed.0 ≡ g.tuple = same_Some handed.0 g.tuple (sym handed.1.put ∙ of_deeds.told_tuple backing.0.deeds c g.number g.id g.tuple backing.1.1) in
-        subst (IsHandedOver backing.0.deeds c g.id) same handed.1
+        subst (HandsOver backing.0.deeds c g.id) same handed.1
 
     earned_now : IsEarned w.servers c now (g.server, g.id)
     earned_now = record {
@@ -287,17 +289,17 @@ module _ (of_deeds : OfDeeds) (of_calls : OfCalls) (call : Call) (c : ℕ) (ks :
 
   -- What is handed over is what was put.
   pub handed_right : IsHanded new c (handed_by reacts.reaction.outcome)
-  handed_right = subst (λ l. IfSome (handed_by reacts.reaction.outcome) (λ h. OfServer l h.server (λ ds. IsHandedOver ds c h.id h.tuple))) (sym reacts.servers) (by given_or_not)
+  handed_right = subst (λ l. IfSome (handed_by reacts.reaction.outcome) (λ h. OfServer l h.server (λ ds. HandsOver ds c h.id h.tuple))) (sym reacts.servers) (by given_or_not)
     where
       by : (handed_by reacts.reaction.outcome ≡ None) ⊎ IsGiven of_calls was_client call reacts.reaction is_client reacts.answer
-          → IfSome (handed_by reacts.reaction.outcome) (λ h. OfServer w.servers h.server (λ ds. IsHandedOver ds c h.id h.tuple))
-      by (inl none) = subst (λ o. IfSome o (λ h. OfServer w.servers h.server (λ ds. IsHandedOver ds c h.id h.tuple))) (sym none) tt
-      by (inr g) = subst (λ o. IfSome o (λ h. OfServer w.servers h.server (λ ds. IsHandedOver ds c h.id h.tuple))) (sym g.handed) ((backing g).0, ((backing g).1.0, handed_over g))
+          → IfSome (handed_by reacts.reaction.outcome) (λ h. OfServer w.servers h.server (λ ds. HandsOver ds c h.id h.tuple))
+      by (inl none) = subst (λ o. IfSome o (λ h. OfServer w.servers h.server (λ ds. HandsOver ds c h.id h.tuple))) (sym none) tt
+      by (inr g) = subst (λ o. IfSome o (λ h. OfServer w.servers h.server (λ ds. HandsOver ds c h.id h.tuple))) (sym g.handed) ((backing g).0, ((backing g).1.0, handed_over g))
 
   pub reacted_honest : IsHonest new
   reacted_honest = record {
     some = subst (λ (l : List Server). 1 ≤ length l) (sym reacts.servers) honest.some;
-    few = subst (λ (l : List Server). length l ≤ Rattle.linda_client.specs.Client.server_limit) (sym reacts.servers) honest.few;
+    few = subst (λ (l : List Server). length l ≤ MAX_SERVERS) (sym reacts.servers) honest.few;
     sound = λ s v found. honest.sound s v (ap (λ l. slice_get l s) (sym reacts.servers) ∙ found);
     backed = of_more (IsBacked new.servers) (sent_by c) ks w.packets new.packets reacts.reaction.packets reacts.packets
         (subst (λ l. OfPackets (IsBacked l) w.packets) (sym reacts.servers) honest.backed) (λ k d within. tt);
@@ -312,7 +314,7 @@ module _ (of_deeds : OfDeeds) (of_calls : OfCalls) (call : Call) (c : ℕ) (ks :
 pub joined_honest : (of_calls : OfCalls) (c : ℕ) (w new : World) → IsHonest w → HasJoined c w new → IsHonest new
 joined_honest of_calls c w new honest joined = record {
   some = subst (λ (l : List Server). 1 ≤ length l) (sym joined.servers) honest.some;
-  few = subst (λ (l : List Server). length l ≤ Rattle.linda_client.specs.Client.server_limit) (sym joined.servers) honest.few;
+  few = subst (λ (l : List Server). length l ≤ MAX_SERVERS) (sym joined.servers) honest.few;
   sound = λ s v found. honest.sound s v (ap (λ l. slice_get l s) (sym joined.servers) ∙ found);
   backed = subst (λ l. OfPackets (IsBacked l) new.packets) (sym joined.servers) (subst (OfPackets (IsBacked w.servers)) (sym joined.packets) honest.backed);
   clients = of_each_now (λ d m. IsClient m.client) (of_calls.new c (length w.servers) honest.some honest.few) honest.clients;

@@ -11,7 +11,7 @@ use Rattle.linda_state.specs.Deed.{client_of, number_of, last_of, last_with}
 use Rattle.linda_state.specs.State.{empty_state}
 use Rattle.linda_state.specs.After.{entry_after}
 use Rattle.linda_state.proofs.DeedLaws.{last_of-joined, last_later}
-use Rattle.linda_promise.specs.Numbers.{last_number}
+use Rattle.linda_promise.specs.Deeds.{last_in as last_number}
 use Rattle.linda_client.specs.Client.{next_at}
 use Rattle.linda_run.specs.World.{Member, Members}
 use Rattle.linda_run.specs.Reasons.{IsUsedBy}

@@ -12,8 +12,8 @@ use Rattle.linda_wire.specs.declared.reply.Reply.TheVariants as replies
 use Rattle.linda_state.specs.declared.deed.Deed.{Deed}
 use Rattle.linda_state.specs.declared.deed.Deed.TheVariants.{Take, Pass}
 use Rattle.linda_step.specs.Soft.{Soft}
-use Rattle.linda_promise.specs.Numbers.{last_number}
-use Rattle.linda_promise.specs.Replying.{tells_deed, IsReplyTo}
+use Rattle.linda_promise.specs.Deeds.{last_in as last_number}
+use Rattle.linda_promise.specs.Replies.{reports_deed, ReportsOne}
 use Rattle.linda_client.specs.declared.arrival.Accepted.{Accepted}
 use Rattle.linda_client.specs.declared.ask.Ask.{Ask}
 use Rattle.linda_client.specs.Pending.{Pending, ask_at, is_fit}
@@ -103,7 +103,7 @@ module _ (of_deeds : OfDeeds) (of_calls : OfCalls) (call : Call) (c : ℕ) (ks :
     }))
 
     -- an Accept that is answered was done
-    done_by : (n : ℕ) (r : Reply) → call ≡ Receive s r → tells_deed r ≡ true → ((ds : List Deed) → IsReplyTo ds c r → Rattle.linda_state.specs.Proper.IsProper Rattle.linda_state.specs.State.empty_state ds → n ≤ last_number ds c) → n ≤ last
+    done_by : (n : ℕ) (r : Reply) → call ≡ Receive s r → reports_deed r ≡ true → ((ds : List Deed) → ReportsOne ds c r → Rattle.linda_state.specs.Proper.IsProper Rattle.linda_state.specs.State.empty_state ds → n ≤ last_number ds c) → n ≤ last
     done_by n r e tells low =
         let found = received_told w call c ks called honest.backed s r e tells in
         let same : found.0 ≡ server = same_Some found.0 server (sym found.1.0 ∙ there) in

@@ -2,6 +2,7 @@
 use Rattle.std.specs.Prelude.{◌≡◌, ◌≤◌, ℕ, ◌-◌, List, ◌++◌, Some, All, Contains, Result}
 use Rattle.std.specs.List.{slice_get}
 use Rattle.std.specs.Global.{Vec}
+use Rattle.linda_client.specs.declared.limits.TheConstants.{MAX_SERVERS}
 use Rattle.linda_tuple.specs.Tuple.{Tuple}
 use Rattle.linda_wire.specs.declared.message.Message.{Message}
 use Rattle.linda_wire.specs.declared.reply.Reply.{Reply}
@@ -16,14 +17,15 @@ use Rattle.linda_step.specs.Soft.{Soft, Bagged}
 use Rattle.linda_step.specs.Dispatch.{on_close}
 use Rattle.linda_step.specs.Answer.{Answer, IsStep}
 use Rattle.linda_step.specs.History.{Coming, says}
-use Rattle.linda_promise.specs.Doing.{AllHeldThere, IsDeedOf}
-use Rattle.linda_promise.specs.Numbers.{IsNumbered}
-use Rattle.linda_promise.specs.Offering.{Spreads}
-use Rattle.linda_promise.specs.Replying.{IsHandedOver, IsPassed, IsReplyTo}
+use Rattle.linda_promise.specs.Steps.{HoldsWhatIsThere, DoesAsAsked}
+use Rattle.linda_promise.specs.Deeds.{NumbersEachOnce}
+use Rattle.linda_promise.specs.Offers.{OffersWhatIsSought}
+use Rattle.linda_promise.specs.Replies.{ReportsOne}
+use Rattle.linda_promise.specs.Deeds.{HandsOver, PassesOn}
 use Rattle.linda_store.specs.declared.node.NodeFault.{NodeFault}
 use Rattle.linda_store.specs.Node.{Node, NodeAnswer, Sent, Works, Closes, Snaps, Stops}
 use Rattle.linda_store.specs.Sound.{IsSound, AreBacked, added}
-use Rattle.linda_client.specs.Client.{IsClient, pending_in, server_limit}
+use Rattle.linda_client.specs.Client.{IsClient, pending_in}
 use Rattle.linda_client.specs.Ending.{TakenBy}
 use Rattle.linda_client.specs.Numbers.{NumbersGoOn, Rises}
 use Rattle.linda_client.specs.Offers.{KeepsOffers, TreatsOffers}
@@ -45,25 +47,25 @@ pub record OfSound : Type 0 where
 -- What deeds and replies come to.
 pub record OfDeeds : Type 0 where
   pub taken_once : (st : State) (ds : List Deed) → IsState st → IsProper st ds → IsTakenOnce ds
-  pub handed : (ds : List Deed) (c n id : ℕ) → IsProper empty_state ds → Contains ds (Take c n id) → (row : Tuple) × IsHandedOver ds c id row
+  pub handed : (ds : List Deed) (c n id : ℕ) → IsProper empty_state ds → Contains ds (Take c n id) → (row : Tuple) × HandsOver ds c id row
   pub one_take : (ds : List Deed) (c d n m id : ℕ)
       → IsTakenOnce ds → Contains ds (Take c n id) → Contains ds (Take d m id) → Take c n id ≡ Take d m id
-  pub numbered : (ds : List Deed) → IsProper empty_state ds → IsNumbered ds
-  pub told_take : (ds : List Deed) (c n id : ℕ) (row : Tuple) → IsReplyTo ds c (replies.Taken n id row) → Contains ds (Take c n id)
-  pub told_tuple : (ds : List Deed) (c n id : ℕ) (row : Tuple) → IsReplyTo ds c (replies.Taken n id row) → slice_get (outs_of ds) (id - 1) ≡ Some row
-  pub told_gone : (ds : List Deed) (c n : ℕ) → IsProper empty_state ds → IsReplyTo ds c (replies.Gone n) → IsPassed ds c n
+  pub numbered : (ds : List Deed) → IsProper empty_state ds → NumbersEachOnce ds
+  pub told_take : (ds : List Deed) (c n id : ℕ) (row : Tuple) → ReportsOne ds c (replies.Taken n id row) → Contains ds (Take c n id)
+  pub told_tuple : (ds : List Deed) (c n id : ℕ) (row : Tuple) → ReportsOne ds c (replies.Taken n id row) → slice_get (outs_of ds) (id - 1) ≡ Some row
+  pub told_gone : (ds : List Deed) (c n : ℕ) → IsProper empty_state ds → ReportsOne ds c (replies.Gone n) → PassesOn ds c n
 
 -- What steps offer, and which deeds they do.
 pub record OfSteps : Type 0 where
   pub step_spreads : (st new : State) (old : Soft) (c : ℕ) (m : Message) (answered : Answer)
-      → IsState st → IsStep st old c m answered new → Spreads new.bag (says c m) old answered.sends answered.soft
-  pub close_spreads : (bag : Bagged) (x : Coming) (client : ℕ) (old : Soft) → Spreads bag x old (on_close bag client old).sends (on_close bag client old).soft
+      → IsState st → IsStep st old c m answered new → OffersWhatIsSought new.bag (says c m) old answered.sends answered.soft
+  pub close_spreads : (bag : Bagged) (x : Coming) (client : ℕ) (old : Soft) → OffersWhatIsSought bag x old (on_close bag client old).sends (on_close bag client old).soft
   pub step_deed : (st new : State) (c : ℕ) (old : Soft) (m : Message) (answered : Answer) (d : Deed)
-      → AllHeldThere st old → IsStep st old c m answered new → answered.deed ≡ Some d → IsDeedOf c m answered.soft d
+      → HoldsWhatIsThere st old → IsStep st old c m answered new → answered.deed ≡ Some d → DoesAsAsked c m answered.soft d
 
 -- What holds of a client at each call.
 pub record OfCalls : Type 0 where
-  pub new : (number count : ℕ) → 1 ≤ count → count ≤ server_limit → IsClient (new_client number count)
+  pub new : (number count : ℕ) → 1 ≤ count → count ≤ MAX_SERVERS → IsClient (new_client number count)
   pub kept : AtEachCall (λ c call r. IsClient r.client)
   pub rises : AtEachCall (λ c call r. Rises c r.client)
   pub numbers : AtEachCall NumbersGoOn

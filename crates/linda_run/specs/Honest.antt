@@ -1,9 +1,10 @@
 -- What each step keeps of deeds, replies and what was given: whatever is told was done.
 use Rattle.std.specs.Prelude.{◌≡◌, ◌≢◌, ℕ, ◌<◌, ◌≤◌, List, length, Some, Contains, IfSome}
 use Rattle.std.specs.List.{slice_get}
+use Rattle.linda_client.specs.declared.limits.TheConstants.{MAX_SERVERS}
 use Rattle.linda_state.specs.declared.deed.Deed.TheVariants.{Take}
 use Rattle.linda_store.specs.Sound.{IsSound}
-use Rattle.linda_client.specs.Client.{Client, IsClient, next_at, server_limit}
+use Rattle.linda_client.specs.Client.{Client, IsClient, next_at}
 use Rattle.linda_client.specs.Packets.{unanswered}
 use Rattle.linda_client.specs.Numbers.{number_of}
 use Rattle.linda_run.specs.World.{Server, World}
@@ -26,7 +27,7 @@ OfServers w P = (s : ℕ) (server : Server) → slice_get w.servers s ≡ Some s
 -- they earned, and were given once.
 pub record IsHonest (w : World) : Type 0 where
   pub some : 1 ≤ length w.servers
-  pub few : length w.servers ≤ server_limit
+  pub few : length w.servers ≤ MAX_SERVERS
   pub sound : OfServers w (λ s server. IsSound server.deeds server.node)
   pub backed : OfPackets (IsBacked w.servers) w.packets
   pub clients : OfEach w (λ c m. IsClient m.client)

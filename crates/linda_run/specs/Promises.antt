@@ -6,7 +6,8 @@ use Rattle.linda_wire.specs.declared.message.Message.TheVariants as messages
 use Rattle.linda_wire.specs.declared.reply.Reply.TheVariants as replies
 use Rattle.linda_tuple.specs.Tuple.{Tuple}
 use Rattle.linda_state.specs.declared.deed.Deed.{Deed}
-use Rattle.linda_promise.specs.Replying.{tells_deed, IsReplyTo, IsHandedOver, IsPassed}
+use Rattle.linda_promise.specs.Replies.{reports_deed, ReportsOne}
+use Rattle.linda_promise.specs.Deeds.{HandsOver, PassesOn}
 use Rattle.linda_client.specs.Client.{asked_in, pending_in}
 use Rattle.linda_run.specs.declared.packet.Body.{Body}
 use Rattle.linda_run.specs.declared.packet.Body.TheVariants as bodies
@@ -39,17 +40,17 @@ DeedsStay w new = (s : ℕ) (old : Server) → slice_get w.servers s ≡ Some ol
 -- What the client was given was put once, under this id at this server, and taken once, by this client; and no later bag
 -- has it.
 abbrev pub IsRightful : World → ℕ → ℕ × ℕ → Type 0
-IsRightful w c pair = OfServer w.servers pair.0 (λ ds. (row : Tuple) × IsHandedOver ds c pair.1 row)
+IsRightful w c pair = OfServer w.servers pair.0 (λ ds. (row : Tuple) × HandsOver ds c pair.1 row)
 
 -- A reply that tells of a deed is the book's for a deed of its server, which stays.
 abbrev pub IsBacked : List Server → ℕ → ℕ → Body → Type 0
 IsBacked servers s c (bodies.Message m) = Unit {0}
-IsBacked servers s c (bodies.Reply r) = tells_deed r ≡ true → OfServer servers s (λ ds. IsReplyTo ds c r)
+IsBacked servers s c (bodies.Reply r) = reports_deed r ≡ true → OfServer servers s (λ ds. ReportsOne ds c r)
 
 -- A Gone tells of an Accept that passed: nothing was taken by its number, and nothing ever will be.
 abbrev pub IsGone : List Server → ℕ → ℕ → Body → Type 0
 IsGone servers s c (bodies.Message m) = Unit {0}
-IsGone servers s c (bodies.Reply (replies.Gone n)) = OfServer servers s (λ ds. IsPassed ds c n)
+IsGone servers s c (bodies.Reply (replies.Gone n)) = OfServer servers s (λ ds. PassesOn ds c n)
 IsGone servers s c (bodies.Reply _) = Unit {0}
 
 -- P holds of each packet: of its server, its client and what it carries.
@@ -65,7 +66,7 @@ pub record IsSafe (w : World) : Type 0 where
 
 -- A tuple that a client is given now is the one that was put under its id.
 abbrev pub IsHanded : World → ℕ → Option Handed → Type 0
-IsHanded w c handed = IfSome handed (λ h. OfServer w.servers h.server (λ ds. IsHandedOver ds c h.id h.tuple))
+IsHanded w c handed = IfSome handed (λ h. OfServer w.servers h.server (λ ds. HandsOver ds c h.id h.tuple))
 
 -- A Cancel of this client, to this server, of this ticket, was sent, be it delivered or not.
 abbrev pub HasCancel : List Packet → ℕ → ℕ → ℕ → Type 0

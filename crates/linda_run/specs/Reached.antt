@@ -1,9 +1,9 @@
 -- Runs: where a world begins, and which worlds they lead to.
 use Rattle.std.specs.Prelude.{◌≡◌, ℕ, ◌≤◌, false, List, [], ◌∷◌, length, All}
 use Rattle.std.specs.FinMap as map
+use Rattle.linda_client.specs.declared.limits.TheConstants.{MAX_SERVERS}
 use Rattle.linda_state.specs.State.{empty_state}
 use Rattle.linda_step.specs.Soft.{no_asks}
-use Rattle.linda_client.specs.Client.{server_limit}
 use Rattle.linda_store.specs.Node.{Node}
 use Rattle.linda_run.specs.declared.event.WorldEvent.{WorldEvent}
 use Rattle.linda_run.specs.World.{Server, World}
@@ -23,7 +23,7 @@ pub record IsNew (server : Server) : Type 0 where
 -- The world begins: 1 to 16 new servers, no client and no packet.
 pub record IsStart (w : World) : Type 0 where
   pub some : 1 ≤ length w.servers
-  pub few : length w.servers ≤ server_limit
+  pub few : length w.servers ≤ MAX_SERVERS
   pub servers : All IsNew w.servers
   pub members : w.members ≡ map.empty
   pub packets : w.packets ≡ []

@@ -11,7 +11,7 @@ use Rattle.linda_wire.specs.declared.reply.Reply.TheVariants as replies
 use Rattle.linda_state.specs.declared.deed.Deed.{Deed}
 use Rattle.linda_state.specs.Deed.{client_of}
 use Rattle.linda_state.specs.Deed as deeds
-use Rattle.linda_promise.specs.Numbers.{last_number}
+use Rattle.linda_promise.specs.Deeds.{last_in as last_number}
 use Rattle.linda_client.specs.declared.ask.Ask.{Ask}
 use Rattle.linda_client.specs.Pending.{Pending, ask_at, is_fit}
 use Rattle.linda_client.specs.Client.{Client, asked_in, next_at, pending_in, servers}

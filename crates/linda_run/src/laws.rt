@@ -2,13 +2,13 @@
 //! nothing but call the laws of the layers below.
 
 ghost use Rattle.std.specs.Prelude.{◌≡◌, ◌≤◌, ℕ, List, [], ◌∷◌, length, Ok, IfSome, option_to_list};
+ghost use Rattle.linda_client.specs.declared.limits.TheConstants.{MAX_SERVERS};
 ghost use Rattle.linda_wire.specs.declared.message.Message.{Message};
 ghost use Rattle.linda_wire.specs.declared.reply.Reply.{Reply};
 ghost use Rattle.linda_state.specs.declared.deed.Deed.{Deed};
 ghost use Rattle.linda_step.specs.History.{says};
-ghost use Rattle.linda_client.specs.Client.{server_limit};
-ghost use Rattle.linda_promise.specs.Learning.{deed_told};
-ghost use Rattle.linda_promise.specs.Numbers.{last_number};
+ghost use Rattle.linda_promise.specs.Steps.{reported_deed};
+ghost use Rattle.linda_promise.specs.Deeds.{last_in as last_number};
 ghost use Rattle.linda_store.specs.Node.{Node, Sent, Works};
 ghost use Rattle.linda_store.specs.Sound.{IsSound};
 ghost use Rattle.linda_run.specs.declared.event.WorldEvent.{WorldEvent};
@@ -25,9 +25,9 @@ use linda_client::{
     only_a_taken_takes, packets_are_sound, synchronizations_go_on,
 };
 use linda_store::{
-    a_server_stays_sound, a_tuple_is_taken_by_one, closings_offer_what_is_wanted, deeds_are_told,
-    no_tuple_is_taken_twice, replies_tell_deeds, steps_do_what_is_said, steps_offer_what_is_wanted,
-    takes_are_handed_over,
+    a_server_stays_sound, two_takes_of_a_tuple_are_one, closings_offer_only_what_is_sought, replies_tell_the_deed,
+    no_tuple_is_taken_twice, replies_report_what_was_done, steps_do_as_they_are_asked, steps_offer_only_what_is_sought,
+    takes_hand_over_what_was_put,
 };
 
 /// No tuple is taken twice. What clients were given, over all of them, are pairs that differ; each was put once and
@@ -70,7 +70,7 @@ pub fn servers_stay_sound()
 /// A world has 1 to 16 servers.
 pub fn servers_are_few()
     ensures some { (w : World) → IsReached w → 1 ≤ length w.servers }
-    ensures few { (w : World) → IsReached w → length w.servers ≤ server_limit }
+    ensures few { (w : World) → IsReached w → length w.servers ≤ MAX_SERVERS }
 {
     laws_below();
 }
@@ -79,9 +79,9 @@ pub fn servers_are_few()
 pub fn deeds_are_learned()
     ensures { (ds es : List Deed) (old new : Node) (c : ℕ) (m : Message) (sends : List (ℕ × Reply))
         → IsSound ds old → Works old (says c m ∷ []) (Sent sends) es new
-        → es ≡ option_to_list (deed_told c m (last_number ds c) sends) }
+        → es ≡ option_to_list (reported_deed c m (last_number ds c) sends) }
 {
-    deeds_are_told();
+    replies_tell_the_deed();
 }
 
 // The laws of the layers below.
@@ -93,12 +93,12 @@ fn laws_below()
 {
     a_server_stays_sound();
     no_tuple_is_taken_twice();
-    takes_are_handed_over();
-    a_tuple_is_taken_by_one();
-    replies_tell_deeds();
-    steps_offer_what_is_wanted();
-    closings_offer_what_is_wanted();
-    steps_do_what_is_said();
+    takes_hand_over_what_was_put();
+    two_takes_of_a_tuple_are_one();
+    replies_report_what_was_done();
+    steps_offer_only_what_is_sought();
+    closings_offer_only_what_is_sought();
+    steps_do_as_they_are_asked();
     calls_keep_clients();
     numbers_go_on();
     packets_are_sound();

@@ -8,7 +8,7 @@ use Rattle.linda_state.specs.Deed.{client_of, number_of}
 use Rattle.linda_state.specs.State.{empty_state}
 use Rattle.linda_state.specs.After.{entry_after}
 use Rattle.linda_state.proofs.DeedLaws.{last_of-joined, last_later}
-use Rattle.linda_promise.specs.Numbers.{last_number}
+use Rattle.linda_promise.specs.Deeds.{last_in as last_number}
 
 -- One deed more of the client is its last; one of another leaves it.
 with_one : (ds : List Deed) (d : Deed) (c : ℕ) (b : Bool) → (client_of d == c) ≡ b → last_number (ds ++ d ∷ []) c ≡ cond b (number_of d) (last_number ds c)

@@ -1,8 +1,8 @@
 //! Which deed a server did for a message.
 
 ghost use Rattle.std.specs.Prelude.{◌≡◌, ◌+◌, ◌==◌, ◌<◌};
-ghost use Rattle.linda_promise.specs.Learning.{deed_told, is_next};
-ghost use Rattle.linda_promise.specs.Numbers.{last_number};
+ghost use Rattle.linda_promise.specs.Steps.{reported_deed, comes_next};
+ghost use Rattle.linda_promise.specs.Deeds.{last_in as last_number};
 ghost use Rattle.linda_state.specs.Deed.{client_of, number_of};
 
 use linda_store::Deed;
@@ -49,7 +49,7 @@ pub(crate) fn told_deed(
     last: u64,
     sends: &[(u32, Reply)],
 ) -> Option<Deed>
-    ensures { result ≡ deed_told client message last sends.now }
+    ensures { result ≡ reported_deed client message last sends.now }
 {
     match message {
         Message::Out { n, tuple } => {

@@ -4,7 +4,6 @@ ghost use Rattle.std.specs.Prelude.{◌≡◌, ◌≤◌, ◌<◌, [], Some, Non
 ghost use Rattle.std.specs.Option.{option_map};
 ghost use Rattle.std.specs.List.{slice_get};
 ghost use Rattle.std.specs.FinMap as map;
-ghost use Rattle.linda_client.specs.Client.{server_limit};
 ghost use Rattle.linda_run.specs.Reached.{IsUnused};
 ghost use Rattle.linda_world.specs.World.{Steps};
 

@@ -12,17 +12,17 @@ returns c = record {
   };
   deeds = record {
     taken_once = c.no_tuple_is_taken_twice.ensures;
-    handed = c.takes_are_handed_over.ensures;
-    one_take = c.a_tuple_is_taken_by_one.ensures;
-    numbered = c.replies_tell_deeds.ensures.once;
-    told_take = c.replies_tell_deeds.ensures.taken;
-    told_tuple = c.replies_tell_deeds.ensures.tuple;
-    told_gone = c.replies_tell_deeds.ensures.gone;
+    handed = c.takes_hand_over_what_was_put.ensures;
+    one_take = c.two_takes_of_a_tuple_are_one.ensures;
+    numbered = c.replies_report_what_was_done.ensures.once;
+    told_take = c.replies_report_what_was_done.ensures.taken;
+    told_tuple = c.replies_report_what_was_done.ensures.tuple;
+    told_gone = c.replies_report_what_was_done.ensures.gone;
   };
   steps = record {
-    step_spreads = c.steps_offer_what_is_wanted.ensures;
-    close_spreads = c.closings_offer_what_is_wanted.ensures;
-    step_deed = c.steps_do_what_is_said.ensures;
+    step_spreads = c.steps_offer_only_what_is_sought.ensures;
+    close_spreads = c.closings_offer_only_what_is_sought.ensures;
+    step_deed = c.steps_do_as_they_are_asked.ensures;
   };
   calls = record {
     new = c.calls_keep_clients.ensures.new;
