@@ -1,14 +1,21 @@
 -- A world goes on by a step, or shows what it showed.
 use Rattle.std.proofs.Common.{◌≡◌, ℕ, Bool, true, false, true≢false, List, [], ◌∷◌, ◌++◌, refl, sym, ap, ◌∙◌, subst}
-use Rattle.std.specs.Prelude.{Ok}
+use Rattle.std.specs.Prelude.{Ok, Err, ◌≤◌, All, length, map}
+use Rattle.std.proofs.Common.{arith}
+use Rattle.std.proofs.lemmas.List.{length-map}
+use Rattle.std.proofs.lemmas.List.Elements.{All-map, All-weaker}
+use Rattle.linda_store.specs.Node.{Node}
+use Rattle.linda_client.specs.Client.{server_limit}
+use Rattle.linda_world.specs.declared.fault.WorldFault.{WorldFault}
+use Rattle.linda_world.specs.declared.fault.WorldFault.TheVariants as faults
 use Rattle.linda_run.specs.declared.event.WorldEvent.{WorldEvent}
 use Rattle.linda_run.specs.declared.seen.Seen.{Seen}
 use Rattle.linda_run.specs.World as run
 use Rattle.linda_run.specs.Steps as steps
 use Rattle.linda_run.specs.Steps.{Told, HasJoined}
-use Rattle.linda_run.specs.Reached.{IsStart, IsReached, begins, joins, goes}
-use Rattle.linda_world.specs.Scene.{IsShownAs}
-use Rattle.linda_world.specs.World.{World, IsRun, Steps, Runs}
+use Rattle.linda_run.specs.Reached.{IsUnused, IsNew, IsStart, IsReached, begins, joins, goes}
+use Rattle.linda_world.specs.Scene.{IsShownAs, AddsOrNot, new_server, world_of}
+use Rattle.linda_world.specs.World.{World, IsRun, Steps, Runs, StopsAt}
 
 same_shown : (w : run.World) → IsShownAs w w
 same_shown w = record { deeds = refl; got = λ d. refl; packets = refl }
@@ -39,3 +46,33 @@ falls_short w new was is shown = record {
 pub runs_more : (w mid new : World) (events : List WorldEvent) (event : WorldEvent) (seen : Seen) → Runs w events mid → Steps mid event (Ok seen) new → Runs w (events ++ event ∷ []) new
 runs_more w mid new [] event seen same step = (seen, (new, (subst (λ v. Steps v event (Ok seen) new) same step, refl)))
 runs_more w mid new (x ∷ xs) event seen run step = (run.0, (run.1.0, (run.1.1.0, runs_more run.1.0 mid new xs event seen run.1.1.1 step)))
+
+-- A world begins where its nodes were never used.
+pub start_of : (nodes : List Node) → 1 ≤ length nodes → length nodes ≤ server_limit → All IsUnused nodes → IsStart (world_of nodes)
+start_of nodes some few unused =
+    let count : length (map new_server nodes) ≡ length nodes = length-map nodes new_server in
+    record {
+      some = omega (arith, count, some);
+      few = omega (arith, count, few);
+      servers = All-map IsNew new_server nodes (All-weaker IsUnused (λ n. IsNew (new_server n)) (λ n is. record { deeds = refl; unused = is }) nodes unused);
+      members = refl;
+      packets = refl;
+    }
+
+-- Where no client is added nothing changes.
+pub unchanged : (old : run.World) (c : ℕ) (fault : WorldFault) (new : run.World) → AddsOrNot old c (Err fault) new → new ≡ old
+unchanged old c faults.ClientKnown new known = known.1
+unchanged old c faults.Memory new same = same
+unchanged old c faults.NoClient new never = absurd never
+unchanged old c faults.NoServer new never = absurd never
+unchanged old c faults.NoPacket new never = absurd never
+unchanged old c faults.TooManyPackets new never = absurd never
+unchanged old c (faults.Client fault) new never = absurd never
+unchanged old c (faults.Down s) new never = absurd never
+
+pub shown_unchanged : (old new : run.World) → new ≡ old → IsShownAs old new
+shown_unchanged old new same = subst (IsShownAs old) (sym same) (same_shown old)
+
+-- Where one event is refused or goes wrong the others are not done.
+pub stops_at : (old mid new : World) (before later all : List WorldEvent) (event : WorldEvent) (fault : WorldFault) → all ≡ before ++ event ∷ later → Runs old before mid → Steps mid event (Err fault) new → StopsAt old all fault new
+stops_at old mid new before later all event fault parts runs step = record { before = before; event = event; later = later; parts = parts; mid = mid; runs = runs; step = step }

@@ -1,9 +1,11 @@
 -- What an event of a world comes to: a step, a refusal, or want of memory.
-use Rattle.std.specs.Prelude.{◌≡◌, List, Option, Some, Result, Ok, Err, map}
+use Rattle.std.specs.Prelude.{◌≡◌, ℕ, List, [], Option, Some, IsSome, Result, Ok, Err, map}
+use Rattle.std.specs.FinMap as maps
+use Rattle.linda_store.specs.Node.{Node}
 use Rattle.linda_run.specs.declared.event.WorldEvent.{WorldEvent}
 use Rattle.linda_run.specs.declared.seen.Seen.{Seen}
 use Rattle.linda_run.specs.World.{Server, World}
-use Rattle.linda_run.specs.Steps.{Told, Steps}
+use Rattle.linda_run.specs.Steps.{Told, Steps, HasJoined}
 use Rattle.linda_world.specs.declared.fault.WorldFault.{WorldFault}
 use Rattle.linda_world.specs.declared.fault.WorldFault.TheVariants as faults
 use Rattle.linda_world.specs.Answer.{Tells}
@@ -33,3 +35,18 @@ AsksOrNot Comes refused old result new =
 -- What an event comes to.
 abbrev pub Answers : World → WorldEvent → Result Seen WorldFault → World → Type 0
 Answers old event result new = AsksOrNot (λ w told then. Steps w event told then) (refusal old event) old result new
+
+-- a server that has done nothing
+abbrev pub new_server : Node → Server
+new_server node = record { deeds = []; node = node }
+
+-- A world of these nodes, where nothing has happened.
+abbrev pub world_of : List Node → World
+world_of nodes = record { servers = map new_server nodes; members = maps.empty; packets = [] }
+
+-- A client joined; or its number is known, or memory ran out, and nothing changed.
+abbrev pub AddsOrNot : World → ℕ → Result (Unit {0}) WorldFault → World → Type 0
+AddsOrNot old c (Ok done) new = HasJoined c old new
+AddsOrNot old c (Err faults.ClientKnown) new = IsSome (maps.get old.members c) × (new ≡ old)
+AddsOrNot old c (Err faults.Memory) new = new ≡ old
+AddsOrNot old c (Err fault) new = ⊥

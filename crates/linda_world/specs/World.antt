@@ -1,6 +1,7 @@
 -- The machine as contracts see it: a world, and whether memory ran out.
-use Rattle.std.specs.Prelude.{◌≡◌, ℕ, Bool, true, false, List, [], ◌∷◌, ◌++◌, Option, Some, None, Result, Ok, Err, map}
+use Rattle.std.specs.Prelude.{◌≡◌, ℕ, Bool, true, false, List, [], ◌∷◌, ◌++◌, Option, Some, None, IsSome, Result, Ok, Err}
 use Rattle.std.specs.FinMap as maps
+use Rattle.linda_state.specs.declared.deed.Deed.{Deed}
 use Rattle.linda_run.specs.declared.event.WorldEvent.{WorldEvent}
 use Rattle.linda_run.specs.declared.seen.Seen.{Seen}
 use Rattle.linda_run.specs.World as run
@@ -53,6 +54,11 @@ abbrev pub Runs : World → List WorldEvent → World → Type 0
 Runs old [] new = new ≡ old
 Runs old (event ∷ events) new = (seen : Seen) × ((mid : World) × (Steps old event (Ok seen) mid × Runs mid events new))
 
+-- What an event comes to, where nothing is told of what is seen.
+abbrev pub Passes : World → WorldEvent → Result (Unit {0}) WorldFault → World → Type 0
+Passes old event (Ok done) new = (seen : Seen) × Steps old event (Ok seen) new
+Passes old event (Err fault) new = Steps old event (Err fault) new
+
 -- These events were done before the one that was answered by the fault, and none after it.
 pub record StopsAt (old : World) (events : List WorldEvent) (fault : WorldFault) (new : World) : Type 0 where
   pub before : List WorldEvent
@@ -74,13 +80,19 @@ pub record IsJoin (c : ℕ) (old new : World) : Type 0 where
   pub now : new.is_spent ≡ false
   pub joined : HasJoined c old.world new.world
 
--- why a client cannot join: its number is known
-abbrev pub refusal_of_client : Option run.Member → Option WorldFault
-refusal_of_client None = None
-refusal_of_client (Some member) = Some faults.ClientKnown
-
--- What the joining of a client comes to.
+-- What the joining of a client comes to: its number may be known.
 abbrev pub Joins : World → ℕ → Result (Unit {0}) WorldFault → World → Type 0
 Joins old c (Ok done) new = IsJoin c old new
+Joins old c (Err faults.ClientKnown) new = IsSome (maps.get old.world.members c) × ((old.is_spent ≡ false) × (new ≡ old))
 Joins old c (Err faults.Memory) new = IsShort old new
-Joins old c (Err fault) new = Refuses (refusal_of_client (maps.get old.world.members c)) old new fault
+Joins old c (Err fault) new = ⊥
+
+-- what a client was given; nothing, if there is none of this number
+abbrev pub got_by : Option run.Member → List (ℕ × ℕ)
+got_by None = []
+got_by (Some member) = member.got
+
+-- what a server did; nothing, if there is none of this number
+abbrev pub deeds_by : Option run.Server → List Deed
+deeds_by None = []
+deeds_by (Some server) = server.deeds

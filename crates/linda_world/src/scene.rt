@@ -1,6 +1,9 @@
 //! What a world is made of, and each event as one step of it.
 
-ghost use Rattle.std.specs.Prelude.{◌≡◌, ◌<◌, Some, [], ◌∷◌, length};
+ghost use Rattle.std.specs.Prelude.{◌≡◌, ◌<◌, Some, [], ◌∷◌, length, IfOk, option_copied};
+ghost use Rattle.std.specs.Prelude.{map as map_list};
+ghost use Rattle.std.specs.Option.{option_map};
+ghost use Rattle.std.specs.List.{slice_get};
 ghost use Rattle.std.specs.FinMap as map;
 ghost use Rattle.linda_run.specs.Steps.{HasReacted, HasServed, IsStopped, Halts, Leaves, Saves, Takes};
 ghost use Rattle.linda_run.specs.declared.event.WorldEvent.TheVariants as events;
@@ -9,15 +12,16 @@ ghost use Rattle.linda_run.specs.Reached.{IsReached};
 ghost use Rattle.linda_world.specs.Call.{call_of};
 ghost use Rattle.linda_world.specs.Member.{refusal_to};
 ghost use Rattle.linda_world.specs.Refusal.{refusal_at, refusal_of_stop};
-ghost use Rattle.linda_world.specs.Scene.{Answers, AsksOrNot, seen_of};
+ghost use Rattle.linda_world.specs.Scene.{AddsOrNot, Answers, AsksOrNot, new_server, seen_of, world_of};
 
 use crate::call::Call;
 use crate::fault::WorldFault;
 use crate::mark::{are_messages, mark, mark_all, messages_at};
 use crate::member::Members;
 use crate::server::{Server, Told};
+use linda_client::Client;
 use linda_disk::Torn;
-use linda_run::{Body, Packet, Seen, WorldEvent, servers_stay_sound};
+use linda_run::{Body, Packet, Seen, WorldEvent, servers_are_few, servers_stay_sound};
 use linda_store::{MAX_BATCH, Node, Work};
 use linda_wire::{Message, Reply};
 use std::alloc::{AllocError, Global};
@@ -42,6 +46,17 @@ impl<N: Node> Model for Scene<N> {
     ghost view = { λ s. record { servers = s.servers.items; members = s.members; packets = s.packets.items } };
 }
 
+/// Servers of these nodes, which have done nothing.
+fn servers_of<N: Node>(alloc: Global, nodes: Vec<N>) -> Result<Vec<Server<N>>, AllocError>
+    ensures { IfOk result (λ v. v.items ≡ map_list new_server (map_list (λ n. N.shown n) nodes.items)) }
+{
+    let mut servers = Vec::new(alloc);
+    for node in nodes {
+        servers.push(Server::new(alloc, node))?;
+    }
+    Ok(servers)
+}
+
 /// What the world answers where a server told this, or memory ran out.
 fn asked(told: Result<Told, AllocError>) -> Result<Seen, WorldFault>
     ensures { result ≡ seen_of told }
@@ -54,6 +69,54 @@ fn asked(told: Result<Told, AllocError>) -> Result<Seen, WorldFault>
 }
 
 impl<N: Node> Scene<N> {
+    /// These nodes, no client and no packet.
+    pub(crate) fn new(alloc: Global, nodes: Vec<N>) -> Result<Scene<N>, AllocError>
+        ensures { IfOk result (λ s. s ≡ world_of (map_list (λ n. N.shown n) nodes.items)) }
+    {
+        Ok(Scene {
+            servers: servers_of(alloc, nodes)?,
+            members: Members::new(alloc),
+            packets: Vec::new(alloc),
+        })
+    }
+
+    /// Adds a client.
+    pub(crate) fn add(&mut self, alloc: Global, number: u32) -> Result<(), WorldFault>
+        requires { IsReached self.old }
+        ensures { AddsOrNot self.old number result self.new }
+    {
+        servers_are_few();
+        if self.members.has(number) {
+            return Err(WorldFault::ClientKnown);
+        }
+        let Ok(client) = Client::new(alloc, number, self.servers.len() as u32) else {
+            return Err(WorldFault::Memory);
+        };
+        self.members.add(alloc, number, client)?;
+        Ok(())
+    }
+
+    /// All packets.
+    pub(crate) fn packets(&self) -> &[Packet]
+        ensures { result.now ≡ self.now.packets }
+    {
+        &self.packets
+    }
+
+    /// What a client was given, if there is one of this number.
+    pub(crate) fn got(&self, client: u32) -> Option<&[(u32, u64)]>
+        ensures { option_copied result ≡ option_map (λ m. m.got) (map.get self.now.members client) }
+    {
+        self.members.got(client)
+    }
+
+    /// The server of this number, if there is one.
+    pub(crate) fn server(&self, server: u32) -> Option<&Server<N>>
+        ensures { option_copied result ≡ slice_get self.now.servers server }
+    {
+        self.servers.get(server as usize)
+    }
+
     // A client makes a call of its own.
     fn react(&mut self, alloc: Global, client: u32, call: Call) -> Result<Seen, WorldFault>
         ensures { AsksOrNot (HasReacted (call_of call) client []) (refusal_to (map.get self.old.members client) (call_of call))

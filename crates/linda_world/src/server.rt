@@ -49,6 +49,30 @@ fn served(full: bool) -> Seen
 }
 
 impl<N: Node> Server<N> {
+    /// A server that has done nothing.
+    pub(crate) fn new(alloc: Global, node: N) -> Server<N>
+        ensures { result ≡ record { deeds = []; node = N.shown node } }
+    {
+        Server {
+            node,
+            deeds: Vec::new(alloc),
+        }
+    }
+
+    /// All deeds that it ever did, in order.
+    pub(crate) fn deeds(&self) -> &[Deed]
+        ensures { result.now ≡ self.now.deeds }
+    {
+        &self.deeds
+    }
+
+    /// Its node.
+    pub(crate) fn node(&self) -> &N
+        ensures { N.shown result.now ≡ self.now.node }
+    {
+        &self.node
+    }
+
     /// Takes a message of a client.
     pub(crate) fn take(
         &mut self,

@@ -1,15 +1,16 @@
 //! The world: its events one by one and in lists, and what it shows.
 
 ghost use Rattle.std.specs.Prelude.{◌≡◌, ◌≤◌, ◌<◌, [], Some, None, All, IfOk, OnOk, OnErr, true, false, length, option_copied};
+ghost use Rattle.std.specs.Prelude.{map as map_list};
 ghost use Rattle.std.specs.Option.{option_map};
 ghost use Rattle.std.specs.List.{slice_get};
 ghost use Rattle.std.specs.FinMap as map;
 ghost use Rattle.linda_run.specs.Reached.{IsUnused};
-ghost use Rattle.linda_world.specs.World.{Steps};
+ghost use Rattle.linda_world.specs.Scene.{world_of};
+ghost use Rattle.linda_world.specs.World.{IsRun, Joins, Passes, Ran, Steps, deeds_by, got_by};
 
 use crate::fault::WorldFault;
 use crate::scene::Scene;
-use linda_client::Client;
 use linda_run::{Packet, Seen, WorldEvent};
 use linda_store::{Deed, Node};
 use std::alloc::{AllocError, Global};
@@ -39,6 +40,115 @@ impl<N: Node> Model for World<N> {
 }
 
 impl<N: Node> World<N> {
+    /// These nodes, 1 to 16, none of which was ever used; no client yet, and no packet.
+    ///
+    /// # Errors
+    ///
+    /// Where memory runs out.
+    pub fn new(alloc: Global, nodes: Vec<N>) -> Result<World<N>, AllocError>
+        requires some { 1 ≤ length nodes.items }
+        requires few { length nodes.items ≤ server_limit }
+        requires unused { All IsUnused (map_list (λ n. N.shown n) nodes.items) }
+        ensures { IfOk result (λ w. w
+            ≡ record { world = world_of (map_list (λ n. N.shown n) nodes.items); is_spent = false }) }
+    {
+        let scene = Scene::new(alloc, nodes)?;
+        Ok(World {
+            scene,
+            spent: false,
+        })
+    }
+
+    /// Adds a client of this number, over all servers.
+    ///
+    /// # Errors
+    ///
+    /// `ClientKnown` where there is one; nothing changes. `Memory` where memory ran out, as in `step`.
+    pub fn add_client(&mut self, alloc: Global, number: u32) -> Result<(), WorldFault>
+        ensures { Joins self.old number result self.new }
+    {
+        if self.spent {
+            return Err(WorldFault::Memory);
+        }
+        match self.scene.add(alloc, number) {
+            Ok(()) => return Ok(()),
+            Err(WorldFault::ClientKnown) => return Err(WorldFault::ClientKnown),
+            Err(_) => {
+                self.spent = true;
+                return Err(WorldFault::Memory);
+            }
+        }
+    }
+
+    /// What the client was given: the server and the id of each tuple that it took, in order. Nothing if there
+    /// is no such client. Takes no memory.
+    pub fn got(&self, client: u32) -> &[(u32, u64)]
+        ensures got { result.now ≡ got_by (map.get self.now.world.members client) }
+        ensures run { IsRun self.now }
+    {
+        match self.scene.got(client) {
+            Some(got) => got,
+            None => &[],
+        }
+    }
+
+    /// All deeds that the server ever did, in order. None if there is no such server. Takes no memory.
+    pub fn deeds(&self, server: u32) -> &[Deed]
+        ensures deeds { result.now ≡ deeds_by (slice_get self.now.world.servers server) }
+        ensures run { IsRun self.now }
+    {
+        match self.scene.server(server) {
+            Some(server) => server.deeds(),
+            None => &[],
+        }
+    }
+
+    /// The node of the server, if there is such a one. Takes no memory.
+    pub fn node(&self, server: u32) -> Option<&N>
+        ensures { option_map (λ n. N.shown n) (option_copied result)
+            ≡ option_map (λ s. s.node) (slice_get self.now.world.servers server) }
+    {
+        match self.scene.server(server) {
+            Some(server) => Some(server.node()),
+            None => None,
+        }
+    }
+
+    /// All packets that were ever sent, in order; a packet's number is its place. Takes no memory.
+    pub fn packets(&self) -> &[Packet]
+        ensures packets { result.now ≡ self.now.world.packets }
+        ensures run { IsRun self.now }
+    {
+        self.scene.packets()
+    }
+
+    /// Does these events, one after another, until one is refused or goes wrong.
+    ///
+    /// # Errors
+    ///
+    /// As in `step`; the events before that one took place.
+    pub fn run(&mut self, alloc: Global, events: Vec<WorldEvent>) -> Result<(), WorldFault>
+        ensures { Ran self.old events.items result self.new }
+    {
+        for event in events {
+            match self.pass(alloc, event) {
+                Ok(()) => {}
+                Err(fault) => return Err(fault),
+            }
+        }
+        Ok(())
+    }
+
+    // Does one event, and tells nothing of what is seen.
+    fn pass(&mut self, alloc: Global, event: WorldEvent) -> Result<(), WorldFault>
+        ensures { Passes self.old event result self.new }
+    {
+        match self.step(alloc, event) {
+            Ok(_) => Ok(()),
+            Err(fault) => Err(fault),
+        }
+    }
+
     /// Does one event.
     ///
     /// # Errors
