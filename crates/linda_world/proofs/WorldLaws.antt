@@ -4,8 +4,8 @@ use Rattle.std.specs.Prelude.{Ok, Err, ◌≤◌, All, length, map}
 use Rattle.std.proofs.Common.{arith}
 use Rattle.std.proofs.lemmas.List.{length-map}
 use Rattle.std.proofs.lemmas.List.Elements.{All-map, All-weaker}
+use Rattle.linda_client.specs.declared.limits.TheConstants.{MAX_SERVERS}
 use Rattle.linda_store.specs.Node.{Node}
-use Rattle.linda_client.specs.Client.{server_limit}
 use Rattle.linda_world.specs.declared.fault.WorldFault.{WorldFault}
 use Rattle.linda_world.specs.declared.fault.WorldFault.TheVariants as faults
 use Rattle.linda_run.specs.declared.event.WorldEvent.{WorldEvent}
@@ -48,7 +48,7 @@ runs_more w mid new [] event seen same step = (seen, (new, (subst (λ v. Steps v
 runs_more w mid new (x ∷ xs) event seen run step = (run.0, (run.1.0, (run.1.1.0, runs_more run.1.0 mid new xs event seen run.1.1.1 step)))
 
 -- A world begins where its nodes were never used.
-pub start_of : (nodes : List Node) → 1 ≤ length nodes → length nodes ≤ server_limit → All IsUnused nodes → IsStart (world_of nodes)
+pub start_of : (nodes : List Node) → 1 ≤ length nodes → length nodes ≤ MAX_SERVERS → All IsUnused nodes → IsStart (world_of nodes)
 start_of nodes some few unused =
     let count : length (map new_server nodes) ≡ length nodes = length-map nodes new_server in
     record {

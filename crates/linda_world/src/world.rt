@@ -5,6 +5,7 @@ ghost use Rattle.std.specs.Prelude.{map as map_list};
 ghost use Rattle.std.specs.Option.{option_map};
 ghost use Rattle.std.specs.List.{slice_get};
 ghost use Rattle.std.specs.FinMap as map;
+ghost use Rattle.linda_client.specs.declared.limits.TheConstants.{MAX_SERVERS};
 ghost use Rattle.linda_run.specs.Reached.{IsUnused};
 ghost use Rattle.linda_world.specs.Scene.{world_of};
 ghost use Rattle.linda_world.specs.World.{IsRun, Joins, Passes, Ran, Steps, deeds_by, got_by};
@@ -47,7 +48,7 @@ impl<N: Node> World<N> {
     /// Where memory runs out.
     pub fn new(alloc: Global, nodes: Vec<N>) -> Result<World<N>, AllocError>
         requires some { 1 ≤ length nodes.items }
-        requires few { length nodes.items ≤ server_limit }
+        requires few { length nodes.items ≤ MAX_SERVERS }
         requires unused { All IsUnused (map_list (λ n. N.shown n) nodes.items) }
         ensures { IfOk result (λ w. w
             ≡ record { world = world_of (map_list (λ n. N.shown n) nodes.items); is_spent = false }) }
