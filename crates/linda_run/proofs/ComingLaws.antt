@@ -158,7 +158,7 @@ module _ (laws : OfSteps) (ms : Members) (ps : List Sent) (s : ℕ) (ds es : Lis
 
   wanted_suits : (pair : ℕ × ℕ) (row : Tuple) → HasTaker old.soft x pair row → OfMember ms pair.0 (OfTicket pair.1 (Suits row))
   wanted_suits pair row wanted =
-      let is = asks_so wanted.wait wanted.asks in
+      let is = asks_so wanted.wait wanted.seeks in
       subst (λ (p : ℕ × ℕ). OfMember ms p.0 (OfTicket p.1 (Suits row))) wanted.pair_is (record {
         member = is.member;
         known = is.known;
@@ -184,7 +184,7 @@ module _ (laws : OfSteps) (ms : Members) (ps : List Sent) (s : ℕ) (ds es : Lis
     where
       by : (get old.soft.holds id ≡ Some pair) ⊎ MakesOffer new.state.bag old.soft x sends id pair → OfMember ms pair.0 (OfTicket pair.1 (Suits row))
       by (inl was) = held_suits id pair row was there
-      by (inr offered) = subst (λ t. OfMember ms pair.0 (OfTicket pair.1 (Suits t))) (same_Some offered.row row (sym offered.there ∙ there)) (wanted_suits pair offered.row offered.wanted)
+      by (inr offered) = subst (λ t. OfMember ms pair.0 (OfTicket pair.1 (Suits t))) (same_Some offered.tuple row (sym offered.there ∙ there)) (wanted_suits pair offered.tuple offered.taker)
 
   offer_suits : (pair : ℕ × ℕ) (id : ℕ) (row : Tuple) → Contains sends (pair.0, replies.Offer pair.1 id row) → OfMember ms pair.0 (OfTicket pair.1 (Suits row))
   offer_suits pair id row there = by (spreads.offers pair id row there)
@@ -289,7 +289,7 @@ module _ (laws : OfSteps) (ms : Members) (ps : List Sent) (s : ℕ) (ds es : Lis
                 inr (accepted.0, not_done pair.0 pair.1 id a is.member is.known awaits held accepted.1)
 
         by : (get old.soft.holds id ≡ Some pair) ⊎ MakesOffer new.state.bag old.soft x sends id pair → HasReason ms news s (ds ++ es) id pair
-        by (inr offer) = inl (offered pair.0 pair.1 id offer.row offer.sent)
+        by (inr offer) = inl (offered pair.0 pair.1 id offer.tuple offer.sent)
         by (inl was) = elim (waited.held id pair was) [
           | inl offer ↦ inl (offers pair.0 pair.1 id offer)
           | inr other ↦ elim other [
