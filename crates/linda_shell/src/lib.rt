@@ -1,6 +1,8 @@
-//! The texts of events, as people type them: `choose [in ("a", ?i), alarm 3]`.
+//! What people type and see: the texts of events, as `choose [in ("a", ?i), alarm 3]`, and scripts over servers and
+//! clients.
 //!
-//! `read_event` reads them. `specs/EventTexts` is their grammar.
+//! `read_event` reads an event; `specs/EventTexts` is the grammar. `run_script` runs a script, a command a line, over a
+//! world of servers: what it does there is what linda_world proves of every run, and what it prints is shown by tests.
 #![tactic(auto)]
 
 mod event;
@@ -9,6 +11,7 @@ mod keyword;
 mod laws;
 mod limits;
 mod node;
+mod script;
 mod skipping;
 mod token;
 mod written;
@@ -17,6 +20,7 @@ pub use event::read_event;
 pub use fault::EventTextFault;
 pub use laws::{a_text_stands_for_one_event, what_is_written_is_read_again};
 pub use limits::MAX_NESTED;
+pub use script::{LineFault, ScriptFault, run_script, write_outcome};
 pub use written::write_event;
 
 #[cfg(test)]

@@ -3,3 +3,4 @@
 mod events;
 mod faults;
 mod nested;
+mod scripts;

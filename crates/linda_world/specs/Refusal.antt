@@ -3,7 +3,7 @@ use Rattle.std.specs.Prelude.{ℕ, ◌==◌, nat_lt, Bool, true, false, ◌&&◌
 use Rattle.std.specs.List.{slice_get, list_all}
 use Rattle.std.specs.FinMap as map
 use Rattle.linda_event.specs.Trees.{tree_of}
-use Rattle.linda_store.specs.declared.work.TheConstants.{MAX_BATCH}
+use Rattle.linda_step.specs.declared.size.TheConstants.{MAX_BATCH}
 use Rattle.linda_client.specs.React as calls
 use Rattle.linda_client.specs.React.{Receive, Resend, Abandon}
 use Rattle.linda_run.specs.declared.event.WorldEvent.{WorldEvent}

@@ -1,0 +1,320 @@
+//! A script at work: servers and clients, and what each command prints.
+
+mod command;
+mod fault;
+mod listing;
+mod outcome;
+mod run;
+
+ghost use Rattle.std.specs.Prelude.{◌≡◌, ◌≤◌, All, IfOk, length, map};
+ghost use Rattle.linda_client.specs.declared.limits.TheConstants.{MAX_SERVERS};
+ghost use Rattle.linda_run.specs.Reached.{IsUnused};
+
+pub use fault::{LineFault, ScriptFault};
+pub use outcome::write_outcome;
+pub use run::run_script;
+
+use command::{Command, read_command};
+use linda_client::ClientFault;
+use linda_disk::Torn;
+use linda_store::{Node, Volatile};
+use listing::list_state;
+use outcome::{write_fault, write_refusal};
+use linda_world::{Seen, World, WorldEvent, WorldFault};
+use std::alloc::{AllocError, Global};
+
+/// The most clients of a script.
+const MAX_CLIENTS: usize = 64;
+
+/// The most packets that are delivered for one command, beside those that it repeats.
+const MAX_DELIVERIES: usize = 1_000_000;
+
+/// The servers and clients of a script. Between two commands every packet was delivered at least once.
+#[derive(Drop)]
+pub(crate) struct Script {
+    world: World<Volatile>,
+    servers: u32,
+    /// The clients, by rising number.
+    clients: Vec<u32>,
+    /// How many packets were delivered: all before that one.
+    delivered: usize,
+}
+
+impl Script {
+    /// So many new servers, 1 to 16, and no client.
+    ///
+    /// # Errors
+    ///
+    /// `AllocError` where memory runs out.
+    pub(crate) fn new(alloc: Global, servers: u32) -> Result<Script, AllocError>
+        requires some { 1 ≤ servers }
+        requires few { servers ≤ MAX_SERVERS }
+    {
+        Ok(Script {
+            world: World::new(alloc, unused_nodes(alloc, servers)?)?,
+            servers,
+            clients: Vec::new(alloc),
+            delivered: 0,
+        })
+    }
+
+    /// Does what a line says, delivers all packets, and appends what is printed, line by line.
+    ///
+    /// # Errors
+    ///
+    /// A `LineFault`: the lines that were appended stay.
+    pub(crate) fn run_line(
+        &mut self,
+        alloc: Global,
+        line: &[u8],
+        out: &mut String,
+    ) -> Result<(), LineFault> {
+        match read_command(alloc, line)? {
+            None => Ok(()),
+            Some(None) => Err(LineFault::NotACommand),
+            Some(Some(command)) => {
+                self.obey(alloc, command, out)?;
+                self.deliver_all(alloc, out)
+            }
+        }
+    }
+
+    // Does what the command says.
+    fn obey(
+        &mut self,
+        alloc: Global,
+        command: Command,
+        out: &mut String,
+    ) -> Result<(), LineFault> {
+        match command {
+            Command::Out { client, tuple } => {
+                self.meet(alloc, client)?;
+                self.call(alloc, client, WorldEvent::Out { client, tuple }, out)
+            }
+            Command::Sync { client, event } => {
+                self.meet(alloc, client)?;
+                self.call(alloc, client, WorldEvent::Sync { client, event }, out)
+            }
+            Command::Abandon(client) => self.abandon(alloc, client, out),
+            Command::Tick(now) => self.tick(alloc, now, out),
+            Command::Snapshot(server) => self.snapshot(alloc, self.server(server)?, out),
+            Command::Stop(server) => {
+                let server = self.server(server)?;
+                let packets = Vec::new(alloc);
+                let event = WorldEvent::Stop {
+                    server,
+                    packets,
+                    at: 0,
+                    torn: Torn::Kept,
+                };
+                self.stop(alloc, server, event, out)
+            }
+            Command::StopSnapshot { server, call, byte } => {
+                let server = self.server(server)?;
+                let event = WorldEvent::StopSnapshot {
+                    server,
+                    at: call,
+                    torn: Torn::Filled(byte),
+                };
+                self.stop(alloc, server, event, out)
+            }
+            Command::Repeat => self.repeat(alloc, out),
+            Command::State(server) => self.show(alloc, self.server(server)?, out),
+        }
+    }
+
+    // The server of this number, if there is one.
+    fn server(&self, number: u64) -> Result<u32, LineFault> {
+        match u32::try_from(number) {
+            Ok(server) if server < self.servers => Ok(server),
+            _ => Err(LineFault::NoServer),
+        }
+    }
+
+    // Makes the client, where it was not named before.
+    fn meet(&mut self, alloc: Global, client: u32) -> Result<(), LineFault> {
+        let place = match self.clients.binary_search(&client) {
+            Ok(_) => return Ok(()),
+            Err(place) => place,
+        };
+        if self.clients.len() == MAX_CLIENTS {
+            return Err(LineFault::TooManyClients);
+        }
+        self.clients.try_reserve(1)?;
+        match self.world.add_client(alloc, client) {
+            Ok(()) => {}
+            Err(_) => return Err(LineFault::Memory),
+        }
+        self.clients.insert(place, client)?;
+        Ok(())
+    }
+
+    // One event, and what is printed of it.
+    fn call(
+        &mut self,
+        alloc: Global,
+        client: u32,
+        event: WorldEvent,
+        out: &mut String,
+    ) -> Result<(), LineFault> {
+        match self.world.step(alloc, event) {
+            Ok(seen) => print_seen(alloc, &seen, out),
+            Err(WorldFault::Client(fault)) => print_refusal(alloc, client, fault, out),
+            Err(WorldFault::Down(server)) => Err(LineFault::Down(server)),
+            Err(_) => Err(LineFault::Memory),
+        }
+    }
+
+    // A client that was never named has nothing to give up.
+    fn abandon(
+        &mut self,
+        alloc: Global,
+        client: u32,
+        out: &mut String,
+    ) -> Result<(), LineFault> {
+        if self.clients.binary_search(&client).is_err() {
+            return print_refusal(alloc, client, ClientFault::Idle, out);
+        }
+        self.call(alloc, client, WorldEvent::Abandon(client), out)
+    }
+
+    fn tick(&mut self, alloc: Global, now: u64, out: &mut String) -> Result<(), LineFault> {
+        for place in 0..self.clients.len() {
+            if let Some(client) = self.clients.get(place).copied() {
+                self.call(alloc, client, WorldEvent::Tick { client, now }, out)?;
+            }
+        }
+        Ok(())
+    }
+
+    fn snapshot(&mut self, alloc: Global, server: u32, out: &mut String) -> Result<(), LineFault> {
+        let full = match self.world.step(alloc, WorldEvent::Snapshot(server)) {
+            Ok(seen) => seen.full,
+            Err(WorldFault::Down(server)) => return Err(LineFault::Down(server)),
+            Err(_) => return Err(LineFault::Memory),
+        };
+        let what = if full { "full" } else { "snapshot" };
+        print_of_server(alloc, server, what, out)
+    }
+
+    // Stops the server so, and tells each client that it was opened.
+    fn stop(
+        &mut self,
+        alloc: Global,
+        server: u32,
+        event: WorldEvent,
+        out: &mut String,
+    ) -> Result<(), LineFault> {
+        match self.world.step(alloc, event) {
+            Ok(_) => {}
+            Err(WorldFault::Down(server)) => return Err(LineFault::Down(server)),
+            Err(_) => return Err(LineFault::Memory),
+        }
+        print_of_server(alloc, server, "opened", out)?;
+        for place in 0..self.clients.len() {
+            if let Some(client) = self.clients.get(place).copied() {
+                self.call(alloc, client, WorldEvent::Reconnect { client, server }, out)?;
+            }
+        }
+        Ok(())
+    }
+
+    // Delivers every packet that was sent before, again.
+    fn repeat(&mut self, alloc: Global, out: &mut String) -> Result<(), LineFault> {
+        for packet in 0..self.delivered {
+            self.deliver(alloc, packet, out)?;
+        }
+        Ok(())
+    }
+
+    // Delivers the packets that were not delivered yet, in the order in which they were sent, until none is left.
+    fn deliver_all(&mut self, alloc: Global, out: &mut String) -> Result<(), LineFault> {
+        for _ in 0..MAX_DELIVERIES {
+            if self.delivered >= self.world.packets().len() {
+                return Ok(());
+            }
+            let packet = self.delivered;
+            self.delivered = packet.saturating_add(1);
+            self.deliver(alloc, packet, out)?;
+        }
+        if self.delivered < self.world.packets().len() {
+            return Err(LineFault::TooManyDeliveries);
+        }
+        Ok(())
+    }
+
+    fn deliver(&mut self, alloc: Global, packet: usize, out: &mut String) -> Result<(), LineFault> {
+        match self.world.step(alloc, WorldEvent::Deliver(packet)) {
+            Ok(seen) => print_seen(alloc, &seen, out),
+            Err(WorldFault::Down(server)) => Err(LineFault::Down(server)),
+            Err(_) => Err(LineFault::Memory),
+        }
+    }
+
+    fn show(&mut self, alloc: Global, server: u32, out: &mut String) -> Result<(), LineFault> {
+        match self.world.node(server) {
+            Some(node) => {
+                let lines = list_state(alloc, server, node.state(), node.holds())?;
+                out.push_str(&lines)?;
+                Ok(())
+            }
+            None => Err(LineFault::NoServer),
+        }
+    }
+}
+
+// So many servers in memory that were never used.
+fn unused_nodes(alloc: Global, count: u32) -> Result<Vec<Volatile>, AllocError>
+    ensures count { IfOk result (λ nodes. length nodes.items ≡ count) }
+    ensures unused { IfOk result (λ nodes.
+        All IsUnused (map (λ n. ⟦<Volatile as Node>⟧.shown n) nodes.items)) }
+{
+    let mut nodes = Vec::new(alloc);
+    for _ in 0..count {
+        nodes.push(Volatile::new(alloc))?;
+    }
+    Ok(nodes)
+}
+
+// The lines of what was seen of an event.
+fn print_seen(alloc: Global, seen: &Seen, out: &mut String) -> Result<(), LineFault> {
+    let Some(client) = seen.client else {
+        return Ok(());
+    };
+    if let Some(outcome) = &seen.outcome {
+        out.push_str(&write_outcome(alloc, client, outcome)?)?;
+    }
+    if let Some(fault) = seen.fault {
+        out.push_str(&write_fault(alloc, client, fault)?)?;
+    }
+    Ok(())
+}
+
+// The line of a call that the client refused.
+fn print_refusal(
+    alloc: Global,
+    client: u32,
+    fault: ClientFault,
+    out: &mut String,
+) -> Result<(), LineFault> {
+    match write_refusal(alloc, client, fault)? {
+        Some(line) => {
+            out.push_str(&line)?;
+            Ok(())
+        }
+        None => Err(LineFault::Memory),
+    }
+}
+
+// A line about a server.
+fn print_of_server(
+    alloc: Global,
+    server: u32,
+    what: &str,
+    out: &mut String,
+) -> Result<(), LineFault> {
+    let mut line = String::new(alloc);
+    writeln!(line, "server {server} {what}")?;
+    out.push_str(&line)?;
+    Ok(())
+}
