@@ -10,17 +10,16 @@ ghost use Rattle.std.specs.Prelude.{◌≡◌, ◌≤◌, All, IfOk, length, map
 ghost use Rattle.linda_client.specs.declared.limits.TheConstants.{MAX_SERVERS};
 ghost use Rattle.linda_run.specs.Reached.{IsUnused};
 
-pub use fault::{LineFault, ScriptFault};
-pub use outcome::write_outcome;
-pub use run::run_script;
-
 use command::{Command, read_command};
+pub use fault::{LineFault, ScriptFault};
 use linda_client::ClientFault;
 use linda_disk::Torn;
 use linda_store::{Node, Volatile};
-use listing::list_state;
-use outcome::{write_fault, write_refusal};
 use linda_world::{Seen, World, WorldEvent, WorldFault};
+use listing::list_state;
+pub use outcome::write_outcome;
+use outcome::{write_fault, write_refusal};
+pub use run::run_script;
 use std::alloc::{AllocError, Global};
 
 /// The most clients of a script.
@@ -80,12 +79,7 @@ impl Script {
     }
 
     // Does what the command says.
-    fn obey(
-        &mut self,
-        alloc: Global,
-        command: Command,
-        out: &mut String,
-    ) -> Result<(), LineFault> {
+    fn obey(&mut self, alloc: Global, command: Command, out: &mut String) -> Result<(), LineFault> {
         match command {
             Command::Out { client, tuple } => {
                 self.meet(alloc, client)?;
@@ -166,12 +160,7 @@ impl Script {
     }
 
     // A client that was never named has nothing to give up.
-    fn abandon(
-        &mut self,
-        alloc: Global,
-        client: u32,
-        out: &mut String,
-    ) -> Result<(), LineFault> {
+    fn abandon(&mut self, alloc: Global, client: u32, out: &mut String) -> Result<(), LineFault> {
         if self.clients.binary_search(&client).is_err() {
             return print_refusal(alloc, client, ClientFault::Idle, out);
         }

@@ -37,7 +37,10 @@ pub(crate) enum Command {
 /// # Errors
 ///
 /// `AllocError` where memory runs out.
-pub(crate) fn read_command(alloc: Global, line: &[u8]) -> Result<Option<Option<Command>>, AllocError> {
+pub(crate) fn read_command(
+    alloc: Global,
+    line: &[u8],
+) -> Result<Option<Option<Command>>, AllocError> {
     match line {
         [] => Ok(None),
         [b'#', ..] => Ok(None),

@@ -79,7 +79,9 @@ impl Lines {
     // Does the line that was begun, and begins the next one.
     fn end_line<W: Write>(&mut self, alloc: Global, writer: &mut W) -> Result<(), ScriptFault> {
         let mut out = String::new(alloc);
-        let done = self.script.run_line(alloc, without_return(&self.line), &mut out);
+        let done = self
+            .script
+            .run_line(alloc, without_return(&self.line), &mut out);
         if !out.is_empty() && writer.write_all(out.as_bytes()).is_err() {
             return Err(ScriptFault::Write);
         }

@@ -5,6 +5,7 @@ use std::alloc::Global;
 use std::test::Fail;
 
 // A script over so many servers, what it prints, and how it ends.
+#[derive(Drop)]
 struct Row {
     servers: u32,
     script: &'static str,
