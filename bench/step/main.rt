@@ -22,9 +22,12 @@ use std::time::{Duration, Instant};
 
 // Who puts all tuples, and who takes them; the others have numbers from 1,000 on.
 const PUTS: u32 = 1;
+
 const TAKES: u32 = 2;
+
 const FIRST_OTHER: u32 = 1_000;
-const ASKS_A_CLIENT: u64 = 64;
+
+const ASKS_A_CLIENT: u32 = 64;
 
 fn main(rt: HostRuntime) -> ExitCode {
     match told(&rt) {
@@ -102,7 +105,10 @@ impl Bench {
     fn next_put(&mut self, tag: &str, field: i64) -> anyhow::Result<Message> {
         self.puts = self.puts.wrapping_add(1);
         let tuple = self.tuple(tag, field)?;
-        Ok(Message::Out { n: self.puts, tuple })
+        Ok(Message::Out {
+            n: self.puts,
+            tuple,
+        })
     }
 
     fn next_ask(&mut self, tag: &str, pattern: Pattern) -> anyhow::Result<Message> {
@@ -115,36 +121,50 @@ impl Bench {
     }
 
     /// Puts the tuples `("job", 0)`, `("job", 1)`, ..
-    fn fill(&mut self, tuples: u64) -> anyhow::Result<()> {
+    fn fill(&mut self, tuples: u32) -> anyhow::Result<()> {
         for i in 0..tuples {
-            self.put("job", i as i64)?;
+            self.put("job", i64::from(i))?;
         }
         Ok(())
     }
 
     /// Lets other clients wait, 64 asks each, for `("wait", 0)`, `("wait", 1)`, .., or for such of the tag `other`.
-    fn open(&mut self, same: bool, asks: u64) -> anyhow::Result<()> {
+    fn open(&mut self, same: bool, asks: u32) -> anyhow::Result<()> {
         let tag = if same { "wait" } else { "other" };
         for i in 0..asks {
-            let ask = Message::Ask {
-                ticket: i % ASKS_A_CLIENT,
-                remove: true,
-                template: self.template(tag, Pattern::Value(Atom::Int(i as i64)))?,
-            };
-            let _ = self.say(other(i), &ask)?;
+            self.wait(tag, i)?;
         }
         Ok(())
     }
 
+    /// Lets the client of this ask wait for the tuple of the tag and its number.
+    fn wait(&mut self, tag: &str, ask: u32) -> anyhow::Result<()> {
+        let template = self.template(tag, Pattern::Value(Atom::Int(i64::from(ask))))?;
+        let message = Message::Ask {
+            ticket: u64::from(ask % ASKS_A_CLIENT),
+            remove: true,
+            template,
+        };
+        let _ = self.say(other(ask), &message)?;
+        Ok(())
+    }
+
     /// The mean nanoseconds of the act.
-    fn time(&mut self, rt: &HostRuntime, act: &str, tuples: u64, asks: u64, rounds: u64) -> anyhow::Result<u128> {
+    fn time(
+        &mut self,
+        rt: &HostRuntime,
+        act: &str,
+        tuples: u32,
+        asks: u32,
+        rounds: u32,
+    ) -> anyhow::Result<u128> {
         let mut all = Duration::ZERO;
         for round in 0..rounds {
-            let field = (round.wrapping_mul(7919) % tuples.max(1)) as i64;
+            let field = i64::from(round.wrapping_mul(7919) % tuples.max(1));
             let took = match act {
                 "key" => self.take(rt, Pattern::Value(Atom::Int(field)))?,
                 "any" => self.take(rt, Pattern::IntFormal)?,
-                "out" => self.put_and_clear(rt, round as i64)?,
+                "out" => self.put_and_clear(rt, field)?,
                 "last" => self.put_to_the_last(rt, asks)?,
                 _ => self.ask_and_cancel(rt)?,
             };
@@ -181,45 +201,56 @@ impl Bench {
         }
     }
 
-    /// Puts a tuple that nobody waits for, and takes it away again.
-    fn put_and_clear(&mut self, rt: &HostRuntime, field: i64) -> anyhow::Result<Duration> {
-        let put = self.next_put("free", field)?;
+    /// Puts the tuple, and tells how long that took.
+    fn timed_put(&mut self, rt: &HostRuntime, tag: &str, field: i64) -> anyhow::Result<Duration> {
+        let put = self.next_put(tag, field)?;
         let start = Instant::now(rt)?;
         let _ = self.say(PUTS, &put)?;
-        let took = start.elapsed(rt)?;
-        let ask = self.next_ask("free", Pattern::IntFormal)?;
+        Ok(start.elapsed(rt)?)
+    }
+
+    /// Takes the tuple of the tag and the field away.
+    fn clear(&mut self, tag: &str, field: i64) -> anyhow::Result<()> {
+        let ask = self.next_ask(tag, Pattern::Value(Atom::Int(field)))?;
         let offered = self.say(TAKES, &ask)?;
         let _ = self.accept(&offered)?;
+        Ok(())
+    }
+
+    /// Puts a tuple that nobody waits for, and takes it away again.
+    fn put_and_clear(&mut self, rt: &HostRuntime, field: i64) -> anyhow::Result<Duration> {
+        let took = self.timed_put(rt, "free", field)?;
+        self.clear("free", field)?;
         Ok(took)
     }
 
-    /// Puts what the last of the asks waits for, gives that up with the tuple held for it, and takes the tuple away.
-    fn put_to_the_last(&mut self, rt: &HostRuntime, asks: u64) -> anyhow::Result<Duration> {
+    /// Puts what the last of the asks waits for; then that is given up with the tuple held for it, the tuple is taken
+    /// away, and it waits again.
+    fn put_to_the_last(&mut self, rt: &HostRuntime, asks: u32) -> anyhow::Result<Duration> {
         let last = asks.saturating_sub(1);
-        let put = self.next_put("wait", last as i64)?;
-        let start = Instant::now(rt)?;
-        let _ = self.say(PUTS, &put)?;
-        let took = start.elapsed(rt)?;
-        let cancel = Message::Cancel { ticket: last % ASKS_A_CLIENT };
-        let _ = self.say(other(last), &cancel)?;
-        let ask = self.next_ask("wait", Pattern::Value(Atom::Int(last as i64)))?;
-        let offered = self.say(TAKES, &ask)?;
-        let _ = self.accept(&offered)?;
-        let again = Message::Ask {
-            ticket: last % ASKS_A_CLIENT,
-            remove: true,
-            template: self.template("wait", Pattern::Value(Atom::Int(last as i64)))?,
-        };
+        let took = self.timed_put(rt, "wait", i64::from(last))?;
+        self.give_up(last)?;
+        self.clear("wait", i64::from(last))?;
         if asks > 0 {
-            let _ = self.say(other(last), &again)?;
+            self.wait("wait", last)?;
         }
         Ok(took)
+    }
+
+    fn give_up(&mut self, ask: u32) -> anyhow::Result<()> {
+        let cancel = Message::Cancel {
+            ticket: u64::from(ask % ASKS_A_CLIENT),
+        };
+        let _ = self.say(other(ask), &cancel)?;
+        Ok(())
     }
 
     /// Asks for what is not there, and gives it up.
     fn ask_and_cancel(&mut self, rt: &HostRuntime) -> anyhow::Result<Duration> {
         let ask = self.next_ask("none", Pattern::IntFormal)?;
-        let cancel = Message::Cancel { ticket: self.tickets };
+        let cancel = Message::Cancel {
+            ticket: self.tickets,
+        };
         let start = Instant::now(rt)?;
         let _ = self.say(TAKES, &ask)?;
         let _ = self.say(TAKES, &cancel)?;
@@ -227,8 +258,8 @@ impl Bench {
     }
 }
 
-fn other(ask: u64) -> u32 {
-    FIRST_OTHER.wrapping_add((ask / ASKS_A_CLIENT) as u32)
+fn other(ask: u32) -> u32 {
+    FIRST_OTHER.wrapping_add(ask / ASKS_A_CLIENT)
 }
 
 fn field_of(tuple: &Tuple) -> anyhow::Result<i64> {
