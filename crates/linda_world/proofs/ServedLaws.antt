@@ -14,7 +14,7 @@ use Rattle.linda_store.specs.Sound.{IsSound}
 use Rattle.linda_run.specs.declared.packet.Packet.{Packet}
 use Rattle.linda_run.specs.declared.seen.Seen.{Seen}
 use Rattle.linda_run.specs.World.{Server, sent_from}
-use Rattle.linda_run.specs.Steps.{Told, Task, Takes, Does, sends_of, without_room}
+use Rattle.linda_run.specs.Steps.{Told, Task, Takes, Does, without_room}
 use Rattle.linda_world.specs.Answer.{Serves}
 
 abbrev pub seen_served : Seen
@@ -84,6 +84,6 @@ pub took : Learned → (s c : ℕ) (m : Message) (was : Server) (ds : List Deed)
     → Serves (Takes c m) s was ps (Ok seen) (record { deeds = now; node = new }) later
 took learned s c m was ds old new was_is ps later sends last deed now seen seen_is sound works last_is deed_is now_is packets =
     let es_are : works.0 ≡ option_to_list deed =
-        learned ds works.0 old new c m sends (subst (λ (v : Server). IsSound v.deeds v.node) (sym was_is) sound) works.1
-        ∙ ap (λ n. option_to_list (deed_told c m n sends)) (sym last_is) ∙ ap option_to_list (sym deed_is) in
+    learned ds works.0 old new c m sends (subst (λ (v : Server). IsSound v.deeds v.node) (sym was_is) sound) works.1
+    ∙ ap (λ n. option_to_list (deed_told c m n sends)) (sym last_is) ∙ ap option_to_list (sym deed_is) in
     sent_served (Takes c m) s was ds old new was_is ps later works.0 sends now seen seen_is works.1 (now_is ∙ ap (λ l. ds ++ l) (sym es_are)) packets

@@ -116,9 +116,21 @@ fn is_taken_by_8(deeds: &[Deed]) -> bool {
     matches!(
         deeds,
         [
-            Deed::Out { client: 7, n: 1, .. },
-            Deed::Pass { client: 7, n: 2, id: 1 },
-            Deed::Take { client: 8, n: 1, id: 1 }
+            Deed::Out {
+                client: 7,
+                n: 1,
+                ..
+            },
+            Deed::Pass {
+                client: 7,
+                n: 2,
+                id: 1
+            },
+            Deed::Take {
+                client: 8,
+                n: 1,
+                id: 1
+            }
         ]
     )
 }

@@ -1,4 +1,4 @@
-use Rattle.std.proofs.Common.{◌≡◌, ℕ, ◌≤◌, length, take}
+use Rattle.std.proofs.Common.{◌≡◌, ◌≤◌, length, take}
 use Rattle.linda_promise.specs.Numbers.{last_number}
 use Rattle.linda_world.proofs.learn.last_number.Given as goal
 
