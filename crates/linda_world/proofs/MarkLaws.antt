@@ -1,11 +1,10 @@
 -- Packets that count as delivered, one after another, and messages among packets.
-use Rattle.std.proofs.Common.{◌≡◌, ℕ, zero, suc, ◌+◌, ◌<◌, ◌≤◌, Bool, true, false, ◌==◌, ◌&&◌, List, [], ◌∷◌, ◌++◌, length, map, take, drop, get_or, Option, Some, None, All, set, slice_get, refl, sym, ap, ◌∙◌, subst, arith, eqb-true, add-one}
+use Rattle.std.proofs.Common.{◌≡◌, ℕ, zero, suc, ◌+◌, ◌<◌, Bool, true, false, ◌==◌, ◌&&◌, List, [], ◌∷◌, ◌++◌, length, take, drop, get_or, Some, All, set, slice_get, refl, sym, ap, ◌∙◌, subst, arith, eqb-true, add-one}
 use Rattle.std.specs.List.{list_all}
-use Rattle.std.proofs.lemmas.Option.{none-some, same_Some, slice_get_within, slice_get_read}
+use Rattle.std.proofs.lemmas.Option.{slice_get_within, slice_get_read}
 use Rattle.std.proofs.lemmas.List.Elements.{All-nil, All-cons, All-head, All-tail}
 use Rattle.std.proofs.Math.Seq.{take-suc, drop-cons}
 use Rattle.linda_wire.specs.declared.message.Message.{Message}
-use Rattle.linda_run.specs.declared.packet.Body.{Body}
 use Rattle.linda_run.specs.declared.packet.Body.TheVariants as bodies
 use Rattle.linda_run.specs.declared.packet.Packet.{Packet}
 use Rattle.linda_run.specs.World.{delivered_at, delivered}

@@ -1,5 +1,5 @@
 -- A call of one client among all.
-use Rattle.std.proofs.Common.{◌≡◌, ◌≢◌, ℕ, List, Option, Some, None, IsSome, is_some, inl, inr, ◌⊎◌, refl, sym, ap, ◌∙◌, subst, nat_cmp, BTreeMap}
+use Rattle.std.proofs.Common.{◌≡◌, ℕ, List, Some, IsSome, is_some, inl, inr, sym, ap, ◌∙◌, nat_cmp, BTreeMap}
 use Rattle.std.specs.Prelude.{Result, Ok, Err}
 use Rattle.std.specs.Option.{option_map}
 use Rattle.std.specs.BTreeMap as tree
@@ -15,7 +15,6 @@ use Rattle.linda_run.specs.Steps.{Told}
 use Rattle.linda_world.specs.declared.fault.WorldFault.{WorldFault}
 use Rattle.linda_world.specs.declared.fault.WorldFault.TheVariants as faults
 use Rattle.linda_world.specs.Member.{refusal_of, refusal_to, Reacts, ReactsOrNot, ReactsIn, SameGot, ReactsInOrNot}
-
 
 -- One client was called, and is another then.
 module _ (call : Call) (c : ℕ) (old new : Members) (ps later : List Packet) (t u : BTreeMap ℕ Member) (member now : Member) (is : from_entries {R = nat_cmp} t.entries ≡ old) (new_is : from_entries {R = nat_cmp} u.entries ≡ new)

@@ -1,10 +1,9 @@
 -- What a server's call comes to in the world.
 use Rattle.std.proofs.Common.{◌≡◌, ℕ, zero, suc, ◌<◌, List, [], ◌∷◌, ◌++◌, length, map, All, Option, Some, set, slice_get, get_or, refl, sym, ap, ◌∙◌, subst, append-nil}
 use Rattle.std.specs.Prelude.{Result, Ok, Err}
-use Rattle.std.proofs.lemmas.Option.{none-some, same_Some, slice_get_read}
+use Rattle.std.proofs.lemmas.Option.{same_Some, slice_get_read}
 use Rattle.linda_run.specs.declared.seen.Seen.{Seen}
 use Rattle.linda_world.specs.Refusal.{refusal_at, refusal_by, refusal_of_packet}
-use Rattle.linda_state.specs.declared.deed.Deed.{Deed}
 use Rattle.std.specs.FinMap.{get, insert}
 use Rattle.linda_wire.specs.declared.message.Message.{Message}
 use Rattle.linda_wire.specs.declared.reply.Reply.{Reply}

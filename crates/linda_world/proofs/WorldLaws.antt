@@ -1,5 +1,5 @@
 -- A world goes on by a step, or shows what it showed.
-use Rattle.std.proofs.Common.{◌≡◌, ℕ, Bool, true, false, true≢false, List, [], ◌∷◌, ◌++◌, refl, sym, ap, ◌∙◌, subst}
+use Rattle.std.proofs.Common.{◌≡◌, ℕ, Bool, true, false, true≢false, List, [], ◌∷◌, ◌++◌, refl, sym, ◌∙◌, subst}
 use Rattle.std.specs.Prelude.{Ok, Err, ◌≤◌, All, length, map}
 use Rattle.std.proofs.Common.{arith}
 use Rattle.std.proofs.lemmas.List.{length-map}
@@ -13,7 +13,7 @@ use Rattle.linda_run.specs.declared.seen.Seen.{Seen}
 use Rattle.linda_run.specs.World as run
 use Rattle.linda_run.specs.Steps as steps
 use Rattle.linda_run.specs.Steps.{Told, HasJoined}
-use Rattle.linda_run.specs.Reached.{IsUnused, IsNew, IsStart, IsReached, begins, joins, goes}
+use Rattle.linda_run.specs.Reached.{IsUnused, IsNew, IsStart, IsReached, joins, goes}
 use Rattle.linda_world.specs.Scene.{IsShownAs, AddsOrNot, new_server, world_of}
 use Rattle.linda_world.specs.World.{World, IsRun, Steps, Runs, StopsAt}
 

@@ -8,7 +8,6 @@ use Rattle.linda_run.specs.World as run
 use Rattle.linda_run.specs.Steps as steps
 use Rattle.linda_run.specs.Steps.{Told, HasJoined}
 use Rattle.linda_run.specs.Reached.{IsReached}
-use Rattle.linda_run.specs.Reached as reached
 use Rattle.linda_world.specs.declared.fault.WorldFault.{WorldFault}
 use Rattle.linda_world.specs.declared.fault.WorldFault.TheVariants as faults
 use Rattle.linda_world.specs.Answer.{Tells}

@@ -19,3 +19,6 @@ mod world;
 pub use fault::WorldFault;
 pub use linda_run::{Body, Packet, Seen, WorldEvent};
 pub use world::World;
+
+#[cfg(test)]
+mod tests;

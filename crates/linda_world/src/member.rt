@@ -39,10 +39,12 @@ fn given(outcome: &Option<Outcome>) -> Option<(u32, u64)>
     ensures { option_to_list result ≡ given_by outcome.now }
 {
     match outcome {
-        Some(Outcome::Synced {
-            got: Got::Took { server, id, .. },
-            ..
-        }) => Some((*server, *id)),
+        Some(
+            Outcome::Synced {
+                got: Got::Took { server, id, .. },
+                ..
+            },
+        ) => Some((*server, *id)),
         _ => None,
     }
 }

@@ -1,4 +1,4 @@
-use Rattle.std.proofs.Common.{◌≡◌, true, set, ap, ◌∙◌}
+use Rattle.std.proofs.Common.{true, set, ap, ◌∙◌}
 use Rattle.linda_run.specs.declared.packet.Packet.{Packet}
 use Rattle.linda_world.proofs.MarkLaws.{set_delivered}
 use Rattle.linda_world.proofs.mark.mark.Goals as goal

@@ -1,4 +1,4 @@
-use Rattle.std.proofs.Common.{◌≡◌, List, ◌++◌, refl, ap, ◌∙◌, subst, false}
+use Rattle.std.proofs.Common.{◌++◌, refl, ap, ◌∙◌, subst, false}
 use Rattle.std.specs.Prelude.{Ok, Some}
 use Rattle.linda_client.specs.Reaction.{shown}
 use Rattle.linda_run.specs.World.{Member}

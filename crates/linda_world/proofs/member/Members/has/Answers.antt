@@ -1,4 +1,4 @@
-use Rattle.std.proofs.Common.{◌≡◌, ap, ◌∙◌, is_some}
+use Rattle.std.proofs.Common.{ap, ◌∙◌, is_some}
 use Rattle.linda_bag.proofs.Viewed.{viewed}
 use Rattle.linda_world.proofs.member.Members.has.Goals as goal
 

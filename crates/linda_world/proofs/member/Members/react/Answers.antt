@@ -1,16 +1,15 @@
-use Rattle.std.proofs.Common.{◌≡◌, Some, refl, sym, ap, ◌∙◌}
-use Rattle.std.specs.FinMap.{get, from_entries}
+use Rattle.std.proofs.Common.{refl, sym, ap, ◌∙◌}
 use Rattle.linda_bag.proofs.Viewed.{viewed}
-use Rattle.linda_run.specs.World.{Member}
 use Rattle.linda_world.specs.Call.{call_of}
 use Rattle.linda_world.specs.Member.{refusal_to}
 use Rattle.linda_world.proofs.MemberLaws.{reacted_in, tree_view}
 use Rattle.linda_world.proofs.member.Members.react.Goals as goal
 
 pub returns-in_default : goal.returns-in_default
-returns-in_default c =
-    (ap (λ o. refusal_to o (call_of c.args.call)) (sym (viewed c.self.inside.by_number c.args.self.now c.self.view_is c.args.number) ∙ sym c.in_default.ensures.value),
-    (ap tree_view c.get_mut.follows.holds-at-none ∙ c.self.view_is, refl))
+returns-in_default c = (
+  ap (λ o. refusal_to o (call_of c.args.call)) (sym (viewed c.self.inside.by_number c.args.self.now c.self.view_is c.args.number) ∙ sym c.in_default.ensures.value),
+  (ap tree_view c.get_mut.follows.holds-at-none ∙ c.self.view_is, refl),
+)
 
 pub returns : goal.returns
 returns c =

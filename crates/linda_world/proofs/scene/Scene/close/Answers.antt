@@ -1,9 +1,5 @@
-use Rattle.std.proofs.Common.{◌≡◌, ◌<◌, [], length, refl, sym, ap, ◌∙◌, subst, arith}
-use Rattle.std.proofs.lemmas.Option.{slice_get_read}
-use Rattle.linda_run.specs.World.{World}
-use Rattle.linda_run.specs.Steps.{HasServed, Leaves}
-use Rattle.linda_world.specs.Refusal.{refusal_at}
-use Rattle.linda_world.specs.Scene.{AsksOrNot}
+use Rattle.std.proofs.Common.{◌<◌, length, arith}
+use Rattle.linda_run.specs.Steps.{Leaves}
 use Rattle.linda_world.proofs.SceneLaws.{asked_at}
 use Rattle.linda_world.proofs.scene.Scene.close.Goals as goal
 

@@ -1,9 +1,7 @@
-use Rattle.std.proofs.Common.{◌≡◌, ◌<◌, ◌≤◌, ℕ, List, [], ◌∷◌, ◌++◌, All, length, refl, sym, ap, ◌∙◌, subst, arith}
-use Rattle.std.specs.Prelude.{Ok, Err}
-use Rattle.linda_wire.specs.declared.message.Message.{Message}
+use Rattle.std.proofs.Common.{◌<◌, All, length, refl, sym, ap, ◌∙◌, subst, arith}
 use Rattle.linda_step.specs.History.{comings}
 use Rattle.linda_run.specs.World.{World, delivered}
-use Rattle.linda_run.specs.Steps.{HasServed, IsStopped, AreMessagesAt, Halts}
+use Rattle.linda_run.specs.Steps.{IsStopped, AreMessagesAt, Halts}
 use Rattle.linda_world.specs.Refusal.{refusal_of_stop}
 use Rattle.linda_world.proofs.MarkLaws.{as_many, messages_within}
 use Rattle.linda_world.proofs.SceneLaws.{done_at, short_at, served_at, shown_at, silent_serves}
@@ -12,20 +10,20 @@ use Rattle.linda_world.proofs.scene.Scene.stop.Goals as goal
 pub stop-requires : goal.stop-requires
 stop-requires g c =
     let are : AreMessagesAt c.self.inside.packets.items c.args.server c.args.ks.items c.in-Ok.messages.items =
-        subst (λ ps. AreMessagesAt ps c.args.server c.args.ks.items c.in-Ok.messages.items) c.deref-3.ensures.value (subst (λ ks. AreMessagesAt c.deref-3.result.now c.args.server ks c.in-Ok.messages.items) c.deref-4.ensures.value c.in-Ok.ensures) in
+    subst (λ ps. AreMessagesAt ps c.args.server c.args.ks.items c.in-Ok.messages.items) c.deref-3.ensures.value (subst (λ ks. AreMessagesAt c.deref-3.result.now c.args.server ks c.in-Ok.messages.items) c.deref-4.ensures.value c.in-Ok.ensures) in
     let many = as_many c.self.inside.packets.items c.args.server c.args.ks.items c.in-Ok.messages.items are in
     omega (arith, many, c.len-2.ensures, c.if-len-gt-MAX_BATCH.false)
 
 pub mark_all-requires : goal.mark_all-requires
 mark_all-requires g c =
     let are : AreMessagesAt c.self.inside.packets.items c.args.server c.args.ks.items c.in-Ok.messages.items =
-        subst (λ ps. AreMessagesAt ps c.args.server c.args.ks.items c.in-Ok.messages.items) c.deref-3.ensures.value (subst (λ ks. AreMessagesAt c.deref-3.result.now c.args.server ks c.in-Ok.messages.items) c.deref-4.ensures.value c.in-Ok.ensures) in
+    subst (λ ps. AreMessagesAt ps c.args.server c.args.ks.items c.in-Ok.messages.items) c.deref-3.ensures.value (subst (λ ks. AreMessagesAt c.deref-3.result.now c.args.server ks c.in-Ok.messages.items) c.deref-4.ensures.value c.in-Ok.ensures) in
     subst (λ ks. All (λ k. k < length c.self.inside.packets.items) ks) (sym c.deref-in-Ok-stop.ensures.value) (messages_within c.self.inside.packets.items c.args.server c.args.ks.items c.in-Ok.messages.items are)
 
 pub returns-in-Ok-stop : goal.returns-in-Ok-stop
 returns-in-Ok-stop g c =
     let are : AreMessagesAt c.self.inside.packets.items c.args.server c.args.ks.items c.in-Ok.messages.items =
-        subst (λ ps. AreMessagesAt ps c.args.server c.args.ks.items c.in-Ok.messages.items) c.deref-3.ensures.value (subst (λ ks. AreMessagesAt c.deref-3.result.now c.args.server ks c.in-Ok.messages.items) c.deref-4.ensures.value c.in-Ok.ensures) in
+    subst (λ ps. AreMessagesAt ps c.args.server c.args.ks.items c.in-Ok.messages.items) c.deref-3.ensures.value (subst (λ ks. AreMessagesAt c.deref-3.result.now c.args.server ks c.in-Ok.messages.items) c.deref-4.ensures.value c.in-Ok.ensures) in
     let within : c.args.server < length c.self.inside.servers.items = omega (arith, c.if-server-len.false, c.len.ensures) in
     done_at (IsStopped c.args.server c.args.ks.items) (refusal_of_stop c.args.self.now c.args.server c.args.ks.items) c.args.self.now _ c.in-Ok-stop.told c.asked.result c.asked.ensures (record {
       messages = c.in-Ok.messages.items;

@@ -1,0 +1,3 @@
+//! Tests of worlds over nodes in memory, worked out by hand.
+
+mod rows;
