@@ -6,8 +6,8 @@ use Rattle.linda_wire.specs.declared.message.Message.{Message}
 use Rattle.linda_wire.specs.declared.reply.Reply.{Reply}
 use Rattle.linda_state.specs.declared.deed.Deed.{Deed}
 use Rattle.linda_step.specs.History.{says}
-use Rattle.linda_promise.specs.Learning.{deed_told}
-use Rattle.linda_promise.specs.Numbers.{last_number}
+use Rattle.linda_promise.specs.Steps.{reported_deed}
+use Rattle.linda_promise.specs.Deeds.{last_in as last_number}
 use Rattle.linda_store.specs.declared.node.NodeFault.{NodeFault}
 use Rattle.linda_store.specs.Node.{Node, Sent, IsFull, IsDown, Handles, Works}
 use Rattle.linda_store.specs.Sound.{IsSound}
@@ -36,7 +36,7 @@ stop_failed fault = Err fault
 -- A law of the layers below: which deed a message did.
 abbrev pub Learned : Type 0
 Learned = (ds es : List Deed) (old new : Node) (c : ℕ) (m : Message) (sends : List (ℕ × Reply))
-    → IsSound ds old → Works old (says c m ∷ []) (Sent sends) es new → es ≡ option_to_list (deed_told c m (last_number ds c) sends)
+    → IsSound ds old → Works old (says c m ∷ []) (Sent sends) es new → es ≡ option_to_list (reported_deed c m (last_number ds c) sends)
 
 module _ (task : Task) (s : ℕ) (was : Server) (ds : List Deed) (old new : Node) (was_is : (let server : Server = record { deeds = ds; node = old } in server) ≡ was) (ps later : List Packet) (es : List Deed) where
   abbrev here : Server
@@ -80,10 +80,10 @@ module _ (task : Task) (s : ℕ) (was : Server) (ds : List Deed) (old new : Node
 -- A node took a message: the deed that was told is the one that it did.
 pub took : Learned → (s c : ℕ) (m : Message) (was : Server) (ds : List Deed) (old new : Node) → (let server : Server = record { deeds = ds; node = old } in server) ≡ was → (ps later : List Packet)
     → (sends : List (ℕ × Reply)) (last : ℕ) (deed : Option Deed) (now : List Deed) (seen : Seen) → seen ≡ seen_served → IsSound was.deeds was.node → Handles old c m (Sent sends) new
-    → last ≡ last_number ds c → deed ≡ deed_told c m last sends → now ≡ ds ++ option_to_list deed → later ≡ ps ++ map (sent_from s) sends
+    → last ≡ last_number ds c → deed ≡ reported_deed c m last sends → now ≡ ds ++ option_to_list deed → later ≡ ps ++ map (sent_from s) sends
     → Serves (Takes c m) s was ps (Ok seen) (record { deeds = now; node = new }) later
 took learned s c m was ds old new was_is ps later sends last deed now seen seen_is sound works last_is deed_is now_is packets =
     let es_are : works.0 ≡ option_to_list deed =
     learned ds works.0 old new c m sends (subst (λ (v : Server). IsSound v.deeds v.node) (sym was_is) sound) works.1
-    ∙ ap (λ n. option_to_list (deed_told c m n sends)) (sym last_is) ∙ ap option_to_list (sym deed_is) in
+    ∙ ap (λ n. option_to_list (reported_deed c m n sends)) (sym last_is) ∙ ap option_to_list (sym deed_is) in
     sent_served (Takes c m) s was ds old new was_is ps later works.0 sends now seen seen_is works.1 (now_is ∙ ap (λ l. ds ++ l) (sym es_are)) packets

@@ -1,5 +1,5 @@
 use Rattle.std.proofs.Common.{◌≡◌, ◌≤◌, length, take}
-use Rattle.linda_promise.specs.Numbers.{last_number}
+use Rattle.linda_promise.specs.Deeds.{last_in as last_number}
 use Rattle.linda_world.proofs.learn.last_number.Given as goal
 
 abbrev pub invariant-loop-left : goal.invariant-loop-left

@@ -1,7 +1,7 @@
 use Rattle.std.proofs.Common.{◌++◌, ap, ◌∙◌, subst, map}
 use Rattle.std.specs.Prelude.{Err}
-use Rattle.linda_promise.specs.Learning.{deed_told}
-use Rattle.linda_promise.specs.Numbers.{last_number}
+use Rattle.linda_promise.specs.Steps.{reported_deed}
+use Rattle.linda_promise.specs.Deeds.{last_in as last_number}
 use Rattle.linda_store.specs.declared.node.NodeFault.{NodeFault}
 use Rattle.linda_store.specs.Node.{Handles, node_answer}
 use Rattle.linda_run.specs.World.{sent_from}
@@ -14,7 +14,7 @@ returns-in-Ok g c =
     took c.deeds_are_learned.ensures c.args.server c.args.client c.args.message c.args.self.now c.self.inside.deeds.items (g.N.Node.shown c.self.inside.node) (g.N.Node.shown c.handle.new.self) c.self.view_is
     c.args.packets.now.items c.append_both.new.many.items c.in-Ok.sends.items c.last_number-last.result c.told_deed-deed.result c.append_both.new.few.items c.served.result c.served.ensures c.requires c.in-Ok.ensures
     (c.last_number-last.ensures ∙ ap (λ l. last_number l c.args.client) c.deref.ensures.value)
-    (c.told_deed-deed.ensures ∙ ap (deed_told c.args.client c.args.message c.last_number-last.result) c.deref-in-Ok.ensures.value)
+    (c.told_deed-deed.ensures ∙ ap (reported_deed c.args.client c.args.message c.last_number-last.result) c.deref-in-Ok.ensures.value)
     c.in_ok-append_both-in-Ok.ensures.one
     (c.in_ok-append_both-in-Ok.ensures.ok ∙ ap (λ l. c.args.packets.now.items ++ l) c.in_ok-more-in-Ok.ensures)
 
