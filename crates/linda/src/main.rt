@@ -3,6 +3,8 @@
 //! `linda pipe` serves one connection to a new server in memory. Each line of standard input is a piece of
 //! the client's stream in hexadecimal digits; each reply is such a line on standard output.
 //!
+//! `linda run --servers N` plays a script from standard input with N servers in memory, 1 to 16.
+//!
 //! The exit status is 0 at the end; 2 for a fault of the command line, with the parser's text on standard
 //! error; 3 with one line there, `io` or `memory`, where standard input or output fails or memory runs out;
 //! 4 with one line there for a fault of a line of the input.
@@ -20,6 +22,7 @@ mod exchanges;
 mod faults;
 mod lines;
 mod piping;
+mod running;
 mod spelling;
 #[cfg(test)]
 mod tests;
@@ -27,6 +30,7 @@ mod tests;
 use crate::command::{Task, read_task};
 use crate::faults::{PipeFault, REFUSED};
 use crate::piping::pipe;
+use crate::running::run_servers;
 use std::fmt::Display;
 use std::io::ErrorKind;
 use std::process::ExitCode;
@@ -47,6 +51,7 @@ fn main(rt: HostRuntime) -> ExitCode {
     };
     match read_task(rt.alloc(), &words) {
         Ok(Task::Pipe) => run_pipe(&rt),
+        Ok(Task::Run { servers }) => run_servers(&rt, servers),
         Err(error) => show(&rt, &error),
     }
 }
