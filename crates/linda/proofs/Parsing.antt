@@ -6,7 +6,6 @@ use Rattle.std.proofs.lemmas.Slice.Eq.{bytes_eq-Decides}
 use Rattle.clap.specs.Walk.{finished, settled, Held, Rule, Text, Walk, idle, plain, nothing_held, arg_by_long, arg_by_short, after_flag, bundle_met, bundle_step, long_or_other, subcommand_or_other, walk, walk_from, walked}
 use Rattle.clap.specs.Simple.{Shape, entered, built, filled_from, help_rule, names_of, subcommand_of, is_simple}
 use Rattle.clap.specs.Lexer.{long_of, short_of, strip_byte}
-use Rattle.clap.specs.Takes.{takes}
 use Rattle.clap.specs.Kinds.{Kinds, or_else}
 use Rattle.clap.specs.Faults.{check_fault, defaults_fault, settle_fault, bundle_step_fault, built_fault, entered_fault, fault_of, flag_word_fault, flags_fault, is_simple_and_free, level_fault, long_fault, other_fault, short_fault, step_fault, stray_fault, turn_fault, walk_fault}
 use Rattle.clap.specs.declared.error.kind.ErrorKind.{ErrorKind}
@@ -21,7 +20,7 @@ use Rattle.clap.specs.declared.parser.matches.SubCommand.{SubCommand}
 use Rattle.clap.proofs.OnLiterals.{clap_on_literals}
 use Rattle.clap.proofs.WalkLemmas.{walk_stopped}
 use Rattle.clap.proofs.FaultLemmas.{stopped_fault}
-use Rattle.linda.specs.Commands.{AsksForPipe, IsRefusedAs, has_hyphen, linda}
+use Rattle.linda.specs.Commands.{AsksForPipe, has_hyphen, linda}
 
 abbrev rules : List Rule
 rules = filled_from 1 (help_rule ∷ [])
@@ -278,18 +277,6 @@ is_free = refl
 pub is_simple_command : is_simple linda ≡ true
 is_simple_command = refl
 
-taken_alone : (name : Text) → takes linda (name ∷ codes "pipe" ∷ []) ≡ true
-unfolding clap_on_literals
-taken_alone name = refl
-
-taken_ended : (name : Text) → takes linda (name ∷ codes "pipe" ∷ codes "--" ∷ []) ≡ true
-unfolding clap_on_literals
-taken_ended name = refl
-
--- such words are taken
-pub taken : (words : List Text) → AsksForPipe words → takes linda words ≡ true
-taken words asks = elim asks.1 [ inl h ↦ ap (takes linda) h ∙ taken_alone asks.0 | inr h ↦ ap (takes linda) h ∙ taken_ended asks.0 ]
-
 abbrev pub name_met : List Text → Option Text
 name_met words = option_map (λ p. p.0) (subcommand_of linda words)
 
@@ -349,7 +336,7 @@ stray_turn s w e =
     let turn : other_turn s w ≡ flag_turn s w (long_of w) = rw (no_end w e) refl in
     turn ∙ ap (flag_turn s w) no_long ∙ none_turn s w None no_short
 
-unknown_kinds : (name w : Text) (rest : List Text) → has_hyphen w ≡ false → w ≢ codes "pipe" → w ≢ codes "run" → w ≢ codes "help"
+pub unknown_kinds : (name w : Text) (rest : List Text) → has_hyphen w ≡ false → w ≢ codes "pipe" → w ≢ codes "run" → w ≢ codes "help"
     → fault_of linda (name ∷ w ∷ rest) ≡ kind.UnknownArgument ∷ kind.InvalidSubcommand ∷ []
 unfolding walk_fault
 unknown_kinds name w rest e no_pipe no_run no_help =
@@ -363,7 +350,7 @@ leaf_kinds w rest e =
     let turn : turn_fault leaf [] (walk_from nothing_held) w ≡ kind.UnknownArgument ∷ [] = stray_turn leaf w e in
     first_is _ _ _ _ (first_is _ _ _ _ turn)
 
-many_kinds : (name w : Text) (rest : List Text) → has_hyphen w ≡ false → fault_of linda (name ∷ codes "pipe" ∷ w ∷ rest) ≡ kind.UnknownArgument ∷ []
+pub many_kinds : (name w : Text) (rest : List Text) → has_hyphen w ≡ false → fault_of linda (name ∷ codes "pipe" ∷ w ∷ rest) ≡ kind.UnknownArgument ∷ []
 unfolding walk_fault walked
 many_kinds name w rest e =
     let start = walked top.rules (names_of (built linda)) (walk_from nothing_held) (codes "pipe") in
@@ -373,21 +360,11 @@ many_kinds name w rest e =
     stopped_fault top (names_of (built linda)) start (codes "pipe", []) (w ∷ rest) in
     past _ _ passed ∙ first_is _ _ _ _ (sym (ap (entered_fault (built linda)) stop) ∙ leaf_kinds w rest e)
 
-missing_kinds : (words : List Text) → length words ≤ 1 → fault_of linda words ≡ kind.MissingSubcommand ∷ []
+pub missing_kinds : (words : List Text) → length words ≤ 1 → fault_of linda words ≡ kind.MissingSubcommand ∷ []
 unfolding clap_on_literals
 missing_kinds [] le = refl
 missing_kinds (name ∷ []) le = refl
 missing_kinds (name ∷ w ∷ rest) le = absurd (omega arith)
-
-pub refused_kinds : (words : List Text) (kinds : Kinds) → IsRefusedAs words kinds → fault_of linda words ≡ kinds
-refused_kinds words kinds (inl h) = missing_kinds words h.0 ∙ sym h.1
-refused_kinds words kinds (inr (inl h)) = ap (fault_of linda) h.0.spelled ∙ unknown_kinds h.0.name h.0.word h.0.later h.0.no_option h.0.no_pipe h.0.no_run h.0.no_help ∙ sym h.1
-refused_kinds words kinds (inr (inr h)) = ap (fault_of linda) h.0.spelled ∙ many_kinds h.0.name h.0.word h.0.later h.0.no_option ∙ sym h.1
-
-pub refused_some : (words : List Text) (kinds : Kinds) → IsRefusedAs words kinds → kinds ≡ [] → ⊥
-refused_some words kinds (inl h) e = let bad : kind.MissingSubcommand ∷ [] ≡ [] = sym h.1 ∙ e in cc
-refused_some words kinds (inr (inl h)) e = let bad : kind.UnknownArgument ∷ kind.InvalidSubcommand ∷ [] ≡ [] = sym h.1 ∙ e in cc
-refused_some words kinds (inr (inr h)) e = let bad : kind.UnknownArgument ∷ [] ≡ [] = sym h.1 ∙ e in cc
 
 -- a fault that is passed up as it is
 pub passed_on : {T E : Type 0} (r : Result T E) (e : E) (P : E → Type 0) → IsErrAnd r (λ y. y ≡ e) → P e → IsErrAnd r P

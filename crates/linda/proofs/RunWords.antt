@@ -21,11 +21,11 @@ use Rattle.std.proofs.lemmas.Int.{ints}
 use Rattle.clap.specs.Lexer.{without_minus}
 use Rattle.clap.specs.Values.{IsSignedIn}
 use Rattle.clap.specs.Matches.{ReadsOne}
-use Rattle.clap.proofs.KindLemmas.{value_kinds-ok}
+use Rattle.clap.proofs.KindLemmas.{value_kinds-ok, value_kinds-refused}
 use Rattle.clap.proofs.ValueTestLemmas.{accepts-Accepts}
-use Rattle.linda.specs.Commands.{AsksForRun, Spells, IsEnd, IsOption, has_hyphen, linda, servers_rule}
+use Rattle.linda.specs.Commands.{IsRefusedRun, AsksForRun, Spells, IsEnd, IsOption, has_hyphen, linda, servers_rule}
 use Rattle.linda_client.specs.declared.limits.TheConstants.{MAX_SERVERS}
-use Rattle.linda.proofs.Parsing.{AsksToRun, run_stops, first_empty, no_end, no_strip, past, second_empty, run_passes, run_walk, runner, top_fault}
+use Rattle.linda.proofs.Parsing.{first_is, AsksToRun, run_stops, first_empty, no_end, no_strip, past, second_empty, run_passes, run_walk, runner, top_fault}
 
 abbrev pub rules : List Rule
 rules = runner.rules
@@ -79,9 +79,6 @@ from_step w x xs = or_else_assoc (turn_fault runner [] w x) (walk_fault runner [
 from_end : (w : Walk) → from w [] ≡ end_fault w.held
 unfolding walk_fault
 from_end w = refl
-
-whole : (words : List Text) → level_fault runner [] (held [] None) words false [] ≡ from (at idle (held [] None)) words
-whole words = refl
 
 stepped : (w : Walk) (x : Text) (xs : List Text) → from w (x ∷ xs) ≡ [] → (turn_fault runner [] w x ≡ []) × (from (walked rules [] w x) xs ≡ [])
 stepped w x xs e =
@@ -610,3 +607,61 @@ runs words a =
 -- what the getter is given
 pub number_of_row : (v : Text) → one_of (codes "servers") (row v ∷ []) ≡ Some (without_minus v)
 number_of_row v = refl
+
+-- ---- what is told of the words behind `run` that do not pass
+
+nothing_told : from begun [] ≡ kind.MissingRequiredArgument ∷ []
+unfolding clap_on_literals
+nothing_told = refl
+
+no_number_told : from begun (codes "--servers" ∷ []) ≡ kind.InvalidValue ∷ []
+unfolding clap_on_literals
+no_number_told = refl
+
+bad_kinds : (v : Text) → ((n : ℕ) → Spells v n → ⊥) → number_kinds v ≡ kind.ValueValidation ∷ []
+bad_kinds v unlike = value_kinds-refused false (parsers.Signed (pos 1) (pos MAX_SERVERS)) v (λ passes.
+    let n = spells v (value_kinds-ok false (parsers.Signed (pos 1) (pos MAX_SERVERS)) v passes) in
+    unlike n.0 n.1)
+
+one_word_told : (v : Text) (xs : List Text) → from begun ((codes "--servers=" ++ v) ∷ xs) ≡ or_else (or_else (or_else (number_kinds v) []) []) (from (at idle (held (row v ∷ []) None)) xs)
+unfolding walked
+one_word_told v xs = from_step begun (codes "--servers=" ++ v) xs
+
+bad_told : (v : Text) (opt end : List Text) → IsOption opt v → IsEnd end → has_hyphen v ≡ false → ((n : ℕ) → Spells v n → ⊥)
+    → from begun (opt ++ end) ≡ kind.ValueValidation ∷ []
+bad_told v opt end (inl is) at_end no_option unlike =
+    ap (λ (o : List Text). from begun (o ++ end)) is ∙ two_words v end no_option ∙ ended (told [] v) end at_end ∙ told_fault v
+    ∙ ap (λ (k : Kinds). or_else (or_else k []) []) (bad_kinds v unlike)
+bad_told v opt end (inr is) at_end no_option unlike =
+    ap (λ (o : List Text). from begun (o ++ end)) is ∙ one_word_told v end
+    ∙ ap (λ (k : Kinds). or_else (or_else (or_else k []) []) (from (at idle (held (row v ∷ []) None)) end)) (bad_kinds v unlike)
+
+stray_told : (h : Held) (w : Text) (later : List Text) → has_hyphen w ≡ false → from (at idle h) (w ∷ later) ≡ kind.UnknownArgument ∷ []
+stray_told h w later e =
+    let turn : turn_fault runner [] (at idle h) w ≡ turn_of idle h w (long_of w) = rw (no_end w e) refl in
+    let told : turn_fault runner [] (at idle h) w ≡ kind.UnknownArgument ∷ [] = turn ∙ ap (turn_of idle h w) (no_long w e) ∙ no_flag_turn idle h w (no_short w e) in
+    from_step (at idle h) w later ∙ first_is _ _ _ _ told
+
+more_told : (v w : Text) (n : ℕ) (opt later : List Text) → IsOption opt v → Spells v n → has_hyphen w ≡ false → from begun (opt ++ w ∷ later) ≡ kind.UnknownArgument ∷ []
+more_told v w n opt later (inl is) h e =
+    ap (λ (o : List Text). from begun (o ++ w ∷ later)) is ∙ two_words v (w ∷ later) (no_hyphen v n h) ∙ stray_told (told [] v) w later e
+more_told v w n opt later (inr is) h e =
+    ap (λ (o : List Text). from begun (o ++ w ∷ later)) is ∙ one_word v (w ∷ later) (accepted v n h) ∙ stray_told (held (row v ∷ []) None) w later e
+
+run_told : (words : List Text) (name : Text) (rest : List Text) (kinds : Kinds) → words ≡ name ∷ codes "run" ∷ rest → from begun rest ≡ kinds
+    → fault_of linda words ≡ or_else kinds []
+run_told words name rest kinds is told = ap (fault_of linda) is ∙ run_fault name rest ∙ ap (λ (k : Kinds). or_else k []) told
+
+pub run_kinds : (words : List Text) (kinds : Kinds) → IsRefusedRun words kinds → fault_of linda words ≡ kinds
+run_kinds words kinds (inl h) = run_told words h.0.0 [] _ h.0.1 nothing_told ∙ sym h.1
+run_kinds words kinds (inr (inl h)) = run_told words h.0.0 (codes "--servers" ∷ []) _ h.0.1 no_number_told ∙ sym h.1
+run_kinds words kinds (inr (inr (inl h))) =
+    run_told words h.0.name (h.0.option ++ h.0.end) _ h.0.spelled (bad_told h.0.number h.0.option h.0.end h.0.is_option h.0.is_end h.0.no_option h.0.no_number) ∙ sym h.1
+run_kinds words kinds (inr (inr (inr h))) =
+    run_told words h.0.name (h.0.option ++ h.0.word ∷ h.0.later) _ h.0.spelled (more_told h.0.number h.0.word h.0.n h.0.option h.0.later h.0.is_option h.0.spells h.0.no_option) ∙ sym h.1
+
+pub run_refused_some : (words : List Text) (kinds : Kinds) → IsRefusedRun words kinds → kinds ≡ [] → ⊥
+run_refused_some words kinds (inl h) e = let bad : kind.MissingRequiredArgument ∷ [] ≡ [] = sym h.1 ∙ e in cc
+run_refused_some words kinds (inr (inl h)) e = let bad : kind.InvalidValue ∷ [] ≡ [] = sym h.1 ∙ e in cc
+run_refused_some words kinds (inr (inr (inl h))) e = let bad : kind.ValueValidation ∷ [] ≡ [] = sym h.1 ∙ e in cc
+run_refused_some words kinds (inr (inr (inr h))) e = let bad : kind.UnknownArgument ∷ [] ≡ [] = sym h.1 ∙ e in cc

@@ -14,11 +14,11 @@ use Rattle.clap.specs.declared.parser.matches.ArgMatches.{ArgMatches}
 use Rattle.clap.specs.declared.parser.matches.Found.{Found}
 use Rattle.clap.proofs.OnLiterals.{clap_on_literals}
 use Rattle.clap.proofs.WalkLemmas.{one_text-rows}
-use Rattle.linda.specs.Commands.{AsksFor, AsksForPipe, AsksForRun, HasServers, linda}
+use Rattle.linda.specs.Commands.{IsRefusedAs, AsksFor, AsksForPipe, AsksForRun, HasServers, linda}
 use Rattle.linda.specs.declared.command.Task.{Task}
 use Rattle.linda.specs.declared.command.Task.TheVariants as tasks
-use Rattle.linda.proofs.Parsing.{AsksToRun, asked, name_of_rows, named}
-use Rattle.linda.proofs.RunWords.{number_of_row, run_is_found, run_is_free, runs}
+use Rattle.linda.proofs.Parsing.{many_kinds, missing_kinds, unknown_kinds, AsksToRun, asked, name_of_rows, named}
+use Rattle.linda.proofs.RunWords.{run_kinds, run_refused_some, number_of_row, run_is_found, run_is_free, runs}
 
 -- the command of a task
 abbrev pub command_of : Task → Text
@@ -99,3 +99,17 @@ memory_alone kinds e none has = elim (subst (λ ks. HasKind ks e) none has) [ in
 pub matched_on : {T E : Type 0} (r : Result T E) (e : E) (Q : T → Type 0) (P : E → Type 0) → IsErrAnd r (λ y. y ≡ e) → P e → MatchResult r Q P
 matched_on (Ok x) e Q P is p = absurd is
 matched_on (Err y) e Q P is p = subst P (sym is) p
+
+-- ---- the kinds of fault
+
+pub refused_kinds : (words : List Text) (kinds : Kinds) → IsRefusedAs words kinds → fault_of linda words ≡ kinds
+refused_kinds words kinds (inl h) = missing_kinds words h.0 ∙ sym h.1
+refused_kinds words kinds (inr (inl h)) = ap (fault_of linda) h.0.spelled ∙ unknown_kinds h.0.name h.0.word h.0.later h.0.no_option h.0.no_pipe h.0.no_run h.0.no_help ∙ sym h.1
+refused_kinds words kinds (inr (inr (inl h))) = ap (fault_of linda) h.0.spelled ∙ many_kinds h.0.name h.0.word h.0.later h.0.no_option ∙ sym h.1
+refused_kinds words kinds (inr (inr (inr h))) = run_kinds words kinds h
+
+pub refused_some : (words : List Text) (kinds : Kinds) → IsRefusedAs words kinds → kinds ≡ [] → ⊥
+refused_some words kinds (inl h) e = let bad : kind.MissingSubcommand ∷ [] ≡ [] = sym h.1 ∙ e in cc
+refused_some words kinds (inr (inl h)) e = let bad : kind.UnknownArgument ∷ kind.InvalidSubcommand ∷ [] ≡ [] = sym h.1 ∙ e in cc
+refused_some words kinds (inr (inr (inl h))) e = let bad : kind.UnknownArgument ∷ [] ≡ [] = sym h.1 ∙ e in cc
+refused_some words kinds (inr (inr (inr h))) e = run_refused_some words kinds h e

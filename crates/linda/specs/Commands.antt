@@ -101,9 +101,51 @@ pub record HasOneTooMany (words : List (List ℕ)) : Type 0 where
 abbrev pub Refuses : {T : Type 0} → Kinds → Result T Error → Type 0
 Refuses kinds result = IsErrAnd result (HasKind kinds)
 
--- no word behind the program's name; an unknown one; one too many
+-- The words are a program's name and `run`.
+abbrev pub LacksOption : List (List ℕ) → Type 0
+LacksOption words = (name : List ℕ) × (words ≡ name ∷ codes "run" ∷ [])
+
+-- The words are a program's name, `run` and `--servers`.
+abbrev pub LacksNumber : List (List ℕ) → Type 0
+LacksNumber words = (name : List ℕ) × (words ≡ name ∷ codes "run" ∷ codes "--servers" ∷ [])
+
+-- The words are a program's name, `run` and the option with a text that is no number of servers.
+pub record HasBadNumber (words : List (List ℕ)) : Type 0 where
+  pub name : List ℕ
+  pub number : List ℕ
+  pub option : List (List ℕ)
+  pub end : List (List ℕ)
+  pub spelled : words ≡ name ∷ codes "run" ∷ (option ++ end)
+  pub is_option : IsOption option number
+  pub is_end : IsEnd end
+  pub no_option : has_hyphen number ≡ false
+  pub no_number : (n : ℕ) → Spells number n → ⊥
+
+-- The words are a program's name, `run`, the option with its number, and then a word that is no option.
+pub record HasOneTooManyToRun (words : List (List ℕ)) : Type 0 where
+  pub name : List ℕ
+  pub number : List ℕ
+  pub n : ℕ
+  pub option : List (List ℕ)
+  pub word : List ℕ
+  pub later : List (List ℕ)
+  pub spelled : words ≡ name ∷ codes "run" ∷ (option ++ word ∷ later)
+  pub is_option : IsOption option number
+  pub spells : Spells number n
+  pub no_option : has_hyphen word ≡ false
+
+-- behind `run`: no option; no number; a bad one; a word too many
+abbrev pub IsRefusedRun : List (List ℕ) → Kinds → Type 0
+IsRefusedRun words told =
+    (LacksOption words × (told ≡ kinds.MissingRequiredArgument ∷ []))
+    ⊎ ((LacksNumber words × (told ≡ kinds.InvalidValue ∷ []))
+    ⊎ ((HasBadNumber words × (told ≡ kinds.ValueValidation ∷ []))
+    ⊎ (HasOneTooManyToRun words × (told ≡ kinds.UnknownArgument ∷ []))))
+
+-- no word behind the program's name; an unknown one; one too many; a fault behind `run`
 abbrev pub IsRefusedAs : List (List ℕ) → Kinds → Type 0
 IsRefusedAs words told =
     ((length words ≤ 1) × (told ≡ kinds.MissingSubcommand ∷ []))
     ⊎ ((HasUnknown words × (told ≡ kinds.UnknownArgument ∷ kinds.InvalidSubcommand ∷ []))
-    ⊎ (HasOneTooMany words × (told ≡ kinds.UnknownArgument ∷ [])))
+    ⊎ ((HasOneTooMany words × (told ≡ kinds.UnknownArgument ∷ []))
+    ⊎ IsRefusedRun words told))

@@ -2,8 +2,8 @@ use Rattle.std.proofs.Common.{◌≡◌, ◌∙◌, ap, sym, subst, map, []}
 use Rattle.std.specs.String.{string_bytes}
 use Rattle.clap.specs.Words.{App, HasKind, fault_of, is_simple, is_simple_and_free, subcommand_of, subcommand_rows_of}
 use Rattle.linda.specs.Commands.{linda}
-use Rattle.linda.proofs.Parsing.{is_free, is_simple_command, refused_kinds, refused_some, passed_on}
-use Rattle.linda.proofs.Tasks.{found_asked, has_servers, matched_on, memory_alone, task_is_free}
+use Rattle.linda.proofs.Parsing.{is_free, is_simple_command, passed_on}
+use Rattle.linda.proofs.Tasks.{found_asked, has_servers, matched_on, memory_alone, refused_kinds, refused_some, task_is_free}
 use Rattle.linda.proofs.command.read_task.Goals as goal
 
 pub returns-in_err-matches-clause-taken : goal.returns-in_err-matches-clause-taken
