@@ -1,14 +1,13 @@
 -- What the parser makes of the words of the command line.
 use Rattle.std.proofs.Common.{◌≡◌, ◌⊎◌, ◌∙◌, ◌==◌, ◌≢◌, ◌≤◌, ℕ, zero, suc, Bool, true, false, List, [], ◌∷◌, length, Option, Some, None, ap, refl, sym, subst, inl, inr, codes, option_map, arith, Result, Ok, Err, IsErrAnd}
-use Rattle.std.specs.Prelude.{slice_get, unwrap_or}
+use Rattle.std.specs.Prelude.{is_some, slice_get, unwrap_or}
 use Rattle.std.specs.Str.{bytes_eq, chars}
 use Rattle.std.proofs.lemmas.Slice.Eq.{bytes_eq-Decides}
-use Rattle.clap.specs.Walk.{Held, Rule, Text, Walk, idle, plain, nothing_held, arg_by_long, arg_by_short, after_flag, bundle_met, bundle_step, long_or_other, subcommand_or_other, walk, walk_from, walked}
-use Rattle.clap.specs.Simple.{Shape, built, filled_from, help_rule, names_of, subcommand_of, is_simple}
+use Rattle.clap.specs.Walk.{finished, settled, Held, Rule, Text, Walk, idle, plain, nothing_held, arg_by_long, arg_by_short, after_flag, bundle_met, bundle_step, long_or_other, subcommand_or_other, walk, walk_from, walked}
+use Rattle.clap.specs.Simple.{Shape, entered, built, filled_from, help_rule, names_of, subcommand_of, is_simple}
 use Rattle.clap.specs.Lexer.{long_of, short_of, strip_byte}
-use Rattle.clap.specs.Takes.{takes}
 use Rattle.clap.specs.Kinds.{Kinds, or_else}
-use Rattle.clap.specs.Faults.{bundle_step_fault, built_fault, entered_fault, fault_of, flag_word_fault, flags_fault, is_simple_and_free, level_fault, long_fault, other_fault, short_fault, step_fault, stray_fault, turn_fault, walk_fault}
+use Rattle.clap.specs.Faults.{check_fault, defaults_fault, settle_fault, bundle_step_fault, built_fault, entered_fault, fault_of, flag_word_fault, flags_fault, is_simple_and_free, level_fault, long_fault, other_fault, short_fault, step_fault, stray_fault, turn_fault, walk_fault}
 use Rattle.clap.specs.declared.error.kind.ErrorKind.{ErrorKind}
 use Rattle.clap.specs.declared.error.kind.ErrorKind.TheVariants as kind
 use Rattle.std.proofs.Common.{Box, Global}
@@ -21,7 +20,7 @@ use Rattle.clap.specs.declared.parser.matches.SubCommand.{SubCommand}
 use Rattle.clap.proofs.OnLiterals.{clap_on_literals}
 use Rattle.clap.proofs.WalkLemmas.{walk_stopped}
 use Rattle.clap.proofs.FaultLemmas.{stopped_fault}
-use Rattle.linda.specs.Commands.{AsksForPipe, IsRefusedAs, has_hyphen, linda}
+use Rattle.linda.specs.Commands.{AsksForPipe, has_hyphen, linda}
 
 abbrev rules : List Rule
 rules = filled_from 1 (help_rule ∷ [])
@@ -32,11 +31,11 @@ helped s = record s { rules = rules; args_override_self = false }
 
 -- ---- a word that is no subcommand and not `--` is refused
 
-first_empty : (a b : Kinds) → or_else a b ≡ [] → a ≡ []
+pub first_empty : (a b : Kinds) → or_else a b ≡ [] → a ≡ []
 first_empty [] b e = refl
 first_empty (k ∷ ks) b e = e
 
-second_empty : (a b : Kinds) → or_else a b ≡ [] → b ≡ []
+pub second_empty : (a b : Kinds) → or_else a b ≡ [] → b ≡ []
 second_empty [] b e = e
 second_empty (k ∷ ks) b e = let bad : k ∷ ks ≡ [] = e in cc
 
@@ -159,13 +158,40 @@ leaf_words (w ∷ rest) e = go (bytes_eq w (45 ∷ 45 ∷ [])) refl
     go false t = absurd (other_refused leaf w t (first_empty _ _ (first_empty _ _ e)))
 
 -- behind `pipe` all words are those of its level
-behind_pipe : (rest : List Text) → built_fault (built linda) nothing_held (codes "pipe" ∷ rest) ≡ [] → level_fault leaf [] nothing_held rest false [] ≡ []
+pipe_stops : (rest : List Text) → Some (codes "pipe", rest) ≡ (walk top.rules (names_of (built linda)) nothing_held (codes "pipe" ∷ rest)).stopped
 unfolding walked
-behind_pipe rest e =
+pipe_stops rest =
     let start = walked top.rules (names_of (built linda)) (walk_from nothing_held) (codes "pipe") in
-    let stop : Some (codes "pipe", rest) ≡ (walk top.rules (names_of (built linda)) nothing_held (codes "pipe" ∷ rest)).stopped =
-    ap (λ (w : Walk). w.stopped) (walk_stopped top.rules (names_of (built linda)) start (codes "pipe") [] rest) in
-    ap (entered_fault (built linda)) stop ∙ first_empty _ _ (second_empty _ _ e)
+    ap (λ (w : Walk). w.stopped) (walk_stopped top.rules (names_of (built linda)) start (codes "pipe") [] rest)
+
+behind_pipe : (rest : List Text) → built_fault (built linda) nothing_held (codes "pipe" ∷ rest) ≡ [] → level_fault leaf [] nothing_held rest false [] ≡ []
+behind_pipe rest e = ap (entered_fault (built linda)) (pipe_stops rest) ∙ first_empty _ _ (second_empty _ _ e)
+
+-- and behind `run`
+abbrev pub runner : Shape
+runner = unwrap_or (slice_get (built linda).subs 1) top
+
+pub run_walk : (rest : List Text)
+    → ◌≡◌ {A = Walk} (record (walked top.rules (names_of (built linda)) (walk_from nothing_held) (codes "run")) { stopped = Some (codes "run", rest) }) (walk top.rules (names_of (built linda)) nothing_held (codes "run" ∷ rest))
+unfolding walked
+run_walk rest = walk_stopped top.rules (names_of (built linda)) (walked top.rules (names_of (built linda)) (walk_from nothing_held) (codes "run")) (codes "run") [] rest
+
+pub run_stops : (rest : List Text) → Some (codes "run", rest) ≡ (walk top.rules (names_of (built linda)) nothing_held (codes "run" ∷ rest)).stopped
+run_stops rest = ap (λ (w : Walk). w.stopped) (run_walk rest)
+
+-- no word behind `run` is looked at above it
+pub run_passes : (rest : List Text) → walk_fault top (names_of (built linda)) (walk_from nothing_held) (codes "run" ∷ rest) ≡ []
+unfolding walk_fault walked
+run_passes rest = stopped_fault top (names_of (built linda)) (walked top.rules (names_of (built linda)) (walk_from nothing_held) (codes "run")) (codes "run", []) rest
+
+-- what is told above a command, where the walk to it ended so
+abbrev pub top_fault : Walk → Kinds
+top_fault w =
+    or_else (entered_fault (built linda) w.stopped) (or_else (settle_fault top.rules top.args_override_self w.held)
+    (or_else (defaults_fault (settled top.rules w.held).rows top.rules) (check_fault top (finished top.rules w.held) (is_some (entered (built linda) w.stopped)))))
+
+behind_run : (rest : List Text) → built_fault (built linda) nothing_held (codes "run" ∷ rest) ≡ [] → level_fault runner [] nothing_held rest false [] ≡ []
+behind_run rest e = ap (entered_fault (built linda)) (run_stops rest) ∙ first_empty _ _ (second_empty _ _ e)
 
 -- `--` in place of a command
 no_command : (rest : List Text) → built_fault (built linda) nothing_held (codes "--" ∷ rest) ≡ [] → ⊥
@@ -181,8 +207,15 @@ no_words : built_fault (built linda) nothing_held [] ≡ [] → ⊥
 unfolding clap_on_literals
 no_words e = let bad : kind.MissingSubcommand ∷ [] ≡ [] = e in cc
 
+-- words that begin with `run`, and no fault comes behind it
+pub record RunsOn (words : List Text) : Type 0 where
+  pub rest : List Text
+  pub spelled : words ≡ codes "run" ∷ rest
+  pub passes : level_fault runner [] nothing_held rest false [] ≡ []
+
 -- the words behind the program's name, where no fault may come
-passing : (words : List Text) → built_fault (built linda) nothing_held words ≡ [] → (words ≡ codes "pipe" ∷ []) ⊎ (words ≡ codes "pipe" ∷ codes "--" ∷ [])
+passing : (words : List Text) → built_fault (built linda) nothing_held words ≡ []
+    → ((words ≡ codes "pipe" ∷ []) ⊎ (words ≡ codes "pipe" ∷ codes "--" ∷ [])) ⊎ RunsOn words
 unfolding walk_fault
 passing [] e = absurd (no_words e)
 passing (w ∷ rest) e = at_pipe (bytes_eq (codes "pipe") w) refl
@@ -194,47 +227,55 @@ passing (w ∷ rest) e = at_pipe (bytes_eq (codes "pipe") w) refl
     behind is (inl none) = inl (rw (is, none) refl)
     behind is (inr end) = inr (rw (is, end) refl)
 
-    at_end : (b : Bool) → bytes_eq w (45 ∷ 45 ∷ []) ≡ b → bytes_eq (codes "pipe") w ≡ false → bytes_eq (codes "help") w ≡ false → ⊥
-    at_end true t no_pipe no_help = no_command rest (to (codes "--") ((bytes_eq-Decides w (45 ∷ 45 ∷ [])).0 t))
-    at_end false t no_pipe no_help =
+    at_end : (b : Bool) → bytes_eq w (45 ∷ 45 ∷ []) ≡ b → bytes_eq (codes "pipe") w ≡ false → bytes_eq (codes "run") w ≡ false → bytes_eq (codes "help") w ≡ false → ⊥
+    at_end true t no_pipe no_run no_help = no_command rest (to (codes "--") ((bytes_eq-Decides w (45 ∷ 45 ∷ [])).0 t))
+    at_end false t no_pipe no_run no_help =
         let first : turn_fault top (names_of (built linda)) (walk_from nothing_held) w ≡ [] = first_empty _ _ (first_empty _ _ e) in
-        let turn : other_turn top w ≡ [] = rw (no_pipe, no_help) at first in
+        let turn : other_turn top w ≡ [] = rw (no_pipe, no_run, no_help) at first in
         other_refused top w t turn
 
-    at_help : (b : Bool) → bytes_eq (codes "help") w ≡ b → bytes_eq (codes "pipe") w ≡ false → ⊥
-    at_help true t no_pipe = help_wanted rest (to (codes "help") (sym ((bytes_eq-Decides (codes "help") w).0 t)))
-    at_help false t no_pipe = at_end (bytes_eq w (45 ∷ 45 ∷ [])) refl no_pipe t
+    at_help : (b : Bool) → bytes_eq (codes "help") w ≡ b → bytes_eq (codes "pipe") w ≡ false → bytes_eq (codes "run") w ≡ false → ⊥
+    at_help true t no_pipe no_run = help_wanted rest (to (codes "help") (sym ((bytes_eq-Decides (codes "help") w).0 t)))
+    at_help false t no_pipe no_run = at_end (bytes_eq w (45 ∷ 45 ∷ [])) refl no_pipe no_run t
 
-    at_pipe : (b : Bool) → bytes_eq (codes "pipe") w ≡ b → (w ∷ rest ≡ codes "pipe" ∷ []) ⊎ (w ∷ rest ≡ codes "pipe" ∷ codes "--" ∷ [])
+    at_run : (b : Bool) → bytes_eq (codes "run") w ≡ b → bytes_eq (codes "pipe") w ≡ false → RunsOn (w ∷ rest)
+    at_run true t no_pipe =
+        let is = sym ((bytes_eq-Decides (codes "run") w).0 t) in
+        record { rest = rest; spelled = ap (λ (x : Text). x ∷ rest) is; passes = behind_run rest (to (codes "run") is) }
+    at_run false t no_pipe = absurd (at_help (bytes_eq (codes "help") w) refl no_pipe t)
+
+    at_pipe : (b : Bool) → bytes_eq (codes "pipe") w ≡ b → ((w ∷ rest ≡ codes "pipe" ∷ []) ⊎ (w ∷ rest ≡ codes "pipe" ∷ codes "--" ∷ [])) ⊎ RunsOn (w ∷ rest)
     at_pipe true t =
         let is = sym ((bytes_eq-Decides (codes "pipe") w).0 t) in
-        behind is (leaf_words rest (behind_pipe rest (to (codes "pipe") is)))
-    at_pipe false t = absurd (at_help (bytes_eq (codes "help") w) refl t)
+        inl (behind is (leaf_words rest (behind_pipe rest (to (codes "pipe") is))))
+    at_pipe false t = inr (at_run (bytes_eq (codes "run") w) refl t)
 
 -- ---- what the program may conclude
 
--- where no fault may come, the words ask for the pipe
-pub asked : (words : List Text) → fault_of linda words ≡ [] → AsksForPipe words
-asked [] e = elim (passing [] e) [ inl h ↦ cc | inr h ↦ cc ]
-asked (name ∷ rest) e = (name, elim (passing rest e) [ inl h ↦ inl (ap (λ xs. name ∷ xs) h) | inr h ↦ inr (ap (λ xs. name ∷ xs) h) ])
+named_pipe : (name : Text) (rest : List Text) → (rest ≡ codes "pipe" ∷ []) ⊎ (rest ≡ codes "pipe" ∷ codes "--" ∷ []) → AsksForPipe (name ∷ rest)
+named_pipe name rest (inl h) = (name, inl (ap (λ xs. name ∷ xs) h))
+named_pipe name rest (inr h) = (name, inr (ap (λ xs. name ∷ xs) h))
+
+-- the words are a program's name and words that begin with `run`
+pub record AsksToRun (words : List Text) : Type 0 where
+  pub name : Text
+  pub later : List Text
+  pub spelled : words ≡ name ∷ later
+  pub runs : RunsOn later
+
+-- where no fault may come, the words ask for the pipe, or they ask for a run
+pub asked : (words : List Text) → fault_of linda words ≡ [] → AsksForPipe words ⊎ AsksToRun words
+asked [] e = absurd (no_words e)
+asked (name ∷ rest) e = elim (passing rest e) [
+  | inl h ↦ inl (named_pipe name rest h)
+  | inr h ↦ inr (record { name = name; later = rest; spelled = refl; runs = h })
+]
 
 pub is_free : is_simple_and_free linda ≡ true
 is_free = refl
 
 pub is_simple_command : is_simple linda ≡ true
 is_simple_command = refl
-
-taken_alone : (name : Text) → takes linda (name ∷ codes "pipe" ∷ []) ≡ true
-unfolding clap_on_literals
-taken_alone name = refl
-
-taken_ended : (name : Text) → takes linda (name ∷ codes "pipe" ∷ codes "--" ∷ []) ≡ true
-unfolding clap_on_literals
-taken_ended name = refl
-
--- such words are taken
-pub taken : (words : List Text) → AsksForPipe words → takes linda words ≡ true
-taken words asks = elim asks.1 [ inl h ↦ ap (takes linda) h ∙ taken_alone asks.0 | inr h ↦ ap (takes linda) h ∙ taken_ended asks.0 ]
 
 abbrev pub name_met : List Text → Option Text
 name_met words = option_map (λ p. p.0) (subcommand_of linda words)
@@ -261,17 +302,17 @@ name_of_rows m = go (out-ArgMatches m).subcommand
 
 -- ---- the kinds of fault
 
-past : (a b : Kinds) → a ≡ [] → or_else a b ≡ b
+pub past : (a b : Kinds) → a ≡ [] → or_else a b ≡ b
 past a b e = ap (λ x. or_else x b) e
 
-first_is : (a b : Kinds) (k : ErrorKind) (ks : Kinds) → a ≡ k ∷ ks → or_else a b ≡ k ∷ ks
+pub first_is : (a b : Kinds) (k : ErrorKind) (ks : Kinds) → a ≡ k ∷ ks → or_else a b ≡ k ∷ ks
 first_is a b k ks e = ap (λ x. or_else x b) e
 
-no_strip : (w : Text) → has_hyphen w ≡ false → strip_byte 45 w ≡ None
+pub no_strip : (w : Text) → has_hyphen w ≡ false → strip_byte 45 w ≡ None
 no_strip [] e = refl
 no_strip (x ∷ xs) e = rw e refl
 
-no_end : (w : Text) → has_hyphen w ≡ false → bytes_eq w (45 ∷ 45 ∷ []) ≡ false
+pub no_end : (w : Text) → has_hyphen w ≡ false → bytes_eq w (45 ∷ 45 ∷ []) ≡ false
 no_end w e = go (bytes_eq w (45 ∷ 45 ∷ [])) refl
   where
     go : (b : Bool) → bytes_eq w (45 ∷ 45 ∷ []) ≡ b → bytes_eq w (45 ∷ 45 ∷ []) ≡ false
@@ -280,7 +321,7 @@ no_end w e = go (bytes_eq w (45 ∷ 45 ∷ [])) refl
         cc
     go false t = t
 
-differs : (a b : Text) → b ≢ a → bytes_eq a b ≡ false
+pub differs : (a b : Text) → b ≢ a → bytes_eq a b ≡ false
 differs a b unlike = go (bytes_eq a b) refl
   where
     go : (t : Bool) → bytes_eq a b ≡ t → bytes_eq a b ≡ false
@@ -295,12 +336,12 @@ stray_turn s w e =
     let turn : other_turn s w ≡ flag_turn s w (long_of w) = rw (no_end w e) refl in
     turn ∙ ap (flag_turn s w) no_long ∙ none_turn s w None no_short
 
-unknown_kinds : (name w : Text) (rest : List Text) → has_hyphen w ≡ false → w ≢ codes "pipe" → w ≢ codes "help"
+pub unknown_kinds : (name w : Text) (rest : List Text) → has_hyphen w ≡ false → w ≢ codes "pipe" → w ≢ codes "run" → w ≢ codes "help"
     → fault_of linda (name ∷ w ∷ rest) ≡ kind.UnknownArgument ∷ kind.InvalidSubcommand ∷ []
 unfolding walk_fault
-unknown_kinds name w rest e no_pipe no_help =
+unknown_kinds name w rest e no_pipe no_run no_help =
     let turn : turn_fault top (names_of (built linda)) (walk_from nothing_held) w ≡ kind.UnknownArgument ∷ kind.InvalidSubcommand ∷ [] =
-    rw (differs (codes "pipe") w no_pipe, differs (codes "help") w no_help) (stray_turn top w e) in
+    rw (differs (codes "pipe") w no_pipe, differs (codes "run") w no_run, differs (codes "help") w no_help) (stray_turn top w e) in
     first_is _ _ _ _ (first_is _ _ _ _ turn)
 
 leaf_kinds : (w : Text) (rest : List Text) → has_hyphen w ≡ false → level_fault leaf [] nothing_held (w ∷ rest) false [] ≡ kind.UnknownArgument ∷ []
@@ -309,7 +350,7 @@ leaf_kinds w rest e =
     let turn : turn_fault leaf [] (walk_from nothing_held) w ≡ kind.UnknownArgument ∷ [] = stray_turn leaf w e in
     first_is _ _ _ _ (first_is _ _ _ _ turn)
 
-many_kinds : (name w : Text) (rest : List Text) → has_hyphen w ≡ false → fault_of linda (name ∷ codes "pipe" ∷ w ∷ rest) ≡ kind.UnknownArgument ∷ []
+pub many_kinds : (name w : Text) (rest : List Text) → has_hyphen w ≡ false → fault_of linda (name ∷ codes "pipe" ∷ w ∷ rest) ≡ kind.UnknownArgument ∷ []
 unfolding walk_fault walked
 many_kinds name w rest e =
     let start = walked top.rules (names_of (built linda)) (walk_from nothing_held) (codes "pipe") in
@@ -319,21 +360,11 @@ many_kinds name w rest e =
     stopped_fault top (names_of (built linda)) start (codes "pipe", []) (w ∷ rest) in
     past _ _ passed ∙ first_is _ _ _ _ (sym (ap (entered_fault (built linda)) stop) ∙ leaf_kinds w rest e)
 
-missing_kinds : (words : List Text) → length words ≤ 1 → fault_of linda words ≡ kind.MissingSubcommand ∷ []
+pub missing_kinds : (words : List Text) → length words ≤ 1 → fault_of linda words ≡ kind.MissingSubcommand ∷ []
 unfolding clap_on_literals
 missing_kinds [] le = refl
 missing_kinds (name ∷ []) le = refl
 missing_kinds (name ∷ w ∷ rest) le = absurd (omega arith)
-
-pub refused_kinds : (words : List Text) (kinds : Kinds) → IsRefusedAs words kinds → fault_of linda words ≡ kinds
-refused_kinds words kinds (inl h) = missing_kinds words h.0 ∙ sym h.1
-refused_kinds words kinds (inr (inl h)) = ap (fault_of linda) h.0.spelled ∙ unknown_kinds h.0.name h.0.word h.0.later h.0.no_option h.0.no_pipe h.0.no_help ∙ sym h.1
-refused_kinds words kinds (inr (inr h)) = ap (fault_of linda) h.0.spelled ∙ many_kinds h.0.name h.0.word h.0.later h.0.no_option ∙ sym h.1
-
-pub refused_some : (words : List Text) (kinds : Kinds) → IsRefusedAs words kinds → kinds ≡ [] → ⊥
-refused_some words kinds (inl h) e = let bad : kind.MissingSubcommand ∷ [] ≡ [] = sym h.1 ∙ e in cc
-refused_some words kinds (inr (inl h)) e = let bad : kind.UnknownArgument ∷ kind.InvalidSubcommand ∷ [] ≡ [] = sym h.1 ∙ e in cc
-refused_some words kinds (inr (inr h)) e = let bad : kind.UnknownArgument ∷ [] ≡ [] = sym h.1 ∙ e in cc
 
 -- a fault that is passed up as it is
 pub passed_on : {T E : Type 0} (r : Result T E) (e : E) (P : E → Type 0) → IsErrAnd r (λ y. y ≡ e) → P e → IsErrAnd r P

@@ -1,27 +1,84 @@
 -- What the command line asks for, and how words that ask for nothing are refused.
-use Rattle.std.specs.Prelude.{◌≡◌, ◌≢◌, ◌≤◌, ◌⊎◌, ◌==◌, ℕ, Bool, true, false, List, [], ◌∷◌, length}
+use Rattle.std.specs.Prelude.{◌≡◌, ◌≢◌, ◌≤◌, ◌⊎◌, ◌==◌, ⊤, ℕ, Bool, true, false}
+use Rattle.std.specs.Prelude.{List, [], ◌∷◌, ◌++◌, length, Some, pos}
 use Rattle.std.specs.Prelude.{codes, Result, IsErrAnd}
-use Rattle.clap.specs.Words.{App, Kinds, HasKind, new_app, with_subcommand}
+use Rattle.std.specs.Str.Parse.{IsNumeral, digits_value, without_leading_plus}
+use Rattle.clap.specs.Words.{App, Kinds, Rule, HasKind, new_app, new_rule, with_rule, with_subcommand}
 use Rattle.clap.specs.Simple.{on_top}
+use Rattle.clap.specs.declared.builder.action.ArgAction.TheVariants.{Set}
+use Rattle.clap.specs.declared.builder.value_parser.ValueParser.TheVariants as parsers
 use Rattle.clap.specs.declared.error.Error.{Error}
-use Rattle.clap.specs.declared.error.kind.ErrorKind.TheVariants.{InvalidSubcommand, MissingSubcommand, UnknownArgument}
+use Rattle.clap.specs.declared.error.kind.ErrorKind.TheVariants as kinds
+use Rattle.linda.specs.declared.command.Task.{Task}
+use Rattle.linda.specs.declared.command.Task.TheVariants as tasks
+use Rattle.linda_client.specs.declared.limits.TheConstants.{MAX_SERVERS}
 
--- The program's command as the parser has it: it wants a command below it, and the one there is `pipe`.
+-- the option `--servers`, which must be there, with a number from 1 to the most servers
+abbrev pub servers_rule : Rule
+servers_rule = record (new_rule (codes "servers")) {
+  long = Some (codes "servers");
+  value_names = 1;
+  required = true;
+  action = Some Set;
+  parser = Some (parsers.Signed (pos 1) (pos MAX_SERVERS));
+}
+
+-- The program's command as the parser has it: it wants a command below it, `pipe` or `run`.
 abbrev pub linda : App
-linda = with_subcommand (on_top (λ s. record s { subcommand_required = true })
-    (new_app (codes "linda"))) (new_app (codes "pipe")).top
+linda = with_subcommand (with_subcommand (on_top (λ s. record s { subcommand_required = true })
+    (new_app (codes "linda"))) (new_app (codes "pipe")).top)
+    (with_rule (new_app (codes "run")) servers_rule).top
+
+-- no word, or the `--` that ends options
+abbrev pub IsEnd : List (List ℕ) → Type 0
+IsEnd words = (words ≡ []) ⊎ (words ≡ codes "--" ∷ [])
 
 -- The words are a program's name and `pipe`; the `--` that ends options may stand behind.
 abbrev pub AsksForPipe : List (List ℕ) → Type 0
 AsksForPipe words = (name : List ℕ)
     × ((words ≡ name ∷ codes "pipe" ∷ []) ⊎ (words ≡ name ∷ codes "pipe" ∷ codes "--" ∷ []))
 
+-- The text is a number of servers in decimal digits. As the parser reads every whole number, a plus may
+-- stand before them, and zeros.
+pub record Spells (text : List ℕ) (n : ℕ) : Type 0 where
+  pub numeral : IsNumeral 10 (without_leading_plus text)
+  pub value : n ≡ digits_value 10 (without_leading_plus text)
+  pub some : 1 ≤ n
+  pub most : n ≤ MAX_SERVERS
+
+-- the option with its number, as two words or as one
+abbrev pub IsOption : List (List ℕ) → List ℕ → Type 0
+IsOption words number = (words ≡ codes "--servers" ∷ number ∷ [])
+    ⊎ (words ≡ (codes "--servers=" ++ number) ∷ [])
+
+-- The words are a program's name, `run` and the option with this number; the `--` that ends options may
+-- stand behind.
+pub record AsksForRun (words : List (List ℕ)) (n : ℕ) : Type 0 where
+  pub name : List ℕ
+  pub number : List ℕ
+  pub option : List (List ℕ)
+  pub end : List (List ℕ)
+  pub spelled : words ≡ name ∷ codes "run" ∷ (option ++ end)
+  pub is_option : IsOption option number
+  pub is_end : IsEnd end
+  pub spells : Spells number n
+
+-- what the words ask for
+abbrev pub AsksFor : List (List ℕ) → Task → Type 0
+AsksFor words tasks.Pipe = AsksForPipe words
+AsksFor words (tasks.Run n) = AsksForRun words n
+
+-- a run has at least one server, and not more than there may be
+abbrev pub HasServers : Task → Type 0
+HasServers tasks.Pipe = ⊤
+HasServers (tasks.Run n) = (1 ≤ n) × (n ≤ MAX_SERVERS)
+
 -- whether a word begins with a hyphen
 abbrev pub has_hyphen : List ℕ → Bool
 has_hyphen [] = false
 has_hyphen (b ∷ bs) = b == 45
 
--- The words are a program's name and then a word that is no option, and neither `pipe` nor `help`.
+-- The words are a program's name and then a word that is no option, and none of `pipe`, `run`, `help`.
 pub record HasUnknown (words : List (List ℕ)) : Type 0 where
   pub name : List ℕ
   pub word : List ℕ
@@ -29,6 +86,7 @@ pub record HasUnknown (words : List (List ℕ)) : Type 0 where
   pub spelled : words ≡ name ∷ word ∷ later
   pub no_option : has_hyphen word ≡ false
   pub no_pipe : word ≢ codes "pipe"
+  pub no_run : word ≢ codes "run"
   pub no_help : word ≢ codes "help"
 
 -- The words are a program's name, `pipe`, and then a word that is no option.
@@ -43,9 +101,51 @@ pub record HasOneTooMany (words : List (List ℕ)) : Type 0 where
 abbrev pub Refuses : {T : Type 0} → Kinds → Result T Error → Type 0
 Refuses kinds result = IsErrAnd result (HasKind kinds)
 
--- no word behind the program's name; an unknown one; one too many
+-- The words are a program's name and `run`.
+abbrev pub LacksOption : List (List ℕ) → Type 0
+LacksOption words = (name : List ℕ) × (words ≡ name ∷ codes "run" ∷ [])
+
+-- The words are a program's name, `run` and `--servers`.
+abbrev pub LacksNumber : List (List ℕ) → Type 0
+LacksNumber words = (name : List ℕ) × (words ≡ name ∷ codes "run" ∷ codes "--servers" ∷ [])
+
+-- The words are a program's name, `run` and the option with a text that is no number of servers.
+pub record HasBadNumber (words : List (List ℕ)) : Type 0 where
+  pub name : List ℕ
+  pub number : List ℕ
+  pub option : List (List ℕ)
+  pub end : List (List ℕ)
+  pub spelled : words ≡ name ∷ codes "run" ∷ (option ++ end)
+  pub is_option : IsOption option number
+  pub is_end : IsEnd end
+  pub no_option : has_hyphen number ≡ false
+  pub no_number : (n : ℕ) → Spells number n → ⊥
+
+-- The words are a program's name, `run`, the option with its number, and then a word that is no option.
+pub record HasOneTooManyToRun (words : List (List ℕ)) : Type 0 where
+  pub name : List ℕ
+  pub number : List ℕ
+  pub n : ℕ
+  pub option : List (List ℕ)
+  pub word : List ℕ
+  pub later : List (List ℕ)
+  pub spelled : words ≡ name ∷ codes "run" ∷ (option ++ word ∷ later)
+  pub is_option : IsOption option number
+  pub spells : Spells number n
+  pub no_option : has_hyphen word ≡ false
+
+-- behind `run`: no option; no number; a bad one; a word too many
+abbrev pub IsRefusedRun : List (List ℕ) → Kinds → Type 0
+IsRefusedRun words told =
+    (LacksOption words × (told ≡ kinds.MissingRequiredArgument ∷ []))
+    ⊎ ((LacksNumber words × (told ≡ kinds.InvalidValue ∷ []))
+    ⊎ ((HasBadNumber words × (told ≡ kinds.ValueValidation ∷ []))
+    ⊎ (HasOneTooManyToRun words × (told ≡ kinds.UnknownArgument ∷ []))))
+
+-- no word behind the program's name; an unknown one; one too many; a fault behind `run`
 abbrev pub IsRefusedAs : List (List ℕ) → Kinds → Type 0
-IsRefusedAs words kinds =
-    ((length words ≤ 1) × (kinds ≡ MissingSubcommand ∷ []))
-    ⊎ ((HasUnknown words × (kinds ≡ UnknownArgument ∷ InvalidSubcommand ∷ []))
-    ⊎ (HasOneTooMany words × (kinds ≡ UnknownArgument ∷ [])))
+IsRefusedAs words told =
+    ((length words ≤ 1) × (told ≡ kinds.MissingSubcommand ∷ []))
+    ⊎ ((HasUnknown words × (told ≡ kinds.UnknownArgument ∷ kinds.InvalidSubcommand ∷ []))
+    ⊎ ((HasOneTooMany words × (told ≡ kinds.UnknownArgument ∷ []))
+    ⊎ IsRefusedRun words told))

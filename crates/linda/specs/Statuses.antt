@@ -2,6 +2,8 @@
 use Rattle.std.specs.Prelude.{ℕ, Result, Ok, Err}
 use Rattle.linda.specs.declared.faults.PipeFault.{PipeFault}
 use Rattle.linda.specs.declared.faults.PipeFault.TheVariants as faults
+use Rattle.linda_shell.specs.declared.script.fault.ScriptFault.{ScriptFault}
+use Rattle.linda_shell.specs.declared.script.fault.ScriptFault.TheVariants as scripts
 
 -- 4 for a fault of a line, 3 for one of the input or the output
 abbrev pub status_of : PipeFault → ℕ
@@ -15,3 +17,16 @@ status_of faults.Turns = 3
 abbrev pub status_after : Result Unit PipeFault → ℕ
 status_after (Ok done) = 0
 status_after (Err fault) = status_of fault
+
+-- 4 for a fault of a line of a script, 3 for one of the input or the output, or where memory runs out before a line
+abbrev pub status_of_script : ScriptFault → ℕ
+status_of_script (scripts.Line n fault) = 4
+status_of_script scripts.Read = 3
+status_of_script scripts.Write = 3
+status_of_script scripts.Turns = 3
+status_of_script scripts.Memory = 3
+
+-- 0 where the script ended well, else the status of its fault
+abbrev pub status_after_script : Result Unit ScriptFault → ℕ
+status_after_script (Ok done) = 0
+status_after_script (Err fault) = status_of_script fault

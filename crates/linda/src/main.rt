@@ -3,15 +3,18 @@
 //! `linda pipe` serves one connection to a new server in memory. Each line of standard input is a piece of
 //! the client's stream in hexadecimal digits; each reply is such a line on standard output.
 //!
+//! `linda run --servers N` plays a script from standard input with N servers in memory, 1 to 16.
+//!
 //! The exit status is 0 at the end; 2 for a fault of the command line, with the parser's text on standard
 //! error; 3 with one line there, `io` or `memory`, where standard input or output fails or memory runs out;
 //! 4 with one line there for a fault of a line of the input.
 #![tactic(auto)]
 
-ghost use Rattle.std.specs.Prelude.{◌≡◌, ◌≢◌, ◌⊎◌};
+ghost use Rattle.std.specs.Prelude.{◌≡◌, ◌≢◌, ◌≤◌, ◌⊎◌};
+ghost use Rattle.linda_client.specs.declared.limits.TheConstants.{MAX_SERVERS};
 ghost use Rattle.std.specs.Process.{exit_status};
 ghost use Rattle.clap.specs.Words.{kind_of};
-ghost use Rattle.linda.specs.Statuses.{status_after};
+ghost use Rattle.linda.specs.Statuses.{status_after, status_after_script};
 ghost use Rattle.clap.specs.declared.error.kind.ErrorKind.TheVariants as kinds;
 
 mod command;
@@ -20,6 +23,7 @@ mod exchanges;
 mod faults;
 mod lines;
 mod piping;
+mod running;
 mod spelling;
 #[cfg(test)]
 mod tests;
@@ -27,6 +31,8 @@ mod tests;
 use crate::command::{Task, read_task};
 use crate::faults::{PipeFault, REFUSED};
 use crate::piping::pipe;
+use crate::running::status_of_script;
+use linda_shell::{ScriptFault, run_script};
 use std::fmt::Display;
 use std::io::ErrorKind;
 use std::process::ExitCode;
@@ -47,6 +53,7 @@ fn main(rt: HostRuntime) -> ExitCode {
     };
     match read_task(rt.alloc(), &words) {
         Ok(Task::Pipe) => run_pipe(&rt),
+        Ok(Task::Run { servers }) => run_servers(&rt, servers),
         Err(error) => show(&rt, &error),
     }
 }
@@ -72,6 +79,26 @@ fn end_of_pipe(rt: &HostRuntime, ended: Result<(), PipeFault>) -> ExitCode
     match ended {
         Ok(()) => ExitCode::SUCCESS,
         Err(fault) => end(rt, fault, fault.status()),
+    }
+}
+
+// Runs the script on standard input, over so many servers.
+fn run_servers(rt: &HostRuntime, servers: u32) -> ExitCode
+    requires some { 1 ≤ servers }
+    requires few { servers ≤ MAX_SERVERS }
+    ensures { (exit_status result ≡ 0) ⊎ ((exit_status result ≡ 3) ⊎ (exit_status result ≡ 4)) }
+{
+    end_of_script(rt, run_script(rt.alloc(), &mut rt.stdin(), &mut rt.stdout(), servers))
+}
+
+// Ends as the script ended: well, or with its fault's line on standard error.
+fn end_of_script(rt: &HostRuntime, ended: Result<(), ScriptFault>) -> ExitCode
+    ensures status { exit_status result ≡ status_after_script ended }
+    ensures range { (exit_status result ≡ 0) ⊎ ((exit_status result ≡ 3) ⊎ (exit_status result ≡ 4)) }
+{
+    match ended {
+        Ok(()) => ExitCode::SUCCESS,
+        Err(fault) => end(rt, fault, status_of_script(fault)),
     }
 }
 
