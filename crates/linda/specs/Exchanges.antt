@@ -45,7 +45,7 @@ pub record IsContinued (bytes : List ℕ) (said : List Reply) (goes_on : Bool) (
 abbrev pub Continues : List ℕ → Bool → Exchange → Node → Exchange → Node → Type 0
 Continues piece goes_on old was new now =
     (bytes : List ℕ) (said : List Reply) → IsOpen old.session → HasTalked bytes said old was
-        → IsContinued (bytes ++ piece) said goes_on old new now
+    → IsContinued (bytes ++ piece) said goes_on old new now
 
 -- The text so far is lines, which were answered, and the unfinished line. The reply lines are those that were sent and
 -- those in the buffer.
@@ -77,8 +77,8 @@ Grows text old was new now None =
     (read sent : List ℕ) → IsUnderway read sent old was → IsUnderway (read ++ text) sent new now
 Grows text old was new now (Some rest) =
     (front : List ℕ) × ((text ≡ front ++ LINE_FEED ∷ rest)
-        × ((read sent : List ℕ) → IsUnderway read sent old was
-        → IsUnderway (read ++ front) sent new now))
+    × ((read sent : List ℕ) → IsUnderway read sent old was
+    → IsUnderway (read ++ front) sent new now))
 
 -- What is told of a line for which there is no memory, when it goes on with this text: that; or,
 -- where the line begins in this text and ends in it, that it is not hexadecimal.

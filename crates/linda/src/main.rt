@@ -88,7 +88,10 @@ fn run_servers(rt: &HostRuntime, servers: u32) -> ExitCode
     requires few { servers ≤ MAX_SERVERS }
     ensures { (exit_status result ≡ 0) ⊎ ((exit_status result ≡ 3) ⊎ (exit_status result ≡ 4)) }
 {
-    end_of_script(rt, run_script(rt.alloc(), &mut rt.stdin(), &mut rt.stdout(), servers))
+    end_of_script(
+        rt,
+        run_script(rt.alloc(), &mut rt.stdin(), &mut rt.stdout(), servers),
+    )
 }
 
 // Ends as the script ended: well, or with its fault's line on standard error.

@@ -34,8 +34,8 @@ kind_again never = refl
 abbrev pub kind_code : Coded Kind
 kind_code =
     code_by ((Template ⊎ Template) ⊎ (ℕ ⊎ (Atom ⊎ Unit {0})))
-        (coded⊎ (coded⊎ template_code template_code)
-        (coded⊎ coded_ℕ (coded⊎ atom_code coded_unit))) kind_parts kind_of_parts kind_again
+    (coded⊎ (coded⊎ template_code template_code)
+    (coded⊎ coded_ℕ (coded⊎ atom_code coded_unit))) kind_parts kind_of_parts kind_again
 
 abbrev mutual
   pub tree_stored : Tree → Gv

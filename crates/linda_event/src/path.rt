@@ -99,7 +99,7 @@ fn enter(
 ) -> Result<Option<usize>, AllocError>
     ensures { IfOk result (λ rest.
         IsFound (map (leaf_under number) (leaves (tree_of member.now)))
-            left place.old.items place.new.items rest) }
+        left place.old.items place.new.items rest) }
 {
     place.push(number)?;
     let rest = descend(member, left, place)?;

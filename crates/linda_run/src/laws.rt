@@ -25,9 +25,9 @@ use linda_client::{
     only_a_taken_takes, packets_are_sound, synchronizations_go_on,
 };
 use linda_store::{
-    a_server_stays_sound, two_takes_of_a_tuple_are_one, closings_offer_only_what_is_sought, replies_tell_the_deed,
-    no_tuple_is_taken_twice, replies_report_what_was_done, steps_do_as_they_are_asked, steps_offer_only_what_is_sought,
-    takes_hand_over_what_was_put,
+    a_server_stays_sound, closings_offer_only_what_is_sought, no_tuple_is_taken_twice,
+    replies_report_what_was_done, replies_tell_the_deed, steps_do_as_they_are_asked,
+    steps_offer_only_what_is_sought, takes_hand_over_what_was_put, two_takes_of_a_tuple_are_one,
 };
 
 /// No tuple is taken twice. What clients were given, over all of them, are pairs that differ; each was put once and

@@ -21,6 +21,6 @@ pub use kinds::{OUT, PASS, TAKE};
 pub use laws::{deeds_are_done_one_by_one, no_tuple_is_taken_twice, proper_lists_keep_the_ranges};
 pub use limits::{HEAD_BYTES, ID_BYTES, MAX_DEED_BYTES, MAX_TUPLE_BYTES};
 pub use linda_book::{Book, Class, KeptReply};
-pub use size::{deed_len, tuple_len};
 pub use linda_wire::NUMBER_LIMIT;
+pub use size::{deed_len, tuple_len};
 pub use state::State;

@@ -28,13 +28,13 @@ atom_again (atoms.Bool b) = refl
 abbrev pub atom_code : Coded Atom
 atom_code =
     code_by (ℤ ⊎ (List ℕ ⊎ Bool)) (coded⊎ coded_ℤ (coded⊎ (coded_list coded_ℕ) coded_bool))
-        atom_parts atom_of_parts atom_again
+    atom_parts atom_of_parts atom_again
 
 -- the code of a row
 abbrev pub tuple_code : Coded Tuple
 tuple_code =
     code_by (Atom × List Atom) (coded× atom_code (coded_list atom_code)) (λ r. (r.tag, r.fields))
-        (λ p. record { tag = p.0; fields = p.1 }) (λ _. refl)
+    (λ p. record { tag = p.0; fields = p.1 }) (λ _. refl)
 
 abbrev pub pattern_parts : Pattern → Atom ⊎ (Bool ⊎ Bool)
 pattern_parts (patterns.Value v) = inl v
@@ -61,10 +61,10 @@ pattern_again patterns.Any = refl
 abbrev pub pattern_code : Coded Pattern
 pattern_code =
     code_by (Atom ⊎ (Bool ⊎ Bool)) (coded⊎ atom_code (coded⊎ coded_bool coded_bool)) pattern_parts
-        pattern_of_parts pattern_again
+    pattern_of_parts pattern_again
 
 -- the code of a shape
 abbrev pub template_code : Coded Template
 template_code =
     code_by (Atom × List Pattern) (coded× atom_code (coded_list pattern_code))
-        (λ s. (s.tag, s.fields)) (λ p. record { tag = p.0; fields = p.1 }) (λ _. refl)
+    (λ s. (s.tag, s.fields)) (λ p. record { tag = p.0; fields = p.1 }) (λ _. refl)
