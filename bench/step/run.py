@@ -1,7 +1,7 @@
 #!/usr/bin/env python3
 """Times single steps of a store that has many tuples and many open asks of other clients.
 
-It proves and builds `main.rt` over the crates of this repository, in a folder of its own, and runs it for each act (`key`,
+It proves and builds `main.rt.txt` (so named since the gate reads each `.rt` file) over the crates of this repository, in a folder of its own, and runs it for each act (`key`,
 `any`, `out`, `last`, `ask`: see there) at 1,000, 10,000 and 100,000 tuples and at 0, 64, 4,096 and 65,536 open asks. A time
 is the least of nine runs, each the mean of some rounds. It prints the table, and the growth from the first size to the
 last, and fails where a take by key or a take of any grows more than twice from 1,000 to 100,000 tuples, or any act but
@@ -33,7 +33,7 @@ def build(folder):
         shutil.copytree(os.path.join(TOP, "crates", name), os.path.join(crates, name), ignore=shutil.ignore_patterns("must-fail"))
     program = os.path.join(crates, "bench_step")
     os.makedirs(os.path.join(program, "src"))
-    shutil.copy(os.path.join(HERE, "main.rt"), os.path.join(program, "src"))
+    shutil.copy(os.path.join(HERE, "main.rt.txt"), os.path.join(program, "src", "main.rt"))
     with open(os.path.join(TOP, "crates.txt")) as lines, open(os.path.join(folder, "crates.txt"), "w") as kept:
         kept.writelines(line for line in lines if line.split(":")[0] in NEEDED)
         kept.write("bench_step: linda_tuple linda_wire linda_bag linda_step anyhow\n")
