@@ -37,8 +37,8 @@ abbrev pub DeedsStay : World → World → Type 0
 DeedsStay w new = (s : ℕ) (old : Server) → slice_get w.servers s ≡ Some old
     → OfServer new.servers s (λ ds. (more : List Deed) × (ds ≡ old.deeds ++ more))
 
--- What the client was given was put once, under this id at this server, and taken once, by this client; and no later bag
--- has it.
+-- What the client was given was put once, under this id at this server, and taken once, by this
+-- client; and no later bag has it.
 abbrev pub IsRightful : World → ℕ → ℕ × ℕ → Type 0
 IsRightful w c pair = OfServer w.servers pair.0 (λ ds. (row : Tuple) × HandsOver ds c pair.1 row)
 
@@ -83,8 +83,8 @@ pub record IsOpenAt (ms : Members) (c k : ℕ) : Type 0 where
   pub known : map.get ms c ≡ Some member
   pub is_open : IsSome (asked_in (pending_in member.client.task) k)
 
--- Each tuple that is held at a server that is up is held for a reason: its ticket is open, or a Cancel of that was sent,
--- or its Offer was never delivered.
+-- Each tuple that is held at a server that is up is held for a reason: its ticket is open, or a
+-- Cancel of that was sent, or its Offer was never delivered.
 abbrev pub AreHeldRightly : World → Type 0
 AreHeldRightly w = (s : ℕ) (server : Server) (id : ℕ) (pair : ℕ × ℕ)
     → slice_get w.servers s ≡ Some server → server.node.is_down ≡ false

@@ -77,8 +77,8 @@ IsUsedBy ms s d = OfMember ms (client_of d) (λ c. deeds.number_of d < next_at c
 abbrev pub IsWaitOf : Members → Wait → Type 0
 IsWaitOf ms w = OfMember ms w.0.0 (OfTicket w.0.1 (Asks w.1.remove w.1.template))
 
--- The client has the offer in hand: its ticket is open, and the offer is saved, or accepted by a message that the server
--- has not done.
+-- The client has the offer in hand: its ticket is open, and the offer is saved, or accepted by a
+-- message that the server has not done.
 pub record HasInHand (s : ℕ) (last k id : ℕ) (c : Client) : Type 0 where
   pub within : s < servers c
   pub pending : Pending

@@ -1,5 +1,6 @@
 -- What each event comes to in a world, and what is seen of it.
-use Rattle.std.specs.Prelude.{◌≡◌, ℕ, true, false, List, [], ◌∷◌, ◌++◌, length, Option, Some, None, Result, Ok, Err, map, slice_set}
+use Rattle.std.specs.Prelude.{◌≡◌, ℕ, true, false, List, [], ◌∷◌, ◌++◌, length, Option, Some, None}
+use Rattle.std.specs.Prelude.{Result, Ok, Err, map, slice_set}
 use Rattle.std.specs.List.{slice_get}
 use Rattle.std.specs.FinMap as maps
 use Rattle.std.specs.Global.{Vec}
@@ -71,7 +72,8 @@ Does (Leaves c) old answer ds new = Closes old c answer new × (ds ≡ [])
 Does Saves old answer ds new =
     (result : Result (Unit {0}) NodeFault) × (Snaps old result new × ((answer ≡ silent result) × (ds ≡ [])))
 Does (Halts xs) old answer ds new =
-    (result : Result (Vec Deed) NodeFault) × (Stops old xs result new × ((answer ≡ silent result) × (ds ≡ added result)))
+    (result : Result (Vec Deed) NodeFault)
+    × (Stops old xs result new × ((answer ≡ silent result) × (ds ≡ added result)))
 
 -- what is sent where there is no room for a task: a client whose message it is is refused
 abbrev pub without_room : Task → List (ℕ × Reply)

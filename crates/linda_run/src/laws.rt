@@ -30,17 +30,17 @@ use linda_store::{
     steps_offer_only_what_is_sought, takes_hand_over_what_was_put, two_takes_of_a_tuple_are_one,
 };
 
-/// No tuple is taken twice. What clients were given, over all of them, are pairs that differ; each was put once and
-/// taken once, by that client; each reply that tells of a deed is the book's for one of its server's; and a Gone tells of
-/// an Accept that took nothing, and never will.
+/// No tuple is taken twice. What clients were given, over all of them, are pairs that differ; each
+/// was put once and taken once, by that client; each reply that tells of a deed is the book's for
+/// one of its server's; and a Gone tells of an Accept that took nothing, and never will.
 pub fn worlds_are_safe()
     ensures { (w : World) → IsReached w → IsSafe w }
 {
     laws_below();
 }
 
-/// Each tuple that is held at a server that is up is held for a ticket that is open, or a Cancel of that ticket was sent,
-/// or the Offer was sent and never delivered.
+/// Each tuple that is held at a server that is up is held for a ticket that is open, or a Cancel of
+/// that ticket was sent, or the Offer was sent and never delivered.
 pub fn holds_have_reasons()
     ensures { (w : World) → IsReached w → AreHeldRightly w }
 {

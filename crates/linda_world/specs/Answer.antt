@@ -1,4 +1,5 @@
--- What a call of a world, or of a part of it, answers: that something is done, that it is refused, or that memory ran out.
+-- What a call of a world, or of a part of it, answers: that something is done, that it is refused,
+-- or that memory ran out.
 use Rattle.std.specs.Prelude.{◌≡◌, ℕ, List, ◌++◌, Result, Ok, Err, map}
 use Rattle.linda_state.specs.declared.deed.Deed.{Deed}
 use Rattle.linda_store.specs.Node.{Node, NodeAnswer}
@@ -22,7 +23,8 @@ Tells IsDone IsRefused IsShort (Err faults.TooManyPackets) = IsRefused faults.To
 Tells IsDone IsRefused IsShort (Err (faults.Client fault)) = IsRefused (faults.Client fault)
 
 -- The server, and the packets, after it was asked this.
-pub record Serves (task : Task) (s : ℕ) (old : Server) (ps : List Packet) (told : Told) (new : Server) (later : List Packet) : Type 0 where
+pub record Serves (task : Task) (s : ℕ) (old : Server) (ps : List Packet) (told : Told)
+    (new : Server) (later : List Packet) : Type 0 where
   pub answer : NodeAnswer
   pub deeds : List Deed
   pub node : Node

@@ -86,4 +86,5 @@ packet_code = code_by (ℕ × (ℕ × ((Message ⊎ Reply) × Bool)))
 abbrev pub world_code : Coded World
 world_code = code_by (List Server × (Members × List Packet))
     (coded× (coded_list server_code) (coded× (map.code coded_ℕ member_code) (coded_list packet_code)))
-    (λ w. (w.servers, (w.members, w.packets))) (λ p. record { servers = p.0; members = p.1.0; packets = p.1.1 }) (λ _. refl)
+    (λ w. (w.servers, (w.members, w.packets)))
+    (λ p. record { servers = p.0; members = p.1.0; packets = p.1.1 }) (λ _. refl)

@@ -18,14 +18,16 @@ refusal_of (Ok reaction) = None
 refusal_of (Err fault) = Some (faults.Client fault)
 
 -- A client made this call: it reacted so.
-pub record Reacts (call : Call) (c : ℕ) (old : Member) (ps : List Packet) (told : Told) (new : Member) (later : List Packet) : Type 0 where
+pub record Reacts (call : Call) (c : ℕ) (old : Member) (ps : List Packet) (told : Told)
+    (new : Member) (later : List Packet) : Type 0 where
   pub reaction : Reaction
   pub answer : react old.client call ≡ Ok reaction
   pub member_is : new ≡ member_then old reaction
   pub packets_are : later ≡ ps ++ map (sent_by c) reaction.packets
   pub told_is : told ≡ reacted c reaction
 
--- A client made this call; or it is refused, and nothing changed; or memory ran out, and what it was given is as before.
+-- A client made this call; or it is refused, and nothing changed; or memory ran out, and what it
+-- was given is as before.
 abbrev pub ReactsOrNot : Call → ℕ → Member → List Packet → Result Seen WorldFault → Member → List Packet → Type 0
 ReactsOrNot call c old ps result new later =
     Tells (λ told. Reacts call c old ps told new later)
@@ -38,7 +40,8 @@ refusal_to None call = Some faults.NoClient
 refusal_to (Some member) call = refusal_of (react member.client call)
 
 -- The client of this number did that, and the others are as they were.
-pub record ReactsIn (call : Call) (c : ℕ) (old : Members) (ps : List Packet) (told : Told) (new : Members) (later : List Packet) : Type 0 where
+pub record ReactsIn (call : Call) (c : ℕ) (old : Members) (ps : List Packet) (told : Told)
+    (new : Members) (later : List Packet) : Type 0 where
   pub member : Member
   pub known : maps.get old c ≡ Some member
   pub now : Member
@@ -47,7 +50,8 @@ pub record ReactsIn (call : Call) (c : ℕ) (old : Members) (ps : List Packet) (
 
 -- Each client was given what it was given before.
 abbrev pub SameGot : Members → Members → Type 0
-SameGot old new = (d : ℕ) → option_map (λ (m : Member). m.got) (maps.get new d) ≡ option_map (λ (m : Member). m.got) (maps.get old d)
+SameGot old new = (d : ℕ) → option_map (λ (m : Member). m.got) (maps.get new d)
+    ≡ option_map (λ (m : Member). m.got) (maps.get old d)
 
 abbrev pub ReactsInOrNot : Call → ℕ → Members → List Packet → Result Seen WorldFault → Members → List Packet → Type 0
 ReactsInOrNot call c old ps result new later =

@@ -82,5 +82,7 @@ reply_again (replies.Refused code detail) = refl
 abbrev pub reply_code : Coded Reply
 reply_code = code_by ReplyParts
     (coded⊎ coded_ℕ (coded⊎ pair_code
-    (coded⊎ (coded× coded_ℕ row_code) (coded⊎ (coded× coded_ℕ row_code) (coded⊎ (coded× coded_ℕ row_code) (coded⊎ coded_ℕ pair_code))))))
+    (coded⊎ (coded× coded_ℕ row_code)
+    (coded⊎ (coded× coded_ℕ row_code)
+    (coded⊎ (coded× coded_ℕ row_code) (coded⊎ coded_ℕ pair_code))))))
     reply_parts reply_of_parts reply_again

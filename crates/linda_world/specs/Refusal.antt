@@ -32,10 +32,14 @@ is_message_to (Some p) s = (p.server == s) && is_message_body p.body
 abbrev pub is_message_at : List Packet → ℕ → ℕ → Bool
 is_message_at ps s k = is_message_to (slice_get ps k) s
 
--- a server cannot be stopped at work on these packets: there is no such server, one is no message to it, or they are too many
+-- a server cannot be stopped at work on these packets: there is no such server, one is no message
+-- to it, or they are too many
 abbrev pub refusal_of_stop : World → ℕ → List ℕ → Option WorldFault
 refusal_of_stop w s ks =
-    if nat_lt s (length w.servers) then (if list_all (is_message_at w.packets s) ks then (if nat_lt MAX_BATCH (length ks) then Some faults.TooManyPackets else None) else Some faults.NoPacket)
+    if nat_lt s (length w.servers) then
+    (if list_all (is_message_at w.packets s) ks then
+    (if nat_lt MAX_BATCH (length ks) then Some faults.TooManyPackets else None)
+    else Some faults.NoPacket)
     else Some faults.NoServer
 
 -- a packet cannot be delivered: there is no such server, or its client refuses it

@@ -28,7 +28,8 @@ seen_of (Ok told) = answer_of told
 seen_of (Err short) = Err faults.Memory
 
 -- This came of it; or it is refused so, and nothing changed; or memory ran out, and what is shown is as before.
-abbrev pub AsksOrNot : (World → Told → World → Type 0) → Option WorldFault → World → Result Seen WorldFault → World → Type 0
+abbrev pub AsksOrNot : (World → Told → World → Type 0) → Option WorldFault → World
+    → Result Seen WorldFault → World → Type 0
 AsksOrNot Comes refused old result new =
     Tells (λ told. Comes old told new) (λ fault. (refused ≡ Some fault) × (new ≡ old)) (IsShownAs old new) result
 

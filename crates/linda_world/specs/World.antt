@@ -1,5 +1,6 @@
 -- The machine as contracts see it: a world, and whether memory ran out.
-use Rattle.std.specs.Prelude.{◌≡◌, ℕ, Bool, true, false, List, [], ◌∷◌, ◌++◌, Option, Some, None, IsSome, Result, Ok, Err}
+use Rattle.std.specs.Prelude.{◌≡◌, ℕ, Bool, true, false, List, [], ◌∷◌, ◌++◌, Option, Some, None}
+use Rattle.std.specs.Prelude.{IsSome, Result, Ok, Err}
 use Rattle.std.specs.FinMap as maps
 use Rattle.linda_state.specs.declared.deed.Deed.{Deed}
 use Rattle.linda_run.specs.declared.event.WorldEvent.{WorldEvent}
@@ -18,8 +19,8 @@ pub record World : Type 0 where
   pub world : run.World
   pub is_spent : Bool
 
--- What it shows, the deeds of its servers, what its clients were given, and its packets, is that of a world that a run leads
--- to; and until memory ran out it is that world.
+-- What it shows, the deeds of its servers, what its clients were given, and its packets, is that of
+-- a world that a run leads to; and until memory ran out it is that world.
 pub record IsRun (w : World) : Type 0 where
   pub now : run.World
   pub reached : IsReached now
@@ -46,7 +47,8 @@ pub record Refuses (refused : Option WorldFault) (old new : World) (fault : Worl
 
 -- What an event comes to: a step, where a server that is down is told as a fault; a refusal; or want of memory.
 abbrev pub Steps : World → WorldEvent → Result Seen WorldFault → World → Type 0
-Steps old event result new = Tells (IsStep old event new) (Refuses (refusal old.world event) old new) (IsShort old new) result
+Steps old event result new = Tells (IsStep old event new)
+    (Refuses (refusal old.world event) old new) (IsShort old new) result
 
 -- These events, one after another, none of them refused and no server down, lead from one to the other.
 abbrev pub Runs : World → List WorldEvent → World → Type 0
@@ -82,7 +84,8 @@ pub record IsJoin (c : ℕ) (old new : World) : Type 0 where
 -- What the joining of a client comes to: its number may be known.
 abbrev pub Joins : World → ℕ → Result (Unit {0}) WorldFault → World → Type 0
 Joins old c (Ok done) new = IsJoin c old new
-Joins old c (Err faults.ClientKnown) new = IsSome (maps.get old.world.members c) × ((old.is_spent ≡ false) × (new ≡ old))
+Joins old c (Err faults.ClientKnown) new =
+    IsSome (maps.get old.world.members c) × ((old.is_spent ≡ false) × (new ≡ old))
 Joins old c (Err faults.Memory) new = IsShort old new
 Joins old c (Err fault) new = ⊥
 

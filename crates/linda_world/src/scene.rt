@@ -119,7 +119,8 @@ impl<N: Node> Scene<N> {
 
     // A client makes a call of its own.
     fn react(&mut self, alloc: Global, client: u32, call: Call) -> Result<Seen, WorldFault>
-        ensures { AsksOrNot (HasReacted (call_of call) client []) (refusal_to (map.get self.old.members client) (call_of call))
+        ensures { AsksOrNot (HasReacted (call_of call) client [])
+            (refusal_to (map.get self.old.members client) (call_of call))
             self.old result self.new }
     {
         self.members.react(alloc, client, call, &mut self.packets)
@@ -127,7 +128,8 @@ impl<N: Node> Scene<N> {
 
     // A server closes a client.
     fn close(&mut self, alloc: Global, server: u32, client: u32) -> Result<Seen, WorldFault>
-        ensures { AsksOrNot (HasServed (Leaves client) server []) (refusal_at self.old server) self.old result self.new }
+        ensures { AsksOrNot (HasServed (Leaves client) server []) (refusal_at self.old server)
+            self.old result self.new }
     {
         if server as usize >= self.servers.len() {
             return Err(WorldFault::NoServer);
@@ -172,7 +174,8 @@ impl<N: Node> Scene<N> {
         at: u64,
         torn: Torn,
     ) -> Result<Seen, WorldFault>
-        ensures { AsksOrNot (IsStopped server ks.items) (refusal_of_stop self.old server ks.items) self.old result self.new }
+        ensures { AsksOrNot (IsStopped server ks.items) (refusal_of_stop self.old server ks.items)
+            self.old result self.new }
     {
         if server as usize >= self.servers.len() {
             return Err(WorldFault::NoServer);
@@ -207,7 +210,8 @@ impl<N: Node> Scene<N> {
     ) -> Result<Seen, WorldFault>
         requires reached { IsReached self.old }
         requires packet { k < length self.old.packets }
-        ensures { AsksOrNot (HasServed (Takes client message) server (k ∷ [])) (refusal_at self.old server) self.old result self.new }
+        ensures { AsksOrNot (HasServed (Takes client message) server (k ∷ []))
+            (refusal_at self.old server) self.old result self.new }
     {
         servers_stay_sound();
         if server as usize >= self.servers.len() {

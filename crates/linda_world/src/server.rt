@@ -83,7 +83,8 @@ impl<N: Node> Server<N> {
         packets: &mut Vec<Packet>,
     ) -> Result<Told, AllocError>
         requires { IsSound self.old.deeds self.old.node }
-        ensures { ServesOrNot (Takes client message) server self.old packets.old.items result self.new packets.new.items }
+        ensures { ServesOrNot (Takes client message) server self.old packets.old.items result
+            self.new packets.new.items }
     {
         deeds_are_learned();
         let last = last_number(&self.deeds, client);

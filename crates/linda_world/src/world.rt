@@ -1,6 +1,7 @@
 //! The world: its events one by one and in lists, and what it shows.
 
-ghost use Rattle.std.specs.Prelude.{◌≡◌, ◌≤◌, ◌<◌, [], Some, None, All, IfOk, OnOk, OnErr, true, false, length, option_copied};
+ghost use Rattle.std.specs.Prelude.{◌≡◌, ◌≤◌, ◌<◌, [], Some, None, All, IfOk, OnOk, OnErr, true};
+ghost use Rattle.std.specs.Prelude.{false, length, option_copied};
 ghost use Rattle.std.specs.Prelude.{map as map_list};
 ghost use Rattle.std.specs.Option.{option_map};
 ghost use Rattle.std.specs.List.{slice_get};
