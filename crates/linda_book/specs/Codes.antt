@@ -27,7 +27,9 @@ kept_again kept.Gone = refl
 
 -- the code of a kept reply
 abbrev pub kept_code : Coded KeptReply
-kept_code = code_by (Option (ℕ ⊎ (ℕ × Tuple))) (coded_option (coded⊎ coded_ℕ (coded× coded_ℕ tuple_code))) kept_parts kept_of_parts kept_again
+kept_code =
+    code_by (Option (ℕ ⊎ (ℕ × Tuple))) (coded_option (coded⊎ coded_ℕ (coded× coded_ℕ tuple_code)))
+    kept_parts kept_of_parts kept_again
 
 -- the code of a book
 abbrev pub book_code : Coded (map.FinMap nat_cmp Entry)

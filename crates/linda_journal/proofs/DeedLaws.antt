@@ -6,8 +6,8 @@ use Rattle.linda_codec.proofs.FormatLaws.{short_number_is, number_is, both_is, b
 use Rattle.linda_codec.proofs.ValueLaws.{tuple_is}
 use Rattle.linda_state.specs.declared.deed.Deed.{Deed}
 use Rattle.linda_state.specs.declared.deed.Deed.TheVariants.{Out, Take, Pass}
-use Rattle.linda_journal.specs.declared.kinds.TheConstants as kind
-use Rattle.linda_journal.specs.Records as format
+use Rattle.linda_state.specs.declared.kinds.TheConstants as kind
+use Rattle.linda_state.specs.DeedFormat as format
 
 out_is : IsFormat format.out
 out_is = both_is short_number_is (both_is number_is tuple_is)

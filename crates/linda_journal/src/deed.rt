@@ -4,11 +4,10 @@ ghost use Rattle.std.specs.Prelude.{◌≡◌, ◌∷◌, ◌++◌, ◌<◌, ◌
 ghost use Rattle.linda_codec.specs.Steps.{Gives, GivesAlways};
 ghost use Rattle.linda_codec.specs.Formats.{made_at, short_number, number};
 ghost use Rattle.linda_state.specs.declared.deed.Deed.TheVariants.{Out, Take, Pass};
-ghost use Rattle.linda_journal.specs.Records as format;
+ghost use Rattle.linda_state.specs.DeedFormat as format;
 
-use crate::kinds::{OUT, PASS, TAKE};
 use linda_codec::{ReadFault, put_tuple, read_tuple, read_u32, read_u64};
-use linda_state::Deed;
+use linda_state::{Deed, OUT, PASS, TAKE};
 use std::alloc::{AllocError, Global};
 
 /// Reads a deed, and gives the bytes after it.

@@ -1,5 +1,5 @@
 -- One deed that is allowed: the state that it leads to, which keeps the ranges of states.
-use Rattle.std.proofs.Common.{◌≡◌, ◌≢◌, ℕ, ◌+◌, ◌<◌, ◌≤◌, Bool, true, false, cond, ◌||◌, ◌==◌, List, [], ◌∷◌, Option, Some, None, IfSome, IsSome, is_some, map, option_to_list, inl, inr, refl, ap, sym, ◌∙◌, subst, arith, eq-eqb, ne_eqb, nat_cmp}
+use Rattle.std.proofs.Common.{◌≡◌, ◌≢◌, ℕ, ◌+◌, ◌<◌, ◌≤◌, Bool, true, false, cond, ◌||◌, ◌==◌, List, [], ◌∷◌, Option, Some, None, IfSome, IsSome, is_some, map, option_to_list, Result, Ok, Err, OnOk, inl, inr, refl, ap, sym, ◌∙◌, subst, arith, eq-eqb, ne_eqb, nat_cmp}
 use Rattle.std.proofs.lemmas.Bool.{cond-true, cases_lt, cases_eq}
 use Rattle.std.specs.FinMap.{FinMap, get, insert, remove, len}
 use Rattle.linda_wire.specs.declared.limits.TheConstants.{MAX_CLIENTS}
@@ -170,6 +170,11 @@ pass_at old st new c n id same is bag book next =
       book = λ q. ap (λ m. get m q) book ∙ d.book q;
       next = next ∙ d.next;
     })
+
+-- What follows from a fact of each value that a call may give.
+pub on_ok : {A E : Type 0} (P Q : Type 0) (r : Result A E) → (P → Q) → OnOk r P → OnOk r Q
+on_ok P Q (Ok x) f p = f p
+on_ok P Q (Err e) f p = tt
 
 -- A Take of a tuple that was found is the one deed that was done.
 pub take_found : (st new : State) (c n id : ℕ) (row : Tuple) (found : Option Tuple) → found ≡ Some row → IsAfter st (Take c n id ∷ []) new → IsAfter st (map (λ _. Take c n id) (option_to_list found)) new

@@ -7,7 +7,7 @@ use Rattle.linda_state.specs.declared.deed.Deed.TheVariants.{Out, Take, Pass}
 use Rattle.linda_state.specs.Deed.{outs_of, is_taken}
 use Rattle.linda_state.specs.State.{State, IsState}
 use Rattle.linda_state.specs.After.{IsAfter}
-use Rattle.linda_state.specs.Proper.{HasRoom, IsAllowed, IsProper}
+use Rattle.linda_state.specs.Proper.{HasRoom, IsAllowed, IsProper, AreDone}
 use Rattle.linda_state.proofs.DeedLaws.{outs_of-joined, is_taken-joined}
 use Rattle.linda_state.proofs.AfterLaws.{TakesBelow, none_after, one_after, more_after}
 use Rattle.linda_state.proofs.DoneLaws.{done, done_after, done_state}
@@ -105,3 +105,14 @@ pub proper_state : (st new : State) (ds : List Deed) → IsState st → IsProper
 proper_state st new ds is proper after =
     let there = reached st ds is proper in
     subst IsState (one_after st ds there.new new there.after after) there.state
+
+-- No deeds were done; one deed more was done; and no list goes on with a deed that is not allowed.
+pub none_done : (st : State) → IsState st → AreDone st [] st
+none_done st is = record { proper = none_proper st; after = none_after st is }
+
+pub more_done : (st mid new : State) (ds : List Deed) (d : Deed) → IsState st → AreDone st ds mid → IsAllowed mid d → IsAfter mid (d ∷ []) new → AreDone st (ds ++ d ∷ []) new
+more_done st mid new ds d is done allowed after =
+    record { proper = more_proper st mid ds d done.proper done.after allowed; after = more_after st mid new ds d done.after after (takes_below st ds is done.proper) }
+
+pub never_done : (st mid : State) (ds later : List Deed) (d : Deed) → AreDone st ds mid → (IsAllowed mid d → ⊥) → IsProper st (ds ++ d ∷ later) → ⊥
+never_done st mid ds later d done never proper = never (proper ds d later mid refl done.after)

@@ -9,7 +9,15 @@ use Rattle.linda_book.specs.Entries.{Entry}
 use Rattle.linda_book.specs.Codes.{book_code}
 use Rattle.linda_state.specs.State.{State}
 
+-- a state in parts, and their code
+abbrev pub StateParts : Type 0
+StateParts = map.FinMap nat_cmp Tuple × (map.FinMap nat_cmp Entry × ℕ)
+
+abbrev pub parts_code : Coded StateParts
+parts_code = coded× (map.code coded_ℕ tuple_code) (coded× book_code coded_ℕ)
+
 -- the code of a state
 abbrev pub state_code : Coded State
 state_code =
-    code_by (map.FinMap nat_cmp Tuple × (map.FinMap nat_cmp Entry × ℕ)) (coded× (map.code coded_ℕ tuple_code) (coded× book_code coded_ℕ)) (λ s. (s.bag, (s.book, s.next))) (λ p. record { bag = p.0; book = p.1.0; next = p.1.1 }) (λ _. refl)
+    code_by StateParts parts_code (λ s. (s.bag, (s.book, s.next)))
+    (λ p. record { bag = p.0; book = p.1.0; next = p.1.1 }) (λ _. refl)

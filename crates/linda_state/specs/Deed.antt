@@ -1,5 +1,6 @@
 -- Deeds, one by one and in lists: what they put, what they take, and whose they are.
-use Rattle.std.specs.Prelude.{ℕ, Bool, false, ◌==◌, ◌||◌, if◌then◌else◌, List, [], ◌∷◌, Option, Some, None}
+use Rattle.std.specs.Prelude.{ℕ, Bool, false, ◌==◌, ◌||◌, if◌then◌else◌}
+use Rattle.std.specs.Prelude.{List, [], ◌∷◌, Option, Some, None}
 use Rattle.linda_tuple.specs.Tuple.{Tuple}
 use Rattle.linda_state.specs.declared.deed.Deed.{Deed}
 use Rattle.linda_state.specs.declared.deed.Deed.TheVariants.{Out, Take, Pass}
@@ -15,6 +16,12 @@ abbrev pub number_of : Deed → ℕ
 number_of (Out client n tuple) = n
 number_of (Take client n id) = n
 number_of (Pass client n id) = n
+
+-- The deed puts a tuple.
+abbrev pub PutsTuple : Deed → Type 0
+PutsTuple (Out client n tuple) = Unit {0}
+PutsTuple (Take client n id) = ⊥
+PutsTuple (Pass client n id) = ⊥
 
 -- the tuples put, in order
 abbrev pub outs_of : List Deed → List Tuple

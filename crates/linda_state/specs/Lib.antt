@@ -4,3 +4,4 @@ pub mod After
 pub mod Proper
 pub mod Once
 pub mod Codes
+pub mod DeedFormat

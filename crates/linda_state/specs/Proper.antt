@@ -1,5 +1,5 @@
 -- Which lists of deeds a server can do.
-use Rattle.std.specs.Prelude.{◌≡◌, ◌+◌, ◌<◌, List, ◌∷◌, ◌++◌, None, IsSome}
+use Rattle.std.specs.Prelude.{◌≡◌, ℕ, ◌+◌, ◌<◌, List, ◌∷◌, ◌++◌, None, IsSome}
 use Rattle.std.specs.FinMap as map
 use Rattle.linda_wire.specs.declared.limits.TheConstants.{MAX_CLIENTS}
 use Rattle.linda_state.specs.declared.state.TheConstants.{NUMBER_LIMIT}
@@ -10,14 +10,20 @@ use Rattle.linda_state.specs.Deed.{client_of, number_of}
 use Rattle.linda_state.specs.State.{State}
 use Rattle.linda_state.specs.After.{IsAfter}
 
+-- The number is the client's next one and below the limit, and there is a place for the client.
+pub record IsNext (st : State) (c n : ℕ) : Type 0 where
+  pub number : n ≡ number_in (map.get st.book c) + 1
+  pub below : n < NUMBER_LIMIT
+  pub client : map.get st.book c ≡ None → map.len st.book < MAX_CLIENTS
+
 -- what a deed asks of the bag and of the next id
 abbrev pub HasRoom : State → Deed → Type 0
 HasRoom st (Out client n tuple) = st.next < NUMBER_LIMIT
 HasRoom st (Take client n id) = IsSome (map.get st.bag id)
 HasRoom st (Pass client n id) = Unit {0}
 
--- The deed may be done in this state: its number is the client's next and below the limit, a new client comes only while
--- there is a place for it, an Out only while there are ids, and a Take takes a tuple that is there.
+-- The deed may be done in this state: its number is the client's next and below the limit, a new client comes
+-- only while there is a place for it, an Out only while there are ids, and a Take takes a tuple that is there.
 pub record IsAllowed (st : State) (d : Deed) : Type 0 where
   pub number : number_of d ≡ number_in (map.get st.book (client_of d)) + 1
   pub below : number_of d < NUMBER_LIMIT
@@ -26,4 +32,11 @@ pub record IsAllowed (st : State) (d : Deed) : Type 0 where
 
 -- Each deed of the list is allowed in the state after those before it.
 abbrev pub IsProper : State → List Deed → Type 0
-IsProper st ds = (before : List Deed) (d : Deed) (later : List Deed) (mid : State) → ds ≡ before ++ d ∷ later → IsAfter st before mid → IsAllowed mid d
+IsProper st ds =
+    (before : List Deed) (d : Deed) (later : List Deed) (mid : State)
+    → ds ≡ before ++ d ∷ later → IsAfter st before mid → IsAllowed mid d
+
+-- These deeds are a proper list from the first state, and lead to the other.
+pub record AreDone (st : State) (ds : List Deed) (new : State) : Type 0 where
+  pub proper : IsProper st ds
+  pub after : IsAfter st ds new

@@ -2,17 +2,24 @@
 //!
 //! - A `State` is a bag of tuples, a book with the last reply to each client, and the next id: what a
 //!   server keeps over a restart.
-//! - A `Deed` is one change of it. `State::put`, `State::take` and `State::pass` do one each; the state
-//!   after a list of deeds is what `specs/After` says, whatever the code did to get there.
+//! - A `Deed` is one change of it. `State::put`, `State::take` and `State::pass` do one each, and
+//!   `State::redo` does one again that was written down; the state after a list of deeds is what
+//!   `specs/After` says, whatever the code did to get there.
 //! - `specs/Proper` says which lists of deeds a server can do. What follows for these lists is told by
 //!   the functions of `laws`.
 #![tactic(auto)]
 
 mod deed;
+mod kinds;
 mod laws;
+mod limits;
+mod size;
 mod state;
 
 pub use deed::Deed;
-pub use laws::{no_tuple_is_taken_twice, proper_lists_keep_the_ranges};
+pub use kinds::{OUT, PASS, TAKE};
+pub use laws::{deeds_are_done_one_by_one, no_tuple_is_taken_twice, proper_lists_keep_the_ranges};
+pub use limits::{HEAD_BYTES, ID_BYTES, MAX_DEED_BYTES, MAX_TUPLE_BYTES};
 pub use linda_book::{Book, Class, KeptReply};
+pub use size::{deed_len, tuple_len};
 pub use state::{NUMBER_LIMIT, State};

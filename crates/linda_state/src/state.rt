@@ -3,17 +3,20 @@
 //!
 //! All that may fail comes before the first change.
 
-ghost use Rattle.std.specs.Prelude.{◌≡◌, ◌∷◌, [], None, ℕ, IfOk, OnOk, OnErr, map, option_to_list};
+ghost use Rattle.std.specs.Prelude.{◌≡◌, ◌∷◌, [], None, ℕ, true, false};
+ghost use Rattle.std.specs.Prelude.{IfOk, OnOk, OnErr, map, option_to_list};
 ghost use Rattle.std.specs.FinMap as maps;
 ghost use Rattle.linda_book.specs.declared.kept.KeptReply.TheVariants as kept_replies;
 ghost use Rattle.linda_state.specs.declared.deed.Deed.TheVariants as deeds;
 ghost use Rattle.linda_state.specs.State.{IsState, empty_state};
 ghost use Rattle.linda_state.specs.After.{IsAfter};
-ghost use Rattle.linda_state.specs.Proper.{IsAllowed};
+ghost use Rattle.linda_state.specs.Proper.{IsAllowed, IsNext};
 
+use crate::deed::Deed;
 use linda_bag::Bag;
 use linda_book::{Book, KeptReply};
 use linda_tuple::Tuple;
+use linda_wire::MAX_CLIENTS;
 use std::alloc::{AllocError, Global};
 use std::marker::Model;
 
@@ -114,6 +117,76 @@ impl<B: Bag> State<B> {
         ensures err { OnErr result (self.new ≡ self.old) }
     {
         self.book.keep(client, n, KeptReply::Gone)
+    }
+
+    /// Does the deed, where it is allowed in this state, and tells whether it is. Where it is not, the
+    /// state is as before. So a list of deeds is done again by one call for each.
+    ///
+    /// # Errors
+    ///
+    /// `AllocError` where memory runs out, and then the state is as before. It comes only for a deed
+    /// that is allowed.
+    #[tactic(auto, using(crate::proofs::DoneLaws::one_state))]
+    pub fn redo(&mut self, alloc: Global, deed: &Deed) -> Result<bool, AllocError>
+        requires { IsState self.old }
+        ensures done { IfOk result (λ done. done ≡ true
+            → IsAllowed self.old deed.now × IsAfter self.old (deed.now ∷ []) self.new) }
+        ensures refused { IfOk result (λ done. done ≡ false
+            → (IsAllowed self.old deed.now → ⊥) × (self.new ≡ self.old)) }
+        ensures ranges { OnOk result (IsState self.new) }
+        ensures err { OnErr result (IsAllowed self.old deed.now × (self.new ≡ self.old)) }
+    {
+        if !self.is_allowed(deed) {
+            return Ok(false);
+        }
+        self.do_again(alloc, deed)?;
+        Ok(true)
+    }
+
+    // Does a deed that is allowed.
+    fn do_again(&mut self, alloc: Global, deed: &Deed) -> Result<(), AllocError>
+        requires state { IsState self.old }
+        requires allowed { IsAllowed self.old deed.now }
+        ensures after { OnOk result (IsAfter self.old (deed.now ∷ []) self.new) }
+        ensures err { OnErr result (self.new ≡ self.old) }
+    {
+        match deed {
+            Deed::Out { client, n, tuple } => {
+                let stored = tuple.try_clone(alloc)?;
+                self.put(*client, *n, stored)
+            }
+            Deed::Take { client, n, id } => {
+                let _taken = self.take(alloc, *client, *n, *id)?;
+                Ok(())
+            }
+            Deed::Pass { client, n, .. } => self.pass(*client, *n),
+        }
+    }
+
+    // Whether the deed may be done in this state.
+    fn is_allowed(&self, deed: &Deed) -> bool
+        ensures yes { result ≡ true → IsAllowed self.now deed.now }
+        ensures no { result ≡ false → IsAllowed self.now deed.now → ⊥ }
+    {
+        match deed {
+            Deed::Out { client, n, .. } => { self.is_next(*client, *n) && self.next < NUMBER_LIMIT }
+            Deed::Take { client, n, id } => {
+                self.is_next(*client, *n) && self.bag.get(*id).is_some()
+            }
+            Deed::Pass { client, n, .. } => self.is_next(*client, *n),
+        }
+    }
+
+    // Whether the number is the client's next one and below the limit, and there is a place for the client.
+    fn is_next(&self, client: u32, n: u64) -> bool
+        ensures yes { result ≡ true → IsNext self.now client n }
+        ensures no { result ≡ false → IsNext self.now client n → ⊥ }
+    {
+        let last = self.book.last(client);
+        n > 0
+            && n - 1 == last
+            && n < NUMBER_LIMIT
+            && (self.book.len() < MAX_CLIENTS || self.book.kept(client).is_some())
     }
 }
 

@@ -21,3 +21,5 @@ pub mod WaitLaws
 pub mod GrowthLaws
 pub mod OutcomeLaws
 pub mod CourseLaws
+pub mod SizeLaws
+pub mod DemandLaws

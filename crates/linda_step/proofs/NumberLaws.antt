@@ -34,7 +34,7 @@ unmapped f (Some x) none = absurd (none-some (f x) (sym none))
 not_below_zero : (n : ℕ) → 0 < n → n ≡ 0 → ⊥
 not_below_zero n some none = omega (arith, some, none)
 
-fresh : (st : State) (c n : ℕ) (is_spent : Bool) → without_deed st c n is_spent (class_in st c n) ≡ None → IsFresh st c n is_spent
+pub fresh : (st : State) (c n : ℕ) (is_spent : Bool) → without_deed st c n is_spent (class_in st c n) ≡ None → IsFresh st c n is_spent
 fresh st c n is_spent = by (class_in st c n) (class_means (last_number st c) n)
   where
     by : (class : Class) → IsClass (last_number st c) n class → without_deed st c n is_spent class ≡ None → IsFresh st c n is_spent

@@ -1,5 +1,6 @@
--- What a server answers to one message: the deed, if it does one, what it sends, and what it holds and lets wait then.
-use Rattle.std.specs.Prelude.{◌≡◌, ℕ, Bool, ◌==◌, false, nat_lt, nat_le, not, ◌&&◌, ◌||◌, if◌then◌else◌, List, [], ◌∷◌, Option, Some, None, option_to_list}
+-- What a server answers to one message: the deed, if it does one, what it sends, and what it holds and lets wait.
+use Rattle.std.specs.Prelude.{◌≡◌, ℕ, Bool, ◌==◌, false, nat_lt, nat_le, not, ◌&&◌, ◌||◌, if◌then◌else◌}
+use Rattle.std.specs.Prelude.{List, [], ◌∷◌, Option, Some, None, option_to_list}
 use Rattle.std.specs.FinMap as map
 use Rattle.std.specs.Option.{option_map}
 use Rattle.linda_wire.specs.declared.limits.TheConstants.{MAX_CLIENTS, VERSION}
@@ -62,11 +63,12 @@ greeting st c version fresh =
     else (if is_one_too_many st c then (refused refusals.TooManyClients)
     else replies.Welcome (last_number st c)))
 
--- The reply to a numbered message that makes no deed, by the class of its number; none where the deed is done. A fresh one is
--- refused where its client is one too many, or else where numbers or ids are spent for it.
+-- The reply to a numbered message that makes no deed, by the class of its number; none where the deed is done. A
+-- fresh one is refused where its client is one too many, or else where numbers or ids are spent for it.
 abbrev pub without_deed : State → ℕ → ℕ → Bool → Class → Option Reply
 without_deed st c n is_spent (classes.Old last) = Some ((refused (refusals.Old last)))
-without_deed st c n is_spent classes.Kept = option_map (λ (e : Entry). reply_of_kept n e.1) (map.get st.book c)
+without_deed st c n is_spent classes.Kept =
+    option_map (λ (e : Entry). reply_of_kept n e.1) (map.get st.book c)
 without_deed st c n is_spent (classes.Gap last) = Some ((refused (refusals.Gap last)))
 without_deed st c n is_spent classes.Fresh =
     if is_one_too_many st c then Some (refused refusals.TooManyClients)
@@ -79,19 +81,24 @@ class_in st c n = class_of (last_number st c) n
 
 -- the reply to an Out that makes no deed: an Out needs a number and an id
 abbrev pub out_without_deed : State → ℕ → ℕ → Option Reply
-out_without_deed st c n = without_deed st c n ((n == NUMBER_LIMIT) || (st.next == NUMBER_LIMIT)) (class_in st c n)
+out_without_deed st c n =
+    without_deed st c n ((n == NUMBER_LIMIT) || (st.next == NUMBER_LIMIT)) (class_in st c n)
 
 -- the reply to an Accept that makes no deed: an Accept needs a number
 abbrev pub accept_without_deed : State → ℕ → ℕ → Option Reply
 accept_without_deed st c n = without_deed st c n (n == NUMBER_LIMIT) (class_in st c n)
 
--- The answer to an Out, given the reply where it makes no deed. Where it does, the tuple is put under the next id, and the
--- client's reply comes before those to others.
+-- The answer to an Out, given the reply where it makes no deed. Where it does, the tuple is put under the next id,
+-- and the client's reply comes before those to others.
 abbrev pub on_out : State → ℕ → ℕ → Tuple → Option Reply → Soft → Answer
 on_out st c n tuple (Some reply) soft = only_reply c reply soft
 on_out st c n tuple None soft =
     let told : Sends = dispatch st.next tuple soft in
-    record { deed = Some (deeds.Out c n tuple); sends = (c, replies.Stored n st.next) ∷ told.sends; soft = told.soft }
+    record {
+      deed = Some (deeds.Out c n tuple);
+      sends = (c, replies.Stored n st.next) ∷ told.sends;
+      soft = told.soft;
+    }
 
 -- whether this is the pair that a tuple is held for
 abbrev pub is_for : ℕ × ℕ → Option (ℕ × ℕ) → Bool
@@ -102,12 +109,17 @@ is_for pair (Some other) = same_pair other pair
 abbrev pub held_tuple : State → ℕ × ℕ → ℕ → Soft → Option Tuple
 held_tuple st pair id soft = if is_for pair (map.get soft.holds id) then map.get st.bag id else None
 
--- An accepted offer, given its tuple where it is held for the client: the tuple is taken and its hold is gone; or the offer is gone,
--- and nothing else changes.
+-- An accepted offer, given its tuple where it is held for the client: the tuple is taken and its hold is gone; or
+-- the offer is gone, and nothing else changes.
 abbrev pub take_or_pass : ℕ → ℕ → ℕ → Option Tuple → Soft → Answer
 take_or_pass c n id (Some row) soft =
-    record { deed = Some (deeds.Take c n id); sends = (c, replies.Taken n id row) ∷ []; soft = record { holds = map.remove soft.holds id; waits = soft.waits } }
-take_or_pass c n id None soft = record { deed = Some (deeds.Pass c n id); sends = (c, replies.Gone n) ∷ []; soft = soft }
+    record {
+      deed = Some (deeds.Take c n id);
+      sends = (c, replies.Taken n id row) ∷ [];
+      soft = record { holds = map.remove soft.holds id; waits = soft.waits };
+    }
+take_or_pass c n id None soft =
+    record { deed = Some (deeds.Pass c n id); sends = (c, replies.Gone n) ∷ []; soft = soft }
 
 -- the answer to an Accept, given the reply where it makes no deed
 abbrev pub on_accept : State → ℕ → ℕ → ℕ → ℕ → Option Reply → Soft → Answer
@@ -120,11 +132,16 @@ Tells says answered = (told : Sends) × (says told × (answered ≡ only_sends t
 
 -- The answer to a message of a client.
 abbrev pub IsAnswer : State → Soft → ℕ → Message → Answer → Type 0
-IsAnswer st soft c (messages.Hello version client fresh) answered = answered ≡ only_reply c (greeting st c version fresh) soft
-IsAnswer st soft c (messages.Out n tuple) answered = answered ≡ on_out st c n tuple (out_without_deed st c n) soft
-IsAnswer st soft c (messages.Accept n ticket id) answered = answered ≡ on_accept st c n ticket id (accept_without_deed st c n) soft
-IsAnswer st soft c (messages.Ask ticket remove template) answered = Tells (AnswersAsk st.bag (c, ticket) remove template soft) answered
-IsAnswer st soft c (messages.Cancel ticket) answered = Tells (AnswersCancel st.bag (c, ticket) soft) answered
+IsAnswer st soft c (messages.Hello version client fresh) answered =
+    answered ≡ only_reply c (greeting st c version fresh) soft
+IsAnswer st soft c (messages.Out n tuple) answered =
+    answered ≡ on_out st c n tuple (out_without_deed st c n) soft
+IsAnswer st soft c (messages.Accept n ticket id) answered =
+    answered ≡ on_accept st c n ticket id (accept_without_deed st c n) soft
+IsAnswer st soft c (messages.Ask ticket remove template) answered =
+    Tells (AnswersAsk st.bag (c, ticket) remove template soft) answered
+IsAnswer st soft c (messages.Cancel ticket) answered =
+    Tells (AnswersCancel st.bag (c, ticket) soft) answered
 
 -- One step of a server: this is the answer, and the new state is the old one after its deed.
 pub record IsStep (st : State) (soft : Soft) (c : ℕ) (m : Message) (answered : Answer) (new : State) : Type 0 where

@@ -1,5 +1,6 @@
 -- What a server answers to an Ask and to a Cancel, given what they look up.
-use Rattle.std.specs.Prelude.{◌≡◌, ℕ, Bool, nat_le, if◌then◌else◌, List, [], ◌∷◌, ◌++◌, map, Option, Some, None, option_to_list}
+use Rattle.std.specs.Prelude.{◌≡◌, ℕ, Bool, nat_le, if◌then◌else◌, List, [], ◌∷◌, ◌++◌, map}
+use Rattle.std.specs.Prelude.{Option, Some, None, option_to_list}
 use Rattle.std.specs.FinMap as maps
 use Rattle.linda_wire.specs.Refusal.{refused}
 use Rattle.linda_wire.specs.declared.refusal.Refusal.TheVariants as refusals
@@ -29,26 +30,33 @@ only_sent sends soft = record { sends = sends; soft = soft }
 abbrev pub wait_of : ℕ × ℕ → Bool → Template → Wait
 wait_of pair remove shape = (pair, record { remove = remove; template = shape })
 
--- A new request, given the least tuple that it can have: an input is offered it and holds it, a read is answered with it;
--- with no such tuple the request waits, last in order.
+-- A new request, given the least tuple that it can have: an input is offered it and holds it, a read is answered
+-- with it; with no such tuple the request waits, last in order.
 abbrev pub serve : Bagged → ℕ × ℕ → Bool → Template → Option ℕ → Soft → Sends
 serve bag pair remove shape (Some id) soft =
-    if remove then record { sends = offer_of bag id pair; soft = record { holds = maps.insert soft.holds id pair; waits = soft.waits } }
+    if remove
+    then record {
+      sends = offer_of bag id pair;
+      soft = record { holds = maps.insert soft.holds id pair; waits = soft.waits };
+    }
     else only_sent (read_of bag id pair) soft
-serve bag pair remove shape None soft = no_sends (record { holds = soft.holds; waits = soft.waits ++ wait_of pair remove shape ∷ [] })
+serve bag pair remove shape None soft =
+    no_sends (record { holds = soft.holds; waits = soft.waits ++ wait_of pair remove shape ∷ [] })
 
--- An Ask, given the tuple that its ticket holds and the least one that it can have: the first case that holds. A ticket that
--- holds is offered its tuple again; one that waits is sent nothing; a client with as many open asks as it may have is refused;
--- and what is left is a new request.
+-- An Ask, given the tuple that its ticket holds and the least one that it can have: the first case that holds. A
+-- ticket that holds is offered its tuple again; one that waits is sent nothing; a client with as many open asks as
+-- it may have is refused; and what is left is a new request.
 abbrev pub on_ask : Bagged → ℕ × ℕ → Bool → Template → Option ℕ → Option ℕ → Soft → Sends
 on_ask bag pair remove shape (Some id) least soft = only_sent (offer_of bag id pair) soft
 on_ask bag pair remove shape None least soft =
     if is_waiting pair soft.waits then no_sends soft
-    else (if nat_le MAX_ASKS (open_asks pair.0 soft) then only_sent ((pair.0, (refused (refusals.TooManyAsks pair.1))) ∷ []) soft
+    else (if nat_le MAX_ASKS (open_asks pair.0 soft)
+    then only_sent ((pair.0, refused (refusals.TooManyAsks pair.1)) ∷ []) soft
     else serve bag pair remove shape least soft)
 
 -- What is told for an Ask of a client with a ticket.
-pub record AnswersAsk (bag : Bagged) (pair : ℕ × ℕ) (remove : Bool) (shape : Template) (soft : Soft) (told : Sends) : Type 0 where
+pub record AnswersAsk (bag : Bagged) (pair : ℕ × ℕ) (remove : Bool) (shape : Template) (soft : Soft)
+    (told : Sends) : Type 0 where
   pub held : Option ℕ
   pub is_held : IsHeldAt soft.holds pair held
   pub least : Option ℕ

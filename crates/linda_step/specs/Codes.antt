@@ -10,4 +10,5 @@ use Rattle.linda_step.specs.Soft.{Soft}
 -- the code of holds and waits
 abbrev pub soft_code : Coded Soft
 soft_code =
-    code_by (HeldFor × List Wait) (coded× (map.code coded_ℕ (coded× coded_ℕ coded_ℕ)) (coded_list wait_code)) (λ s. (s.holds, s.waits)) (λ p. record { holds = p.0; waits = p.1 }) (λ _. refl)
+    code_by (HeldFor × List Wait) (coded× (map.code coded_ℕ (coded× coded_ℕ coded_ℕ)) (coded_list wait_code))
+    (λ s. (s.holds, s.waits)) (λ p. record { holds = p.0; waits = p.1 }) (λ _. refl)

@@ -1,4 +1,5 @@
--- What happens to a tuple that is new or free again, to one whose request is given up, and to all that a client asked.
+-- What happens to a tuple that is new or free again, to one whose request is given up, and to all that a client
+-- asked.
 use Rattle.std.specs.Prelude.{ℕ, List, [], ◌∷◌, ◌++◌, map, Option, Some, None, option_to_list, if◌then◌else◌}
 use Rattle.std.specs.FinMap as maps
 use Rattle.linda_tuple.specs.Tuple.{Tuple}
@@ -30,18 +31,22 @@ abbrev pub held_for : ℕ → Option Wait → Soft → Soft
 held_for id None soft = soft
 held_for id (Some w) soft = record { holds = maps.insert soft.holds id w.0; waits = without w.0 soft.waits }
 
--- A tuple is new or free: each waiting read that it matches is answered, in order of arrival, and waits no longer; then it
--- is offered to the longest waiting input that it matches, and held for it.
+-- A tuple is new or free: each waiting read that it matches is answered, in order of arrival, and waits no
+-- longer; then it is offered to the longest waiting input that it matches, and held for it.
 abbrev pub dispatch : ℕ → Tuple → Soft → Sends
 dispatch id row soft = record {
-  sends = map (read_to id row) (readers row soft.waits) ++ map (offer_to id row) (option_to_list (longest row soft.waits));
-  soft = held_for id (longest row soft.waits) (record { holds = soft.holds; waits = without_readers row soft.waits });
+  sends =
+      map (read_to id row) (readers row soft.waits)
+      ++ map (offer_to id row) (option_to_list (longest row soft.waits));
+  soft =
+      held_for id (longest row soft.waits) (record { holds = soft.holds; waits = without_readers row soft.waits });
 }
 
 -- the tuple under this id, if the bag has it, is held no longer, and is free
 abbrev pub release_tuple : ℕ → Option Tuple → Soft → Sends
 release_tuple id None soft = no_sends soft
-release_tuple id (Some row) soft = dispatch id row (record { holds = maps.remove soft.holds id; waits = soft.waits })
+release_tuple id (Some row) soft =
+    dispatch id row (record { holds = maps.remove soft.holds id; waits = soft.waits })
 
 -- The hold of a tuple is released.
 abbrev pub release : Bagged → ℕ → Soft → Sends
@@ -55,7 +60,8 @@ release_if bag (Some id) soft = release bag id soft
 -- A request is given up, given what is held for it: it waits no longer, or what was held for it is released.
 abbrev pub on_cancel : Bagged → ℕ × ℕ → Option ℕ → Soft → Sends
 on_cancel bag pair held soft =
-    if is_waiting pair soft.waits then no_sends (record { holds = soft.holds; waits = without pair soft.waits })
+    if is_waiting pair soft.waits
+    then no_sends (record { holds = soft.holds; waits = without pair soft.waits })
     else release_if bag held soft
 
 -- one after the other
@@ -70,4 +76,5 @@ release_all bag (id ∷ ids) soft = sends_then (release bag id soft) (release_al
 -- All that a client asked is given up: first its waits, then its holds by rising id.
 abbrev pub on_close : Bagged → ℕ → Soft → Sends
 on_close bag client soft =
-    release_all bag (held_in client (maps.entries soft.holds)) (record { holds = soft.holds; waits = without_client client soft.waits })
+    release_all bag (held_in client (maps.entries soft.holds))
+    (record { holds = soft.holds; waits = without_client client soft.waits })

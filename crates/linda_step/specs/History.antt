@@ -1,4 +1,4 @@
--- What comes to a server, one thing after another: all deeds and all sends, in order, and where that leaves the server.
+-- What comes to a server, one thing after another: all deeds and sends, in order, and where that leaves it.
 use Rattle.std.specs.Prelude.{◌≡◌, ℕ, List, [], ◌∷◌, ◌++◌, map, option_to_list}
 use Rattle.linda_wire.specs.declared.message.Message.{Message}
 use Rattle.linda_wire.specs.declared.reply.Reply.{Reply}
@@ -25,9 +25,13 @@ pub record History : Type 0 where
   pub soft : Soft
   pub state : State
 
+-- a server with the deeds and sends that led there
+abbrev pub history_of : State → Soft → List Deed → List (ℕ × Reply) → History
+history_of st soft deeds sends = record { deeds = deeds; sends = sends; soft = soft; state = st }
+
 -- nothing has come yet
 abbrev pub nothing_yet : State → Soft → History
-nothing_yet st soft = record { deeds = []; sends = []; soft = soft; state = st }
+nothing_yet st soft = history_of st soft [] []
 
 -- what the first thing led to, and then the others
 abbrev pub first_then : Answer → History → History
@@ -42,7 +46,8 @@ first_then first later = record {
 abbrev pub Happens : State → Soft → List Coming → History → Type 0
 Happens st soft [] all = all ≡ nothing_yet st soft
 Happens st soft (x ∷ xs) all =
-    (first : Answer) × ((mid : State) × ((later : History) × (Comes st soft x first mid × (Happens mid first.soft xs later × (all ≡ first_then first later)))))
+    (first : Answer) × ((mid : State) × ((later : History)
+    × (Comes st soft x first mid × (Happens mid first.soft xs later × (all ≡ first_then first later)))))
 
 -- messages with their clients, as they come
 abbrev pub comings : List (ℕ × Message) → List Coming
@@ -53,7 +58,8 @@ abbrev pub Answers : State → Soft → List (ℕ × Message) → History → Ty
 Answers st soft ms all = Happens st soft (comings ms) all
 
 -- One thing more came to a server, behind these deeds and sends, and all is this then.
-pub record IsOneMore (st : State) (soft : Soft) (x : Coming) (deeds : List Deed) (sends : List (ℕ × Reply)) (all : History) : Type 0 where
+pub record IsOneMore (st : State) (soft : Soft) (x : Coming) (deeds : List Deed) (sends : List (ℕ × Reply))
+    (all : History) : Type 0 where
   pub answer : Answer
   pub comes : Comes st soft x answer all.state
   pub deeds_are : all.deeds ≡ deeds ++ option_to_list answer.deed

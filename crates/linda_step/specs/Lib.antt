@@ -8,3 +8,4 @@ pub mod Store
 pub mod History
 pub mod Course
 pub mod Promises
+pub mod Size

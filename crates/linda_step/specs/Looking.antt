@@ -7,9 +7,10 @@ use Rattle.linda_hold.specs.Waits.{Wait}
 use Rattle.linda_hold.specs.Holds.{HeldFor}
 use Rattle.linda_step.specs.Soft.{Soft, Bagged}
 
--- The least id of a tuple that the template matches and that is not passed over; none where there is no such tuple.
+-- The least id of a tuple that the template matches and that is not passed over; none where there is no such one.
 abbrev pub IsLeast : Bagged → Template → (ℕ → Bool) → Option ℕ → Type 0
-IsLeast bag shape passed (Some id) = IsFreeMatch bag shape passed id × ((k : ℕ) → k < id → IsFreeMatch bag shape passed k → ⊥)
+IsLeast bag shape passed (Some id) =
+    IsFreeMatch bag shape passed id × ((k : ℕ) → k < id → IsFreeMatch bag shape passed k → ⊥)
 IsLeast bag shape passed None = (k : ℕ) → IsFreeMatch bag shape passed k → ⊥
 
 -- What a request passes over: an input the tuples that are held, a read nothing.
@@ -18,4 +19,5 @@ passed_over remove holds id = remove && is_some (map.get holds id)
 
 -- Nobody waits in vain: for each request that waits there is no tuple that it can have.
 abbrev pub IsAtRest : Bagged → Soft → Type 0
-IsAtRest bag soft = All (λ (w : Wait). IsLeast bag w.1.template (passed_over w.1.remove soft.holds) None) soft.waits
+IsAtRest bag soft =
+    All (λ (w : Wait). IsLeast bag w.1.template (passed_over w.1.remove soft.holds) None) soft.waits

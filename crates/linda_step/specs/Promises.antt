@@ -22,8 +22,8 @@ pub record IsAnsweredAsKept (c : ℕ) (sends : List (ℕ × Reply)) (st : State)
   pub kept : map.get st.book c ≡ Some entry
   pub first : sends ≡ (c, reply_of_kept entry.0 entry.1) ∷ others
 
--- A history from a state: the deeds are a proper list, the server is in the state after them and in order, and no tuple was taken
--- by two of them.
+-- A history from a state: the deeds are a proper list, the server is in the state after them and in order, and no
+-- tuple was taken by two of them.
 pub record IsSafe (st : State) (all : History) : Type 0 where
   pub proper : IsProper st all.deeds
   pub after : IsAfter st all.deeds all.state

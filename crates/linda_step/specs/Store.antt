@@ -22,4 +22,6 @@ pub record Store : Type 0 where
 
 -- the code of a store
 abbrev pub store_code : Coded Store
-store_code = code_by (State × (Soft × Bool)) (coded× state_code (coded× soft_code coded_bool)) (λ s. (s.state, (s.soft, s.is_spent))) (λ p. record { state = p.0; soft = p.1.0; is_spent = p.1.1 }) (λ _. refl)
+store_code =
+    code_by (State × (Soft × Bool)) (coded× state_code (coded× soft_code coded_bool))
+    (λ s. (s.state, (s.soft, s.is_spent))) (λ p. record { state = p.0; soft = p.1.0; is_spent = p.1.1 }) (λ _. refl)

@@ -10,6 +10,7 @@
 
 mod kept;
 mod laws;
+mod size;
 mod soft;
 mod step;
 mod store;
@@ -20,6 +21,7 @@ pub use laws::{
     no_history_takes_a_tuple_twice, no_history_with_stops_takes_a_tuple_twice, one_answer,
     steps_do_proper_lists, steps_keep_order,
 };
+pub use size::MAX_BATCH;
 pub use step::{Step, Steps};
 pub use store::Store;
 

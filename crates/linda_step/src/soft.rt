@@ -107,7 +107,8 @@ impl Soft {
         sends: &mut Vec<(u32, Reply)>,
     ) -> Result<(), AllocError>
         requires { AreApart self.old }
-        ensures sends { OnOk result (sends.new.items ≡ sends.old.items ++ (release (B.contents bag.now) id self.old).sends) }
+        ensures sends { OnOk result (sends.new.items
+            ≡ sends.old.items ++ (release (B.contents bag.now) id self.old).sends) }
         ensures soft { OnOk result (self.new ≡ (release (B.contents bag.now) id self.old).soft) }
         ensures apart { OnOk result (AreApart self.new) }
     {
@@ -129,7 +130,8 @@ impl Soft {
         sends: &mut Vec<(u32, Reply)>,
     ) -> Result<(), AllocError>
         requires { AreApart self.old }
-        ensures sends { OnOk result (sends.new.items ≡ sends.old.items ++ (release_all (B.contents bag.now) ids.items self.old).sends) }
+        ensures sends { OnOk result (sends.new.items
+            ≡ sends.old.items ++ (release_all (B.contents bag.now) ids.items self.old).sends) }
         ensures soft { OnOk result (self.new ≡ (release_all (B.contents bag.now) ids.items self.old).soft) }
     {
         for id in ids {
@@ -152,7 +154,8 @@ impl Soft {
         ticket: u64,
     ) -> Result<Vec<(u32, Reply)>, AllocError>
         requires { AreApart self.old }
-        ensures { IfOk result (λ sends. AnswersCancel (B.contents bag.now) (client, ticket) self.old (record { sends = sends.items; soft = self.new })) }
+        ensures { IfOk result (λ sends. AnswersCancel (B.contents bag.now) (client, ticket) self.old
+            (record { sends = sends.items; soft = self.new })) }
     {
         let mut sends = Vec::new(alloc);
         let held = self.holds.find(client, ticket);
@@ -177,7 +180,8 @@ impl Soft {
         client: u32,
     ) -> Result<Vec<(u32, Reply)>, AllocError>
         requires { AreApart self.old }
-        ensures { IfOk result (λ sends. let t : Sends = record { sends = sends.items; soft = self.new } in t ≡ on_close (B.contents bag.now) client self.old) }
+        ensures { IfOk result (λ sends. let t : Sends = record { sends = sends.items; soft = self.new }
+            in t ≡ on_close (B.contents bag.now) client self.old) }
     {
         let mut sends = Vec::new(alloc);
         self.waits.remove_client(client);
@@ -195,7 +199,8 @@ fn answer_reads(
     tuple: &Tuple,
     sends: &mut Vec<(u32, Reply)>,
 ) -> Result<(), AllocError>
-    ensures { OnOk result (sends.new.items ≡ sends.old.items ++ map (λ pair. (pair.0, replies.Read pair.1 id tuple.now)) readers.items) }
+    ensures { OnOk result (sends.new.items
+        ≡ sends.old.items ++ map (λ pair. (pair.0, replies.Read pair.1 id tuple.now)) readers.items) }
 {
     for (client, ticket) in readers {
         let tuple = tuple.try_clone(alloc)?;

@@ -1,13 +1,16 @@
 //! The store of a server: a state that keeps its ranges, changed by one message after another.
 
-ghost use Rattle.std.specs.Prelude.{◌≡◌, ◌++◌, true, false, IfOk, OnOk, OnErr, IsErr, option_to_list};
+ghost use Rattle.std.specs.Prelude.{◌≡◌, ◌≤◌, ◌++◌, true, false, length};
+ghost use Rattle.std.specs.Prelude.{IfOk, OnOk, OnErr, IsErr, option_to_list};
+ghost use Rattle.linda_state.specs.DeedFormat.{payload};
 ghost use Rattle.linda_state.specs.State.{IsState, empty_state};
 ghost use Rattle.linda_step.specs.Soft.{no_asks};
 ghost use Rattle.linda_step.specs.Dispatch.{on_close};
 ghost use Rattle.linda_step.specs.Answer.{IsStep};
-ghost use Rattle.linda_step.specs.History.{Answers, IsOneMore, says};
+ghost use Rattle.linda_step.specs.History.{History, Answers, IsOneMore, says, history_of};
 ghost use Rattle.linda_step.specs.Store.{IsOrderly};
 
+use crate::size::{self, MAX_BATCH};
 use crate::soft::Soft;
 use crate::step::{Step, Steps, answer_message};
 use linda_bag::Bag;
@@ -82,7 +85,8 @@ impl<B: Bag> Store<B> {
         client: u32,
         message: &Message,
     ) -> Result<Step, AllocError>
-        ensures ok { IfOk result (λ s. IsStep self.old.state self.old.soft client message.now (record { deed = s.deed; sends = s.sends.items; soft = self.new.soft }) self.new.state) }
+        ensures ok { IfOk result (λ s. IsStep self.old.state self.old.soft client message.now
+            (record { deed = s.deed; sends = s.sends.items; soft = self.new.soft }) self.new.state) }
         ensures unspent { OnOk result ((self.old.is_spent ≡ false) × (self.new.is_spent ≡ false)) }
         ensures err { OnErr result ((self.new.state ≡ self.old.state) × (self.new.is_spent ≡ true)) }
         ensures dropped { OnErr result (self.old.is_spent ≡ false → self.new.soft ≡ no_asks) }
@@ -113,7 +117,7 @@ impl<B: Bag> Store<B> {
         messages: &[(u32, Message)],
     ) -> Result<Steps, AllocError>
         ensures ok { IfOk result (λ s. Answers self.old.state self.old.soft messages.now
-            (record { deeds = s.deeds.items; sends = s.sends.items; soft = self.new.soft; state = self.new.state })) }
+            (history_of self.new.state self.new.soft s.deeds.items s.sends.items)) }
         ensures unspent { OnOk result ((self.old.is_spent ≡ false) × (self.new.is_spent ≡ false)) }
         ensures err { OnErr result (self.new.is_spent ≡ true) }
         ensures dropped { OnErr result (self.old.is_spent ≡ false → self.new.soft ≡ no_asks) }
@@ -138,6 +142,17 @@ impl<B: Bag> Store<B> {
         Ok(steps)
     }
 
+    /// How many bytes the deeds of the messages will spell, each of its client, one after another, as
+    /// `step_all` does them. Takes no memory, and changes nothing.
+    #[tactic(auto, using(crate::proofs::DemandLaws::all_bytes))]
+    pub fn size_of(&self, messages: &[(u32, Message)]) -> u64
+        requires { length messages.now ≤ MAX_BATCH }
+        ensures { (all : History) → Answers self.now.state self.now.soft messages.now all
+            → result ≡ length (payload all.deeds) }
+    {
+        size::bytes_of(&self.state, messages) as u64
+    }
+
     // Does one message more.
     fn add_step(
         &mut self,
@@ -149,7 +164,7 @@ impl<B: Bag> Store<B> {
         requires { self.old.is_spent ≡ false }
         ensures ok { OnOk result (IsOneMore self.old.state self.old.soft (says client message.now)
             steps.old.deeds.items steps.old.sends.items
-            (record { deeds = steps.new.deeds.items; sends = steps.new.sends.items; soft = self.new.soft; state = self.new.state })) }
+            (history_of self.new.state self.new.soft steps.new.deeds.items steps.new.sends.items)) }
         ensures unspent { OnOk result (self.new.is_spent ≡ false) }
     {
         let step = self.step(alloc, client, message)?;
@@ -175,7 +190,8 @@ impl<B: Bag> Store<B> {
     /// `AllocError` where memory runs out, and then the store is spent; and always where it is spent
     /// already.
     pub fn close(&mut self, alloc: Global, client: u32) -> Result<Vec<(u32, Reply)>, AllocError>
-        ensures ok { IfOk result (λ sends. record { sends = sends.items; soft = self.new.soft } ≡ on_close self.old.state.bag client self.old.soft) }
+        ensures ok { IfOk result (λ sends. record { sends = sends.items; soft = self.new.soft }
+            ≡ on_close self.old.state.bag client self.old.soft) }
         ensures unspent { OnOk result ((self.old.is_spent ≡ false) × (self.new.is_spent ≡ false)) }
         ensures state { self.new.state ≡ self.old.state }
         ensures err { OnErr result (self.new.is_spent ≡ true) }

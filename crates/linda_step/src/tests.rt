@@ -6,4 +6,5 @@ mod hellos;
 mod numbers;
 mod runs;
 mod script;
+mod sizes;
 mod state;

@@ -60,7 +60,8 @@ pub record IsTalk (from : Point) (bytes : List ℕ) (turns : List Reply) (rest :
   pub run : Runs from messages turns to
 
 -- All messages in the bytes were taken, up to a rest that stands so, and these replies are all that is said.
-pub record IsConversation (from : Point) (bytes : List ℕ) (said : List Reply) (stage : Stage) (rest : List ℕ) (to : Point) : Type 0 where
+pub record IsConversation (from : Point) (bytes : List ℕ) (said : List Reply) (stage : Stage) (rest : List ℕ)
+    (to : Point) : Type 0 where
   pub turns : List Reply
   pub talk : IsTalk from bytes turns rest to
   pub stands : StandsAs stage rest
@@ -70,11 +71,14 @@ pub record IsConversation (from : Point) (bytes : List ℕ) (said : List Reply) 
 -- A talk that was given up, for want of memory, in some place.
 abbrev pub IsGivenUp : Point → List ℕ → Node → Option ℕ → Type 0
 IsGivenUp from bytes node greeted =
-    (turns : List Reply) × ((rest : List ℕ) × ((is_open : Bool) × IsTalk from bytes turns rest (point_at node greeted is_open)))
+    (turns : List Reply) × ((rest : List ℕ) × ((is_open : Bool)
+    × IsTalk from bytes turns rest (point_at node greeted is_open)))
 
--- What a call that takes all messages in the bytes did: it says how the connection stands, and puts what is said behind
--- the replies of before. Where memory ran out, what is said may be lost.
-abbrev pub HasAnswered : {E : Type 0} → Point → List ℕ → List Reply → Result Stage E → List ℕ → List Reply → Node → Option ℕ → Type 0
+-- What a call that takes all messages in the bytes did: it says how the connection stands, and puts what is said
+-- behind the replies of before. Where memory ran out, what is said may be lost.
+abbrev pub HasAnswered :
+    {E : Type 0} → Point → List ℕ → List Reply → Result Stage E → List ℕ → List Reply → Node → Option ℕ → Type 0
 HasAnswered from bytes old (Ok stage) rest new node greeted =
-    (said : List Reply) × (IsConversation from bytes said stage rest (point_at node greeted (is_up stage)) × (new ≡ old ++ said))
+    (said : List Reply)
+    × (IsConversation from bytes said stage rest (point_at node greeted (is_up stage)) × (new ≡ old ++ said))
 HasAnswered from bytes old (Err fault) rest new node greeted = IsGivenUp from bytes node greeted

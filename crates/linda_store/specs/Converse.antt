@@ -1,11 +1,13 @@
 -- What a conversation over a reader and a writer did, however it ended.
-use Rattle.std.specs.Prelude.{◌≡◌, ℕ, ◌≤◌, Bool, false, List, ◌++◌, length, take, Option, Some, None, Result, Ok, Err, IfOk}
+use Rattle.std.specs.Prelude.{◌≡◌, ℕ, ◌≤◌, Bool, false, List, ◌++◌, length, take}
+use Rattle.std.specs.Prelude.{Option, Some, None, Result, Ok, Err, IfOk}
 use Rattle.std.specs.List.{flat_map}
 use Rattle.std.specs.Io.KnownBytes.{Consumes, Appends, IsAtEnd}
 use Rattle.linda_wire.specs.declared.reply.Reply.{Reply}
 use Rattle.linda_wire.specs.Frames.{reply_frame}
 use Rattle.linda_store.specs.declared.stage.Stage.{Stage}
 use Rattle.linda_store.specs.declared.stage.Stage.TheVariants as stages
+use Rattle.linda_store.specs.declared.conversation.TheConstants.{MAX_READS}
 use Rattle.linda_store.specs.declared.end.End.{End}
 use Rattle.linda_store.specs.declared.end.End.TheVariants as ends
 use Rattle.linda_store.specs.declared.end.ConverseFault.{ConverseFault}
@@ -16,7 +18,8 @@ use Rattle.linda_store.specs.Conversation.{IsTalk, IsConversation}
 use Rattle.linda_store.specs.Session.{Session, point_of}
 
 -- All that came was answered, up to a rest, and all of the answers were written.
-pub record IsWritten (from : Point) (read written : List ℕ) (stage : Stage) (rest : List ℕ) (to : Point) : Type 0 where
+pub record IsWritten (from : Point) (read written : List ℕ) (stage : Stage) (rest : List ℕ)
+    (to : Point) : Type 0 where
   pub said : List Reply
   pub talk : IsConversation from read said stage rest to
   pub spelled : written ≡ flat_map reply_frame said
@@ -49,17 +52,16 @@ AnswersSo (Err faults.Turns) from bytes written rest to = ⊥
 AnswersSo (Err faults.Down) from bytes written rest to = ⊥
 
 -- A session that was open took a piece and put bytes behind those of a writer.
-pub record HasReplied (old : Session) (was : Node) (piece : List ℕ) (output now : Option (List ℕ)) (result : Result Stage ConverseFault) (new : Session) (node : Node) : Type 0 where
+pub record HasReplied (old : Session) (was : Node) (piece : List ℕ) (output now : Option (List ℕ))
+    (result : Result Stage ConverseFault) (new : Session) (node : Node) : Type 0 where
   pub written : List ℕ
   pub is_open : Bool
   pub appended : Appends output now written
-  pub answers : AnswersSo result (point_of old was) (old.unread ++ piece) written new.unread (point_at node new.greeted is_open)
+  pub answers :
+      AnswersSo result (point_of old was) (old.unread ++ piece) written new.unread
+      (point_at node new.greeted is_open)
   pub stage : IfOk result (λ stage. new.stage ≡ stage)
   pub not_spent : IfOk result (λ _. new.is_spent ≡ false)
-
--- The most reads of a conversation. Each that does not end it gives a byte at least.
-abbrev pub read_limit : ℕ
-read_limit = 4294967295
 
 -- How a conversation ended: what came and what was written, what the reader has left, and where it stood then.
 abbrev pub EndsSo : Result End ConverseFault → Point → List ℕ → List ℕ → Option (List ℕ) → Point → Type 0
@@ -67,23 +69,31 @@ EndsSo (Ok (ends.Ended n)) from read written left to =
     IsAtEnd left × ((rest : List ℕ) × (IsWritten from read written stages.Open rest to × (n ≡ length rest)))
 EndsSo (Ok (ends.Malformed detail)) from read written left to =
     (rest : List ℕ) × IsWritten from read written (stages.Malformed detail) rest to
-EndsSo (Err faults.Down) from read written left to = (rest : List ℕ) × IsWritten from read written stages.Down rest to
-EndsSo (Err faults.Read) from read written left to = (rest : List ℕ) × IsWritten from read written stages.Open rest to
+EndsSo (Err faults.Down) from read written left to =
+    (rest : List ℕ) × IsWritten from read written stages.Down rest to
+EndsSo (Err faults.Read) from read written left to =
+    (rest : List ℕ) × IsWritten from read written stages.Open rest to
 EndsSo (Err faults.Turns) from read written left to =
-    (read_limit ≤ length read) × ((rest : List ℕ) × IsWritten from read written stages.Open rest to)
+    (MAX_READS ≤ length read) × ((rest : List ℕ) × IsWritten from read written stages.Open rest to)
 EndsSo (Err faults.Write) from read written left to = IsWrittenInPart from read written to
 EndsSo (Err faults.Memory) from read written left to = IsBrokenOff from read written to
 
 -- A conversation with a node took bytes off a reader and put bytes behind those of a writer, and ended so.
-pub record HasEnded (node : Node) (input left output now : Option (List ℕ)) (result : Result End ConverseFault) (to : Point) : Type 0 where
+pub record HasEnded (node : Node) (input left output now : Option (List ℕ))
+    (result : Result End ConverseFault) (to : Point) : Type 0 where
   pub read : List ℕ
   pub written : List ℕ
   pub consumed : Consumes input left read
   pub appended : Appends output now written
   pub ends : EndsSo result (beginning node) read written left to
 
+-- what contracts know of a reader or a writer: the bytes that are left, or that were written
+abbrev pub KnownBytes : Type 0
+KnownBytes = Option (List ℕ)
+
 -- The same, where only the node and the greeted client of that point are told.
-abbrev pub HasEndedAt : Node → Option (List ℕ) → Option (List ℕ) → Option (List ℕ) → Option (List ℕ) → Result End ConverseFault → Node → Option ℕ → Type 0
+abbrev pub HasEndedAt :
+    Node → KnownBytes → KnownBytes → KnownBytes → KnownBytes → Result End ConverseFault → Node → Option ℕ → Type 0
 HasEndedAt node input left output now result new greeted =
     (is_open : Bool) × HasEnded node input left output now result (point_at new greeted is_open)
 
@@ -93,6 +103,7 @@ IsLeft None old new = new ≡ old
 IsLeft (Some c) old new = (answer : NodeAnswer) × Closes old c answer new
 
 -- A whole conversation: it ended in some point, and then the greeted client was closed.
-abbrev pub HasConversed : Node → Option (List ℕ) → Option (List ℕ) → Option (List ℕ) → Option (List ℕ) → Result End ConverseFault → Node → Type 0
+abbrev pub HasConversed :
+    Node → KnownBytes → KnownBytes → KnownBytes → KnownBytes → Result End ConverseFault → Node → Type 0
 HasConversed node input left output now result new =
     (point : Point) × (HasEnded node input left output now result point × IsLeft point.greeted point.node new)

@@ -24,8 +24,11 @@ abbrev pub point_of : Session → Node → Point
 point_of talker node = point_at node talker.greeted (is_up talker.stage)
 
 -- A session took a piece and answered it.
-pub record HasTaken (old : Session) (was : Node) (piece : List ℕ) (taken : Taken) (new : Session) (now : Node) : Type 0 where
-  pub talk : IsConversation (point_of old was) (old.unread ++ piece) taken.replies.items new.stage new.unread (point_of new now)
+pub record HasTaken (old : Session) (was : Node) (piece : List ℕ) (taken : Taken) (new : Session)
+    (now : Node) : Type 0 where
+  pub talk :
+      IsConversation (point_of old was) (old.unread ++ piece) taken.replies.items new.stage new.unread
+      (point_of new now)
   pub goes_on : taken.goes_on ≡ stays_open new.stage
   pub not_spent : new.is_spent ≡ false
 

@@ -1,5 +1,6 @@
 -- What a connection says: the greeting, then the node's replies to the client that was greeted.
-use Rattle.std.specs.Prelude.{◌≡◌, ℕ, Bool, true, false, ◌==◌, if◌then◌else◌, List, [], ◌∷◌, ◌++◌, map, filter, Option, Some, None, Result, Ok, Err}
+use Rattle.std.specs.Prelude.{◌≡◌, ℕ, Bool, true, false, ◌==◌, if◌then◌else◌, List, [], ◌∷◌, ◌++◌, map, filter}
+use Rattle.std.specs.Prelude.{Option, Some, None, Result, Ok, Err}
 use Rattle.std.specs.List.{list_any}
 use Rattle.linda_wire.specs.Refusal.{refused}
 use Rattle.linda_wire.specs.declared.refusal.Refusal.TheVariants as refusals
@@ -64,7 +65,8 @@ pub record IsTurnedAway (reply : Reply) (from : Point) (said : List Reply) (to :
   pub same : to ≡ from
 
 -- The node is asked for the client c.
-pub record IsAsked (c : ℕ) (m : Message) (greeted : NodeAnswer → Option ℕ) (from : Point) (said : List Reply) (to : Point) : Type 0 where
+pub record IsAsked (c : ℕ) (m : Message) (greeted : NodeAnswer → Option ℕ) (from : Point) (said : List Reply)
+    (to : Point) : Type 0 where
   pub answer : NodeAnswer
   pub handled : Handles from.node c m answer to.node
   pub said_is : said ≡ told c answer
@@ -105,4 +107,5 @@ HasSaid does old (Err fault) new = (said : List Reply) × ((is_open : Bool) × d
 abbrev pub Runs : Point → List Message → List Reply → Point → Type 0
 Runs from [] said to = (said ≡ []) × (to ≡ from)
 Runs from (m ∷ ms) said to =
-    (mid : Point) × ((first : List Reply) × ((later : List Reply) × (Turns from m first mid × Runs mid ms later to × (said ≡ first ++ later))))
+    (mid : Point) × ((first : List Reply) × ((later : List Reply)
+    × (Turns from m first mid × Runs mid ms later to × (said ≡ first ++ later))))

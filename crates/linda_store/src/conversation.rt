@@ -18,6 +18,9 @@ use std::io::{Read, Write};
 /// The most bytes that are read at once.
 const PIECE: usize = 4096;
 
+/// The most reads of a conversation. Each that does not end it gives a byte at least.
+const MAX_READS: u32 = 4_294_967_295;
+
 /// Reads a client's stream to its end and writes the node's replies. It reads pieces of at most 4,096
 /// bytes, at most 4,294,967,295 of them, and flushes what it writes before the next read.
 ///
@@ -55,7 +58,7 @@ fn talk<N: Node, R: Read, W: Write>(
         (W.contents writer.old) (W.contents writer.new) result (N.shown node.new) session.new.greeted }
 {
     let mut buffer = [0; PIECE];
-    for _ in 0..u32::MAX {
+    for _ in 0..MAX_READS {
         let len = read_piece(reader, &mut buffer)?;
         if len == 0 {
             return Ok(End::Ended {
@@ -76,7 +79,8 @@ fn read_piece<R: Read>(reader: &mut R, buffer: &mut [u8; PIECE]) -> Result<usize
     ensures ok { IfOk result (λ len. (len ≤ length buffer.new)
         × (Consumes (R.remaining reader.old) (R.remaining reader.new) (take len buffer.new))) }
     ensures end { IfOk result (λ len. len ≡ 0 → IsAtEnd (R.remaining reader.new)) }
-    ensures err { IfErr result (λ fault. (fault ≡ ReadFault) × Keeps (R.remaining reader.old) (R.remaining reader.new)) }
+    ensures err { IfErr result (λ fault. (fault ≡ ReadFault)
+        × Keeps (R.remaining reader.old) (R.remaining reader.new)) }
 {
     match reader.read(buffer) {
         Ok(len) => Ok(len),

@@ -28,11 +28,11 @@ pub use linda_promise::{
     replies_tell_deeds, steps_do_what_is_said, steps_offer_what_is_wanted, takes_are_handed_over,
 };
 pub use linda_state::{
-    Book, Class, Deed, KeptReply, NUMBER_LIMIT, State, no_tuple_is_taken_twice,
-    proper_lists_keep_the_ranges,
+    Book, Class, Deed, KeptReply, NUMBER_LIMIT, State, deeds_are_done_one_by_one,
+    no_tuple_is_taken_twice, proper_lists_keep_the_ranges,
 };
 pub use linda_step::{
-    Step, Steps, Store, a_cancelled_request_is_over, a_closed_client_has_left,
+    MAX_BATCH, Step, Steps, Store, a_cancelled_request_is_over, a_closed_client_has_left,
     a_list_has_one_outcome, a_repeated_message_gets_the_same_reply, deeds_are_answered_as_kept,
     no_history_takes_a_tuple_twice, no_history_with_stops_takes_a_tuple_twice, one_answer,
     steps_do_proper_lists, steps_keep_order,
@@ -42,7 +42,7 @@ pub use sending::send;
 pub use session::Session;
 pub use stage::{Stage, Taken};
 pub use volatile::Volatile;
-pub use work::{MAX_BATCH, Work};
+pub use work::Work;
 
 #[cfg(test)]
 mod tests;

@@ -26,7 +26,7 @@ pub trait Node: Drop {
     ghost use Rattle.linda_step.specs.Store.{IsOrderly};
     ghost use Rattle.linda_store.specs.Node as seen;
     ghost use Rattle.linda_store.specs.Node.{Handles, HandlesAll, Closes, Snaps, Stops, IsBatch, in_hand, node_answer};
-    ghost use Rattle.linda_store.specs.declared.work.TheConstants.{MAX_BATCH};
+    ghost use Rattle.linda_step.specs.declared.size.TheConstants.{MAX_BATCH};
 
     /// What contracts see of the node.
     ghost shown: { Self → seen.Node };

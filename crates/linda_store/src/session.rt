@@ -84,7 +84,8 @@ impl Session {
         ensures open { self.old.is_spent ≡ false → self.old.stage ≡ Open
             → AnswersPiece self.old (N.shown node.old) piece.now result self.new (N.shown node.new) }
         ensures ended { self.old.is_spent ≡ false → self.old.stage ≢ Open
-            → MatchResult result (λ taken. StaysSilent self.old (N.shown node.old) taken self.new (N.shown node.new)) (λ _. ⊥) }
+            → MatchResult result
+            (λ taken. StaysSilent self.old (N.shown node.old) taken self.new (N.shown node.new)) (λ _. ⊥) }
         ensures spent { self.old.is_spent ≡ true
             → IsErr result × ((self.new ≡ self.old) × (N.shown node.new ≡ N.shown node.old)) }
     {
@@ -160,7 +161,8 @@ fn answer_messages<N: Node>(
 // Refuses a frame that is no message, which ends the connection.
 fn refuse_frame(fault: FrameFault, replies: &mut Vec<Reply>) -> Result<Stage, AllocError>
     ensures broken { IfOk result (λ stage. (fault ≢ Memory) × (stage ≡ Malformed (detail_of fault))) }
-    ensures told { OnOk result (replies.new.items ≡ replies.old.items ++ (refused (refusals.Malformed (detail_of fault))) ∷ []) }
+    ensures told { OnOk result (replies.new.items
+        ≡ replies.old.items ++ refused (refusals.Malformed (detail_of fault)) ∷ []) }
 {
     let detail = detail_of(fault)?;
     replies.push(Refusal::Malformed(detail).reply())?;

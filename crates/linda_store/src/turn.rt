@@ -4,7 +4,8 @@ ghost use Rattle.std.specs.Prelude.{◌≡◌, ◌++◌, ◌∷◌, [], IsTrue, 
 ghost use Rattle.std.specs.List.{list_any};
 ghost use Rattle.linda_wire.specs.Refusal.{refused};
 ghost use Rattle.linda_store.specs.Node.{node_answer};
-ghost use Rattle.linda_store.specs.Turn.{is_welcome, replies_for, told, goes_on, greeted_by, greeted_if, hello_of, point_at, IsAsked, HasSaid, Turns};
+ghost use Rattle.linda_store.specs.Turn.{is_welcome, replies_for, told, goes_on, hello_of, point_at};
+ghost use Rattle.linda_store.specs.Turn.{greeted_by, greeted_if, IsAsked, HasSaid, Turns};
 
 use crate::node::{Node, NodeFault};
 use linda_wire::{Message, Refusal, Reply};

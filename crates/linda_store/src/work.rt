@@ -2,9 +2,6 @@
 
 use linda_wire::Message;
 
-/// The most messages of one call.
-pub const MAX_BATCH: usize = 64;
-
 /// A piece of work that a node begins before it is stopped.
 #[derive(Drop)]
 pub enum Work {

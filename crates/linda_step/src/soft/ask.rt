@@ -37,7 +37,8 @@ impl Soft {
         remove: bool,
         template: &Template,
     ) -> Result<Vec<(u32, Reply)>, AllocError>
-        ensures { IfOk result (λ sends. AnswersAsk (B.contents bag.now) (client, ticket) remove template.now self.old (record { sends = sends.items; soft = self.new })) }
+        ensures { IfOk result (λ sends. AnswersAsk (B.contents bag.now) (client, ticket) remove template.now
+            self.old (record { sends = sends.items; soft = self.new })) }
     {
         if let Some(id) = self.holds.find(client, ticket) {
             offer_of(alloc, bag, id, client, ticket)
@@ -71,7 +72,10 @@ impl Soft {
     ) -> Result<Vec<(u32, Reply)>, AllocError>
         requires held { IsHeldAt self.old.holds (client, ticket) None }
         requires waiting { is_waiting (client, ticket) self.old.waits ≡ false }
-        ensures { IfOk result (λ sends. (least : Option ℕ) × IsLeast (B.contents bag.now) template.now (passed_over remove self.old.holds) least × (let t : Sends = record { sends = sends.items; soft = self.new } in t ≡ serve (B.contents bag.now) (client, ticket) remove template.now least self.old)) }
+        ensures { IfOk result (λ sends. (least : Option ℕ)
+            × IsLeast (B.contents bag.now) template.now (passed_over remove self.old.holds) least
+            × (let t : Sends = record { sends = sends.items; soft = self.new }
+            in t ≡ serve (B.contents bag.now) (client, ticket) remove template.now least self.old)) }
     {
         match self.least_match(alloc, bag, remove, template) {
             Some(id) if remove => {

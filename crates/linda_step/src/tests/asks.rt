@@ -170,8 +170,8 @@ fn a_ticket_of_another_client_is_not_given_up(rt: HostRuntime) -> Result<(), Fai
     run(&rt, rt.alloc(), &[3], lines)
 }
 
-/// Plays lines over a store with the tuples 3, 4 and 5. Client 7 holds all three, asked for in another order, and waits for
-/// the tuple 6 and for any. Then client 8 waits for the tuple 5, client 9 for any, and client 8 for any.
+/// Plays lines over a store with the tuples 3, 4 and 5. Client 7 holds all three, asked for in another order, and
+/// waits for the tuple 6 and for any. Then client 8 waits for the tuple 5, client 9 for any, and client 8 for any.
 fn before_a_close(rt: &impl Abort, alloc: Global, lines: &str) -> Result<(), Fail> {
     let mut script = Script::with_tuples(alloc, &[3, 4, 5])?;
     let before = "

@@ -1,8 +1,10 @@
-//! Scripts for tests: what clients say to a store and what comes of it, written as text. All tuples are `("a", number)`.
+//! Scripts for tests: what clients say to a store and what comes of it, written as text. All tuples are
+//! `("a", number)`.
 //!
-//! A line of a script is what a client says, `CLIENT out N NUMBER`, `CLIENT in TICKET NUMBER`, `CLIENT rd TICKET NUMBER` (with `any`
-//! for a formal and a wildcard), `CLIENT hello VERSION fresh` (or `known`), `CLIENT accept N TICKET ID`, `CLIENT cancel TICKET`, or `CLIENT close`. All that comes of it follows,
-//! each on a line after `>`: the deed, if there is one, and then each reply after the client that it goes to. A line after
+//! A line of a script is what a client says, `CLIENT out N NUMBER`, `CLIENT in TICKET NUMBER`,
+//! `CLIENT rd TICKET NUMBER` (with `any` for a formal and a wildcard), `CLIENT hello VERSION fresh` (or `known`),
+//! `CLIENT accept N TICKET ID`, `CLIENT cancel TICKET`, or `CLIENT close`. All that comes of it follows, each on a
+//! line after `>`: the deed, if there is one, and then each reply after the client that it goes to. A line after
 //! `=` tells what the store has then.
 
 use crate::step::Step;

@@ -1,13 +1,14 @@
 //! A node, call by call.
 
 ghost use Rattle.std.specs.Prelude.{◌≤◌, length, IfOk};
-ghost use Rattle.linda_store.specs.declared.work.TheConstants.{MAX_BATCH};
+ghost use Rattle.linda_step.specs.declared.size.TheConstants.{MAX_BATCH};
 
 use super::frame::{OUT, STORED_1_1, ask_by, joined, message, with_tuple};
 use crate::node::Node;
 use crate::volatile::Volatile;
-use crate::work::{MAX_BATCH, Work};
+use crate::work::Work;
 use linda_disk::Torn;
+use linda_step::MAX_BATCH;
 use linda_wire::{Message, Reply, encode_reply};
 use std::alloc::Global;
 use std::process::Abort;

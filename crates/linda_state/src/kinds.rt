@@ -1,0 +1,10 @@
+//! The bytes that stand for the kinds of deeds.
+
+/// Of an Out.
+pub const OUT: u8 = 0x01;
+
+/// Of a Take.
+pub const TAKE: u8 = 0x02;
+
+/// Of a Pass.
+pub const PASS: u8 = 0x03;

@@ -1,0 +1,34 @@
+-- With each turn one message more is counted.
+use Rattle.std.proofs.Common.{◌≡◌, ◌+◌, ◌==◌, take, drop, ◌∷◌, ap, ◌∙◌, arith}
+use Rattle.std.proofs.lemmas.List.{take_more_set}
+use Rattle.std.specs.FinMap.{get}
+use Rattle.linda_book.specs.Entries.{number_in}
+use Rattle.linda_state.specs.State.{State}
+use Rattle.linda_step.specs.Size.{bytes_from, last_behind}
+use Rattle.linda_step.proofs.SizeLaws.{numbers_behind, first_of, as_number, clients_few, next_low, counted_on}
+use Rattle.linda_step.proofs.size.bytes_of.Goals as goal
+
+pub loop-client-preserved : goal.loop-client-preserved
+loop-client-preserved g c =
+    let st : State = c.args.state.now in
+    let ms = c.args.messages.now in
+    let l = c.loop-client in
+    let m = c.loop-client-item.result in
+    let d = c.in-Some.done in
+    let last_is =
+    c.last_behind-last.ensures
+    ∙ ap (λ n. last_behind (take l.count l.lasts) m.0 n) (c.last.ensures ∙ ap (λ (s : State). number_in (get s.book m.0)) c.state.view_is)
+    in
+    let k_is = ap (λ n. l.clients + n) (c.from-clients.ensures ∙ as_number (c.last_behind-last.result == 0)) in
+    let x_is = ap (λ n. l.next + n) (c.from-next.ensures ∙ as_number d.is_out) in
+    let fs_is = take_more_set l.lasts l.count (m.0, d.n) (omega arith) in
+    let i = l.client-index in
+    let rest : drop i ms ≡ m ∷ drop (i + 1) ms = first_of ms i m c.loop-client-test.true c.loop-client-item.is in
+    let all = l.invariant.all ∙ ap (λ xs. l.bytes + bytes_from (numbers_behind st (take l.count l.lasts) l.clients l.next) xs) rest in
+    record {
+      all = counted_on st _ _ m.0 m.1 _ l.clients l.next _ _ l.bytes _ d (drop (i + 1) ms) last_is c.in-Some.ensures.done fs_is k_is x_is all;
+      count_few = omega (arith, l.invariant.count_few);
+      clients_few = clients_few st _ _ m.0 m.1 _ l.clients l.next _ _ l.bytes 0 d ms last_is c.in-Some.ensures.done fs_is k_is x_is l.invariant.clients_few;
+      next_low = next_low st _ _ m.0 m.1 _ l.clients l.next _ _ l.bytes 0 d ms last_is c.in-Some.ensures.done fs_is k_is x_is l.invariant.next_low;
+      bytes_few = omega (arith, l.invariant.bytes_few, c.in-Some.ensures.short);
+    }
