@@ -11,6 +11,7 @@ use crate::kept::KeptReply;
 use std::alloc::{AllocError, Global};
 use std::collections::BTreeMap;
 use std::marker::Model;
+use std::ops::Bound;
 
 /// What is kept for each client, at most one entry a client. Contracts see a finite map from clients
 /// to pairs of a number and a reply. The book itself sets no limit to clients or numbers.
@@ -102,6 +103,19 @@ impl Book {
         ensures none { IfNone result ((c : ℕ) → client ≤ c → map.get self.now c ≡ None) }
     {
         let (next, _) = self.entries.range(client..).next()?;
+        Some(*next)
+    }
+
+    /// The least client of the book that is above `client`; nothing only where there is none. Takes no
+    /// memory.
+    pub fn next_after(&self, client: u32) -> Option<u32>
+        ensures found { IfSome result (λ next. IsSome (map.get self.now next)) }
+        ensures above { IfSome result (λ next. client < next) }
+        ensures least { IfSome result (λ next. (c : ℕ) → client < c → c < next → map.get self.now c ≡ None) }
+        ensures none { IfNone result ((c : ℕ) → client < c → map.get self.now c ≡ None) }
+    {
+        let above = (Bound::Excluded(client), Bound::Unbounded);
+        let (next, _) = self.entries.range(above).next()?;
         Some(*next)
     }
 }

@@ -111,6 +111,21 @@ fn the_next_client(rt: HostRuntime) -> Result<(), Fail> {
 }
 
 #[test]
+fn the_next_client_above(rt: HostRuntime) -> Result<(), Fail> {
+    let book = book_of_three(rt.alloc())?;
+    let rows = [
+        (0, Some(7)),
+        (6, Some(7)),
+        (7, Some(u32::MAX)),
+        (u32::MAX, None),
+    ];
+    for (client, want) in rows {
+        assert_eq!(rt; book.next_after(client), want, "above {client}");
+    }
+    Ok(())
+}
+
+#[test]
 fn no_next_client(rt: HostRuntime) -> Result<(), Fail> {
     let alloc = rt.alloc();
     assert_eq!(rt; Book::new(alloc).next_from(0), None);

@@ -92,7 +92,7 @@ module _ (generation : ℕ) (body : List ℕ) (records : List (List Deed)) (ds :
 
 -- ---- a new bank
 
-no_candidate : (file : List ℕ) → ClosesAfter [] file → IsCandidate file → ⊥
+pub no_candidate : (file : List ℕ) → ClosesAfter [] file → IsCandidate file → ⊥
 no_candidate file closes candidate = closes.closed (first_is closes.gate OPEN closes.rest candidate.1.0 (sym closes.parts ∙ candidate.1.1))
   where
     first_is : (a b : ℕ) (x y : List ℕ) → a ∷ x ≡ b ∷ y → a ≡ b
@@ -108,7 +108,7 @@ new_one generation body file low fits short closes = record {
   journal = record { gate = closes.gate; rest = closes.rest; parts = refl; closed = closes.closed; good = All-nil IsRecord };
 }
 
-none_or_new : (generation : ℕ) (body : List ℕ) → 1 ≤ generation → generation < 2 ^ 64 → length body < 2 ^ 32 → (file : List ℕ) → IsLaid (behind_gate generation body) file → IsNoneOrNew generation body file
+pub none_or_new : (generation : ℕ) (body : List ℕ) → 1 ≤ generation → generation < 2 ^ 64 → length body < 2 ^ 32 → (file : List ℕ) → IsLaid (behind_gate generation body) file → IsNoneOrNew generation body file
 none_or_new generation body low fits short file (inl is) = inl (λ candidate. omega (arith, is, candidate.0))
 none_or_new generation body low fits short file (inr (inl closes)) = inl (no_candidate file closes)
 none_or_new generation body low fits short file (inr (inr closes)) = inr (new_one generation body file low fits short closes)

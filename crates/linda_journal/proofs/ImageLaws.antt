@@ -1,5 +1,5 @@
 -- Banks as bytes: what they begin with, their parts, and that bytes are one bank.
-use Rattle.std.proofs.Common.{◌≡◌, ℕ, ◌+◌, ◌-◌, ◌^◌, ◌<◌, ◌≤◌, inr, List, [], ◌∷◌, ◌++◌, length, take, drop, Ok, refl, sym, ap, subst, ◌∙◌, arith}
+use Rattle.std.proofs.Common.{◌≡◌, ◌≢◌, ℕ, ◌+◌, ◌-◌, ◌^◌, ◌<◌, ◌≤◌, ◌⊎◌, inl, inr, List, [], ◌∷◌, ◌++◌, length, take, drop, Ok, refl, sym, ap, subst, ◌∙◌, arith}
 use Rattle.std.proofs.lemmas.List.{take-append-drop, length-take, length-drop, drop-drop, take_at, drop_at, length-append, length-map}
 use Rattle.linda_codec.specs.Formats.{short_number, number}
 use Rattle.linda_codec.specs.Lawful.{IsBytes}
@@ -9,12 +9,13 @@ use Rattle.linda_state.specs.declared.deed.Deed.{Deed}
 use Rattle.linda_journal.specs.declared.kinds.TheConstants.{OPEN}
 use Rattle.linda_journal.specs.declared.limits.TheConstants.{MIN_BYTES}
 use Rattle.linda_journal.specs.declared.heading.Heading.TheVariants as headings
+use Rattle.linda_journal.specs.declared.fault.BankFault.{BankFault}
 use Rattle.linda_journal.specs.declared.fault.BankFault.TheVariants as faults
 use Rattle.linda_journal.specs.Journal.{IsJournal, IsDamaged, deeds_of}
 use Rattle.linda_disk.specs.View.{View, IsDurable}
 use Rattle.linda_journal.specs.declared.record.Record.{Record}
 use Rattle.linda_journal.specs.Records.{spell_record, spell_records}
-use Rattle.linda_journal.specs.Bank.{magic, headed, head, IsBank, IsSettled}
+use Rattle.linda_journal.specs.Bank.{magic, IsCandidate, headed, head, IsBank, IsSettled}
 use Rattle.linda_journal.specs.Heading.{IsHeading}
 use Rattle.linda_journal.specs.Image.{IsBroken, IsFaultOfBank}
 use Rattle.linda_journal.proofs.Apart.{format_apart}
@@ -113,6 +114,30 @@ pub not_broken : (file : List ℕ) (g : ℕ) (b : List ℕ) (rs : List (List Dee
 not_broken file g b rs offset one two =
     let same = heads_apart g two.generation b two.body one.rest two.rest one.fits two.fits one.short two.short (sym one.parts ∙ two.parts) in
     not_both two.rest rs two.place (subst (λ l. IsJournal l rs) same.2 one.journal) two.damaged
+
+-- A bank begins as one.
+pub is_candidate : (file : List ℕ) (g : ℕ) (b : List ℕ) (rs : List (List Deed)) → IsBank file g b rs → IsCandidate file
+is_candidate file g b rs bank =
+    let n : length file ≡ length (head g b ++ bank.rest) = ap length bank.parts in
+    (omega (arith, n), (_, bank.parts))
+
+-- What may be told of a bank that stands there: that the device failed, or that memory ran out.
+pub only_faults : (file : List ℕ) (g : ℕ) (b : List ℕ) (rs : List (List Deed)) (f : BankFault) → IsBank file g b rs → (f ≢ faults.Disk → IsFaultOfBank file f) → (f ≡ faults.Disk) ⊎ (f ≡ faults.Memory)
+only_faults file g b rs faults.Disk bank told = inl refl
+only_faults file g b rs faults.Memory bank told = inr refl
+only_faults file g b rs faults.Spent bank told = absurd (told (λ e. absurd cc))
+only_faults file g b rs faults.Full bank told = absurd (told (λ e. absurd cc))
+only_faults file g b rs faults.NoBank bank told = absurd (told (λ e. absurd cc) (is_candidate file g b rs bank))
+only_faults file g b rs (faults.Damaged offset) bank told =
+    by (told (λ e. absurd cc))
+  where
+    by : IsFaultOfBank file (faults.Damaged offset) → (faults.Damaged offset ≡ faults.Disk) ⊎ (faults.Damaged offset ≡ faults.Memory)
+    by (inl foreign) = absurd (foreign.0.1 g (short_number.spell (length b) ++ b ++ bank.rest) bank.low bank.fits (bank.parts))
+    by (inr (inl cut)) =
+        let journal = bank.journal in
+        let n : length bank.rest ≡ length (spell_records rs ++ journal.gate ∷ journal.rest) = ap length journal.parts in
+        absurd (cut.0.never g b bank.rest bank.short (omega (arith, n, length-append (spell_records rs) (journal.gate ∷ journal.rest))) bank.parts)
+    by (inr (inr broken)) = absurd (not_broken file g b rs offset bank broken)
 
 -- ---- a bank that was read from its disk
 

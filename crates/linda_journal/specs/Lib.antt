@@ -5,3 +5,4 @@ pub mod Bank
 pub mod Faults
 pub mod Heading
 pub mod Image
+pub mod Renewal

@@ -9,7 +9,8 @@ ghost use Rattle.linda_journal.specs.Records.{spell_record};
 ghost use Rattle.linda_journal.specs.declared.limits.TheConstants.{MIN_BYTES};
 ghost use Rattle.linda_journal.specs.Journal.{AreAt, deeds_of};
 ghost use Rattle.linda_journal.specs.Image.{IsFaultOfBank};
-ghost use Rattle.linda_journal.specs.Bank.{IsSettled, IsOldOrMore, IsNoneOrNew};
+ghost use Rattle.linda_journal.specs.Bank.{IsBank, IsSettled, IsOldOrMore, IsNoneOrNew};
+ghost use Rattle.linda_journal.specs.Renewal.{IsWhole};
 
 use crate::fault::BankFault;
 use crate::gate::{open_gate, stage};
@@ -17,7 +18,9 @@ use crate::limits::MIN_BYTES;
 use crate::making::{inscribe, spell_front};
 use crate::opening::load;
 use crate::record::{Record, spell_body};
-use linda_disk::Disk;
+use crate::size::record_len;
+use crate::whole::Whole;
+use linda_disk::{Disk, DiskFault};
 use linda_state::Deed;
 use std::alloc::Global;
 
@@ -54,6 +57,14 @@ impl<D: Disk> Bank<D> {
         ensures { result ≡ self.now.records }
     {
         self.records
+    }
+
+    /// The disk that the bank is on.
+    pub fn into_disk(self) -> D
+        ensures { result ≡ self.disk }
+    {
+        let Bank { disk, .. } = self;
+        disk
     }
 
     /// Makes a bank of this generation with this body, whose journal has no record, on an empty disk: a closed gate
@@ -140,6 +151,12 @@ impl<D: Disk> Bank<D> {
             × IfErr result (λ e. LeavesOnly (D.view disk) (D.view e.1) (D.view disk).may_leave) }
         ensures honest { IfOk result (λ o. D.honest disk ↔ D.honest o.0.disk)
             × IfErr result (λ e. D.honest disk ↔ D.honest e.1) }
+        // A bank that stands there is opened, or the device failed, or memory ran out.
+        ensures only { (generation : ℕ) (body : List ℕ) (records : List (List deed.Deed))
+            → D.honest disk → IsBank (D.view disk).seen generation body records
+            → IfOk result (λ o. (o.0.generation ≡ generation) × (o.1.items ≡ body)
+            × (deeds_of o.2.items ≡ records))
+            × IfErr result (λ e. (e.0 ≡ BankFault.Disk) ⊎ (e.0 ≡ BankFault.Memory)) }
         ensures cause { IfErr result (λ e. e.0 ≡ BankFault.Disk
             → D.failures disk < D.failures e.1) }
     {
@@ -165,9 +182,9 @@ impl<D: Disk> Bank<D> {
     ///
     /// # Errors
     ///
-    /// `Spent` before all others. `Memory` and `Full`, and then all is as before. `Disk` where the device
-    /// failed, and `Memory` where the disk found none: the record is there or it is not, and the bank is
-    /// spent.
+    /// `Spent` before all others, then `Full`, which is judged before the record is spelled, and then `Memory`: all
+    /// is as before. `Disk` where the device failed, and `Memory` where the disk found none: the record is there or
+    /// it is not, and the bank is spent.
     pub fn append(&mut self, alloc: Global, deeds: &[Deed]) -> Result<(), BankFault>
         requires some { 1 ≤ length deeds.now }
         requires few { length deeds.now ≤ MAX_DEEDS }
@@ -186,10 +203,11 @@ impl<D: Disk> Bank<D> {
         ensures place { OnOk result (self.new.end ≡ self.old.end + length (spell_record deeds.now)) }
         ensures count { OnOk result (self.new.records ≡ self.old.records + 1) }
         ensures ready { OnOk result (self.new.is_spent ≡ false) }
-        // The closed gate behind the new record is within the limit, or it is Full and nothing changed.
+        // It is Full exactly where the closed gate behind the new record would pass the limit; nothing changed then.
         ensures room { OnOk result (self.new.end < self.new.limit) }
-        ensures full { IsErrOf result BankFault.Full → (self.new ≡ self.old)
+        ensures full { IsErrOf result BankFault.Full ↔ (self.old.is_spent ≡ false)
             × (self.old.limit ≤ self.old.end + length (spell_record deeds.now)) }
+        ensures unfilled { IsErrOf result BankFault.Full → self.new ≡ self.old }
         ensures spent { IsErrOf result BankFault.Spent ↔ (self.old.is_spent ≡ true) }
         ensures unspent { self.old.is_spent ≡ true → self.new ≡ self.old }
         ensures cause { IsErrOf result BankFault.Disk
@@ -207,24 +225,67 @@ impl<D: Disk> Bank<D> {
         if self.is_spent {
             return Err(BankFault::Spent);
         }
-        let bytes = spell_body(alloc, deeds)?;
-        if !has_room(self.limit, self.end, bytes.len()) {
+        let len = record_len(deeds);
+        if !has_room(self.limit, self.end, len) {
             return Err(BankFault::Full);
         }
+        let bytes = spell_body(alloc, deeds)?;
         self.is_spent = true;
         stage(&mut self.disk, self.end, &bytes)?;
         open_gate(&mut self.disk, self.end)?;
-        self.end += bytes.len();
+        self.end += len;
         self.records += 1;
         self.is_spent = false;
         Ok(())
     }
 }
 
-// Whether a gate and so many bytes behind it, from this offset on, keep within the limit.
+/// Opens the first gate of a disk on which all of a new bank stands: a write of that gate and a sync.
+///
+/// # Errors
+///
+/// `Device` where the device failed, `Memory` where the disk found none; each hands the disk back, on which the gate
+/// may be open.
+pub fn unlock<D: Disk>(whole: Whole<D>, limit: usize) -> Result<Bank<D>, (DiskFault, D)>
+    ensures done { (body : List ℕ) → D.honest whole.disk
+        → IsWhole whole.generation body whole.end (D.view whole.disk)
+        → IfOk result (λ b. IsSettled whole.generation body [] b.end (D.view b.disk)) }
+    ensures new { IfOk result (λ b. (b.generation ≡ whole.generation) × (b.limit ≡ limit)
+        × (b.end ≡ whole.end) × (b.records ≡ 0) × (b.is_spent ≡ false)) }
+    // At no moment a crash leaves another bank than the whole new one.
+    ensures any_moment { (body : List ℕ) → D.honest whole.disk
+        → IsWhole whole.generation body whole.end (D.view whole.disk)
+        → IfOk result (λ b. LeavesOnly (D.view whole.disk) (D.view b.disk)
+        (IsNoneOrNew whole.generation body))
+        × IfErr result (λ e. LeavesOnly (D.view whole.disk) (D.view e.1)
+        (IsNoneOrNew whole.generation body)) }
+    ensures honest { IfOk result (λ b. D.honest whole.disk ↔ D.honest b.disk)
+        × IfErr result (λ e. D.honest whole.disk ↔ D.honest e.1) }
+    ensures cause { IfErr result (λ e. e.0 ≡ DiskFault.Device
+        → D.failures whole.disk < D.failures e.1) }
+{
+    let Whole {
+        mut disk,
+        generation,
+        end,
+    } = whole;
+    match open_gate(&mut disk, 0) {
+        Err(fault) => Err((fault, disk)),
+        Ok(()) => Ok(Bank {
+            disk,
+            generation,
+            limit,
+            end,
+            records: 0,
+            is_spent: false,
+        }),
+    }
+}
+
+// Whether so many bytes from this offset on, and the gate behind them, keep within the limit.
 fn has_room(limit: usize, at: usize, len: usize) -> bool
-    ensures yes { result ≡ true → at + 1 + len ≤ limit }
-    ensures no { result ≡ false → limit < at + 1 + len }
+    ensures yes { result ≡ true → at + len < limit }
+    ensures no { result ≡ false → limit ≤ at + len }
 {
     at < limit && len < limit - at
 }

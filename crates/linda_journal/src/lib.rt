@@ -2,6 +2,7 @@
 #![tactic(auto)]
 
 mod bank;
+mod closed;
 mod deed;
 mod fault;
 mod gate;
@@ -14,13 +15,18 @@ mod making;
 mod opening;
 mod payload;
 mod record;
+mod size;
+mod whole;
 
-pub use bank::Bank;
+pub use bank::{Bank, unlock};
+pub use closed::{Closed, shut};
 pub use fault::BankFault;
 pub use heading::{Heading, read_heading};
 pub use journal::{Journal, JournalFault, read_journal};
-pub use limits::{MAX_DEEDS, MIN_BYTES};
+pub use limits::{MAX_DEED_BYTES, MAX_DEEDS, MAX_TUPLE_BYTES, MIN_BYTES, PIECE};
 pub use record::Record;
+pub use size::{deed_len, tuple_len};
+pub use whole::{Whole, fill};
 
 #[cfg(test)]
 mod tests;

@@ -1,5 +1,4 @@
-use Rattle.std.proofs.Common.{[], ◌∷◌, ◌∙◌, length, ap, arith, length-append}
-use Rattle.linda_journal.specs.declared.kinds.TheConstants.{CLOSED}
+use Rattle.std.proofs.Common.{◌+◌, ◌∙◌, ap}
 use Rattle.linda_journal.specs.Records.{record_body}
 use Rattle.linda_journal.proofs.BankLaws.{whole, shut_of, staging, opening, settled_with}
 use Rattle.linda_journal.proofs.bank.Bank.append.Goals as goal
@@ -45,4 +44,4 @@ returns-clause-done g c body records honest settled =
     let ready = c.in_ok-stage.ensures.ready front (record_body c.args.deeds.now) (c.deref.ensures.value ∙ c.in_ok-bytes.ensures.bytes) honest shut in
     let opened = c.in_ok-open_gate.ensures.opened front (record_body c.args.deeds.now) (c.stage.ensures.honest.0 honest) ready in
     settled_with bank.generation body records c.args.deeds.now bank.end old settled c.in_ok-bytes.ensures.good (g.D.Disk.view c.open_gate.new.disk) _
-    (grind (arith, c.len-2.ensures, ap length c.in_ok-bytes.ensures.bytes, length-append (record_body c.args.deeds.now) (CLOSED ∷ []))) opened
+    (ap (λ n. bank.end + n) c.record_len-len.ensures) opened

@@ -1,0 +1,63 @@
+use Rattle.std.proofs.Common.{◌≡◌, ◌+◌, ◌++◌, length, take, refl, sym, ap, subst, ◌∙◌, arith}
+use Rattle.std.proofs.lemmas.List.{take-append-drop, length-take, length-append}
+use Rattle.linda_journal.proofs.RenewalLaws.{IsWrittenTo, none_written, piece_within, piece_run, one_piece_more, all_seen}
+use Rattle.linda_journal.proofs.whole.write_pieces.Goals as goal
+
+pub loop-rest-init : goal.loop-rest-init
+loop-rest-init g c = (
+  λ honest. none_written c.args.bytes.now (g.D.Disk.view c.args.disk.now) (g.met.D.Disk.timed c.args.disk.now honest) (c.requires.durable honest) (c.requires.closed honest),
+  refl,
+  (λ h. h, λ h. h),
+  refl,
+)
+
+pub write_at-requires : goal.write_at-requires
+write_at-requires g c still =
+    let honest = c.loop-rest.invariant.2.1 still in
+    piece_within c.args.bytes.now (g.D.Disk.view c.args.disk.now) (g.D.Disk.view c.loop-rest.disk) c.loop-rest.at c.loop-rest.rest.now (c.requires.closed honest).0 (c.loop-rest.invariant.0 honest)
+
+pub write_at-requires-2 : goal.write_at-requires-2
+write_at-requires-2 g c still =
+    let honest = c.loop-rest.invariant.2.1 still in
+    piece_within c.args.bytes.now (g.D.Disk.view c.args.disk.now) (g.D.Disk.view c.loop-rest.disk) c.loop-rest.at c.loop-rest.rest.now (c.requires.closed honest).0 (c.loop-rest.invariant.0 honest)
+
+pub returns-in_err-write_at-clause-any_moment : goal.returns-in_err-write_at-clause-any_moment
+returns-in_err-write_at-clause-any_moment g c honest =
+    let still = c.loop-rest.invariant.2.0 honest in
+    piece_run c.args.bytes.now (g.D.Disk.view c.args.disk.now) (g.D.Disk.view c.loop-rest.disk) (g.D.Disk.view c.write_at.new.self) c.loop-rest.at c.loop-rest.rest.now c.split_at.result.0.now c.write_at.result
+    (g.met.D.Disk.timed c.loop-rest.disk still) (c.loop-rest.invariant.0 honest) (c.write_at.ensures.writes still)
+
+pub loop-rest-preserved : goal.loop-rest-preserved
+loop-rest-preserved g c =
+    let rest = c.loop-rest.rest.now in
+    let piece = c.split_at.result.0.now in
+    let later = c.split_at.result.1.now in
+    let split : rest ≡ piece ++ later = sym (take-append-drop 65536 rest) ∙ ap (λ l. take 65536 rest ++ l) (sym c.split_at.ensures.back) ∙ ap (λ l. l ++ later) (sym c.split_at.ensures.front) in
+    let count : length piece ≡ 65536 = ap length c.split_at.ensures.front ∙ omega (arith, length-take 65536 rest, c.loop-rest-test.true) in (
+      λ honest.
+          let still = c.loop-rest.invariant.2.0 honest in
+          subst (λ n. IsWrittenTo c.args.bytes.now (g.D.Disk.view c.args.disk.now) (g.D.Disk.view c.write_at.new.self) (c.loop-rest.at + n) later) count
+          (one_piece_more c.args.bytes.now (g.D.Disk.view c.args.disk.now) (g.D.Disk.view c.loop-rest.disk) (g.D.Disk.view c.write_at.new.self) c.loop-rest.at rest piece later c.write_at.result (c.requires.closed honest).0
+          (g.met.D.Disk.timed c.loop-rest.disk still) (c.loop-rest.invariant.0 honest) split (c.write_at.ensures.writes still) (c.in_ok-write_at.ensures.writes still).seen),
+      omega (arith, c.loop-rest.invariant.1, count, ap length split, length-append piece later),
+      (λ h. c.write_at.ensures.honest.0 (c.loop-rest.invariant.2.0 h), λ h. c.loop-rest.invariant.2.1 (c.write_at.ensures.honest.1 h)),
+      c.in_ok-write_at.ensures.cause.ok ∙ c.loop-rest.invariant.3,
+    )
+
+pub returns-in_err-write_at-2-clause-any_moment : goal.returns-in_err-write_at-2-clause-any_moment
+returns-in_err-write_at-2-clause-any_moment g c honest =
+    let still = c.loop-rest.invariant.2.0 honest in
+    piece_run c.args.bytes.now (g.D.Disk.view c.args.disk.now) (g.D.Disk.view c.loop-rest.disk) (g.D.Disk.view c.write_at-2.new.self) c.loop-rest.at c.loop-rest.rest.now c.loop-rest.rest.now c.write_at-2.result
+    (g.met.D.Disk.timed c.loop-rest.disk still) (c.loop-rest.invariant.0 honest) (c.write_at-2.ensures.writes still)
+
+pub returns-clause-seen : goal.returns-clause-seen
+returns-clause-seen g c honest =
+    let still = c.loop-rest.invariant.2.0 honest in
+    all_seen c.args.bytes.now (g.D.Disk.view c.args.disk.now) (g.D.Disk.view c.loop-rest.disk) (g.D.Disk.view c.write_at-2.new.self) c.loop-rest.at c.loop-rest.rest.now (c.requires.closed honest).0
+    (c.loop-rest.invariant.0 honest) (c.in_ok-write_at-2.ensures.writes still).seen
+
+pub returns-clause-any_moment : goal.returns-clause-any_moment
+returns-clause-any_moment g c honest =
+    let still = c.loop-rest.invariant.2.0 honest in
+    piece_run c.args.bytes.now (g.D.Disk.view c.args.disk.now) (g.D.Disk.view c.loop-rest.disk) (g.D.Disk.view c.write_at-2.new.self) c.loop-rest.at c.loop-rest.rest.now c.loop-rest.rest.now c.write_at-2.result
+    (g.met.D.Disk.timed c.loop-rest.disk still) (c.loop-rest.invariant.0 honest) (c.write_at-2.ensures.writes still)

@@ -1,0 +1,101 @@
+//! A new bank behind a first gate that is still closed: it is written whole before that gate opens.
+
+ghost use Rattle.std.specs.Prelude.{◌≡◌, ◌∷◌, [], ◌++◌, ◌<◌, ◌≤◌, ◌+◌, ◌^◌, ◌↔◌, ℕ, List, length, IfOk, IfErr, OnOk};
+ghost use Rattle.linda_disk.specs.View.{IsDurable};
+ghost use Rattle.linda_disk.specs.Image.{overlay};
+ghost use Rattle.linda_disk.specs.Disk.{CountsFailure};
+ghost use Rattle.linda_disk.specs.Run.{LeavesOnly};
+ghost use Rattle.linda_journal.specs.declared.kinds.TheConstants.{CLOSED};
+ghost use Rattle.linda_journal.specs.Gate.{ClosesAfter, IsReady};
+ghost use Rattle.linda_journal.specs.Bank.{behind_gate};
+ghost use Rattle.linda_journal.specs.Renewal.{IsNoBank, IsClosed, IsWhole};
+
+use crate::closed::Closed;
+use crate::limits::PIECE;
+use linda_disk::{Disk, DiskFault};
+
+/// A disk on which all of a new bank stands, behind a first gate that is still closed.
+#[derive(Drop)]
+pub struct Whole<D: Disk> {
+    pub(crate) disk: D,
+    pub(crate) generation: u64,
+    pub(crate) end: usize,
+    ghost inside: { D.honest disk → end < length (D.view disk).seen },
+}
+
+/// Writes these bytes, what stands behind the first gate of a new bank of this generation, in order and in pieces; and
+/// then sees to it that they are on the disk.
+///
+/// # Errors
+///
+/// `Device` where the device failed, `Memory` where the disk found none; each hands the disk back.
+pub fn fill<D: Disk>(
+    closed: Closed<D>,
+    generation: u64,
+    bytes: &[u8],
+) -> Result<Whole<D>, (DiskFault, D)>
+    requires low { 1 ≤ generation }
+    ensures whole { (body : List ℕ) → length body < 2 ^ 32
+        → bytes.now ≡ behind_gate generation body ++ CLOSED ∷ [] → D.honest closed.disk
+        → IfOk result (λ w. IsWhole generation body w.end (D.view w.disk)) }
+    ensures new { IfOk result (λ w. (w.generation ≡ generation) × (w.end ≡ length bytes.now)) }
+    // At no moment a crash leaves a bank.
+    ensures any_moment { D.honest closed.disk
+        → IfOk result (λ w. LeavesOnly (D.view closed.disk) (D.view w.disk) IsNoBank)
+        × IfErr result (λ e. LeavesOnly (D.view closed.disk) (D.view e.1) IsNoBank) }
+    ensures honest { IfOk result (λ w. D.honest closed.disk ↔ D.honest w.disk)
+        × IfErr result (λ e. D.honest closed.disk ↔ D.honest e.1) }
+    ensures cause { IfErr result (λ e. e.0 ≡ DiskFault.Device
+        → D.failures closed.disk < D.failures e.1) }
+{
+    let mut disk = closed.into_disk();
+    match write_behind(&mut disk, bytes) {
+        Err(fault) => Err((fault, disk)),
+        Ok(()) => Ok(Whole {
+            disk,
+            generation,
+            end: bytes.len(),
+        }),
+    }
+}
+
+// Writes these bytes behind a first gate that is closed, and sees to it that they are on the disk.
+fn write_behind<D: Disk>(disk: &mut D, bytes: &[u8]) -> Result<(), DiskFault>
+    requires closed { D.honest disk.old → IsClosed (D.view disk.old).seen }
+    requires durable { D.honest disk.old → IsDurable (D.view disk.old) }
+    ensures ready { (body : List ℕ) → bytes.now ≡ body ++ CLOSED ∷ [] → D.honest disk.old
+        → OnOk result (IsReady [] 0 body (D.view disk.new)) }
+    ensures any_moment { D.honest disk.old
+        → LeavesOnly (D.view disk.old) (D.view disk.new) IsNoBank }
+    ensures long { D.honest disk.old
+        → OnOk result (length bytes.now < length (D.view disk.new).seen) }
+    ensures honest { D.honest disk.old ↔ D.honest disk.new }
+    ensures cause { CountsFailure result (D.failures disk.old) (D.failures disk.new) }
+{
+    write_pieces(disk, bytes)?;
+    disk.sync()?;
+    Ok(())
+}
+
+// Writes these bytes from offset 1 on, in order and in pieces, of which the last one may be shorter.
+fn write_pieces<D: Disk>(disk: &mut D, bytes: &[u8]) -> Result<(), DiskFault>
+    requires closed { D.honest disk.old → IsClosed (D.view disk.old).seen }
+    requires durable { D.honest disk.old → IsDurable (D.view disk.old) }
+    ensures seen { D.honest disk.old
+        → OnOk result ((D.view disk.new).seen ≡ overlay 1 bytes.now (D.view disk.old).seen) }
+    ensures any_moment { D.honest disk.old
+        → LeavesOnly (D.view disk.old) (D.view disk.new) (ClosesAfter []) }
+    ensures honest { D.honest disk.old ↔ D.honest disk.new }
+    ensures cause { CountsFailure result (D.failures disk.old) (D.failures disk.new) }
+{
+    let mut at = 1;
+    let mut rest = bytes;
+    while rest.len() > PIECE {
+        let (piece, later) = rest.split_at(PIECE);
+        disk.write_at(at, piece)?;
+        at += PIECE;
+        rest = later;
+    }
+    disk.write_at(at, rest)?;
+    Ok(())
+}
