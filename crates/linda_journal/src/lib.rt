@@ -23,9 +23,8 @@ pub use closed::{Closed, shut};
 pub use fault::BankFault;
 pub use heading::{Heading, read_heading};
 pub use journal::{Journal, JournalFault, read_journal};
-pub use limits::{MAX_DEED_BYTES, MAX_DEEDS, MAX_TUPLE_BYTES, MIN_BYTES, PIECE};
+pub use limits::{MAX_DEEDS, MIN_BYTES, PIECE};
 pub use record::Record;
-pub use size::{deed_len, tuple_len};
 pub use whole::{Whole, fill};
 
 #[cfg(test)]

@@ -3,12 +3,6 @@
 /// The most deeds of one record.
 pub const MAX_DEEDS: usize = 64;
 
-/// The most bytes that a tuple spells: a tag and 16 fields of 257 bytes, and a count.
-pub const MAX_TUPLE_BYTES: usize = 4370;
-
-/// The most bytes that a deed spells: a kind, a client and a number before a tuple.
-pub const MAX_DEED_BYTES: usize = 4383;
-
 /// The bytes that every bank has: its first gate, four letters, the generation, and the length of its body.
 pub const MIN_BYTES: usize = 17;
 

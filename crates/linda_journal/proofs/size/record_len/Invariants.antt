@@ -1,6 +1,6 @@
 use Rattle.std.proofs.Common.{◌≡◌, ◌+◌, ◌*◌, ◌≤◌, length, take}
 use Rattle.linda_journal.specs.declared.size.TheConstants.{RECORD_HEAD}
-use Rattle.linda_journal.specs.declared.limits.TheConstants.{MAX_DEED_BYTES}
+use Rattle.linda_state.specs.declared.limits.TheConstants.{MAX_DEED_BYTES}
 use Rattle.linda_journal.specs.Records.{payload}
 use Rattle.linda_journal.proofs.size.record_len.Given as goal
 
