@@ -1,0 +1,80 @@
+-- The format of a state: a snapshot.
+use Rattle.std.specs.Prelude.{◌≡◌, ℕ, ◌<◌, ◌^◌, List, [], ◌∷◌, ◌++◌, All, length}
+use Rattle.std.specs.List.{flat_map}
+use Rattle.std.specs.FinMap.{entries}
+use Rattle.linda_tuple.specs.Tuple.{Tuple}
+use Rattle.linda_codec.specs.Steps.{Reader, ◌>>=◌, many_at}
+use Rattle.linda_codec.specs.Formats.{Format, short_number, number}
+use Rattle.linda_codec.specs.Formats.{nothing, both, made_at, no_kind, choice_at}
+use Rattle.linda_codec.specs.Values as value
+use Rattle.linda_book.specs.declared.kept.KeptReply.{KeptReply}
+use Rattle.linda_book.specs.declared.kept.KeptReply.TheVariants.{Stored, Taken, Gone}
+use Rattle.linda_book.specs.Entries.{Entry}
+use Rattle.linda_state.specs.State.{State, IsState}
+use Rattle.linda_snap.specs.declared.kinds.TheConstants as kind
+
+-- ---- entries
+
+-- The id of a tuple, and the tuple.
+abbrev pub placed : Format (ℕ × Tuple)
+placed = both number value.tuple
+
+-- A kept reply's kind byte and body.
+abbrev pub spell_reply : KeptReply → List ℕ
+spell_reply (Stored id) = kind.STORED ∷ number.spell id
+spell_reply (Taken id tuple) = kind.TAKEN ∷ placed.spell (id, tuple)
+spell_reply Gone = kind.GONE ∷ []
+
+-- What has a spelling among kept replies.
+abbrev pub FitsReply : KeptReply → Type 0
+FitsReply (Stored id) = number.Fits id
+FitsReply (Taken id tuple) = placed.Fits (id, tuple)
+FitsReply Gone = Unit {0}
+
+-- The kinds of kept replies, each with its body.
+abbrev pub reply_kinds : List (ℕ × Reader KeptReply)
+reply_kinds =
+    (kind.STORED, made_at (λ id. Stored id) number) ∷ (kind.TAKEN, made_at (λ p. Taken p.0 p.1) placed)
+    ∷ (kind.GONE, made_at (λ _. Gone) nothing) ∷ []
+
+abbrev pub reply : Format KeptReply
+reply = record { spell = spell_reply; Fits = FitsReply; read = choice_at reply_kinds no_kind }
+
+-- A client, its last number, and the reply to it.
+abbrev pub kept : Format (ℕ × Entry)
+kept = both short_number (both number reply)
+
+-- ---- states
+
+-- A count of four bytes, and that many values.
+abbrev pub listed : {A : Type 0} → Format A → Format (List A)
+listed f = record {
+  spell = λ items. short_number.spell (length items) ++ flat_map f.spell items;
+  Fits = λ items. short_number.Fits (length items) × All f.Fits items;
+  read = λ bytes. short_number.read bytes >>= λ count. many_at f.read count.0 count.1;
+}
+
+-- The next id, the tuples with their ids, and the clients with what is kept for them.
+abbrev pub Parts : Type 0
+Parts = ℕ × (List (ℕ × Tuple) × List (ℕ × Entry))
+
+abbrev pub snapshot : Format Parts
+snapshot = both number (both (listed placed) (listed kept))
+
+-- The parts of a state: its tuples by rising id, its clients by rising number.
+abbrev pub parts_of : State → Parts
+parts_of st = (st.next, (entries st.bag, entries st.book))
+
+-- The one spelling of a state.
+abbrev pub spell_state : State → List ℕ
+spell_state st = snapshot.spell (parts_of st)
+
+-- The state has a spelling.
+abbrev pub FitsState : State → Type 0
+FitsState st = snapshot.Fits (parts_of st)
+
+-- The bytes, all of them, are the spelling of the state, which is in its ranges.
+pub record IsSnapshot (bytes : List ℕ) (st : State) : Type 0 where
+  pub parts : bytes ≡ spell_state st
+  pub fits : FitsState st
+  pub ranges : IsState st

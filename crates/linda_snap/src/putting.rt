@@ -1,0 +1,143 @@
+//! Writing a state as a snapshot, and how many bytes that takes.
+
+ghost use Rattle.std.specs.Prelude.{◌≡◌, ◌++◌, ◌<◌, ◌≤◌, ◌+◌, ◌^◌, ℕ, All, length, OnOk, IfSome, IfNone};
+ghost use Rattle.std.specs.List.{flat_map};
+ghost use Rattle.std.specs.FinMap.{entries};
+ghost use Rattle.linda_codec.specs.Formats.{short_number};
+ghost use Rattle.linda_state.specs.State.{IsState};
+ghost use Rattle.linda_snap.specs.Snapshot as format;
+ghost use Rattle.linda_snap.specs.Snapshot.{listed, spell_state, FitsState};
+
+use crate::cursor::{kept_after, tuple_from};
+use crate::reply::{placed_len, push_placed, push_reply, reply_len};
+use linda_bag::Bag;
+use linda_book::{Book, KeptReply};
+use linda_state::State;
+use std::alloc::AllocError;
+
+/// The bytes of a count.
+const COUNT: usize = 4;
+
+/// The bytes of the next id.
+const NEXT: usize = 8;
+
+/// The bytes of a client and its number.
+const CLIENT: usize = 12;
+
+/// Appends the spelling of the state. Where memory runs out, a part of it may stand behind the old bytes.
+///
+/// # Errors
+///
+/// `AllocError` where memory runs out.
+pub fn put_state<B: Bag>(out: &mut Vec<u8>, state: &State<B>) -> Result<(), AllocError>
+    requires ranges { IsState state.now }
+    requires short { length (spell_state state.now) < 2 ^ 32 }
+    ensures ok { OnOk result (out.new.items ≡ out.old.items ++ spell_state state.now) }
+    // It had a spelling, as every state has that is in its ranges and so short.
+    ensures fits { OnOk result (FitsState state.now) }
+{
+    out.extend_from_slice(&state.next.to_be_bytes())?;
+    push_tuples(out, state)?;
+    push_book(out, &state.book)?;
+    Ok(())
+}
+
+// Appends the count of the tuples, and each with its id; likewise.
+fn push_tuples<B: Bag>(out: &mut Vec<u8>, state: &State<B>) -> Result<(), AllocError>
+    requires ranges { IsState state.now }
+    requires short { length (entries state.now.bag) < 2 ^ 32 }
+    ensures ok { OnOk result (out.new.items
+        ≡ out.old.items ++ (listed format.placed).spell (entries state.now.bag)) }
+    ensures fits { OnOk result ((listed format.placed).Fits (entries state.now.bag)) }
+{
+    push_count(out, state.bag.len())?;
+    let mut from = 0;
+    while let Some((id, tuple)) = tuple_from(state, from) {
+        push_placed(out, id, tuple)?;
+        from = id + 1;
+    }
+    Ok(())
+}
+
+// Appends the count of the clients, and each with its number and reply; likewise.
+fn push_book(out: &mut Vec<u8>, book: &Book) -> Result<(), AllocError>
+    requires { length (entries book.now) < 2 ^ 32 }
+    ensures ok { OnOk result (out.new.items
+        ≡ out.old.items ++ (listed format.kept).spell (entries book.now)) }
+    ensures fits { OnOk result ((listed format.kept).Fits (entries book.now)) }
+{
+    push_count(out, book.len())?;
+    let mut last = None;
+    while let Some((client, entry)) = kept_after(book, last) {
+        push_kept(out, client, entry.0, entry.1)?;
+        last = Some(client);
+    }
+    Ok(())
+}
+
+// Appends a client, its last number, and the reply to it; likewise.
+fn push_kept(
+    out: &mut Vec<u8>,
+    client: u32,
+    n: u64,
+    reply: &KeptReply,
+) -> Result<(), AllocError>
+    ensures ok { OnOk result (out.new.items
+        ≡ out.old.items ++ format.kept.spell (client, (n, reply.now))) }
+    ensures fits { OnOk result (format.kept.Fits (client, (n, reply.now))) }
+{
+    out.extend_from_slice(&client.to_be_bytes())?;
+    out.extend_from_slice(&n.to_be_bytes())?;
+    push_reply(out, reply)
+}
+
+// Appends a count.
+fn push_count(out: &mut Vec<u8>, count: usize) -> Result<(), AllocError>
+    requires { count < 2 ^ 32 }
+    ensures { OnOk result (out.new.items ≡ out.old.items ++ short_number.spell count) }
+{
+    let count = count as u32;
+    out.extend_from_slice(&count.to_be_bytes())
+}
+
+/// What is left of so many bytes once the state is spelled in them; None where it spells more. No memory is taken.
+pub(crate) fn room_after<B: Bag>(state: &State<B>, room: usize) -> Option<usize>
+    requires { IsState state.now }
+    ensures some { IfSome result (λ left. left + length (spell_state state.now) ≡ room) }
+    ensures none { IfNone result (room < length (spell_state state.now)) }
+{
+    let room = room.checked_sub(NEXT)?;
+    let room = room_after_tuples(state, room)?;
+    room_after_book(&state.book, room)
+}
+
+// The same of the tuples with their count.
+fn room_after_tuples<B: Bag>(state: &State<B>, room: usize) -> Option<usize>
+    requires { IsState state.now }
+    ensures some { IfSome result (λ left.
+        left + length ((listed format.placed).spell (entries state.now.bag)) ≡ room) }
+    ensures none { IfNone result (room < length ((listed format.placed).spell (entries state.now.bag))) }
+{
+    let mut left = room.checked_sub(COUNT)?;
+    let mut from = 0;
+    while let Some((id, tuple)) = tuple_from(state, from) {
+        left = left.checked_sub(placed_len(tuple))?;
+        from = id + 1;
+    }
+    Some(left)
+}
+
+// The same of the book.
+fn room_after_book(book: &Book, room: usize) -> Option<usize>
+    ensures some { IfSome result (λ left.
+        left + length ((listed format.kept).spell (entries book.now)) ≡ room) }
+    ensures none { IfNone result (room < length ((listed format.kept).spell (entries book.now))) }
+{
+    let mut left = room.checked_sub(COUNT)?;
+    let mut last = None;
+    while let Some((client, entry)) = kept_after(book, last) {
+        left = left.checked_sub(CLIENT + reply_len(entry.1))?;
+        last = Some(client);
+    }
+    Some(left)
+}

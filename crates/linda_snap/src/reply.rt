@@ -1,0 +1,112 @@
+//! A kept reply as bytes: a kind byte, and the id and the tuple that it tells.
+
+ghost use Rattle.std.specs.Prelude.{◌≡◌, ◌++◌, ◌≤◌, ◌+◌, length, OnOk};
+ghost use Rattle.linda_codec.specs.Steps.{Gives, GivesAlways};
+ghost use Rattle.linda_codec.specs.Formats.{made_at, number};
+ghost use Rattle.linda_book.specs.declared.kept.KeptReply.TheVariants.{Stored, Taken};
+ghost use Rattle.linda_codec.specs.Values as value;
+ghost use Rattle.linda_snap.specs.declared.reply.TheConstants.{ID};
+ghost use Rattle.linda_snap.specs.Snapshot as format;
+
+use crate::kinds::{GONE, STORED, TAKEN};
+use linda_book::KeptReply;
+use linda_codec::{ReadFault, put_tuple, read_tuple, read_u64};
+use linda_journal::tuple_len;
+use linda_tuple::Tuple;
+use std::alloc::{AllocError, Global};
+
+/// Reads a kept reply, and gives the bytes after it.
+///
+/// # Errors
+///
+/// The first fault from the left, told by the count of bytes left; `Memory` where a tuple finds none.
+pub(crate) fn read_reply(alloc: Global, bytes: &[u8]) -> Result<(KeptReply, &[u8]), ReadFault>
+    ensures { Gives (λ x. (x.0, x.1.now)) result (format.reply.read bytes.now) }
+{
+    match bytes {
+        [] => Err(ReadFault::Short),
+        [STORED, body @ ..] => stored_from(body),
+        [TAKEN, body @ ..] => taken_from(alloc, body),
+        [GONE, rest @ ..] => Ok((KeptReply::Gone, rest)),
+        [_, ..] => Err(ReadFault::BadKind(bytes.len())),
+    }
+}
+
+fn stored_from(body: &[u8]) -> Result<(KeptReply, &[u8]), ReadFault>
+    ensures { GivesAlways (λ x. (x.0, x.1.now)) result
+        (made_at (λ id. Stored id) number body.now) }
+{
+    let (id, rest) = read_u64(body)?;
+    Ok((KeptReply::Stored(id), rest))
+}
+
+fn taken_from(alloc: Global, body: &[u8]) -> Result<(KeptReply, &[u8]), ReadFault>
+    ensures { Gives (λ x. (x.0, x.1.now)) result
+        (made_at (λ p. Taken p.0 p.1) format.placed body.now) }
+{
+    let (id, tuple, rest) = read_placed(alloc, body)?;
+    Ok((KeptReply::Taken(id, tuple), rest))
+}
+
+/// Reads an id and a tuple, and gives the bytes after them; likewise.
+pub(crate) fn read_placed(alloc: Global, bytes: &[u8]) -> Result<(u64, Tuple, &[u8]), ReadFault>
+    ensures { Gives (λ x. ((x.0, x.1), x.2.now)) result (format.placed.read bytes.now) }
+{
+    let (id, rest) = read_u64(bytes)?;
+    let (tuple, rest) = read_tuple(alloc, rest)?;
+    Ok((id, tuple, rest))
+}
+
+/// Appends the spelling of the kept reply. Where memory runs out, a part of it may stand behind the old bytes.
+pub(crate) fn push_reply(out: &mut Vec<u8>, reply: &KeptReply) -> Result<(), AllocError>
+    ensures ok { OnOk result (out.new.items ≡ out.old.items ++ format.spell_reply reply.now) }
+    ensures fits { OnOk result (format.FitsReply reply.now) }
+{
+    match reply {
+        KeptReply::Stored(id) => {
+            out.push(STORED)?;
+            out.extend_from_slice(&id.to_be_bytes())
+        }
+        KeptReply::Taken(id, tuple) => {
+            out.push(TAKEN)?;
+            push_placed(out, *id, tuple)
+        }
+        KeptReply::Gone => {
+            out.push(GONE)?;
+            Ok(())
+        }
+    }
+}
+
+/// Appends the spelling of an id and a tuple; likewise.
+pub(crate) fn push_placed(out: &mut Vec<u8>, id: u64, tuple: &Tuple) -> Result<(), AllocError>
+    ensures ok { OnOk result (out.new.items
+        ≡ out.old.items ++ format.placed.spell (id, tuple.now)) }
+    ensures fits { OnOk result (format.placed.Fits (id, tuple.now)) }
+{
+    out.extend_from_slice(&id.to_be_bytes())?;
+    put_tuple(out, tuple)
+}
+
+/// How many bytes the kept reply spells.
+pub(crate) fn reply_len(reply: &KeptReply) -> usize
+    ensures exact { result ≡ length (format.spell_reply reply.now) }
+    ensures short { result ≤ 65536 }
+{
+    match reply {
+        KeptReply::Stored(_) => 1 + ID,
+        KeptReply::Taken(_, tuple) => 1 + placed_len(tuple),
+        KeptReply::Gone => 1,
+    }
+}
+
+/// How many bytes an id and the tuple spell.
+pub(crate) fn placed_len(tuple: &Tuple) -> usize
+    ensures exact { result ≡ ID + length (value.tuple.spell tuple.now) }
+    ensures short { result ≤ 65535 }
+{
+    ID + tuple_len(tuple)
+}
+
+/// The bytes of an id.
+const ID: usize = 8;
