@@ -1,0 +1,4 @@
+pub mod Pairs
+pub mod Disks
+pub mod Served
+pub mod Calls

@@ -1,0 +1,19 @@
+-- Two disks at a moment, and what crashes leave of the two.
+use Rattle.std.specs.Prelude.{ℕ, ◌≤◌, List}
+use Rattle.linda_disk.specs.View.{View}
+
+-- The left disk and the right one, as clauses speak of them.
+pub record Both : Type 1 where
+  pub left : View
+  pub right : View
+
+-- A crash of each disk at some moment since old, whichever these are, leaves two images that have P.
+pub record PairsSince (old new : Both) (P : List ℕ → List ℕ → Type 0) : Type 0 where
+  pub left_later : old.left.moment ≤ new.left.moment
+  pub right_later : old.right.moment ≤ new.right.moment
+  pub each : (left right : List ℕ) → new.left.left_since old.left.moment left
+      → new.right.left_since old.right.moment right → P left right
+
+-- A crash now leaves two images that have P.
+abbrev pub PairsNow : Both → (List ℕ → List ℕ → Type 0) → Type 0
+PairsNow now P = (left right : List ℕ) → now.left.may_leave left → now.right.may_leave right → P left right

@@ -1,0 +1,28 @@
+//! The two disks of a server.
+
+/// The two disks of a server. What a bank is and what a disk is, is left to who uses them.
+#[derive(Drop)]
+pub(crate) enum Disks<B, D> {
+    /// A bank is in use.
+    InUse(Pair<B, D>),
+    /// None is.
+    Shut {
+        /// The left disk.
+        left: D,
+        /// The right one.
+        right: D,
+    },
+    /// A call has them, which gives them back before it ends.
+    Away,
+}
+
+/// A bank in use, and the other disk.
+#[derive(Drop)]
+pub(crate) struct Pair<B, D> {
+    /// The bank in use.
+    pub(crate) bank: B,
+    /// The disk that is not in use.
+    pub(crate) other: D,
+    /// Whether the bank in use is the right one.
+    pub(crate) is_right: bool,
+}
