@@ -1,3 +1,5 @@
 pub mod SnapshotLaws
 pub mod RisingLaws
 pub mod PuttingLaws
+pub mod ReadingLaws
+pub mod StateLaws

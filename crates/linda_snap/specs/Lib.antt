@@ -1,3 +1,4 @@
 pub mod Snapshot
 pub mod Rising
 
+pub mod Reading

@@ -4,6 +4,8 @@
 mod cursor;
 mod kinds;
 mod putting;
+mod reading;
 mod reply;
 
 pub use putting::put_state;
+pub use reading::{SnapshotFault, get_state};
