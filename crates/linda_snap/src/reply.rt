@@ -11,7 +11,7 @@ ghost use Rattle.linda_snap.specs.Snapshot as format;
 use crate::kinds::{GONE, STORED, TAKEN};
 use linda_book::KeptReply;
 use linda_codec::{ReadFault, put_tuple, read_tuple, read_u64};
-use linda_journal::tuple_len;
+use linda_state::tuple_len;
 use linda_tuple::Tuple;
 use std::alloc::{AllocError, Global};
 
