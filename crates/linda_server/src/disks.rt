@@ -1,6 +1,11 @@
-//! The two disks of a server.
+//! The two disks of a server, of which one holds the bank in use, and how deeds come onto that.
 
-/// The two disks of a server. What a bank is and what a disk is, is left to who uses them.
+ghost use Rattle.std.specs.Prelude.{◌≡◌, ◌<◌, ◌≤◌, ◌+◌, ◌↔◌, length, OnOk, IsErrOf};
+ghost use Rattle.linda_disk.specs.View.{View};
+
+use std::alloc::Global;
+
+/// The two disks of a server. What a bank and a disk are is left to who uses them.
 #[derive(Drop)]
 pub(crate) enum Disks<B, D> {
     /// A bank is in use.
