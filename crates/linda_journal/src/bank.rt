@@ -59,6 +59,24 @@ impl<D: Disk> Bank<D> {
         self.records
     }
 
+    /// The most bytes that the bank may have.
+    pub fn limit(&self) -> usize
+        ensures { result ≡ self.now.limit }
+    {
+        self.limit
+    }
+
+    /// Ends the use of the bank: from now on `append` tells `Spent`, and the disk is to be opened again. No device call
+    /// is made.
+    pub fn retire(&mut self)
+        ensures spent { self.new.is_spent ≡ true }
+        ensures same { (self.new.disk ≡ self.old.disk) × (self.new.generation ≡ self.old.generation)
+            × (self.new.limit ≡ self.old.limit) × (self.new.end ≡ self.old.end)
+            × (self.new.records ≡ self.old.records) }
+    {
+        self.is_spent = true;
+    }
+
     /// The disk that the bank is on.
     pub fn into_disk(self) -> D
         ensures { result ≡ self.disk }

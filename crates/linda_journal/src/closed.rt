@@ -54,6 +54,7 @@ pub fn shut<D: Disk>(disk: D) -> Result<Closed<D>, (DiskFault, D)>
         × IfErr result (λ e. D.honest disk ↔ D.honest e.1) }
     ensures cause { IfErr result (λ e. e.0 ≡ DiskFault.Device
         → D.failures disk < D.failures e.1) }
+    ensures steady { IfOk result (λ c. D.failures c.disk ≡ D.failures disk) }
 {
     let mut disk = disk;
     match close(&mut disk) {

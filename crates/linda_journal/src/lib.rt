@@ -24,6 +24,7 @@ pub use fault::BankFault;
 pub use heading::{Heading, read_heading};
 pub use journal::{Journal, JournalFault, read_journal};
 pub use limits::{MAX_DEEDS, MIN_BYTES, PIECE};
+pub use making::spell_front;
 pub use record::Record;
 pub use whole::{Whole, fill};
 

@@ -19,7 +19,7 @@ use std::alloc::{AllocError, Global};
 const MAGIC: [u8; 4] = [b'L', b'N', b'D', b'1'];
 
 /// What is to stand behind the first gate of a new bank, with the closed gate of its journal at its end.
-pub(crate) fn spell_front(
+pub fn spell_front(
     alloc: Global,
     generation: u64,
     body: &[u8],

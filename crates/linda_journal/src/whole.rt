@@ -47,6 +47,7 @@ pub fn fill<D: Disk>(
         × IfErr result (λ e. D.honest closed.disk ↔ D.honest e.1) }
     ensures cause { IfErr result (λ e. e.0 ≡ DiskFault.Device
         → D.failures closed.disk < D.failures e.1) }
+    ensures steady { IfOk result (λ w. D.failures w.disk ≡ D.failures closed.disk) }
 {
     let mut disk = closed.into_disk();
     match write_behind(&mut disk, bytes) {

@@ -3,3 +3,4 @@ pub mod RisingLaws
 pub mod PuttingLaws
 pub mod ReadingLaws
 pub mod StateLaws
+pub mod StandsLaws

@@ -2,3 +2,5 @@ pub mod Snapshot
 pub mod Rising
 
 pub mod Reading
+pub mod Stands
+pub mod Switch

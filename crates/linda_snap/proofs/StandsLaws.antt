@@ -1,0 +1,79 @@
+-- Which state stands on two banks, while one of them becomes a new one.
+use Rattle.std.proofs.Common.{◌≡◌, ℕ, ◌+◌, ◌<◌, ◌≤◌, ◌^◌, inl, inr, List, [], ◌∷◌, ◌++◌, length, refl, sym, ap, subst, ◌∙◌, length-append, arith}
+use Rattle.linda_state.specs.State.{State, IsState}
+use Rattle.linda_state.specs.Proper.{AreDone}
+use Rattle.linda_state.proofs.ProperLaws.{none_done}
+use Rattle.linda_state.specs.declared.deed.Deed.{Deed}
+use Rattle.linda_disk.specs.View.{View, IsDurable, IsTimed}
+use Rattle.linda_disk.specs.Run.{LeavesOnly}
+use Rattle.linda_disk.proofs.RunLaws.{started, weaker, joined}
+use Rattle.linda_journal.specs.declared.heading.Heading.TheVariants as headings
+use Rattle.linda_journal.specs.Heading.{IsHeading}
+use Rattle.linda_journal.specs.Bank.{IsBank, IsSettled, IsNoneOrNew}
+use Rattle.linda_journal.specs.Renewal.{IsNoBank, IsSameOrNone}
+use Rattle.linda_journal.proofs.ImageLaws.{is_candidate}
+use Rattle.linda_snap.specs.Snapshot.{spell_state, FitsState}
+use Rattle.linda_snap.specs.Stands.{StandsOn, IsLesser, IsInUse, Stands, IsUp, StandsBeside}
+use Rattle.linda_snap.specs.Switch.{IsOldNoneOrNew}
+
+-- ---- the runs of a renewal
+
+module _ (generation : ℕ) (body : List ℕ) (old mid : View) where
+  pub filling : (new : View) → LeavesOnly old mid (IsSameOrNone old.seen) → LeavesOnly mid new IsNoBank → LeavesOnly old new (IsOldNoneOrNew old.seen generation body)
+  filling new first second =
+      joined old mid new (IsSameOrNone old.seen) IsNoBank (IsOldNoneOrNew old.seen generation body) first second shut (λ image is. inr (inl is))
+    where
+      shut : (image : List ℕ) → IsSameOrNone old.seen image → IsOldNoneOrNew old.seen generation body image
+      shut image (inl is) = inl is
+      shut image (inr is) = inr (inl is)
+
+  pub opening : (new : View) → LeavesOnly old mid (IsOldNoneOrNew old.seen generation body) → LeavesOnly mid new (IsNoneOrNew generation body) → LeavesOnly old new (IsOldNoneOrNew old.seen generation body)
+  opening new first second =
+      joined old mid new (IsOldNoneOrNew old.seen generation body) (IsNoneOrNew generation body) (IsOldNoneOrNew old.seen generation body) first second (λ image is. is) (λ image is. inr is)
+
+-- ---- what stands
+
+-- A bank begins with its generation.
+pub heading_of : (file : List ℕ) (generation : ℕ) (body : List ℕ) (records : List (List Deed)) → IsBank file generation body records → IsHeading file (headings.Bank generation)
+heading_of file generation body records bank = (bank.low, bank.fits, (is_candidate file generation body records bank).0, (_, bank.parts))
+
+module _ (generation end : ℕ) (used other : View) (st : State) (up : IsUp generation end used other st) where
+  on_used : StandsOn used.seen generation st
+  on_used = record { opening = up.opening; ranges = up.ranges; fits = up.fits; records = up.records; bank = up.settled.file; done = up.done }
+
+  -- A crash now leaves what stands for the state.
+  pub stands_now : StandsBeside used.seen st other.seen
+  stands_now = inl record { generation = generation; stands = on_used; lesser = up.lesser }
+
+  pub stays_so : IsTimed other → LeavesOnly other other (StandsBeside used.seen st)
+  stays_so timed = started other (StandsBeside used.seen st) timed (λ image left. subst (StandsBeside used.seen st) (sym (up.durable image left)) stands_now)
+
+  -- The bank in use is lesser than one of the next generation.
+  lesser_next : IsLesser (generation + 1) used.seen
+  lesser_next = inr (generation, heading_of used.seen generation (spell_state up.opening) up.records up.settled.file, omega arith)
+
+  -- So does a crash while the other disk becomes a new bank,
+  pub stands_beside : IsState st → FitsState st → (image : List ℕ) → IsOldNoneOrNew other.seen (generation + 1) (spell_state st) image → StandsBeside used.seen st image
+  stands_beside ranges fits image (inl same) = subst (StandsBeside used.seen st) (sym same) stands_now
+  stands_beside ranges fits image (inr (inl none)) = inl record { generation = generation; stands = on_used; lesser = inl none }
+  stands_beside ranges fits image (inr (inr bank)) = inr record {
+    generation = generation + 1;
+    stands = record { opening = st; ranges = ranges; fits = fits; records = []; bank = bank; done = none_done st ranges };
+    lesser = lesser_next;
+  }
+
+  pub switching : (new : View) → IsState st → FitsState st → LeavesOnly other new (IsOldNoneOrNew other.seen (generation + 1) (spell_state st)) → LeavesOnly other new (StandsBeside used.seen st)
+  switching new ranges fits run = weaker other new (IsOldNoneOrNew other.seen (generation + 1) (spell_state st)) (StandsBeside used.seen st) run (stands_beside ranges fits)
+
+  -- and once it is one.
+  pub switched : (new_end : ℕ) (new : View) → IsState st → FitsState st → IsSettled (generation + 1) (spell_state st) [] new_end new → IsUp (generation + 1) new_end new used st
+  switched new_end new ranges fits settled = record {
+    opening = st;
+    ranges = ranges;
+    fits = fits;
+    records = [];
+    settled = settled;
+    done = none_done st ranges;
+    lesser = lesser_next;
+    durable = up.settled.durable;
+  }

@@ -1,0 +1,58 @@
+use Rattle.std.proofs.Common.{◌≡◌, ◌+◌, ◌<◌, ◌^◌, [], length, subst, sym, ◌∙◌, arith, rules}
+use Rattle.linda_disk.specs.Run.{LeavesOnly}
+use Rattle.linda_journal.specs.Bank.{IsSettled}
+use Rattle.linda_snap.specs.Snapshot.{spell_state}
+use Rattle.linda_snap.specs.Stands.{IsUp, StandsBeside}
+use Rattle.linda_snap.specs.Switch.{IsOldNoneOrNew}
+use Rattle.linda_snap.proofs.StandsLaws.{stays_so, switching, switched}
+use Rattle.linda_snap.proofs.renewal.switch.Goals as goal
+
+pub returns-then-not-has_room-clause-any_moment : goal.returns-then-not-has_room-clause-any_moment
+returns-then-not-has_room-clause-any_moment g c used honest up =
+    (tt, stays_so c.args.current.generation c.args.current.end (g.D.Disk.view c.args.current.disk) (g.D.Disk.view c.args.other) c.args.state.now up (g.met.D.Disk.timed c.args.other honest))
+
+pub returns-in_default-clause-any_moment : goal.returns-in_default-clause-any_moment
+returns-in_default-clause-any_moment g c used honest up =
+    (tt, stays_so c.args.current.generation c.args.current.end (g.D.Disk.view c.args.current.disk) (g.D.Disk.view c.args.other) c.args.state.now up (g.met.D.Disk.timed c.args.other honest))
+
+pub returns-in_default-spell_bank-clause-any_moment : goal.returns-in_default-spell_bank-clause-any_moment
+returns-in_default-spell_bank-clause-any_moment g c used honest up =
+    (tt, stays_so c.args.current.generation c.args.current.end (g.D.Disk.view c.args.current.disk) (g.D.Disk.view c.args.other) c.args.state.now up (g.met.D.Disk.timed c.args.other honest))
+
+pub returns-in-Ok-renew-clause-any_moment : goal.returns-in-Ok-renew-clause-any_moment
+returns-in-Ok-renew-clause-any_moment g c used honest up =
+    let st = c.args.state.now in
+    let next : c.in-Some.generation ≡ c.args.current.generation + 1 = grind (arith, c.in-Some.ensures, c.generation.ensures) in
+    let room = c.if-not-has_room.ensures.yes (search rules) in
+    let short : length (spell_state st) < 2 ^ 32 = omega (arith, room, c.limit-limit.ensures, c.requires.short) in
+    let bytes = c.deref.ensures.value ∙ c.in-Ok.ensures.bytes in (
+      switching c.args.current.generation c.args.current.end (g.D.Disk.view c.args.current.disk) (g.D.Disk.view c.args.other) st up (g.D.Disk.view c.in-Ok-renew.bank.disk) c.requires.ranges c.in-Ok.ensures.fits
+          (subst (λ n. LeavesOnly (g.D.Disk.view c.args.other) (g.D.Disk.view c.in-Ok-renew.bank.disk) (IsOldNoneOrNew (g.D.Disk.view c.args.other).seen n (spell_state st))) next (c.in-Ok-renew.ensures.any_moment (spell_state st) short bytes honest).0),
+      tt,
+    )
+
+pub returns-in-Ok-renew-clause-done : goal.returns-in-Ok-renew-clause-done
+returns-in-Ok-renew-clause-done g c used honest up =
+    let st = c.args.state.now in
+    let next : c.in-Some.generation ≡ c.args.current.generation + 1 = grind (arith, c.in-Some.ensures, c.generation.ensures) in
+    let room = c.if-not-has_room.ensures.yes (search rules) in
+    let short : length (spell_state st) < 2 ^ 32 = omega (arith, room, c.limit-limit.ensures, c.requires.short) in
+    let bytes = c.deref.ensures.value ∙ c.in-Ok.ensures.bytes in
+    let bank = c.in-Ok-renew.bank in
+    let up_next = switched c.args.current.generation c.args.current.end (g.D.Disk.view c.args.current.disk) (g.D.Disk.view c.args.other) st up bank.end (g.D.Disk.view bank.disk) c.requires.ranges c.in-Ok.ensures.fits
+        (subst (λ n. IsSettled n (spell_state st) [] bank.end (g.D.Disk.view bank.disk)) next (c.in-Ok-renew.ensures.done (spell_state st) short bytes honest)) in
+    let same : bank.generation ≡ c.args.current.generation + 1 = c.in-Ok-renew.ensures.new.0 ∙ next in
+    subst (λ n. IsUp n bank.end (g.D.Disk.view bank.disk) (g.D.Disk.view c.into_disk.result) st) (sym same)
+    (subst (λ d. IsUp (c.args.current.generation + 1) bank.end (g.D.Disk.view bank.disk) (g.D.Disk.view d) st) (sym c.into_disk.ensures) up_next)
+
+pub returns-clause-any_moment : goal.returns-clause-any_moment
+returns-clause-any_moment g c used honest up =
+    let st = c.args.state.now in
+    let next : c.in-Some.generation ≡ c.args.current.generation + 1 = grind (arith, c.in-Some.ensures, c.generation.ensures) in
+    let room = c.if-not-has_room.ensures.yes (search rules) in
+    let short : length (spell_state st) < 2 ^ 32 = omega (arith, room, c.limit-limit.ensures, c.requires.short) in
+    let bytes = c.deref.ensures.value ∙ c.in-Ok.ensures.bytes in (
+      tt,
+      switching c.args.current.generation c.args.current.end (g.D.Disk.view c.args.current.disk) (g.D.Disk.view c.args.other) st up (g.D.Disk.view c.in-Err.other) c.requires.ranges c.in-Ok.ensures.fits
+          (subst (λ n. LeavesOnly (g.D.Disk.view c.args.other) (g.D.Disk.view c.in-Err.other) (IsOldNoneOrNew (g.D.Disk.view c.args.other).seen n (spell_state st))) next (c.in-Err.ensures.any_moment (spell_state st) short bytes honest).1),
+    )

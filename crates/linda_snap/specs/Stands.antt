@@ -1,0 +1,55 @@
+-- Which state stands on two banks.
+use Rattle.std.specs.Prelude.{◌≡◌, ℕ, ◌<◌, ◌⊎◌, List}
+use Rattle.std.specs.List.{flat_map}
+use Rattle.linda_state.specs.declared.deed.Deed.{Deed}
+use Rattle.linda_state.specs.State.{State, IsState}
+use Rattle.linda_state.specs.Proper.{AreDone}
+use Rattle.linda_disk.specs.View.{View, IsDurable}
+use Rattle.linda_journal.specs.declared.heading.Heading.TheVariants as headings
+use Rattle.linda_journal.specs.Heading.{IsHeading}
+use Rattle.linda_journal.specs.Bank.{IsBank, IsSettled}
+use Rattle.linda_journal.specs.Renewal.{IsNoBank}
+use Rattle.linda_snap.specs.Snapshot.{spell_state, FitsState}
+
+-- The deeds of all records, in order.
+abbrev pub deeds_in : List (List Deed) → List Deed
+deeds_in records = flat_map (λ ds. ds) records
+
+-- The bytes are a bank of this generation, with a snapshot of a state from which the deeds of its records lead to that one.
+pub record StandsOn (file : List ℕ) (generation : ℕ) (st : State) : Type 0 where
+  pub opening : State
+  pub ranges : IsState opening
+  pub fits : FitsState opening
+  pub records : List (List Deed)
+  pub bank : IsBank file generation (spell_state opening) records
+  pub done : AreDone opening (deeds_in records) st
+
+-- The bytes are no bank, or one of a lesser generation.
+abbrev pub IsLesser : ℕ → List ℕ → Type 0
+IsLesser generation file =
+    IsNoBank file ⊎ ((lesser : ℕ) × IsHeading file (headings.Bank lesser) × (lesser < generation))
+
+-- Of two banks, the first is in use and stands for the state, and the other is lesser.
+pub record IsInUse (file other : List ℕ) (st : State) : Type 0 where
+  pub generation : ℕ
+  pub stands : StandsOn file generation st
+  pub lesser : IsLesser generation other
+
+-- Two banks stand for the state: one of them alone, or that of the greater generation.
+abbrev pub Stands : List ℕ → List ℕ → State → Type 0
+Stands left right st = IsInUse left right st ⊎ IsInUse right left st
+
+-- On two disks the bank in use, which ends at this offset, stands for the state, and a crash now leaves them so.
+pub record IsUp (generation end : ℕ) (used other : View) (st : State) : Type 0 where
+  pub opening : State
+  pub ranges : IsState opening
+  pub fits : FitsState opening
+  pub records : List (List Deed)
+  pub settled : IsSettled generation (spell_state opening) records end used
+  pub done : AreDone opening (deeds_in records) st
+  pub lesser : IsLesser generation other.seen
+  pub durable : IsDurable other
+
+-- What is left of the other disk stands, beside that bank, for the state: whichever of the two is in use.
+abbrev pub StandsBeside : List ℕ → State → List ℕ → Type 0
+StandsBeside used st image = Stands used image st

@@ -1,0 +1,16 @@
+-- What a crash may leave of a disk that becomes a new bank.
+use Rattle.std.specs.Prelude.{◌≡◌, ℕ, ◌⊎◌, List}
+use Rattle.linda_disk.specs.declared.fault.DiskFault.{DiskFault}
+use Rattle.linda_disk.specs.declared.fault.DiskFault.TheVariants as device
+use Rattle.linda_journal.specs.Bank.{IsNoneOrNew}
+use Rattle.linda_snap.specs.declared.renewal.SwitchFault.{SwitchFault}
+use Rattle.linda_snap.specs.declared.renewal.SwitchFault.TheVariants.{Disk, Memory}
+
+-- The bytes of before, or no bank, or the whole new one.
+abbrev pub IsOldNoneOrNew : List ℕ → ℕ → List ℕ → List ℕ → Type 0
+IsOldNoneOrNew old generation body file = (file ≡ old) ⊎ IsNoneOrNew generation body file
+
+-- What a disk's fault is told as.
+abbrev pub fault_of_disk : DiskFault → SwitchFault
+fault_of_disk device.Device = Disk
+fault_of_disk device.Memory = Memory

@@ -1,0 +1,185 @@
+//! The switch of a server to its other disk: a new bank there whose body is a snapshot of the state.
+
+ghost use Rattle.std.specs.Prelude.{◌≡◌, ◌∷◌, [], ◌++◌, ◌<◌, ◌≤◌, ◌+◌, ◌^◌, ◌↔◌, ◌⊎◌, ℕ, List, true, false, length, IfOk, IfErr, OnOk};
+ghost use Rattle.linda_state.specs.State.{IsState};
+ghost use Rattle.linda_disk.specs.View.{IsDurable};
+ghost use Rattle.linda_disk.specs.Run.{LeavesOnly};
+ghost use Rattle.linda_journal.specs.declared.kinds.TheConstants.{CLOSED};
+ghost use Rattle.linda_journal.specs.declared.limits.TheConstants.{MIN_BYTES};
+ghost use Rattle.linda_journal.specs.Bank.{behind_gate, IsSettled};
+ghost use Rattle.linda_snap.specs.Snapshot.{spell_state, FitsState};
+ghost use Rattle.linda_snap.specs.Stands.{IsUp, StandsBeside};
+ghost use Rattle.linda_snap.specs.Switch.{IsOldNoneOrNew, fault_of_disk};
+
+use crate::putting::{put_state, room_after};
+use linda_bag::Bag;
+use linda_disk::{Disk, DiskFault};
+use linda_journal::{Bank, MIN_BYTES, fill, shut, spell_front, unlock};
+use linda_state::State;
+use std::alloc::{AllocError, Global};
+use thiserror::Error;
+
+/// Why a server did not switch.
+#[derive(Clone, Copy, Debug, PartialEq, Eq, Error)]
+pub enum SwitchFault {
+    /// The new bank would be longer than its limit.
+    #[error("the bank is full")]
+    BankFull,
+    /// The bank in use has the last generation.
+    #[error("no generation is left")]
+    GenerationsSpent,
+    /// No memory.
+    #[error("out of memory")]
+    Memory,
+    /// The device failed, which it counts; both disks are to be opened again.
+    #[error("the device failed")]
+    Disk,
+}
+
+impl From<DiskFault> for SwitchFault {
+    ghost from_gives = { λ fault told. told ≡ fault_of_disk fault };
+
+    fn from(fault: DiskFault) -> SwitchFault {
+        match fault {
+            DiskFault::Device => SwitchFault::Disk,
+            DiskFault::Memory => SwitchFault::Memory,
+        }
+    }
+}
+
+/// Makes a new bank of the next generation on the disk that is not in use, whose body is a snapshot of the state and
+/// whose journal is empty; and gives it, with the disk of the bank that was in use. That disk is not touched.
+///
+/// # Errors
+///
+/// `BankFull` before all others, then `GenerationsSpent`, then `Memory`: before any device call, and all is handed
+/// back as it was. `Disk` where the device failed, and `Memory` where the disk found none: the bank that was in use is
+/// handed back spent, and both disks are to be opened again.
+pub fn switch<B: Bag, D: Disk>(
+    alloc: Global,
+    current: Bank<D>,
+    other: D,
+    state: &State<B>,
+) -> Result<(Bank<D>, D), (SwitchFault, Bank<D>, D)>
+    requires ranges { IsState state.now }
+    requires short { current.limit < 2 ^ 32 }
+    requires durable { D.honest other → IsDurable (D.view other) }
+    // At no moment a crash leaves anything on the other disk but what stands, beside the bank in use, for the state;
+    ensures any_moment { D.honest current.disk → D.honest other
+        → IsUp current.generation current.end (D.view current.disk) (D.view other) state.now
+        → IfOk result (λ x. LeavesOnly (D.view other) (D.view x.0.disk)
+        (StandsBeside (D.view current.disk).seen state.now))
+        × IfErr result (λ e. LeavesOnly (D.view other) (D.view e.2)
+        (StandsBeside (D.view current.disk).seen state.now)) }
+    // at Ok the new bank is in use, and stands for it.
+    ensures done { D.honest current.disk → D.honest other
+        → IsUp current.generation current.end (D.view current.disk) (D.view other) state.now
+        → IfOk result (λ x. IsUp x.0.generation x.0.end (D.view x.0.disk) (D.view x.1) state.now) }
+    ensures new { IfOk result (λ x. (x.0.generation ≡ current.generation + 1)
+        × (x.0.limit ≡ current.limit) × (x.0.records ≡ 0) × (x.0.is_spent ≡ false)) }
+    // The disk that was in use is not touched.
+    ensures same { IfOk result (λ x. x.1 ≡ current.disk)
+        × IfErr result (λ e. e.1.disk ≡ current.disk) }
+    // It is BankFull exactly where the new bank would be longer than the limit,
+    ensures full { IfErr result (λ e. e.0 ≡ SwitchFault.BankFull
+        ↔ (current.limit < MIN_BYTES + 1 + length (spell_state state.now))) }
+    ensures room { OnOk result (MIN_BYTES + 1 + length (spell_state state.now) ≤ current.limit) }
+    // and GenerationsSpent else, exactly where no generation is left.
+    ensures last { IfErr result (λ e. e.0 ≡ SwitchFault.GenerationsSpent
+        ↔ (MIN_BYTES + 1 + length (spell_state state.now) ≤ current.limit)
+        × (2 ^ 64 ≤ current.generation + 1)) }
+    // All is handed back as it was, or a device call was cut off and the bank is spent.
+    ensures refused { IfErr result (λ e. (e.0 ≡ SwitchFault.BankFull → (e.1 ≡ current) × (e.2 ≡ other))
+        × (e.0 ≡ SwitchFault.GenerationsSpent → (e.1 ≡ current) × (e.2 ≡ other))
+        × (e.0 ≡ SwitchFault.Memory → ((e.1 ≡ current) × (e.2 ≡ other)) ⊎ (e.1.is_spent ≡ true))
+        × (e.0 ≡ SwitchFault.Disk → e.1.is_spent ≡ true)) }
+    ensures honest { IfOk result (λ x. D.honest other ↔ D.honest x.0.disk)
+        × IfErr result (λ e. D.honest other ↔ D.honest e.2) }
+    ensures cause { IfErr result (λ e. e.0 ≡ SwitchFault.Disk
+        → D.failures other < D.failures e.2) }
+{
+    let limit = current.limit();
+    if !has_room(state, limit) {
+        return Err((SwitchFault::BankFull, current, other));
+    }
+    let Some(generation) = current.generation().checked_add(1) else {
+        return Err((SwitchFault::GenerationsSpent, current, other));
+    };
+    let Ok(bytes) = spell_bank(alloc, generation, state) else {
+        return Err((SwitchFault::Memory, current, other));
+    };
+    match renew(other, generation, &bytes, limit) {
+        Ok(bank) => Ok((bank, current.into_disk())),
+        Err((fault, other)) => {
+            let mut current = current;
+            current.retire();
+            Err((SwitchFault::from(fault), current, other))
+        }
+    }
+}
+
+// Makes a new bank of these bytes, which stand behind its first gate, on a disk that is not in use.
+fn renew<D: Disk>(
+    other: D,
+    generation: u64,
+    bytes: &[u8],
+    limit: usize,
+) -> Result<Bank<D>, (DiskFault, D)>
+    requires low { 1 ≤ generation }
+    requires durable { D.honest other → IsDurable (D.view other) }
+    ensures done { (body : List ℕ) → length body < 2 ^ 32
+        → bytes.now ≡ behind_gate generation body ++ CLOSED ∷ [] → D.honest other
+        → IfOk result (λ b. IsSettled generation body [] b.end (D.view b.disk)) }
+    ensures any_moment { (body : List ℕ) → length body < 2 ^ 32
+        → bytes.now ≡ behind_gate generation body ++ CLOSED ∷ [] → D.honest other
+        → IfOk result (λ b. LeavesOnly (D.view other) (D.view b.disk)
+        (IsOldNoneOrNew (D.view other).seen generation body))
+        × IfErr result (λ e. LeavesOnly (D.view other) (D.view e.1)
+        (IsOldNoneOrNew (D.view other).seen generation body)) }
+    ensures new { IfOk result (λ b. (b.generation ≡ generation) × (b.limit ≡ limit)
+        × (b.records ≡ 0) × (b.is_spent ≡ false)) }
+    ensures honest { IfOk result (λ b. D.honest other ↔ D.honest b.disk)
+        × IfErr result (λ e. D.honest other ↔ D.honest e.1) }
+    ensures cause { IfErr result (λ e. e.0 ≡ DiskFault.Device
+        → D.failures other < D.failures e.1) }
+{
+    match shut(other) {
+        Err((fault, other)) => Err((fault, other)),
+        Ok(closed) => match fill(closed, generation, bytes) {
+            Err((fault, other)) => Err((fault, other)),
+            Ok(whole) => match unlock(whole, limit) {
+                Err((fault, other)) => Err((fault, other)),
+                Ok(bank) => Ok(bank),
+            },
+        },
+    }
+}
+
+// Whether a new bank for the state is within the limit.
+fn has_room<B: Bag>(state: &State<B>, limit: usize) -> bool
+    requires { IsState state.now }
+    ensures yes { result ≡ true → MIN_BYTES + 1 + length (spell_state state.now) ≤ limit }
+    ensures no { result ≡ false → limit < MIN_BYTES + 1 + length (spell_state state.now) }
+{
+    match limit.checked_sub(MIN_BYTES + 1) {
+        None => false,
+        Some(room) => room_after(state, room).is_some(),
+    }
+}
+
+// What is to stand behind the first gate of a new bank whose body is a snapshot of the state.
+fn spell_bank<B: Bag>(
+    alloc: Global,
+    generation: u64,
+    state: &State<B>,
+) -> Result<Vec<u8>, AllocError>
+    requires ranges { IsState state.now }
+    requires short { length (spell_state state.now) < 2 ^ 32 }
+    ensures bytes { IfOk result (λ v. v.items
+        ≡ behind_gate generation (spell_state state.now) ++ CLOSED ∷ []) }
+    ensures fits { OnOk result (FitsState state.now) }
+{
+    let mut body = Vec::new(alloc);
+    put_state(&mut body, state)?;
+    spell_front(alloc, generation, &body)
+}
