@@ -1,5 +1,5 @@
 -- What messages of clients led to, each by itself.
-use Rattle.std.specs.Prelude.{◌≡◌, ℕ, List, [], ◌∷◌, map, length, option_to_list}
+use Rattle.std.specs.Prelude.{◌≡◌, ℕ, List, [], ◌∷◌, ◌++◌, map, length, option_to_list}
 use Rattle.std.specs.Option.{is_some}
 use Rattle.std.specs.List.{flat_map}
 use Rattle.linda_wire.specs.declared.message.Message.{Message}
@@ -41,3 +41,12 @@ pub record IsServed (st : State) (soft : Soft) (ms : List (ℕ × Message)) (tol
   pub answers : List Answer
   pub answered : AreAnswered st soft ms answers new then
   pub tells : Tells told answers
+
+-- One message more was answered, and what was served tells it behind what it told before.
+pub record IsServedToo (st : State) (soft : Soft) (c : ℕ) (m : Message) (before told : Served) (new : State) (then : Soft) : Type 0 where
+  pub answer : Answer
+  pub step : IsStep st soft c m answer new
+  pub soft_is : then ≡ answer.soft
+  pub deeds : told.deeds.items ≡ before.deeds.items ++ option_to_list answer.deed
+  pub sends : told.sends.items ≡ before.sends.items ++ answer.sends
+  pub shares : told.shares.items ≡ before.shares.items ++ share_of answer ∷ []

@@ -1,13 +1,13 @@
 //! How deeds come onto the bank in use.
 
-ghost use Rattle.std.specs.Prelude.{◌≡◌, ◌<◌, ◌≤◌, ◌+◌, ◌↔◌, ◌⊎◌, ◌≢◌, false, length, OnOk, IsErrOf};
+ghost use Rattle.std.specs.Prelude.{◌≡◌, ◌<◌, ◌≤◌, ◌+◌, ◌↔◌, ◌⊎◌, ◌≢◌, true, length, OnOk, IsErrOf};
 ghost use Rattle.linda_state.specs.DeedFormat.{payload};
 ghost use Rattle.linda_state.specs.State as state;
-ghost use Rattle.linda_state.specs.Proper.{AreDone};
 ghost use Rattle.linda_step.specs.declared.size.TheConstants.{MAX_BATCH};
+ghost use Rattle.linda_server.specs.declared.limits.TheConstants.{RECORD_BYTES};
 ghost use Rattle.linda_server.specs.Pairs.{PairsSince};
-ghost use Rattle.linda_server.specs.Disks.{both, AreHonest, failures, UsesBank, IsUpOn};
-ghost use Rattle.linda_server.specs.Calls.{IsOldOrNew};
+ghost use Rattle.linda_server.specs.Disks.{both, AreHonest, failures, is_there, is_ready, number_of, IsUpOn};
+ghost use Rattle.linda_server.specs.Calls.{LeadTo, IsOldOrNew};
 
 use crate::disks::{Disks, Pair};
 use crate::fault::ServeFault;
@@ -27,25 +27,27 @@ pub(crate) fn commit<D: Disk>(
     deeds: &[Deed],
 ) -> Result<(), ServeFault>
     requires few { length deeds.now ≤ MAX_BATCH }
-    requires ready { UsesBank (λ b. b.is_spent ≡ false) disks.old }
+    requires ready { is_ready (λ b. b.is_spent) disks.old ≡ true }
     requires room { 0 < length deeds.now
-        → UsesBank (λ b. b.end + 6 + length (payload deeds.now) ≤ b.limit) disks.old }
+        → number_of (λ b. b.end) disks.old + RECORD_BYTES + length (payload deeds.now)
+        ≤ number_of (λ b. b.limit) disks.old }
     // At no moment crashes leave anything but the old state, or the one after all of these deeds;
     ensures any_moment { (st new : state.State)
         → AreHonest (λ b. D.honest b.disk) D.honest disks.old
         → IsUpOn (λ b. b.generation) (λ b. b.end) (λ b. D.view b.disk) D.view disks.old st
-        → AreDone st deeds.now new
+        → LeadTo st deeds.now new
         → PairsSince (both (λ b. D.view b.disk) D.view disks.old)
         (both (λ b. D.view b.disk) D.view disks.new) (IsOldOrNew st new) }
     // at Ok they leave the latter.
     ensures done { (st new : state.State)
         → AreHonest (λ b. D.honest b.disk) D.honest disks.old
         → IsUpOn (λ b. b.generation) (λ b. b.end) (λ b. D.view b.disk) D.view disks.old st
-        → AreDone st deeds.now new
+        → LeadTo st deeds.now new
         → OnOk result
         (IsUpOn (λ b. b.generation) (λ b. b.end) (λ b. D.view b.disk) D.view disks.new new) }
-    ensures ready { (limit : _) → UsesBank (λ b. b.limit ≡ limit) disks.old
-        → OnOk result (UsesBank (λ b. (b.is_spent ≡ false) × (b.limit ≡ limit)) disks.new) }
+    ensures there { is_there disks.old ≡ true → is_there disks.new ≡ true }
+    ensures ready { OnOk result (is_ready (λ b. b.is_spent) disks.new ≡ true) }
+    ensures limit { number_of (λ b. b.limit) disks.new ≡ number_of (λ b. b.limit) disks.old }
     ensures honest { AreHonest (λ b. D.honest b.disk) D.honest disks.old
         ↔ AreHonest (λ b. D.honest b.disk) D.honest disks.new }
     ensures cause { IsErrOf result ServeFault.Disk

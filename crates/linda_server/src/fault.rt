@@ -1,5 +1,8 @@
 //! Why a server was not made or opened, and why it did not serve.
 
+ghost use Rattle.std.specs.Prelude.{◌≡◌, ◌↔◌, ◌≢◌};
+
+use linda_store::NodeFault;
 use thiserror::Error;
 
 /// Why two disks were not made or opened as a server.
@@ -45,4 +48,15 @@ pub enum ServeFault {
     /// No memory. The server is down.
     #[error("out of memory")]
     Memory,
+}
+
+/// What a node answers for it.
+pub(crate) fn node_fault(fault: ServeFault) -> NodeFault
+    ensures full { (result ≡ NodeFault.Full) ↔ (fault ≡ ServeFault.Full) }
+    ensures down { (result ≡ NodeFault.Down) ↔ (fault ≢ ServeFault.Full) }
+{
+    match fault {
+        ServeFault::Full => NodeFault::Full,
+        ServeFault::Down | ServeFault::Disk | ServeFault::Memory => NodeFault::Down,
+    }
 }

@@ -1,11 +1,15 @@
 //! The durable server.
 #![tactic(auto)]
 
+mod commit;
 mod disks;
+mod durable;
 mod fault;
 mod limits;
 mod served;
+mod serving;
 
+pub use durable::Durable;
 pub use fault::{OpenFault, ServeFault};
 pub use limits::{MAX_LIMIT, MIN_LIMIT, SNAPSHOT_RECORDS};
 pub use served::{Served, Share};

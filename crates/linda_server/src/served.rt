@@ -1,15 +1,9 @@
-//! What messages led to, told for each.
+//! What messages led to, told for each of them.
 
-ghost use Rattle.std.specs.Prelude.{◌≡◌, ◌++◌, ◌∷◌, [], ◌≤◌, length, OnOk, OnErr, IfOk, false, true, option_to_list};
-ghost use Rattle.std.specs.Option.{is_some};
-ghost use Rattle.linda_step.specs.History as history;
-ghost use Rattle.linda_step.specs.Answer.{IsStep};
+ghost use Rattle.std.specs.Prelude.{◌≡◌};
 
-use linda_bag::IndexBag;
 use linda_state::Deed;
-use linda_step::{Step, Store};
-use linda_wire::{Message, Reply};
-use std::alloc::{AllocError, Global};
+use linda_wire::Reply;
 
 /// What messages led to, one after another: all deeds, all replies, and which of them are whose.
 #[derive(Drop)]
@@ -22,11 +16,21 @@ pub struct Served {
     pub shares: Vec<Share>,
 }
 
+impl Served {
+    /// The replies alone.
+    pub fn into_sends(self) -> Vec<(u32, Reply)>
+        ensures { result ≡ self.sends }
+    {
+        let Served { sends, .. } = self;
+        sends
+    }
+}
+
 /// What one message led to.
 #[derive(Clone, Copy, Debug, PartialEq, Eq)]
 pub struct Share {
-    /// Whether it did a deed: then it is the next one.
+    /// Whether it did a deed: then that is the next one.
     pub has_deed: bool,
-    /// How many of the replies it sent: the next ones.
+    /// How many replies it sent: the next ones.
     pub sends: usize,
 }

@@ -147,8 +147,9 @@ impl<B: Bag> Store<B> {
     #[tactic(auto, using(crate::proofs::DemandLaws::all_bytes))]
     pub fn size_of(&self, messages: &[(u32, Message)]) -> u64
         requires { length messages.now ≤ MAX_BATCH }
-        ensures { (all : History) → Answers self.now.state self.now.soft messages.now all
+        ensures bytes { (all : History) → Answers self.now.state self.now.soft messages.now all
             → result ≡ length (payload all.deeds) }
+        ensures orderly { IsOrderly self.now.state self.now.soft }
     {
         size::bytes_of(&self.state, messages) as u64
     }
@@ -157,9 +158,10 @@ impl<B: Bag> Store<B> {
     /// none. Takes no memory, and changes nothing.
     #[tactic(auto, using(crate::proofs::DemandLaws::all_bytes))]
     pub fn size_of_one(&self, client: u32, message: &Message) -> u64
-        ensures { (all : History)
+        ensures bytes { (all : History)
             → Answers self.now.state self.now.soft ((client, message.now) ∷ []) all
             → result ≡ length (payload all.deeds) }
+        ensures orderly { IsOrderly self.now.state self.now.soft }
     {
         size::bytes_of_one(&self.state, client, message) as u64
     }
