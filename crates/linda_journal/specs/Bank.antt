@@ -49,4 +49,5 @@ IsNoneOrNew generation body file = (IsCandidate file → ⊥) ⊎ IsBank file ge
 
 -- The bytes are the bank with the old records, or with one more.
 abbrev pub IsOldOrMore : ℕ → List ℕ → List (List Deed) → List Deed → List ℕ → Type 0
-IsOldOrMore generation body records deeds file = IsBank file generation body records ⊎ IsBank file generation body (records ++ deeds ∷ [])
+IsOldOrMore generation body records deeds file =
+    IsBank file generation body records ⊎ IsBank file generation body (records ++ deeds ∷ [])

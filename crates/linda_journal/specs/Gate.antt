@@ -30,7 +30,7 @@ pub record IsReady (front : List ℕ) (gate : ℕ) (body : List ℕ) (v : View) 
 abbrev pub IsClosedOrOpened : List ℕ → List ℕ → List ℕ → Type 0
 IsClosedOrOpened front body file = ClosesAfter front file ⊎ ClosesAfter (front ++ OPEN ∷ body) file
 
--- Of a file that begins with a gate and this body behind it: no more than the gate is there, or it is closed still, or it
--- is open and the body stands behind it.
+-- Of a file that begins with a gate and this body behind it: no more than the gate is there, or it is closed still,
+-- or it is open and the body stands behind it.
 abbrev pub IsLaid : List ℕ → List ℕ → Type 0
 IsLaid body file = (length file ≤ 1) ⊎ IsClosedOrOpened [] body file

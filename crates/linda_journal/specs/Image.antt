@@ -12,7 +12,8 @@ use Rattle.linda_journal.specs.Heading.{IsHeading}
 pub record IsCutShort (file : List ℕ) : Type 0 where
   pub generation : ℕ
   pub heading : IsHeading file (headings.Bank generation)
-  pub never : (other : ℕ) (body rest : List ℕ) → length body < 2 ^ 32 → 0 < length rest → file ≡ head other body ++ rest → ⊥
+  pub never : (other : ℕ) (body rest : List ℕ)
+      → length body < 2 ^ 32 → 0 < length rest → file ≡ head other body ++ rest → ⊥
 
 -- Its journal is damaged at this offset.
 pub record IsBroken (file : List ℕ) (offset : ℕ) : Type 0 where

@@ -17,7 +17,8 @@ pub record IsJournal (bytes : List ℕ) (records : List (List Deed)) : Type 0 wh
 
 -- What stands behind a gate is no record with the byte of a gate after it.
 abbrev pub IsNoRecord : List ℕ → Type 0
-IsNoRecord behind = (ds : List Deed) (gate : ℕ) (rest : List ℕ) → IsRecord ds → behind ≡ record_body ds ++ gate ∷ rest → ⊥
+IsNoRecord behind =
+    (ds : List Deed) (gate : ℕ) (rest : List ℕ) → IsRecord ds → behind ≡ record_body ds ++ gate ∷ rest → ⊥
 
 -- The bytes are some records, and then, at this place, an open gate that no record stands behind.
 pub record IsDamaged (bytes : List ℕ) (place : ℕ) : Type 0 where

@@ -22,8 +22,8 @@ IsOpenOrShort file = (length file < MIN_BYTES) ⊎ ((rest : List ℕ) × (file �
 abbrev pub IsSameOrNone : List ℕ → List ℕ → Type 0
 IsSameOrNone old file = (file ≡ old) ⊎ IsNoBank file
 
--- Behind a first gate that is still closed stands all of the new bank of this generation with this body, up to the closed
--- gate of its journal at this offset; and a crash now leaves it so.
+-- Behind a first gate that is still closed stands all of the new bank of this generation with this body, up to the
+-- closed gate of its journal at this offset; and a crash now leaves it so.
 pub record IsWhole (generation : ℕ) (body : List ℕ) (end : ℕ) (v : View) : Type 0 where
   pub low : 1 ≤ generation
   pub fits : generation < 2 ^ 64

@@ -1,6 +1,7 @@
 //! A bank: what a server keeps on one disk, a body and then a journal.
 
-ghost use Rattle.std.specs.Prelude.{◌≡◌, ◌≢◌, ◌<◌, ◌≤◌, ◌+◌, ◌^◌, ◌++◌, ◌∷◌, [], ◌↔◌, ◌⊎◌, ℕ, List, length, IfOk, IfErr, OnOk, IsErrOf, true, false};
+ghost use Rattle.std.specs.Prelude.{◌≡◌, ◌≢◌, ◌<◌, ◌≤◌, ◌+◌, ◌^◌, ◌++◌, ◌∷◌, [], ◌↔◌, ◌⊎◌, ℕ};
+ghost use Rattle.std.specs.Prelude.{List, length, IfOk, IfErr, OnOk, IsErrOf, true, false};
 ghost use Rattle.linda_state.specs.declared.deed.Deed as deed;
 ghost use Rattle.linda_disk.specs.View.{IsDurable};
 ghost use Rattle.linda_disk.specs.Run.{LeavesOnly};

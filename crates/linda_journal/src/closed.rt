@@ -1,6 +1,7 @@
 //! A disk that is not in use, with its first gate closed, so that a new bank can be written behind that gate.
 
-ghost use Rattle.std.specs.Prelude.{◌≡◌, ◌<◌, ◌≤◌, ◌↔◌, true, false, length, IfOk, IfErr, OnOk, IsErrOf};
+ghost use Rattle.std.specs.Prelude.{◌≡◌, ◌<◌, ◌≤◌, ◌↔◌, true, false, length, IfOk, IfErr, OnOk};
+ghost use Rattle.std.specs.Prelude.{IsErrOf};
 ghost use Rattle.linda_disk.specs.View.{IsDurable};
 ghost use Rattle.linda_disk.specs.Disk.{CountsFailure};
 ghost use Rattle.linda_disk.specs.Run.{LeavesOnly};
@@ -31,8 +32,8 @@ impl<D: Disk> Closed<D> {
     }
 }
 
-/// Closes the first gate of a disk that is not in use: a write of that gate and a sync. Where the disk has as many bytes as
-/// a bank and its first gate is closed already, nothing is written: to write over it might open it.
+/// Closes the first gate of a disk that is not in use: a write of that gate and a sync. Where the disk has as many
+/// bytes as a bank and its first gate is closed already, nothing is written: to write over it might open it.
 ///
 /// # Errors
 ///

@@ -1,6 +1,7 @@
 //! A journal: records one after the other, up to the first gate that is closed.
 
-ghost use Rattle.std.specs.Prelude.{◌≡◌, ◌≢◌, ◌∷◌, ◌<◌, ◌+◌, ℕ, List, length, drop, IfOk, IfErr, IfSome, IfNone};
+ghost use Rattle.std.specs.Prelude.{◌≡◌, ◌≢◌, ◌∷◌, ◌<◌, ◌+◌, ℕ, List, length, drop, IfOk, IfErr};
+ghost use Rattle.std.specs.Prelude.{IfSome, IfNone};
 ghost use Rattle.linda_state.specs.declared.deed.Deed as deed;
 ghost use Rattle.linda_journal.specs.declared.kinds.TheConstants.{OPEN};
 ghost use Rattle.linda_journal.specs.declared.journal.JournalFault.TheVariants.{Memory};

@@ -1,6 +1,7 @@
 //! A new bank on an empty disk.
 
-ghost use Rattle.std.specs.Prelude.{◌≡◌, ◌<◌, ◌≤◌, ◌+◌, ◌^◌, ◌++◌, ◌∷◌, [], ◌↔◌, ℕ, List, length, IfOk, OnOk, IsErrOf};
+ghost use Rattle.std.specs.Prelude.{◌≡◌, ◌<◌, ◌≤◌, ◌+◌, ◌^◌, ◌++◌, ◌∷◌, [], ◌↔◌, ℕ, List, length};
+ghost use Rattle.std.specs.Prelude.{IfOk, OnOk, IsErrOf};
 ghost use Rattle.linda_codec.specs.Formats.{number};
 ghost use Rattle.linda_disk.specs.View.{IsDurable};
 ghost use Rattle.linda_disk.specs.Run.{LeavesOnly};
@@ -19,11 +20,7 @@ use std::alloc::{AllocError, Global};
 const MAGIC: [u8; 4] = [b'L', b'N', b'D', b'1'];
 
 /// What is to stand behind the first gate of a new bank, with the closed gate of its journal at its end.
-pub fn spell_front(
-    alloc: Global,
-    generation: u64,
-    body: &[u8],
-) -> Result<Vec<u8>, AllocError>
+pub fn spell_front(alloc: Global, generation: u64, body: &[u8]) -> Result<Vec<u8>, AllocError>
     requires { length body.now < 2 ^ 32 }
     ensures { IfOk result (λ v. v.items ≡ behind_gate generation body.now ++ CLOSED ∷ []) }
 {

@@ -4,3 +4,5 @@ pub mod PuttingLaws
 pub mod ReadingLaws
 pub mod StateLaws
 pub mod StandsLaws
+pub mod ReplayLaws
+pub mod ChoiceLaws

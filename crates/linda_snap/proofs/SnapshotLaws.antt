@@ -1,10 +1,10 @@
 -- The format of snapshots is lawful, so bytes are the spelling of one state at most.
-use Rattle.std.proofs.Common.{◌≡◌, ℕ, ◌^◌, ◌<◌, List, [], ◌∷◌, ◌++◌, All, Ok, length, refl, sym, ap, subst, ◌∙◌, append_assoc, append-nil, arith}
+use Rattle.std.proofs.Common.{◌≡◌, ℕ, ◌^◌, ◌<◌, List, [], ◌∷◌, ◌++◌, All, Ok, length, refl, sym, ap, subst, ◌∙◌, append_assoc}
 use Rattle.std.specs.List.{flat_map}
 use Rattle.std.specs.FinMap.{same_entries_map}
-use Rattle.linda_codec.specs.Steps.{◌>>=◌, many_at}
+use Rattle.linda_codec.specs.Steps.{many_at}
 use Rattle.linda_codec.specs.Formats.{Format, short_number, no_kind}
-use Rattle.linda_codec.specs.Lawful.{Takes, IsFormat, IsSpelled}
+use Rattle.linda_codec.specs.Lawful.{Takes, IsFormat}
 use Rattle.linda_codec.proofs.Takes.{bind_ok, Takes-then}
 use Rattle.linda_codec.proofs.Many.{many_takes, many_again}
 use Rattle.linda_codec.proofs.Bounds.{bounded_then, many_bounded}

@@ -1,10 +1,9 @@
 -- Which state stands on two banks, while one of them becomes a new one.
-use Rattle.std.proofs.Common.{◌≡◌, ℕ, ◌+◌, ◌<◌, ◌≤◌, ◌^◌, inl, inr, List, [], ◌∷◌, ◌++◌, length, refl, sym, ap, subst, ◌∙◌, length-append, arith}
+use Rattle.std.proofs.Common.{ℕ, ◌+◌, inl, inr, List, [], sym, subst, arith}
 use Rattle.linda_state.specs.State.{State, IsState}
-use Rattle.linda_state.specs.Proper.{AreDone}
 use Rattle.linda_state.proofs.ProperLaws.{none_done}
 use Rattle.linda_state.specs.declared.deed.Deed.{Deed}
-use Rattle.linda_disk.specs.View.{View, IsDurable, IsTimed}
+use Rattle.linda_disk.specs.View.{View, IsTimed}
 use Rattle.linda_disk.specs.Run.{LeavesOnly}
 use Rattle.linda_disk.proofs.RunLaws.{started, weaker, joined}
 use Rattle.linda_journal.specs.declared.heading.Heading.TheVariants as headings
@@ -13,7 +12,7 @@ use Rattle.linda_journal.specs.Bank.{IsBank, IsSettled, IsNoneOrNew}
 use Rattle.linda_journal.specs.Renewal.{IsNoBank, IsSameOrNone}
 use Rattle.linda_journal.proofs.ImageLaws.{is_candidate}
 use Rattle.linda_snap.specs.Snapshot.{spell_state, FitsState}
-use Rattle.linda_snap.specs.Stands.{StandsOn, IsLesser, IsInUse, Stands, IsUp, StandsBeside}
+use Rattle.linda_snap.specs.Stands.{StandsOn, IsLesser, IsStored, IsUp, StandsBeside}
 use Rattle.linda_snap.specs.Switch.{IsOldNoneOrNew}
 
 -- ---- the runs of a renewal
@@ -37,9 +36,13 @@ module _ (generation : ℕ) (body : List ℕ) (old mid : View) where
 pub heading_of : (file : List ℕ) (generation : ℕ) (body : List ℕ) (records : List (List Deed)) → IsBank file generation body records → IsHeading file (headings.Bank generation)
 heading_of file generation body records bank = (bank.low, bank.fits, (is_candidate file generation body records bank).0, (_, bank.parts))
 
+-- What is stored on a disk stands there.
+pub stands_on : (generation end : ℕ) (v : View) (st : State) → IsStored generation end v st → StandsOn v.seen generation st
+stands_on generation end v st stored = record { opening = stored.opening; ranges = stored.ranges; fits = stored.fits; records = stored.records; bank = stored.settled.file; done = stored.done }
+
 module _ (generation end : ℕ) (used other : View) (st : State) (up : IsUp generation end used other st) where
   on_used : StandsOn used.seen generation st
-  on_used = record { opening = up.opening; ranges = up.ranges; fits = up.fits; records = up.records; bank = up.settled.file; done = up.done }
+  on_used = stands_on generation end used st up.stored
 
   -- A crash now leaves what stands for the state.
   pub stands_now : StandsBeside used.seen st other.seen
@@ -50,7 +53,7 @@ module _ (generation end : ℕ) (used other : View) (st : State) (up : IsUp gene
 
   -- The bank in use is lesser than one of the next generation.
   lesser_next : IsLesser (generation + 1) used.seen
-  lesser_next = inr (generation, heading_of used.seen generation (spell_state up.opening) up.records up.settled.file, omega arith)
+  lesser_next = inr (generation, heading_of used.seen generation (spell_state up.stored.opening) up.stored.records up.stored.settled.file, omega arith)
 
   -- So does a crash while the other disk becomes a new bank,
   pub stands_beside : IsState st → FitsState st → (image : List ℕ) → IsOldNoneOrNew other.seen (generation + 1) (spell_state st) image → StandsBeside used.seen st image
@@ -68,12 +71,7 @@ module _ (generation end : ℕ) (used other : View) (st : State) (up : IsUp gene
   -- and once it is one.
   pub switched : (new_end : ℕ) (new : View) → IsState st → FitsState st → IsSettled (generation + 1) (spell_state st) [] new_end new → IsUp (generation + 1) new_end new used st
   switched new_end new ranges fits settled = record {
-    opening = st;
-    ranges = ranges;
-    fits = fits;
-    records = [];
-    settled = settled;
-    done = none_done st ranges;
+    stored = record { opening = st; ranges = ranges; fits = fits; records = []; settled = settled; done = none_done st ranges };
     lesser = lesser_next;
-    durable = up.settled.durable;
+    durable = up.stored.settled.durable;
   }

@@ -15,7 +15,8 @@ use Rattle.linda_snap.specs.declared.reading.SnapshotFault.{SnapshotFault}
 use Rattle.linda_snap.specs.declared.reading.SnapshotFault.TheVariants.{NoSnapshot, Memory}
 
 -- These entries, so many of them and each of them good, stand at the front of the bytes.
-pub record IsRun {X : Type 0} (f : Format (ℕ × X)) (Good : ℕ × X → Type 0) (count : ℕ) (bytes : List ℕ) (es : List (ℕ × X)) (rest : List ℕ) : Type 0 where
+pub record IsRun {X : Type 0} (f : Format (ℕ × X)) (Good : ℕ × X → Type 0) (count : ℕ)
+    (bytes : List ℕ) (es : List (ℕ × X)) (rest : List ℕ) : Type 0 where
   pub parts : bytes ≡ flat_map f.spell es ++ rest
   pub count_is : length es ≡ count
   pub fits : AllByRecursion f.Fits es
@@ -27,7 +28,8 @@ IsNoRun {X = X} f Good count bytes =
     (m : FinMap nat_cmp X) (rest : List ℕ) → IsRun f Good count bytes (entries m) rest → ⊥
 
 -- A count that is not above the limit, and so many entries, each of them good, stand at the front of the bytes.
-pub record IsListed {X : Type 0} (f : Format (ℕ × X)) (Good : ℕ × X → Type 0) (limit : ℕ) (bytes : List ℕ) (es : List (ℕ × X)) (rest : List ℕ) : Type 0 where
+pub record IsListed {X : Type 0} (f : Format (ℕ × X)) (Good : ℕ × X → Type 0) (limit : ℕ)
+    (bytes : List ℕ) (es : List (ℕ × X)) (rest : List ℕ) : Type 0 where
   pub parts : bytes ≡ (listed f).spell es ++ rest
   pub fits : (listed f).Fits es
   pub few : length es ≤ limit

@@ -1,5 +1,5 @@
 -- The entries of a finite map from a key on.
-use Rattle.std.specs.Prelude.{ℕ, suc, nat_lt, Bool, not, List, Option, Some, None}
+use Rattle.std.specs.Prelude.{ℕ, suc, nat_lt, not, List, Option, Some, None}
 use Rattle.std.specs.List.{filter}
 use Rattle.std.specs.Ordering.{nat_cmp}
 use Rattle.std.specs.FinMap.{FinMap, entries}

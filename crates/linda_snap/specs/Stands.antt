@@ -1,5 +1,5 @@
 -- Which state stands on two banks.
-use Rattle.std.specs.Prelude.{◌≡◌, ℕ, ◌<◌, ◌⊎◌, List}
+use Rattle.std.specs.Prelude.{ℕ, ◌<◌, ◌⊎◌, List}
 use Rattle.std.specs.List.{flat_map}
 use Rattle.linda_state.specs.declared.deed.Deed.{Deed}
 use Rattle.linda_state.specs.State.{State, IsState}
@@ -15,7 +15,8 @@ use Rattle.linda_snap.specs.Snapshot.{spell_state, FitsState}
 abbrev pub deeds_in : List (List Deed) → List Deed
 deeds_in records = flat_map (λ ds. ds) records
 
--- The bytes are a bank of this generation, with a snapshot of a state from which the deeds of its records lead to that one.
+-- The bytes are a bank of this generation, with a snapshot of a state from which the deeds of its records lead to
+-- that one.
 pub record StandsOn (file : List ℕ) (generation : ℕ) (st : State) : Type 0 where
   pub opening : State
   pub ranges : IsState opening
@@ -39,14 +40,19 @@ pub record IsInUse (file other : List ℕ) (st : State) : Type 0 where
 abbrev pub Stands : List ℕ → List ℕ → State → Type 0
 Stands left right st = IsInUse left right st ⊎ IsInUse right left st
 
--- On two disks the bank in use, which ends at this offset, stands for the state, and a crash now leaves them so.
-pub record IsUp (generation end : ℕ) (used other : View) (st : State) : Type 0 where
+-- On a disk the bank of this generation, which ends at this offset, stands for the state, and a crash now leaves it so.
+pub record IsStored (generation end : ℕ) (v : View) (st : State) : Type 0 where
   pub opening : State
   pub ranges : IsState opening
   pub fits : FitsState opening
   pub records : List (List Deed)
-  pub settled : IsSettled generation (spell_state opening) records end used
+  pub settled : IsSettled generation (spell_state opening) records end v
   pub done : AreDone opening (deeds_in records) st
+
+-- So it is of the one of two disks that is in use; and the other one holds a lesser bank or none, and a crash leaves
+-- it so.
+pub record IsUp (generation end : ℕ) (used other : View) (st : State) : Type 0 where
+  pub stored : IsStored generation end used st
   pub lesser : IsLesser generation other.seen
   pub durable : IsDurable other
 

@@ -1,6 +1,7 @@
 //! The tuples of a state and the clients of its book, one after the other in the order of their numbers.
 
-ghost use Rattle.std.specs.Prelude.{◌≡◌, ◌∷◌, [], ◌<◌, ◌≤◌, ◌+◌, ℕ, suc, None, IfSome, IfNone, IsSome};
+ghost use Rattle.std.specs.Prelude.{◌≡◌, ◌∷◌, [], ◌<◌, ◌≤◌, ◌+◌, ℕ, suc, None, IfSome, IfNone};
+ghost use Rattle.std.specs.Prelude.{IsSome};
 ghost use Rattle.std.specs.FinMap as maps;
 ghost use Rattle.linda_state.specs.declared.state.TheConstants.{NUMBER_LIMIT};
 ghost use Rattle.linda_state.specs.State.{IsState};

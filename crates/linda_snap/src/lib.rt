@@ -1,13 +1,19 @@
 //! States as bytes, and back; and which of two banks stands.
 #![tactic(auto)]
 
+mod choice;
 mod cursor;
 mod kinds;
 mod putting;
 mod reading;
-mod reply;
 mod renewal;
+mod replay;
+mod reply;
 
+pub use choice::{ChoiceFault, Chosen, choose_bank};
 pub use putting::put_state;
-pub use renewal::{SwitchFault, switch};
 pub use reading::{SnapshotFault, get_state};
+pub use renewal::{SwitchFault, switch};
+
+#[cfg(test)]
+mod tests;

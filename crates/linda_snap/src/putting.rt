@@ -1,6 +1,7 @@
 //! Writing a state as a snapshot, and how many bytes that takes.
 
-ghost use Rattle.std.specs.Prelude.{◌≡◌, ◌++◌, ◌<◌, ◌≤◌, ◌+◌, ◌^◌, ℕ, All, length, OnOk, IfSome, IfNone};
+ghost use Rattle.std.specs.Prelude.{◌≡◌, ◌++◌, ◌<◌, ◌≤◌, ◌+◌, ◌^◌, ℕ, All, length, OnOk, IfSome};
+ghost use Rattle.std.specs.Prelude.{IfNone};
 ghost use Rattle.std.specs.List.{flat_map};
 ghost use Rattle.std.specs.FinMap.{entries};
 ghost use Rattle.linda_codec.specs.Formats.{short_number};
@@ -76,12 +77,7 @@ fn push_book(out: &mut Vec<u8>, book: &Book) -> Result<(), AllocError>
 }
 
 // Appends a client, its last number, and the reply to it; likewise.
-fn push_kept(
-    out: &mut Vec<u8>,
-    client: u32,
-    n: u64,
-    reply: &KeptReply,
-) -> Result<(), AllocError>
+fn push_kept(out: &mut Vec<u8>, client: u32, n: u64, reply: &KeptReply) -> Result<(), AllocError>
     ensures ok { OnOk result (out.new.items
         ≡ out.old.items ++ format.kept.spell (client, (n, reply.now))) }
     ensures fits { OnOk result (format.kept.Fits (client, (n, reply.now))) }

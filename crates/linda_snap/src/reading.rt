@@ -9,7 +9,8 @@ ghost use Rattle.linda_snap.specs.declared.reading.SnapshotFault.TheVariants.{Me
 ghost use Rattle.linda_snap.specs.Snapshot as format;
 ghost use Rattle.linda_snap.specs.Snapshot.{IsSnapshot};
 ghost use Rattle.linda_snap.specs.Reading.{IsRun, IsNoRun, IsPlacedBelow, IsNumbered};
-ghost use Rattle.linda_snap.specs.Reading.{IsListed, IsNotListed, IsNoSnapshot, ANY_COUNT, fault_of_read};
+ghost use Rattle.linda_snap.specs.Reading.{IsListed, IsNotListed, IsNoSnapshot, ANY_COUNT};
+ghost use Rattle.linda_snap.specs.Reading.{fault_of_read};
 ghost use Rattle.linda_wire.specs.declared.limits.TheConstants.{MAX_CLIENTS};
 
 use crate::reply::{read_placed, read_reply};
@@ -156,11 +157,7 @@ fn is_place(low: u64, id: u64, next: u64) -> bool
 }
 
 // Reads so many clients with what is kept for them; the clients rise.
-fn read_clients(
-    alloc: Global,
-    bytes: &[u8],
-    count: u32,
-) -> Result<(Book, &[u8]), SnapshotFault>
+fn read_clients(alloc: Global, bytes: &[u8], count: u32) -> Result<(Book, &[u8]), SnapshotFault>
     ensures found { IfOk result (λ x. IsRun format.kept IsNumbered count bytes.now
         (entries x.0) x.1.now) }
     ensures fault { IfErr result (λ f. f ≢ SnapshotFault.Memory

@@ -12,7 +12,8 @@ pub(super) const NEW: &[u8] =
 
 /// The same bank with one record: client 7 put ("a", 3) by its message 1.
 pub(super) const ONE: &[u8] =
-    b"\x01LND1\0\0\0\0\0\0\0\x01\0\0\0\x10\0\0\0\0\0\0\0\x01\0\0\0\0\0\0\0\0\x01\0\0\0\x1a\x01\0\0\0\x07\0\0\0\0\0\0\0\x01\x02\x01a\x01\x01\0\0\0\0\0\0\0\x03\0";
+    b"\x01LND1\0\0\0\0\0\0\0\x01\0\0\0\x10\0\0\0\0\0\0\0\x01\0\0\0\0\0\0\0\0\
+    \x01\0\0\0\x1a\x01\0\0\0\x07\0\0\0\0\0\0\0\x01\x02\x01a\x01\x01\0\0\0\0\0\0\0\x03\0";
 
 /// That deed.
 fn put_a(alloc: Global) -> Result<Deed, AllocError> {

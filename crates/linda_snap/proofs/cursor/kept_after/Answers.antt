@@ -1,5 +1,4 @@
-use Rattle.std.proofs.Common.{sym, ◌∙◌, ap}
-use Rattle.std.specs.Option.{option_map}
+use Rattle.std.proofs.Common.{sym}
 use Rattle.linda_snap.specs.Rising.{first_after}
 use Rattle.linda_snap.proofs.RisingLaws.{first_is, none_is}
 use Rattle.linda_snap.proofs.cursor.kept_after.Goals as goal

@@ -1,5 +1,5 @@
 use Rattle.std.proofs.Common.{◌<◌, ◌^◌, ap, ◌∙◌, subst, sym}
-use Rattle.std.specs.FinMap.{len, entries, len-entries}
+use Rattle.std.specs.FinMap.{len, len-entries}
 use Rattle.linda_codec.specs.Formats.{short_number}
 use Rattle.linda_state.specs.State.{State}
 use Rattle.linda_snap.specs.Snapshot as format

@@ -1,7 +1,7 @@
 use Rattle.std.proofs.Common.{length}
 use Rattle.linda_snap.specs.Snapshot as format
-use Rattle.linda_snap.specs.Rising.{entries_from, first_after}
-use Rattle.linda_snap.proofs.PuttingLaws.{IsPutTo, IsLeft}
+use Rattle.linda_snap.specs.Rising.{entries_from}
+use Rattle.linda_snap.proofs.PuttingLaws.{IsLeft}
 use Rattle.linda_snap.proofs.putting.room_after_tuples.Given as goal
 
 abbrev pub invariant-loop-id : goal.invariant-loop-id

@@ -2,7 +2,7 @@ use Rattle.std.proofs.Common.{◌≡◌, ◌+◌, ◌<◌, ◌^◌, [], length, 
 use Rattle.linda_disk.specs.Run.{LeavesOnly}
 use Rattle.linda_journal.specs.Bank.{IsSettled}
 use Rattle.linda_snap.specs.Snapshot.{spell_state}
-use Rattle.linda_snap.specs.Stands.{IsUp, StandsBeside}
+use Rattle.linda_snap.specs.Stands.{IsUp}
 use Rattle.linda_snap.specs.Switch.{IsOldNoneOrNew}
 use Rattle.linda_snap.proofs.StandsLaws.{stays_so, switching, switched}
 use Rattle.linda_snap.proofs.renewal.switch.Goals as goal
@@ -40,7 +40,7 @@ returns-in-Ok-renew-clause-done g c used honest up =
     let bytes = c.deref.ensures.value ∙ c.in-Ok.ensures.bytes in
     let bank = c.in-Ok-renew.bank in
     let up_next = switched c.args.current.generation c.args.current.end (g.D.Disk.view c.args.current.disk) (g.D.Disk.view c.args.other) st up bank.end (g.D.Disk.view bank.disk) c.requires.ranges c.in-Ok.ensures.fits
-        (subst (λ n. IsSettled n (spell_state st) [] bank.end (g.D.Disk.view bank.disk)) next (c.in-Ok-renew.ensures.done (spell_state st) short bytes honest)) in
+    (subst (λ n. IsSettled n (spell_state st) [] bank.end (g.D.Disk.view bank.disk)) next (c.in-Ok-renew.ensures.done (spell_state st) short bytes honest)) in
     let same : bank.generation ≡ c.args.current.generation + 1 = c.in-Ok-renew.ensures.new.0 ∙ next in
     subst (λ n. IsUp n bank.end (g.D.Disk.view bank.disk) (g.D.Disk.view c.into_disk.result) st) (sym same)
     (subst (λ d. IsUp (c.args.current.generation + 1) bank.end (g.D.Disk.view bank.disk) (g.D.Disk.view d) st) (sym c.into_disk.ensures) up_next)

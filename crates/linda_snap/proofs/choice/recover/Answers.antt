@@ -1,0 +1,8 @@
+use Rattle.linda_snap.proofs.ChoiceLaws.{unrecovered}
+use Rattle.linda_snap.proofs.choice.recover.Goals as goal
+
+pub returns-in-Ok-replay-clause-found : goal.returns-in-Ok-replay-clause-found
+returns-in-Ok-replay-clause-found g c = record { opening = c.in-Ok.opening; snapshot = c.in-Ok.ensures.found; done = c.in-Ok-replay.ensures.done }
+
+pub returns-in-Err-clause-fault : goal.returns-in-Err-clause-fault
+returns-in-Err-clause-fault g c = rw c.told_of.ensures (unrecovered c.args.body.now c.args.records.now c.in-Ok.opening c.in-Err.fault c.in-Ok.ensures.found c.in-Err.ensures.fault)

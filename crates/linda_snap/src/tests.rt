@@ -1,0 +1,4 @@
+mod choose;
+mod script;
+mod snapshot;
+mod switch;
