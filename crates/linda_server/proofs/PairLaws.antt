@@ -53,37 +53,39 @@ beside_lesser generation end used other st up timed beside left =
 -- ---- one record more
 
 module _ (generation end : ℕ) (used other : View) (st now : State) (deeds : List Deed) (up : IsUp generation end used other st) (leads : LeadTo st deeds now) where
-  done_more : AreDone up.opening (deeds_in (up.records ++ deeds ∷ [])) now
+  done_more : AreDone up.stored.opening (deeds_in (up.stored.records ++ deeds ∷ [])) now
   done_more =
-      subst (λ ds. AreDone up.opening ds now)
-      (sym (flat_map-append (λ (ds : List Deed). ds) up.records (deeds ∷ []) ∙ ap (λ l. deeds_in up.records ++ l) (append-nil deeds)))
-      (leads up.opening (deeds_in up.records) up.ranges up.done)
+      subst (λ ds. AreDone up.stored.opening ds now)
+      (sym (flat_map-append (λ (ds : List Deed). ds) up.stored.records (deeds ∷ []) ∙ ap (λ l. deeds_in up.stored.records ++ l) (append-nil deeds)))
+      (leads up.stored.opening (deeds_in up.stored.records) up.stored.ranges up.stored.done)
 
-  used_for : (image beside : List ℕ) → IsLesser generation beside → IsOldOrMore generation (spell_state up.opening) up.records deeds image → IsUsedFor st now image beside
+  used_for : (image beside : List ℕ) → IsLesser generation beside → IsOldOrMore generation (spell_state up.stored.opening) up.stored.records deeds image → IsUsedFor st now image beside
   used_for image beside lesser (inl bank) = inl record {
     generation = generation;
-    stands = record { opening = up.opening; ranges = up.ranges; fits = up.fits; records = up.records; bank = bank; done = up.done };
+    stands = record { opening = up.stored.opening; ranges = up.stored.ranges; fits = up.stored.fits; records = up.stored.records; bank = bank; done = up.stored.done };
     lesser = lesser;
   }
   used_for image beside lesser (inr bank) = inr record {
     generation = generation;
-    stands = record { opening = up.opening; ranges = up.ranges; fits = up.fits; records = up.records ++ deeds ∷ []; bank = bank; done = done_more };
+    stands = record { opening = up.stored.opening; ranges = up.stored.ranges; fits = up.stored.fits; records = up.stored.records ++ deeds ∷ []; bank = bank; done = done_more };
     lesser = lesser;
   }
 
-  one_more : (is_right : Bool) (new : View) → IsTimed other → LeavesOnly used new (IsOldOrMore generation (spell_state up.opening) up.records deeds)
+  one_more : (is_right : Bool) (new : View) → IsTimed other → LeavesOnly used new (IsOldOrMore generation (spell_state up.stored.opening) up.stored.records deeds)
       → PairsSince (sides is_right used other) (sides is_right new other) (IsOldOrNew st now)
   one_more is_right new timed run =
       on_sides is_right used new other (IsUsedFor st now) (IsOldOrNew st now) run.later
       (λ image beside l o. used_for image beside (beside_lesser generation end used other st up timed beside o) (run.each image l))
       (either_same st now) (either_turned st now)
 
-  up_more : (new_end : ℕ) (new : View) → IsSettled generation (spell_state up.opening) (up.records ++ deeds ∷ []) new_end new → IsUp generation new_end new other now
+  up_more : (new_end : ℕ) (new : View) → IsSettled generation (spell_state up.stored.opening) (up.stored.records ++ deeds ∷ []) new_end new → IsUp generation new_end new other now
   up_more new_end new settled = record {
-    opening = up.opening; ranges = up.ranges; fits = up.fits;
-    records = up.records ++ deeds ∷ [];
-    settled = settled;
-    done = done_more;
+    stored = record {
+      opening = up.stored.opening; ranges = up.stored.ranges; fits = up.stored.fits;
+      records = up.stored.records ++ deeds ∷ [];
+      settled = settled;
+      done = done_more;
+    };
     lesser = up.lesser;
     durable = up.durable;
   }
@@ -91,10 +93,12 @@ module _ (generation end : ℕ) (used other : View) (st now : State) (deeds : Li
 -- No record more.
 pub up_same : (generation end : ℕ) (used other : View) (st now : State) → LeadTo st [] now → IsUp generation end used other st → IsUp generation end used other now
 up_same generation end used other st now leads up = record {
-  opening = up.opening; ranges = up.ranges; fits = up.fits;
-  records = up.records;
-  settled = up.settled;
-  done = subst (λ ds. AreDone up.opening ds now) (append-nil (deeds_in up.records)) (leads up.opening (deeds_in up.records) up.ranges up.done);
+  stored = record {
+    opening = up.stored.opening; ranges = up.stored.ranges; fits = up.stored.fits;
+    records = up.stored.records;
+    settled = up.stored.settled;
+    done = subst (λ ds. AreDone up.stored.opening ds now) (append-nil (deeds_in up.stored.records)) (leads up.stored.opening (deeds_in up.stored.records) up.stored.ranges up.stored.done);
+  };
   lesser = up.lesser;
   durable = up.durable;
 }
@@ -104,8 +108,8 @@ left_for : (generation end : ℕ) (used other : View) (st : State) → IsUp gene
     → (image beside : List ℕ) → used.may_leave image → other.may_leave beside → IsInUse image beside st
 left_for generation end used other st up image beside l o = record {
   generation = generation;
-  stands = subst (λ file. StandsOn file generation st) (sym (up.settled.durable image l))
-    (record { opening = up.opening; ranges = up.ranges; fits = up.fits; records = up.records; bank = up.settled.file; done = up.done });
+  stands = subst (λ file. StandsOn file generation st) (sym (up.stored.settled.durable image l))
+    (record { opening = up.stored.opening; ranges = up.stored.ranges; fits = up.stored.fits; records = up.stored.records; bank = up.stored.settled.file; done = up.stored.done });
   lesser = subst (IsLesser generation) (sym (up.durable beside o)) up.lesser;
 }
 
@@ -165,7 +169,7 @@ module _ {B D : Type 0} (generation end : B → ℕ) (bank : B → View) (disk :
       let up_so : IsUpOn generation end bank disk (InUse pair) st = subst (λ d. IsUpOn generation end bank disk d st) is up in
       subst (λ d. PairsSince (both bank disk d) (sides pair.is_right new (disk pair.other)) (IsOldOrNew st now)) (sym is)
       (one_more (generation pair.bank) (end pair.bank) (bank pair.bank) (disk pair.other) st now deeds up_so leads pair.is_right new (timed pair.other are_so.1)
-      (any_moment (spell_state up_so.opening) up_so.records are_so.0 up_so.settled))
+      (any_moment (spell_state up_so.stored.opening) up_so.stored.records are_so.0 up_so.stored.settled))
 
   pub up_on : (disks : Disks B D) (pair : Pair B D) (new_generation new_end : ℕ) (new : View) (deeds : List Deed) → disks ≡ InUse pair → new_generation ≡ generation pair.bank
       → ((body : List ℕ) (records : List (List Deed)) → honest_bank pair.bank → IsSettled (generation pair.bank) body records (end pair.bank) (bank pair.bank)
@@ -175,10 +179,10 @@ module _ {B D : Type 0} (generation end : B → ℕ) (bank : B → View) (disk :
   up_on disks pair new_generation new_end new deeds is same done st now are up leads =
       let are_so : AreHonest honest_bank honest (InUse pair) = subst (AreHonest honest_bank honest) is are in
       let up_so : IsUpOn generation end bank disk (InUse pair) st = subst (λ d. IsUpOn generation end bank disk d st) is up in
-      let settled = done (spell_state up_so.opening) up_so.records are_so.0 up_so.settled in
+      let settled = done (spell_state up_so.stored.opening) up_so.stored.records are_so.0 up_so.stored.settled in
       subst (λ g. IsUp g new_end new (disk pair.other) now) (sym same)
       (up_more (generation pair.bank) (end pair.bank) (bank pair.bank) (disk pair.other) st now deeds up_so leads new_end new
-      (subst (λ g. IsSettled g (spell_state up_so.opening) (up_so.records ++ deeds ∷ []) new_end new) same settled))
+      (subst (λ g. IsSettled g (spell_state up_so.stored.opening) (up_so.stored.records ++ deeds ∷ []) new_end new) same settled))
 
 -- A list whose length is none is empty.
 pub none_of : (ds : List Deed) (b : Bool) → b ≡ (length ds == 0) → b ≡ true → ds ≡ []

@@ -104,9 +104,10 @@ pub fn choose_bank<B: Bag, D: Disk>(
         × IfErr result (λ e. LeavesOnly (D.view left) (D.view e.1) (D.view left).may_leave
         × LeavesOnly (D.view right) (D.view e.2) (D.view right).may_leave) }
     ensures new { IfOk result (λ c. (c.bank.limit ≡ limit) × (c.bank.is_spent ≡ false)) }
-    ensures honest { IfOk result (λ c. D.honest left → D.honest right
-        → D.honest c.bank.disk × D.honest c.other)
-        × IfErr result (λ e. D.honest left → D.honest right → D.honest e.1 × D.honest e.2) }
+    ensures honest { IfOk result (λ c. (D.honest left × D.honest right)
+        ↔ (D.honest c.bank.disk × D.honest c.other))
+        × IfErr result (λ e. (D.honest left × D.honest right) ↔ (D.honest e.1 × D.honest e.2)) }
+    ensures durable { IfOk result (λ c. D.honest c.other → IsDurable (D.view c.other)) }
     ensures cause { IfErr result (λ e. e.0 ≡ ChoiceFault.Disk
         → (D.failures left < D.failures e.1) ⊎ (D.failures right < D.failures e.2)) }
 {
@@ -137,9 +138,10 @@ fn choose_among<B: Bag, D: Disk>(
         × IfErr result (λ e. LeavesOnly (D.view left) (D.view e.1) (D.view left).may_leave
         × LeavesOnly (D.view right) (D.view e.2) (D.view right).may_leave) }
     ensures new { IfOk result (λ c. (c.bank.limit ≡ limit) × (c.bank.is_spent ≡ false)) }
-    ensures honest { IfOk result (λ c. D.honest left → D.honest right
-        → D.honest c.bank.disk × D.honest c.other)
-        × IfErr result (λ e. D.honest left → D.honest right → D.honest e.1 × D.honest e.2) }
+    ensures honest { IfOk result (λ c. (D.honest left × D.honest right)
+        ↔ (D.honest c.bank.disk × D.honest c.other))
+        × IfErr result (λ e. (D.honest left × D.honest right) ↔ (D.honest e.1 × D.honest e.2)) }
+    ensures durable { IfOk result (λ c. D.honest c.other → IsDurable (D.view c.other)) }
     ensures cause { IfErr result (λ e. e.0 ≡ ChoiceFault.Disk
         → (D.failures left < D.failures e.1) ⊎ (D.failures right < D.failures e.2)) }
 {
