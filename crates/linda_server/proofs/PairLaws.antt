@@ -104,7 +104,7 @@ up_same generation end used other st now leads up = record {
 }
 
 -- What stands now.
-left_for : (generation end : ℕ) (used other : View) (st : State) → IsUp generation end used other st
+pub left_for : (generation end : ℕ) (used other : View) (st : State) → IsUp generation end used other st
     → (image beside : List ℕ) → used.may_leave image → other.may_leave beside → IsInUse image beside st
 left_for generation end used other st up image beside l o = record {
   generation = generation;
@@ -119,7 +119,7 @@ stands_for : (generation end : ℕ) (used other : View) (st : State) → IsUp ge
 stands_for generation end used other st up timed_used timed image beside l o =
     left_for generation end used other st up image beside (timed_used.only_now image l) (timed.only_now beside o)
 
-now_on_sides : (is_right : Bool) (used other : View) (st : State)
+pub now_on_sides : (is_right : Bool) (used other : View) (st : State)
     → ((image beside : List ℕ) → used.may_leave image → other.may_leave beside → IsInUse image beside st)
     → PairsNow (sides is_right used other) (λ left right. Stands left right st)
 now_on_sides true used other st each left right l r = inr (each right left r l)

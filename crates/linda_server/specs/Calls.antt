@@ -1,5 +1,5 @@
 -- What a crash within a call of a server may leave of its two banks.
-use Rattle.std.specs.Prelude.{ℕ, ◌+◌, ◌<◌, ◌⊎◌, List, ◌++◌, length}
+use Rattle.std.specs.Prelude.{ℕ, ◌+◌, ◌<◌, ◌≤◌, ◌⊎◌, List, ◌++◌, length}
 use Rattle.linda_wire.specs.declared.message.Message.{Message}
 use Rattle.linda_wire.specs.declared.reply.Reply.{Reply}
 use Rattle.linda_state.specs.declared.deed.Deed.{Deed}
@@ -10,7 +10,7 @@ use Rattle.linda_step.specs.History.{Coming, History, Happens, Answers, history_
 use Rattle.linda_step.specs.Store.{Store}
 use Rattle.linda_journal.specs.Renewal.{IsNoBank}
 use Rattle.linda_snap.specs.Stands.{Stands}
-use Rattle.linda_server.specs.declared.limits.TheConstants.{RECORD_BYTES}
+use Rattle.linda_server.specs.declared.limits.TheConstants.{RECORD_BYTES, MIN_LIMIT, MAX_LIMIT}
 
 -- These deeds lead from the one state to the other: whatever proper list led to the one, leads with them to the other.
 abbrev pub LeadTo : State → List Deed → State → Type 0
@@ -48,3 +48,7 @@ IsNothingOr st left right = (IsNoBank left × IsNoBank right) ⊎ Stands left ri
 abbrev pub HasNoRoom : Store → List (ℕ × Message) → ℕ → ℕ → Type 0
 HasNoRoom old ms end limit = (all : History) → Answers old.state old.soft ms all
     → (0 < length (payload all.deeds)) × (limit < end + RECORD_BYTES + length (payload all.deeds))
+
+-- The limit is one that a bank may have.
+abbrev pub IsLimit : ℕ → Type 0
+IsLimit limit = (MIN_LIMIT ≤ limit) × (limit ≤ MAX_LIMIT)

@@ -2,3 +2,4 @@ pub mod Pairs
 pub mod Disks
 pub mod Served
 pub mod Calls
+pub mod Opening

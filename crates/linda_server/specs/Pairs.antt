@@ -1,6 +1,7 @@
 -- Two disks at a moment, and what crashes leave of the two.
-use Rattle.std.specs.Prelude.{ℕ, ◌≤◌, List}
+use Rattle.std.specs.Prelude.{◌≡◌, ℕ, ◌≤◌, List, []}
 use Rattle.linda_disk.specs.View.{View}
+use Rattle.linda_disk.specs.Run.{LeavesOnly}
 
 -- The left disk and the right one, as clauses speak of them.
 pub record Both : Type 1 where
@@ -17,3 +18,16 @@ pub record PairsSince (old new : Both) (P : List ℕ → List ℕ → Type 0) : 
 -- A crash now leaves two images that have P.
 abbrev pub PairsNow : Both → (List ℕ → List ℕ → Type 0) → Type 0
 PairsNow now P = (left right : List ℕ) → now.left.may_leave left → now.right.may_leave right → P left right
+
+-- these two
+abbrev pub two : View → View → Both
+two left right = record { left = left; right = right }
+
+-- A crash now leaves no byte.
+abbrev pub IsVoid : View → Type 0
+IsVoid v = (image : List ℕ) → v.may_leave image → image ≡ []
+
+-- At no moment since old a crash leaves of either disk what it could not leave then.
+pub record LeavesNoOther (old new : Both) : Type 0 where
+  pub left : LeavesOnly old.left new.left old.left.may_leave
+  pub right : LeavesOnly old.right new.right old.right.may_leave

@@ -1,5 +1,8 @@
 //! A server whose deeds are on a disk before it answers.
 
+mod create;
+mod open;
+
 ghost use Rattle.std.specs.Prelude.{◌≡◌, ◌∷◌, [], ◌<◌, ◌≤◌, ◌+◌, ◌^◌, ◌⊎◌, ◌↔◌, nat_le, true, false, Some, length, IfOk, OnOk, OnErr, IsErrOf};
 ghost use Rattle.linda_server.specs.declared.limits.TheConstants.{RECORD_BYTES, SNAPSHOT_RECORDS};
 ghost use Rattle.linda_server.specs.Disks.{both, disks_of, AreHonest, failures, is_there, is_ready, number_of, IsUpOn};

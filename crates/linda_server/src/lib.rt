@@ -4,6 +4,7 @@
 mod commit;
 mod disks;
 mod durable;
+mod empty;
 mod fault;
 mod limits;
 mod served;

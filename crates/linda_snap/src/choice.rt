@@ -108,6 +108,7 @@ pub fn choose_bank<B: Bag, D: Disk>(
         ↔ (D.honest c.bank.disk × D.honest c.other))
         × IfErr result (λ e. (D.honest left × D.honest right) ↔ (D.honest e.1 × D.honest e.2)) }
     ensures durable { IfOk result (λ c. D.honest c.other → IsDurable (D.view c.other)) }
+    ensures ranges { IfOk result (λ c. states.IsState c.state) }
     ensures cause { IfErr result (λ e. e.0 ≡ ChoiceFault.Disk
         → (D.failures left < D.failures e.1) ⊎ (D.failures right < D.failures e.2)) }
 {
@@ -142,6 +143,7 @@ fn choose_among<B: Bag, D: Disk>(
         ↔ (D.honest c.bank.disk × D.honest c.other))
         × IfErr result (λ e. (D.honest left × D.honest right) ↔ (D.honest e.1 × D.honest e.2)) }
     ensures durable { IfOk result (λ c. D.honest c.other → IsDurable (D.view c.other)) }
+    ensures ranges { IfOk result (λ c. states.IsState c.state) }
     ensures cause { IfErr result (λ e. e.0 ≡ ChoiceFault.Disk
         → (D.failures left < D.failures e.1) ⊎ (D.failures right < D.failures e.2)) }
 {
@@ -222,6 +224,7 @@ fn open_file<B: Bag, D: Disk>(
 ) -> Result<(State<B>, Bank<D>), (BankFault, D)>
     ensures found { D.honest disk → IfOk result (λ x.
         IsStored x.1.generation x.1.end (D.view x.1.disk) x.0) }
+    ensures ranges { IfOk result (λ x. states.IsState x.0) }
     ensures seen { D.honest disk
         → IfOk result (λ x. (D.view x.1.disk).seen ≡ (D.view disk).seen) }
     ensures fault { D.honest disk → IfErr result (λ e. e.0 ≢ BankFault.Disk
@@ -298,6 +301,7 @@ fn choose(left: Heading, right: Heading) -> Result<bool, ChoiceFault>
 // The state that a body and the records behind it come to.
 fn recover<B: Bag>(alloc: Global, body: &[u8], records: &[Record]) -> Result<State<B>, BankFault>
     ensures found { IfOk result (λ st. IsRecovered body.now records.now st) }
+    ensures ranges { IfOk result states.IsState }
     ensures fault { IfErr result (IsUnrecovered body.now records.now) }
 {
     match get_state(alloc, body) {
