@@ -32,7 +32,7 @@ pub leads_to : (st : State) (soft : Soft) (ms : List (ℕ × Message)) (told : S
     → LeadTo st told.deeds.items new
 leads_to st soft ms told new then orderly served opening before is done =
     let end = happened opening st soft (comings ms) before (history_of new then told.deeds.items told.sends.items) is
-        (record { proper = done.proper; after = done.after; orderly = orderly }) (served_happens st soft ms told new then served) in
+    (record { proper = done.proper; after = done.after; orderly = orderly }) (served_happens st soft ms told new then served) in
     record { proper = end.proper; after = end.after }
 
 -- Each message has one answer, and each answer one deed at most.

@@ -39,10 +39,10 @@ abbrev IsUsedFor : State → State → List ℕ → List ℕ → Type 0
 IsUsedFor st now image beside = IsInUse image beside st ⊎ IsInUse image beside now
 
 either_same : (st now : State) (image beside : List ℕ) → IsUsedFor st now image beside → IsOldOrNew st now image beside
-either_same st now image beside = λ x. elim x [ | inl a ↦ inl (inl a) | inr b ↦ inr (inl b) ]
+either_same st now image beside = λ x. elim x [ inl a ↦ inl (inl a) | inr b ↦ inr (inl b) ]
 
 either_turned : (st now : State) (image beside : List ℕ) → IsUsedFor st now image beside → IsOldOrNew st now beside image
-either_turned st now image beside = λ x. elim x [ | inl a ↦ inl (inr a) | inr b ↦ inr (inr b) ]
+either_turned st now image beside = λ x. elim x [ inl a ↦ inl (inr a) | inr b ↦ inr (inr b) ]
 
 -- What is left of the other disk is lesser.
 beside_lesser : (generation end : ℕ) (used other : View) (st : State) → IsUp generation end used other st → IsTimed other
@@ -81,7 +81,9 @@ module _ (generation end : ℕ) (used other : View) (st now : State) (deeds : Li
   up_more : (new_end : ℕ) (new : View) → IsSettled generation (spell_state up.stored.opening) (up.stored.records ++ deeds ∷ []) new_end new → IsUp generation new_end new other now
   up_more new_end new settled = record {
     stored = record {
-      opening = up.stored.opening; ranges = up.stored.ranges; fits = up.stored.fits;
+      opening = up.stored.opening;
+      ranges = up.stored.ranges;
+      fits = up.stored.fits;
       records = up.stored.records ++ deeds ∷ [];
       settled = settled;
       done = done_more;
@@ -94,7 +96,9 @@ module _ (generation end : ℕ) (used other : View) (st now : State) (deeds : Li
 pub up_same : (generation end : ℕ) (used other : View) (st now : State) → LeadTo st [] now → IsUp generation end used other st → IsUp generation end used other now
 up_same generation end used other st now leads up = record {
   stored = record {
-    opening = up.stored.opening; ranges = up.stored.ranges; fits = up.stored.fits;
+    opening = up.stored.opening;
+    ranges = up.stored.ranges;
+    fits = up.stored.fits;
     records = up.stored.records;
     settled = up.stored.settled;
     done = subst (λ ds. AreDone up.stored.opening ds now) (append-nil (deeds_in up.stored.records)) (leads up.stored.opening (deeds_in up.stored.records) up.stored.ranges up.stored.done);
@@ -109,7 +113,7 @@ pub left_for : (generation end : ℕ) (used other : View) (st : State) → IsUp 
 left_for generation end used other st up image beside l o = record {
   generation = generation;
   stands = subst (λ file. StandsOn file generation st) (sym (up.stored.settled.durable image l))
-    (record { opening = up.stored.opening; ranges = up.stored.ranges; fits = up.stored.fits; records = up.stored.records; bank = up.stored.settled.file; done = up.stored.done });
+      (record { opening = up.stored.opening; ranges = up.stored.ranges; fits = up.stored.fits; records = up.stored.records; bank = up.stored.settled.file; done = up.stored.done });
   lesser = subst (IsLesser generation) (sym (up.durable beside o)) up.lesser;
 }
 

@@ -18,7 +18,7 @@ pub enum OpenFault {
     #[error("no store")]
     NoStore,
     /// A bank is damaged at this offset.
-    #[error("the {} bank is damaged at {offset}", if *right { "right" } else { "left" })]
+    #[error("the {} bank is damaged at {offset}", if *right {"right"} else {"left"})]
     Damaged {
         /// Whether it is the right one.
         right: bool,

@@ -15,6 +15,6 @@ loop-message-preserved c =
     record {
       unspent = c.in_ok-add.ensures.unspent;
       served = subst (λ l. IsServed st soft l c.add.new.served c.add.new.store.state c.add.new.store.soft) (sym (ap (λ k. take k ms) (one_more i) ∙ next))
-        (served_more st soft (take i ms) c.loop-message.served c.add.new.served c.loop-message.store.state c.loop-message.store.soft c.message-item.result.0 c.message-item.result.1
-        c.add.new.store.state c.add.new.store.soft c.loop-message.invariant.served c.in_ok-add.ensures.ok);
+          (served_more st soft (take i ms) c.loop-message.served c.add.new.served c.loop-message.store.state c.loop-message.store.soft c.message-item.result.0 c.message-item.result.1
+          c.add.new.store.state c.add.new.store.soft c.loop-message.invariant.served c.in_ok-add.ensures.ok);
     }

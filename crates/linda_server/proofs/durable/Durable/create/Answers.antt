@@ -17,12 +17,14 @@ returns-in-Err-create-clause-any_moment g c hl hr vl vr =
     let right_so = c.expect_empty.ensures.right_honest.0 hr in
     let timed_left = g.met.D.Disk.timed c.expect_empty.new.left left_so in
     let timed_right = g.met.D.Disk.timed c.expect_empty.new.right right_so in
-    let view = g.D.Disk.view in
-    (tt, bank_made (view c.args.left) (view c.in-Err-create.left) (view c.args.right) (view c.lay_gate.new.disk) c.in-Ok.ensures.fits
-    (then_bank (view c.args.left) (view c.expect_empty.new.left) (view c.in-Err-create.left) c.deref.result.now same left.0
-    (c.in-Err-create.ensures.any_moment left_so (void_durable (view c.expect_empty.new.left) timed_left left.1) (void_seen (view c.expect_empty.new.left) timed_left left.1)).1)
-    (then_gate (view c.args.right) (view c.expect_empty.new.right) (view c.lay_gate.new.disk) right.0
-    (c.lay_gate.ensures.any_moment right_so (void_durable (view c.expect_empty.new.right) timed_right right.1) (void_seen (view c.expect_empty.new.right) timed_right right.1))))
+    let view = g.D.Disk.view in (
+      tt,
+      bank_made (view c.args.left) (view c.in-Err-create.left) (view c.args.right) (view c.lay_gate.new.disk) c.in-Ok.ensures.fits
+          (then_bank (view c.args.left) (view c.expect_empty.new.left) (view c.in-Err-create.left) c.deref.result.now same left.0
+          (c.in-Err-create.ensures.any_moment left_so (void_durable (view c.expect_empty.new.left) timed_left left.1) (void_seen (view c.expect_empty.new.left) timed_left left.1)).1)
+          (then_gate (view c.args.right) (view c.expect_empty.new.right) (view c.lay_gate.new.disk) right.0
+          (c.lay_gate.ensures.any_moment right_so (void_durable (view c.expect_empty.new.right) timed_right right.1) (void_seen (view c.expect_empty.new.right) timed_right right.1))),
+    )
 
 pub returns-clause-any_moment : goal.returns-clause-any_moment
 returns-clause-any_moment g c hl hr vl vr =
@@ -33,12 +35,14 @@ returns-clause-any_moment g c hl hr vl vr =
     let right_so = c.expect_empty.ensures.right_honest.0 hr in
     let timed_left = g.met.D.Disk.timed c.expect_empty.new.left left_so in
     let timed_right = g.met.D.Disk.timed c.expect_empty.new.right right_so in
-    let view = g.D.Disk.view in
-    (bank_made (view c.args.left) (view c.in-Ok-create.bank.disk) (view c.args.right) (view c.lay_gate.new.disk) c.in-Ok.ensures.fits
-    (then_bank (view c.args.left) (view c.expect_empty.new.left) (view c.in-Ok-create.bank.disk) c.deref.result.now same left.0
-    (c.in-Ok-create.ensures.any_moment left_so (void_durable (view c.expect_empty.new.left) timed_left left.1) (void_seen (view c.expect_empty.new.left) timed_left left.1)).0)
-    (then_gate (view c.args.right) (view c.expect_empty.new.right) (view c.lay_gate.new.disk) right.0
-    (c.lay_gate.ensures.any_moment right_so (void_durable (view c.expect_empty.new.right) timed_right right.1) (void_seen (view c.expect_empty.new.right) timed_right right.1))), tt)
+    let view = g.D.Disk.view in (
+      bank_made (view c.args.left) (view c.in-Ok-create.bank.disk) (view c.args.right) (view c.lay_gate.new.disk) c.in-Ok.ensures.fits
+          (then_bank (view c.args.left) (view c.expect_empty.new.left) (view c.in-Ok-create.bank.disk) c.deref.result.now same left.0
+          (c.in-Ok-create.ensures.any_moment left_so (void_durable (view c.expect_empty.new.left) timed_left left.1) (void_seen (view c.expect_empty.new.left) timed_left left.1)).0)
+          (then_gate (view c.args.right) (view c.expect_empty.new.right) (view c.lay_gate.new.disk) right.0
+          (c.lay_gate.ensures.any_moment right_so (void_durable (view c.expect_empty.new.right) timed_right right.1) (void_seen (view c.expect_empty.new.right) timed_right right.1))),
+      tt,
+    )
 
 pub invariant_of-result : goal.invariant_of-result
 invariant_of-result g c = record {
@@ -59,7 +63,7 @@ invariant_of-result g c = record {
         let settled = subst (λ body. IsSettled 1 body [] c.in-Ok-create.bank.end (view c.in-Ok-create.bank.disk)) same (c.in-Ok-create.ensures.done left_so) in
         let shut = c.in_default-lay_gate.ensures.shut right_so in
         let up = up_as c.in-Ok-create.bank.generation c.in-Ok-create.bank.end (view c.in-Ok-create.bank.disk) (view c.lay_gate.new.disk) c.new.result.state c.in-Ok-create.ensures.new.0 (ap (λ (s : Store). s.state) c.new.ensures)
-            (made_up c.in-Ok-create.bank.end (view c.in-Ok-create.bank.disk) (view c.lay_gate.new.disk) c.in-Ok.ensures.fits settled shut) in
+        (made_up c.in-Ok-create.bank.end (view c.in-Ok-create.bank.disk) (view c.lay_gate.new.disk) c.in-Ok.ensures.fits settled shut) in
         ∣ up ∣₁
 
 pub returns-clause-now : goal.returns-clause-now
@@ -71,5 +75,5 @@ returns-clause-now g c are left right l r =
     let settled = subst (λ body. IsSettled 1 body [] c.in-Ok-create.bank.end (view c.in-Ok-create.bank.disk)) same (c.in-Ok-create.ensures.done left_so) in
     let shut = c.in_default-lay_gate.ensures.shut right_so in
     let up = up_as c.in-Ok-create.bank.generation c.in-Ok-create.bank.end (view c.in-Ok-create.bank.disk) (view c.lay_gate.new.disk) empty_state c.in-Ok-create.ensures.new.0 refl
-        (made_up c.in-Ok-create.bank.end (view c.in-Ok-create.bank.disk) (view c.lay_gate.new.disk) c.in-Ok.ensures.fits settled shut) in
+    (made_up c.in-Ok-create.bank.end (view c.in-Ok-create.bank.disk) (view c.lay_gate.new.disk) c.in-Ok.ensures.fits settled shut) in
     ∣ inl (left_for c.in-Ok-create.bank.generation c.in-Ok-create.bank.end (view c.in-Ok-create.bank.disk) (view c.lay_gate.new.disk) empty_state up left right l r) ∣₁

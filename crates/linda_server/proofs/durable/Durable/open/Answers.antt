@@ -8,11 +8,13 @@ use Rattle.linda_server.proofs.OpeningLaws.{leaves_no_other}
 use Rattle.linda_server.proofs.durable.Durable.open.Goals as goal
 
 pub returns-in-Err-clause-only : goal.returns-in-Err-clause-only
-returns-in-Err-clause-only g c st hl hr limit stands =
-    (tt, elim (c.in-Err.ensures.only st hl hr stands).1 [
-      | inl disk ↦ inl (c.of_choice.ensures ∙ ap fault_of_choice disk)
-      | inr memory ↦ inr (c.of_choice.ensures ∙ ap fault_of_choice memory)
-    ])
+returns-in-Err-clause-only g c st hl hr limit stands = (
+  tt,
+  elim (c.in-Err.ensures.only st hl hr stands).1 [
+    | inl disk ↦ inl (c.of_choice.ensures ∙ ap fault_of_choice disk)
+    | inr memory ↦ inr (c.of_choice.ensures ∙ ap fault_of_choice memory)
+  ],
+)
 
 pub returns-in-Ok-clause-only : goal.returns-in-Ok-clause-only
 returns-in-Ok-clause-only g c st hl hr limit stands =

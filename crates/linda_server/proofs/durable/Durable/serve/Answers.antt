@@ -47,7 +47,7 @@ returns-in_err-commit-clause-any_moment g c is_up are =
     let served = c.in-Ok.served in
     let after = c.serve_one.new.store in
     let leads = subst (λ l. LeadTo s.store.state l after.state) (sym c.deref.ensures.value)
-        (leads_to s.store.state s.store.soft ((c.args.client, c.args.message.now) ∷ []) served after.state after.soft c.size_of_one-size.ensures.orderly c.in-Ok.ensures.ok) in
+    (leads_to s.store.state s.store.soft ((c.args.client, c.args.message.now) ∷ []) served after.state after.soft c.size_of_one-size.ensures.orderly c.in-Ok.ensures.ok) in
     put_before (λ b. b.generation) (λ b. b.end) (λ b. g.D.Disk.view b.disk) g.D.Disk.view (λ b. g.D.Disk.honest b.disk) g.D.Disk.honest
     (λ b h. g.met.D.Disk.timed b.disk h) (λ d h. g.met.D.Disk.timed d h) s.disks c.commit.new.disks s.store (comings ((c.args.client, c.args.message.now) ∷ [])) (history_of after.state after.soft served.deeds.items served.sends.items) c.deref.result.now
     (served_happens s.store.state s.store.soft ((c.args.client, c.args.message.now) ∷ []) served after.state after.soft c.in-Ok.ensures.ok) leads are (s.up is_up are) c.commit.ensures.any_moment
@@ -58,7 +58,7 @@ returns-clause-any_moment g c is_up are =
     let served = c.in-Ok.served in
     let after = c.serve_one.new.store in
     let leads = subst (λ l. LeadTo s.store.state l after.state) (sym c.deref.ensures.value)
-        (leads_to s.store.state s.store.soft ((c.args.client, c.args.message.now) ∷ []) served after.state after.soft c.size_of_one-size.ensures.orderly c.in-Ok.ensures.ok) in
+    (leads_to s.store.state s.store.soft ((c.args.client, c.args.message.now) ∷ []) served after.state after.soft c.size_of_one-size.ensures.orderly c.in-Ok.ensures.ok) in
     put_before (λ b. b.generation) (λ b. b.end) (λ b. g.D.Disk.view b.disk) g.D.Disk.view (λ b. g.D.Disk.honest b.disk) g.D.Disk.honest
     (λ b h. g.met.D.Disk.timed b.disk h) (λ d h. g.met.D.Disk.timed d h) s.disks c.commit.new.disks s.store (comings ((c.args.client, c.args.message.now) ∷ [])) (history_of after.state after.soft served.deeds.items served.sends.items) c.deref.result.now
     (served_happens s.store.state s.store.soft ((c.args.client, c.args.message.now) ∷ []) served after.state after.soft c.in-Ok.ensures.ok) leads are (s.up is_up are) c.commit.ensures.any_moment
@@ -69,15 +69,15 @@ invariant_of-self-2 g c =
     let served = c.in-Ok.served in
     let after = c.serve_one.new.store in
     let leads = subst (λ l. LeadTo s.store.state l after.state) (sym c.deref.ensures.value)
-        (leads_to s.store.state s.store.soft ((c.args.client, c.args.message.now) ∷ []) served after.state after.soft c.size_of_one-size.ensures.orderly c.in-Ok.ensures.ok) in
+    (leads_to s.store.state s.store.soft ((c.args.client, c.args.message.now) ∷ []) served after.state after.soft c.size_of_one-size.ensures.orderly c.in-Ok.ensures.ok) in
     record {
       live = λ _. c.in-Ok.ensures.unspent;
       ready = λ _. c.in_ok-commit.ensures.ready;
       there = c.in_ok-commit.ensures.there s.there;
       limited = λ _. c.commit.ensures.limit ∙ s.limited c.if-self.false;
       up = λ _ are. let were = c.commit.ensures.honest.1 are in
-        up_after (λ b. b.generation) (λ b. b.end) (λ b. g.D.Disk.view b.disk) g.D.Disk.view (λ b. g.D.Disk.honest b.disk) g.D.Disk.honest
-    (λ b h. g.met.D.Disk.timed b.disk h) (λ d h. g.met.D.Disk.timed d h) s.disks c.commit.new.disks s.store.state after.state c.deref.result.now leads were (s.up c.if-self.false were) c.in_ok-commit.ensures.done;
+          up_after (λ b. b.generation) (λ b. b.end) (λ b. g.D.Disk.view b.disk) g.D.Disk.view (λ b. g.D.Disk.honest b.disk) g.D.Disk.honest
+          (λ b h. g.met.D.Disk.timed b.disk h) (λ d h. g.met.D.Disk.timed d h) s.disks c.commit.new.disks s.store.state after.state c.deref.result.now leads were (s.up c.if-self.false were) c.in_ok-commit.ensures.done;
     }
 
 pub returns-clause-now : goal.returns-clause-now
@@ -86,7 +86,7 @@ returns-clause-now g c are =
     let served = c.in-Ok.served in
     let after = c.serve_one.new.store in
     let leads = subst (λ l. LeadTo s.store.state l after.state) (sym c.deref.ensures.value)
-        (leads_to s.store.state s.store.soft ((c.args.client, c.args.message.now) ∷ []) served after.state after.soft c.size_of_one-size.ensures.orderly c.in-Ok.ensures.ok) in
+    (leads_to s.store.state s.store.soft ((c.args.client, c.args.message.now) ∷ []) served after.state after.soft c.size_of_one-size.ensures.orderly c.in-Ok.ensures.ok) in
     let were = c.commit.ensures.honest.1 are in
     stands_so (λ b. b.generation) (λ b. b.end) (λ b. g.D.Disk.view b.disk) g.D.Disk.view (λ b. g.D.Disk.honest b.disk) g.D.Disk.honest
     (λ b h. g.met.D.Disk.timed b.disk h) (λ d h. g.met.D.Disk.timed d h) c.commit.new.disks after.state
