@@ -1,5 +1,5 @@
 -- A new server: its snapshot, and what crashes leave while it is made.
-use Rattle.std.proofs.Common.{◌≡◌, ℕ, ◌+◌, ◌<◌, ◌≤◌, ◌^◌, inl, inr, List, [], ◌∷◌, ◌++◌, length, refl, sym, ap, subst, ◌∙◌, arith}
+use Rattle.std.proofs.Common.{◌≡◌, ℕ, ◌<◌, ◌≤◌, ◌^◌, inl, inr, List, [], ◌∷◌, length, refl, sym, ap, subst, ◌∙◌, arith}
 use Rattle.std.specs.FinMap.{entries, empty, len-entries, len-empty}
 use Rattle.std.specs.Ordering.{nat_cmp}
 use Rattle.linda_state.specs.State.{State, IsState, empty_state}
@@ -8,14 +8,13 @@ use Rattle.linda_state.proofs.ProperLaws.{none_done}
 use Rattle.linda_disk.specs.View.{View, IsDurable, IsTimed}
 use Rattle.linda_disk.specs.Run.{LeavesOnly}
 use Rattle.linda_disk.proofs.RunLaws.{joined}
-use Rattle.linda_journal.specs.declared.limits.TheConstants.{MIN_BYTES}
-use Rattle.linda_journal.specs.Gate.{IsShut, ClosesAfter}
-use Rattle.linda_journal.specs.Bank.{IsBank, IsSettled, IsNoneOrNew, IsCandidate}
+use Rattle.linda_journal.specs.Gate.{IsShut}
+use Rattle.linda_journal.specs.Bank.{IsSettled, IsNoneOrNew}
 use Rattle.linda_journal.specs.Renewal.{IsNoBank}
 use Rattle.linda_journal.proofs.BankLaws.{no_candidate}
 use Rattle.linda_snap.specs.Snapshot.{Parts, snapshot, spell_state, FitsState}
-use Rattle.linda_snap.specs.Stands.{IsUp, IsInUse, Stands}
-use Rattle.linda_server.specs.Pairs.{Both, PairsSince, two, IsVoid}
+use Rattle.linda_snap.specs.Stands.{IsUp}
+use Rattle.linda_server.specs.Pairs.{PairsSince, two, IsVoid}
 use Rattle.linda_server.specs.Calls.{IsNothingOr}
 
 -- An empty server's snapshot has 16 bytes.

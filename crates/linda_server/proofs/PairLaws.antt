@@ -1,5 +1,5 @@
 -- What crashes leave of two disks, where deeds go onto the one that holds the bank in use, or nothing does.
-use Rattle.std.proofs.Common.{◌≡◌, ℕ, ◌≤◌, ◌⊎◌, inl, inr, Bool, true, false, ◌==◌, length, List, [], ◌∷◌, ◌++◌, OnOk, refl, sym, ap, subst, ◌∙◌, append-nil, arith}
+use Rattle.std.proofs.Common.{◌≡◌, ℕ, ◌≤◌, ◌⊎◌, inl, inr, Bool, true, false, ◌==◌, length, List, [], ◌∷◌, ◌++◌, refl, sym, ap, subst, ◌∙◌, append-nil, arith}
 use Rattle.std.proofs.lemmas.Grind.{flat_map-append}
 use Rattle.linda_state.specs.declared.deed.Deed.{Deed}
 use Rattle.linda_state.specs.State.{State}
@@ -12,7 +12,7 @@ use Rattle.linda_snap.specs.Stands.{deeds_in, StandsOn, IsLesser, IsInUse, Stand
 use Rattle.linda_server.specs.declared.disks.Disks.{Disks}
 use Rattle.linda_server.specs.declared.disks.Disks.TheVariants.{InUse, Shut, Away}
 use Rattle.linda_server.specs.declared.disks.Pair.{Pair}
-use Rattle.linda_server.specs.Pairs.{Both, PairsSince, PairsNow}
+use Rattle.linda_server.specs.Pairs.{PairsSince, PairsNow}
 use Rattle.linda_server.specs.Disks.{sides, both, AreHonest, IsUpOn}
 use Rattle.linda_server.specs.Calls.{LeadTo, IsOldOrNew}
 

@@ -1,16 +1,14 @@
 -- Messages that are answered one after another, told in one list of deeds and one of sends.
-use Rattle.std.proofs.Common.{◌≡◌, ℕ, ◌+◌, suc, arith, List, [], ◌∷◌, ◌++◌, length, map, option_to_list, refl, sym, ap, subst, ◌∙◌, append-nil, take}
+use Rattle.std.proofs.Common.{◌≡◌, ℕ, ◌+◌, suc, arith, List, [], ◌∷◌, ◌++◌, option_to_list, refl, sym, ap, subst, ◌∙◌, append-nil}
 use Rattle.std.proofs.lemmas.List.{map-append}
 use Rattle.std.proofs.lemmas.Grind.{flat_map-append}
 use Rattle.linda_wire.specs.declared.message.Message.{Message}
-use Rattle.linda_wire.specs.declared.reply.Reply.{Reply}
-use Rattle.linda_state.specs.declared.deed.Deed.{Deed}
 use Rattle.linda_state.specs.State.{State}
 use Rattle.linda_step.specs.Soft.{Soft}
 use Rattle.linda_step.specs.Answer.{Answer, IsStep}
-use Rattle.linda_step.specs.History.{History, Happens, comings, nothing_yet, first_then, history_of}
+use Rattle.linda_step.specs.History.{History, Happens, comings, first_then, history_of}
 use Rattle.linda_server.specs.declared.served.Served.{Served}
-use Rattle.linda_server.specs.Served.{AreAnswered, deeds_of, sends_of, share_of, Tells, IsServed, IsServedToo}
+use Rattle.linda_server.specs.Served.{AreAnswered, deeds_of, sends_of, share_of, IsServed, IsServedToo}
 
 -- What one answer at the end adds.
 deeds_more : (answers : List Answer) (a : Answer) → deeds_of (answers ++ a ∷ []) ≡ deeds_of answers ++ option_to_list a.deed

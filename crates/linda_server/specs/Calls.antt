@@ -12,10 +12,11 @@ use Rattle.linda_journal.specs.Renewal.{IsNoBank}
 use Rattle.linda_snap.specs.Stands.{Stands}
 use Rattle.linda_server.specs.declared.limits.TheConstants.{RECORD_BYTES, MIN_LIMIT, MAX_LIMIT}
 
--- These deeds lead from the one state to the other: whatever proper list led to the one, leads with them to the other.
+-- These deeds lead from the one state to the other: whatever proper list led to the one, leads with
+-- them to the other.
 abbrev pub LeadTo : State → List Deed → State → Type 0
-LeadTo st deeds new = (opening : State) (before : List Deed) → IsState opening → AreDone opening before st
-    → AreDone opening (before ++ deeds) new
+LeadTo st deeds new = (opening : State) (before : List Deed) → IsState opening
+    → AreDone opening before st → AreDone opening (before ++ deeds) new
 
 -- The two images stand for the old state, or for the new one.
 abbrev pub IsOldOrNew : State → State → List ℕ → List ℕ → Type 0
@@ -27,12 +28,14 @@ pub record StandsAfter (old : Store) (xs : List Coming) (left right : List ℕ) 
   pub happens : Happens old.state old.soft xs all
   pub stands : Stands left right all.state
 
--- They stand for the state of before, or for the one after all that came: all deeds of a call are there, or none.
+-- They stand for the state of before, or for the one after all that came: all deeds of a call are
+-- there, or none.
 abbrev pub IsBeforeOrAfter : Store → List Coming → List ℕ → List ℕ → Type 0
 IsBeforeOrAfter old xs left right = ∥ Stands left right old.state ⊎ StandsAfter old xs left right ∥₁
 
 -- All that came was done, and this was sent.
-pub record HasHandled (old : Store) (xs : List Coming) (sends : List (ℕ × Reply)) (new : Store) : Type 0 where
+pub record HasHandled (old : Store) (xs : List Coming) (sends : List (ℕ × Reply))
+    (new : Store) : Type 0 where
   pub deeds : List Deed
   pub happens : Happens old.state old.soft xs (history_of new.state new.soft deeds sends)
 

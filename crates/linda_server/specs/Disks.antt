@@ -1,4 +1,5 @@
--- The two disks of a server: which is which, and the state that stands on them. What a bank and a disk say is handed in.
+-- The two disks of a server: which is which, and the state that stands on them. What a bank and a
+-- disk say is handed in.
 use Rattle.std.specs.Prelude.{ℕ, ◌+◌, Bool, true, false, not, [], if◌then◌else◌, Option, Some, None}
 use Rattle.linda_state.specs.State.{State}
 use Rattle.linda_disk.specs.View.{View}
@@ -24,7 +25,8 @@ both bank disk Away = record { left = nowhere; right = nowhere }
 
 -- The left disk and the right one, if they are there.
 abbrev pub disks_of : {B D : Type 0} → (B → D) → Disks B D → Option (D × D)
-disks_of disk (InUse pair) = Some (if pair.is_right then (pair.other, disk pair.bank) else (disk pair.bank, pair.other))
+disks_of disk (InUse pair) =
+    Some (if pair.is_right then (pair.other, disk pair.bank) else (disk pair.bank, pair.other))
 disks_of disk (Shut left right) = Some (left, right)
 disks_of disk Away = None
 
@@ -58,8 +60,10 @@ number_of number (InUse pair) = number pair.bank
 number_of number (Shut left right) = 0
 number_of number Away = 0
 
--- The bank in use, of this generation and with this end, stands for the state, and a crash now leaves them so.
-abbrev pub IsUpOn : {B D : Type 0} → (B → ℕ) → (B → ℕ) → (B → View) → (D → View) → Disks B D → State → Type 0
+-- The bank in use, of this generation and with this end, stands for the state, and a crash now
+-- leaves them so.
+abbrev pub IsUpOn : {B D : Type 0} → (B → ℕ) → (B → ℕ) → (B → View) → (D → View)
+    → Disks B D → State → Type 0
 IsUpOn generation end bank disk (InUse pair) st =
     IsUp (generation pair.bank) (end pair.bank) (bank pair.bank) (disk pair.other) st
 IsUpOn generation end bank disk (Shut left right) st = ⊥

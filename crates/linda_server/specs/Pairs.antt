@@ -8,7 +8,8 @@ pub record Both : Type 1 where
   pub left : View
   pub right : View
 
--- A crash of each disk at some moment since old, whichever these are, leaves two images that have P.
+-- A crash of each disk at some moment since old, whichever these are, leaves two images that have
+-- P.
 pub record PairsSince (old new : Both) (P : List ℕ → List ℕ → Type 0) : Type 0 where
   pub left_later : old.left.moment ≤ new.left.moment
   pub right_later : old.right.moment ≤ new.right.moment
@@ -17,7 +18,8 @@ pub record PairsSince (old new : Both) (P : List ℕ → List ℕ → Type 0) : 
 
 -- A crash now leaves two images that have P.
 abbrev pub PairsNow : Both → (List ℕ → List ℕ → Type 0) → Type 0
-PairsNow now P = (left right : List ℕ) → now.left.may_leave left → now.right.may_leave right → P left right
+PairsNow now P =
+    (left right : List ℕ) → now.left.may_leave left → now.right.may_leave right → P left right
 
 -- these two
 abbrev pub two : View → View → Both

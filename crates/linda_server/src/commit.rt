@@ -6,7 +6,8 @@ ghost use Rattle.linda_state.specs.State as state;
 ghost use Rattle.linda_step.specs.declared.size.TheConstants.{MAX_BATCH};
 ghost use Rattle.linda_server.specs.declared.limits.TheConstants.{RECORD_BYTES};
 ghost use Rattle.linda_server.specs.Pairs.{PairsSince};
-ghost use Rattle.linda_server.specs.Disks.{both, AreHonest, failures, is_there, is_ready, number_of, IsUpOn};
+ghost use Rattle.linda_server.specs.Disks.{both, AreHonest, failures};
+ghost use Rattle.linda_server.specs.Disks.{is_there, is_ready, number_of, IsUpOn};
 ghost use Rattle.linda_server.specs.Calls.{LeadTo, IsOldOrNew};
 
 use crate::disks::{Disks, Pair};
@@ -20,7 +21,8 @@ use std::alloc::Global;
 ///
 /// # Errors
 ///
-/// `Disk` where the device failed, and `Memory`: the record is there or it is not, and the bank is not to be used.
+/// `Disk` where the device failed, and `Memory`: the record is there or it is not, and the bank is
+/// not to be used.
 pub(crate) fn commit<D: Disk>(
     disks: &mut Disks<Bank<D>, D>,
     alloc: Global,

@@ -34,7 +34,8 @@ impl<D: Disk> Disks<Bank<D>, D> {
     ghost use Rattle.std.specs.Prelude.{◌≡◌, true, Some};
     ghost use Rattle.linda_server.specs.Disks.{disks_of, is_there, number_of};
 
-    /// The offset of the closed gate at which the journal of the bank in use ends; 0 where none is in use.
+    /// The offset of the closed gate at which the journal of the bank in use ends; 0 where none is
+    /// in use.
     pub(crate) fn end(&self) -> usize
         ensures { result ≡ number_of (λ b. b.end) self.now }
     {

@@ -3,9 +3,11 @@
 mod create;
 mod open;
 
-ghost use Rattle.std.specs.Prelude.{◌≡◌, ◌∷◌, [], ◌<◌, ◌≤◌, ◌+◌, ◌^◌, ◌⊎◌, ◌↔◌, nat_le, true, false, Some, length, IfOk, OnOk, OnErr, IsErrOf};
+ghost use Rattle.std.specs.Prelude.{◌≡◌, ◌∷◌, [], ◌<◌, ◌≤◌, ◌+◌, ◌^◌, ◌⊎◌, ◌↔◌};
+ghost use Rattle.std.specs.Prelude.{nat_le, true, false, Some, length, IfOk, OnOk, OnErr, IsErrOf};
 ghost use Rattle.linda_server.specs.declared.limits.TheConstants.{RECORD_BYTES, SNAPSHOT_RECORDS};
-ghost use Rattle.linda_server.specs.Disks.{both, disks_of, AreHonest, failures, is_there, is_ready, number_of, IsUpOn};
+ghost use Rattle.linda_server.specs.Disks.{both, disks_of, AreHonest, failures};
+ghost use Rattle.linda_server.specs.Disks.{is_there, is_ready, number_of, IsUpOn};
 
 use crate::commit::commit;
 use crate::disks::Disks;
@@ -23,9 +25,11 @@ use linda_store::NodeFault;
 use linda_wire::{Message, Reply};
 use std::alloc::Global;
 
-/// A server on two disks, of which one holds the bank in use. What it answers for is on that bank before it answers.
+/// A server on two disks, of which one holds the bank in use. What it answers for is on that bank
+/// before it answers.
 ///
-/// While it is up its store is not spent, its bank has room to be used, and the state stands on the two disks.
+/// While it is up its store is not spent, its bank has room to be used, and the state stands on the
+/// two disks.
 #[derive(Drop)]
 pub struct Durable<D: Disk> {
     store: Store<IndexBag>,
@@ -37,7 +41,8 @@ pub struct Durable<D: Disk> {
     ghost ready: { down ≡ false → is_ready (λ b. b.is_spent) disks ≡ true },
     ghost limited: { down ≡ false → number_of (λ b. b.limit) disks ≡ limit },
     ghost up: { down ≡ false → AreHonest (λ b. D.honest b.disk) D.honest disks
-        → ∥ IsUpOn (λ b. b.generation) (λ b. b.end) (λ b. D.view b.disk) D.view disks store.state ∥₁ },
+        → ∥ IsUpOn (λ b. b.generation) (λ b. b.end) (λ b. D.view b.disk) D.view
+        disks store.state ∥₁ },
 }
 
 impl<D: Disk> Durable<D> {
@@ -50,14 +55,14 @@ impl<D: Disk> Durable<D> {
     ghost use Rattle.linda_server.specs.Served.{IsServed};
     ghost use Rattle.linda_server.specs.Calls.{IsBeforeOrAfter, StandsFor, HasHandled, HasNoRoom};
 
-    /// Does what the messages ask, one after another, each of its client, and tells for each of them which deed it
-    /// did and what is sent. All deeds come onto the bank in use as one record; where there are none, no device call
-    /// is made.
+    /// Does what the messages ask, one after another, each of its client, and tells for each of
+    /// them which deed it did and what is sent. All deeds come onto the bank in use as one record;
+    /// where there are none, no device call is made.
     ///
     /// # Errors
     ///
-    /// `Down`, then `Full`: nothing changed. `Disk` where the device failed, and `Memory`: the server is down, nothing
-    /// is to be sent, and all of the deeds are done or none.
+    /// `Down`, then `Full`: nothing changed. `Disk` where the device failed, and `Memory`: the
+    /// server is down, nothing is to be sent, and all of the deeds are done or none.
     pub fn serve_all(
         &mut self,
         alloc: Global,
@@ -77,13 +82,15 @@ impl<D: Disk> Durable<D> {
             → PairsNow (both (λ b. D.view b.disk) D.view self.new.disks)
             (StandsFor self.new.store.state)) }
         ensures up { OnOk result ((self.old.down ≡ false) × (self.new.down ≡ false)) }
-        // It is Full exactly where the record of the deeds, and the gate behind it, would pass the limit; nothing changed
-        // then.
+        // It is Full exactly where the record of the deeds, and the gate behind it, would pass the
+        // limit; nothing changed then.
         ensures full { IsErrOf result ServeFault.Full → (self.new ≡ self.old)
-            × HasNoRoom self.old.store messages.now (number_of (λ b. b.end) self.old.disks) self.old.limit }
-        ensures room { OnOk result
-            (HasNoRoom self.old.store messages.now (number_of (λ b. b.end) self.old.disks) self.old.limit → ⊥) }
-        // It is down exactly where it was, and goes down only where a device failed or memory ran out.
+            × HasNoRoom self.old.store messages.now
+            (number_of (λ b. b.end) self.old.disks) self.old.limit }
+        ensures room { OnOk result (HasNoRoom self.old.store messages.now
+            (number_of (λ b. b.end) self.old.disks) self.old.limit → ⊥) }
+        // It is down exactly where it was, and goes down only where a device failed or memory ran
+        // out.
         ensures was_down { IsErrOf result ServeFault.Down ↔ (self.old.down ≡ true) }
         ensures stays_down { self.old.down ≡ true → self.new ≡ self.old }
         ensures goes_down { (IsErrOf result ServeFault.Disk → self.new.down ≡ true)
@@ -165,11 +172,13 @@ impl<D: Disk> Durable<D> {
         Ok(served)
     }
 
-    /// Takes one message of a client. What is answered goes to the clients named beside each reply, in order.
+    /// Takes one message of a client. What is answered goes to the clients named beside each reply,
+    /// in order.
     ///
     /// # Errors
     ///
-    /// `Full`, and nothing changed; `Down`: the server is down, and all that the message asks is done or nothing.
+    /// `Full`, and nothing changed; `Down`: the server is down, and all that the message asks is
+    /// done or nothing.
     pub fn handle(
         &mut self,
         alloc: Global,
@@ -205,8 +214,8 @@ impl<D: Disk> Durable<D> {
         }
     }
 
-    /// Takes several messages, at most 64, each of its client, one after another; what is answered comes when all
-    /// of them were taken.
+    /// Takes several messages, at most 64, each of its client, one after another; what is answered
+    /// comes when all of them were taken.
     ///
     /// # Errors
     ///
@@ -229,9 +238,10 @@ impl<D: Disk> Durable<D> {
             (StandsFor self.new.store.state)) }
         ensures up { OnOk result ((self.old.down ≡ false) × (self.new.down ≡ false)) }
         ensures full { IsErrOf result NodeFault.Full → (self.new ≡ self.old)
-            × HasNoRoom self.old.store messages.now (number_of (λ b. b.end) self.old.disks) self.old.limit }
-        ensures room { OnOk result
-            (HasNoRoom self.old.store messages.now (number_of (λ b. b.end) self.old.disks) self.old.limit → ⊥) }
+            × HasNoRoom self.old.store messages.now
+            (number_of (λ b. b.end) self.old.disks) self.old.limit }
+        ensures room { OnOk result (HasNoRoom self.old.store messages.now
+            (number_of (λ b. b.end) self.old.disks) self.old.limit → ⊥) }
         ensures down { IsErrOf result NodeFault.Down → self.new.down ≡ true }
         ensures stays_down { self.old.down ≡ true
             → IsErrOf result NodeFault.Down × (self.new ≡ self.old) }
@@ -255,7 +265,8 @@ impl<D: Disk> Durable<D> {
             → AreHonest (λ b. D.honest b.disk) D.honest self.old.disks
             → PairsSince (both (λ b. D.view b.disk) D.view self.old.disks)
             (both (λ b. D.view b.disk) D.view self.new.disks) (StandsFor self.old.store.state) }
-        ensures done { IfOk result (λ sends. record { sends = sends.items; soft = self.new.store.soft }
+        ensures done { IfOk result (λ sends.
+            record { sends = sends.items; soft = self.new.store.soft }
             ≡ on_close self.old.store.state.bag client self.old.store.soft) }
         ensures same { (self.new.store.state ≡ self.old.store.state)
             × (self.new.disks ≡ self.old.disks) × (self.new.limit ≡ self.old.limit) }
@@ -298,7 +309,8 @@ impl<D: Disk> Durable<D> {
         self.store.waits()
     }
 
-    /// Whether the server is down. While it is not, it is in order, and crashes now leave its state.
+    /// Whether the server is down. While it is not, it is in order, and crashes now leave its
+    /// state.
     pub fn is_down(&self) -> bool
         ensures down { result ≡ self.now.down }
         ensures orderly { IsOrderly self.now.store.state self.now.store.soft }
@@ -326,7 +338,8 @@ impl<D: Disk> Durable<D> {
     }
 }
 
-// Whether a record of deeds of this size, and the gate behind it, keep within the limit, where there are deeds.
+// Whether a record of deeds of this size, and the gate behind it, keep within the limit, where
+// there are deeds.
 fn has_room(limit: usize, end: usize, size: u64) -> bool
     ensures yes { result ≡ true → 0 < size → end + RECORD_BYTES + size ≤ limit }
     ensures no { result ≡ false → (0 < size) × (limit < end + RECORD_BYTES + size) }

@@ -1,6 +1,7 @@
 //! Two disks that are to hold a new server.
 
-ghost use Rattle.std.specs.Prelude.{◌≡◌, ◌<◌, ◌≤◌, ◌+◌, ◌^◌, ◌⊎◌, ◌↔◌, [], true, false, length, IfOk, OnOk, IsErrOf};
+ghost use Rattle.std.specs.Prelude.{◌≡◌, ◌<◌, ◌≤◌, ◌+◌, ◌^◌, ◌⊎◌, ◌↔◌, []};
+ghost use Rattle.std.specs.Prelude.{true, false, length, IfOk, OnOk, IsErrOf};
 ghost use Rattle.linda_state.specs.State.{empty_state};
 ghost use Rattle.linda_disk.specs.Run.{LeavesOnly};
 ghost use Rattle.linda_snap.specs.Snapshot.{spell_state, FitsState};

@@ -1,6 +1,7 @@
 //! How messages are served by a store, before anything is written.
 
-ghost use Rattle.std.specs.Prelude.{◌≡◌, ◌++◌, ◌∷◌, [], ◌≤◌, length, OnOk, OnErr, IfOk, false, true, option_to_list};
+ghost use Rattle.std.specs.Prelude.{◌≡◌, ◌++◌, ◌∷◌, [], ◌≤◌};
+ghost use Rattle.std.specs.Prelude.{length, OnOk, OnErr, IfOk, false, true, option_to_list};
 ghost use Rattle.std.specs.Option.{is_some};
 ghost use Rattle.linda_server.specs.Served.{IsServed, IsServedToo};
 

@@ -19,20 +19,21 @@ impl<D: Disk> Durable<D> {
     ghost use Rattle.linda_server.specs.Disks.{both, AreHonest};
     ghost use Rattle.linda_server.specs.Calls.{IsNothingOr, StandsFor, IsLimit};
 
-    /// Makes a server that was never used on two empty disks: a closed gate on the right one, and on the left one a
-    /// new bank of generation 1 with a snapshot of the empty state.
+    /// Makes a server that was never used on two empty disks: a closed gate on the right one, and
+    /// on the left one a new bank of generation 1 with a snapshot of the empty state.
     ///
     /// # Errors
     ///
-    /// `NotEmpty`, `LimitRange`: nothing was written. `Disk` where a device failed, `Memory`: the left disk holds the
-    /// whole new bank or none. Each hands the disks back, left and right.
+    /// `NotEmpty`, `LimitRange`: nothing was written. `Disk` where a device failed, `Memory`: the
+    /// left disk holds the whole new bank or none. Each hands the disks back, left and right.
     pub fn create(
         alloc: Global,
         left: D,
         right: D,
         limit: usize,
     ) -> Result<Durable<D>, (OpenFault, D, D)>
-        // Where both were empty, at no moment crashes leave anything but no bank, or the empty state;
+        // Where both were empty, at no moment crashes leave anything but no bank, or the empty
+        // state;
         ensures any_moment { D.honest left → D.honest right → IsVoid (D.view left)
             → IsVoid (D.view right)
             → IfOk result (λ s. PairsSince (two (D.view left) (D.view right))

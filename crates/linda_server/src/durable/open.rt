@@ -23,13 +23,13 @@ impl<D: Disk> Durable<D> {
     ghost use Rattle.linda_server.specs.Calls.{StandsFor, IsLimit};
     ghost use Rattle.linda_server.specs.Opening.{IsOpenFault};
 
-    /// Opens the server that two disks hold: its state is the one that stands on them, nothing is held and nobody
-    /// waits. Both disks are synced first; nothing is written.
+    /// Opens the server that two disks hold: its state is the one that stands on them, nothing is
+    /// held and nobody waits. Both disks are synced first; nothing is written.
     ///
     /// # Errors
     ///
-    /// `LimitRange` before all others; `NoStore`, `Damaged`, `Disk` where a device failed, `Memory`. Each hands the
-    /// disks back, left and right.
+    /// `LimitRange` before all others; `NoStore`, `Damaged`, `Disk` where a device failed,
+    /// `Memory`. Each hands the disks back, left and right.
     pub fn open(
         alloc: Global,
         left: D,

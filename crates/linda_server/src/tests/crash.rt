@@ -5,7 +5,8 @@ use linda_disk::Torn;
 use linda_store::NodeFault;
 use std::test::Fail;
 
-/// A device call of a put, a way to crash, and the next id of the server that is opened then: 2 where the tuple is there.
+/// A device call of a put, a way to crash, and the next id of the server that is opened then: 2
+/// where the tuple is there.
 type Row = (u64, Torn, u64);
 
 const ROWS: &[Row] = &[

@@ -111,7 +111,8 @@ pub(super) fn left_behind(
     Ok((told, Vec::from_slice(alloc, left.bytes())?))
 }
 
-/// What a server tells that is opened on these disks: its next id, and how many tuples and clients there are.
+/// What a server tells that is opened on these disks: its next id, and how many tuples and clients
+/// there are.
 fn opened(alloc: Global, left: MemDisk, right: MemDisk) -> Result<(u64, usize, usize), OpenFault> {
     match Durable::open(alloc, left, right, 100) {
         Err((fault, _, _)) => Err(fault),
@@ -133,7 +134,8 @@ pub(super) fn opened_of(
     Ok(opened(alloc, left, right))
 }
 
-/// A new server is stopped inside this device call of a put, its disks crash so, and it is opened again.
+/// A new server is stopped inside this device call of a put, its disks crash so, and it is opened
+/// again.
 pub(super) fn stopped(
     alloc: Global,
     call: u64,

@@ -1,6 +1,4 @@
 -- Deeds go onto the bank in use as one record, or there are none.
-use Rattle.std.proofs.Common.{rules, ◌≡◌, [], List, length, true}
-use Rattle.linda_state.specs.declared.deed.Deed.{Deed}
 use Rattle.linda_server.proofs.PairLaws.{none_of, still_for, up_still, put_on, up_on}
 use Rattle.linda_server.proofs.commit.commit.Goals as goal
 

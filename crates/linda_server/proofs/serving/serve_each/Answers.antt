@@ -1,5 +1,5 @@
 -- With each turn one message more is served.
-use Rattle.std.proofs.Common.{◌≡◌, take, ap, sym, ◌∙◌, ◌++◌, ◌∷◌, [], subst, arith, suc, ◌+◌}
+use Rattle.std.proofs.Common.{take, ap, sym, ◌∙◌, ◌++◌, ◌∷◌, [], subst}
 use Rattle.std.proofs.Math.Seq.{take-suc}
 use Rattle.linda_server.specs.Served.{IsServed}
 use Rattle.linda_server.proofs.ServedLaws.{served_more, one_more}

@@ -1,5 +1,5 @@
 -- Each step of making a new server leaves no bank, or the whole new one.
-use Rattle.std.proofs.Common.{◌≡◌, ◌∙◌, List, [], inl, not, false, refl, sym, ap, subst}
+use Rattle.std.proofs.Common.{◌≡◌, ◌∙◌, [], inl, not, false, refl, ap, subst}
 use Rattle.linda_state.specs.State.{empty_state}
 use Rattle.linda_journal.specs.Bank.{IsSettled}
 use Rattle.linda_step.specs.Store.{Store}

@@ -2,7 +2,7 @@
 use Rattle.std.proofs.Common.{ℕ, [], ◌∷◌, ap, sym, subst}
 use Rattle.std.specs.Global.{Vec}
 use Rattle.linda_wire.specs.declared.reply.Reply.{Reply}
-use Rattle.linda_step.specs.History.{says, comings}
+use Rattle.linda_step.specs.History.{says}
 use Rattle.linda_server.specs.Calls.{HasHandled}
 use Rattle.linda_server.proofs.CallLaws.{handled}
 use Rattle.linda_server.proofs.durable.Durable.handle.Goals as goal

@@ -1,8 +1,8 @@
 -- What was served was done and sent.
-use Rattle.std.proofs.Common.{ℕ, [], ◌∷◌, ap, sym, subst}
+use Rattle.std.proofs.Common.{ℕ, ap, sym, subst}
 use Rattle.std.specs.Global.{Vec}
 use Rattle.linda_wire.specs.declared.reply.Reply.{Reply}
-use Rattle.linda_step.specs.History.{says, comings}
+use Rattle.linda_step.specs.History.{comings}
 use Rattle.linda_server.specs.Calls.{HasHandled}
 use Rattle.linda_server.proofs.CallLaws.{handled}
 use Rattle.linda_server.proofs.durable.Durable.handle_all.Goals as goal

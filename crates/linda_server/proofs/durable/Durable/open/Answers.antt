@@ -1,5 +1,5 @@
 -- The bank that was chosen is the one in use.
-use Rattle.std.proofs.Common.{◌≡◌, ◌∙◌, inl, inr, sym, ap, subst}
+use Rattle.std.proofs.Common.{◌∙◌, inl, inr, sym, ap, subst}
 use Rattle.linda_step.specs.Store.{Store}
 use Rattle.linda_snap.specs.Stands.{IsUp}
 use Rattle.linda_server.specs.Opening.{fault_of_choice}

@@ -1,9 +1,8 @@
 -- What was served is put onto the bank in use, or nothing is touched.
-use Rattle.std.proofs.Common.{◌≡◌, ◌≤◌, ◌+◌, ◌<◌, List, [], ◌∷◌, length, refl, sym, subst, ap, ◌∙◌, arith}
-use Rattle.linda_wire.specs.declared.message.Message.{Message}
+use Rattle.std.proofs.Common.{◌≤◌, length, refl, sym, subst, ap, ◌∙◌, arith}
 use Rattle.linda_state.specs.DeedFormat.{payload}
 use Rattle.linda_step.specs.declared.size.TheConstants.{MAX_BATCH}
-use Rattle.linda_step.specs.History.{History, comings, history_of}
+use Rattle.linda_step.specs.History.{comings, history_of}
 use Rattle.linda_server.specs.Calls.{LeadTo}
 use Rattle.linda_server.proofs.ServedLaws.{served_happens}
 use Rattle.linda_server.proofs.CallLaws.{leads_to, few, some_bytes, still_before, put_before, up_after, stands_so}
