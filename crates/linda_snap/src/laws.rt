@@ -14,8 +14,8 @@ pub fn two_banks_stand_for_one_state()
         → Stands left right a → Stands left right b → a ≡ b }
 {}
 
-/// While deeds that may be done are appended to the bank in use, whatever a crash leaves of it stands for the state before
-/// them or for the state after them.
+/// While deeds that may be done are appended to the bank in use, whatever a crash leaves of it stands for the state
+/// before them or for the state after them.
 pub fn an_append_leaves_the_old_state_or_the_new()
     ensures { (file other : List ℕ) (st new : State) (ds : List Deed)
         → (used : IsInUse file other st) → AreDone st ds new → (image : List ℕ)
