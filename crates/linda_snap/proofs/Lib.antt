@@ -6,3 +6,4 @@ pub mod StateLaws
 pub mod StandsLaws
 pub mod ReplayLaws
 pub mod ChoiceLaws
+pub mod AppendLaws

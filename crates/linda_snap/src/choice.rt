@@ -3,6 +3,7 @@
 ghost use Rattle.std.specs.Prelude.{◌≡◌, ◌≢◌, ◌<◌, ◌↔◌, ◌⊎◌, ℕ, List, true, false, length, Ok};
 ghost use Rattle.std.specs.Prelude.{Err, IfOk, IfErr, OnOk, IsErrOf};
 ghost use Rattle.linda_state.specs.State as states;
+ghost use Rattle.linda_state.specs.State.{IsState};
 ghost use Rattle.linda_disk.specs.View.{IsDurable};
 ghost use Rattle.linda_disk.specs.Disk.{CountsFailure};
 ghost use Rattle.linda_disk.specs.Run.{LeavesOnly};
@@ -104,11 +105,12 @@ pub fn choose_bank<B: Bag, D: Disk>(
         × IfErr result (λ e. LeavesOnly (D.view left) (D.view e.1) (D.view left).may_leave
         × LeavesOnly (D.view right) (D.view e.2) (D.view right).may_leave) }
     ensures new { IfOk result (λ c. (c.bank.limit ≡ limit) × (c.bank.is_spent ≡ false)) }
+    // The state is in its ranges, and a crash leaves of the other disk what a read gives.
+    ensures ranges { IfOk result (λ c. IsState c.state) }
+    ensures durable { IfOk result (λ c. D.honest c.other → IsDurable (D.view c.other)) }
     ensures honest { IfOk result (λ c. (D.honest left × D.honest right)
         ↔ (D.honest c.bank.disk × D.honest c.other))
         × IfErr result (λ e. (D.honest left × D.honest right) ↔ (D.honest e.1 × D.honest e.2)) }
-    ensures durable { IfOk result (λ c. D.honest c.other → IsDurable (D.view c.other)) }
-    ensures ranges { IfOk result (λ c. states.IsState c.state) }
     ensures cause { IfErr result (λ e. e.0 ≡ ChoiceFault.Disk
         → (D.failures left < D.failures e.1) ⊎ (D.failures right < D.failures e.2)) }
 {
@@ -139,11 +141,11 @@ fn choose_among<B: Bag, D: Disk>(
         × IfErr result (λ e. LeavesOnly (D.view left) (D.view e.1) (D.view left).may_leave
         × LeavesOnly (D.view right) (D.view e.2) (D.view right).may_leave) }
     ensures new { IfOk result (λ c. (c.bank.limit ≡ limit) × (c.bank.is_spent ≡ false)) }
+    ensures ranges { IfOk result (λ c. IsState c.state) }
+    ensures durable { IfOk result (λ c. D.honest c.other → IsDurable (D.view c.other)) }
     ensures honest { IfOk result (λ c. (D.honest left × D.honest right)
         ↔ (D.honest c.bank.disk × D.honest c.other))
         × IfErr result (λ e. (D.honest left × D.honest right) ↔ (D.honest e.1 × D.honest e.2)) }
-    ensures durable { IfOk result (λ c. D.honest c.other → IsDurable (D.view c.other)) }
-    ensures ranges { IfOk result (λ c. states.IsState c.state) }
     ensures cause { IfErr result (λ e. e.0 ≡ ChoiceFault.Disk
         → (D.failures left < D.failures e.1) ⊎ (D.failures right < D.failures e.2)) }
 {
@@ -224,7 +226,6 @@ fn open_file<B: Bag, D: Disk>(
 ) -> Result<(State<B>, Bank<D>), (BankFault, D)>
     ensures found { D.honest disk → IfOk result (λ x.
         IsStored x.1.generation x.1.end (D.view x.1.disk) x.0) }
-    ensures ranges { IfOk result (λ x. states.IsState x.0) }
     ensures seen { D.honest disk
         → IfOk result (λ x. (D.view x.1.disk).seen ≡ (D.view disk).seen) }
     ensures fault { D.honest disk → IfErr result (λ e. e.0 ≢ BankFault.Disk
@@ -233,6 +234,7 @@ fn open_file<B: Bag, D: Disk>(
         → IfOk result (λ x. LeavesOnly (D.view disk) (D.view x.1.disk) (D.view disk).may_leave)
         × IfErr result (λ e. LeavesOnly (D.view disk) (D.view e.1) (D.view disk).may_leave) }
     ensures new { IfOk result (λ x. (x.1.limit ≡ limit) × (x.1.is_spent ≡ false)) }
+    ensures ranges { IfOk result (λ x. IsState x.0) }
     ensures honest { IfOk result (λ x. D.honest disk ↔ D.honest x.1.disk)
         × IfErr result (λ e. D.honest disk ↔ D.honest e.1) }
     ensures cause { IfErr result (λ e. e.0 ≡ BankFault.Disk
@@ -301,7 +303,7 @@ fn choose(left: Heading, right: Heading) -> Result<bool, ChoiceFault>
 // The state that a body and the records behind it come to.
 fn recover<B: Bag>(alloc: Global, body: &[u8], records: &[Record]) -> Result<State<B>, BankFault>
     ensures found { IfOk result (λ st. IsRecovered body.now records.now st) }
-    ensures ranges { IfOk result states.IsState }
+    ensures ranges { IfOk result IsState }
     ensures fault { IfErr result (IsUnrecovered body.now records.now) }
 {
     match get_state(alloc, body) {

@@ -1,9 +1,17 @@
-//! States as bytes, and back; and which of two banks stands.
+//! What a server keeps on two disks: a state as bytes, which of two banks stands, and the switch from one to the
+//! other.
+//!
+//! - A snapshot is the one spelling of a state. What is put is read again, and bytes are refused only where they spell no
+//!   state that is in its ranges.
+//! - `choose_bank` answers the state that two banks stand for, or what is wrong with them, on which side and where.
+//! - `switch` makes a new bank of the next generation on the other disk. At no moment of it a crash leaves anything but
+//!   what stands for the same state.
 #![tactic(auto)]
 
 mod choice;
 mod cursor;
 mod kinds;
+mod laws;
 mod putting;
 mod reading;
 mod renewal;
@@ -11,6 +19,8 @@ mod replay;
 mod reply;
 
 pub use choice::{ChoiceFault, Chosen, choose_bank};
+pub use laws::{an_append_leaves_the_old_state_or_the_new, two_banks_stand_for_one_state};
+pub use linda_journal::{Closed, Whole, fill, shut, unlock};
 pub use putting::put_state;
 pub use reading::{SnapshotFault, get_state};
 pub use renewal::{SwitchFault, switch};

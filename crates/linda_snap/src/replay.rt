@@ -40,6 +40,7 @@ pub(crate) fn replay<B: Bag>(
 ) -> Result<(), ReplayFault>
     requires { IsState state.old }
     ensures done { OnOk result (AreDone state.old (joined records.now) state.new) }
+    ensures ranges { OnOk result (IsState state.new) }
     ensures fault { IfErr result (IsReplayFault state.old records.now) }
 {
     for record in records {

@@ -98,7 +98,9 @@ fn anything_may_stand_behind_a_closed_gate(rt: HostRuntime) -> Result<(), Fail> 
         bytes.push(byte)?;
     }
     assert_eq!(rt; chosen(alloc, &bytes, SHUT)?, Ok((false, 2, 1, 1)));
-    bytes[33] = 0x7f;
+    if let Some(gate) = bytes.get_mut(33) {
+        *gate = 0x7f;
+    }
     assert_eq!(rt; chosen(alloc, &bytes, SHUT)?, Ok((false, 1, 0, 0)));
     Ok(())
 }

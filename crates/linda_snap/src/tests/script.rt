@@ -71,17 +71,29 @@ pub(super) fn chosen(
     }
 }
 
-/// Switches the server, and gives the two disks: the one that was in use, and the other.
-fn switched(alloc: Global, server: Server) -> (Option<SwitchFault>, MemDisk, MemDisk) {
+/// Chooses one of the banks on two disks and switches to the other disk, where the power goes off inside the device
+/// call after so many. Gives the two disks: the one that was in use, and the other.
+fn switched(
+    alloc: Global,
+    left: MemDisk,
+    right: MemDisk,
+    limit: u16,
+    passes: u64,
+) -> Result<(Option<SwitchFault>, MemDisk, MemDisk), ChoiceFault> {
+    let server: Server = match choose_bank(alloc, left, right, usize::from(limit)) {
+        Ok(server) => server,
+        Err((fault, _, _)) => return Err(fault),
+    };
     let Chosen {
         state,
         bank,
-        other,
+        mut other,
         ..
     } = server;
+    other.fuse(passes);
     match switch(alloc, bank, other, &state) {
-        Ok((bank, old)) => (None, old, bank.into_disk()),
-        Err((fault, bank, other)) => (Some(fault), bank.into_disk(), other),
+        Ok((bank, old)) => Ok((None, old, bank.into_disk())),
+        Err((fault, bank, other)) => Ok((Some(fault), bank.into_disk(), other)),
     }
 }
 
@@ -90,11 +102,11 @@ pub(super) fn renewed(
     alloc: Global,
     left: &[u8],
     right: &[u8],
-    limit: usize,
+    limit: u16,
 ) -> Result<Result<Vec<u8>, SwitchFault>, Fail> {
     let left = disk_of(alloc, left)?;
     let right = disk_of(alloc, right)?;
-    let (fault, _, new) = switched(alloc, opened(alloc, left, right, limit)?);
+    let (fault, _, new) = switched(alloc, left, right, limit, u64::MAX)?;
     match fault {
         Some(fault) => Ok(Err(fault)),
         None => Ok(Ok(Vec::from_slice(alloc, new.bytes())?)),
@@ -112,9 +124,7 @@ pub(super) fn stopped(
 ) -> Result<Summary, Fail> {
     let left = disk_of(alloc, left)?;
     let right = disk_of(alloc, right)?;
-    let mut server = opened(alloc, left, right, 200)?;
-    server.other.fuse(call);
-    let (_, mut left, mut right) = switched(alloc, server);
+    let (_, mut left, mut right) = switched(alloc, left, right, 200, call)?;
     left.crash(torn)?;
     right.crash(torn)?;
     Ok(summary(&opened(alloc, left, right, 200)?))
