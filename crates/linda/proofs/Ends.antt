@@ -16,7 +16,7 @@ use Rattle.linda_store.specs.Node.{Node}
 use Rattle.linda_store.specs.Turn.{beginning}
 use Rattle.linda_store.specs.Conversation.{IsConversation}
 use Rattle.linda_store.specs.Session.{point_of}
-use Rattle.linda_store.specs.Converse.{read_limit}
+use Rattle.linda_store.specs.declared.conversation.TheConstants.{MAX_READS}
 use Rattle.linda.specs.declared.faults.PipeFault.{PipeFault}
 use Rattle.linda.specs.declared.faults.PipeFault.TheVariants as faults
 use Rattle.linda.specs.declared.exchanges.Exchange.{Exchange}
@@ -143,7 +143,7 @@ all_sent text sent x node empty e u = record {
 
 -- between reads nothing is in the buffer, so what has gone out is all
 pub fault_between : (text sent : List ℕ) (x : Exchange) (node : Node) (left : Option (List ℕ)) → x.replies.items ≡ [] → IsUnderway text sent x node
-    → HasEnded text sent left (Err faults.Read) × (read_limit ≤ length text → HasEnded text sent left (Err faults.Turns))
+    → HasEnded text sent left (Err faults.Read) × (MAX_READS ≤ length text → HasEnded text sent left (Err faults.Turns))
 fault_between text sent x node left e u =
     let out : sent ≡ flat_map reply_line u.said = sym (u.out ∙ ap (λ l. sent ++ l) e ∙ append-nil sent) in
     let answered : IsAnswered u.lines u.said x.session.stage =
@@ -168,7 +168,7 @@ read_failed first_left old_left new_left first_written written x node kept p = r
 }
 
 -- there were too many reads
-pub turns_spent : {reads : ℕ} (first_left left first_written written : Option (List ℕ)) (x : Exchange) (node : Node) → read_limit ≤ reads → IsPiping reads first_left left first_written written x node
+pub turns_spent : {reads : ℕ} (first_left left first_written written : Option (List ℕ)) (x : Exchange) (node : Node) → MAX_READS ≤ reads → IsPiping reads first_left left first_written written x node
     → IsPiped first_left left first_written written (Err faults.Turns)
 turns_spent first_left left first_written written x node all p = record {
   read = p.read;

@@ -15,7 +15,7 @@ use Rattle.linda_step.specs.Soft.{no_asks}
 use Rattle.linda_store.specs.Node.{Node}
 use Rattle.linda_store.specs.Turn.{Point, beginning}
 use Rattle.linda_store.specs.Conversation.{IsConversation}
-use Rattle.linda_store.specs.Converse.{read_limit}
+use Rattle.linda_store.specs.declared.conversation.TheConstants.{MAX_READS}
 use Rattle.linda.specs.declared.faults.PipeFault.{PipeFault}
 use Rattle.linda.specs.declared.faults.PipeFault.TheVariants as faults
 
@@ -58,7 +58,7 @@ EndsAs (Err (faults.NotHexadecimal n)) count size more left stage =
 EndsAs (Err (faults.Memory n)) count size more left stage = (n ≡ count + 1) × (stage ≡ stages.Open)
 EndsAs (Err faults.Read) count size more left stage = HasNoFeed more × (stage ≡ stages.Open)
 EndsAs (Err faults.Write) count size more left stage = Unit {0}
-EndsAs (Err faults.Turns) count size more left stage = (HasNoFeed more × (stage ≡ stages.Open)) × (read_limit ≤ size)
+EndsAs (Err faults.Turns) count size more left stage = (HasNoFeed more × (stage ≡ stages.Open)) × (MAX_READS ≤ size)
 
 -- What has gone out: all reply lines, or, where writing failed, some first bytes of them.
 abbrev pub GoesOut : Result Unit PipeFault → List ℕ → List ℕ → Type 0

@@ -19,7 +19,7 @@ use std::io::{Read, Write};
 const PIECE: usize = 4096;
 
 /// The most reads of a conversation. Each that does not end it gives a byte at least.
-const MAX_READS: u32 = 4_294_967_295;
+pub const MAX_READS: u32 = 4_294_967_295;
 
 /// Reads a client's stream to its end and writes the node's replies. It reads pieces of at most 4,096
 /// bytes, at most 4,294,967,295 of them, and flushes what it writes before the next read.

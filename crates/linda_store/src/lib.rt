@@ -19,7 +19,7 @@ mod turn;
 mod volatile;
 mod work;
 
-pub use conversation::converse;
+pub use conversation::{MAX_READS, converse};
 pub use end::{ConverseFault, End};
 pub use laws::a_server_stays_sound;
 pub use linda_disk::Torn;
