@@ -63,7 +63,7 @@ pub(crate) fn open_gate<D: Disk>(disk: &mut D, gate: usize) -> Result<(), DiskFa
 /// # Errors
 ///
 /// `Device` where the device failed, `Memory`.
-pub(crate) fn lay_gate<D: Disk>(disk: &mut D) -> Result<(), DiskFault>
+pub fn lay_gate<D: Disk>(disk: &mut D) -> Result<(), DiskFault>
     ensures shut { D.honest disk.old → OnOk result (IsShut [] 0 (D.view disk.new)) }
     ensures long { D.honest disk.old → OnOk result (0 < length (D.view disk.new).seen) }
     ensures any_moment { D.honest disk.old → IsDurable (D.view disk.old)

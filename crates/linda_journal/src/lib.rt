@@ -21,6 +21,7 @@ mod whole;
 pub use bank::{Bank, unlock};
 pub use closed::{Closed, shut};
 pub use fault::BankFault;
+pub use gate::lay_gate;
 pub use heading::{Heading, read_heading};
 pub use journal::{Journal, JournalFault, read_journal};
 pub use limits::{MAX_DEEDS, MIN_BYTES, PIECE};

@@ -108,9 +108,9 @@ pub fn choose_bank<B: Bag, D: Disk>(
     // The state is in its ranges, and a crash leaves of the other disk what a read gives.
     ensures ranges { IfOk result (λ c. IsState c.state) }
     ensures durable { IfOk result (λ c. D.honest c.other → IsDurable (D.view c.other)) }
-    ensures honest { IfOk result (λ c. D.honest left → D.honest right
-        → D.honest c.bank.disk × D.honest c.other)
-        × IfErr result (λ e. D.honest left → D.honest right → D.honest e.1 × D.honest e.2) }
+    ensures honest { IfOk result (λ c. (D.honest left × D.honest right)
+        ↔ (D.honest c.bank.disk × D.honest c.other))
+        × IfErr result (λ e. (D.honest left × D.honest right) ↔ (D.honest e.1 × D.honest e.2)) }
     ensures cause { IfErr result (λ e. e.0 ≡ ChoiceFault.Disk
         → (D.failures left < D.failures e.1) ⊎ (D.failures right < D.failures e.2)) }
 {
@@ -143,9 +143,9 @@ fn choose_among<B: Bag, D: Disk>(
     ensures new { IfOk result (λ c. (c.bank.limit ≡ limit) × (c.bank.is_spent ≡ false)) }
     ensures ranges { IfOk result (λ c. IsState c.state) }
     ensures durable { IfOk result (λ c. D.honest c.other → IsDurable (D.view c.other)) }
-    ensures honest { IfOk result (λ c. D.honest left → D.honest right
-        → D.honest c.bank.disk × D.honest c.other)
-        × IfErr result (λ e. D.honest left → D.honest right → D.honest e.1 × D.honest e.2) }
+    ensures honest { IfOk result (λ c. (D.honest left × D.honest right)
+        ↔ (D.honest c.bank.disk × D.honest c.other))
+        × IfErr result (λ e. (D.honest left × D.honest right) ↔ (D.honest e.1 × D.honest e.2)) }
     ensures cause { IfErr result (λ e. e.0 ≡ ChoiceFault.Disk
         → (D.failures left < D.failures e.1) ⊎ (D.failures right < D.failures e.2)) }
 {

@@ -1,4 +1,5 @@
-//! What a server keeps on two disks: a state as bytes, which of two banks stands, and the switch from one to the other.
+//! What a server keeps on two disks: a state as bytes, which of two banks stands, and the switch from one to the
+//! other.
 //!
 //! - A snapshot is the one spelling of a state. What is put is read again, and bytes are refused only where they spell no
 //!   state that is in its ranges.

@@ -3,7 +3,7 @@
 //! Whether a message does a deed hangs on numbers alone: the last number of its client, how many clients are
 //! kept, and the next id. So these are counted on from message to message.
 
-ghost use Rattle.std.specs.Prelude.{◌≡◌, ◌≤◌, length, IfSome};
+ghost use Rattle.std.specs.Prelude.{◌≡◌, ◌≤◌, ◌∷◌, [], length, IfSome};
 ghost use Rattle.linda_state.specs.declared.limits.TheConstants.{MAX_DEED_BYTES};
 ghost use Rattle.linda_state.specs.State.{IsState};
 ghost use Rattle.linda_step.specs.Size as spec;
@@ -50,6 +50,17 @@ pub(crate) fn bytes_of<B: Bag>(state: &State<B>, messages: &[(u32, Message)]) ->
         bytes += done.size;
     }
     bytes
+}
+
+/// How many bytes the deed of the client's message spells, and 0 where it does none.
+pub(crate) fn bytes_of_one<B: Bag>(state: &State<B>, client: u32, message: &Message) -> usize
+    ensures { result ≡ bytes_from (numbers_of state.now) ((client, message.now) ∷ []) }
+{
+    let last = state.book.last(client);
+    match done_of(message, last, state.book.len(), state.next) {
+        Some(done) => done.size,
+        None => 0,
+    }
 }
 
 // What is done of the message, where these are the last number of its client, the count of clients and

@@ -1,6 +1,6 @@
 //! The store of a server: a state that keeps its ranges, changed by one message after another.
 
-ghost use Rattle.std.specs.Prelude.{◌≡◌, ◌≤◌, ◌++◌, true, false, length};
+ghost use Rattle.std.specs.Prelude.{◌≡◌, ◌≤◌, ◌++◌, ◌∷◌, [], true, false, length};
 ghost use Rattle.std.specs.Prelude.{IfOk, OnOk, OnErr, IsErr, option_to_list};
 ghost use Rattle.linda_state.specs.DeedFormat.{payload};
 ghost use Rattle.linda_state.specs.State.{IsState, empty_state};
@@ -147,10 +147,23 @@ impl<B: Bag> Store<B> {
     #[tactic(auto, using(crate::proofs::DemandLaws::all_bytes))]
     pub fn size_of(&self, messages: &[(u32, Message)]) -> u64
         requires { length messages.now ≤ MAX_BATCH }
-        ensures { (all : History) → Answers self.now.state self.now.soft messages.now all
+        ensures bytes { (all : History) → Answers self.now.state self.now.soft messages.now all
             → result ≡ length (payload all.deeds) }
+        ensures orderly { IsOrderly self.now.state self.now.soft }
     {
         size::bytes_of(&self.state, messages) as u64
+    }
+
+    /// How many bytes the deed of the client's message will spell, as `step` does it, and 0 where it will do
+    /// none. Takes no memory, and changes nothing.
+    #[tactic(auto, using(crate::proofs::DemandLaws::all_bytes))]
+    pub fn size_of_one(&self, client: u32, message: &Message) -> u64
+        ensures bytes { (all : History)
+            → Answers self.now.state self.now.soft ((client, message.now) ∷ []) all
+            → result ≡ length (payload all.deeds) }
+        ensures orderly { IsOrderly self.now.state self.now.soft }
+    {
+        size::bytes_of_one(&self.state, client, message) as u64
     }
 
     // Does one message more.

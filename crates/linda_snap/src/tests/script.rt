@@ -71,8 +71,8 @@ pub(super) fn chosen(
     }
 }
 
-/// Chooses one of the banks on two disks and switches to the other disk, where the power goes off inside the device call
-/// after so many. Gives the two disks: the one that was in use, and the other.
+/// Chooses one of the banks on two disks and switches to the other disk, where the power goes off inside the device
+/// call after so many. Gives the two disks: the one that was in use, and the other.
 fn switched(
     alloc: Global,
     left: MemDisk,

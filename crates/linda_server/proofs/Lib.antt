@@ -1,0 +1,5 @@
+pub mod PairLaws
+pub mod ServedLaws
+pub mod CallLaws
+pub mod EmptyLaws
+pub mod OpeningLaws

@@ -1,0 +1,194 @@
+-- What crashes leave of two disks, where deeds go onto the one that holds the bank in use, or nothing does.
+use Rattle.std.proofs.Common.{◌≡◌, ℕ, ◌≤◌, ◌⊎◌, inl, inr, Bool, true, false, ◌==◌, length, List, [], ◌∷◌, ◌++◌, refl, sym, ap, subst, ◌∙◌, append-nil, arith}
+use Rattle.std.proofs.lemmas.Grind.{flat_map-append}
+use Rattle.linda_state.specs.declared.deed.Deed.{Deed}
+use Rattle.linda_state.specs.State.{State}
+use Rattle.linda_state.specs.Proper.{AreDone}
+use Rattle.linda_disk.specs.View.{View, IsTimed}
+use Rattle.linda_disk.specs.Run.{LeavesOnly}
+use Rattle.linda_journal.specs.Bank.{IsSettled, IsOldOrMore}
+use Rattle.linda_snap.specs.Snapshot.{spell_state}
+use Rattle.linda_snap.specs.Stands.{deeds_in, StandsOn, IsLesser, IsInUse, Stands, IsUp}
+use Rattle.linda_server.specs.declared.disks.Disks.{Disks}
+use Rattle.linda_server.specs.declared.disks.Disks.TheVariants.{InUse, Shut, Away}
+use Rattle.linda_server.specs.declared.disks.Pair.{Pair}
+use Rattle.linda_server.specs.Pairs.{PairsSince, PairsNow}
+use Rattle.linda_server.specs.Disks.{sides, both, AreHonest, IsUpOn}
+use Rattle.linda_server.specs.Calls.{LeadTo, IsOldOrNew}
+
+-- ---- on one of two sides
+
+-- What holds of the bank in use and the other disk, whichever is which, holds of the left and the right one.
+pub on_sides : (is_right : Bool) (used new other : View) (P Q : List ℕ → List ℕ → Type 0) → used.moment ≤ new.moment
+    → ((image beside : List ℕ) → new.left_since used.moment image → other.left_since other.moment beside → P image beside)
+    → ((image beside : List ℕ) → P image beside → Q image beside) → ((image beside : List ℕ) → P image beside → Q beside image)
+    → PairsSince (sides is_right used other) (sides is_right new other) Q
+on_sides true used new other P Q later each same turned = record {
+  left_later = omega arith;
+  right_later = later;
+  each = λ left right l r. turned right left (each right left r l);
+}
+on_sides false used new other P Q later each same turned = record {
+  left_later = later;
+  right_later = omega arith;
+  each = λ left right l r. same left right (each left right l r);
+}
+
+-- One of two states stands.
+abbrev IsUsedFor : State → State → List ℕ → List ℕ → Type 0
+IsUsedFor st now image beside = IsInUse image beside st ⊎ IsInUse image beside now
+
+either_same : (st now : State) (image beside : List ℕ) → IsUsedFor st now image beside → IsOldOrNew st now image beside
+either_same st now image beside = λ x. elim x [ inl a ↦ inl (inl a) | inr b ↦ inr (inl b) ]
+
+either_turned : (st now : State) (image beside : List ℕ) → IsUsedFor st now image beside → IsOldOrNew st now beside image
+either_turned st now image beside = λ x. elim x [ inl a ↦ inl (inr a) | inr b ↦ inr (inr b) ]
+
+-- What is left of the other disk is lesser.
+beside_lesser : (generation end : ℕ) (used other : View) (st : State) → IsUp generation end used other st → IsTimed other
+    → (beside : List ℕ) → other.left_since other.moment beside → IsLesser generation beside
+beside_lesser generation end used other st up timed beside left =
+    subst (IsLesser generation) (sym (up.durable beside (timed.only_now beside left))) up.lesser
+
+-- ---- one record more
+
+module _ (generation end : ℕ) (used other : View) (st now : State) (deeds : List Deed) (up : IsUp generation end used other st) (leads : LeadTo st deeds now) where
+  done_more : AreDone up.stored.opening (deeds_in (up.stored.records ++ deeds ∷ [])) now
+  done_more =
+      subst (λ ds. AreDone up.stored.opening ds now)
+      (sym (flat_map-append (λ (ds : List Deed). ds) up.stored.records (deeds ∷ []) ∙ ap (λ l. deeds_in up.stored.records ++ l) (append-nil deeds)))
+      (leads up.stored.opening (deeds_in up.stored.records) up.stored.ranges up.stored.done)
+
+  used_for : (image beside : List ℕ) → IsLesser generation beside → IsOldOrMore generation (spell_state up.stored.opening) up.stored.records deeds image → IsUsedFor st now image beside
+  used_for image beside lesser (inl bank) = inl record {
+    generation = generation;
+    stands = record { opening = up.stored.opening; ranges = up.stored.ranges; fits = up.stored.fits; records = up.stored.records; bank = bank; done = up.stored.done };
+    lesser = lesser;
+  }
+  used_for image beside lesser (inr bank) = inr record {
+    generation = generation;
+    stands = record { opening = up.stored.opening; ranges = up.stored.ranges; fits = up.stored.fits; records = up.stored.records ++ deeds ∷ []; bank = bank; done = done_more };
+    lesser = lesser;
+  }
+
+  one_more : (is_right : Bool) (new : View) → IsTimed other → LeavesOnly used new (IsOldOrMore generation (spell_state up.stored.opening) up.stored.records deeds)
+      → PairsSince (sides is_right used other) (sides is_right new other) (IsOldOrNew st now)
+  one_more is_right new timed run =
+      on_sides is_right used new other (IsUsedFor st now) (IsOldOrNew st now) run.later
+      (λ image beside l o. used_for image beside (beside_lesser generation end used other st up timed beside o) (run.each image l))
+      (either_same st now) (either_turned st now)
+
+  up_more : (new_end : ℕ) (new : View) → IsSettled generation (spell_state up.stored.opening) (up.stored.records ++ deeds ∷ []) new_end new → IsUp generation new_end new other now
+  up_more new_end new settled = record {
+    stored = record {
+      opening = up.stored.opening;
+      ranges = up.stored.ranges;
+      fits = up.stored.fits;
+      records = up.stored.records ++ deeds ∷ [];
+      settled = settled;
+      done = done_more;
+    };
+    lesser = up.lesser;
+    durable = up.durable;
+  }
+
+-- No record more.
+pub up_same : (generation end : ℕ) (used other : View) (st now : State) → LeadTo st [] now → IsUp generation end used other st → IsUp generation end used other now
+up_same generation end used other st now leads up = record {
+  stored = record {
+    opening = up.stored.opening;
+    ranges = up.stored.ranges;
+    fits = up.stored.fits;
+    records = up.stored.records;
+    settled = up.stored.settled;
+    done = subst (λ ds. AreDone up.stored.opening ds now) (append-nil (deeds_in up.stored.records)) (leads up.stored.opening (deeds_in up.stored.records) up.stored.ranges up.stored.done);
+  };
+  lesser = up.lesser;
+  durable = up.durable;
+}
+
+-- What stands now.
+pub left_for : (generation end : ℕ) (used other : View) (st : State) → IsUp generation end used other st
+    → (image beside : List ℕ) → used.may_leave image → other.may_leave beside → IsInUse image beside st
+left_for generation end used other st up image beside l o = record {
+  generation = generation;
+  stands = subst (λ file. StandsOn file generation st) (sym (up.stored.settled.durable image l))
+      (record { opening = up.stored.opening; ranges = up.stored.ranges; fits = up.stored.fits; records = up.stored.records; bank = up.stored.settled.file; done = up.stored.done });
+  lesser = subst (IsLesser generation) (sym (up.durable beside o)) up.lesser;
+}
+
+-- What stands, where no disk is touched.
+stands_for : (generation end : ℕ) (used other : View) (st : State) → IsUp generation end used other st → IsTimed used → IsTimed other
+    → (image beside : List ℕ) → used.left_since used.moment image → other.left_since other.moment beside → IsInUse image beside st
+stands_for generation end used other st up timed_used timed image beside l o =
+    left_for generation end used other st up image beside (timed_used.only_now image l) (timed.only_now beside o)
+
+pub now_on_sides : (is_right : Bool) (used other : View) (st : State)
+    → ((image beside : List ℕ) → used.may_leave image → other.may_leave beside → IsInUse image beside st)
+    → PairsNow (sides is_right used other) (λ left right. Stands left right st)
+now_on_sides true used other st each left right l r = inr (each right left r l)
+now_on_sides false used other st each left right l r = inl (each left right l r)
+
+-- ---- the two disks of a server
+
+module _ {B D : Type 0} (generation end : B → ℕ) (bank : B → View) (disk : D → View) (honest_bank : B → Type 0) (honest : D → Type 0)
+    (timed_bank : (b : B) → honest_bank b → IsTimed (bank b)) (timed : (d : D) → honest d → IsTimed (disk d)) where
+  -- Where no disk is touched, the same state stands.
+  pub still : (disks : Disks B D) (st : State) → AreHonest honest_bank honest disks → IsUpOn generation end bank disk disks st
+      → PairsSince (both bank disk disks) (both bank disk disks) (λ left right. Stands left right st)
+  still (InUse pair) st are up =
+      on_sides pair.is_right (bank pair.bank) (bank pair.bank) (disk pair.other) (λ image beside. IsInUse image beside st) (λ left right. Stands left right st) (omega arith)
+      (stands_for (generation pair.bank) (end pair.bank) (bank pair.bank) (disk pair.other) st up (timed_bank pair.bank are.0) (timed pair.other are.1))
+      (λ image beside x. inl x) (λ image beside x. inr x)
+  still (Shut left right) st are up = absurd up
+  still Away st are up = absurd up
+
+  -- Now it stands.
+  pub stands_now : (disks : Disks B D) (st : State) → IsUpOn generation end bank disk disks st → PairsNow (both bank disk disks) (λ left right. Stands left right st)
+  stands_now (InUse pair) st up =
+      now_on_sides pair.is_right (bank pair.bank) (disk pair.other) st (left_for (generation pair.bank) (end pair.bank) (bank pair.bank) (disk pair.other) st up)
+  stands_now (Shut left right) st up = absurd up
+  stands_now Away st up = absurd up
+
+  pub still_for : (disks : Disks B D) (st now : State) (deeds : List Deed) → deeds ≡ [] → AreHonest honest_bank honest disks → IsUpOn generation end bank disk disks st
+      → LeadTo st deeds now → PairsSince (both bank disk disks) (both bank disk disks) (IsOldOrNew st now)
+  still_for disks st now deeds none are up leads =
+      let so = still disks st are up in
+      record { left_later = so.left_later; right_later = so.right_later; each = λ left right l r. inl (so.each left right l r) }
+
+  pub up_still : (disks : Disks B D) (st now : State) (deeds : List Deed) → deeds ≡ [] → IsUpOn generation end bank disk disks st → LeadTo st deeds now → IsUpOn generation end bank disk disks now
+  up_still (InUse pair) st now deeds none up leads =
+      up_same (generation pair.bank) (end pair.bank) (bank pair.bank) (disk pair.other) st now (subst (λ ds. LeadTo st ds now) none leads) up
+  up_still (Shut left right) st now deeds none up leads = absurd up
+  up_still Away st now deeds none up leads = absurd up
+
+  -- Deeds go onto the bank in use.
+  pub put_on : (disks : Disks B D) (pair : Pair B D) (new : View) (deeds : List Deed) → disks ≡ InUse pair
+      → ((body : List ℕ) (records : List (List Deed)) → honest_bank pair.bank → IsSettled (generation pair.bank) body records (end pair.bank) (bank pair.bank)
+      → LeavesOnly (bank pair.bank) new (IsOldOrMore (generation pair.bank) body records deeds))
+      → (st now : State) → AreHonest honest_bank honest disks → IsUpOn generation end bank disk disks st → LeadTo st deeds now
+      → PairsSince (both bank disk disks) (sides pair.is_right new (disk pair.other)) (IsOldOrNew st now)
+  put_on disks pair new deeds is any_moment st now are up leads =
+      let are_so : AreHonest honest_bank honest (InUse pair) = subst (AreHonest honest_bank honest) is are in
+      let up_so : IsUpOn generation end bank disk (InUse pair) st = subst (λ d. IsUpOn generation end bank disk d st) is up in
+      subst (λ d. PairsSince (both bank disk d) (sides pair.is_right new (disk pair.other)) (IsOldOrNew st now)) (sym is)
+      (one_more (generation pair.bank) (end pair.bank) (bank pair.bank) (disk pair.other) st now deeds up_so leads pair.is_right new (timed pair.other are_so.1)
+      (any_moment (spell_state up_so.stored.opening) up_so.stored.records are_so.0 up_so.stored.settled))
+
+  pub up_on : (disks : Disks B D) (pair : Pair B D) (new_generation new_end : ℕ) (new : View) (deeds : List Deed) → disks ≡ InUse pair → new_generation ≡ generation pair.bank
+      → ((body : List ℕ) (records : List (List Deed)) → honest_bank pair.bank → IsSettled (generation pair.bank) body records (end pair.bank) (bank pair.bank)
+      → IsSettled new_generation body (records ++ deeds ∷ []) new_end new)
+      → (st now : State) → AreHonest honest_bank honest disks → IsUpOn generation end bank disk disks st → LeadTo st deeds now
+      → IsUp new_generation new_end new (disk pair.other) now
+  up_on disks pair new_generation new_end new deeds is same done st now are up leads =
+      let are_so : AreHonest honest_bank honest (InUse pair) = subst (AreHonest honest_bank honest) is are in
+      let up_so : IsUpOn generation end bank disk (InUse pair) st = subst (λ d. IsUpOn generation end bank disk d st) is up in
+      let settled = done (spell_state up_so.stored.opening) up_so.stored.records are_so.0 up_so.stored.settled in
+      subst (λ g. IsUp g new_end new (disk pair.other) now) (sym same)
+      (up_more (generation pair.bank) (end pair.bank) (bank pair.bank) (disk pair.other) st now deeds up_so leads new_end new
+      (subst (λ g. IsSettled g (spell_state up_so.stored.opening) (up_so.stored.records ++ deeds ∷ []) new_end new) same settled))
+
+-- A list whose length is none is empty.
+pub none_of : (ds : List Deed) (b : Bool) → b ≡ (length ds == 0) → b ≡ true → ds ≡ []
+none_of [] b is so = refl
+none_of (d ∷ ds) b is so = absurd (grind (arith, is, so))

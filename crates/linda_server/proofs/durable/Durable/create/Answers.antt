@@ -1,0 +1,79 @@
+-- Each step of making a new server leaves no bank, or the whole new one.
+use Rattle.std.proofs.Common.{◌≡◌, ◌∙◌, [], inl, not, false, refl, ap, subst}
+use Rattle.linda_state.specs.State.{empty_state}
+use Rattle.linda_journal.specs.Bank.{IsSettled}
+use Rattle.linda_step.specs.Store.{Store}
+use Rattle.linda_snap.specs.Stands.{IsUp}
+use Rattle.linda_server.proofs.PairLaws.{left_for}
+use Rattle.linda_server.proofs.EmptyLaws.{void_durable, void_seen, then_gate, then_bank, bank_made, made_up, up_as}
+use Rattle.linda_server.proofs.durable.Durable.create.Goals as goal
+
+pub returns-in-Err-create-clause-any_moment : goal.returns-in-Err-create-clause-any_moment
+returns-in-Err-create-clause-any_moment g c hl hr vl vr =
+    let same = c.deref.ensures.value ∙ c.in-Ok.ensures.bytes in
+    let left = c.expect_empty.ensures.left hl vl in
+    let right = c.expect_empty.ensures.right hr vr in
+    let left_so = c.expect_empty.ensures.left_honest.0 hl in
+    let right_so = c.expect_empty.ensures.right_honest.0 hr in
+    let timed_left = g.met.D.Disk.timed c.expect_empty.new.left left_so in
+    let timed_right = g.met.D.Disk.timed c.expect_empty.new.right right_so in
+    let view = g.D.Disk.view in (
+      tt,
+      bank_made (view c.args.left) (view c.in-Err-create.left) (view c.args.right) (view c.lay_gate.new.disk) c.in-Ok.ensures.fits
+          (then_bank (view c.args.left) (view c.expect_empty.new.left) (view c.in-Err-create.left) c.deref.result.now same left.0
+          (c.in-Err-create.ensures.any_moment left_so (void_durable (view c.expect_empty.new.left) timed_left left.1) (void_seen (view c.expect_empty.new.left) timed_left left.1)).1)
+          (then_gate (view c.args.right) (view c.expect_empty.new.right) (view c.lay_gate.new.disk) right.0
+          (c.lay_gate.ensures.any_moment right_so (void_durable (view c.expect_empty.new.right) timed_right right.1) (void_seen (view c.expect_empty.new.right) timed_right right.1))),
+    )
+
+pub returns-clause-any_moment : goal.returns-clause-any_moment
+returns-clause-any_moment g c hl hr vl vr =
+    let same = c.deref.ensures.value ∙ c.in-Ok.ensures.bytes in
+    let left = c.expect_empty.ensures.left hl vl in
+    let right = c.expect_empty.ensures.right hr vr in
+    let left_so = c.expect_empty.ensures.left_honest.0 hl in
+    let right_so = c.expect_empty.ensures.right_honest.0 hr in
+    let timed_left = g.met.D.Disk.timed c.expect_empty.new.left left_so in
+    let timed_right = g.met.D.Disk.timed c.expect_empty.new.right right_so in
+    let view = g.D.Disk.view in (
+      bank_made (view c.args.left) (view c.in-Ok-create.bank.disk) (view c.args.right) (view c.lay_gate.new.disk) c.in-Ok.ensures.fits
+          (then_bank (view c.args.left) (view c.expect_empty.new.left) (view c.in-Ok-create.bank.disk) c.deref.result.now same left.0
+          (c.in-Ok-create.ensures.any_moment left_so (void_durable (view c.expect_empty.new.left) timed_left left.1) (void_seen (view c.expect_empty.new.left) timed_left left.1)).0)
+          (then_gate (view c.args.right) (view c.expect_empty.new.right) (view c.lay_gate.new.disk) right.0
+          (c.lay_gate.ensures.any_moment right_so (void_durable (view c.expect_empty.new.right) timed_right right.1) (void_seen (view c.expect_empty.new.right) timed_right right.1))),
+      tt,
+    )
+
+pub invariant_of-result : goal.invariant_of-result
+invariant_of-result g c = record {
+  there = refl;
+  live = λ _. ap (λ (s : Store). s.is_spent) c.new.ensures;
+  ready = λ _. ap not c.in-Ok-create.ensures.new.3;
+  limited = λ _. c.in-Ok-create.ensures.new.1;
+  up = up_now;
+}
+  where
+    up_now : false ≡ false → g.D.Disk.honest c.in-Ok-create.bank.disk × g.D.Disk.honest c.lay_gate.new.disk
+        → ∥ IsUp c.in-Ok-create.bank.generation c.in-Ok-create.bank.end (g.D.Disk.view c.in-Ok-create.bank.disk) (g.D.Disk.view c.lay_gate.new.disk) c.new.result.state ∥₁
+    up_now _ are =
+        let same = c.deref.ensures.value ∙ c.in-Ok.ensures.bytes in
+        let view = g.D.Disk.view in
+        let left_so = c.in-Ok-create.ensures.honest.0.1 are.0 in
+        let right_so = c.lay_gate.ensures.honest.1 are.1 in
+        let settled = subst (λ body. IsSettled 1 body [] c.in-Ok-create.bank.end (view c.in-Ok-create.bank.disk)) same (c.in-Ok-create.ensures.done left_so) in
+        let shut = c.in_default-lay_gate.ensures.shut right_so in
+        let up = up_as c.in-Ok-create.bank.generation c.in-Ok-create.bank.end (view c.in-Ok-create.bank.disk) (view c.lay_gate.new.disk) c.new.result.state c.in-Ok-create.ensures.new.0 (ap (λ (s : Store). s.state) c.new.ensures)
+        (made_up c.in-Ok-create.bank.end (view c.in-Ok-create.bank.disk) (view c.lay_gate.new.disk) c.in-Ok.ensures.fits settled shut) in
+        ∣ up ∣₁
+
+pub returns-clause-now : goal.returns-clause-now
+returns-clause-now g c are left right l r =
+    let same = c.deref.ensures.value ∙ c.in-Ok.ensures.bytes in
+    let view = g.D.Disk.view in
+    let left_so = c.in-Ok-create.ensures.honest.0.1 are.0 in
+    let right_so = c.lay_gate.ensures.honest.1 are.1 in
+    let settled = subst (λ body. IsSettled 1 body [] c.in-Ok-create.bank.end (view c.in-Ok-create.bank.disk)) same (c.in-Ok-create.ensures.done left_so) in
+    let shut = c.in_default-lay_gate.ensures.shut right_so in
+    let up = up_as c.in-Ok-create.bank.generation c.in-Ok-create.bank.end (view c.in-Ok-create.bank.disk) (view c.lay_gate.new.disk) empty_state c.in-Ok-create.ensures.new.0 refl
+    (made_up c.in-Ok-create.bank.end (view c.in-Ok-create.bank.disk) (view c.lay_gate.new.disk) c.in-Ok.ensures.fits settled shut) in
+    ∣ inl (left_for c.in-Ok-create.bank.generation c.in-Ok-create.bank.end (view c.in-Ok-create.bank.disk) (view c.lay_gate.new.disk) empty_state up left right l r) ∣₁

@@ -1,0 +1,36 @@
+-- The bank that was chosen is the one in use.
+use Rattle.std.proofs.Common.{◌∙◌, inl, inr, sym, ap, subst}
+use Rattle.linda_step.specs.Store.{Store}
+use Rattle.linda_snap.specs.Stands.{IsUp}
+use Rattle.linda_server.specs.Opening.{fault_of_choice}
+use Rattle.linda_server.proofs.PairLaws.{left_for, now_on_sides}
+use Rattle.linda_server.proofs.OpeningLaws.{leaves_no_other}
+use Rattle.linda_server.proofs.durable.Durable.open.Goals as goal
+
+pub returns-in-Err-clause-only : goal.returns-in-Err-clause-only
+returns-in-Err-clause-only g c st hl hr limit stands = (
+  tt,
+  elim (c.in-Err.ensures.only st hl hr stands).1 [
+    | inl disk ↦ inl (c.of_choice.ensures ∙ ap fault_of_choice disk)
+    | inr memory ↦ inr (c.of_choice.ensures ∙ ap fault_of_choice memory)
+  ],
+)
+
+pub returns-in-Ok-clause-only : goal.returns-in-Ok-clause-only
+returns-in-Ok-clause-only g c st hl hr limit stands =
+    (ap (λ (s : Store). s.state) c.from_state.ensures ∙ (c.in-Ok.ensures.only st hl hr stands).0, tt)
+
+pub returns-in-Ok-clause-any_moment : goal.returns-in-Ok-clause-any_moment
+returns-in-Ok-clause-any_moment g c hl hr =
+    let view = g.D.Disk.view in
+    (leaves_no_other c.in-Ok.chosen.is_right (view c.args.left) (view c.args.right) (view c.in-Ok.chosen.bank.disk) (view c.in-Ok.chosen.other) (c.in-Ok.ensures.any_moment hl hr).0, tt)
+
+pub returns-in-Ok-clause-now : goal.returns-in-Ok-clause-now
+returns-in-Ok-clause-now g c are left right l r =
+    let view = g.D.Disk.view in
+    let x = c.in-Ok.chosen in
+    let were = c.in-Ok.ensures.honest.0.1 are in
+    let st = c.from_state.result.state in
+    let same = ap (λ (s : Store). s.state) c.from_state.ensures in
+    let up = subst (λ s. IsUp x.bank.generation x.bank.end (view x.bank.disk) (view x.other) s) (sym same) (c.in-Ok.ensures.up were.0 were.1) in
+    ∣ now_on_sides x.is_right (view x.bank.disk) (view x.other) st (left_for x.bank.generation x.bank.end (view x.bank.disk) (view x.other) st up) left right l r ∣₁

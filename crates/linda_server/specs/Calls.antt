@@ -1,0 +1,57 @@
+-- What a crash within a call of a server may leave of its two banks.
+use Rattle.std.specs.Prelude.{ℕ, ◌+◌, ◌<◌, ◌≤◌, ◌⊎◌, List, ◌++◌, length}
+use Rattle.linda_wire.specs.declared.message.Message.{Message}
+use Rattle.linda_wire.specs.declared.reply.Reply.{Reply}
+use Rattle.linda_state.specs.declared.deed.Deed.{Deed}
+use Rattle.linda_state.specs.State.{State, IsState}
+use Rattle.linda_state.specs.Proper.{AreDone}
+use Rattle.linda_state.specs.DeedFormat.{payload}
+use Rattle.linda_step.specs.History.{Coming, History, Happens, Answers, history_of}
+use Rattle.linda_step.specs.Store.{Store}
+use Rattle.linda_journal.specs.Renewal.{IsNoBank}
+use Rattle.linda_snap.specs.Stands.{Stands}
+use Rattle.linda_server.specs.declared.limits.TheConstants.{RECORD_BYTES, MIN_LIMIT, MAX_LIMIT}
+
+-- These deeds lead from the one state to the other: whatever proper list led to the one, leads with
+-- them to the other.
+abbrev pub LeadTo : State → List Deed → State → Type 0
+LeadTo st deeds new = (opening : State) (before : List Deed) → IsState opening
+    → AreDone opening before st → AreDone opening (before ++ deeds) new
+
+-- The two images stand for the old state, or for the new one.
+abbrev pub IsOldOrNew : State → State → List ℕ → List ℕ → Type 0
+IsOldOrNew old new left right = Stands left right old ⊎ Stands left right new
+
+-- They stand for the state after all that came.
+pub record StandsAfter (old : Store) (xs : List Coming) (left right : List ℕ) : Type 0 where
+  pub all : History
+  pub happens : Happens old.state old.soft xs all
+  pub stands : Stands left right all.state
+
+-- They stand for the state of before, or for the one after all that came: all deeds of a call are
+-- there, or none.
+abbrev pub IsBeforeOrAfter : Store → List Coming → List ℕ → List ℕ → Type 0
+IsBeforeOrAfter old xs left right = ∥ Stands left right old.state ⊎ StandsAfter old xs left right ∥₁
+
+-- All that came was done, and this was sent.
+pub record HasHandled (old : Store) (xs : List Coming) (sends : List (ℕ × Reply))
+    (new : Store) : Type 0 where
+  pub deeds : List Deed
+  pub happens : Happens old.state old.soft xs (history_of new.state new.soft deeds sends)
+
+-- They stand for this state.
+abbrev pub StandsFor : State → List ℕ → List ℕ → Type 0
+StandsFor st left right = ∥ Stands left right st ∥₁
+
+-- They stand for this state, or neither is a bank.
+abbrev pub IsNothingOr : State → List ℕ → List ℕ → Type 0
+IsNothingOr st left right = (IsNoBank left × IsNoBank right) ⊎ Stands left right st
+
+-- The messages would do deeds, and the record of them, behind this end, would pass the limit.
+abbrev pub HasNoRoom : Store → List (ℕ × Message) → ℕ → ℕ → Type 0
+HasNoRoom old ms end limit = (all : History) → Answers old.state old.soft ms all
+    → (0 < length (payload all.deeds)) × (limit < end + RECORD_BYTES + length (payload all.deeds))
+
+-- The limit is one that a bank may have.
+abbrev pub IsLimit : ℕ → Type 0
+IsLimit limit = (MIN_LIMIT ≤ limit) × (limit ≤ MAX_LIMIT)

@@ -1,0 +1,70 @@
+-- The two disks of a server: which is which, and the state that stands on them. What a bank and a
+-- disk say is handed in.
+use Rattle.std.specs.Prelude.{ℕ, ◌+◌, Bool, true, false, not, [], if◌then◌else◌, Option, Some, None}
+use Rattle.linda_state.specs.State.{State}
+use Rattle.linda_disk.specs.View.{View}
+use Rattle.linda_snap.specs.Stands.{IsUp}
+use Rattle.linda_server.specs.declared.disks.Disks.{Disks}
+use Rattle.linda_server.specs.declared.disks.Disks.TheVariants.{InUse, Shut, Away}
+use Rattle.linda_server.specs.Pairs.{Both}
+
+-- No disk at all, of which nothing is left.
+abbrev pub nowhere : View
+nowhere = record { seen = []; may_leave = λ _. ⊥; moment = 0; left_since = λ _ _. ⊥ }
+
+-- The disk of the bank in use and the other one, as the left and the right one.
+abbrev pub sides : Bool → View → View → Both
+sides true used other = record { left = other; right = used }
+sides false used other = record { left = used; right = other }
+
+-- Both disks.
+abbrev pub both : {B D : Type 0} → (B → View) → (D → View) → Disks B D → Both
+both bank disk (InUse pair) = sides pair.is_right (bank pair.bank) (disk pair.other)
+both bank disk (Shut left right) = record { left = disk left; right = disk right }
+both bank disk Away = record { left = nowhere; right = nowhere }
+
+-- The left disk and the right one, if they are there.
+abbrev pub disks_of : {B D : Type 0} → (B → D) → Disks B D → Option (D × D)
+disks_of disk (InUse pair) =
+    Some (if pair.is_right then (pair.other, disk pair.bank) else (disk pair.bank, pair.other))
+disks_of disk (Shut left right) = Some (left, right)
+disks_of disk Away = None
+
+-- Both are honest.
+abbrev pub AreHonest : {B D : Type 0} → (B → Type 0) → (D → Type 0) → Disks B D → Type 0
+AreHonest bank disk (InUse pair) = bank pair.bank × disk pair.other
+AreHonest bank disk (Shut left right) = disk left × disk right
+AreHonest bank disk Away = ⊥
+
+-- How often the two have failed.
+abbrev pub failures : {B D : Type 0} → (B → ℕ) → (D → ℕ) → Disks B D → ℕ
+failures bank disk (InUse pair) = bank pair.bank + disk pair.other
+failures bank disk (Shut left right) = disk left + disk right
+failures bank disk Away = 0
+
+-- The disks are there: no call has them.
+abbrev pub is_there : {B D : Type 0} → Disks B D → Bool
+is_there (InUse pair) = true
+is_there (Shut left right) = true
+is_there Away = false
+
+-- A bank is in use, and it is not spent.
+abbrev pub is_ready : {B D : Type 0} → (B → Bool) → Disks B D → Bool
+is_ready spent (InUse pair) = not (spent pair.bank)
+is_ready spent (Shut left right) = false
+is_ready spent Away = false
+
+-- A number of the bank in use, and 0 where none is.
+abbrev pub number_of : {B D : Type 0} → (B → ℕ) → Disks B D → ℕ
+number_of number (InUse pair) = number pair.bank
+number_of number (Shut left right) = 0
+number_of number Away = 0
+
+-- The bank in use, of this generation and with this end, stands for the state, and a crash now
+-- leaves them so.
+abbrev pub IsUpOn : {B D : Type 0} → (B → ℕ) → (B → ℕ) → (B → View) → (D → View)
+    → Disks B D → State → Type 0
+IsUpOn generation end bank disk (InUse pair) st =
+    IsUp (generation pair.bank) (end pair.bank) (bank pair.bank) (disk pair.other) st
+IsUpOn generation end bank disk (Shut left right) st = ⊥
+IsUpOn generation end bank disk Away st = ⊥

@@ -1,0 +1,5 @@
+pub mod Pairs
+pub mod Disks
+pub mod Served
+pub mod Calls
+pub mod Opening

@@ -1,0 +1,81 @@
+//! How deeds come onto the bank in use.
+
+ghost use Rattle.std.specs.Prelude.{◌≡◌, ◌<◌, ◌≤◌, ◌+◌, ◌↔◌, ◌⊎◌, ◌≢◌, true, length, OnOk, IsErrOf};
+ghost use Rattle.linda_state.specs.DeedFormat.{payload};
+ghost use Rattle.linda_state.specs.State as state;
+ghost use Rattle.linda_step.specs.declared.size.TheConstants.{MAX_BATCH};
+ghost use Rattle.linda_server.specs.declared.limits.TheConstants.{RECORD_BYTES};
+ghost use Rattle.linda_server.specs.Pairs.{PairsSince};
+ghost use Rattle.linda_server.specs.Disks.{both, AreHonest, failures};
+ghost use Rattle.linda_server.specs.Disks.{is_there, is_ready, number_of, IsUpOn};
+ghost use Rattle.linda_server.specs.Calls.{LeadTo, IsOldOrNew};
+
+use crate::disks::{Disks, Pair};
+use crate::fault::ServeFault;
+use linda_disk::Disk;
+use linda_journal::{Bank, BankFault};
+use linda_state::Deed;
+use std::alloc::Global;
+
+/// Puts the deeds, if there are any, onto the bank in use as one record.
+///
+/// # Errors
+///
+/// `Disk` where the device failed, and `Memory`: the record is there or it is not, and the bank is
+/// not to be used.
+pub(crate) fn commit<D: Disk>(
+    disks: &mut Disks<Bank<D>, D>,
+    alloc: Global,
+    deeds: &[Deed],
+) -> Result<(), ServeFault>
+    requires few { length deeds.now ≤ MAX_BATCH }
+    requires ready { is_ready (λ b. b.is_spent) disks.old ≡ true }
+    requires room { 0 < length deeds.now
+        → number_of (λ b. b.end) disks.old + RECORD_BYTES + length (payload deeds.now)
+        ≤ number_of (λ b. b.limit) disks.old }
+    // At no moment crashes leave anything but the old state, or the one after all of these deeds;
+    ensures any_moment { (st new : state.State)
+        → AreHonest (λ b. D.honest b.disk) D.honest disks.old
+        → IsUpOn (λ b. b.generation) (λ b. b.end) (λ b. D.view b.disk) D.view disks.old st
+        → LeadTo st deeds.now new
+        → PairsSince (both (λ b. D.view b.disk) D.view disks.old)
+        (both (λ b. D.view b.disk) D.view disks.new) (IsOldOrNew st new) }
+    // at Ok they leave the latter.
+    ensures done { (st new : state.State)
+        → AreHonest (λ b. D.honest b.disk) D.honest disks.old
+        → IsUpOn (λ b. b.generation) (λ b. b.end) (λ b. D.view b.disk) D.view disks.old st
+        → LeadTo st deeds.now new
+        → OnOk result
+        (IsUpOn (λ b. b.generation) (λ b. b.end) (λ b. D.view b.disk) D.view disks.new new) }
+    ensures there { is_there disks.old ≡ true → is_there disks.new ≡ true }
+    ensures ready { OnOk result (is_ready (λ b. b.is_spent) disks.new ≡ true) }
+    ensures limit { number_of (λ b. b.limit) disks.new ≡ number_of (λ b. b.limit) disks.old }
+    ensures honest { AreHonest (λ b. D.honest b.disk) D.honest disks.old
+        ↔ AreHonest (λ b. D.honest b.disk) D.honest disks.new }
+    ensures cause { IsErrOf result ServeFault.Disk
+        → failures (λ b. D.failures b.disk) D.failures disks.old
+        < failures (λ b. D.failures b.disk) D.failures disks.new }
+    ensures known { (IsErrOf result ServeFault.Full → ⊥) × (IsErrOf result ServeFault.Down → ⊥) }
+{
+    if deeds.is_empty() {
+        return Ok(());
+    }
+    match disks {
+        Disks::InUse(pair) => match pair.bank.append(alloc, deeds) {
+            Ok(()) => Ok(()),
+            Err(fault) => Err(told(fault)),
+        },
+        Disks::Shut { .. } | Disks::Away => Err(ServeFault::Memory),
+    }
+}
+
+// What a server tells of a bank's fault: of all but want of memory, that a device failed.
+fn told(fault: BankFault) -> ServeFault
+    ensures disk { result ≡ ServeFault.Disk → fault ≢ BankFault.Memory }
+    ensures known { (result ≡ ServeFault.Disk) ⊎ (result ≡ ServeFault.Memory) }
+{
+    match fault {
+        BankFault::Memory => ServeFault::Memory,
+        _ => ServeFault::Disk,
+    }
+}

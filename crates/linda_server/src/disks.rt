@@ -1,0 +1,81 @@
+//! The two disks of a server, of which one holds the bank in use.
+
+use linda_disk::Disk;
+use linda_journal::Bank;
+
+/// The two disks of a server. What a bank and a disk are is left to who uses them.
+#[derive(Drop)]
+pub(crate) enum Disks<B, D> {
+    /// A bank is in use.
+    InUse(Pair<B, D>),
+    /// None is.
+    Shut {
+        /// The left disk.
+        left: D,
+        /// The right one.
+        right: D,
+    },
+    /// A call has them, which gives them back before it ends.
+    Away,
+}
+
+/// A bank in use, and the other disk.
+#[derive(Drop)]
+pub(crate) struct Pair<B, D> {
+    /// The bank in use.
+    pub(crate) bank: B,
+    /// The disk that is not in use.
+    pub(crate) other: D,
+    /// Whether the bank in use is the right one.
+    pub(crate) is_right: bool,
+}
+
+impl<D: Disk> Disks<Bank<D>, D> {
+    ghost use Rattle.std.specs.Prelude.{◌≡◌, true, Some};
+    ghost use Rattle.linda_server.specs.Disks.{disks_of, is_there, number_of};
+
+    /// The offset of the closed gate at which the journal of the bank in use ends; 0 where none is
+    /// in use.
+    pub(crate) fn end(&self) -> usize
+        ensures { result ≡ number_of (λ b. b.end) self.now }
+    {
+        match self {
+            Disks::InUse(pair) => pair.bank.end(),
+            Disks::Shut { .. } | Disks::Away => 0,
+        }
+    }
+
+    /// How many records the journal of the bank in use has; 0 where none is in use.
+    pub(crate) fn records(&self) -> usize
+        ensures { result ≡ number_of (λ b. b.records) self.now }
+    {
+        match self {
+            Disks::InUse(pair) => pair.bank.records(),
+            Disks::Shut { .. } | Disks::Away => 0,
+        }
+    }
+
+    /// The left disk and the right one.
+    pub(crate) fn into_both(self) -> (D, D)
+        requires { is_there self ≡ true }
+        ensures { Some result ≡ disks_of (λ b. b.disk) self }
+    {
+        match self {
+            Disks::InUse(pair) => {
+                let Pair {
+                    bank,
+                    other,
+                    is_right,
+                } = pair;
+                let used = bank.into_disk();
+                if is_right {
+                    (other, used)
+                } else {
+                    (used, other)
+                }
+            }
+            Disks::Shut { left, right } => (left, right),
+            Disks::Away => unreachable!(),
+        }
+    }
+}

@@ -1,0 +1,106 @@
+//! A server that is opened again on its two disks.
+
+ghost use Rattle.std.specs.Prelude.{◌≡◌};
+ghost use Rattle.linda_server.specs.Opening.{fault_of_choice};
+
+use super::Durable;
+use crate::disks::{Disks, Pair};
+use crate::empty::is_limit;
+use crate::fault::OpenFault;
+use linda_disk::Disk;
+use linda_snap::{ChoiceFault, Chosen, choose_bank};
+use linda_step::Store;
+use std::alloc::Global;
+
+impl<D: Disk> Durable<D> {
+    ghost use Rattle.std.specs.Prelude.{◌<◌, ◌⊎◌, ◌↔◌, false, IfOk, IfErr};
+    ghost use Rattle.linda_state.specs.State as states;
+    ghost use Rattle.linda_step.specs.Soft.{no_asks};
+    ghost use Rattle.linda_disk.specs.Run.{LeavesOnly};
+    ghost use Rattle.linda_snap.specs.Stands.{Stands};
+    ghost use Rattle.linda_server.specs.Pairs.{PairsNow, LeavesNoOther, two};
+    ghost use Rattle.linda_server.specs.Disks.{both, AreHonest};
+    ghost use Rattle.linda_server.specs.Calls.{StandsFor, IsLimit};
+    ghost use Rattle.linda_server.specs.Opening.{IsOpenFault};
+
+    /// Opens the server that two disks hold: its state is the one that stands on them, nothing is
+    /// held and nobody waits. Both disks are synced first; nothing is written.
+    ///
+    /// # Errors
+    ///
+    /// `LimitRange` before all others; `NoStore`, `Damaged`, `Disk` where a device failed,
+    /// `Memory`. Each hands the disks back, left and right.
+    pub fn open(
+        alloc: Global,
+        left: D,
+        right: D,
+        limit: usize,
+    ) -> Result<Durable<D>, (OpenFault, D, D)>
+        // Its state is the one that stands in what the disks read at entry,
+        ensures found { D.honest left → D.honest right → IfOk result (λ s.
+            Stands (D.view left).seen (D.view right).seen s.store.state) }
+        // and crashes leave that now.
+        ensures now { IfOk result (λ s. AreHonest (λ b. D.honest b.disk) D.honest s.disks
+            → PairsNow (both (λ b. D.view b.disk) D.view s.disks) (StandsFor s.store.state)) }
+        ensures new { IfOk result (λ s. (s.store.soft ≡ no_asks) × (s.limit ≡ limit)
+            × (s.down ≡ false)) }
+        // Where a state stands, that one is opened, or a device failed, or memory ran out.
+        ensures only { (st : states.State) → D.honest left → D.honest right → IsLimit limit
+            → Stands (D.view left).seen (D.view right).seen st
+            → IfOk result (λ s. s.store.state ≡ st)
+            × IfErr result (λ e. (e.0 ≡ OpenFault.Disk) ⊎ (e.0 ≡ OpenFault.Memory)) }
+        // A fault is one of those bytes, or of the limit.
+        ensures fault { D.honest left → D.honest right
+            → IfErr result (λ e. IsOpenFault (D.view left).seen (D.view right).seen limit e.0) }
+        ensures limit { IfOk result (λ s. IsLimit limit) }
+        // At no moment a crash leaves of a disk what it could not leave at entry.
+        ensures any_moment { D.honest left → D.honest right
+            → IfOk result (λ s. LeavesNoOther (two (D.view left) (D.view right))
+            (both (λ b. D.view b.disk) D.view s.disks))
+            × IfErr result (λ e. LeavesNoOther (two (D.view left) (D.view right))
+            (two (D.view e.1) (D.view e.2))) }
+        ensures honest { IfOk result (λ s. (D.honest left × D.honest right)
+            ↔ AreHonest (λ b. D.honest b.disk) D.honest s.disks)
+            × IfErr result (λ e. (D.honest left × D.honest right)
+            ↔ (D.honest e.1 × D.honest e.2)) }
+        ensures cause { IfErr result (λ e. e.0 ≡ OpenFault.Disk
+            → (D.failures left < D.failures e.1) ⊎ (D.failures right < D.failures e.2)) }
+    {
+        if !is_limit(limit) {
+            return Err((OpenFault::LimitRange, left, right));
+        }
+        match choose_bank(alloc, left, right, limit) {
+            Err((fault, left, right)) => Err((of_choice(fault), left, right)),
+            Ok(chosen) => {
+                let Chosen {
+                    state,
+                    bank,
+                    other,
+                    is_right,
+                } = chosen;
+                Ok(Durable {
+                    store: Store::from_state(alloc, state),
+                    disks: Disks::InUse(Pair {
+                        bank,
+                        other,
+                        is_right,
+                    }),
+                    limit,
+                    down: false,
+                })
+            }
+        }
+    }
+}
+
+// What a server tells where no bank was chosen.
+fn of_choice(fault: ChoiceFault) -> OpenFault
+    ensures { result ≡ fault_of_choice fault }
+{
+    match fault {
+        ChoiceFault::NoStore => OpenFault::NoStore,
+        ChoiceFault::Damaged { right, offset } => OpenFault::Damaged { right, offset },
+        ChoiceFault::Disk => OpenFault::Disk,
+        ChoiceFault::Memory => OpenFault::Memory,
+    }
+}

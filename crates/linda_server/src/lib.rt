@@ -1,0 +1,19 @@
+//! The durable server.
+#![tactic(auto)]
+
+mod commit;
+mod disks;
+mod durable;
+mod empty;
+mod fault;
+mod limits;
+mod served;
+mod serving;
+
+pub use durable::Durable;
+pub use fault::{OpenFault, ServeFault};
+pub use limits::{MAX_LIMIT, MIN_LIMIT, SNAPSHOT_RECORDS};
+pub use served::{Served, Share};
+
+#[cfg(test)]
+mod tests;

@@ -1,0 +1,36 @@
+//! What messages led to, told for each of them.
+
+ghost use Rattle.std.specs.Prelude.{◌≡◌};
+
+use linda_state::Deed;
+use linda_wire::Reply;
+
+/// What messages led to, one after another: all deeds, all replies, and which of them are whose.
+#[derive(Drop)]
+pub struct Served {
+    /// The changes of the state, in order.
+    pub deeds: Vec<Deed>,
+    /// The replies with the clients that they go to, in order.
+    pub sends: Vec<(u32, Reply)>,
+    /// For each message, in order, its share of both.
+    pub shares: Vec<Share>,
+}
+
+impl Served {
+    /// The replies alone.
+    pub fn into_sends(self) -> Vec<(u32, Reply)>
+        ensures { result ≡ self.sends }
+    {
+        let Served { sends, .. } = self;
+        sends
+    }
+}
+
+/// What one message led to.
+#[derive(Clone, Copy, Debug, PartialEq, Eq)]
+pub struct Share {
+    /// Whether it did a deed: then that is the next one.
+    pub has_deed: bool,
+    /// How many replies it sent: the next ones.
+    pub sends: usize,
+}

@@ -1,0 +1,111 @@
+//! How messages are served by a store, before anything is written.
+
+ghost use Rattle.std.specs.Prelude.{◌≡◌, ◌++◌, ◌∷◌, [], ◌≤◌};
+ghost use Rattle.std.specs.Prelude.{length, OnOk, OnErr, IfOk, false, true, option_to_list};
+ghost use Rattle.std.specs.Option.{is_some};
+ghost use Rattle.linda_server.specs.Served.{IsServed, IsServedToo};
+
+use crate::served::{Served, Share};
+use linda_bag::IndexBag;
+use linda_state::Deed;
+use linda_step::{Step, Store};
+use linda_wire::{Message, Reply};
+use std::alloc::{AllocError, Global};
+
+/// Serves one message.
+///
+/// # Errors
+///
+/// `AllocError` where memory runs out.
+pub(crate) fn serve_one(
+    store: &mut Store<IndexBag>,
+    alloc: Global,
+    client: u32,
+    message: &Message,
+) -> Result<Served, AllocError>
+    requires { store.old.is_spent ≡ false }
+    ensures ok { IfOk result (λ served. IsServed store.old.state store.old.soft
+        ((client, message.now) ∷ []) served store.new.state store.new.soft) }
+    ensures unspent { OnOk result (store.new.is_spent ≡ false) }
+{
+    let mut served = none(alloc);
+    add(&mut served, store, alloc, client, message)?;
+    Ok(served)
+}
+
+/// Serves messages, one after another.
+///
+/// # Errors
+///
+/// `AllocError` where memory runs out.
+pub(crate) fn serve_each(
+    store: &mut Store<IndexBag>,
+    alloc: Global,
+    messages: &[(u32, Message)],
+) -> Result<Served, AllocError>
+    requires { store.old.is_spent ≡ false }
+    ensures ok { IfOk result (λ served. IsServed store.old.state store.old.soft messages.now
+        served store.new.state store.new.soft) }
+    ensures unspent { OnOk result (store.new.is_spent ≡ false) }
+{
+    let mut served = none(alloc);
+    for message in messages {
+        add(&mut served, store, alloc, message.0, &message.1)?;
+    }
+    Ok(served)
+}
+
+// Nothing was served yet.
+fn none(alloc: Global) -> Served
+    ensures deeds { result.deeds.items ≡ [] }
+    ensures sends { result.sends.items ≡ [] }
+    ensures shares { result.shares.items ≡ [] }
+{
+    Served {
+        deeds: Vec::new(alloc),
+        sends: Vec::new(alloc),
+        shares: Vec::new(alloc),
+    }
+}
+
+// Serves one message more.
+fn add(
+    served: &mut Served,
+    store: &mut Store<IndexBag>,
+    alloc: Global,
+    client: u32,
+    message: &Message,
+) -> Result<(), AllocError>
+    requires { store.old.is_spent ≡ false }
+    ensures ok { OnOk result (IsServedToo store.old.state store.old.soft client message.now
+        served.old served.new store.new.state store.new.soft) }
+    ensures unspent { OnOk result (store.new.is_spent ≡ false) }
+{
+    let step = store.step(alloc, client, message)?;
+    let Step { deed, mut sends } = step;
+    let share = share_of(&deed, &sends);
+    push_deed(&mut served.deeds, deed)?;
+    served.sends.append(&mut sends)?;
+    served.shares.push(share)?;
+    Ok(())
+}
+
+// The share of one answer.
+fn share_of(deed: &Option<Deed>, sends: &[(u32, Reply)]) -> Share
+    ensures { result ≡ record { has_deed = is_some deed.now; sends = length sends.now } }
+{
+    Share {
+        has_deed: deed.is_some(),
+        sends: sends.len(),
+    }
+}
+
+// Pushes the deed, if there is one.
+fn push_deed(deeds: &mut Vec<Deed>, deed: Option<Deed>) -> Result<(), AllocError>
+    ensures { OnOk result (deeds.new.items ≡ deeds.old.items ++ option_to_list deed) }
+{
+    match deed {
+        Some(deed) => Ok(deeds.push(deed)?),
+        None => Ok(()),
+    }
+}
