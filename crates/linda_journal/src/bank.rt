@@ -21,7 +21,7 @@ use crate::opening::load;
 use crate::record::{Record, spell_body};
 use crate::size::record_len;
 use crate::whole::Whole;
-use linda_disk::{Disk, DiskFault};
+use linda_disk::{Disk, DiskFault, MemDisk};
 use linda_state::Deed;
 use std::alloc::Global;
 
@@ -256,6 +256,26 @@ impl<D: Disk> Bank<D> {
         self.records += 1;
         self.is_spent = false;
         Ok(())
+    }
+}
+
+impl Bank<MemDisk> {
+    ghost use Rattle.std.specs.Prelude.{◌≡◌};
+    ghost use Rattle.linda_disk.specs.declared.trouble.Power.TheVariants.{OnFor};
+    ghost use Rattle.linda_disk.specs.MemDisk as mem_disk;
+
+    /// Lets so many writes, cuts and syncs more pass on the bank's disk, and then the power goes off inside the next
+    /// one, as `MemDisk::fuse` tells. Nothing else changes.
+    pub fn fuse(&mut self, passes: u64)
+        ensures trouble { mem_disk.trouble self.new.disk
+            ≡ record { power = OnFor passes; failing = (mem_disk.trouble self.old.disk).failing } }
+        ensures history { mem_disk.history self.new.disk ≡ mem_disk.history self.old.disk }
+        ensures failures { mem_disk.failures self.new.disk ≡ mem_disk.failures self.old.disk }
+        ensures same { (self.new.generation ≡ self.old.generation)
+            × (self.new.limit ≡ self.old.limit) × (self.new.end ≡ self.old.end)
+            × (self.new.records ≡ self.old.records) × (self.new.is_spent ≡ self.old.is_spent) }
+    {
+        self.disk.fuse(passes);
     }
 }
 
