@@ -4,7 +4,8 @@ mod create;
 mod handle;
 mod open;
 mod serve;
-// mod stop;
+mod snapshot;
+mod stop;
 
 ghost use Rattle.std.specs.Prelude.{◌≡◌, ◌≤◌, [], nat_le, true, false, Some};
 ghost use Rattle.linda_server.specs.declared.limits.TheConstants.{SNAPSHOT_RECORDS};
