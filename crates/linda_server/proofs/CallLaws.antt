@@ -1,28 +1,33 @@
 -- What crashes leave within a call of a server, where only that some bank is in use is known.
-use Rattle.std.proofs.Common.{◌≡◌, ℕ, ◌<◌, ◌≤◌, ◌⊎◌, inl, inr, List, [], ◌∷◌, length, Option, Some, None, option_to_list, ap, length-append, arith}
+use Rattle.std.proofs.Common.{◌≡◌, ℕ, Bool, true, false, sym, subst, ◌<◌, ◌≤◌, ◌⊎◌, inl, inr, List, [], ◌∷◌, length, Option, Some, None, option_to_list, ap, length-append, append-nil, refl, ◌++◌, ◌∙◌, true≢false, Result, Ok, Err, OnOk, OnErr, arith}
 use Rattle.std.proofs.Math.Logic.{∥∥₁_map}
 use Rattle.std.proofs.lemmas.Grind.{not_there}
 use Rattle.std.proofs.lemmas.Bool.{cases_lt}
 use Rattle.linda_wire.specs.declared.message.Message.{Message}
 use Rattle.linda_state.specs.declared.deed.Deed.{Deed}
-use Rattle.linda_state.specs.State.{State}
+use Rattle.linda_state.specs.State.{State, IsState}
+use Rattle.linda_state.specs.Proper.{AreDone}
 use Rattle.linda_state.specs.DeedFormat.{spell_deed, payload}
+use Rattle.linda_state.proofs.ProperLaws.{none_done}
 use Rattle.linda_step.specs.Soft.{Soft}
 use Rattle.linda_step.specs.Answer.{Answer}
 use Rattle.linda_step.specs.Store.{Store, IsOrderly}
-use Rattle.linda_step.specs.History.{Coming, History, Happens, comings, history_of}
+use Rattle.linda_step.specs.History.{Coming, History, Happens, comings, history_of, nothing_yet}
+use Rattle.linda_store.specs.Node.{Node, MayRemain}
 use Rattle.linda_step.proofs.HistoryLaws.{happened}
 use Rattle.linda_disk.specs.View.{View, IsTimed}
 use Rattle.linda_journal.proofs.SizeLaws.{deed_some}
 use Rattle.linda_snap.specs.Stands.{Stands}
 use Rattle.linda_server.specs.declared.disks.Disks.{Disks}
+use Rattle.linda_server.specs.declared.disks.Disks.TheVariants.{InUse, Shut, Away}
 use Rattle.linda_server.specs.declared.served.Served.{Served}
 use Rattle.linda_server.specs.Pairs.{Both, PairsSince, PairsNow}
-use Rattle.linda_server.specs.Disks.{both, AreHonest, IsUpOn}
+use Rattle.linda_server.specs.Disks.{sides, both, AreHonest, IsUpOn, IsKeptOn}
 use Rattle.linda_server.specs.Served.{AreAnswered, deeds_of, IsServed}
-use Rattle.linda_server.specs.Calls.{LeadTo, IsOldOrNew, StandsAfter, IsBeforeOrAfter, StandsFor, HasHandled}
+use Rattle.linda_server.specs.Calls.{LeadTo, IsOldOrNew, IsEither, StandsAround, IsWithOrWithout, StandsAfter, IsBeforeOrAfter, StandsFor, HasHandled}
+use Rattle.linda_server.specs.Node.{shown}
 use Rattle.linda_server.proofs.ServedLaws.{served_happens}
-use Rattle.linda_server.proofs.PairLaws.{still, stands_now}
+use Rattle.linda_server.proofs.PairLaws.{still, stands_now, up_of}
 
 -- ---- what was served
 
@@ -77,6 +82,36 @@ handled old new ms told served = record {
   happens = served_happens old.state old.soft ms told new.state new.soft served;
 }
 
+-- Deeds that lead on from a state in its ranges are done there.
+pub led : (st now : State) (deeds : List Deed) → IsState st → LeadTo st deeds now → AreDone st deeds now
+led st now deeds is leads = leads st [] is (none_done st is)
+
+-- Nothing was done.
+pub none_remains : (old : Node) (xs : List Coming) (ds : List Deed) → ds ≡ [] → MayRemain old xs ds
+none_remains old xs ds none = record { first = []; is_first = (xs, refl); all = nothing_yet old.state old.soft; happens = refl; front = ([], ap (λ l. l ++ []) none) }
+
+-- All was done.
+pub all_remains : (old : Node) (ms : List (ℕ × Message)) (told : Served) (new : State) (then : Soft) (ds : List Deed) → IsServed old.state old.soft ms told new then
+    → ds ≡ told.deeds.items → MayRemain old (comings ms) ds
+all_remains old ms told new then ds served same = record {
+  first = comings ms;
+  is_first = ([], append-nil (comings ms));
+  all = history_of new then told.deeds.items told.sends.items;
+  happens = served_happens old.state old.soft ms told new then served;
+  front = ([], append-nil ds ∙ same);
+}
+
+-- So it is of a server that was up.
+pub all_remains_up : (before : State) (store : Store) (down : Bool) (lost : List Deed) (ms : List (ℕ × Message)) (told : Served) (new : State) (then : Soft) (ds : List Deed)
+    → down ≡ false → IsServed store.state store.soft ms told new then → ds ≡ told.deeds.items → MayRemain (shown before store down lost) (comings ms) ds
+all_remains_up before store down lost ms told new then ds is_up served same =
+    subst (λ b. MayRemain (shown before store b lost) (comings ms) ds) (sym is_up) (all_remains (shown before store false lost) ms told new then ds served same)
+
+-- What holds where a call ended with a fault, told by what holds where it did not.
+pub at_fault : {A E : Type 0} (r : Result A E) (b : Bool) (P : Type 0) → OnOk r (b ≡ false) → OnErr r P → b ≡ true → P
+at_fault (Ok x) b P good bad is = absurd (true≢false (sym is ∙ good))
+at_fault (Err e) b P good bad is = bad
+
 -- ---- truncated facts
 
 at_most : (m n : ℕ) → ∥ m ≤ n ∥₁ → m ≤ n
@@ -94,42 +129,96 @@ from_some old new P Q some so goes = record {
   each = λ left right l r. ∥∥₁_map some (λ x. goes left right ((so x).each left right l r));
 }
 
+sides_now : (is_right : Bool) (old : Both) (used other : View) (P Q : List ℕ → List ℕ → Type 0) → IsTimed used → IsTimed other → PairsSince old (sides is_right used other) P
+    → ((left right : List ℕ) → P left right → Q left right) → PairsNow (sides is_right used other) Q
+sides_now true old used other P Q timed_used timed since goes left right l r =
+    goes left right (since.each left right (timed.counts_now old.left.moment left since.left_later l) (timed_used.counts_now old.right.moment right since.right_later r))
+sides_now false old used other P Q timed_used timed since goes left right l r =
+    goes left right (since.each left right (timed_used.counts_now old.left.moment left since.left_later l) (timed.counts_now old.right.moment right since.right_later r))
+
+-- Of either state, where deeds lead from the one to the other.
+pub with_or_without : (st now : State) (deeds : List Deed) → IsState st → LeadTo st deeds now → (left right : List ℕ) → IsEither st now left right → IsWithOrWithout st deeds left right
+with_or_without st now deeds is leads left right some =
+    ∥∥₁_map some (λ x. record { new = now; ranges = is; done = led st now deeds is leads; stands = x })
+
+-- Of either state, where what came happened.
+pub before_or_after : (old new : Store) (ms : List (ℕ × Message)) (told : Served) → IsServed old.state old.soft ms told new.state new.soft → (left right : List ℕ)
+    → IsEither old.state new.state left right → IsBeforeOrAfter old (comings ms) left right
+before_or_after old new ms told served left right some = ∥∥₁_map some goes
+  where
+    goes : IsOldOrNew old.state new.state left right → Stands left right old.state ⊎ StandsAfter old (comings ms) left right
+    goes (inl x) = inl x
+    goes (inr x) = inr record {
+      all = history_of new.state new.soft told.deeds.items told.sends.items;
+      happens = served_happens old.state old.soft ms told new.state new.soft served;
+      stands = x;
+    }
+
+pub since_so : (old new : Both) (P Q : List ℕ → List ℕ → Type 0) → PairsSince old new P → ((left right : List ℕ) → P left right → Q left right) → PairsSince old new Q
+since_so old new P Q since goes = record {
+  left_later = since.left_later;
+  right_later = since.right_later;
+  each = λ left right l r. goes left right (since.each left right l r);
+}
+
 -- ---- the calls
 
 module _ {B D : Type 0} (generation end : B → ℕ) (bank : B → View) (disk : D → View) (honest_bank : B → Type 0) (honest : D → Type 0)
     (timed_bank : (b : B) → honest_bank b → IsTimed (bank b)) (timed : (d : D) → honest d → IsTimed (disk d)) where
+  up_for : (disks : Disks B D) (st : State) → AreHonest honest_bank honest disks → ∥ IsKeptOn generation end bank disk honest_bank honest disks st ∥₁ → ∥ IsUpOn generation end bank disk disks st ∥₁
+  up_for disks st are kept = ∥∥₁_map kept (λ k. up_of generation end bank disk honest_bank honest timed_bank timed disks st k are)
+
   -- No disk was touched: the state stands as before.
-  pub still_so : (disks : Disks B D) (st : State) → AreHonest honest_bank honest disks → ∥ IsUpOn generation end bank disk disks st ∥₁
+  pub still_so : (disks : Disks B D) (st : State) → AreHonest honest_bank honest disks → ∥ IsKeptOn generation end bank disk honest_bank honest disks st ∥₁
       → PairsSince (both bank disk disks) (both bank disk disks) (StandsFor st)
-  still_so disks st are up =
-      from_some (both bank disk disks) (both bank disk disks) (λ left right. Stands left right st) (λ left right. Stands left right st) up
+  still_so disks st are kept =
+      from_some (both bank disk disks) (both bank disk disks) (λ left right. Stands left right st) (λ left right. Stands left right st) (up_for disks st are kept)
       (still generation end bank disk honest_bank honest timed_bank timed disks st are) (λ left right x. x)
 
-  pub still_before : (disks : Disks B D) (old : Store) (xs : List Coming) → AreHonest honest_bank honest disks → ∥ IsUpOn generation end bank disk disks old.state ∥₁
+  pub still_before : (disks : Disks B D) (old : Store) (xs : List Coming) → AreHonest honest_bank honest disks → ∥ IsKeptOn generation end bank disk honest_bank honest disks old.state ∥₁
       → PairsSince (both bank disk disks) (both bank disk disks) (IsBeforeOrAfter old xs)
-  still_before disks old xs are up =
-      from_some (both bank disk disks) (both bank disk disks) (λ left right. Stands left right old.state) (λ left right. Stands left right old.state ⊎ StandsAfter old xs left right) up
-      (still generation end bank disk honest_bank honest timed_bank timed disks old.state are) (λ left right x. inl x)
+  still_before disks old xs are kept =
+      from_some (both bank disk disks) (both bank disk disks) (λ left right. Stands left right old.state) (λ left right. Stands left right old.state ⊎ StandsAfter old xs left right)
+      (up_for disks old.state are kept) (still generation end bank disk honest_bank honest timed_bank timed disks old.state are) (λ left right x. inl x)
 
   -- Deeds went onto the bank in use.
-  pub put_before : (disks new : Disks B D) (old : Store) (xs : List Coming) (all : History) (deeds : List Deed) → Happens old.state old.soft xs all → LeadTo old.state deeds all.state
-      → AreHonest honest_bank honest disks → ∥ IsUpOn generation end bank disk disks old.state ∥₁
+  pub put_either : (disks new : Disks B D) (st now : State) (deeds : List Deed) → LeadTo st deeds now → AreHonest honest_bank honest disks → ∥ IsKeptOn generation end bank disk honest_bank honest disks st ∥₁
       → ((st now : State) → AreHonest honest_bank honest disks → IsUpOn generation end bank disk disks st → LeadTo st deeds now → PairsSince (both bank disk disks) (both bank disk new) (IsOldOrNew st now))
-      → PairsSince (both bank disk disks) (both bank disk new) (IsBeforeOrAfter old xs)
-  put_before disks new old xs all deeds happens leads are up put =
-      from_some (both bank disk disks) (both bank disk new) (IsOldOrNew old.state all.state) (λ left right. Stands left right old.state ⊎ StandsAfter old xs left right) up
-      (λ u. put old.state all.state are u leads) goes
-    where
-      goes : (left right : List ℕ) → IsOldOrNew old.state all.state left right → Stands left right old.state ⊎ StandsAfter old xs left right
-      goes left right (inl before) = inl before
-      goes left right (inr after) = inr record { all = all; happens = happens; stands = after }
+      → PairsSince (both bank disk disks) (both bank disk new) (IsEither st now)
+  put_either disks new st now deeds leads are kept put =
+      from_some (both bank disk disks) (both bank disk new) (IsOldOrNew st now) (IsOldOrNew st now) (up_for disks st are kept) (λ u. put st now are u leads) (λ left right x. x)
 
-  pub up_after : (disks new : Disks B D) (st now : State) (deeds : List Deed) → LeadTo st deeds now → AreHonest honest_bank honest disks → ∥ IsUpOn generation end bank disk disks st ∥₁
-      → ((st now : State) → AreHonest honest_bank honest disks → IsUpOn generation end bank disk disks st → LeadTo st deeds now → IsUpOn generation end bank disk new now)
-      → ∥ IsUpOn generation end bank disk new now ∥₁
-  up_after disks new st now deeds leads are up done = ∥∥₁_map up (λ u. done st now are u leads)
+  pub kept_after : (disks new : Disks B D) (st now : State) (deeds : List Deed) → LeadTo st deeds now → ∥ IsKeptOn generation end bank disk honest_bank honest disks st ∥₁
+      → ((st now : State) → IsKeptOn generation end bank disk honest_bank honest disks st → LeadTo st deeds now → IsKeptOn generation end bank disk honest_bank honest new now)
+      → ∥ IsKeptOn generation end bank disk honest_bank honest new now ∥₁
+  kept_after disks new st now deeds leads kept goes = ∥∥₁_map kept (λ k. goes st now k leads)
+
+  -- What crashes since leave, they leave now.
+  pub now_since : (old disks : Disks B D) (P Q : List ℕ → List ℕ → Type 0) → AreHonest honest_bank honest disks → PairsSince (both bank disk old) (both bank disk disks) P
+      → ((left right : List ℕ) → P left right → Q left right) → PairsNow (both bank disk disks) Q
+  now_since old (InUse pair) P Q are since goes = sides_now pair.is_right (both bank disk old) (bank pair.bank) (disk pair.other) P Q (timed_bank pair.bank are.0) (timed pair.other are.1) since goes
+  now_since old (Shut left right) P Q are since goes =
+      λ l r la ra. goes l r (since.each l r ((timed left are.0).counts_now (both bank disk old).left.moment l since.left_later la) ((timed right are.1).counts_now (both bank disk old).right.moment r since.right_later ra))
+  now_since old Away P Q are since goes = absurd are
 
   -- The state stands now.
-  pub stands_so : (disks : Disks B D) (st : State) → ∥ IsUpOn generation end bank disk disks st ∥₁ → PairsNow (both bank disk disks) (StandsFor st)
-  stands_so disks st up left right l r =
-      ∥∥₁_map up (λ u. stands_now generation end bank disk honest_bank honest timed_bank timed disks st u left right l r)
+  pub stands_so : (disks : Disks B D) (st : State) → AreHonest honest_bank honest disks → ∥ IsKeptOn generation end bank disk honest_bank honest disks st ∥₁
+      → PairsNow (both bank disk disks) (StandsFor st)
+  stands_so disks st are kept left right l r =
+      ∥∥₁_map (up_for disks st are kept) (λ u. stands_now generation end bank disk honest_bank honest timed_bank timed disks st u left right l r)
+
+  pub stands_with : (disks : Disks B D) (st : State) (deeds : List Deed) → deeds ≡ [] → IsState st → AreHonest honest_bank honest disks
+      → ∥ IsKeptOn generation end bank disk honest_bank honest disks st ∥₁ → PairsNow (both bank disk disks) (IsWithOrWithout st deeds)
+  stands_with disks st deeds none is are kept left right l r =
+      ∥∥₁_map (stands_so disks st are kept left right l r)
+      (λ x. record { new = st; ranges = is; done = subst (λ ds. AreDone st ds st) (sym none) (none_done st is); stands = inl x })
+
+  -- A call that served this, and then put its deeds onto the bank in use, or could not.
+  pub served_since : (disks mid new : Disks B D) (old after : Store) (ms : List (ℕ × Message)) (told : Served) (before : State) → mid ≡ disks → before ≡ old.state
+      → IsServed old.state old.soft ms told after.state after.soft → AreHonest honest_bank honest disks
+      → (AreHonest honest_bank honest mid → PairsSince (both bank disk mid) (both bank disk new) (IsEither before after.state))
+      → PairsSince (both bank disk disks) (both bank disk new) (IsBeforeOrAfter old (comings ms))
+  served_since disks mid new old after ms told before same was served are put =
+      let since = subst (λ d. PairsSince (both bank disk d) (both bank disk new) (IsEither before after.state)) same (put (subst (AreHonest honest_bank honest) (sym same) are)) in
+      since_so (both bank disk disks) (both bank disk new) (IsEither before after.state) (IsBeforeOrAfter old (comings ms)) since
+      (λ left right e. before_or_after old after ms told served left right (subst (λ st. IsEither st after.state left right) was e))

@@ -13,8 +13,9 @@ use Rattle.linda_journal.specs.Bank.{IsSettled, IsNoneOrNew}
 use Rattle.linda_journal.specs.Renewal.{IsNoBank}
 use Rattle.linda_journal.proofs.BankLaws.{no_candidate}
 use Rattle.linda_snap.specs.Snapshot.{Parts, snapshot, spell_state, FitsState}
-use Rattle.linda_snap.specs.Stands.{IsUp}
+use Rattle.linda_snap.specs.Stands.{IsStored, IsUp}
 use Rattle.linda_server.specs.Pairs.{PairsSince, two, IsVoid}
+use Rattle.linda_server.specs.Disks.{IsKept}
 use Rattle.linda_server.specs.Calls.{IsNothingOr}
 
 -- An empty server's snapshot has 16 bytes.
@@ -88,6 +89,16 @@ made_up end used other fits settled shut = record {
 pub up_as : (generation end : ℕ) (used other : View) (st : State) → generation ≡ 1 → st ≡ empty_state → IsUp 1 end used other empty_state → IsUp generation end used other st
 up_as generation end used other st first same up =
     subst (λ s. IsUp generation end used other s) (sym same) (subst (λ g. IsUp g end used other empty_state) (sym first) up)
+
+pub kept_as : (is_used_honest is_other_honest : Type 0) (generation end : ℕ) (used other : View) (st : State) → generation ≡ 1 → st ≡ empty_state → FitsState empty_state
+    → (is_used_honest → IsSettled 1 (spell_state empty_state) [] end used) → (is_other_honest → IsShut [] 0 other) → IsKept is_used_honest is_other_honest generation end used other st
+kept_as is_used_honest is_other_honest generation end used other st first same fits settled shut = record {
+  stored = λ h.
+      subst (λ s. IsStored generation end used s) (sym same) (subst (λ g. IsStored g end used empty_state) (sym first)
+      (record { opening = empty_state; ranges = empty_is_state; fits = fits; records = []; settled = settled h; done = none_done empty_state empty_is_state }));
+  durable = λ h. (shut h).durable;
+  lesser = λ _ h. inl (no_candidate other.seen (shut h).file);
+}
 
 -- ---- runs
 

@@ -3,3 +3,4 @@ pub mod ServedLaws
 pub mod CallLaws
 pub mod EmptyLaws
 pub mod OpeningLaws
+mod ReopeningLaws

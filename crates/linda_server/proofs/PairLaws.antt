@@ -8,12 +8,12 @@ use Rattle.linda_disk.specs.View.{View, IsTimed}
 use Rattle.linda_disk.specs.Run.{LeavesOnly}
 use Rattle.linda_journal.specs.Bank.{IsSettled, IsOldOrMore}
 use Rattle.linda_snap.specs.Snapshot.{spell_state}
-use Rattle.linda_snap.specs.Stands.{deeds_in, StandsOn, IsLesser, IsInUse, Stands, IsUp}
+use Rattle.linda_snap.specs.Stands.{deeds_in, StandsOn, IsLesser, IsInUse, IsStored, Stands, IsUp}
 use Rattle.linda_server.specs.declared.disks.Disks.{Disks}
 use Rattle.linda_server.specs.declared.disks.Disks.TheVariants.{InUse, Shut, Away}
 use Rattle.linda_server.specs.declared.disks.Pair.{Pair}
 use Rattle.linda_server.specs.Pairs.{PairsSince, PairsNow}
-use Rattle.linda_server.specs.Disks.{sides, both, AreHonest, IsUpOn}
+use Rattle.linda_server.specs.Disks.{sides, both, AreHonest, IsUpOn, IsKept, IsKeptOn}
 use Rattle.linda_server.specs.Calls.{LeadTo, IsOldOrNew}
 
 -- ---- on one of two sides
@@ -52,11 +52,14 @@ beside_lesser generation end used other st up timed beside left =
 
 -- ---- one record more
 
+deeds_more : (opening : State) (records : List (List Deed)) (deeds : List Deed) (now : State) → AreDone opening (deeds_in records ++ deeds) now → AreDone opening (deeds_in (records ++ deeds ∷ [])) now
+deeds_more opening records deeds now =
+    subst (λ ds. AreDone opening ds now) (sym (flat_map-append (λ (ds : List Deed). ds) records (deeds ∷ []) ∙ ap (λ l. deeds_in records ++ l) (append-nil deeds)))
+
 module _ (generation end : ℕ) (used other : View) (st now : State) (deeds : List Deed) (up : IsUp generation end used other st) (leads : LeadTo st deeds now) where
   done_more : AreDone up.stored.opening (deeds_in (up.stored.records ++ deeds ∷ [])) now
   done_more =
-      subst (λ ds. AreDone up.stored.opening ds now)
-      (sym (flat_map-append (λ (ds : List Deed). ds) up.stored.records (deeds ∷ []) ∙ ap (λ l. deeds_in up.stored.records ++ l) (append-nil deeds)))
+      deeds_more up.stored.opening up.stored.records deeds now
       (leads up.stored.opening (deeds_in up.stored.records) up.stored.ranges up.stored.done)
 
   used_for : (image beside : List ℕ) → IsLesser generation beside → IsOldOrMore generation (spell_state up.stored.opening) up.stored.records deeds image → IsUsedFor st now image beside
@@ -78,33 +81,28 @@ module _ (generation end : ℕ) (used other : View) (st now : State) (deeds : Li
       (λ image beside l o. used_for image beside (beside_lesser generation end used other st up timed beside o) (run.each image l))
       (either_same st now) (either_turned st now)
 
-  up_more : (new_end : ℕ) (new : View) → IsSettled generation (spell_state up.stored.opening) (up.stored.records ++ deeds ∷ []) new_end new → IsUp generation new_end new other now
-  up_more new_end new settled = record {
-    stored = record {
-      opening = up.stored.opening;
-      ranges = up.stored.ranges;
-      fits = up.stored.fits;
-      records = up.stored.records ++ deeds ∷ [];
-      settled = settled;
-      done = done_more;
-    };
-    lesser = up.lesser;
-    durable = up.durable;
-  }
-
 -- No record more.
-pub up_same : (generation end : ℕ) (used other : View) (st now : State) → LeadTo st [] now → IsUp generation end used other st → IsUp generation end used other now
-up_same generation end used other st now leads up = record {
-  stored = record {
-    opening = up.stored.opening;
-    ranges = up.stored.ranges;
-    fits = up.stored.fits;
-    records = up.stored.records;
-    settled = up.stored.settled;
-    done = subst (λ ds. AreDone up.stored.opening ds now) (append-nil (deeds_in up.stored.records)) (leads up.stored.opening (deeds_in up.stored.records) up.stored.ranges up.stored.done);
-  };
-  lesser = up.lesser;
-  durable = up.durable;
+pub stored_same : (generation end : ℕ) (used : View) (st now : State) → LeadTo st [] now → IsStored generation end used st → IsStored generation end used now
+stored_same generation end used st now leads stored = record {
+  opening = stored.opening;
+  ranges = stored.ranges;
+  fits = stored.fits;
+  records = stored.records;
+  settled = stored.settled;
+  done = subst (λ ds. AreDone stored.opening ds now) (append-nil (deeds_in stored.records)) (leads stored.opening (deeds_in stored.records) stored.ranges stored.done);
+}
+
+-- One record more.
+pub stored_more : (generation end : ℕ) (used : View) (st now : State) (deeds : List Deed) → (stored : IsStored generation end used st) → LeadTo st deeds now
+    → (new_generation new_end : ℕ) (new : View) → new_generation ≡ generation → IsSettled new_generation (spell_state stored.opening) (stored.records ++ deeds ∷ []) new_end new
+    → IsStored new_generation new_end new now
+stored_more generation end used st now deeds stored leads new_generation new_end new same settled = record {
+  opening = stored.opening;
+  ranges = stored.ranges;
+  fits = stored.fits;
+  records = stored.records ++ deeds ∷ [];
+  settled = settled;
+  done = deeds_more stored.opening stored.records deeds now (leads stored.opening (deeds_in stored.records) stored.ranges stored.done);
 }
 
 -- What stands now.
@@ -156,11 +154,21 @@ module _ {B D : Type 0} (generation end : B → ℕ) (bank : B → View) (disk :
       let so = still disks st are up in
       record { left_later = so.left_later; right_later = so.right_later; each = λ left right l r. inl (so.each left right l r) }
 
-  pub up_still : (disks : Disks B D) (st now : State) (deeds : List Deed) → deeds ≡ [] → IsUpOn generation end bank disk disks st → LeadTo st deeds now → IsUpOn generation end bank disk disks now
-  up_still (InUse pair) st now deeds none up leads =
-      up_same (generation pair.bank) (end pair.bank) (bank pair.bank) (disk pair.other) st now (subst (λ ds. LeadTo st ds now) none leads) up
-  up_still (Shut left right) st now deeds none up leads = absurd up
-  up_still Away st now deeds none up leads = absurd up
+  -- What is known of honest disks.
+  pub up_of : (disks : Disks B D) (st : State) → IsKeptOn generation end bank disk honest_bank honest disks st → AreHonest honest_bank honest disks → IsUpOn generation end bank disk disks st
+  up_of (InUse pair) st kept are = record { stored = kept.stored are.0; lesser = kept.lesser are.0 are.1; durable = kept.durable are.1 }
+  up_of (Shut left right) st kept are = absurd kept
+  up_of Away st kept are = absurd kept
+
+  pub kept_still : (disks : Disks B D) (st now : State) (deeds : List Deed) → deeds ≡ [] → IsKeptOn generation end bank disk honest_bank honest disks st → LeadTo st deeds now
+      → IsKeptOn generation end bank disk honest_bank honest disks now
+  kept_still (InUse pair) st now deeds none kept leads = record {
+    stored = λ h. stored_same (generation pair.bank) (end pair.bank) (bank pair.bank) st now (subst (λ ds. LeadTo st ds now) none leads) (kept.stored h);
+    durable = kept.durable;
+    lesser = kept.lesser;
+  }
+  kept_still (Shut left right) st now deeds none kept leads = absurd kept
+  kept_still Away st now deeds none kept leads = absurd kept
 
   -- Deeds go onto the bank in use.
   pub put_on : (disks : Disks B D) (pair : Pair B D) (new : View) (deeds : List Deed) → disks ≡ InUse pair
@@ -175,18 +183,22 @@ module _ {B D : Type 0} (generation end : B → ℕ) (bank : B → View) (disk :
       (one_more (generation pair.bank) (end pair.bank) (bank pair.bank) (disk pair.other) st now deeds up_so leads pair.is_right new (timed pair.other are_so.1)
       (any_moment (spell_state up_so.stored.opening) up_so.stored.records are_so.0 up_so.stored.settled))
 
-  pub up_on : (disks : Disks B D) (pair : Pair B D) (new_generation new_end : ℕ) (new : View) (deeds : List Deed) → disks ≡ InUse pair → new_generation ≡ generation pair.bank
+  pub kept_on : (disks : Disks B D) (pair : Pair B D) (is_new_honest : Type 0) (new_generation new_end : ℕ) (new : View) (deeds : List Deed) → disks ≡ InUse pair → new_generation ≡ generation pair.bank
+      → (is_new_honest → honest_bank pair.bank)
       → ((body : List ℕ) (records : List (List Deed)) → honest_bank pair.bank → IsSettled (generation pair.bank) body records (end pair.bank) (bank pair.bank)
       → IsSettled new_generation body (records ++ deeds ∷ []) new_end new)
-      → (st now : State) → AreHonest honest_bank honest disks → IsUpOn generation end bank disk disks st → LeadTo st deeds now
-      → IsUp new_generation new_end new (disk pair.other) now
-  up_on disks pair new_generation new_end new deeds is same done st now are up leads =
-      let are_so : AreHonest honest_bank honest (InUse pair) = subst (AreHonest honest_bank honest) is are in
-      let up_so : IsUpOn generation end bank disk (InUse pair) st = subst (λ d. IsUpOn generation end bank disk d st) is up in
-      let settled = done (spell_state up_so.stored.opening) up_so.stored.records are_so.0 up_so.stored.settled in
-      subst (λ g. IsUp g new_end new (disk pair.other) now) (sym same)
-      (up_more (generation pair.bank) (end pair.bank) (bank pair.bank) (disk pair.other) st now deeds up_so leads new_end new
-      (subst (λ g. IsSettled g (spell_state up_so.stored.opening) (up_so.stored.records ++ deeds ∷ []) new_end new) same settled))
+      → (st now : State) → IsKeptOn generation end bank disk honest_bank honest disks st → LeadTo st deeds now
+      → IsKept is_new_honest (honest pair.other) new_generation new_end new (disk pair.other) now
+  kept_on disks pair is_new_honest new_generation new_end new deeds is same was done st now kept leads =
+      let so : IsKeptOn generation end bank disk honest_bank honest (InUse pair) st = subst (λ d. IsKeptOn generation end bank disk honest_bank honest d st) is kept in
+      record {
+        stored = λ h.
+            let stored = so.stored (was h) in
+            stored_more (generation pair.bank) (end pair.bank) (bank pair.bank) st now deeds stored leads new_generation new_end new same
+            (done (spell_state stored.opening) stored.records (was h) stored.settled);
+        durable = so.durable;
+        lesser = λ h o. subst (λ g. IsLesser g (disk pair.other).seen) (sym same) (so.lesser (was h) o);
+      }
 
 -- A list whose length is none is empty.
 pub none_of : (ds : List Deed) (b : Bool) → b ≡ (length ds == 0) → b ≡ true → ds ≡ []

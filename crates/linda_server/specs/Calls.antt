@@ -22,6 +22,20 @@ LeadTo st deeds new = (opening : State) (before : List Deed) → IsState opening
 abbrev pub IsOldOrNew : State → State → List ℕ → List ℕ → Type 0
 IsOldOrNew old new left right = Stands left right old ⊎ Stands left right new
 
+-- The same, of which is not said which.
+abbrev pub IsEither : State → State → List ℕ → List ℕ → Type 0
+IsEither old new left right = ∥ IsOldOrNew old new left right ∥₁
+
+-- These deeds may be done in the state of before, and they stand for that state, or for the one after them.
+pub record StandsAround (before : State) (deeds : List Deed) (left right : List ℕ) : Type 0 where
+  pub new : State
+  pub ranges : IsState before
+  pub done : AreDone before deeds new
+  pub stands : IsOldOrNew before new left right
+
+abbrev pub IsWithOrWithout : State → List Deed → List ℕ → List ℕ → Type 0
+IsWithOrWithout before deeds left right = ∥ StandsAround before deeds left right ∥₁
+
 -- They stand for the state after all that came.
 pub record StandsAfter (old : Store) (xs : List Coming) (left right : List ℕ) : Type 0 where
   pub all : History

@@ -1,9 +1,9 @@
 -- The two disks of a server: which is which, and the state that stands on them. What a bank and a
 -- disk say is handed in.
-use Rattle.std.specs.Prelude.{ℕ, ◌+◌, Bool, true, false, not, [], if◌then◌else◌, Option, Some, None}
+use Rattle.std.specs.Prelude.{◌≡◌, ℕ, ◌+◌, Bool, true, false, not, [], if◌then◌else◌, Option, Some, None}
 use Rattle.linda_state.specs.State.{State}
-use Rattle.linda_disk.specs.View.{View}
-use Rattle.linda_snap.specs.Stands.{IsUp}
+use Rattle.linda_disk.specs.View.{View, IsDurable}
+use Rattle.linda_snap.specs.Stands.{IsLesser, IsStored, IsUp}
 use Rattle.linda_server.specs.declared.disks.Disks.{Disks}
 use Rattle.linda_server.specs.declared.disks.Disks.TheVariants.{InUse, Shut, Away}
 use Rattle.linda_server.specs.Pairs.{Both}
@@ -68,3 +68,33 @@ IsUpOn generation end bank disk (InUse pair) st =
     IsUp (generation pair.bank) (end pair.bank) (bank pair.bank) (disk pair.other) st
 IsUpOn generation end bank disk (Shut left right) st = ⊥
 IsUpOn generation end bank disk Away st = ⊥
+
+-- What is known of a bank in use and of the other disk, each as far as the disks are honest: the bank stands for the
+-- state, a crash leaves the other disk as it reads, and that one holds a lesser bank or none.
+pub record IsKept (is_used_honest is_other_honest : Type 0) (generation end : ℕ) (used other : View)
+    (st : State) : Type 0 where
+  pub stored : is_used_honest → IsStored generation end used st
+  pub durable : is_other_honest → IsDurable other
+  pub lesser : is_used_honest → is_other_honest → IsLesser generation other.seen
+
+-- So it is of the bank in use and the other disk.
+abbrev pub IsKeptOn : {B D : Type 0} → (B → ℕ) → (B → ℕ) → (B → View) → (D → View) → (B → Type 0)
+    → (D → Type 0) → Disks B D → State → Type 0
+IsKeptOn generation end bank disk honest_bank honest (InUse pair) st =
+    IsKept (honest_bank pair.bank) (honest pair.other) (generation pair.bank) (end pair.bank) (bank pair.bank)
+    (disk pair.other) st
+IsKeptOn generation end bank disk honest_bank honest (Shut left right) st = ⊥
+IsKeptOn generation end bank disk honest_bank honest Away st = ⊥
+
+-- The same places hold what is related so.
+abbrev pub AreRelated : {B D : Type 0} → (B → B → Type 0) → (D → D → Type 0) → Disks B D → Disks B D → Type 0
+AreRelated bank disk (InUse old) (InUse new) =
+    bank old.bank new.bank × (disk old.other new.other × (new.is_right ≡ old.is_right))
+AreRelated bank disk (InUse old) (Shut left right) = ⊥
+AreRelated bank disk (InUse old) Away = ⊥
+AreRelated bank disk (Shut left right) (InUse new) = ⊥
+AreRelated bank disk (Shut left right) (Shut new_left new_right) = disk left new_left × disk right new_right
+AreRelated bank disk (Shut left right) Away = ⊥
+AreRelated bank disk Away (InUse new) = ⊥
+AreRelated bank disk Away (Shut left right) = ⊥
+AreRelated bank disk Away Away = Unit {0}

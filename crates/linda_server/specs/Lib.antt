@@ -3,3 +3,5 @@ pub mod Disks
 pub mod Served
 pub mod Calls
 pub mod Opening
+pub mod Node
+pub mod Reopening

@@ -7,7 +7,8 @@ ghost use Rattle.linda_step.specs.declared.size.TheConstants.{MAX_BATCH};
 ghost use Rattle.linda_server.specs.declared.limits.TheConstants.{RECORD_BYTES};
 ghost use Rattle.linda_server.specs.Pairs.{PairsSince};
 ghost use Rattle.linda_server.specs.Disks.{both, AreHonest, failures};
-ghost use Rattle.linda_server.specs.Disks.{is_there, is_ready, number_of, IsUpOn};
+ghost use Rattle.linda_server.specs.Disks.{is_there, is_ready, number_of};
+ghost use Rattle.linda_server.specs.Disks.{IsUpOn, IsKeptOn};
 ghost use Rattle.linda_server.specs.Calls.{LeadTo, IsOldOrNew};
 
 use crate::disks::{Disks, Pair};
@@ -41,12 +42,12 @@ pub(crate) fn commit<D: Disk>(
         → PairsSince (both (λ b. D.view b.disk) D.view disks.old)
         (both (λ b. D.view b.disk) D.view disks.new) (IsOldOrNew st new) }
     // at Ok they leave the latter.
-    ensures done { (st new : state.State)
-        → AreHonest (λ b. D.honest b.disk) D.honest disks.old
-        → IsUpOn (λ b. b.generation) (λ b. b.end) (λ b. D.view b.disk) D.view disks.old st
+    ensures kept { (st new : state.State)
+        → IsKeptOn (λ b. b.generation) (λ b. b.end) (λ b. D.view b.disk) D.view
+        (λ b. D.honest b.disk) D.honest disks.old st
         → LeadTo st deeds.now new
-        → OnOk result
-        (IsUpOn (λ b. b.generation) (λ b. b.end) (λ b. D.view b.disk) D.view disks.new new) }
+        → OnOk result (IsKeptOn (λ b. b.generation) (λ b. b.end) (λ b. D.view b.disk) D.view
+        (λ b. D.honest b.disk) D.honest disks.new new) }
     ensures there { is_there disks.old ≡ true → is_there disks.new ≡ true }
     ensures ready { OnOk result (is_ready (λ b. b.is_spent) disks.new ≡ true) }
     ensures limit { number_of (λ b. b.limit) disks.new ≡ number_of (λ b. b.limit) disks.old }

@@ -24,6 +24,14 @@ impl Served {
         let Served { sends, .. } = self;
         sends
     }
+
+    /// The changes of the state alone.
+    pub fn into_deeds(self) -> Vec<Deed>
+        ensures { result ≡ self.deeds }
+    {
+        let Served { deeds, .. } = self;
+        deeds
+    }
 }
 
 /// What one message led to.

@@ -10,6 +10,7 @@ use linda_disk::Disk;
 use linda_journal::{Bank, BankFault, lay_gate};
 use linda_step::Store;
 use std::alloc::Global;
+use std::snapshot::Snapshot;
 
 impl<D: Disk> Durable<D> {
     ghost use Rattle.std.specs.Prelude.{◌<◌, ◌↔◌, [], false, length, IfOk, IfErr};
@@ -73,16 +74,22 @@ impl<D: Disk> Durable<D> {
         }
         match Bank::create(alloc, left, 1, &body, limit) {
             Err((fault, left)) => Err((of_bank(fault), left, right)),
-            Ok(bank) => Ok(Durable {
-                store: Store::new(alloc),
-                disks: Disks::InUse(Pair {
-                    bank,
-                    other: right,
-                    is_right: false,
-                }),
-                limit,
-                down: false,
-            }),
+            Ok(bank) => {
+                let store = Store::new(alloc);
+                let before = Snapshot::of(store.state());
+                Ok(Durable {
+                    store,
+                    disks: Disks::InUse(Pair {
+                        bank,
+                        other: right,
+                        is_right: false,
+                    }),
+                    limit,
+                    down: false,
+                    before,
+                    lost: Vec::new(alloc),
+                })
+            }
         }
     }
 }

@@ -11,6 +11,7 @@ use linda_disk::Disk;
 use linda_snap::{ChoiceFault, Chosen, choose_bank};
 use linda_step::Store;
 use std::alloc::Global;
+use std::snapshot::Snapshot;
 
 impl<D: Disk> Durable<D> {
     ghost use Rattle.std.specs.Prelude.{◌<◌, ◌⊎◌, ◌↔◌, false, IfOk, IfErr};
@@ -78,8 +79,10 @@ impl<D: Disk> Durable<D> {
                     other,
                     is_right,
                 } = chosen;
+                let store = Store::from_state(alloc, state);
+                let before = Snapshot::of(store.state());
                 Ok(Durable {
-                    store: Store::from_state(alloc, state),
+                    store,
                     disks: Disks::InUse(Pair {
                         bank,
                         other,
@@ -87,6 +90,8 @@ impl<D: Disk> Durable<D> {
                     }),
                     limit,
                     down: false,
+                    before,
+                    lost: Vec::new(alloc),
                 })
             }
         }

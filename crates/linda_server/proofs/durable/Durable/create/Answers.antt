@@ -5,7 +5,7 @@ use Rattle.linda_journal.specs.Bank.{IsSettled}
 use Rattle.linda_step.specs.Store.{Store}
 use Rattle.linda_snap.specs.Stands.{IsUp}
 use Rattle.linda_server.proofs.PairLaws.{left_for}
-use Rattle.linda_server.proofs.EmptyLaws.{void_durable, void_seen, then_gate, then_bank, bank_made, made_up, up_as}
+use Rattle.linda_server.proofs.EmptyLaws.{void_durable, void_seen, then_gate, then_bank, bank_made, made_up, up_as, kept_as}
 use Rattle.linda_server.proofs.durable.Durable.create.Goals as goal
 
 pub returns-in-Err-create-clause-any_moment : goal.returns-in-Err-create-clause-any_moment
@@ -44,27 +44,16 @@ returns-clause-any_moment g c hl hr vl vr =
       tt,
     )
 
-pub invariant_of-result : goal.invariant_of-result
-invariant_of-result g c = record {
-  there = refl;
-  live = λ _. ap (λ (s : Store). s.is_spent) c.new.ensures;
-  ready = λ _. ap not c.in-Ok-create.ensures.new.3;
-  limited = λ _. c.in-Ok-create.ensures.new.1;
-  up = up_now;
-}
-  where
-    up_now : false ≡ false → g.D.Disk.honest c.in-Ok-create.bank.disk × g.D.Disk.honest c.lay_gate.new.disk
-        → ∥ IsUp c.in-Ok-create.bank.generation c.in-Ok-create.bank.end (g.D.Disk.view c.in-Ok-create.bank.disk) (g.D.Disk.view c.lay_gate.new.disk) c.new.result.state ∥₁
-    up_now _ are =
-        let same = c.deref.ensures.value ∙ c.in-Ok.ensures.bytes in
-        let view = g.D.Disk.view in
-        let left_so = c.in-Ok-create.ensures.honest.0.1 are.0 in
-        let right_so = c.lay_gate.ensures.honest.1 are.1 in
-        let settled = subst (λ body. IsSettled 1 body [] c.in-Ok-create.bank.end (view c.in-Ok-create.bank.disk)) same (c.in-Ok-create.ensures.done left_so) in
-        let shut = c.in_default-lay_gate.ensures.shut right_so in
-        let up = up_as c.in-Ok-create.bank.generation c.in-Ok-create.bank.end (view c.in-Ok-create.bank.disk) (view c.lay_gate.new.disk) c.new.result.state c.in-Ok-create.ensures.new.0 (ap (λ (s : Store). s.state) c.new.ensures)
-        (made_up c.in-Ok-create.bank.end (view c.in-Ok-create.bank.disk) (view c.lay_gate.new.disk) c.in-Ok.ensures.fits settled shut) in
-        ∣ up ∣₁
+pub invariant_of-result-clause-kept : goal.invariant_of-result-clause-kept
+invariant_of-result-clause-kept g c _ =
+    let same = c.deref.ensures.value ∙ c.in-Ok.ensures.bytes in
+    let view = g.D.Disk.view in
+    let st = c.new-store.result.state in
+    let empty : st ≡ empty_state = ap (λ (s : Store). s.state) c.new-store.ensures in
+    ∣ kept_as (g.D.Disk.honest c.in-Ok-create.bank.disk) (g.D.Disk.honest c.lay_gate.new.disk) c.in-Ok-create.bank.generation c.in-Ok-create.bank.end (view c.in-Ok-create.bank.disk) (view c.lay_gate.new.disk) st
+    c.in-Ok-create.ensures.new.0 empty c.in-Ok.ensures.fits
+    (λ h. subst (λ body. IsSettled 1 body [] c.in-Ok-create.bank.end (view c.in-Ok-create.bank.disk)) same (c.in-Ok-create.ensures.done (c.in-Ok-create.ensures.honest.0.1 h)))
+    (λ h. c.in_default-lay_gate.ensures.shut (c.lay_gate.ensures.honest.1 h)) ∣₁
 
 pub returns-clause-now : goal.returns-clause-now
 returns-clause-now g c are left right l r =

@@ -1,7 +1,7 @@
 -- The bank that was chosen is the one in use.
 use Rattle.std.proofs.Common.{◌∙◌, inl, inr, sym, ap, subst}
 use Rattle.linda_step.specs.Store.{Store}
-use Rattle.linda_snap.specs.Stands.{IsUp}
+use Rattle.linda_snap.specs.Stands.{IsStored, IsUp}
 use Rattle.linda_server.specs.Opening.{fault_of_choice}
 use Rattle.linda_server.proofs.PairLaws.{left_for, now_on_sides}
 use Rattle.linda_server.proofs.OpeningLaws.{leaves_no_other}
@@ -18,7 +18,7 @@ returns-in-Err-clause-only g c st hl hr limit stands = (
 
 pub returns-in-Ok-clause-only : goal.returns-in-Ok-clause-only
 returns-in-Ok-clause-only g c st hl hr limit stands =
-    (ap (λ (s : Store). s.state) c.from_state.ensures ∙ (c.in-Ok.ensures.only st hl hr stands).0, tt)
+    (ap (λ (s : Store). s.state) c.from_state-store.ensures ∙ (c.in-Ok.ensures.only st hl hr stands).0, tt)
 
 pub returns-in-Ok-clause-any_moment : goal.returns-in-Ok-clause-any_moment
 returns-in-Ok-clause-any_moment g c hl hr =
@@ -30,7 +30,19 @@ returns-in-Ok-clause-now g c are left right l r =
     let view = g.D.Disk.view in
     let x = c.in-Ok.chosen in
     let were = c.in-Ok.ensures.honest.0.1 are in
-    let st = c.from_state.result.state in
-    let same = ap (λ (s : Store). s.state) c.from_state.ensures in
+    let st = c.from_state-store.result.state in
+    let same = ap (λ (s : Store). s.state) c.from_state-store.ensures in
     let up = subst (λ s. IsUp x.bank.generation x.bank.end (view x.bank.disk) (view x.other) s) (sym same) (c.in-Ok.ensures.up were.0 were.1) in
     ∣ now_on_sides x.is_right (view x.bank.disk) (view x.other) st (left_for x.bank.generation x.bank.end (view x.bank.disk) (view x.other) st up) left right l r ∣₁
+
+pub invariant_of-result-clause-kept : goal.invariant_of-result-clause-kept
+invariant_of-result-clause-kept g c _ =
+    let x = c.in-Ok.chosen in
+    let view = g.D.Disk.view in
+    let st = c.from_state-store.result.state in
+    let same = ap (λ (s : Store). s.state) c.from_state-store.ensures in
+    ∣ record {
+      stored = λ h. subst (λ s. IsStored x.bank.generation x.bank.end (view x.bank.disk) s) (sym same) (c.in-Ok.ensures.stored h);
+      durable = c.in-Ok.ensures.durable;
+      lesser = λ hu ho. let were = c.in-Ok.ensures.honest.0.1 (hu, ho) in (c.in-Ok.ensures.up were.0 were.1).lesser;
+    } ∣₁

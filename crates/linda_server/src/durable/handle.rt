@@ -1,0 +1,152 @@
+//! What a node answers: messages of clients, and the leaving of one.
+
+ghost use Rattle.std.specs.Prelude.{◌≡◌, ◌∷◌, [], ◌≤◌, ◌↔◌, true, false, length};
+ghost use Rattle.std.specs.Prelude.{IfOk, OnOk, OnErr, IsErrOf};
+ghost use Rattle.linda_server.specs.Disks.{both, AreHonest, number_of};
+
+use super::Durable;
+use crate::fault::node_fault;
+use linda_disk::Disk;
+use linda_store::NodeFault;
+use linda_wire::{Message, Reply};
+use std::alloc::Global;
+
+impl<D: Disk> Durable<D> {
+    ghost use Rattle.linda_step.specs.Dispatch.{on_close};
+    ghost use Rattle.linda_step.specs.declared.size.TheConstants.{MAX_BATCH};
+    ghost use Rattle.linda_step.specs.History.{says, leaves, comings};
+    ghost use Rattle.linda_store.specs.Node.{MayRemain};
+    ghost use Rattle.linda_server.specs.Pairs.{PairsSince, PairsNow};
+    ghost use Rattle.linda_server.specs.Calls.{IsBeforeOrAfter, StandsFor, HasHandled, HasNoRoom};
+    ghost use Rattle.linda_server.specs.Node.{shown};
+
+    /// Takes one message of a client. What is answered goes to the clients named beside each reply,
+    /// in order.
+    ///
+    /// # Errors
+    ///
+    /// `Full`, and nothing changed; `Down`: the server is down, and all that the message asks is
+    /// done or nothing.
+    pub fn handle(
+        &mut self,
+        alloc: Global,
+        client: u32,
+        message: &Message,
+    ) -> Result<Vec<(u32, Reply)>, NodeFault>
+        ensures any_moment { self.old.down ≡ false
+            → AreHonest (λ b. D.honest b.disk) D.honest self.old.disks
+            → PairsSince (both (λ b. D.view b.disk) D.view self.old.disks)
+            (both (λ b. D.view b.disk) D.view self.new.disks)
+            (IsBeforeOrAfter self.old.store (says client message.now ∷ [])) }
+        ensures done { IfOk result (λ sends. HasHandled self.old.store
+            (says client message.now ∷ []) sends.items self.new.store) }
+        ensures now { OnOk result (AreHonest (λ b. D.honest b.disk) D.honest self.new.disks
+            → PairsNow (both (λ b. D.view b.disk) D.view self.new.disks)
+            (StandsFor self.new.store.state)) }
+        ensures up { OnOk result ((self.old.down ≡ false) × (self.new.down ≡ false)) }
+        ensures full { IsErrOf result NodeFault.Full → (self.new ≡ self.old)
+            × HasNoRoom self.old.store ((client, message.now) ∷ [])
+            (number_of (λ b. b.end) self.old.disks) self.old.limit }
+        ensures room { OnOk result (HasNoRoom self.old.store ((client, message.now) ∷ [])
+            (number_of (λ b. b.end) self.old.disks) self.old.limit → ⊥) }
+        ensures down { IsErrOf result NodeFault.Down → self.new.down ≡ true }
+        ensures stays_down { self.old.down ≡ true
+            → IsErrOf result NodeFault.Down × (self.new ≡ self.old) }
+        ensures honest { AreHonest (λ b. D.honest b.disk) D.honest self.old.disks
+            ↔ AreHonest (λ b. D.honest b.disk) D.honest self.new.disks }
+        ensures limit { self.new.limit ≡ self.old.limit }
+        ensures lost { self.old.down ≡ false → self.new.down ≡ true → MayRemain
+            (shown self.old.before.value self.old.store self.old.down self.old.lost.items)
+            (says client message.now ∷ []) self.new.lost.items }
+        ensures before { self.old.down ≡ false → self.new.down ≡ true
+            → self.new.before.value ≡ self.old.store.state }
+    {
+        match self.serve(alloc, client, message) {
+            Ok(served) => Ok(served.into_sends()),
+            Err(fault) => Err(node_fault(fault)),
+        }
+    }
+
+    /// Takes several messages, at most 64, each of its client, one after another; what is answered
+    /// comes when all of them were taken.
+    ///
+    /// # Errors
+    ///
+    /// As those of `handle`.
+    pub fn handle_all(
+        &mut self,
+        alloc: Global,
+        messages: &[(u32, Message)],
+    ) -> Result<Vec<(u32, Reply)>, NodeFault>
+        requires { length messages.now ≤ MAX_BATCH }
+        ensures any_moment { self.old.down ≡ false
+            → AreHonest (λ b. D.honest b.disk) D.honest self.old.disks
+            → PairsSince (both (λ b. D.view b.disk) D.view self.old.disks)
+            (both (λ b. D.view b.disk) D.view self.new.disks)
+            (IsBeforeOrAfter self.old.store (comings messages.now)) }
+        ensures done { IfOk result (λ sends. HasHandled self.old.store (comings messages.now)
+            sends.items self.new.store) }
+        ensures now { OnOk result (AreHonest (λ b. D.honest b.disk) D.honest self.new.disks
+            → PairsNow (both (λ b. D.view b.disk) D.view self.new.disks)
+            (StandsFor self.new.store.state)) }
+        ensures up { OnOk result ((self.old.down ≡ false) × (self.new.down ≡ false)) }
+        ensures full { IsErrOf result NodeFault.Full → (self.new ≡ self.old)
+            × HasNoRoom self.old.store messages.now
+            (number_of (λ b. b.end) self.old.disks) self.old.limit }
+        ensures room { OnOk result (HasNoRoom self.old.store messages.now
+            (number_of (λ b. b.end) self.old.disks) self.old.limit → ⊥) }
+        ensures down { IsErrOf result NodeFault.Down → self.new.down ≡ true }
+        ensures stays_down { self.old.down ≡ true
+            → IsErrOf result NodeFault.Down × (self.new ≡ self.old) }
+        ensures honest { AreHonest (λ b. D.honest b.disk) D.honest self.old.disks
+            ↔ AreHonest (λ b. D.honest b.disk) D.honest self.new.disks }
+        ensures limit { self.new.limit ≡ self.old.limit }
+        ensures lost { self.old.down ≡ false → self.new.down ≡ true → MayRemain
+            (shown self.old.before.value self.old.store self.old.down self.old.lost.items)
+            (comings messages.now) self.new.lost.items }
+        ensures before { self.old.down ≡ false → self.new.down ≡ true
+            → self.new.before.value ≡ self.old.store.state }
+    {
+        match self.serve_all(alloc, messages) {
+            Ok(served) => Ok(served.into_sends()),
+            Err(fault) => Err(node_fault(fault)),
+        }
+    }
+
+    /// Gives up all that the client asked, as its leaving does. No device call is made.
+    ///
+    /// # Errors
+    ///
+    /// `Down` where it was down, and then nothing changed; or memory ran out: the server is down.
+    pub fn close(&mut self, alloc: Global, client: u32) -> Result<Vec<(u32, Reply)>, NodeFault>
+        ensures any_moment { self.old.down ≡ false
+            → AreHonest (λ b. D.honest b.disk) D.honest self.old.disks
+            → PairsSince (both (λ b. D.view b.disk) D.view self.old.disks)
+            (both (λ b. D.view b.disk) D.view self.new.disks) (StandsFor self.old.store.state) }
+        ensures done { IfOk result (λ sends.
+            record { sends = sends.items; soft = self.new.store.soft }
+            ≡ on_close self.old.store.state.bag client self.old.store.soft) }
+        ensures same { (self.new.store.state ≡ self.old.store.state)
+            × (self.new.disks ≡ self.old.disks) × (self.new.limit ≡ self.old.limit) }
+        ensures up { OnOk result ((self.old.down ≡ false) × (self.new.down ≡ false)) }
+        ensures down { IsErrOf result NodeFault.Down → self.new.down ≡ true }
+        ensures stays_down { self.old.down ≡ true
+            → IsErrOf result NodeFault.Down × (self.new ≡ self.old) }
+        ensures never_full { IsErrOf result NodeFault.Full → ⊥ }
+        ensures lost { self.old.down ≡ false → self.new.down ≡ true → MayRemain
+            (shown self.old.before.value self.old.store self.old.down self.old.lost.items)
+            (leaves client ∷ []) self.new.lost.items }
+        ensures before { self.old.down ≡ false → self.new.down ≡ true
+            → self.new.before.value ≡ self.old.store.state }
+    {
+        if self.down {
+            return Err(NodeFault::Down);
+        }
+        self.begin();
+        let Ok(sends) = self.store.close(alloc, client) else {
+            return Err(NodeFault::Down);
+        };
+        self.down = false;
+        Ok(sends)
+    }
+}

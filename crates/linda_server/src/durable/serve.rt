@@ -1,0 +1,246 @@
+//! Serving messages: judged, done, and put onto the bank in use before anything is answered.
+
+ghost use Rattle.std.specs.Prelude.{◌≡◌, ◌∷◌, [], ◌<◌, ◌≤◌, ◌+◌, ◌^◌, ◌⊎◌, ◌↔◌};
+ghost use Rattle.std.specs.Prelude.{true, false, length, IfOk, OnOk, OnErr, IsErrOf};
+ghost use Rattle.linda_server.specs.declared.limits.TheConstants.{RECORD_BYTES};
+ghost use Rattle.linda_server.specs.Disks.{both, AreHonest, failures};
+ghost use Rattle.linda_server.specs.Disks.{is_ready, number_of, IsKeptOn};
+
+use super::Durable;
+use crate::commit::commit;
+use crate::fault::ServeFault;
+use crate::limits::RECORD_BYTES;
+use crate::served::Served;
+use crate::serving::{serve_each, serve_one};
+use linda_disk::Disk;
+use linda_wire::Message;
+use std::alloc::Global;
+use std::snapshot::Snapshot;
+
+impl<D: Disk> Durable<D> {
+    ghost use Rattle.linda_state.specs.State.{IsState};
+    ghost use Rattle.linda_state.specs.DeedFormat.{payload};
+    ghost use Rattle.linda_step.specs.declared.size.TheConstants.{MAX_BATCH};
+    ghost use Rattle.linda_step.specs.History.{says, comings};
+    ghost use Rattle.linda_store.specs.Node.{MayRemain};
+    ghost use Rattle.linda_server.specs.Pairs.{PairsSince, PairsNow};
+    ghost use Rattle.linda_server.specs.Served.{IsServed};
+    ghost use Rattle.linda_server.specs.Calls.{LeadTo, IsEither};
+    ghost use Rattle.linda_server.specs.Calls.{IsBeforeOrAfter, StandsFor, HasNoRoom};
+    ghost use Rattle.linda_server.specs.Node.{shown};
+
+    /// Does what the messages ask, one after another, each of its client, and tells for each of
+    /// them which deed it did and what is sent. All deeds come onto the bank in use as one record;
+    /// where there are none, no device call is made.
+    ///
+    /// # Errors
+    ///
+    /// `Down`, then `Full`: nothing changed. `Disk` where the device failed, and `Memory`: the
+    /// server is down, nothing is to be sent, and all of the deeds are done or none.
+    pub fn serve_all(
+        &mut self,
+        alloc: Global,
+        messages: &[(u32, Message)],
+    ) -> Result<Served, ServeFault>
+        requires { length messages.now ≤ MAX_BATCH }
+        // At no moment crashes leave anything but the state of before, or the one after all deeds;
+        ensures any_moment { self.old.down ≡ false
+            → AreHonest (λ b. D.honest b.disk) D.honest self.old.disks
+            → PairsSince (both (λ b. D.view b.disk) D.view self.old.disks)
+            (both (λ b. D.view b.disk) D.view self.new.disks)
+            (IsBeforeOrAfter self.old.store (comings messages.now)) }
+        // at Ok it did what they ask, and crashes now leave the state after that.
+        ensures done { IfOk result (λ served. IsServed self.old.store.state self.old.store.soft
+            messages.now served self.new.store.state self.new.store.soft) }
+        ensures now { OnOk result (AreHonest (λ b. D.honest b.disk) D.honest self.new.disks
+            → PairsNow (both (λ b. D.view b.disk) D.view self.new.disks)
+            (StandsFor self.new.store.state)) }
+        ensures up { OnOk result ((self.old.down ≡ false) × (self.new.down ≡ false)) }
+        // It is Full exactly where the record of the deeds, and the gate behind it, would pass the
+        // limit; nothing changed then.
+        ensures full { IsErrOf result ServeFault.Full → (self.new ≡ self.old)
+            × HasNoRoom self.old.store messages.now
+            (number_of (λ b. b.end) self.old.disks) self.old.limit }
+        ensures room { OnOk result (HasNoRoom self.old.store messages.now
+            (number_of (λ b. b.end) self.old.disks) self.old.limit → ⊥) }
+        // It is down exactly where it was, and goes down only where a device failed or memory ran
+        // out.
+        ensures was_down { IsErrOf result ServeFault.Down ↔ (self.old.down ≡ true) }
+        ensures stays_down { self.old.down ≡ true → self.new ≡ self.old }
+        ensures goes_down { (IsErrOf result ServeFault.Disk → self.new.down ≡ true)
+            × (IsErrOf result ServeFault.Memory → self.new.down ≡ true) }
+        ensures cause { IsErrOf result ServeFault.Disk
+            → failures (λ b. D.failures b.disk) D.failures self.old.disks
+            < failures (λ b. D.failures b.disk) D.failures self.new.disks }
+        ensures honest { AreHonest (λ b. D.honest b.disk) D.honest self.old.disks
+            ↔ AreHonest (λ b. D.honest b.disk) D.honest self.new.disks }
+        ensures limit { self.new.limit ≡ self.old.limit }
+        // In the call in which it goes down, some first deeds of what came may be done.
+        ensures lost { self.old.down ≡ false → self.new.down ≡ true → MayRemain
+            (shown self.old.before.value self.old.store self.old.down self.old.lost.items)
+            (comings messages.now) self.new.lost.items }
+        ensures before { self.old.down ≡ false
+            → IsErrOf result ServeFault.Full ⊎ (self.new.before.value ≡ self.old.store.state) }
+    {
+        let size = self.store.size_of(messages);
+        self.admit(size)?;
+        self.begin();
+        let Ok(served) = serve_each(&mut self.store, alloc, messages) else {
+            return Err(ServeFault::Memory);
+        };
+        self.settle(alloc, served)
+    }
+
+    /// Does what the message of the client asks, as `serve_all` does of several.
+    ///
+    /// # Errors
+    ///
+    /// As those of `serve_all`.
+    pub fn serve(
+        &mut self,
+        alloc: Global,
+        client: u32,
+        message: &Message,
+    ) -> Result<Served, ServeFault>
+        ensures any_moment { self.old.down ≡ false
+            → AreHonest (λ b. D.honest b.disk) D.honest self.old.disks
+            → PairsSince (both (λ b. D.view b.disk) D.view self.old.disks)
+            (both (λ b. D.view b.disk) D.view self.new.disks)
+            (IsBeforeOrAfter self.old.store (says client message.now ∷ [])) }
+        ensures done { IfOk result (λ served. IsServed self.old.store.state self.old.store.soft
+            ((client, message.now) ∷ []) served self.new.store.state self.new.store.soft) }
+        ensures now { OnOk result (AreHonest (λ b. D.honest b.disk) D.honest self.new.disks
+            → PairsNow (both (λ b. D.view b.disk) D.view self.new.disks)
+            (StandsFor self.new.store.state)) }
+        ensures up { OnOk result ((self.old.down ≡ false) × (self.new.down ≡ false)) }
+        ensures full { IsErrOf result ServeFault.Full → (self.new ≡ self.old)
+            × HasNoRoom self.old.store ((client, message.now) ∷ [])
+            (number_of (λ b. b.end) self.old.disks) self.old.limit }
+        ensures room { OnOk result (HasNoRoom self.old.store ((client, message.now) ∷ [])
+            (number_of (λ b. b.end) self.old.disks) self.old.limit → ⊥) }
+        ensures was_down { IsErrOf result ServeFault.Down ↔ (self.old.down ≡ true) }
+        ensures stays_down { self.old.down ≡ true → self.new ≡ self.old }
+        ensures goes_down { (IsErrOf result ServeFault.Disk → self.new.down ≡ true)
+            × (IsErrOf result ServeFault.Memory → self.new.down ≡ true) }
+        ensures cause { IsErrOf result ServeFault.Disk
+            → failures (λ b. D.failures b.disk) D.failures self.old.disks
+            < failures (λ b. D.failures b.disk) D.failures self.new.disks }
+        ensures honest { AreHonest (λ b. D.honest b.disk) D.honest self.old.disks
+            ↔ AreHonest (λ b. D.honest b.disk) D.honest self.new.disks }
+        ensures limit { self.new.limit ≡ self.old.limit }
+        // In the call in which it goes down, some first deeds of what came may be done.
+        ensures lost { self.old.down ≡ false → self.new.down ≡ true → MayRemain
+            (shown self.old.before.value self.old.store self.old.down self.old.lost.items)
+            (says client message.now ∷ []) self.new.lost.items }
+        ensures before { self.old.down ≡ false
+            → IsErrOf result ServeFault.Full ⊎ (self.new.before.value ≡ self.old.store.state) }
+    {
+        let size = self.store.size_of_one(client, message);
+        self.admit(size)?;
+        self.begin();
+        let Ok(served) = serve_one(&mut self.store, alloc, client, message) else {
+            return Err(ServeFault::Memory);
+        };
+        self.settle(alloc, served)
+    }
+
+    // Whether it may do deeds of this size.
+    fn admit(&self, size: u64) -> Result<(), ServeFault>
+        ensures was_down { IsErrOf result ServeFault.Down ↔ (self.now.down ≡ true) }
+        ensures full { IsErrOf result ServeFault.Full → (0 < size)
+            × (self.now.limit < number_of (λ b. b.end) self.now.disks + RECORD_BYTES + size) }
+        ensures room { OnOk result (0 < size
+            → number_of (λ b. b.end) self.now.disks + RECORD_BYTES + size ≤ self.now.limit) }
+        ensures known { (IsErrOf result ServeFault.Disk → ⊥)
+            × (IsErrOf result ServeFault.Memory → ⊥) }
+    {
+        if self.down {
+            return Err(ServeFault::Down);
+        }
+        if !has_room(self.limit, self.disks.end(), size) {
+            return Err(ServeFault::Full);
+        }
+        Ok(())
+    }
+
+    /// Begins a call. Until it ends well the server counts as down, in the state of before.
+    pub(super) fn begin(&mut self)
+        requires { self.old.down ≡ false }
+        ensures down { self.new.down ≡ true }
+        ensures before { self.new.before.value ≡ self.old.store.state }
+        ensures same { (self.new.store ≡ self.old.store) × (self.new.disks ≡ self.old.disks)
+            × (self.new.limit ≡ self.old.limit) × (self.new.lost.items ≡ []) }
+        // What the type keeps of a server that is up is not lost.
+        ensures live { self.new.store.is_spent ≡ false }
+        ensures ranges { IsState self.new.store.state }
+        ensures ready { is_ready (λ b. b.is_spent) self.new.disks ≡ true }
+        ensures limited { number_of (λ b. b.limit) self.new.disks ≡ self.new.limit }
+        ensures kept { ∥ IsKeptOn (λ b. b.generation) (λ b. b.end)
+            (λ b. D.view b.disk) D.view (λ b. D.honest b.disk) D.honest
+            self.new.disks self.old.store.state ∥₁ }
+    {
+        self.before = Snapshot::of(self.store.state());
+        self.down = true;
+    }
+
+    // Ends a call that served this: puts the deeds onto the bank in use.
+    fn settle(&mut self, alloc: Global, served: Served) -> Result<Served, ServeFault>
+        requires down { self.old.down ≡ true }
+        requires none_lost { self.old.lost.items ≡ [] }
+        requires live { self.old.store.is_spent ≡ false }
+        requires ranges { IsState self.old.before.value }
+        requires ready { is_ready (λ b. b.is_spent) self.old.disks ≡ true }
+        requires limited { number_of (λ b. b.limit) self.old.disks ≡ self.old.limit }
+        requires kept { ∥ IsKeptOn (λ b. b.generation) (λ b. b.end)
+            (λ b. D.view b.disk) D.view (λ b. D.honest b.disk) D.honest
+            self.old.disks self.old.before.value ∥₁ }
+        requires leads { LeadTo self.old.before.value served.deeds.items self.old.store.state }
+        requires few { length served.deeds.items ≤ MAX_BATCH }
+        requires room { 0 < length served.deeds.items
+            → number_of (λ b. b.end) self.old.disks + RECORD_BYTES
+            + length (payload served.deeds.items) ≤ self.old.limit }
+        ensures any_moment { AreHonest (λ b. D.honest b.disk) D.honest self.old.disks
+            → PairsSince (both (λ b. D.view b.disk) D.view self.old.disks)
+            (both (λ b. D.view b.disk) D.view self.new.disks)
+            (IsEither self.old.before.value self.old.store.state) }
+        ensures done { IfOk result (λ s. s ≡ served) }
+        ensures up { OnOk result (self.new.down ≡ false) }
+        ensures fault { OnErr result (self.new.down ≡ true) }
+        ensures lost { OnErr result (self.new.lost.items ≡ served.deeds.items) }
+        ensures known { (IsErrOf result ServeFault.Full → ⊥)
+            × (IsErrOf result ServeFault.Down → ⊥) }
+        ensures same { (self.new.store ≡ self.old.store) × (self.new.limit ≡ self.old.limit)
+            × (self.new.before.value ≡ self.old.before.value) }
+        ensures cause { IsErrOf result ServeFault.Disk
+            → failures (λ b. D.failures b.disk) D.failures self.old.disks
+            < failures (λ b. D.failures b.disk) D.failures self.new.disks }
+        ensures honest { AreHonest (λ b. D.honest b.disk) D.honest self.old.disks
+            ↔ AreHonest (λ b. D.honest b.disk) D.honest self.new.disks }
+    {
+        match commit(&mut self.disks, alloc, &served.deeds) {
+            Ok(()) => {
+                self.down = false;
+                Ok(served)
+            }
+            Err(fault) => {
+                self.lost = served.into_deeds();
+                Err(fault)
+            }
+        }
+    }
+}
+
+// Whether a record of deeds of this size, and the gate behind it, keep within the limit, where
+// there are deeds.
+fn has_room(limit: usize, end: usize, size: u64) -> bool
+    ensures yes { result ≡ true → 0 < size → end + RECORD_BYTES + size ≤ limit }
+    ensures no { result ≡ false → (0 < size) × (limit < end + RECORD_BYTES + size) }
+{
+    if size == 0 {
+        return true;
+    }
+    let Some(start) = end.checked_add(RECORD_BYTES) else {
+        return false;
+    };
+    start <= limit && size <= (limit - start) as u64
+}
