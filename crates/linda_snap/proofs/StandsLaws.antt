@@ -40,6 +40,10 @@ heading_of file generation body records bank = (bank.low, bank.fits, (is_candida
 pub stands_on : (generation end : ℕ) (v : View) (st : State) → IsStored generation end v st → StandsOn v.seen generation st
 stands_on generation end v st stored = record { opening = stored.opening; ranges = stored.ranges; fits = stored.fits; records = stored.records; bank = stored.settled.file; done = stored.done }
 
+-- So is a new bank whose body is a snapshot of the state.
+pub new_stored : (generation end : ℕ) (v : View) (st : State) → IsState st → FitsState st → IsSettled generation (spell_state st) [] end v → IsStored generation end v st
+new_stored generation end v st ranges fits settled = record { opening = st; ranges = ranges; fits = fits; records = []; settled = settled; done = none_done st ranges }
+
 module _ (generation end : ℕ) (used other : View) (st : State) (up : IsUp generation end used other st) where
   on_used : StandsOn used.seen generation st
   on_used = stands_on generation end used st up.stored
@@ -71,7 +75,7 @@ module _ (generation end : ℕ) (used other : View) (st : State) (up : IsUp gene
   -- and once it is one.
   pub switched : (new_end : ℕ) (new : View) → IsState st → FitsState st → IsSettled (generation + 1) (spell_state st) [] new_end new → IsUp (generation + 1) new_end new used st
   switched new_end new ranges fits settled = record {
-    stored = record { opening = st; ranges = ranges; fits = fits; records = []; settled = settled; done = none_done st ranges };
+    stored = new_stored (generation + 1) new_end new st ranges fits settled;
     lesser = lesser_next;
     durable = up.stored.settled.durable;
   }

@@ -105,8 +105,11 @@ pub fn choose_bank<B: Bag, D: Disk>(
         × IfErr result (λ e. LeavesOnly (D.view left) (D.view e.1) (D.view left).may_leave
         × LeavesOnly (D.view right) (D.view e.2) (D.view right).may_leave) }
     ensures new { IfOk result (λ c. (c.bank.limit ≡ limit) × (c.bank.is_spent ≡ false)) }
-    // The state is in its ranges, and a crash leaves of the other disk what a read gives.
+    // The state is in its ranges; the bank that was chosen stands for it on its own disk, whatever the other one is;
+    // and a crash leaves of the other disk what a read gives.
     ensures ranges { IfOk result (λ c. IsState c.state) }
+    ensures stored { IfOk result (λ c. D.honest c.bank.disk
+        → IsStored c.bank.generation c.bank.end (D.view c.bank.disk) c.state) }
     ensures durable { IfOk result (λ c. D.honest c.other → IsDurable (D.view c.other)) }
     ensures honest { IfOk result (λ c. (D.honest left × D.honest right)
         ↔ (D.honest c.bank.disk × D.honest c.other))
@@ -142,6 +145,8 @@ fn choose_among<B: Bag, D: Disk>(
         × LeavesOnly (D.view right) (D.view e.2) (D.view right).may_leave) }
     ensures new { IfOk result (λ c. (c.bank.limit ≡ limit) × (c.bank.is_spent ≡ false)) }
     ensures ranges { IfOk result (λ c. IsState c.state) }
+    ensures stored { IfOk result (λ c. D.honest c.bank.disk
+        → IsStored c.bank.generation c.bank.end (D.view c.bank.disk) c.state) }
     ensures durable { IfOk result (λ c. D.honest c.other → IsDurable (D.view c.other)) }
     ensures honest { IfOk result (λ c. (D.honest left × D.honest right)
         ↔ (D.honest c.bank.disk × D.honest c.other))

@@ -9,7 +9,7 @@ ghost use Rattle.linda_journal.specs.declared.kinds.TheConstants.{CLOSED};
 ghost use Rattle.linda_journal.specs.declared.limits.TheConstants.{MIN_BYTES};
 ghost use Rattle.linda_journal.specs.Bank.{behind_gate, IsSettled};
 ghost use Rattle.linda_snap.specs.Snapshot.{spell_state, FitsState};
-ghost use Rattle.linda_snap.specs.Stands.{IsUp, StandsBeside};
+ghost use Rattle.linda_snap.specs.Stands.{IsStored, IsUp, StandsBeside};
 ghost use Rattle.linda_snap.specs.Switch.{IsOldNoneOrNew, fault_of_disk};
 
 use crate::putting::{put_state, room_after};
@@ -76,6 +76,9 @@ pub fn switch<B: Bag, D: Disk>(
     ensures done { D.honest current.disk → D.honest other
         → IsUp current.generation current.end (D.view current.disk) (D.view other) state.now
         → IfOk result (λ x. IsUp x.0.generation x.0.end (D.view x.0.disk) (D.view x.1) state.now) }
+    // It stands for it on its own disk, whatever the disk is that was in use.
+    ensures stored { IfOk result (λ x. D.honest x.0.disk
+        → IsStored x.0.generation x.0.end (D.view x.0.disk) state.now) }
     ensures new { IfOk result (λ x. (x.0.generation ≡ current.generation + 1)
         × (x.0.limit ≡ current.limit) × (x.0.records ≡ 0) × (x.0.is_spent ≡ false)) }
     // The disk that was in use is not touched.

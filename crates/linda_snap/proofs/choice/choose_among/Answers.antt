@@ -76,3 +76,9 @@ returns-in-Ok-open_file-clause-up g c left right =
     let there = c.in-Ok-false.ensures.right_seen right in
     let up = up_left l r c.in-Ok-open_file.bank.generation c.in-Ok-open_file.bank.end v w c.in-Ok-open_file.state is (c.in-Ok-open_file.ensures.found still) here there (c.in-Ok-false.ensures.right_durable right) in
     up
+
+pub returns-in-Ok-clause-stored : goal.returns-in-Ok-clause-stored
+returns-in-Ok-clause-stored g c honest = c.in-Ok.ensures.found (c.in-Ok.ensures.honest.0.1 honest)
+
+pub returns-in-Ok-open_file-clause-stored : goal.returns-in-Ok-open_file-clause-stored
+returns-in-Ok-open_file-clause-stored g c honest = c.in-Ok-open_file.ensures.found (c.in-Ok-open_file.ensures.honest.0.1 honest)

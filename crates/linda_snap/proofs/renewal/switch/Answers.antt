@@ -4,7 +4,7 @@ use Rattle.linda_journal.specs.Bank.{IsSettled}
 use Rattle.linda_snap.specs.Snapshot.{spell_state}
 use Rattle.linda_snap.specs.Stands.{IsUp}
 use Rattle.linda_snap.specs.Switch.{IsOldNoneOrNew}
-use Rattle.linda_snap.proofs.StandsLaws.{stays_so, switching, switched}
+use Rattle.linda_snap.proofs.StandsLaws.{stays_so, switching, switched, new_stored}
 use Rattle.linda_snap.proofs.renewal.switch.Goals as goal
 
 pub returns-then-not-has_room-clause-any_moment : goal.returns-then-not-has_room-clause-any_moment
@@ -56,3 +56,13 @@ returns-clause-any_moment g c used honest up =
       switching c.args.current.generation c.args.current.end (g.D.Disk.view c.args.current.disk) (g.D.Disk.view c.args.other) st up (g.D.Disk.view c.in-Err.other) c.requires.ranges c.in-Ok.ensures.fits
           (subst (λ n. LeavesOnly (g.D.Disk.view c.args.other) (g.D.Disk.view c.in-Err.other) (IsOldNoneOrNew (g.D.Disk.view c.args.other).seen n (spell_state st))) next (c.in-Err.ensures.any_moment (spell_state st) short bytes honest).1),
     )
+
+pub returns-in-Ok-renew-clause-stored : goal.returns-in-Ok-renew-clause-stored
+returns-in-Ok-renew-clause-stored g c honest =
+    let st = c.args.state.now in
+    let room = c.if-not-has_room.ensures.yes (search rules) in
+    let short : length (spell_state st) < 2 ^ 32 = omega (arith, room, c.limit-limit.ensures, c.requires.short) in
+    let bytes = c.deref.ensures.value ∙ c.in-Ok.ensures.bytes in
+    let bank = c.in-Ok-renew.bank in
+    new_stored bank.generation bank.end (g.D.Disk.view bank.disk) st c.requires.ranges c.in-Ok.ensures.fits
+    (subst (λ n. IsSettled n (spell_state st) [] bank.end (g.D.Disk.view bank.disk)) (sym c.in-Ok-renew.ensures.new.0) (c.in-Ok-renew.ensures.done (spell_state st) short bytes (c.in-Ok-renew.ensures.honest.0.1 honest)))
