@@ -4,3 +4,5 @@ pub mod CallLaws
 pub mod EmptyLaws
 pub mod OpeningLaws
 mod ReopeningLaws
+pub mod NodeLaws
+pub mod FallenLaws

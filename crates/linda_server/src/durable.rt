@@ -1,6 +1,7 @@
 //! A server whose deeds are on a disk before it answers.
 
 mod create;
+mod fall;
 mod handle;
 mod open;
 mod serve;

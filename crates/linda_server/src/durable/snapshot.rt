@@ -1,5 +1,6 @@
 //! TEMPORARY
 ghost use Rattle.std.specs.Prelude.{◌≡◌, [], true, false, OnOk, IsErrOf};
+
 use super::Durable;
 use linda_disk::Disk;
 use linda_store::NodeFault;
