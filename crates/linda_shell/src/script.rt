@@ -13,8 +13,9 @@ ghost use Rattle.linda_run.specs.Reached.{IsUnused};
 use command::{Command, read_command};
 pub use fault::{LineFault, ScriptFault};
 use linda_client::ClientFault;
-use linda_disk::Torn;
-use linda_store::{Node, Volatile};
+use linda_disk::{MemDisk, Torn};
+use linda_server::Durable;
+use linda_store::Node;
 use linda_world::{Seen, World, WorldEvent, WorldFault};
 use listing::list_state;
 pub use outcome::write_outcome;
@@ -25,13 +26,16 @@ use std::alloc::{AllocError, Global};
 /// The most clients of a script.
 const MAX_CLIENTS: usize = 64;
 
+/// The most bytes that a bank of a script's server may have.
+const LIMIT: usize = 1_048_576;
+
 /// The most packets that are delivered for one command, beside those that it repeats.
 const MAX_DELIVERIES: usize = 1_000_000;
 
 /// The servers and clients of a script. Between two commands every packet was delivered at least once.
 #[derive(Drop)]
 pub(crate) struct Script {
-    world: World<Volatile>,
+    world: World<Durable<MemDisk>>,
     servers: u32,
     /// The clients, by rising number.
     clients: Vec<u32>,
@@ -252,17 +256,27 @@ impl Script {
     }
 }
 
-// So many servers in memory that were never used.
-fn unused_nodes(alloc: Global, count: u32) -> Result<Vec<Volatile>, AllocError>
+// So many servers on disks in memory that were never used.
+fn unused_nodes(alloc: Global, count: u32) -> Result<Vec<Durable<MemDisk>>, AllocError>
     ensures count { IfOk result (λ nodes. length nodes.items ≡ count) }
     ensures unused { IfOk result (λ nodes.
-        All IsUnused (map (λ n. ⟦<Volatile as Node>⟧.shown n) nodes.items)) }
+        All IsUnused (map (λ n. ⟦<Durable<MemDisk> as Node>⟧.shown n) nodes.items)) }
 {
     let mut nodes = Vec::new(alloc);
     for _ in 0..count {
-        nodes.push(Volatile::new(alloc))?;
+        nodes.push(unused_node(alloc)?)?;
     }
     Ok(nodes)
+}
+
+// A server on disks in memory that was never used.
+fn unused_node(alloc: Global) -> Result<Durable<MemDisk>, AllocError>
+    ensures { IfOk result (λ n. IsUnused (⟦<Durable<MemDisk> as Node>⟧.shown n)) }
+{
+    match Durable::create(alloc, MemDisk::new(alloc), MemDisk::new(alloc), LIMIT) {
+        Ok(node) => Ok(node),
+        Err(_) => Err(AllocError),
+    }
 }
 
 // The lines of what was seen of an event.
