@@ -4,3 +4,4 @@ pub mod CallLaws
 pub mod EmptyLaws
 pub mod OpeningLaws
 mod ReopeningLaws
+mod SwitchLaws
