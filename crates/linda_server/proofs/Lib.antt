@@ -5,3 +5,4 @@ pub mod EmptyLaws
 pub mod OpeningLaws
 mod ReopeningLaws
 mod SwitchLaws
+mod SameLaws

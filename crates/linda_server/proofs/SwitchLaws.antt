@@ -1,14 +1,23 @@
 -- What crashes leave while the disk that is not in use changes beside the bank in use.
-use Rattle.std.proofs.Common.{◌≡◌, ℕ, ◌≤◌, inl, inr, Bool, true, false, not, List, sym, subst, arith}
-use Rattle.linda_state.specs.State.{State}
+use Rattle.std.proofs.Common.{◌≡◌, ℕ, ◌≤◌, inl, inr, Bool, true, false, not, List, [], sym, subst, arith}
+use Rattle.std.proofs.Math.Logic.{∥∥₁_map, ∥∥₁_elim}
+use Rattle.std.proofs.lemmas.Grind.{not_there}
+use Rattle.std.specs.Coded.{Coded-set, coded_list, coded_ℕ}
+use Rattle.linda_state.specs.declared.deed.Deed.{Deed}
+use Rattle.linda_state.specs.Proper.{AreDone}
+use Rattle.linda_state.proofs.ProperLaws.{none_done}
+use Rattle.linda_state.specs.State.{State, IsState}
 use Rattle.linda_disk.specs.View.{View, IsDurable, IsTimed}
 use Rattle.linda_disk.specs.Run.{LeavesOnly}
 use Rattle.linda_snap.specs.Stands.{IsUp, IsStored, Stands, StandsBeside}
 use Rattle.linda_server.specs.declared.disks.Disks.{Disks}
-use Rattle.linda_server.specs.declared.disks.Disks.TheVariants.{InUse}
+use Rattle.linda_server.specs.declared.disks.Disks.TheVariants.{InUse, Shut, Away}
 use Rattle.linda_server.specs.declared.disks.Pair.{Pair}
 use Rattle.linda_server.specs.Pairs.{PairsSince}
 use Rattle.linda_server.specs.Disks.{sides, both, AreHonest, IsUpOn, IsKept, IsKeptOn}
+use Rattle.linda_server.specs.Calls.{StandsFor, IsWithOrWithout}
+use Rattle.linda_server.specs.Switch.{IsOtherDurable}
+use Rattle.linda_server.proofs.CallLaws.{from_some, up_for}
 
 abbrev For : State → List ℕ → List ℕ → Type 0
 For st left right = Stands left right st
@@ -80,3 +89,35 @@ module _ {B D : Type 0} (generation end : B → ℕ) (bank : B → View) (disk :
         durable = λ used. (so.stored used).settled.durable;
         lesser = λ h used. (up_next used (was h) record { stored = so.stored used; lesser = so.lesser used (was h); durable = so.durable (was h) }).lesser;
       }
+
+-- ---- where only that some bank is in use is known
+
+module _ {B D : Type 0} (generation end : B → ℕ) (bank : B → View) (disk : D → View) (honest_bank : B → Type 0) (honest : D → Type 0)
+    (timed_bank : (b : B) → honest_bank b → IsTimed (bank b)) (timed : (d : D) → honest d → IsTimed (disk d)) where
+  pub other_durable : (disks : Disks B D) (st : State) → ∥ IsKeptOn generation end bank disk honest_bank honest disks st ∥₁ → IsOtherDurable disk honest disks
+  other_durable (InUse pair) st kept = λ h image left. ∥∥₁_elim kept (Coded-set (coded_list coded_ℕ) _ _) (λ k. k.durable h image left)
+  other_durable (Shut left right) st kept = not_there kept (λ k. k)
+  other_durable Away st kept = not_there kept (λ k. k)
+
+  -- The state stands at each moment of a call that says so of a bank in use.
+  pub stands_since : (disks new : Disks B D) (st now : State) → now ≡ st → AreHonest honest_bank honest disks → ∥ IsKeptOn generation end bank disk honest_bank honest disks st ∥₁
+      → (AreHonest honest_bank honest disks → IsUpOn generation end bank disk disks now → PairsSince (both bank disk disks) (both bank disk new) (For now))
+      → PairsSince (both bank disk disks) (both bank disk new) (StandsFor st)
+  stands_since disks new st now same are kept goes =
+      subst (λ s. PairsSince (both bank disk disks) (both bank disk new) (StandsFor s)) same
+      (from_some (both bank disk disks) (both bank disk new) (For now) (For now)
+      (up_for generation end bank disk honest_bank honest timed_bank timed disks now are (subst (λ s. ∥ IsKeptOn generation end bank disk honest_bank honest disks s ∥₁) (sym same) kept))
+      (goes are) (λ left right x. x))
+
+  -- What is known of the disks then.
+  pub kept_since : (disks new : Disks B D) (st now : State) → now ≡ st → ∥ IsKeptOn generation end bank disk honest_bank honest disks st ∥₁
+      → (IsKeptOn generation end bank disk honest_bank honest disks now → IsKeptOn generation end bank disk honest_bank honest new now)
+      → ∥ IsKeptOn generation end bank disk honest_bank honest new st ∥₁
+  kept_since disks new st now same kept goes =
+      subst (λ s. ∥ IsKeptOn generation end bank disk honest_bank honest new s ∥₁) same
+      (∥∥₁_map (subst (λ s. ∥ IsKeptOn generation end bank disk honest_bank honest disks s ∥₁) (sym same) kept) goes)
+
+-- What stands for a state, stands for it and no deed.
+pub with_none : (st : State) (deeds : List Deed) → deeds ≡ [] → IsState st → (left right : List ℕ) → StandsFor st left right → IsWithOrWithout st deeds left right
+with_none st deeds none is left right some =
+    ∥∥₁_map some (λ x. record { new = st; ranges = is; done = subst (λ ds. AreDone st ds st) (sym none) (none_done st is); stands = inl x })

@@ -4,6 +4,7 @@ mod create;
 mod handle;
 mod open;
 mod serve;
+mod snapshot;
 // mod stop;
 
 ghost use Rattle.std.specs.Prelude.{◌≡◌, ◌≤◌, [], nat_le, true, false, Some};
