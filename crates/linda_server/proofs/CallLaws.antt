@@ -12,7 +12,7 @@ use Rattle.linda_state.proofs.ProperLaws.{none_done}
 use Rattle.linda_step.specs.Soft.{Soft}
 use Rattle.linda_step.specs.Answer.{Answer}
 use Rattle.linda_step.specs.Store.{Store, IsOrderly}
-use Rattle.linda_step.specs.History.{Coming, History, Happens, comings, history_of, nothing_yet}
+use Rattle.linda_step.specs.History.{Coming, comings, history_of, nothing_yet}
 use Rattle.linda_store.specs.Node.{Node, MayRemain}
 use Rattle.linda_step.proofs.HistoryLaws.{happened}
 use Rattle.linda_disk.specs.View.{View, IsTimed}
@@ -24,7 +24,7 @@ use Rattle.linda_server.specs.declared.served.Served.{Served}
 use Rattle.linda_server.specs.Pairs.{Both, PairsSince, PairsNow}
 use Rattle.linda_server.specs.Disks.{sides, both, AreHonest, IsUpOn, IsKeptOn}
 use Rattle.linda_server.specs.Served.{AreAnswered, deeds_of, IsServed}
-use Rattle.linda_server.specs.Calls.{LeadTo, IsOldOrNew, IsEither, StandsAround, IsWithOrWithout, StandsAfter, IsBeforeOrAfter, StandsFor, HasHandled}
+use Rattle.linda_server.specs.Calls.{LeadTo, IsOldOrNew, IsEither, IsWithOrWithout, StandsAfter, IsBeforeOrAfter, StandsFor, HasHandled}
 use Rattle.linda_server.specs.Node.{shown}
 use Rattle.linda_server.proofs.ServedLaws.{served_happens}
 use Rattle.linda_server.proofs.PairLaws.{still, stands_now, up_of}

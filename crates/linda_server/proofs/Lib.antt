@@ -6,3 +6,5 @@ pub mod OpeningLaws
 mod ReopeningLaws
 mod SwitchLaws
 mod SameLaws
+pub mod NodeLaws
+pub mod FallenLaws

@@ -1,5 +1,5 @@
 -- Whether the deeds of a call were lost is told by the last number that is kept of one client.
-use Rattle.std.proofs.Common.{◌≡◌, ℕ, suc, ◌+◌, ◌-◌, ◌<◌, ◌≤◌, ◌⊎◌, inl, inr, Bool, true, false, nat_le, if◌then◌else◌, List, [], ◌∷◌, ◌++◌, length, Option, Some, None, refl, sym, ap, subst, ◌∙◌, append_assoc, append-nil, arith, true≢false}
+use Rattle.std.proofs.Common.{◌≡◌, ℕ, suc, ◌-◌, ◌<◌, ◌≤◌, ◌⊎◌, inl, inr, Bool, true, false, nat_le, if◌then◌else◌, List, [], ◌∷◌, ◌++◌, length, Some, refl, sym, ap, subst, ◌∙◌, append_assoc, append-nil, arith, true≢false}
 use Rattle.std.proofs.Math.Logic.{∥∥₁_elim}
 use Rattle.std.proofs.lemmas.Bool.{cases_eq, le-leb, lt-leb}
 use Rattle.std.specs.Coded.{Coded-set, coded_option, coded_ℕ, coded×}
@@ -7,20 +7,22 @@ use Rattle.std.specs.List.{slice_get}
 use Rattle.std.specs.FinMap.{get}
 use Rattle.linda_tuple.specs.Codes.{tuple_code}
 use Rattle.linda_bag.proofs.Maps.{get_same, get_other}
-use Rattle.linda_book.specs.Entries.{Entry, number_in}
+use Rattle.linda_book.specs.Entries.{number_in}
 use Rattle.linda_book.specs.Codes.{kept_code}
 use Rattle.linda_state.specs.declared.deed.Deed.{Deed}
 use Rattle.linda_state.specs.Deed.{client_of, number_of}
 use Rattle.linda_state.specs.State.{State, IsState}
-use Rattle.linda_state.specs.After.{IsAfter, bag_after, book_after, reply_of_deed}
-use Rattle.linda_state.specs.Proper.{IsAllowed, IsProper, AreDone}
+use Rattle.linda_state.specs.After.{IsAfter, reply_of_deed}
+use Rattle.linda_state.specs.Proper.{IsAllowed, AreDone}
 use Rattle.linda_state.proofs.AfterLaws.{none_after, one_after}
 use Rattle.linda_state.proofs.DoneLaws.{done, done_after}
 use Rattle.linda_state.proofs.ProperLaws.{front_proper, reached, Reaches, proper_state, none_done, more_done}
 use Rattle.linda_snap.specs.Stands.{Stands}
 use Rattle.linda_snap.proofs.ChoiceLaws.{one_stands}
 use Rattle.linda_server.specs.Calls.{IsOldOrNew, StandsAround, IsWithOrWithout}
-use Rattle.linda_server.specs.Reopening.{is_done, has_done}
+use Rattle.linda_step.specs.Soft.{no_asks}
+use Rattle.linda_step.specs.Store.{Store}
+use Rattle.linda_server.specs.Reopening.{is_done, has_done, IsReopened}
 
 -- the last number that is kept of a client
 abbrev number_at : ℕ → State → ℕ
@@ -142,3 +144,19 @@ reopened before st lost left right b e some stands = record {
 
     so : StandsAround before lost left right → IsAfter before (if b then lost else []) st
     so x = by_test before x.new st lost b e x.ranges x.done (which x.new x.stands)
+
+-- What comes back, told by the test.
+pub came_back : (before : State) (lost mine ds : List Deed) (server : Store) (left right : List ℕ) (st : State) (b result : Bool) → result ≡ has_done st mine → result ≡ b → st ≡ server.state → mine ≡ lost
+    → ds ≡ if b then lost else [] → IsWithOrWithout before lost left right → Stands left right server.state → server.soft ≡ no_asks → IsReopened before lost ds server
+came_back before lost mine ds server left right st b result test is state_is lost_is ds_is some stands soft = record {
+  which = by_side b ds_is;
+  after = subst (λ l. IsAfter before l server.state) (sym ds_is) (reopened before server.state lost left right b told some stands);
+  soft_is = soft;
+}
+  where
+    told : has_done server.state lost ≡ b
+    told = ap (λ s. has_done s lost) (sym state_is) ∙ ap (has_done st) (sym lost_is) ∙ sym test ∙ is
+
+    by_side : (c : Bool) → ds ≡ (if c then lost else []) → (ds ≡ []) ⊎ (ds ≡ lost)
+    by_side true same = inr same
+    by_side false same = inl same

@@ -1,6 +1,6 @@
 //! The two disks of a server, of which one holds the bank in use.
 
-use linda_disk::Disk;
+use linda_disk::{Disk, MemDisk};
 use linda_journal::Bank;
 
 /// The two disks of a server. What a bank and a disk are is left to who uses them.
@@ -76,6 +76,34 @@ impl<D: Disk> Disks<Bank<D>, D> {
             }
             Disks::Shut { left, right } => (left, right),
             Disks::Away => unreachable!(),
+        }
+    }
+}
+
+impl Disks<Bank<MemDisk>, MemDisk> {
+    ghost use Rattle.std.specs.Prelude.{◌≡◌};
+    ghost use Rattle.linda_disk.specs.MemDisk.{history};
+    ghost use Rattle.linda_server.specs.Disks.{is_there, is_ready, number_of, AreRelated};
+
+    /// Lets so many device calls more pass on each disk. Inside the next one the machine stops.
+    pub(crate) fn fuse(&mut self, passes: u64)
+        ensures same { AreRelated (λ b c. (c.generation ≡ b.generation)
+            × ((c.end ≡ b.end) × (history c.disk ≡ history b.disk)))
+            (λ d e. history e ≡ history d) self.old self.new }
+        ensures there { is_there self.new ≡ is_there self.old }
+        ensures ready { is_ready (λ b. b.is_spent) self.new ≡ is_ready (λ b. b.is_spent) self.old }
+        ensures limit { number_of (λ b. b.limit) self.new ≡ number_of (λ b. b.limit) self.old }
+    {
+        match self {
+            Disks::InUse(pair) => {
+                pair.bank.fuse(passes);
+                pair.other.fuse(passes);
+            }
+            Disks::Shut { left, right } => {
+                left.fuse(passes);
+                right.fuse(passes);
+            }
+            Disks::Away => {}
         }
     }
 }

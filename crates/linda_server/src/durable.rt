@@ -1,11 +1,12 @@
 //! A server whose deeds are on a disk before it answers.
 
 mod create;
+mod fall;
 mod handle;
 mod open;
 mod serve;
 mod snapshot;
-// mod stop;
+mod stop;
 
 ghost use Rattle.std.specs.Prelude.{◌≡◌, ◌≤◌, [], nat_le, true, false, Some};
 ghost use Rattle.linda_server.specs.declared.limits.TheConstants.{SNAPSHOT_RECORDS};

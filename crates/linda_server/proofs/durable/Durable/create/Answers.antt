@@ -1,9 +1,8 @@
 -- Each step of making a new server leaves no bank, or the whole new one.
-use Rattle.std.proofs.Common.{◌≡◌, ◌∙◌, [], inl, not, false, refl, ap, subst}
+use Rattle.std.proofs.Common.{◌≡◌, ◌∙◌, [], inl, refl, ap, subst}
 use Rattle.linda_state.specs.State.{empty_state}
 use Rattle.linda_journal.specs.Bank.{IsSettled}
 use Rattle.linda_step.specs.Store.{Store}
-use Rattle.linda_snap.specs.Stands.{IsUp}
 use Rattle.linda_server.proofs.PairLaws.{left_for}
 use Rattle.linda_server.proofs.EmptyLaws.{void_durable, void_seen, then_gate, then_bank, bank_made, made_up, up_as, kept_as}
 use Rattle.linda_server.proofs.durable.Durable.create.Goals as goal

@@ -1,7 +1,7 @@
 -- The bank that was chosen is the one in use.
 use Rattle.std.proofs.Common.{◌∙◌, inl, inr, sym, ap, subst}
 use Rattle.linda_step.specs.Store.{Store}
-use Rattle.linda_snap.specs.Stands.{IsStored, IsUp}
+use Rattle.linda_snap.specs.Stands.{IsStored, IsUp, Stands}
 use Rattle.linda_server.specs.Opening.{fault_of_choice}
 use Rattle.linda_server.proofs.PairLaws.{left_for, now_on_sides}
 use Rattle.linda_server.proofs.OpeningLaws.{leaves_no_other}
@@ -46,3 +46,7 @@ invariant_of-result-clause-kept g c _ =
       durable = c.in-Ok.ensures.durable;
       lesser = λ hu ho. let were = c.in-Ok.ensures.honest.0.1 (hu, ho) in (c.in-Ok.ensures.up were.0 were.1).lesser;
     } ∣₁
+
+pub returns-in-Ok-clause-found : goal.returns-in-Ok-clause-found
+returns-in-Ok-clause-found g c hl hr =
+    subst (Stands (g.D.Disk.view c.args.left).seen (g.D.Disk.view c.args.right).seen) (sym (ap (λ (s : Store). s.state) c.from_state-store.ensures)) (c.in-Ok.ensures.found hl hr)

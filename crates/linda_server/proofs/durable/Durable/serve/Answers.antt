@@ -1,7 +1,6 @@
 -- What was served is put onto the bank in use, or nothing is touched.
 use Rattle.std.proofs.Common.{◌≡◌, [], ◌∷◌, sym, subst, ap, arith}
 use Rattle.linda_state.proofs.DoneLaws.{on_ok}
-use Rattle.linda_step.specs.declared.size.TheConstants.{MAX_BATCH}
 use Rattle.linda_step.specs.Store.{Store}
 use Rattle.linda_step.specs.History.{comings, history_of}
 use Rattle.linda_server.specs.Served.{IsServed}
@@ -10,7 +9,7 @@ use Rattle.linda_server.specs.Disks.{both, number_of}
 use Rattle.linda_server.specs.Calls.{LeadTo, IsBeforeOrAfter}
 use Rattle.linda_server.specs.Node.{shown}
 use Rattle.linda_server.proofs.ServedLaws.{served_happens}
-use Rattle.linda_server.proofs.CallLaws.{leads_to, few, some_bytes, still_before, served_since, stands_so, none_remains, all_remains_up, at_fault}
+use Rattle.linda_server.proofs.CallLaws.{leads_to, some_bytes, still_before, served_since, stands_so, none_remains, all_remains_up, at_fault}
 use Rattle.linda_server.proofs.durable.Durable.serve.Goals as goal
 
 pub returns-in_err-admit-clause-any_moment : goal.returns-in_err-admit-clause-any_moment

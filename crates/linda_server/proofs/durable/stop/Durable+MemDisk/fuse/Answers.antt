@@ -1,0 +1,12 @@
+-- Disks whose fuse is set hold what they held.
+use Rattle.std.proofs.Math.Logic.{∥∥₁_map}
+use Rattle.linda_disk.specs.MemDisk.{history}
+use Rattle.linda_disk.specs.History.{view_of}
+use Rattle.linda_server.proofs.FallenLaws.{kept_same}
+use Rattle.linda_server.proofs.durable.stop.Durable+MemDisk.fuse.Goals as goal
+
+pub invariant_of-self-clause-kept : goal.invariant_of-self-clause-kept
+invariant_of-self-clause-kept c _ =
+    let s = c.args.self.now in
+    ∥∥₁_map (s.kept c.requires) (λ k. kept_same (λ b. b.generation) (λ b. b.end) (λ b. history b.disk) history view_of (λ b. Unit {0}) (λ d. Unit {0}) (λ b c h. h) (λ d e h. h)
+    s.disks c.fuse.new.self s.store.state c.fuse.ensures.same k)
