@@ -121,7 +121,7 @@ at_most m n some =
       | inr le ↦ le
     ]
 
-from_some : {X : Type 0} (old new : Both) (P Q : List ℕ → List ℕ → Type 0) → ∥ X ∥₁ → (X → PairsSince old new P)
+pub from_some : {X : Type 0} (old new : Both) (P Q : List ℕ → List ℕ → Type 0) → ∥ X ∥₁ → (X → PairsSince old new P)
     → ((left right : List ℕ) → P left right → Q left right) → PairsSince old new (λ left right. ∥ Q left right ∥₁)
 from_some old new P Q some so goes = record {
   left_later = at_most old.left.moment new.left.moment (∥∥₁_map some (λ x. (so x).left_later));
@@ -165,7 +165,7 @@ since_so old new P Q since goes = record {
 
 module _ {B D : Type 0} (generation end : B → ℕ) (bank : B → View) (disk : D → View) (honest_bank : B → Type 0) (honest : D → Type 0)
     (timed_bank : (b : B) → honest_bank b → IsTimed (bank b)) (timed : (d : D) → honest d → IsTimed (disk d)) where
-  up_for : (disks : Disks B D) (st : State) → AreHonest honest_bank honest disks → ∥ IsKeptOn generation end bank disk honest_bank honest disks st ∥₁ → ∥ IsUpOn generation end bank disk disks st ∥₁
+  pub up_for : (disks : Disks B D) (st : State) → AreHonest honest_bank honest disks → ∥ IsKeptOn generation end bank disk honest_bank honest disks st ∥₁ → ∥ IsUpOn generation end bank disk disks st ∥₁
   up_for disks st are kept = ∥∥₁_map kept (λ k. up_of generation end bank disk honest_bank honest timed_bank timed disks st k are)
 
   -- No disk was touched: the state stands as before.

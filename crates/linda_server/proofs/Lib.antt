@@ -4,5 +4,7 @@ pub mod CallLaws
 pub mod EmptyLaws
 pub mod OpeningLaws
 mod ReopeningLaws
+mod SwitchLaws
+mod SameLaws
 pub mod NodeLaws
 pub mod FallenLaws

@@ -5,3 +5,4 @@ pub mod Calls
 pub mod Opening
 pub mod Node
 pub mod Reopening
+pub mod Switch

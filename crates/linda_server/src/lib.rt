@@ -7,6 +7,7 @@ mod durable;
 mod empty;
 mod fault;
 mod limits;
+mod renewal;
 mod served;
 mod serving;
 

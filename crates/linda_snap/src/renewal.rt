@@ -89,6 +89,7 @@ pub fn switch<B: Bag, D: Disk>(
         ↔ (current.limit < MIN_BYTES + 1 + length (spell_state state.now))) }
     ensures room { OnOk result (MIN_BYTES + 1 + length (spell_state state.now) ≤ current.limit) }
     // and GenerationsSpent else, exactly where no generation is left.
+    ensures next { OnOk result (current.generation + 1 < 2 ^ 64) }
     ensures last { IfErr result (λ e. e.0 ≡ SwitchFault.GenerationsSpent
         ↔ (MIN_BYTES + 1 + length (spell_state state.now) ≤ current.limit)
         × (2 ^ 64 ≤ current.generation + 1)) }

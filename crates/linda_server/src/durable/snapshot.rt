@@ -1,26 +1,69 @@
-//! TEMPORARY
-ghost use Rattle.std.specs.Prelude.{◌≡◌, [], true, false, OnOk, IsErrOf};
+//! A snapshot: the state in few bytes, on the disk that was not in use.
+
+ghost use Rattle.std.specs.Prelude.{◌≡◌, [], ◌↔◌, true, false, OnOk, IsErrOf};
+ghost use Rattle.linda_server.specs.Disks.{both, AreHonest, number_of};
 
 use super::Durable;
+use crate::fault::ServeFault;
+use crate::renewal::renew;
 use linda_disk::Disk;
 use linda_store::NodeFault;
 use std::alloc::Global;
+use std::snapshot::Snapshot;
 
 impl<D: Disk> Durable<D> {
+    ghost use Rattle.linda_server.specs.Pairs.{PairsSince, PairsNow};
+    ghost use Rattle.linda_server.specs.Calls.{StandsFor};
+    ghost use Rattle.linda_server.specs.Switch.{HasNoNext, IsSwitched};
+
+    /// Writes a snapshot of the state as a new bank onto the disk that is not in use; from then on
+    /// that bank is in use. Nothing changes that a client sees.
+    ///
+    /// # Errors
+    ///
+    /// `Full` where the new bank would pass the limit or no generation is left, and nothing
+    /// changed; `Down`: it was down, or it is because a device failed or memory ran out.
     pub fn snapshot(&mut self, alloc: Global) -> Result<(), NodeFault>
+        // At no moment crashes leave anything but the state.
+        ensures any_moment { self.old.down ≡ false
+            → AreHonest (λ b. D.honest b.disk) D.honest self.old.disks
+            → PairsSince (both (λ b. D.view b.disk) D.view self.old.disks)
+            (both (λ b. D.view b.disk) D.view self.new.disks) (StandsFor self.old.store.state) }
+        ensures now { OnOk result (AreHonest (λ b. D.honest b.disk) D.honest self.new.disks
+            → PairsNow (both (λ b. D.view b.disk) D.view self.new.disks)
+            (StandsFor self.new.store.state)) }
+        // At Ok the other disk holds the bank in use, of the next generation and without a record.
+        ensures switched { OnOk result (IsSwitched (λ b. b.generation) (λ b. b.records)
+            (λ b. b.disk) self.old.disks self.new.disks) }
         ensures same { (self.new.store ≡ self.old.store) × (self.new.limit ≡ self.old.limit) }
         ensures up { OnOk result ((self.old.down ≡ false) × (self.new.down ≡ false)) }
-        ensures full { IsErrOf result NodeFault.Full → self.new ≡ self.old }
+        // It is Full exactly where there is no next bank for the state; nothing changed then.
+        ensures full { IsErrOf result NodeFault.Full → (self.new ≡ self.old)
+            × HasNoNext self.old.store.state self.old.limit
+            (number_of (λ b. b.generation) self.old.disks) }
+        ensures was_up { IsErrOf result NodeFault.Full → self.old.down ≡ false }
+        ensures room { OnOk result (HasNoNext self.old.store.state self.old.limit
+            (number_of (λ b. b.generation) self.old.disks) → ⊥) }
         ensures down { IsErrOf result NodeFault.Down → self.new.down ≡ true }
         ensures stays_down { self.old.down ≡ true
             → IsErrOf result NodeFault.Down × (self.new ≡ self.old) }
+        // Nothing is done in the call in which it goes down.
         ensures lost { self.old.down ≡ false → self.new.down ≡ true
             → (self.new.before.value ≡ self.old.store.state) × (self.new.lost.items ≡ []) }
+        ensures honest { AreHonest (λ b. D.honest b.disk) D.honest self.old.disks
+            ↔ AreHonest (λ b. D.honest b.disk) D.honest self.new.disks }
     {
-        let _ = alloc;
         if self.down {
             return Err(NodeFault::Down);
         }
-        Ok(())
+        match renew(&mut self.disks, alloc, self.store.state()) {
+            Ok(()) => Ok(()),
+            Err(ServeFault::Full) => Err(NodeFault::Full),
+            Err(_) => {
+                self.before = Snapshot::of(self.store.state());
+                self.down = true;
+                Err(NodeFault::Down)
+            }
+        }
     }
 }

@@ -1,0 +1,85 @@
+-- A server whose disks came back as they were is the same server.
+use Rattle.std.proofs.Common.{◌≡◌, true, false, [], subst, ap}
+use Rattle.std.proofs.Props.{props}
+use Rattle.linda_disk.specs.declared.disk.Disk.{Ghosts}
+use Rattle.linda_journal.specs.declared.bank.Bank.{Bank}
+use Rattle.linda_server.specs.declared.disks.Disks.{Disks}
+use Rattle.linda_server.specs.declared.durable.Durable.{Durable}
+use Rattle.linda_server.specs.Pairs.{PairsNow}
+use Rattle.linda_server.specs.Disks.{both, AreHonest, is_there, is_ready, number_of, IsKeptOn}
+use Rattle.linda_server.specs.Calls.{IsLimit, IsWithOrWithout}
+
+module _ (D : Type 0) (g : Ghosts D) (s : Durable D g) where
+  -- What the type keeps, of these disks.
+  pub record Keeps (disks : Disks (Bank D g) D) : Type 0 where
+    pub there : is_there disks ≡ true
+    pub bounded : IsLimit s.limit
+    pub live : s.down ≡ false → s.store.is_spent ≡ false
+    pub ready : s.down ≡ false → is_ready (λ b. b.is_spent) disks ≡ true
+    pub limited : s.down ≡ false → number_of (λ b. b.limit) disks ≡ s.limit
+    pub none_lost : s.down ≡ false → s.lost.items ≡ []
+    pub kept : s.down ≡ false → ∥ IsKeptOn (λ b. b.generation) (λ b. b.end) (λ b. g.view b.disk) g.view (λ b. g.honest b.disk) g.honest disks s.store.state ∥₁
+    pub fallen : s.down ≡ true → AreHonest (λ b. g.honest b.disk) g.honest disks → PairsNow (both (λ b. g.view b.disk) g.view disks) (IsWithOrWithout s.before.value s.lost.items)
+
+  abbrev pub with_disks : (disks : Disks (Bank D g) D) → Keeps disks → Durable D g
+  with_disks disks k = record {
+    store = s.store;
+    disks = disks;
+    limit = s.limit;
+    down = s.down;
+    before = s.before;
+    lost = s.lost;
+    there = k.there;
+    bounded = k.bounded;
+    live = k.live;
+    ready = k.ready;
+    limited = k.limited;
+    none_lost = k.none_lost;
+    kept = k.kept;
+    fallen = k.fallen;
+  }
+
+  -- It is kept in one way.
+  one_way : (disks : Disks (Bank D g) D) → IsProp (Keeps disks)
+  one_way disks k l = λ i. record {
+    there = one k.there l.there i;
+    bounded = one_limit k.bounded l.bounded i;
+    live = one_live k.live l.live i;
+    ready = one_ready k.ready l.ready i;
+    limited = one_limited k.limited l.limited i;
+    none_lost = one_lost k.none_lost l.none_lost i;
+    kept = one_kept k.kept l.kept i;
+    fallen = one_fallen k.fallen l.fallen i;
+  }
+    where
+      one : IsProp (is_there disks ≡ true)
+      one = hlevel props
+
+      one_limit : IsProp (IsLimit s.limit)
+      one_limit = hlevel props
+
+      one_live : IsProp (s.down ≡ false → s.store.is_spent ≡ false)
+      one_live = hlevel props
+
+      one_ready : IsProp (s.down ≡ false → is_ready (λ (b : Bank D g). b.is_spent) disks ≡ true)
+      one_ready = hlevel props
+
+      one_limited : IsProp (s.down ≡ false → number_of (λ (b : Bank D g). b.limit) disks ≡ s.limit)
+      one_limited = hlevel props
+
+      one_lost : IsProp (s.down ≡ false → s.lost.items ≡ [])
+      one_lost = hlevel props
+
+      one_kept : IsProp (s.down ≡ false → ∥ IsKeptOn (λ (b : Bank D g). b.generation) (λ b. b.end) (λ b. g.view b.disk) g.view (λ b. g.honest b.disk) g.honest disks s.store.state ∥₁)
+      one_kept = hlevel props
+
+      one_fallen : IsProp (s.down ≡ true → AreHonest (λ (b : Bank D g). g.honest b.disk) g.honest disks → PairsNow (both (λ (b : Bank D g). g.view b.disk) g.view disks) (IsWithOrWithout s.before.value s.lost.items))
+      one_fallen = hlevel props
+
+  abbrev kept_here : Keeps s.disks
+  kept_here = record { there = s.there; bounded = s.bounded; live = s.live; ready = s.ready; limited = s.limited; none_lost = s.none_lost; kept = s.kept; fallen = s.fallen }
+
+  -- With the same disks it is the same server.
+  pub same_server : (disks : Disks (Bank D g) D) → s.disks ≡ disks → (k : Keeps disks) → with_disks disks k ≡ s
+  same_server disks same =
+      subst (λ d. (k : Keeps d) → with_disks d k ≡ s) same (λ k. ap (with_disks s.disks) (one_way s.disks k kept_here))

@@ -1,0 +1,69 @@
+-- The other disk becomes a new bank, for the state that stands.
+use Rattle.std.proofs.Common.{Err, sym, subst, ap, ◌∙◌}
+use Rattle.linda_state.specs.State.{IsState}
+use Rattle.linda_server.specs.Pairs.{PairsSince, PairsNow}
+use Rattle.linda_server.specs.Disks.{both, number_of}
+use Rattle.linda_server.specs.Calls.{StandsFor, IsWithOrWithout}
+use Rattle.linda_server.specs.Switch.{HasNoNext}
+use Rattle.linda_server.proofs.CallLaws.{now_since, stands_so}
+use Rattle.linda_server.proofs.SwitchLaws.{other_durable, stands_since, kept_since, with_none}
+use Rattle.linda_server.proofs.SameLaws.{same_server}
+use Rattle.linda_server.proofs.durable.Durable.snapshot.Goals as goal
+
+pub renew-requires-clause-durable : goal.renew-requires-clause-durable
+renew-requires-clause-durable g c =
+    let s = c.args.self.now in
+    other_durable (λ b. b.generation) (λ b. b.end) (λ b. g.D.Disk.view b.disk) g.D.Disk.view (λ b. g.D.Disk.honest b.disk) g.D.Disk.honest
+    (λ b h. g.met.D.Disk.timed b.disk h) (λ d h. g.met.D.Disk.timed d h) s.disks s.store.state (s.kept c.if-self.false)
+
+pub invariant_of-self-clause-kept : goal.invariant_of-self-clause-kept
+invariant_of-self-clause-kept g c _ =
+    let s = c.args.self.now in
+    kept_since (λ b. b.generation) (λ b. b.end) (λ b. g.D.Disk.view b.disk) g.D.Disk.view (λ b. g.D.Disk.honest b.disk) g.D.Disk.honest
+    (λ b h. g.met.D.Disk.timed b.disk h) (λ d h. g.met.D.Disk.timed d h) s.disks c.renew.new.disks s.store.state c.state.result.now c.state.ensures.state (s.kept c.if-self.false) c.in-Ok.ensures.kept
+
+pub invariant_of-self-in-Err-clause-fallen : goal.invariant_of-self-in-Err-clause-fallen
+invariant_of-self-in-Err-clause-fallen g c _ are =
+    let s = c.args.self.now in
+    let same = c.of.ensures ∙ c.state-in-Err.ensures.state in
+    let since = stands_since (λ b. b.generation) (λ b. b.end) (λ b. g.D.Disk.view b.disk) g.D.Disk.view (λ b. g.D.Disk.honest b.disk) g.D.Disk.honest
+    (λ b h. g.met.D.Disk.timed b.disk h) (λ d h. g.met.D.Disk.timed d h) s.disks c.renew.new.disks s.store.state c.state.result.now c.state.ensures.state (c.renew.ensures.honest.1 are) (s.kept c.if-self.false) c.renew.ensures.any_moment in
+    subst (λ st. PairsNow (both (λ b. g.D.Disk.view b.disk) g.D.Disk.view c.renew.new.disks) (IsWithOrWithout st s.lost.items)) (sym same)
+    (now_since (λ b. b.generation) (λ b. b.end) (λ b. g.D.Disk.view b.disk) g.D.Disk.view (λ b. g.D.Disk.honest b.disk) g.D.Disk.honest
+    (λ b h. g.met.D.Disk.timed b.disk h) (λ d h. g.met.D.Disk.timed d h) s.disks c.renew.new.disks (StandsFor s.store.state) (IsWithOrWithout s.store.state s.lost.items) are since
+    (with_none s.store.state s.lost.items (s.none_lost c.if-self.false) (subst IsState c.state.ensures.state c.state.ensures.ranges)))
+
+pub returns-in-Ok-clause-any_moment : goal.returns-in-Ok-clause-any_moment
+returns-in-Ok-clause-any_moment g c is_up are =
+    let s = c.args.self.now in
+    stands_since (λ b. b.generation) (λ b. b.end) (λ b. g.D.Disk.view b.disk) g.D.Disk.view (λ b. g.D.Disk.honest b.disk) g.D.Disk.honest
+    (λ b h. g.met.D.Disk.timed b.disk h) (λ d h. g.met.D.Disk.timed d h) s.disks c.renew.new.disks s.store.state c.state.result.now c.state.ensures.state are (s.kept is_up) c.renew.ensures.any_moment
+
+pub returns-in-Ok-clause-now : goal.returns-in-Ok-clause-now
+returns-in-Ok-clause-now g c are =
+    let s = c.args.self.now in
+    stands_so (λ b. b.generation) (λ b. b.end) (λ b. g.D.Disk.view b.disk) g.D.Disk.view (λ b. g.D.Disk.honest b.disk) g.D.Disk.honest
+    (λ b h. g.met.D.Disk.timed b.disk h) (λ d h. g.met.D.Disk.timed d h) c.renew.new.disks s.store.state are (kept_since (λ b. b.generation) (λ b. b.end) (λ b. g.D.Disk.view b.disk) g.D.Disk.view (λ b. g.D.Disk.honest b.disk) g.D.Disk.honest
+    (λ b h. g.met.D.Disk.timed b.disk h) (λ d h. g.met.D.Disk.timed d h) s.disks c.renew.new.disks s.store.state c.state.result.now c.state.ensures.state (s.kept c.if-self.false) c.in-Ok.ensures.kept)
+
+pub returns-in-Err-Full-clause-any_moment : goal.returns-in-Err-Full-clause-any_moment
+returns-in-Err-Full-clause-any_moment g c is_up are =
+    let s = c.args.self.now in
+    stands_since (λ b. b.generation) (λ b. b.end) (λ b. g.D.Disk.view b.disk) g.D.Disk.view (λ b. g.D.Disk.honest b.disk) g.D.Disk.honest
+    (λ b h. g.met.D.Disk.timed b.disk h) (λ d h. g.met.D.Disk.timed d h) s.disks c.renew.new.disks s.store.state c.state.result.now c.state.ensures.state are (s.kept is_up) c.renew.ensures.any_moment
+
+pub returns-in-Err-clause-any_moment : goal.returns-in-Err-clause-any_moment
+returns-in-Err-clause-any_moment g c is_up are =
+    let s = c.args.self.now in
+    stands_since (λ b. b.generation) (λ b. b.end) (λ b. g.D.Disk.view b.disk) g.D.Disk.view (λ b. g.D.Disk.honest b.disk) g.D.Disk.honest
+    (λ b h. g.met.D.Disk.timed b.disk h) (λ d h. g.met.D.Disk.timed d h) s.disks c.renew.new.disks s.store.state c.state.result.now c.state.ensures.state are (s.kept is_up) c.renew.ensures.any_moment
+
+pub returns-in-Err-Full-clause-full : goal.returns-in-Err-Full-clause-full
+returns-in-Err-Full-clause-full g c _ =
+    let s = c.args.self.now in
+    let told = c.in-Err-Full.ensures.full (ap Err c.in-Err-Full.field-0-is) in
+    let generation = number_of (λ b. b.generation) s.disks in (
+      same_server g.row.D.Denot g.D.Disk s c.renew.new.disks (sym told.0) _,
+      subst (λ st. HasNoNext st s.limit generation) c.state.ensures.state
+          (subst (λ n. HasNoNext c.state.result.now n generation) (s.limited c.if-self.false) told.1),
+    )

@@ -1,0 +1,109 @@
+//! How the disk that is not in use becomes a new bank, which is then in use.
+
+ghost use Rattle.std.specs.Prelude.{◌≡◌, ◌<◌, ◌^◌, ◌↔◌, ◌⊎◌, true, OnOk, IsErrOf};
+ghost use Rattle.linda_state.specs.State.{IsState};
+ghost use Rattle.linda_snap.specs.Stands.{Stands};
+ghost use Rattle.linda_server.specs.Pairs.{PairsSince};
+ghost use Rattle.linda_server.specs.Disks.{both, AreHonest, failures};
+ghost use Rattle.linda_server.specs.Disks.{is_there, is_ready, number_of};
+ghost use Rattle.linda_server.specs.Disks.{IsUpOn, IsKeptOn};
+ghost use Rattle.linda_server.specs.Switch.{HasNoNext, IsOtherDurable, IsSwitched};
+
+use crate::disks::{Disks, Pair};
+use crate::fault::ServeFault;
+use linda_bag::Bag;
+use linda_disk::Disk;
+use linda_journal::Bank;
+use linda_snap::{SwitchFault, switch};
+use linda_state::State;
+use std::alloc::Global;
+use std::mem;
+
+/// Makes a new bank of the next generation on the disk that is not in use, whose body is a snapshot of the state, and
+/// takes it into use.
+///
+/// # Errors
+///
+/// `Full` where the new bank would pass its limit or no generation is left: nothing changed. `Disk` where the device
+/// failed, and `Memory`: neither bank is to be used.
+pub(crate) fn renew<B: Bag, D: Disk>(
+    disks: &mut Disks<Bank<D>, D>,
+    alloc: Global,
+    state: &State<B>,
+) -> Result<(), ServeFault>
+    requires ranges { IsState state.now }
+    requires ready { is_ready (λ b. b.is_spent) disks.old ≡ true }
+    requires short { number_of (λ b. b.limit) disks.old < 2 ^ 32 }
+    requires durable { IsOtherDurable D.view D.honest disks.old }
+    // At no moment crashes leave anything but the state;
+    ensures any_moment { AreHonest (λ b. D.honest b.disk) D.honest disks.old
+        → IsUpOn (λ b. b.generation) (λ b. b.end) (λ b. D.view b.disk) D.view disks.old state.now
+        → PairsSince (both (λ b. D.view b.disk) D.view disks.old)
+        (both (λ b. D.view b.disk) D.view disks.new) (λ left right. Stands left right state.now) }
+    // at Ok the new bank is in use, and stands for it.
+    ensures kept { IsKeptOn (λ b. b.generation) (λ b. b.end) (λ b. D.view b.disk) D.view
+        (λ b. D.honest b.disk) D.honest disks.old state.now
+        → OnOk result (IsKeptOn (λ b. b.generation) (λ b. b.end) (λ b. D.view b.disk) D.view
+        (λ b. D.honest b.disk) D.honest disks.new state.now) }
+    ensures switched { OnOk result (IsSwitched (λ b. b.generation) (λ b. b.records) (λ b. b.disk)
+        disks.old disks.new) }
+    ensures there { is_there disks.new ≡ true }
+    ensures ready { OnOk result (is_ready (λ b. b.is_spent) disks.new ≡ true) }
+    ensures limit { OnOk result (number_of (λ b. b.limit) disks.new
+        ≡ number_of (λ b. b.limit) disks.old) }
+    // It is Full exactly where there is no next bank for the state; nothing changed then.
+    ensures full { IsErrOf result ServeFault.Full → (disks.new ≡ disks.old)
+        × HasNoNext state.now (number_of (λ b. b.limit) disks.old)
+        (number_of (λ b. b.generation) disks.old) }
+    ensures room { OnOk result (HasNoNext state.now (number_of (λ b. b.limit) disks.old)
+        (number_of (λ b. b.generation) disks.old) → ⊥) }
+    ensures honest { AreHonest (λ b. D.honest b.disk) D.honest disks.old
+        ↔ AreHonest (λ b. D.honest b.disk) D.honest disks.new }
+    ensures cause { IsErrOf result ServeFault.Disk
+        → failures (λ b. D.failures b.disk) D.failures disks.old
+        < failures (λ b. D.failures b.disk) D.failures disks.new }
+    ensures known { IsErrOf result ServeFault.Down → ⊥ }
+{
+    match mem::replace(disks, Disks::Away) {
+        Disks::InUse(pair) => {
+            let Pair {
+                bank,
+                other,
+                is_right,
+            } = pair;
+            match switch(alloc, bank, other, state) {
+                Ok((bank, other)) => {
+                    *disks = Disks::InUse(Pair {
+                        bank,
+                        other,
+                        is_right: !is_right,
+                    });
+                    Ok(())
+                }
+                Err((fault, bank, other)) => {
+                    *disks = Disks::InUse(Pair {
+                        bank,
+                        other,
+                        is_right,
+                    });
+                    Err(told(fault))
+                }
+            }
+        }
+        Disks::Shut { .. } | Disks::Away => unreachable!(),
+    }
+}
+
+// What a server tells of a switch that was not made.
+fn told(fault: SwitchFault) -> ServeFault
+    ensures full { result ≡ ServeFault.Full
+        ↔ (fault ≡ SwitchFault.BankFull) ⊎ (fault ≡ SwitchFault.GenerationsSpent) }
+    ensures disk { result ≡ ServeFault.Disk ↔ fault ≡ SwitchFault.Disk }
+    ensures known { result ≡ ServeFault.Down → ⊥ }
+{
+    match fault {
+        SwitchFault::BankFull | SwitchFault::GenerationsSpent => ServeFault::Full,
+        SwitchFault::Memory => ServeFault::Memory,
+        SwitchFault::Disk => ServeFault::Disk,
+    }
+}
