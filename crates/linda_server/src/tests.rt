@@ -1,3 +1,4 @@
 mod crash;
 mod rows;
 mod script;
+mod stop;

@@ -4,7 +4,7 @@ use crate::{Durable, OpenFault};
 use linda_bag::Bag;
 use linda_disk::{MemDisk, Torn};
 use linda_store::NodeFault;
-use linda_tuple::{Atom, Text, Tuple};
+use linda_tuple::{Atom, Pattern, Template, Text, Tuple};
 use linda_wire::Message;
 use std::alloc::{AllocError, Global};
 use std::test::Fail;
@@ -39,11 +39,25 @@ pub(super) enum Call {
 }
 
 /// Message `n` of a client, which puts ("a", number).
-fn put(alloc: Global, n: u64, number: i64) -> Result<Message, AllocError> {
+pub(super) fn put(alloc: Global, n: u64, number: i64) -> Result<Message, AllocError> {
     let tag = Atom::Text(Text::new(String::from_str(alloc, "a")?));
     let fields = vec![in alloc; Atom::Int(number)]?;
     match Tuple::new(tag, fields) {
         Ok(tuple) => Ok(Message::Out { n, tuple }),
+        Err(_) => Err(AllocError),
+    }
+}
+
+/// An Ask for any tuple of tag "a" and one field, which is to be held.
+pub(super) fn take_any(alloc: Global, ticket: u64) -> Result<Message, AllocError> {
+    let tag = Atom::Text(Text::new(String::from_str(alloc, "a")?));
+    let fields = vec![in alloc; Pattern::Any]?;
+    match Template::new(tag, fields) {
+        Ok(template) => Ok(Message::Ask {
+            ticket,
+            remove: true,
+            template,
+        }),
         Err(_) => Err(AllocError),
     }
 }
