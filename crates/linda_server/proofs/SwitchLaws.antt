@@ -1,5 +1,5 @@
 -- What crashes leave while the disk that is not in use changes beside the bank in use.
-use Rattle.std.proofs.Common.{◌≡◌, ℕ, ◌≤◌, inl, inr, Bool, true, false, not, List, [], sym, subst, arith}
+use Rattle.std.proofs.Common.{◌≡◌, ℕ, inl, inr, Bool, true, false, not, List, [], sym, subst, arith}
 use Rattle.std.proofs.Math.Logic.{∥∥₁_map, ∥∥₁_elim}
 use Rattle.std.proofs.lemmas.Grind.{not_there}
 use Rattle.std.specs.Coded.{Coded-set, coded_list, coded_ℕ}
@@ -7,7 +7,7 @@ use Rattle.linda_state.specs.declared.deed.Deed.{Deed}
 use Rattle.linda_state.specs.Proper.{AreDone}
 use Rattle.linda_state.proofs.ProperLaws.{none_done}
 use Rattle.linda_state.specs.State.{State, IsState}
-use Rattle.linda_disk.specs.View.{View, IsDurable, IsTimed}
+use Rattle.linda_disk.specs.View.{View, IsTimed}
 use Rattle.linda_disk.specs.Run.{LeavesOnly}
 use Rattle.linda_snap.specs.Stands.{IsUp, IsStored, Stands, StandsBeside}
 use Rattle.linda_server.specs.declared.disks.Disks.{Disks}

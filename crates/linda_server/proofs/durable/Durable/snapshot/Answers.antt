@@ -1,7 +1,7 @@
 -- The other disk becomes a new bank, for the state that stands.
 use Rattle.std.proofs.Common.{Err, sym, subst, ap, ◌∙◌}
 use Rattle.linda_state.specs.State.{IsState}
-use Rattle.linda_server.specs.Pairs.{PairsSince, PairsNow}
+use Rattle.linda_server.specs.Pairs.{PairsNow}
 use Rattle.linda_server.specs.Disks.{both, number_of}
 use Rattle.linda_server.specs.Calls.{StandsFor, IsWithOrWithout}
 use Rattle.linda_server.specs.Switch.{HasNoNext}
