@@ -9,7 +9,10 @@ use Rattle.linda_state.proofs.ProperLaws.{none_done}
 use Rattle.linda_state.specs.State.{State, IsState}
 use Rattle.linda_disk.specs.View.{View, IsTimed}
 use Rattle.linda_disk.specs.Run.{LeavesOnly}
+use Rattle.linda_disk.proofs.RunLaws.{weaker}
+use Rattle.linda_journal.specs.Renewal.{IsSameOrNone}
 use Rattle.linda_snap.specs.Stands.{IsUp, IsStored, Stands, StandsBeside}
+use Rattle.linda_snap.proofs.StandsLaws.{stands_on, stands_now}
 use Rattle.linda_server.specs.declared.disks.Disks.{Disks}
 use Rattle.linda_server.specs.declared.disks.Disks.TheVariants.{InUse, Shut, Away}
 use Rattle.linda_server.specs.declared.disks.Pair.{Pair}
@@ -89,6 +92,14 @@ module _ {B D : Type 0} (generation end : B → ℕ) (bank : B → View) (disk :
         durable = λ used. (so.stored used).settled.durable;
         lesser = λ h used. (up_next used (was h) record { stored = so.stored used; lesser = so.lesser used (was h); durable = so.durable (was h) }).lesser;
       }
+
+-- A disk that is emptied stands beside the bank in use, at each moment.
+pub emptied_beside : (generation end : ℕ) (used other new : View) (st : State) → IsUp generation end used other st → LeavesOnly other new (IsSameOrNone other.seen) → LeavesOnly other new (StandsBeside used.seen st)
+emptied_beside generation end used other new st up run = weaker other new (IsSameOrNone other.seen) (StandsBeside used.seen st) run by
+  where
+    by : (image : List ℕ) → IsSameOrNone other.seen image → StandsBeside used.seen st image
+    by image (inl same) = subst (StandsBeside used.seen st) (sym same) (stands_now generation end used other st up)
+    by image (inr none) = inl record { generation = generation; stands = stands_on generation end used st up.stored; lesser = inl none }
 
 -- ---- where only that some bank is in use is known
 

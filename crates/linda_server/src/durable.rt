@@ -7,6 +7,7 @@ mod open;
 mod serve;
 mod snapshot;
 mod stop;
+mod trim;
 
 ghost use Rattle.std.specs.Prelude.{◌≡◌, ◌≤◌, [], nat_le, true, false, Some};
 ghost use Rattle.linda_server.specs.declared.limits.TheConstants.{SNAPSHOT_RECORDS};

@@ -1,6 +1,7 @@
 //! The durable server.
 #![tactic(auto)]
 
+mod clearing;
 mod commit;
 mod disks;
 mod durable;

@@ -41,7 +41,6 @@ impl<D: Disk> Durable<D> {
         ensures full { IsErrOf result NodeFault.Full → (self.new ≡ self.old)
             × HasNoNext self.old.store.state self.old.limit
             (number_of (λ b. b.generation) self.old.disks) }
-        ensures was_up { IsErrOf result NodeFault.Full → self.old.down ≡ false }
         ensures room { OnOk result (HasNoNext self.old.store.state self.old.limit
             (number_of (λ b. b.generation) self.old.disks) → ⊥) }
         ensures down { IsErrOf result NodeFault.Down → self.new.down ≡ true }

@@ -1,0 +1,13 @@
+-- The other disk is emptied beside the bank in use.
+use Rattle.std.proofs.Common.{sym}
+use Rattle.linda_server.proofs.SwitchLaws.{changed, emptied_beside}
+use Rattle.linda_server.proofs.clearing.clear.Goals as goal
+
+pub returns-clause-any_moment : goal.returns-clause-any_moment
+returns-clause-any_moment g c st are up =
+    let view = g.D.Disk.view in
+    let pair = c.in-InUse.pair in
+    let new = view c.emptied-told.result.1 in
+    changed (λ b. b.generation) (λ b. b.end) (λ b. view b.disk) view (λ b. g.D.Disk.honest b.disk) g.D.Disk.honest (λ b h. g.met.D.Disk.timed b.disk h)
+    c.args.disks.now pair (sym c.in-InUse.ensures.value) st new
+    (λ used other was. emptied_beside pair.bank.generation pair.bank.end (view pair.bank.disk) (view pair.other) new st was (c.emptied-told.ensures.any_moment other)) are up

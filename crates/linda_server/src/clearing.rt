@@ -1,0 +1,106 @@
+//! How the disk that is not in use is emptied.
+
+ghost use Rattle.std.specs.Prelude.{◌≡◌, ◌<◌, ◌↔◌, true, length, OnOk, IsErrOf};
+ghost use Rattle.linda_state.specs.State as state;
+ghost use Rattle.linda_disk.specs.View.{IsDurable};
+ghost use Rattle.linda_disk.specs.Disk.{CountsFailure};
+ghost use Rattle.linda_disk.specs.Run.{LeavesOnly};
+ghost use Rattle.linda_journal.specs.Renewal.{IsNoBank, IsClosed, IsSameOrNone};
+ghost use Rattle.linda_snap.specs.Stands.{Stands};
+ghost use Rattle.linda_server.specs.Pairs.{PairsSince};
+ghost use Rattle.linda_server.specs.Disks.{both, AreHonest, failures};
+ghost use Rattle.linda_server.specs.Disks.{is_there, is_ready, number_of};
+ghost use Rattle.linda_server.specs.Disks.{IsUpOn, IsKeptOn};
+ghost use Rattle.linda_server.specs.Switch.{IsOtherDurable, IsTrimmed};
+
+use crate::disks::{Disks, Pair};
+use linda_disk::{Disk, DiskFault};
+use linda_journal::{Bank, shut};
+use std::mem;
+
+/// Leaves one byte of the disk that is not in use, the closed gate of a bank that is none any more. The bank in use is
+/// not touched.
+///
+/// # Errors
+///
+/// `Device` where the device failed, and `Memory` where the disk found none: neither disk is to be used.
+pub(crate) fn clear<D: Disk>(disks: &mut Disks<Bank<D>, D>) -> Result<(), DiskFault>
+    requires ready { is_ready (λ b. b.is_spent) disks.old ≡ true }
+    requires durable { IsOtherDurable D.view D.honest disks.old }
+    // At no moment crashes leave anything but the state, which is the same.
+    ensures any_moment { (st : state.State)
+        → AreHonest (λ b. D.honest b.disk) D.honest disks.old
+        → IsUpOn (λ b. b.generation) (λ b. b.end) (λ b. D.view b.disk) D.view disks.old st
+        → PairsSince (both (λ b. D.view b.disk) D.view disks.old)
+        (both (λ b. D.view b.disk) D.view disks.new) (λ left right. Stands left right st) }
+    ensures kept { (st : state.State)
+        → IsKeptOn (λ b. b.generation) (λ b. b.end) (λ b. D.view b.disk) D.view
+        (λ b. D.honest b.disk) D.honest disks.old st
+        → OnOk result (IsKeptOn (λ b. b.generation) (λ b. b.end) (λ b. D.view b.disk) D.view
+        (λ b. D.honest b.disk) D.honest disks.new st) }
+    ensures trimmed { OnOk result (IsTrimmed D.view D.honest disks.old disks.new) }
+    ensures there { is_there disks.new ≡ true }
+    ensures ready { is_ready (λ b. b.is_spent) disks.new ≡ true }
+    ensures limit { number_of (λ b. b.limit) disks.new ≡ number_of (λ b. b.limit) disks.old }
+    ensures honest { AreHonest (λ b. D.honest b.disk) D.honest disks.old
+        ↔ AreHonest (λ b. D.honest b.disk) D.honest disks.new }
+    ensures cause { IsErrOf result DiskFault.Device
+        → failures (λ b. D.failures b.disk) D.failures disks.old
+        < failures (λ b. D.failures b.disk) D.failures disks.new }
+{
+    match mem::replace(disks, Disks::Away) {
+        Disks::InUse(pair) => {
+            let Pair {
+                bank,
+                other,
+                is_right,
+            } = pair;
+            let (told, other) = emptied(other);
+            *disks = Disks::InUse(Pair {
+                bank,
+                other,
+                is_right,
+            });
+            told
+        }
+        Disks::Shut { .. } | Disks::Away => unreachable!(),
+    }
+}
+
+// A disk that is not in use with its gate closed, and nothing behind that gate.
+fn emptied<D: Disk>(disk: D) -> (Result<(), DiskFault>, D)
+    requires { D.honest disk → IsDurable (D.view disk) }
+    ensures any_moment { D.honest disk → LeavesOnly (D.view disk) (D.view result.1)
+        (IsSameOrNone (D.view disk).seen) }
+    ensures one_byte { D.honest disk → OnOk result.0 ((length (D.view result.1).seen ≡ 1)
+        × IsClosed (D.view result.1).seen) }
+    ensures durable { D.honest disk → OnOk result.0 (IsDurable (D.view result.1)) }
+    ensures honest { D.honest disk ↔ D.honest result.1 }
+    ensures cause { IsErrOf result.0 DiskFault.Device → D.failures disk < D.failures result.1 }
+{
+    match shut(disk) {
+        Err((fault, disk)) => (Err(fault), disk),
+        Ok(closed) => {
+            let mut disk = closed.into_disk();
+            let told = cut_behind_gate(&mut disk);
+            (told, disk)
+        }
+    }
+}
+
+// Cuts off all that stands behind a first gate that is closed.
+fn cut_behind_gate<D: Disk>(disk: &mut D) -> Result<(), DiskFault>
+    requires closed { D.honest disk.old → IsClosed (D.view disk.old).seen }
+    requires durable { D.honest disk.old → IsDurable (D.view disk.old) }
+    ensures any_moment { D.honest disk.old
+        → LeavesOnly (D.view disk.old) (D.view disk.new) IsNoBank }
+    ensures one_byte { D.honest disk.old → OnOk result ((length (D.view disk.new).seen ≡ 1)
+        × IsClosed (D.view disk.new).seen) }
+    ensures durable { D.honest disk.old → OnOk result (IsDurable (D.view disk.new)) }
+    ensures honest { D.honest disk.old ↔ D.honest disk.new }
+    ensures cause { CountsFailure result (D.failures disk.old) (D.failures disk.new) }
+{
+    disk.cut(1)?;
+    disk.sync()?;
+    Ok(())
+}
