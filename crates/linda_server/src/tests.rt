@@ -2,3 +2,4 @@ mod crash;
 mod rows;
 mod script;
 mod stop;
+mod switch;

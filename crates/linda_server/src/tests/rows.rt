@@ -1,40 +1,60 @@
 //! Banks to the byte: what a server writes, and what it says of what it reads.
 
-use super::script::{BOTH, Call, NEW, ONE, SHUT, left_behind, opened_of};
+use super::script::{BOTH, Call, NEW, ONE, Outcome, SHUT, TWO, opened_of, played};
 use crate::OpenFault;
+use linda_disk::MemDisk;
 use linda_store::NodeFault;
 use std::alloc::Global;
-use std::process::Abort;
 use std::test::Fail;
 
-/// What a new server of this limit tells of the call, and the bytes of the left bank behind it.
-fn makes(
-    rt: &impl Abort,
-    alloc: Global,
-    limit: usize,
-    call: Call,
-    want: Result<usize, NodeFault>,
-    bytes: &[u8],
-) -> Result<(), Fail> {
-    let (told, left) = left_behind(alloc, limit, call)?;
-    assert_eq!(rt; told, want, "{limit} {call:?}");
-    assert_eq!(rt; left.as_slice(), bytes);
+/// The limit of a new server, its calls, what it tells of the last one, and the bytes of the two disks behind it.
+type Row = (
+    usize,
+    &'static [Call],
+    Result<usize, NodeFault>,
+    &'static [u8],
+    &'static [u8],
+);
+
+const ROWS: &[Row] = &[
+    (34, &[], Ok(0), NEW, SHUT),
+    (64, &[Call::PutOne], Err(NodeFault::Full), NEW, SHUT),
+    (65, &[Call::PutOne], Ok(1), ONE, SHUT),
+    (90, &[Call::PutBoth], Err(NodeFault::Full), NEW, SHUT),
+    (91, &[Call::PutBoth], Ok(2), BOTH, SHUT),
+    (
+        75,
+        &[Call::PutOne, Call::Snapshot],
+        Err(NodeFault::Full),
+        ONE,
+        SHUT,
+    ),
+    (76, &[Call::PutOne, Call::Snapshot], Ok(0), ONE, TWO),
+    (76, &[Call::PutOne, Call::Trim], Ok(0), ONE, SHUT),
+    (
+        76,
+        &[Call::PutOne, Call::Snapshot, Call::Trim],
+        Ok(0),
+        SHUT,
+        TWO,
+    ),
+];
+
+/// Whether a new server that makes the calls of that row tells and leaves what stands there.
+fn is_so(alloc: Global, row: &Row) -> Result<bool, Fail> {
+    let (limit, calls, want, left_bytes, right_bytes) = row;
+    let Outcome { told, left, right } = played(alloc, MemDisk::new(alloc), *limit, calls)?;
+    Ok(told == *want && left.bytes() == *left_bytes && right.bytes() == *right_bytes)
+}
+
+#[test]
+fn each_call_leaves_these_bytes(rt: HostRuntime) -> Result<(), Fail> {
+    let alloc = rt.alloc();
+    for row in ROWS {
+        let (limit, calls, ..) = row;
+        assert!(rt; is_so(alloc, row)?, "{limit} {calls:?}");
+    }
     Ok(())
-}
-
-#[test]
-fn a_record_is_stored_within_the_limit(rt: HostRuntime) -> Result<(), Fail> {
-    let alloc = rt.alloc();
-    makes(&rt, alloc, 34, Call::Nothing, Ok(0), NEW)?;
-    makes(&rt, alloc, 64, Call::PutOne, Err(NodeFault::Full), NEW)?;
-    makes(&rt, alloc, 65, Call::PutOne, Ok(1), ONE)
-}
-
-#[test]
-fn a_batch_is_one_record(rt: HostRuntime) -> Result<(), Fail> {
-    let alloc = rt.alloc();
-    makes(&rt, alloc, 90, Call::PutBoth, Err(NodeFault::Full), NEW)?;
-    makes(&rt, alloc, 91, Call::PutBoth, Ok(2), BOTH)
 }
 
 #[test]

@@ -24,18 +24,25 @@ pub(super) const BOTH: &[u8] =
     \x01\0\0\0\x34\x01\0\0\0\x07\0\0\0\0\0\0\0\x01\x02\x01a\x01\x01\0\0\0\0\0\0\0\x03\
     \x01\0\0\0\x07\0\0\0\0\0\0\0\x02\x02\x01a\x01\x01\0\0\0\0\0\0\0\x04\0";
 
+/// The bank of generation 2 whose snapshot is the state that the bank with one record stands for.
+pub(super) const TWO: &[u8] =
+    b"\x01LND1\0\0\0\0\0\0\0\x02\0\0\0\x3a\0\0\0\0\0\0\0\x02\0\0\0\x01\0\0\0\0\0\0\0\x01\
+    \x02\x01a\x01\x01\0\0\0\0\0\0\0\x03\0\0\0\x01\0\0\0\x07\0\0\0\0\0\0\0\x01\
+    \x01\0\0\0\0\0\0\0\x01\0";
+
 /// A closed gate alone.
 pub(super) const SHUT: &[u8] = &[0];
 
 /// How many device calls make a new left bank.
 const CALLS_OF_CREATE: u64 = 6;
 
-/// A call of a server: none, one message, or several at once.
+/// A call of a server: one message, or several at once, or one that no client asks for.
 #[derive(Clone, Copy, Debug)]
 pub(super) enum Call {
-    Nothing,
     PutOne,
     PutBoth,
+    Snapshot,
+    Trim,
 }
 
 /// Message `n` of a client, which puts ("a", number).
@@ -69,14 +76,23 @@ fn puts(alloc: Global) -> Result<Vec<(u32, Message)>, AllocError> {
     Ok(messages)
 }
 
+/// How many replies there are where there may be none.
+fn none_of(told: Result<(), NodeFault>) -> Result<usize, NodeFault> {
+    match told {
+        Ok(()) => Ok(0),
+        Err(fault) => Err(fault),
+    }
+}
+
 /// Makes the call, and gives how many replies there are.
-fn make(
+pub(super) fn make(
     alloc: Global,
     server: &mut Durable<MemDisk>,
     call: Call,
 ) -> Result<Result<usize, NodeFault>, AllocError> {
     match call {
-        Call::Nothing => Ok(Ok(0)),
+        Call::Snapshot => Ok(none_of(server.snapshot(alloc))),
+        Call::Trim => Ok(none_of(server.trim())),
         Call::PutOne => match server.handle(alloc, 7, &put(alloc, 1, 3)?) {
             Ok(sends) => Ok(Ok(sends.len())),
             Err(fault) => Ok(Err(fault)),
@@ -94,40 +110,52 @@ fn make(
     }
 }
 
-/// What a call told, and the two disks behind it.
-#[derive(Drop)]
-struct Outcome {
-    told: Result<usize, NodeFault>,
-    left: MemDisk,
-    right: MemDisk,
+/// Makes the calls, and gives how many replies there are to the last one.
+fn make_all(
+    alloc: Global,
+    server: &mut Durable<MemDisk>,
+    calls: &[Call],
+) -> Result<Result<usize, NodeFault>, AllocError> {
+    let mut told = Ok(0);
+    for call in calls {
+        told = make(alloc, server, *call)?;
+    }
+    Ok(told)
 }
 
-/// A new server on the left disk and an empty one makes this call.
-fn played(alloc: Global, left: MemDisk, limit: usize, call: Call) -> Result<Outcome, Fail> {
+/// What the last call told, and the two disks behind it.
+#[derive(Drop)]
+pub(super) struct Outcome {
+    pub(super) told: Result<usize, NodeFault>,
+    pub(super) left: MemDisk,
+    pub(super) right: MemDisk,
+}
+
+/// A new server on the left disk and an empty one makes these calls.
+pub(super) fn played(
+    alloc: Global,
+    left: MemDisk,
+    limit: usize,
+    calls: &[Call],
+) -> Result<Outcome, Fail> {
     match Durable::create(alloc, left, MemDisk::new(alloc), limit) {
         Err((fault, _, _)) => Err(Fail::from(fault)),
         Ok(server) => {
             let mut server = server;
-            let told = make(alloc, &mut server, call)?;
+            let told = make_all(alloc, &mut server, calls)?;
             let (left, right) = server.into_disks();
             Ok(Outcome { told, left, right })
         }
     }
 }
 
-/// What a new server of this limit tells of the call, and the bytes of its left disk.
-pub(super) fn left_behind(
-    alloc: Global,
-    limit: usize,
-    call: Call,
-) -> Result<(Result<usize, NodeFault>, Vec<u8>), Fail> {
-    let Outcome { told, left, .. } = played(alloc, MemDisk::new(alloc), limit, call)?;
-    Ok((told, Vec::from_slice(alloc, left.bytes())?))
-}
-
 /// What a server tells that is opened on these disks: its next id, and how many tuples and clients
 /// there are.
-fn opened(alloc: Global, left: MemDisk, right: MemDisk) -> Result<(u64, usize, usize), OpenFault> {
+pub(super) fn opened(
+    alloc: Global,
+    left: MemDisk,
+    right: MemDisk,
+) -> Result<(u64, usize, usize), OpenFault> {
     match Durable::open(alloc, left, right, 100) {
         Err((fault, _, _)) => Err(fault),
         Ok(server) => {
@@ -137,15 +165,18 @@ fn opened(alloc: Global, left: MemDisk, right: MemDisk) -> Result<(u64, usize, u
     }
 }
 
+/// A disk that holds these bytes.
+pub(super) fn disk_of(alloc: Global, bytes: &[u8]) -> Result<MemDisk, Fail> {
+    Ok(MemDisk::from_bytes(alloc, Vec::from_slice(alloc, bytes)?)?)
+}
+
 /// The same of disks that hold these bytes.
 pub(super) fn opened_of(
     alloc: Global,
     left: &[u8],
     right: &[u8],
 ) -> Result<Result<(u64, usize, usize), OpenFault>, Fail> {
-    let left = MemDisk::from_bytes(alloc, Vec::from_slice(alloc, left)?)?;
-    let right = MemDisk::from_bytes(alloc, Vec::from_slice(alloc, right)?)?;
-    Ok(opened(alloc, left, right))
+    Ok(opened(alloc, disk_of(alloc, left)?, disk_of(alloc, right)?))
 }
 
 /// A new server is stopped inside this device call of a put, its disks crash so, and it is opened
@@ -161,7 +192,7 @@ pub(super) fn stopped(
         told,
         mut left,
         mut right,
-    } = played(alloc, disk, 100, Call::PutOne)?;
+    } = played(alloc, disk, 100, &[Call::PutOne])?;
     left.crash(torn)?;
     right.crash(torn)?;
     let (next, _, _) = opened(alloc, left, right)?;

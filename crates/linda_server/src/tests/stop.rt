@@ -86,7 +86,11 @@ fn stopped(
     }
     let deeds = server.stop(alloc, work_of(alloc, doing)?, at, torn)?.len();
     let free = server.holds().get(1).is_none();
-    let accept = Message::Accept { n: 1, ticket: 1, id: 1 };
+    let accept = Message::Accept {
+        n: 1,
+        ticket: 1,
+        id: 1,
+    };
     let sends = server.handle(alloc, 8, &accept)?;
     let state = server.state();
     let gone = free && is_gone(&sends);
