@@ -1,3 +1,4 @@
+mod converse;
 mod crash;
 mod rows;
 mod script;
