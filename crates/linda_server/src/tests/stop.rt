@@ -68,7 +68,7 @@ fn work_of(alloc: Global, doing: Doing) -> Result<Work, Fail> {
 /// Whether the replies are one Gone, to client 8.
 fn is_gone(sends: &[(u32, Reply)]) -> bool {
     match sends {
-        [(8, Reply::Gone { n: 1 })] => true,
+        [(client, Reply::Gone { n })] => *client == 8 && *n == 1,
         _ => false,
     }
 }
