@@ -73,13 +73,18 @@ pub(super) fn appended(alloc: Global, limit: usize) -> Result<Vec<u8>, BankFault
 }
 
 /// Puts the deed onto the new bank, lets the power go off inside this device call of the append and the disk crash
-/// so; and opens what is left. (Opening takes the first call, a sync.)
+/// so; and opens what is left.
 pub(super) fn stopped(alloc: Global, call: u64, torn: Torn) -> Result<(usize, usize), BankFault> {
-    let mut disk = disk_of(alloc, NEW)?;
-    disk.fuse(call.saturating_add(1));
-    let (_, mut disk) = put_onto(alloc, disk, 65);
-    disk.crash(torn)?;
-    ends_of(alloc, disk)
+    match Bank::open(alloc, disk_of(alloc, NEW)?, 65) {
+        Err((fault, _)) => Err(fault),
+        Ok((mut bank, _, _)) => {
+            bank.fuse(call);
+            let _told = put(alloc, &mut bank);
+            let mut disk = bank.into_disk();
+            disk.crash(torn)?;
+            ends_of(alloc, disk)
+        }
+    }
 }
 
 /// The bytes of a bank of generation 1 that is made on an empty disk, with the new bank's body.
