@@ -1,31 +1,14 @@
--- Packets that count as delivered, one after another, and messages among packets.
-use Rattle.std.proofs.Common.{◌≡◌, ℕ, zero, suc, ◌+◌, ◌<◌, Bool, true, false, ◌==◌, ◌&&◌, List, [], ◌∷◌, ◌++◌, length, take, drop, get_or, Some, All, set, slice_get, refl, sym, ap, ◌∙◌, subst, arith, eqb-true, add-one}
+-- Messages among packets.
+use Rattle.std.proofs.Common.{◌≡◌, ℕ, zero, suc, ◌+◌, ◌<◌, Bool, true, false, ◌==◌, ◌&&◌, List, [], ◌∷◌, ◌++◌, length, take, get_or, Some, All, slice_get, refl, sym, ap, ◌∙◌, subst, arith, eqb-true, add-one}
 use Rattle.std.specs.List.{list_all}
 use Rattle.std.proofs.lemmas.Option.{slice_get_within, slice_get_read}
-use Rattle.std.proofs.lemmas.List.Elements.{All-nil, All-cons, All-head, All-tail}
-use Rattle.std.proofs.Math.Seq.{take-suc, drop-cons}
+use Rattle.std.proofs.lemmas.List.Elements.{All-nil, All-cons}
+use Rattle.std.proofs.Math.Seq.{take-suc}
 use Rattle.linda_wire.specs.declared.message.Message.{Message}
 use Rattle.linda_run.specs.declared.packet.Body.TheVariants as bodies
 use Rattle.linda_run.specs.declared.packet.Packet.{Packet}
-use Rattle.linda_run.specs.World.{delivered_at, delivered}
 use Rattle.linda_run.specs.Steps.{IsMessageAt, AreMessagesAt}
 use Rattle.linda_world.specs.Refusal.{is_message_at, is_message_to, is_message_body}
-
-pub set_delivered : (ps : List Packet) (k : ℕ) (d : Packet) → k < length ps → set ps k (record (get_or ps k d) { delivered = true }) ≡ delivered_at k ps
-set_delivered [] k d low = absurd (omega (arith, low))
-set_delivered (p ∷ ps) zero d low = refl
-set_delivered (p ∷ ps) (suc k) d low = ap (λ l. p ∷ l) (set_delivered ps k d (omega (arith, low)))
-
-pub length_delivered : (k : ℕ) (ps : List Packet) → length (delivered_at k ps) ≡ length ps
-length_delivered k [] = refl
-length_delivered zero (p ∷ ps) = refl
-length_delivered (suc k) (p ∷ ps) = ap suc (length_delivered k ps)
-
--- What is sent behind does not count as delivered with them.
-pub delivered_front : (k : ℕ) (ps more : List Packet) → k < length ps → delivered_at k (ps ++ more) ≡ delivered_at k ps ++ more
-delivered_front k [] more low = absurd (omega (arith, low))
-delivered_front zero (p ∷ ps) more low = refl
-delivered_front (suc k) (p ∷ ps) more low = ap (λ l. p ∷ l) (delivered_front k ps more (omega (arith, low)))
 
 -- One message more.
 pub one_message : (ps : List Packet) (s : ℕ) (ks : List ℕ) (ms : List (ℕ × Message)) (k : ℕ) (m : ℕ × Message) → AreMessagesAt ps s ks ms → IsMessageAt ps s k m → AreMessagesAt ps s (ks ++ k ∷ []) (ms ++ m ∷ [])
@@ -62,15 +45,6 @@ message_there ps s k p m there is body = record {
   body = body;
 }
 
--- So it is with several.
-pub all_delivered_front : (ks : List ℕ) (ps more : List Packet) → All (λ k. k < length ps) ks → delivered ks (ps ++ more) ≡ delivered ks ps ++ more
-all_delivered_front [] ps more low = refl
-all_delivered_front (k ∷ ks) ps more low =
-    let here = All-head (λ k. k < length ps) k ks low in
-    let same : length (delivered_at k ps) ≡ length ps = length_delivered k ps in
-    ap (delivered ks) (delivered_front k ps more here)
-    ∙ all_delivered_front ks (delivered_at k ps) more (subst (λ n. All (λ j. j < n) ks) (sym same) (All-tail (λ k. k < length ps) k ks low))
-
 -- Packets that are messages are there.
 pub messages_within : (ps : List Packet) (s : ℕ) (ks : List ℕ) (ms : List (ℕ × Message)) → AreMessagesAt ps s ks ms → All (λ k. k < length ps) ks
 messages_within ps s [] ms are = All-nil (λ k. k < length ps)
@@ -85,9 +59,3 @@ next_message ps s ks i ms p m are low all within there body =
     subst (λ l. AreMessagesAt ps s l (ms ++ (p.client, m) ∷ [])) (sym front)
     (one_message ps s (take i ks) ms (get_or ks i 0) (p.client, m) are
     (message_there ps s (get_or ks i 0) p m (slice_get_read ps (length ps) (get_or ks i 0) p refl within there) (each_passes (is_message_at ps s) ks i 0 all low) body))
-
--- One more counts as delivered.
-pub next_mark : (ks : List ℕ) (i : ℕ) (ps now all : List Packet) → delivered (drop i ks) ps ≡ all → now ≡ delivered_at (get_or ks i 0) ps → i < length ks → delivered (drop (i + 1) ks) now ≡ all
-next_mark ks i ps now all before is low =
-    ap (λ n. delivered (drop n ks) now) (add-one i) ∙ ap (delivered (drop (suc i) ks)) is
-    ∙ sym (ap (λ l. delivered l ps) (drop-cons ks i 0 low)) ∙ before

@@ -1,32 +1,13 @@
-//! Packets that count as delivered, and messages among packets.
+//! Messages among packets.
 
-ghost use Rattle.std.specs.Prelude.{◌≡◌, ◌<◌, All, IfOk, length, true};
+ghost use Rattle.std.specs.Prelude.{◌≡◌, IfOk, true};
 ghost use Rattle.std.specs.List.{list_all};
-ghost use Rattle.linda_run.specs.World.{delivered, delivered_at};
 ghost use Rattle.linda_run.specs.Steps.{AreMessagesAt};
 ghost use Rattle.linda_world.specs.Refusal.{is_message_at};
 
 use linda_run::{Body, Packet};
 use linda_wire::Message;
 use std::alloc::{AllocError, Global};
-
-/// The packet of this number counts as delivered.
-pub(crate) fn mark(packets: &mut Vec<Packet>, k: usize)
-    requires { k < length packets.old.items }
-    ensures { packets.new.items ≡ delivered_at k packets.old.items }
-{
-    packets[k].delivered = true;
-}
-
-/// The packets of these numbers count as delivered.
-pub(crate) fn mark_all(packets: &mut Vec<Packet>, ks: &[usize])
-    requires { All (λ k. k < length packets.old.items) ks.now }
-    ensures { packets.new.items ≡ delivered ks.now packets.old.items }
-{
-    for k in ks {
-        mark(packets, *k);
-    }
-}
 
 /// Whether the packet of this number is a message to the server.
 fn is_message(packets: &[Packet], server: u32, k: usize) -> bool

@@ -1,7 +1,7 @@
 use Rattle.std.proofs.Common.{true, set, ap, ◌∙◌}
 use Rattle.linda_run.specs.declared.packet.Packet.{Packet}
-use Rattle.linda_world.proofs.MarkLaws.{set_delivered}
-use Rattle.linda_world.proofs.mark.mark.Goals as goal
+use Rattle.linda_run.proofs.MarkLaws.{set_delivered}
+use Rattle.linda_run.proofs.mark.mark_delivered.Goals as goal
 
 pub returns : goal.returns
 returns c =

@@ -2,8 +2,8 @@ use Rattle.std.proofs.Common.{◌∷◌, [], ◌++◌, length, get_or, sym, ap, 
 use Rattle.linda_wire.specs.declared.message.Message.{Message}
 use Rattle.linda_run.specs.Steps.{AreMessagesAt}
 use Rattle.std.proofs.Common.{take, ◌+◌}
-use Rattle.linda_world.proofs.MarkLaws.{next_message}
-use Rattle.linda_world.proofs.mark.messages_at.Goals as goal
+use Rattle.linda_world.proofs.MessageLaws.{next_message}
+use Rattle.linda_world.proofs.message.messages_at.Goals as goal
 
 pub loop-k-preserved : goal.loop-k-preserved
 loop-k-preserved c =

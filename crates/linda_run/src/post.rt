@@ -1,16 +1,18 @@
 //! Packets as they are sent.
 
-ghost use Rattle.std.specs.Prelude.{◌≡◌, ◌++◌, [], ◌∷◌, IfOk, OnOk, OnErr, map, option_to_list};
-ghost use Rattle.linda_wire.specs.declared.refusal.Refusal.TheVariants as refusals;
-ghost use Rattle.linda_wire.specs.Refusal.{refused};
+ghost use Rattle.std.specs.Prelude.{◌≡◌, ◌++◌, IfOk, OnOk, OnErr, map, option_to_list};
 ghost use Rattle.linda_run.specs.World.{sent_by, sent_from};
 
-use linda_run::{Body, Packet};
-use linda_wire::{Message, Refusal, Reply};
+use crate::packet::{Body, Packet};
+use linda_wire::{Message, Reply};
 use std::alloc::{AllocError, Global};
 
-/// The packets of these messages of a client.
-pub(crate) fn packets_by(
+/// The packets of these messages of a client, each to the server beside it, in order.
+///
+/// # Errors
+///
+/// Where memory runs out.
+pub fn packets_by(
     alloc: Global,
     client: u32,
     sends: Vec<(u32, Message)>,
@@ -29,8 +31,12 @@ pub(crate) fn packets_by(
     Ok(packets)
 }
 
-/// The packets of these replies of a server.
-pub(crate) fn packets_from(
+/// The packets of these replies of a server, each to the client beside it, in order.
+///
+/// # Errors
+///
+/// Where memory runs out.
+pub fn packets_from(
     alloc: Global,
     server: u32,
     sends: Vec<(u32, Reply)>,
@@ -49,17 +55,12 @@ pub(crate) fn packets_from(
     Ok(packets)
 }
 
-/// What a server without room sends to the client whose message it is.
-pub(crate) fn refuse_full(alloc: Global, client: u32) -> Result<Vec<(u32, Reply)>, AllocError>
-    ensures { IfOk result (λ v. v.items ≡ (client, refused refusals.Full) ∷ []) }
-{
-    let mut sends = Vec::with_capacity(alloc, 1)?;
-    sends.push((client, Refusal::Full.reply()))?;
-    Ok(sends)
-}
-
-/// Appends to both lists, or to none where memory runs out.
-pub(crate) fn append_both<A: Drop, B: Drop>(
+/// Appends to both lists, so that what a step sends and what it does go together.
+///
+/// # Errors
+///
+/// Where memory runs out; then both lists are as before.
+pub fn append_both<A: Drop, B: Drop>(
     many: &mut Vec<A>,
     more: Vec<A>,
     few: &mut Vec<B>,
