@@ -3,3 +3,4 @@ pub mod MemberLaws
 pub mod MessageLaws
 pub mod SceneLaws
 pub mod WorldLaws
+pub mod FrailLaws
