@@ -14,7 +14,8 @@ use linda_wire::{Message, Reply};
 use std::alloc::Global;
 use std::test::Fail;
 
-/// It has no room for an Out 1, nor for a snapshot; all else takes it down, and a stop opens it again. It keeps nothing.
+/// It has no room for an Out 1, nor for a snapshot; all else takes it down, and a stop opens it again. It keeps no
+/// deed.
 #[derive(Drop)]
 struct Frail {
     down: bool,

@@ -1,6 +1,6 @@
-//! A run in which a growth of memory may be refused: with ample memory it goes to its end, and else what the world shows
-//! is as before, and it does nothing more. It is made to be run with each growth refused, one after another; where the
-//! growth is one of the script's own, the test fails and says `AllocError`.
+//! A run in which a growth of memory may be refused: with ample memory it goes to its end, and else what the world
+//! shows is as before, and it does nothing more. It is made to be run with each growth refused, one after another;
+//! where the growth is one of the script's own, the test fails and says `AllocError`.
 
 use super::script::{Do, a_world, event_of};
 use crate::fault::WorldFault;

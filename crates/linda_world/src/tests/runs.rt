@@ -168,8 +168,8 @@ fn two_servers_hold_release_and_are_closed(rt: HostRuntime) -> Result<(), Fail> 
     )
 }
 
-/// A server in memory does all that is in hand before it stops, and sends nothing: an Out, an Ask that waits no more, and
-/// an Accept that is in hand twice, by which the tuple is taken once. What is in hand counts as delivered.
+/// A server in memory does all that is in hand before it stops, and sends nothing: an Out, an Ask that waits no more,
+/// and an Accept that is in hand twice, by which the tuple is taken once. What is in hand counts as delivered.
 const STOPPED_AT_WORK: [(Do, &str); 12] = [
     (Do::Out(7), "7; 0: 7 to 0 out 1"),
     (Do::Stop(0, &[0]), "served"),
