@@ -1,8 +1,9 @@
 -- In a proper list each number of a client stands for one deed alone.
-use Rattle.std.proofs.Common.{◌≡◌, ℕ, ◌+◌, ◌<◌, ◌≤◌, Bool, true, false, cond, ◌==◌, List, [], ◌∷◌, ◌++◌, Some, None, Contains, ◌⊎◌, inl, inr, refl, sym, ap, ◌∙◌, subst, arith, append_assoc, append-nil, eq-eqb, ne_eqb, length, take, get_or}
+use Rattle.std.proofs.Common.{◌≡◌, ℕ, zero, suc, ◌+◌, ◌-◌, ◌<◌, ◌≤◌, Bool, true, false, cond, ◌==◌, List, [], ◌∷◌, ◌++◌, Some, None, Contains, ◌⊎◌, inl, inr, refl, sym, ap, ◌∙◌, subst, arith, append_assoc, append-nil, eq-eqb, ne_eqb, length, take, get_or}
 use Rattle.std.proofs.lemmas.Bool.{cond-true, cond-false, cases_eq}
 use Rattle.std.proofs.lemmas.List.{take_more}
 use Rattle.std.proofs.lemmas.List.Elements.{Contains-push_cases}
+use Rattle.linda_bag.proofs.Maps.{get_empty}
 use Rattle.linda_book.specs.Entries.{number_in}
 use Rattle.linda_state.specs.declared.deed.Deed.{Deed}
 use Rattle.linda_state.specs.Deed.{client_of, number_of}
@@ -25,16 +26,25 @@ last_more ds d c = ap (λ o. number_in (entry_after empty_state c o)) (last_of-j
     by true = refl
     by false = refl
 
--- The same of the deed at a place, which is the client's or another's.
-module _ (ds : List Deed) (i : ℕ) (d : Deed) (c : ℕ) (lt : i < length ds) (is : d ≡ get_or ds i d) where
-  last_up_to : last_in (take (i + 1) ds) c ≡ cond (client_of d == c) (number_of d) (last_in (take i ds) c)
-  last_up_to = ap (λ l. last_in l c) (take_more ds i d lt ∙ ap (λ e. take i ds ++ e ∷ []) (sym is)) ∙ last_more (take i ds) d c
+-- The deeds as far as one at a place, which is the client's or another's.
+module _ (ds : List Deed) (left : ℕ) (d : Deed) (c : ℕ) (some : 0 < left) (within : left ≤ length ds) (is : d ≡ get_or ds (left - 1) d) where
+  last_up_to : last_in (take left ds) c ≡ cond (client_of d == c) (number_of d) (last_in (take (left - 1) ds) c)
+  last_up_to =
+      let whole : left ≡ left - 1 + 1 = omega (arith, some) in
+      let low : left - 1 < length ds = omega (arith, some, within) in
+      ap (λ k. last_in (take k ds) c) whole
+      ∙ ap (λ l. last_in l c) (take_more ds (left - 1) d low ∙ ap (λ e. take (left - 1) ds ++ e ∷ []) (sym is)) ∙ last_more (take (left - 1) ds) d c
 
-  pub last_of_own : client_of d ≡ c → last_in (take (i + 1) ds) c ≡ number_of d
+  pub last_of_own : client_of d ≡ c → last_in (take left ds) c ≡ number_of d
   last_of_own mine = last_up_to ∙ cond-true (client_of d == c) _ _ (eq-eqb (client_of d) c mine)
 
-  pub last_of_other : (client_of d ≡ c → ⊥) → last_in (take (i + 1) ds) c ≡ last_in (take i ds) c
+  pub last_of_other : (client_of d ≡ c → ⊥) → last_in (take left ds) c ≡ last_in (take (left - 1) ds) c
   last_of_other other = last_up_to ∙ cond-false (client_of d == c) _ _ (ne_eqb (client_of d) c other)
+
+-- Among no deeds there is none.
+pub last_of_none : (ds : List Deed) (left c : ℕ) → left ≤ 0 → last_in (take left ds) c ≡ 0
+last_of_none ds zero c low = ap number_in (get_empty c)
+last_of_none ds (suc i) c low = absurd (omega (arith, low))
 
 -- One deed more, whose number is the next one of its client.
 module _ (ds : List Deed) (d : Deed) (was : NumbersEachOnce ds) (next : number_of d ≡ last_in ds (client_of d) + 1) where

@@ -14,17 +14,20 @@ ghost use Rattle.linda_promise.specs.Steps.{number_of_message};
 use linda_state::Deed;
 use linda_wire::{Message, Reply};
 
-/// The number of the client's last deed among these, 0 where it did none. Takes no memory.
+/// The number of the client's last deed among these, 0 where it did none: looked for from behind, so what a client did
+/// lately is found soon. Takes no memory.
 pub fn last_number(deeds: &[Deed], client: u32) -> u64
     ensures { result ≡ last_in deeds.now client }
 {
-    let mut last = 0;
-    for deed in deeds {
+    let mut left = deeds.len();
+    while left > 0 {
+        left -= 1;
+        let deed = &deeds[left];
         if deed.client() == client {
-            last = deed.number();
+            return deed.number();
         }
     }
-    last
+    0
 }
 
 /// Who takes the tuple of this id by one of these deeds, and by which number; nobody only where no deed takes it.

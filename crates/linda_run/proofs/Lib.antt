@@ -1,5 +1,6 @@
 pub mod PlaceLaws
 pub mod DeliverLaws
+pub mod MarkLaws
 pub mod CallLaws
 pub mod Course
 pub mod HonestLaws

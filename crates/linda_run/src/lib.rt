@@ -3,19 +3,26 @@
 //!
 //! A world is its servers, its clients and all packets; `specs/World` says what is seen of one, `specs/Steps` what
 //! each event comes to, and `specs/Reached` which worlds a run leads to. `specs/Promises` says what holds in each of
-//! them, whatever is lost, repeated, delayed or stopped, and `laws` proves it. There is no machine here: that is
-//! `linda_world`.
+//! them, whatever is lost, repeated, delayed or stopped, and `laws` proves it. There is no machine here, only what each
+//! machine of a run does with its packets: it sends them (`post`), counts them as delivered (`mark`), and notes what a
+//! client is given (`given`). The machine is `linda_world`.
 #![tactic(auto)]
 
 mod event;
+mod given;
 mod laws;
+mod mark;
 mod packet;
+mod post;
 mod seen;
 
 pub use event::WorldEvent;
+pub use given::given_by;
 pub use laws::{
     deeds_are_learned, deeds_stay, holds_have_reasons, servers_are_few, servers_stay_sound,
     what_is_handed_over_was_put, worlds_are_safe,
 };
+pub use mark::{mark_all_delivered, mark_delivered};
 pub use packet::{Body, Packet};
+pub use post::{append_both, packets_by, packets_from};
 pub use seen::Seen;

@@ -1,6 +1,6 @@
-pub mod LearnLaws
 pub mod ServedLaws
 pub mod MemberLaws
-pub mod MarkLaws
+pub mod MessageLaws
 pub mod SceneLaws
 pub mod WorldLaws
+pub mod FrailLaws

@@ -17,7 +17,7 @@ use Rattle.linda_world.specs.declared.fault.WorldFault.{WorldFault}
 use Rattle.linda_world.specs.Answer.{Tells, Serves, ServesOrNot}
 use Rattle.linda_world.specs.Member.{refusal_to, ReactsIn}
 use Rattle.linda_world.specs.Scene.{IsShownAs, AsksOrNot, answer_of, seen_of}
-use Rattle.linda_world.proofs.MarkLaws.{all_delivered_front, delivered_front}
+use Rattle.linda_run.proofs.MarkLaws.{all_delivered_front, delivered_front}
 
 -- a server whose deeds stayed leaves all deeds as they were
 same_deeds : (servers : List Server) (s : ℕ) (server now : Server) → slice_get servers s ≡ Some server → now.deeds ≡ server.deeds

@@ -8,10 +8,8 @@
 
 mod call;
 mod fault;
-mod learn;
-mod mark;
 mod member;
-mod post;
+mod message;
 mod scene;
 mod server;
 mod world;

@@ -1,17 +1,15 @@
 //! The clients of a world.
 
-ghost use Rattle.std.specs.Prelude.{◌≡◌, [], Some, None, OnOk, OnErr, option_copied, option_to_list, is_some};
+ghost use Rattle.std.specs.Prelude.{◌≡◌, [], Some, None, OnOk, OnErr, option_copied, is_some};
 ghost use Rattle.std.specs.Option.{option_map};
 ghost use Rattle.std.specs.FinMap as map;
-ghost use Rattle.linda_run.specs.World.{given_by};
 ghost use Rattle.linda_world.specs.Call.{call_of};
 ghost use Rattle.linda_world.specs.Member.{ReactsOrNot, ReactsInOrNot};
 
 use crate::call::{Call, refused};
 use crate::fault::WorldFault;
-use crate::post::{append_both, packets_by};
-use linda_client::{Client, Got, Outcome, Reaction};
-use linda_run::{Packet, Seen};
+use linda_client::{Client, Reaction};
+use linda_run::{Packet, Seen, append_both, given_by, packets_by};
 use std::alloc::{AllocError, Global};
 use std::collections::BTreeMap;
 use std::marker::Model;
@@ -32,21 +30,6 @@ impl Model for Member {
     ghost coded = { member_code };
 
     ghost view = { λ m. record { client = m.client; got = m.got.items } };
-}
-
-/// The server and the id of the tuple that an outcome gives, if it gives one.
-fn given(outcome: &Option<Outcome>) -> Option<(u32, u64)>
-    ensures { option_to_list result ≡ given_by outcome.now }
-{
-    match outcome {
-        Some(
-            Outcome::Synced {
-                got: Got::Took { server, id, .. },
-                ..
-            },
-        ) => Some((*server, *id)),
-        _ => None,
-    }
 }
 
 impl Member {
@@ -78,7 +61,7 @@ impl Member {
             fault,
         } = reaction;
         let more = packets_by(alloc, number, sends)?;
-        append_both(packets, more, &mut self.got, given(&outcome))?;
+        append_both(packets, more, &mut self.got, given_by(&outcome))?;
         Ok(Seen {
             client: Some(number),
             outcome,

@@ -16,12 +16,15 @@ ghost use Rattle.linda_world.specs.Scene.{AddsOrNot, Answers, AsksOrNot, new_ser
 
 use crate::call::Call;
 use crate::fault::WorldFault;
-use crate::mark::{are_messages, mark, mark_all, messages_at};
 use crate::member::Members;
+use crate::message::{are_messages, messages_at};
 use crate::server::{Server, Told};
 use linda_client::Client;
 use linda_disk::Torn;
-use linda_run::{Body, Packet, Seen, WorldEvent, servers_are_few, servers_stay_sound};
+use linda_run::{
+    Body, Packet, Seen, WorldEvent, mark_all_delivered, mark_delivered, servers_are_few,
+    servers_stay_sound,
+};
 use linda_store::{MAX_BATCH, Node, Work};
 use linda_wire::{Message, Reply};
 use std::alloc::{AllocError, Global};
@@ -192,7 +195,7 @@ impl<N: Node> Scene<N> {
         let work = Work::Messages(messages);
         match self.servers[server as usize].stop(alloc, server, work, at, torn) {
             Ok(told) => {
-                mark_all(&mut self.packets, &ks);
+                mark_all_delivered(&mut self.packets, &ks);
                 return asked(Ok(told));
             }
             Err(short) => return asked(Err(short)),
@@ -220,7 +223,7 @@ impl<N: Node> Scene<N> {
         let packets = &mut self.packets;
         match self.servers[server as usize].take(alloc, server, client, message, packets) {
             Ok(told) => {
-                mark(&mut self.packets, k);
+                mark_delivered(&mut self.packets, k);
                 return asked(Ok(told));
             }
             Err(short) => return asked(Err(short)),
@@ -243,7 +246,7 @@ impl<N: Node> Scene<N> {
         let call = Call::Receive(server, reply);
         match self.members.react(alloc, client, call, &mut self.packets) {
             Ok(seen) => {
-                mark(&mut self.packets, k);
+                mark_delivered(&mut self.packets, k);
                 return Ok(seen);
             }
             Err(fault) => return Err(fault),

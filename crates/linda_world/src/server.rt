@@ -1,17 +1,18 @@
 //! A server of a world: its node, and all that it has done.
 
-ghost use Rattle.std.specs.Prelude.{◌≡◌, ◌≤◌, [], None};
+ghost use Rattle.std.specs.Prelude.{◌≡◌, ◌≤◌, [], ◌∷◌, IfOk, None};
+ghost use Rattle.linda_wire.specs.declared.refusal.Refusal.TheVariants as refusals;
+ghost use Rattle.linda_wire.specs.Refusal.{refused};
 ghost use Rattle.linda_store.specs.Sound.{IsSound};
 ghost use Rattle.linda_store.specs.Node.{IsBatch, in_hand};
 ghost use Rattle.linda_run.specs.Steps.{Takes, Leaves, Saves, Halts};
 ghost use Rattle.linda_world.specs.Answer.{ServesOrNot};
 
-use crate::learn::{last_number, told_deed};
-use crate::post::{append_both, packets_from, refuse_full};
 use linda_disk::Torn;
-use linda_run::{Packet, Seen, deeds_are_learned};
+use linda_promise::{last_number, reported_deed};
+use linda_run::{Packet, Seen, append_both, deeds_are_learned, packets_from};
 use linda_store::{Deed, Node, NodeFault, Work};
-use linda_wire::Message;
+use linda_wire::{Message, Refusal, Reply};
 use std::alloc::{AllocError, Global};
 use std::marker::Model;
 
@@ -46,6 +47,15 @@ fn served(full: bool) -> Seen
         fault: None,
         full,
     }
+}
+
+/// What a server without room sends to the client whose message it is.
+fn refuse_full(alloc: Global, client: u32) -> Result<Vec<(u32, Reply)>, AllocError>
+    ensures { IfOk result (λ v. v.items ≡ (client, refused refusals.Full) ∷ []) }
+{
+    let mut sends = Vec::with_capacity(alloc, 1)?;
+    sends.push((client, Refusal::Full.reply()))?;
+    Ok(sends)
 }
 
 impl<N: Node> Server<N> {
@@ -90,7 +100,7 @@ impl<N: Node> Server<N> {
         let last = last_number(&self.deeds, client);
         match self.node.handle(alloc, client, &message) {
             Ok(sends) => {
-                let deed = told_deed(client, message, last, &sends);
+                let deed = reported_deed(client, message, last, &sends);
                 let more = packets_from(alloc, server, sends)?;
                 append_both(packets, more, &mut self.deeds, deed)?;
                 return Ok(Ok(served(false)));

@@ -1,3 +1,9 @@
-//! Tests of worlds over nodes in memory, worked out by hand.
+//! Tests of worlds, row by row, worked out by hand.
 
-mod rows;
+mod frail;
+mod lists;
+mod memory;
+mod refusals;
+mod runs;
+mod script;
+mod words;

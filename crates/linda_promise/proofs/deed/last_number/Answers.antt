@@ -1,21 +1,21 @@
--- With each turn it is the last number among one deed more.
-use Rattle.std.proofs.Common.{ap, sym, ◌∙◌}
-use Rattle.linda_bag.proofs.Maps.{get_empty}
-use Rattle.linda_book.specs.Entries.{number_in}
-use Rattle.linda_promise.proofs.NumberLaws.{last_of_own, last_of_other}
+-- A deed of another is left out; the first of the client's that is met is its last.
+use Rattle.std.proofs.Common.{sym, ◌∙◌, arith}
+use Rattle.linda_promise.proofs.NumberLaws.{last_of_own, last_of_other, last_of_none}
 use Rattle.linda_promise.proofs.deed.last_number.Goals as goal
-use Rattle.linda_promise.proofs.deed.last_number.Goals.{then-client, else-client}
 
-pub loop-deed-init : goal.loop-deed-init
-loop-deed-init c = ap number_in (sym (get_empty c.args.client))
+pub returns-then-client : goal.returns-then-client
+returns-then-client c =
+    c.number.ensures
+    ∙ sym (last_of_own c.args.deeds.now c.loop-left.left c.index-deeds-left.result c.args.client c.loop-left-test.true c.loop-left.invariant.0 c.index-deeds-left.is (sym c.client.ensures ∙ c.if-client.true))
+    ∙ c.loop-left.invariant.1
 
-pub loop-deed-preserved : goal.loop-deed-preserved
-loop-deed-preserved c =
-    elim c.if-client.branch [
-      | then-client w ↦
-          w.last-is ∙ w.number-last.ensures
-          ∙ sym (last_of_own c.args.deeds.now c.loop-deed.deed-index c.deed-item.result c.args.client c.loop-deed-test.true c.deed-item.is (sym c.client.ensures ∙ w.if-client.true))
-      | else-client w ↦
-          w.last-is ∙ c.loop-deed.invariant
-          ∙ sym (last_of_other c.args.deeds.now c.loop-deed.deed-index c.deed-item.result c.args.client c.loop-deed-test.true c.deed-item.is (λ mine. w.if-client.false (c.client.ensures ∙ mine)))
-    ]
+pub loop-left-preserved : goal.loop-left-preserved
+loop-left-preserved c =
+    let within = c.loop-left.invariant.0 in (
+      omega (arith, within),
+      sym (last_of_other c.args.deeds.now c.loop-left.left c.index-deeds-left.result c.args.client c.loop-left-test.true c.loop-left.invariant.0 c.index-deeds-left.is (λ mine. c.if-client.false (c.client.ensures ∙ mine)))
+          ∙ c.loop-left.invariant.1,
+    )
+
+pub returns : goal.returns
+returns c = sym (last_of_none c.args.deeds.now c.loop-left.left c.args.client c.loop-left-test.false) ∙ c.loop-left.invariant.1

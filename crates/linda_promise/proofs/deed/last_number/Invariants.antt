@@ -1,7 +1,10 @@
-use Rattle.std.proofs.Common.{◌≡◌, take}
+use Rattle.std.proofs.Common.{◌≡◌, ◌≤◌, length, take}
 use Rattle.linda_promise.specs.Deeds.{last_in}
 use Rattle.linda_promise.proofs.deed.last_number.Given as goal
 
--- It is the last number among the deeds so far.
-abbrev pub invariant-loop-deed : goal.invariant-loop-deed
-invariant-loop-deed l = l.last ≡ last_in (take l.deed-index l.deeds) l.client
+-- The last number is among the deeds that are left.
+abbrev pub invariant-loop-left : goal.invariant-loop-left
+invariant-loop-left l = (l.left ≤ length l.deeds) × (last_in (take l.left l.deeds) l.client ≡ last_in l.deeds l.client)
+
+abbrev pub decreases-loop-left : goal.decreases-loop-left
+decreases-loop-left l = l.left

@@ -12,7 +12,7 @@ returns c =
     (record { client = c.make.new.client; got = c.append_both.new.few.items }) c.append_both.new.many.items) c.self.view_is (record {
       reaction = shown c.in-Ok.reaction c.make.new.client;
       answer = c.in-Ok.ensures;
-      member_is = ap (λ l. record { client = c.make.new.client; got = l }) (c.in_ok-append_both.ensures.one ∙ ap (λ l. c.self.inside.got.items ++ l) c.given.ensures);
+      member_is = ap (λ l. record { client = c.make.new.client; got = l }) (c.in_ok-append_both.ensures.one ∙ ap (λ l. c.self.inside.got.items ++ l) c.given_by.ensures);
       packets_are = c.in_ok-append_both.ensures.ok ∙ ap (λ l. c.args.packets.now.items ++ l) c.in_ok-more.ensures;
       told_is = refl;
     })

@@ -19,8 +19,8 @@ returns-in-Ok g c =
     let low : c.args.k < length c.self.inside.packets.items = subst (λ (x : World). c.args.k < length x.packets) (sym c.self.view_is) c.requires.packet in
     done_at (HasServed (Takes c.args.client c.args.message) c.args.server (c.args.k ∷ [])) (refusal_at c.args.self.now c.args.server) c.args.self.now _ c.in-Ok.told c.asked.result c.asked.ensures
     (served_at (Takes c.args.client c.args.message) c.args.server c.self.inside.servers.items c.self.inside.members c.self.inside.packets.items c.take.new.packets.items c.index_mut.result.now c.take.new.self within c.index_mut.ensures.value
-    c.args.self.now c.self.view_is (c.args.k ∷ []) c.in-Ok.told c.mark.new.packets.items (All-cons (λ k. k < length c.self.inside.packets.items) c.args.k [] low (All-nil (λ k. k < length c.self.inside.packets.items)))
-    c.in-Ok.ensures c.mark.ensures)
+    c.args.self.now c.self.view_is (c.args.k ∷ []) c.in-Ok.told c.mark_delivered.new.packets.items (All-cons (λ k. k < length c.self.inside.packets.items) c.args.k [] low (All-nil (λ k. k < length c.self.inside.packets.items)))
+    c.in-Ok.ensures c.mark_delivered.ensures)
 
 pub returns-in-Err : goal.returns-in-Err
 returns-in-Err g c =

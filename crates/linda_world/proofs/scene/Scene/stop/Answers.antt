@@ -3,7 +3,7 @@ use Rattle.linda_step.specs.History.{comings}
 use Rattle.linda_run.specs.World.{World, delivered}
 use Rattle.linda_run.specs.Steps.{IsStopped, AreMessagesAt, Halts}
 use Rattle.linda_world.specs.Refusal.{refusal_of_stop}
-use Rattle.linda_world.proofs.MarkLaws.{as_many, messages_within}
+use Rattle.linda_world.proofs.MessageLaws.{as_many, messages_within}
 use Rattle.linda_world.proofs.SceneLaws.{done_at, short_at, served_at, shown_at, silent_serves}
 use Rattle.linda_world.proofs.scene.Scene.stop.Goals as goal
 
@@ -14,8 +14,8 @@ stop-requires g c =
     let many = as_many c.self.inside.packets.items c.args.server c.args.ks.items c.in-Ok.messages.items are in
     omega (arith, many, c.len-2.ensures, c.if-len-gt-MAX_BATCH.false)
 
-pub mark_all-requires : goal.mark_all-requires
-mark_all-requires g c =
+pub mark_all_delivered-requires : goal.mark_all_delivered-requires
+mark_all_delivered-requires g c =
     let are : AreMessagesAt c.self.inside.packets.items c.args.server c.args.ks.items c.in-Ok.messages.items =
     subst (λ ps. AreMessagesAt ps c.args.server c.args.ks.items c.in-Ok.messages.items) c.deref-3.ensures.value (subst (λ ks. AreMessagesAt c.deref-3.result.now c.args.server ks c.in-Ok.messages.items) c.deref-4.ensures.value c.in-Ok.ensures) in
     subst (λ ks. All (λ k. k < length c.self.inside.packets.items) ks) (sym c.deref-in-Ok-stop.ensures.value) (messages_within c.self.inside.packets.items c.args.server c.args.ks.items c.in-Ok.messages.items are)
@@ -29,9 +29,9 @@ returns-in-Ok-stop g c =
       messages = c.in-Ok.messages.items;
       in_hand = subst (λ (x : World). AreMessagesAt x.packets c.args.server c.args.ks.items c.in-Ok.messages.items) c.self.view_is are;
       halted = served_at (Halts (comings c.in-Ok.messages.items)) c.args.server c.self.inside.servers.items c.self.inside.members c.self.inside.packets.items c.self.inside.packets.items c.index_mut.result.now c.stop.new.self within c.index_mut.ensures.value
-          c.args.self.now c.self.view_is c.args.ks.items c.in-Ok-stop.told c.mark_all.new.packets.items (messages_within c.self.inside.packets.items c.args.server c.args.ks.items c.in-Ok.messages.items are)
+          c.args.self.now c.self.view_is c.args.ks.items c.in-Ok-stop.told c.mark_all_delivered.new.packets.items (messages_within c.self.inside.packets.items c.args.server c.args.ks.items c.in-Ok.messages.items are)
           (silent_serves (Halts (comings c.in-Ok.messages.items)) c.args.server c.index_mut.result.now c.self.inside.packets.items c.stop.new.self c.in-Ok-stop.told c.in-Ok-stop.ensures)
-          (c.mark_all.ensures ∙ ap (λ ks. delivered ks c.self.inside.packets.items) c.deref-in-Ok-stop.ensures.value);
+          (c.mark_all_delivered.ensures ∙ ap (λ ks. delivered ks c.self.inside.packets.items) c.deref-in-Ok-stop.ensures.value);
     })
 
 pub returns-in-Err : goal.returns-in-Err

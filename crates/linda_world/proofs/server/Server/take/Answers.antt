@@ -12,9 +12,9 @@ use Rattle.linda_world.proofs.server.Server.take.Goals as goal
 pub returns-in-Ok : goal.returns-in-Ok
 returns-in-Ok g c =
     took c.deeds_are_learned.ensures c.args.server c.args.client c.args.message c.args.self.now c.self.inside.deeds.items (g.N.Node.shown c.self.inside.node) (g.N.Node.shown c.handle.new.self) c.self.view_is
-    c.args.packets.now.items c.append_both.new.many.items c.in-Ok.sends.items c.last_number-last.result c.told_deed-deed.result c.append_both.new.few.items c.served.result c.served.ensures c.requires c.in-Ok.ensures
+    c.args.packets.now.items c.append_both.new.many.items c.in-Ok.sends.items c.last_number-last.result c.reported_deed-deed.result c.append_both.new.few.items c.served.result c.served.ensures c.requires c.in-Ok.ensures
     (c.last_number-last.ensures ∙ ap (λ l. last_number l c.args.client) c.deref.ensures.value)
-    (c.told_deed-deed.ensures ∙ ap (reported_deed c.args.client c.args.message c.last_number-last.result) c.deref-in-Ok.ensures.value)
+    (c.reported_deed-deed.ensures.deed ∙ ap (reported_deed c.args.client c.args.message c.last_number-last.result) c.deref-in-Ok.ensures.value)
     c.in_ok-append_both-in-Ok.ensures.one
     (c.in_ok-append_both-in-Ok.ensures.ok ∙ ap (λ l. c.args.packets.now.items ++ l) c.in_ok-more-in-Ok.ensures)
 
