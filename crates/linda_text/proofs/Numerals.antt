@@ -1,5 +1,5 @@
 -- Numerals: how long one is, and which number it writes.
-use Rattle.std.proofs.Common.{◌≡◌, ◌⊎◌, inl, inr, ℕ, ℤ, zero, suc, ◌^◌, ◌<◌, ◌≤◌, Bool, true, false, cond, ltb, List, [], ◌∷◌, ◌++◌, length, get_or, take, drop, Ok, Err, refl, sym, ap, subst, ◌∙◌, arith, tests}
+use Rattle.std.proofs.Common.{◌≡◌, ◌⊎◌, inl, inr, ℕ, ℤ, zero, suc, ◌+◌, ◌^◌, ◌<◌, ◌≤◌, Bool, true, false, cond, ltb, List, [], ◌∷◌, ◌++◌, length, get_or, take, drop, Ok, Err, refl, sym, ap, subst, ◌∙◌, arith, tests}
 use Rattle.std.specs.Prelude.{pos, negsuc, neg_ℤ, FitsSigned, ◌&&◌, ◌==◌, not}
 use Rattle.std.specs.Char.{is_ascii_digit, digit_value}
 use Rattle.std.specs.Fmt.{decimal, signed_decimal}
@@ -17,12 +17,17 @@ use Rattle.linda_text.specs.Grammar.{EndsNumeral}
 use Rattle.linda_text.specs.Reading.{digit_count, positive_len, numeral_len, number_of, integer_at, natural_len, natural_of, natural_at}
 use Rattle.linda_text.specs.Steps.{◌>>=◌}
 use Rattle.linda_text.proofs.Steps.{bind_ok, guard_right, ok_is}
+use Rattle.linda_text.specs.declared.marks.TheConstants as mark
 
-pub is_digit : (b : ℕ) → IsInRange 48 57 b → is_ascii_digit b ≡ true
-is_digit b within = and_from _ _ (le-leb 48 b within.0) (le-leb b 57 within.1)
+-- `parse` takes it before digits, and no text has it there.
+abbrev plus_sign : ℕ
+plus_sign = 43
 
-pub from_digit : (b : ℕ) → is_ascii_digit b ≡ true → IsInRange 48 57 b
-from_digit b e = let p = and_parts _ _ e in (leb-true 48 b p.0, leb-true b 57 p.1)
+pub is_digit : (b : ℕ) → IsInRange mark.ZERO mark.NINE b → is_ascii_digit b ≡ true
+is_digit b within = and_from _ _ (le-leb mark.ZERO b within.0) (le-leb b mark.NINE within.1)
+
+pub from_digit : (b : ℕ) → is_ascii_digit b ≡ true → IsInRange mark.ZERO mark.NINE b
+from_digit b e = let p = and_parts _ _ e in (leb-true mark.ZERO b p.0, leb-true b mark.NINE p.1)
 
 digit_is_value : (b : ℕ) → is_ascii_digit b ≡ true → digit_value b < 10
 digit_is_value b e =
@@ -44,12 +49,12 @@ taken (b ∷ rest) = taken_by (is_ascii_digit b) b (digit_count rest) rest refl 
 pub record IsPositive (ds : List ℕ) : Type 0 where
   pub some : 0 < length ds
   pub digits : AllDigits 10 ds
-  pub first : IsInRange 49 57 (get_or ds 0 0)
+  pub first : IsInRange (mark.ZERO + 1) mark.NINE (get_or ds 0 0)
 
-first_digit : (b : ℕ) → IsInRange 48 57 b → (b == 48) ≡ false → IsInRange 49 57 b
+first_digit : (b : ℕ) → IsInRange mark.ZERO mark.NINE b → (b == mark.ZERO) ≡ false → IsInRange (mark.ZERO + 1) mark.NINE b
 first_digit b r e = grind (arith, tests)
 
-positive_by : (t u : Bool) (b n : ℕ) (rest : List ℕ) → is_ascii_digit b ≡ t → (b == 48) ≡ u
+positive_by : (t u : Bool) (b n : ℕ) (rest : List ℕ) → is_ascii_digit b ≡ t → (b == mark.ZERO) ≡ u
     → cond (t && not u) (Ok (suc (digit_count rest))) (Err (SyntaxAt (suc (length rest)))) ≡ Ok n → IsPositive (take n (b ∷ rest))
 positive_by true true b n rest d z e = absurd cc
 positive_by true false b n rest d z e =
@@ -60,21 +65,21 @@ positive_by false u b n rest d z e = absurd cc
 positive_taken : (bytes : List ℕ) (n : ℕ) → positive_len bytes ≡ Ok n → IsPositive (take n bytes)
 unfolding positive_len
 positive_taken [] n e = absurd cc
-positive_taken (b ∷ rest) n e = positive_by (is_ascii_digit b) (b == 48) b n rest refl refl e
+positive_taken (b ∷ rest) n e = positive_by (is_ascii_digit b) (b == mark.ZERO) b n rest refl refl e
 
 -- The texts of integers, whatever their size.
 abbrev pub IsNumeralText : List ℕ → Type 0
-IsNumeralText text = (text ≡ 48 ∷ []) ⊎ (IsPositive text ⊎ ((ds : List ℕ) × (text ≡ 45 ∷ ds) × IsPositive ds))
+IsNumeralText text = (text ≡ mark.ZERO ∷ []) ⊎ (IsPositive text ⊎ ((ds : List ℕ) × (text ≡ mark.MINUS ∷ ds) × IsPositive ds))
 
-numeral_by : (t u : Bool) (b n : ℕ) (rest : List ℕ) → (b == 48) ≡ t → (b == 45) ≡ u
+numeral_by : (t u : Bool) (b n : ℕ) (rest : List ℕ) → (b == mark.ZERO) ≡ t → (b == mark.MINUS) ≡ u
     → cond t (Ok 1) (cond u (positive_len rest >>= λ m. Ok (suc m)) (positive_len (b ∷ rest))) ≡ Ok n → IsNumeralText (take n (b ∷ rest))
 numeral_by true u b n rest zero_is minus_is e =
     let one : 1 ≡ n = ok_is _ _ e in
-    let same : b ≡ 48 = eqb-true b 48 zero_is in
+    let same : b ≡ mark.ZERO = eqb-true b mark.ZERO zero_is in
     subst (λ (k : ℕ). IsNumeralText (take k (b ∷ rest))) one (inl (ap (λ (d : ℕ). d ∷ []) same))
 numeral_by false true b n rest zero_is minus_is e =
     let m = bind_ok (positive_len rest) (λ m. Ok (suc m)) n e in
-    let same : b ≡ 45 = eqb-true b 45 minus_is in
+    let same : b ≡ mark.MINUS = eqb-true b mark.MINUS minus_is in
     let more : suc m.0 ≡ n = ok_is _ _ m.2 in
     subst (λ (k : ℕ). IsNumeralText (take k (b ∷ rest))) more (inr (inr (take m.0 rest, ap (λ (d : ℕ). d ∷ take m.0 rest) same, positive_taken rest m.0 m.1)))
 numeral_by false false b n rest zero_is minus_is e = inr (inl (positive_taken (b ∷ rest) n e))
@@ -82,15 +87,15 @@ numeral_by false false b n rest zero_is minus_is e = inr (inl (positive_taken (b
 pub numeral_taken : (bytes : List ℕ) (n : ℕ) → numeral_len bytes ≡ Ok n → IsNumeralText (take n bytes)
 unfolding numeral_len
 numeral_taken [] n e = absurd cc
-numeral_taken (b ∷ rest) n e = numeral_by (b == 48) (b == 45) b n rest refl refl e
+numeral_taken (b ∷ rest) n e = numeral_by (b == mark.ZERO) (b == mark.MINUS) b n rest refl refl e
 
 -- ---- what a numeral is for `parse`
 
 without_sign : (ds : List ℕ) → IsPositive ds → without_leading_sign ds ≡ ds
 without_sign [] p = refl
 without_sign (d ∷ ds) p =
-    let plus : (d == 43) ≡ false = ne_eqb d 43 (λ e. omega (arith, p.first.0)) in
-    let minus : (d == 45) ≡ false = ne_eqb d 45 (λ e. omega (arith, p.first.0)) in
+    let plus : (d == plus_sign) ≡ false = ne_eqb d plus_sign (λ e. omega (arith, p.first.0)) in
+    let minus : (d == mark.MINUS) ≡ false = ne_eqb d mark.MINUS (λ e. omega (arith, p.first.0)) in
     rw (minus, plus) refl
 
 pub is_numeral : (text : List ℕ) → IsNumeralText text → IsNumeral 10 (without_leading_sign text)
@@ -101,14 +106,14 @@ is_numeral text (inr (inr m)) = subst (λ (t : List ℕ). IsNumeral 10 (without_
 utf8_of_digits : (ds : List ℕ) → AllDigits 10 ds → IsUtf8 ds
 utf8_of_digits ds all = IsUtf8-from_ascii ds (IsAscii-from_digits ds all)
 
-minus_is_ascii : IsAscii (45 ∷ [])
+minus_is_ascii : IsAscii (mark.MINUS ∷ [])
 minus_is_ascii zero = omega arith
 minus_is_ascii (suc i) = omega arith
 
 pub numeral_is_utf8 : (text : List ℕ) → IsNumeralText text → IsUtf8 text
-numeral_is_utf8 text (inl e) = subst IsUtf8 (sym e) (utf8_of_digits (48 ∷ []) (omega arith, tt))
+numeral_is_utf8 text (inl e) = subst IsUtf8 (sym e) (utf8_of_digits (mark.ZERO ∷ []) (omega arith, tt))
 numeral_is_utf8 text (inr (inl p)) = utf8_of_digits text p.digits
-numeral_is_utf8 text (inr (inr m)) = subst IsUtf8 (sym m.1) (IsUtf8-append (45 ∷ []) m.0 (IsUtf8-from_ascii (45 ∷ []) minus_is_ascii) (utf8_of_digits m.0 m.2.digits))
+numeral_is_utf8 text (inr (inr m)) = subst IsUtf8 (sym m.1) (IsUtf8-append (mark.MINUS ∷ []) m.0 (IsUtf8-from_ascii (mark.MINUS ∷ []) minus_is_ascii) (utf8_of_digits m.0 m.2.digits))
 
 -- ---- a numeral is what `decimal` writes of its number
 
@@ -121,17 +126,17 @@ written ds p lt = decimal-digits_value own ds p.digits p.some (λ e. absurd (ome
 value_plain : (ds : List ℕ) → IsPositive ds → signed_digits_value 10 ds ≡ pos (digits_value 10 ds)
 value_plain [] p = absurd (omega (arith, p.some))
 value_plain (d ∷ ds) p =
-    let plus : (d == 43) ≡ false = ne_eqb d 43 (λ e. omega (arith, p.first.0)) in
-    let minus : (d == 45) ≡ false = ne_eqb d 45 (λ e. omega (arith, p.first.0)) in
+    let plus : (d == plus_sign) ≡ false = ne_eqb d plus_sign (λ e. omega (arith, p.first.0)) in
+    let minus : (d == mark.MINUS) ≡ false = ne_eqb d mark.MINUS (λ e. omega (arith, p.first.0)) in
     rw (minus, plus) refl
 
 -- Digits that do not begin with 0 are not those of 0.
-negative_written : (v : ℕ) (ds : List ℕ) → IsPositive ds → decimal v ≡ ds → signed_decimal (neg_ℤ (pos v)) ≡ 45 ∷ ds
+negative_written : (v : ℕ) (ds : List ℕ) → IsPositive ds → decimal v ≡ ds → signed_decimal (neg_ℤ (pos v)) ≡ mark.MINUS ∷ ds
 negative_written zero ds p e =
-    let zero_is : ds ≡ 48 ∷ [] = sym e ∙ decimal_digit 0 (omega arith) in
-    let first : get_or ds 0 0 ≡ 48 = ap (λ (t : List ℕ). get_or t 0 0) zero_is in
+    let zero_is : ds ≡ mark.ZERO ∷ [] = sym e ∙ decimal_digit 0 (omega arith) in
+    let first : get_or ds 0 0 ≡ mark.ZERO = ap (λ (t : List ℕ). get_or t 0 0) zero_is in
     absurd (omega (arith, p.first.0))
-negative_written (suc v) ds p e = ap (λ (t : List ℕ). 45 ∷ t) e
+negative_written (suc v) ds p e = ap (λ (t : List ℕ). mark.MINUS ∷ t) e
 
 below : (v : ℕ) → mag (neg_ℤ (pos v)) < 2 ^ 63 → v < 2 ^ 64
 below zero lt = omega arith
@@ -144,7 +149,7 @@ text_of text (inr (inl p)) lt =
     let v : mag (pos (digits_value 10 text)) < 2 ^ 63 = subst (λ (z : ℤ). mag z < 2 ^ 63) (value_plain text p) lt in
     sym (ap signed_decimal (value_plain text p) ∙ written text p (omega (arith, v)))
 text_of text (inr (inr m)) lt =
-    let v : mag (signed_digits_value 10 (45 ∷ m.0)) < 2 ^ 63 = subst (λ (t : List ℕ). mag (signed_digits_value 10 t) < 2 ^ 63) m.1 lt in
+    let v : mag (signed_digits_value 10 (mark.MINUS ∷ m.0)) < 2 ^ 63 = subst (λ (t : List ℕ). mag (signed_digits_value 10 t) < 2 ^ 63) m.1 lt in
     subst (λ (t : List ℕ). t ≡ signed_decimal (signed_digits_value 10 t)) (sym m.1)
     (sym (negative_written (digits_value 10 m.0) m.0 m.2 (written m.0 m.2 (below (digits_value 10 m.0) v))))
 
@@ -158,7 +163,7 @@ positive_decimal n lt some =
     let is = (decimal_is_IsNumeral n lt).0 in
     record { some = is.0; digits = is.1; first = (omega (arith, first_decimal n some lt), last_first (decimal n) is.0 is.1) }
   where
-    last_first : (ds : List ℕ) → 0 < length ds → AllDigits 10 ds → get_or ds 0 0 ≤ 57
+    last_first : (ds : List ℕ) → 0 < length ds → AllDigits 10 ds → get_or ds 0 0 ≤ mark.NINE
     last_first [] none all = absurd (omega (arith, none))
     last_first (d ∷ ds) some all = (digit_from_value d all.0).1
 
@@ -176,7 +181,7 @@ unfolding positive_len
 positive_again [] rest p end = absurd (omega (arith, p.some))
 positive_again (d ∷ ds) rest p end =
     let digit : is_ascii_digit d ≡ true = is_digit d (omega (arith, p.first.0), p.first.1) in
-    let not_zero : (d == 48) ≡ false = ne_eqb d 48 (λ e. omega (arith, p.first.0)) in
+    let not_zero : (d == mark.ZERO) ≡ false = ne_eqb d mark.ZERO (λ e. omega (arith, p.first.0)) in
     let others : digit_count (ds ++ rest) ≡ length ds = counted ds rest p.digits.1 end in
     rw (digit, not_zero, others) refl
 
@@ -184,15 +189,15 @@ plain_again : (ds rest : List ℕ) → IsPositive ds → EndsNumeral rest → nu
 unfolding numeral_len
 plain_again [] rest p end = absurd (omega (arith, p.some))
 plain_again (d ∷ ds) rest p end =
-    let not_zero : (d == 48) ≡ false = ne_eqb d 48 (λ e. omega (arith, p.first.0)) in
-    let not_minus : (d == 45) ≡ false = ne_eqb d 45 (λ e. omega (arith, p.first.0)) in
+    let not_zero : (d == mark.ZERO) ≡ false = ne_eqb d mark.ZERO (λ e. omega (arith, p.first.0)) in
+    let not_minus : (d == mark.MINUS) ≡ false = ne_eqb d mark.MINUS (λ e. omega (arith, p.first.0)) in
     rw (not_zero, not_minus) (positive_again (d ∷ ds) rest p end)
 
-minus_again : (ds rest : List ℕ) → IsPositive ds → EndsNumeral rest → numeral_len (45 ∷ (ds ++ rest)) ≡ Ok (suc (length ds))
+minus_again : (ds rest : List ℕ) → IsPositive ds → EndsNumeral rest → numeral_len (mark.MINUS ∷ (ds ++ rest)) ≡ Ok (suc (length ds))
 unfolding numeral_len
 minus_again ds rest p end = rw (positive_again ds rest p end) refl
 
-zero_again : (rest : List ℕ) → numeral_len (48 ∷ rest) ≡ Ok 1
+zero_again : (rest : List ℕ) → numeral_len (mark.ZERO ∷ rest) ≡ Ok 1
 unfolding numeral_len
 zero_again rest = refl
 
@@ -231,37 +236,37 @@ integer_again z rest fits end =
     rw (len, take_at (signed_decimal z) rest (length (signed_decimal z)) refl, drop_at (signed_decimal z) rest (length (signed_decimal z)) refl, value_again z fits.sfits, small) refl
 
 -- The first byte of a number's text is a minus or a digit.
-pub number_begins : (z : ℤ) → mag z < 2 ^ 63 → (d : ℕ) × (ds : List ℕ) × (signed_decimal z ≡ d ∷ ds) × (45 ≤ d) × (d ≤ 57)
-number_begins (pos zero) lt = (48, [], decimal_digit 0 (omega arith), omega arith, omega arith)
+pub number_begins : (z : ℤ) → mag z < 2 ^ 63 → (d : ℕ) × (ds : List ℕ) × (signed_decimal z ≡ d ∷ ds) × (mark.MINUS ≤ d) × (d ≤ mark.NINE)
+number_begins (pos zero) lt = (mark.ZERO, [], decimal_digit 0 (omega arith), omega arith, omega arith)
 number_begins (pos (suc n)) lt = first_of_digits (decimal (suc n)) (positive_decimal (suc n) (omega (arith, lt)) (omega arith))
   where
-    first_of_digits : (xs : List ℕ) → IsPositive xs → (d : ℕ) × (ds : List ℕ) × (xs ≡ d ∷ ds) × (45 ≤ d) × (d ≤ 57)
+    first_of_digits : (xs : List ℕ) → IsPositive xs → (d : ℕ) × (ds : List ℕ) × (xs ≡ d ∷ ds) × (mark.MINUS ≤ d) × (d ≤ mark.NINE)
     first_of_digits [] p = absurd (omega (arith, p.some))
     first_of_digits (d ∷ ds) p = (d, ds, refl, omega (arith, p.first.0), p.first.1)
-number_begins (negsuc n) lt = (45, decimal (suc n), refl, omega arith, omega arith)
+number_begins (negsuc n) lt = (mark.MINUS, decimal (suc n), refl, omega arith, omega arith)
 
 -- ---- numbers without a sign
 
 -- The texts of numbers without a sign, whatever their size.
 abbrev pub IsNaturalText : List ℕ → Type 0
-IsNaturalText text = (text ≡ 48 ∷ []) ⊎ IsPositive text
+IsNaturalText text = (text ≡ mark.ZERO ∷ []) ⊎ IsPositive text
 
-natural_by : (t : Bool) (b n : ℕ) (rest : List ℕ) → (b == 48) ≡ t → cond t (Ok 1) (positive_len (b ∷ rest)) ≡ Ok n → IsNaturalText (take n (b ∷ rest))
+natural_by : (t : Bool) (b n : ℕ) (rest : List ℕ) → (b == mark.ZERO) ≡ t → cond t (Ok 1) (positive_len (b ∷ rest)) ≡ Ok n → IsNaturalText (take n (b ∷ rest))
 natural_by true b n rest zero_is e =
     let one : 1 ≡ n = ok_is _ _ e in
-    let same : b ≡ 48 = eqb-true b 48 zero_is in
+    let same : b ≡ mark.ZERO = eqb-true b mark.ZERO zero_is in
     subst (λ (k : ℕ). IsNaturalText (take k (b ∷ rest))) one (inl (ap (λ (d : ℕ). d ∷ []) same))
 natural_by false b n rest zero_is e = inr (positive_taken (b ∷ rest) n e)
 
 pub natural_taken : (bytes : List ℕ) (n : ℕ) → natural_len bytes ≡ Ok n → IsNaturalText (take n bytes)
 unfolding natural_len
 natural_taken [] n e = absurd cc
-natural_taken (b ∷ rest) n e = natural_by (b == 48) b n rest refl e
+natural_taken (b ∷ rest) n e = natural_by (b == mark.ZERO) b n rest refl e
 
 without_plus : (ds : List ℕ) → IsPositive ds → without_leading_plus ds ≡ ds
 without_plus [] p = refl
 without_plus (d ∷ ds) p =
-    let plus : (d == 43) ≡ false = ne_eqb d 43 (λ e. omega (arith, p.first.0)) in
+    let plus : (d == plus_sign) ≡ false = ne_eqb d plus_sign (λ e. omega (arith, p.first.0)) in
     rw plus refl
 
 pub natural_is_numeral : (text : List ℕ) → IsNaturalText text → IsNumeral 10 (without_leading_plus text)
@@ -298,14 +303,14 @@ natural_len_again : (n : ℕ) (rest : List ℕ) → n < 2 ^ 64 → EndsNumeral r
 unfolding natural_len
 natural_len_again zero rest lt end = rw (decimal_digit 0 (omega arith)) (zero_len rest)
   where
-    zero_len : (others : List ℕ) → natural_len (48 ∷ others) ≡ Ok 1
+    zero_len : (others : List ℕ) → natural_len (mark.ZERO ∷ others) ≡ Ok 1
     zero_len others = refl
 natural_len_again (suc n) rest lt end = digits_len (decimal (suc n)) rest (positive_decimal (suc n) lt (omega arith)) end
   where
     digits_len : (ds others : List ℕ) → IsPositive ds → EndsNumeral others → natural_len (ds ++ others) ≡ Ok (length ds)
     digits_len [] others p end = absurd (omega (arith, p.some))
     digits_len (d ∷ ds) others p end =
-        let not_zero : (d == 48) ≡ false = ne_eqb d 48 (λ e. omega (arith, p.first.0)) in
+        let not_zero : (d == mark.ZERO) ≡ false = ne_eqb d mark.ZERO (λ e. omega (arith, p.first.0)) in
         rw not_zero (positive_again (d ∷ ds) others p end)
 
 plain_decimal : (n : ℕ) → n < 2 ^ 64 → without_leading_plus (decimal n) ≡ decimal n
@@ -320,10 +325,10 @@ natural_again n rest lt end =
     rw (len, take_at (decimal n) rest (length (decimal n)) refl, drop_at (decimal n) rest (length (decimal n)) refl, plain_decimal n lt, value_decimal n lt, small) refl
 
 -- The first byte of such a number's text is a digit.
-pub natural_begins : (n : ℕ) → n < 2 ^ 64 → (d : ℕ) × (ds : List ℕ) × (decimal n ≡ d ∷ ds) × (48 ≤ d) × (d ≤ 57)
-natural_begins zero lt = (48, [], decimal_digit 0 (omega arith), omega arith, omega arith)
+pub natural_begins : (n : ℕ) → n < 2 ^ 64 → (d : ℕ) × (ds : List ℕ) × (decimal n ≡ d ∷ ds) × (mark.ZERO ≤ d) × (d ≤ mark.NINE)
+natural_begins zero lt = (mark.ZERO, [], decimal_digit 0 (omega arith), omega arith, omega arith)
 natural_begins (suc n) lt = first_of (decimal (suc n)) (positive_decimal (suc n) lt (omega arith))
   where
-    first_of : (xs : List ℕ) → IsPositive xs → (d : ℕ) × (ds : List ℕ) × (xs ≡ d ∷ ds) × (48 ≤ d) × (d ≤ 57)
+    first_of : (xs : List ℕ) → IsPositive xs → (d : ℕ) × (ds : List ℕ) × (xs ≡ d ∷ ds) × (mark.ZERO ≤ d) × (d ≤ mark.NINE)
     first_of [] p = absurd (omega (arith, p.some))
     first_of (d ∷ ds) p = (d, ds, refl, omega (arith, p.first.0), p.first.1)

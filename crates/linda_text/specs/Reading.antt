@@ -19,6 +19,7 @@ use Rattle.linda_text.specs.declared.fault.TextFault.TheVariants.{SyntaxAt, TooM
 use Rattle.linda_text.specs.declared.fault.TextFault.TheVariants.{TextTooLong, NumberRange}
 use Rattle.linda_text.specs.Letters.{is_blank, is_special, escaped}
 use Rattle.linda_text.specs.Steps.{Read, Reader, ◌>>=◌}
+use Rattle.linda_text.specs.declared.marks.TheConstants as mark
 
 -- The fault of a text that does not go on at the first of these bytes, or that ends before them.
 abbrev pub wrong : {A : Type 0} → List ℕ → Read A
@@ -53,7 +54,7 @@ digit_count (b ∷ rest) = if is_ascii_digit b then suc (digit_count rest) else 
 unfoldable pub positive_len : List ℕ → Result ℕ TextFault
 positive_len [] = Err (SyntaxAt 0)
 positive_len (b ∷ rest) =
-    if is_ascii_digit b && not (b == 48) then Ok (suc (digit_count rest))
+    if is_ascii_digit b && not (b == mark.ZERO) then Ok (suc (digit_count rest))
     else Err (SyntaxAt (suc (length rest)))
 
 -- The length of a numeral: a 0 alone, or digits that do not begin with 0, before which a minus may
@@ -61,8 +62,8 @@ positive_len (b ∷ rest) =
 unfoldable pub numeral_len : List ℕ → Result ℕ TextFault
 numeral_len [] = Err (SyntaxAt 0)
 numeral_len (b ∷ rest) =
-    if b == 48 then Ok 1
-    else (if b == 45 then (positive_len rest >>= λ n. Ok (suc n)) else positive_len (b ∷ rest))
+    if b == mark.ZERO then Ok 1
+    else (if b == mark.MINUS then (positive_len rest >>= λ n. Ok (suc n)) else positive_len (b ∷ rest))
 
 -- The number that a numeral writes, within 64 bits.
 unfoldable pub number_of : List ℕ → Result ℤ TextFault
@@ -79,7 +80,7 @@ integer_at bytes = do
 -- The length of a number without a sign: a 0 alone, or digits that do not begin with 0.
 unfoldable pub natural_len : List ℕ → Result ℕ TextFault
 natural_len [] = Err (SyntaxAt 0)
-natural_len (b ∷ rest) = if b == 48 then Ok 1 else positive_len (b ∷ rest)
+natural_len (b ∷ rest) = if b == mark.ZERO then Ok 1 else positive_len (b ∷ rest)
 
 -- The number that digits write, within 64 bits.
 unfoldable pub natural_of : List ℕ → Result ℕ TextFault
@@ -108,8 +109,8 @@ escape_at (e ∷ rest) = chosen (escaped e) (e ∷ rest) rest
 unfoldable pub said_at : Reader (Option ℕ)
 said_at [] = wrong []
 said_at (b ∷ rest) =
-    if b == 34 then Ok (None, rest)
-    else (if b == 92 then escape_at rest
+    if b == mark.QUOTE then Ok (None, rest)
+    else (if b == mark.BACKSLASH then escape_at rest
     else (if is_special b then wrong (b ∷ rest) else Ok (Some b, rest)))
 
 -- A byte of a string, and those behind it.
@@ -128,8 +129,8 @@ content_at in_escape [] = wrong []
 content_at true (e ∷ rest) =
     with_escape (escaped e) (wrong (e ∷ rest)) (content_at false rest)
 content_at false (b ∷ rest) =
-    if b == 34 then Ok ([], rest)
-    else (if b == 92 then content_at true rest
+    if b == mark.QUOTE then Ok ([], rest)
+    else (if b == mark.BACKSLASH then content_at true rest
     else (if is_special b then wrong (b ∷ rest) else with_byte b (content_at false rest)))
 
 -- What was found, if it is not too long for a string.
@@ -157,24 +158,24 @@ made make read = read >>= λ a. Ok (make a.0, a.1)
 unfoldable pub atom_at : Reader Atom
 atom_at [] = wrong []
 atom_at (b ∷ rest) =
-    if b == 34 then made (λ t. atoms.Text t) (string_at rest)
-    else (if b == 116 then named (atoms.Bool true) true_text (b ∷ rest)
-    else (if b == 102 then named (atoms.Bool false) false_text (b ∷ rest)
+    if b == mark.QUOTE then made (λ t. atoms.Text t) (string_at rest)
+    else (if b == mark.TRUE_LETTER then named (atoms.Bool true) true_text (b ∷ rest)
+    else (if b == mark.FALSE_LETTER then named (atoms.Bool false) false_text (b ∷ rest)
     else made (λ n. atoms.Int n) (integer_at (b ∷ rest))))
 
 -- The letter behind a question mark.
 unfoldable pub formal_at : Reader Pattern
 formal_at [] = wrong []
 formal_at (b ∷ rest) =
-    if b == 105 then Ok (patterns.IntFormal, rest)
-    else (if b == 115 then Ok (patterns.TextFormal, rest)
-    else (if b == 98 then Ok (patterns.BoolFormal, rest) else wrong (b ∷ rest)))
+    if b == mark.INT_LETTER then Ok (patterns.IntFormal, rest)
+    else (if b == mark.TEXT_LETTER then Ok (patterns.TextFormal, rest)
+    else (if b == mark.BOOL_LETTER then Ok (patterns.BoolFormal, rest) else wrong (b ∷ rest)))
 
 unfoldable pub pattern_at : Reader Pattern
 pattern_at [] = wrong []
 pattern_at (b ∷ rest) =
-    if b == 63 then formal_at rest
-    else (if b == 95 then Ok (patterns.Any, rest)
+    if b == mark.QUESTION then formal_at rest
+    else (if b == mark.WILDCARD then Ok (patterns.Any, rest)
     else made (λ v. patterns.Value v) (atom_at (b ∷ rest)))
 
 -- ---- tuples and templates
@@ -183,7 +184,7 @@ pattern_at (b ∷ rest) =
 unfoldable pub more_at : Reader Bool
 more_at [] = wrong []
 more_at (b ∷ rest) =
-    if b == 44 then Ok (true, rest) else (if b == 41 then Ok (false, rest) else wrong (b ∷ rest))
+    if b == mark.COMMA then Ok (true, rest) else (if b == mark.CLOSING then Ok (false, rest) else wrong (b ∷ rest))
 
 -- The closing parenthesis, where no more fields may follow.
 unfoldable pub no_more_at : List ℕ → Result (List ℕ) TextFault
@@ -202,7 +203,7 @@ fields_at field (suc room) bytes = do
 
 -- The opening parenthesis and the tag.
 unfoldable pub tag_at : Reader Atom
-tag_at bytes = word_at (40 ∷ []) bytes >>= λ opened. atom_at (after_blanks opened)
+tag_at bytes = word_at (mark.OPENING ∷ []) bytes >>= λ opened. atom_at (after_blanks opened)
 
 unfoldable pub row_at : {A : Type 0} → Reader A → Reader (Atom × List A)
 row_at field bytes = do

@@ -8,6 +8,7 @@ ghost use Rattle.linda_text.specs.Reading.{number_of, integer_at};
 ghost use Rattle.linda_text.specs.Steps.{GivesAlways};
 
 use crate::fault::TextFault;
+use crate::marks::{MINUS, ZERO};
 
 /// The integer at the front, and the bytes behind it.
 #[tactic(auto, unfolding(crate::specs::Reading::integer_at))]
@@ -28,8 +29,8 @@ fn numeral_len(bytes: &[u8]) -> Result<usize, TextFault>
 {
     match bytes {
         [] => Err(TextFault::SyntaxAt(0)),
-        [b'0', ..] => Ok(1),
-        [b'-', digits @ ..] => Ok(positive_len(digits)? + 1),
+        [ZERO, ..] => Ok(1),
+        [MINUS, digits @ ..] => Ok(positive_len(digits)? + 1),
         [_, ..] => positive_len(bytes),
     }
 }
@@ -43,7 +44,7 @@ pub(crate) fn positive_len(bytes: &[u8]) -> Result<usize, TextFault>
     match bytes {
         [] => Err(TextFault::SyntaxAt(0)),
         [first, rest @ ..] => {
-            if first.is_ascii_digit() && *first != b'0' {
+            if first.is_ascii_digit() && *first != ZERO {
                 Ok(digit_count(rest) + 1)
             } else {
                 Err(TextFault::SyntaxAt(bytes.len()))

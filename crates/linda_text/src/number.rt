@@ -8,6 +8,7 @@ ghost use Rattle.linda_text.specs.Steps.{GivesAlways};
 
 use crate::fault::TextFault;
 use crate::integer::positive_len;
+use crate::marks::ZERO;
 
 /// The number without a sign at the front, and the bytes behind it.
 ///
@@ -33,7 +34,7 @@ fn natural_len(bytes: &[u8]) -> Result<usize, TextFault>
 {
     match bytes {
         [] => Err(TextFault::SyntaxAt(0)),
-        [b'0', ..] => Ok(1),
+        [ZERO, ..] => Ok(1),
         [_, ..] => positive_len(bytes),
     }
 }
