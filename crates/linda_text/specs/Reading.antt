@@ -1,11 +1,11 @@
 -- What the readers give: the value, or the first fault from the left.
-use Rattle.std.specs.Prelude.{ℕ, zero, suc, ◌^◌, ◌==◌, ◌&&◌, ℤ, Bool, true, false, not, nat_lt}
+use Rattle.std.specs.Prelude.{ℕ, zero, suc, ◌^◌, ◌==◌, ◌&&◌, ℤ, pos, neg_ℤ, Bool, true, false, not, nat_lt}
 use Rattle.std.specs.Prelude.{List, [], ◌∷◌, length, take, drop, if◌then◌else◌}
 use Rattle.std.specs.Prelude.{Option, Some, None, Result, Ok, Err}
 use Rattle.std.specs.Char.{is_ascii_digit}
 use Rattle.std.specs.Int.Signed.{mag}
 use Rattle.std.specs.Str.{is_utf8}
-use Rattle.std.specs.Str.Parse.{signed_digits_value, digits_value, without_leading_plus}
+use Rattle.std.specs.Str.Parse.{digits_value, without_leading_plus}
 use Rattle.std.specs.Str.Parse.{true_text, false_text}
 use Rattle.linda_tuple.specs.declared.atom.Atom.{Atom}
 use Rattle.linda_tuple.specs.declared.atom.Atom.TheVariants as atoms
@@ -43,7 +43,7 @@ word_at (w ∷ word) (b ∷ rest) =
 abbrev pub named : {A : Type 0} → A → List ℕ → Reader A
 named a word bytes = word_at word bytes >>= λ rest. Ok (a, rest)
 
--- ---- integers
+-- ---- numbers
 
 -- How many decimal digits stand at the front.
 unfoldable pub digit_count : List ℕ → ℕ
@@ -57,42 +57,40 @@ positive_len (b ∷ rest) =
     if is_ascii_digit b && not (b == mark.ZERO) then Ok (suc (digit_count rest))
     else Err (SyntaxAt (suc (length rest)))
 
--- The length of a numeral: a 0 alone, or digits that do not begin with 0, before which a minus may
--- stand.
-unfoldable pub numeral_len : List ℕ → Result ℕ TextFault
-numeral_len [] = Err (SyntaxAt 0)
-numeral_len (b ∷ rest) =
-    if b == mark.ZERO then Ok 1
-    else (if b == mark.MINUS then (positive_len rest >>= λ n. Ok (suc n)) else positive_len (b ∷ rest))
+-- The number that digits write, within 64 bits.
+unfoldable pub number_of : List ℕ → Result ℕ TextFault
+number_of digits =
+    if nat_lt (digits_value 10 (without_leading_plus digits)) (2 ^ 64)
+    then Ok (digits_value 10 (without_leading_plus digits)) else Err NumberRange
 
--- The number that a numeral writes, within 64 bits.
-unfoldable pub number_of : List ℕ → Result ℤ TextFault
-number_of numeral =
-    if nat_lt (mag (signed_digits_value 10 numeral)) (2 ^ 63)
-    then Ok (signed_digits_value 10 numeral) else Err NumberRange
-
-unfoldable pub integer_at : Reader ℤ
-integer_at bytes = do
-  len ← numeral_len bytes
+-- A number whose digits do not begin with 0.
+unfoldable pub positive_at : Reader ℕ
+positive_at bytes = do
+  len ← positive_len bytes
   number ← number_of (take len bytes)
   Ok (number, drop len bytes)
 
--- The length of a number without a sign: a 0 alone, or digits that do not begin with 0.
-unfoldable pub natural_len : List ℕ → Result ℕ TextFault
-natural_len [] = Err (SyntaxAt 0)
-natural_len (b ∷ rest) = if b == mark.ZERO then Ok 1 else positive_len (b ∷ rest)
-
--- The number that digits write, within 64 bits.
-unfoldable pub natural_of : List ℕ → Result ℕ TextFault
-natural_of numeral =
-    if nat_lt (digits_value 10 (without_leading_plus numeral)) (2 ^ 64)
-    then Ok (digits_value 10 (without_leading_plus numeral)) else Err NumberRange
-
+-- A number without a sign: a 0 alone, or digits that do not begin with 0.
 unfoldable pub natural_at : Reader ℕ
-natural_at bytes = do
-  len ← natural_len bytes
-  number ← natural_of (take len bytes)
-  Ok (number, drop len bytes)
+natural_at [] = wrong []
+natural_at (b ∷ rest) = if b == mark.ZERO then Ok (0, rest) else positive_at (b ∷ rest)
+
+-- The integer, within 64 bits.
+unfoldable pub integer_of : ℤ → Result ℤ TextFault
+integer_of integer = if nat_lt (mag integer) (2 ^ 63) then Ok integer else Err NumberRange
+
+-- A number without a sign, or a minus before digits that do not begin with 0.
+unfoldable pub integer_at : Reader ℤ
+integer_at [] = wrong []
+integer_at (b ∷ rest) =
+    if b == mark.MINUS then (do
+      number ← positive_at rest
+      integer ← integer_of (neg_ℤ (pos number.0))
+      Ok (integer, number.1))
+    else (do
+      number ← natural_at (b ∷ rest)
+      integer ← integer_of (pos number.0)
+      Ok (integer, number.1))
 
 -- ---- strings
 

@@ -1,6 +1,6 @@
 use Rattle.std.proofs.Common.{◌≡◌, ◌+◌, length}
 use Rattle.linda_text.specs.Reading.{digit_count}
-use Rattle.linda_text.proofs.integer.digit_count.Given as goal
+use Rattle.linda_text.proofs.number.digit_count.Given as goal
 
 -- The digits counted so far and those still to come; and the bytes.
 abbrev pub invariant-loop-rest : goal.invariant-loop-rest
