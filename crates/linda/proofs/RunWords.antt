@@ -27,15 +27,16 @@ use Rattle.linda.specs.Commands.{IsRefusedRun, AsksForRun, Spells, IsEnd, IsOpti
 use Rattle.linda_client.specs.declared.limits.TheConstants.{MAX_SERVERS}
 use Rattle.linda.proofs.Parsing.{first_is, AsksToRun, run_stops, first_empty, no_end, no_strip, past, second_empty, run_passes, run_walk, runner, top_fault}
 
-abbrev pub rules : List Rule
-rules = runner.rules
+-- what the subcommand checks of its words, one for each argument
+abbrev pub checks : List Rule
+checks = runner.rules
 
 -- the option and the help flag, as building filled them in
 abbrev pub servers : Rule
-servers = unwrap_or (slice_get rules 0) servers_rule
+servers = unwrap_or (slice_get checks 0) servers_rule
 
 abbrev help : Rule
-help = unwrap_or (slice_get rules 1) help_rule
+help = unwrap_or (slice_get checks 1) help_rule
 
 abbrev the_name : Text
 the_name = codes "servers"
@@ -63,24 +64,24 @@ told rows v = held rows (Some (the_name, v ∷ []))
 -- ---- what is told from a place of the walk on
 
 abbrev end_fault : Held → Kinds
-end_fault h = or_else (settle_fault rules false h) (or_else (defaults_fault (settled rules h).rows rules) (check_fault runner (finished rules h) false))
+end_fault h = or_else (settle_fault checks false h) (or_else (defaults_fault (settled checks h).rows checks) (check_fault runner (finished checks h) false))
 
 abbrev from : Walk → List Text → Kinds
-from w words = or_else (walk_fault runner [] w words) (end_fault (fold (walked rules []) w words).held)
+from w words = or_else (walk_fault runner [] w words) (end_fault (fold (walked checks []) w words).held)
 
 or_else_assoc : (a b c : Kinds) → or_else (or_else a b) c ≡ or_else a (or_else b c)
 or_else_assoc [] b c = refl
 or_else_assoc (k ∷ ks) b c = refl
 
-from_step : (w : Walk) (x : Text) (xs : List Text) → from w (x ∷ xs) ≡ or_else (turn_fault runner [] w x) (from (walked rules [] w x) xs)
+from_step : (w : Walk) (x : Text) (xs : List Text) → from w (x ∷ xs) ≡ or_else (turn_fault runner [] w x) (from (walked checks [] w x) xs)
 unfolding walk_fault
-from_step w x xs = or_else_assoc (turn_fault runner [] w x) (walk_fault runner [] (walked rules [] w x) xs) (end_fault (fold (walked rules []) (walked rules [] w x) xs).held)
+from_step w x xs = or_else_assoc (turn_fault runner [] w x) (walk_fault runner [] (walked checks [] w x) xs) (end_fault (fold (walked checks []) (walked checks [] w x) xs).held)
 
 from_end : (w : Walk) → from w [] ≡ end_fault w.held
 unfolding walk_fault
 from_end w = refl
 
-stepped : (w : Walk) (x : Text) (xs : List Text) → from w (x ∷ xs) ≡ [] → (turn_fault runner [] w x ≡ []) × (from (walked rules [] w x) xs ≡ [])
+stepped : (w : Walk) (x : Text) (xs : List Text) → from w (x ∷ xs) ≡ [] → (turn_fault runner [] w x ≡ []) × (from (walked checks [] w x) xs ≡ [])
 stepped w x xs e =
     let both = sym (from_step w x xs) ∙ e in
     (first_empty _ _ both, second_empty _ _ both)
@@ -96,52 +97,52 @@ trailing k h (x ∷ xs) e = let bad : kind.UnknownArgument ∷ [] ≡ [] = e in 
 -- `--`; the option alone; the option with a number; a word that is no option
 data Goes (k : Waiting) (rows : List Row) (pending : Option (Text × List Text)) (x : Text) : Walk → Type 0 where
   ends : x ≡ codes "--" → Goes k rows pending x (trail k (held rows pending))
-  asks : long_of x ≡ Some (the_name, None) → settle_fault rules false (held rows pending) ≡ []
-      → Goes k rows pending x (at (option the_name) (asking (settled rules (held rows pending)).rows))
-  says : (v : Text) → long_of x ≡ Some (the_name, Some v) → react_fault rules false servers (v ∷ []) (held rows pending) ≡ []
-      → Goes k rows pending x (at idle (held (reacted rules servers (v ∷ []) (held rows pending)).rows None))
-  stays : step_fault runner 1 (plain_word rules k x (held rows pending)).0 (plain_word rules k x (held rows pending)).1 ≡ []
-      → Goes k rows pending x (after_step rules x (at k (held rows pending)) (plain_word rules k x (held rows pending)).0 (plain_word rules k x (held rows pending)).1)
+  asks : long_of x ≡ Some (the_name, None) → settle_fault checks false (held rows pending) ≡ []
+      → Goes k rows pending x (at (option the_name) (asking (settled checks (held rows pending)).rows))
+  says : (v : Text) → long_of x ≡ Some (the_name, Some v) → react_fault checks false servers (v ∷ []) (held rows pending) ≡ []
+      → Goes k rows pending x (at idle (held (reacted checks servers (v ∷ []) (held rows pending)).rows None))
+  stays : step_fault runner 1 (plain_word checks k x (held rows pending)).0 (plain_word checks k x (held rows pending)).1 ≡ []
+      → Goes k rows pending x (after_step checks x (at k (held rows pending)) (plain_word checks k x (held rows pending)).0 (plain_word checks k x (held rows pending)).1)
 
 abbrev met_of : Waiting → Held → Text → Option (Text × Option Text) → Held × Step
-met_of k h x o = long_or_other rules k x o h
+met_of k h x o = long_or_other checks k x o h
 
 abbrev turn_of : Waiting → Held → Text → Option (Text × Option Text) → Kinds
-turn_of k h x o = or_else (flag_word_fault rules false o x h) (step_fault runner 1 (met_of k h x o).0 (met_of k h x o).1)
+turn_of k h x o = or_else (flag_word_fault checks false o x h) (step_fault runner 1 (met_of k h x o).0 (met_of k h x o).1)
 
 abbrev next_of : Waiting → Held → Text → Option (Text × Option Text) → Walk
-next_of k h x o = after_step rules x (at k h) (met_of k h x o).0 (met_of k h x o).1
+next_of k h x o = after_step checks x (at k h) (met_of k h x o).0 (met_of k h x o).1
 
-long_is : (name : Text) → ((the_name ≡ name) × (arg_by_long rules name ≡ Some servers)) ⊎ ((arg_by_long rules name ≡ Some help) ⊎ (arg_by_long rules name ≡ None))
+long_is : (name : Text) → ((the_name ≡ name) × (arg_by_long checks name ≡ Some servers)) ⊎ ((arg_by_long checks name ≡ Some help) ⊎ (arg_by_long checks name ≡ None))
 long_is name = go (bytes_eq the_name name) refl
   where
-    other : (b : Bool) → bytes_eq (codes "help") name ≡ b → bytes_eq the_name name ≡ false → (arg_by_long rules name ≡ Some help) ⊎ (arg_by_long rules name ≡ None)
+    other : (b : Bool) → bytes_eq (codes "help") name ≡ b → bytes_eq the_name name ≡ false → (arg_by_long checks name ≡ Some help) ⊎ (arg_by_long checks name ≡ None)
     other true t unlike = inl (rw (unlike, t) refl)
     other false t unlike = inr (rw (unlike, t) refl)
 
-    go : (b : Bool) → bytes_eq the_name name ≡ b → ((the_name ≡ name) × (arg_by_long rules name ≡ Some servers)) ⊎ ((arg_by_long rules name ≡ Some help) ⊎ (arg_by_long rules name ≡ None))
+    go : (b : Bool) → bytes_eq the_name name ≡ b → ((the_name ≡ name) × (arg_by_long checks name ≡ Some servers)) ⊎ ((arg_by_long checks name ≡ Some help) ⊎ (arg_by_long checks name ≡ None))
     go true t = inl ((bytes_eq-Decides the_name name).0 t, rw t refl)
     go false t = inr (other (bytes_eq (codes "help") name) refl t)
 
-short_is : (c : ℕ) → (arg_by_short rules c ≡ None) ⊎ (arg_by_short rules c ≡ Some help)
+short_is : (c : ℕ) → (arg_by_short checks c ≡ None) ⊎ (arg_by_short checks c ≡ Some help)
 short_is c = go (104 == c) refl
   where
-    go : (b : Bool) → (104 == c) ≡ b → (arg_by_short rules c ≡ None) ⊎ (arg_by_short rules c ≡ Some help)
+    go : (b : Bool) → (104 == c) ≡ b → (arg_by_short checks c ≡ None) ⊎ (arg_by_short checks c ≡ Some help)
     go true t = inr (rw t refl)
     go false t = inl (rw t refl)
 
-help_refused : (h : Held) → react_fault rules false help [] h ≡ [] → ⊥
-help_refused h e = let bad : kind.DisplayHelp ∷ [] ≡ [] = second_empty (settle_fault rules false h) _ e in cc
+help_refused : (h : Held) → react_fault checks false help [] h ≡ [] → ⊥
+help_refused h e = let bad : kind.DisplayHelp ∷ [] ≡ [] = second_empty (settle_fault checks false h) _ e in cc
 
 short_refused : (found : Option Rule) (rest : Text) (h : Held) (next : Held → Kinds) (later : Kinds) → (found ≡ None) ⊎ (found ≡ Some help)
-    → or_else (short_fault rules false found rest h next) later ≡ [] → ⊥
+    → or_else (short_fault checks false found rest h next) later ≡ [] → ⊥
 short_refused found rest h next later (inl is) e = let bad : kind.UnknownArgument ∷ [] ≡ [] = rw is at e in cc
 short_refused found rest h next later (inr is) e =
-    let turn : or_else (or_else (react_fault rules false help [] h) (next (reacted rules help [] h))) later ≡ [] = rw is at e in
+    let turn : or_else (or_else (react_fault checks false help [] h) (next (reacted checks help [] h))) later ≡ [] = rw is at e in
     help_refused h (first_empty _ _ (first_empty _ _ turn))
 
 by_found : (k : Waiting) (rows : List Row) (pending : Option (Text × List Text)) (x name : Text) (o : Option Text)
-    → long_of x ≡ Some (the_name, o) → arg_by_long rules name ≡ Some servers → turn_of k (held rows pending) x (Some (name, o)) ≡ []
+    → long_of x ≡ Some (the_name, o) → arg_by_long checks name ≡ Some servers → turn_of k (held rows pending) x (Some (name, o)) ≡ []
     → Goes k rows pending x (next_of k (held rows pending) x (Some (name, o)))
 by_found k rows pending x name None is found e =
     let turn = rw found at e in
@@ -155,15 +156,15 @@ by_long : (k : Waiting) (rows : List Row) (pending : Option (Text × List Text))
     → Goes k rows pending x (next_of k (held rows pending) x (Some (name, o)))
 by_long k rows pending x name o is e = go (long_is name)
   where
-    helps : (v : Option Text) → or_else (long_fault rules false (Some help) v (held rows pending)) (step_fault runner 1 (met_of k (held rows pending) x (Some (name, o))).0 (met_of k (held rows pending) x (Some (name, o))).1) ≡ [] → ⊥
+    helps : (v : Option Text) → or_else (long_fault checks false (Some help) v (held rows pending)) (step_fault runner 1 (met_of k (held rows pending) x (Some (name, o))).0 (met_of k (held rows pending) x (Some (name, o))).1) ≡ [] → ⊥
     helps None t = help_refused (held rows pending) (first_empty _ _ t)
     helps (Some v) t = let bad : kind.TooManyValues ∷ [] ≡ [] = t in cc
 
-    go : ((the_name ≡ name) × (arg_by_long rules name ≡ Some servers)) ⊎ ((arg_by_long rules name ≡ Some help) ⊎ (arg_by_long rules name ≡ None))
+    go : ((the_name ≡ name) × (arg_by_long checks name ≡ Some servers)) ⊎ ((arg_by_long checks name ≡ Some help) ⊎ (arg_by_long checks name ≡ None))
         → Goes k rows pending x (next_of k (held rows pending) x (Some (name, o)))
     go (inl h) = by_found k rows pending x name o (subst (λ (n : Text). long_of x ≡ Some (n, o)) (sym h.0) is) h.1 e
     go (inr (inl h)) =
-        let at_help = ap (λ f. or_else (long_fault rules false f o (held rows pending)) (step_fault runner 1 (met_of k (held rows pending) x (Some (name, o))).0 (met_of k (held rows pending) x (Some (name, o))).1)) (sym h) in
+        let at_help = ap (λ f. or_else (long_fault checks false f o (held rows pending)) (step_fault runner 1 (met_of k (held rows pending) x (Some (name, o))).0 (met_of k (held rows pending) x (Some (name, o))).1)) (sym h) in
         absurd (helps o (at_help ∙ e))
     go (inr (inr h)) = let bad : kind.UnknownArgument ∷ [] ≡ [] = rw h at e in cc
 
@@ -178,7 +179,7 @@ char_turn k rows pending x flags n None is e short len =
     rw (short, len, is) (stays turn)
 char_turn k rows pending x flags n (Some c) is e short len =
     let turn = rw (short, len, is) at e in
-    absurd (short_refused (arg_by_short rules c) _ _ _ _ (short_is c) turn)
+    absurd (short_refused (arg_by_short checks c) _ _ _ _ (short_is c) turn)
 
 flags_turn : (k : Waiting) (rows : List Row) (pending : Option (Text × List Text)) (x flags : Text) (n : ℕ) → length flags ≡ n
     → turn_of k (held rows pending) x None ≡ [] → short_of x ≡ Some flags
@@ -203,7 +204,7 @@ no_command (option id) x = refl
 no_command positional x = refl
 
 goes : (k : Waiting) (rows : List Row) (pending : Option (Text × List Text)) (x : Text)
-    → turn_fault runner [] (at k (held rows pending)) x ≡ [] → Goes k rows pending x (walked rules [] (at k (held rows pending)) x)
+    → turn_fault runner [] (at k (held rows pending)) x ≡ [] → Goes k rows pending x (walked checks [] (at k (held rows pending)) x)
 unfolding walked
 goes k rows pending x e = by_end (bytes_eq x (45 ∷ 45 ∷ [])) refl
   where
@@ -211,7 +212,7 @@ goes k rows pending x e = by_end (bytes_eq x (45 ∷ 45 ∷ [])) refl
     met (Some p) is turn = by_long k rows pending x p.0 p.1 is turn
     met None is turn = by_short k rows pending x (short_of x) refl turn
 
-    by_end : (b : Bool) → bytes_eq x (45 ∷ 45 ∷ []) ≡ b → Goes k rows pending x (walked rules [] (at k (held rows pending)) x)
+    by_end : (b : Bool) → bytes_eq x (45 ∷ 45 ∷ []) ≡ b → Goes k rows pending x (walked checks [] (at k (held rows pending)) x)
     by_end true t = rw (no_command k x, t) (ends ((bytes_eq-Decides x (45 ∷ 45 ∷ [])).0 t))
     by_end false t =
         let turn : turn_of k (held rows pending) x (long_of x) ≡ [] = rw (no_command k x, t) at e in
@@ -219,17 +220,17 @@ goes k rows pending x e = by_end (bytes_eq x (45 ∷ 45 ∷ [])) refl
 
 -- ---- what passes from each place of the walk
 
-asking_refused : (rows : List Row) → settle_fault rules false (asking rows) ≡ [] → ⊥
+asking_refused : (rows : List Row) → settle_fault checks false (asking rows) ≡ [] → ⊥
 asking_refused rows e = let bad : kind.InvalidValue ∷ [] ≡ [] = e in cc
 
-settles : (h : Held) → end_fault h ≡ [] → settle_fault rules false h ≡ []
-settles h e = first_empty (settle_fault rules false h) (or_else (defaults_fault (settled rules h).rows rules) (check_fault runner (finished rules h) false)) e
+settles : (h : Held) → end_fault h ≡ [] → settle_fault checks false h ≡ []
+settles h e = first_empty (settle_fault checks false h) (or_else (defaults_fault (settled checks h).rows checks) (check_fault runner (finished checks h) false)) e
 
-settles_first : (h : Held) (v : Text) → react_fault rules false servers (v ∷ []) h ≡ [] → settle_fault rules false h ≡ []
-settles_first h v e = first_empty (settle_fault rules false h) (use_fault false servers (v ∷ []) (settled rules h).rows) e
+settles_first : (h : Held) (v : Text) → react_fault checks false servers (v ∷ []) h ≡ [] → settle_fault checks false h ≡ []
+settles_first h v e = first_empty (settle_fault checks false h) (use_fault false servers (v ∷ []) (settled checks h).rows) e
 
-then_used : (h : Held) (v : Text) → react_fault rules false servers (v ∷ []) h ≡ [] → use_fault false servers (v ∷ []) (settled rules h).rows ≡ []
-then_used h v e = second_empty (settle_fault rules false h) (use_fault false servers (v ∷ []) (settled rules h).rows) e
+then_used : (h : Held) (v : Text) → react_fault checks false servers (v ∷ []) h ≡ [] → use_fault false servers (v ∷ []) (settled checks h).rows ≡ []
+then_used h v e = second_empty (settle_fault checks false h) (use_fault false servers (v ∷ []) (settled checks h).rows) e
 
 nothing_refused : end_fault (held [] None) ≡ [] → ⊥
 unfolding clap_on_literals
@@ -259,7 +260,7 @@ abbrev pub row : Text → Row
 row v = unwrap_or (slice_get (used servers (v ∷ []) []) 0) (record { id = []; values = []; count = None; source = None; reading = reading_by servers })
 
 -- a second number is refused
-twice_refused : (u v : Text) → settle_fault rules false (told (row u ∷ []) v) ≡ [] → ⊥
+twice_refused : (u v : Text) → settle_fault checks false (told (row u ∷ []) v) ≡ [] → ⊥
 twice_refused u v e = let bad : kind.ArgumentConflict ∷ [] ≡ [] = e in cc
 
 told_twice_refused : (u v : Text) (xs : List Text) → from (at idle (told (row u ∷ []) v)) xs ≡ [] → ⊥
@@ -428,10 +429,10 @@ no_long v e = rw (no_strip v e) refl
 no_short : (v : Text) → has_hyphen v ≡ false → short_of v ≡ None
 no_short v e = rw (no_strip v e) refl
 
-no_flag_turn : (k : Waiting) (h : Held) (x : Text) → short_of x ≡ None → turn_of k h x None ≡ step_fault runner 1 (plain_word rules k x h).0 (plain_word rules k x h).1
+no_flag_turn : (k : Waiting) (h : Held) (x : Text) → short_of x ≡ None → turn_of k h x None ≡ step_fault runner 1 (plain_word checks k x h).0 (plain_word checks k x h).1
 no_flag_turn k h x is = rw is refl
 
-no_flag_next : (k : Waiting) (h : Held) (x : Text) → short_of x ≡ None → next_of k h x None ≡ after_step rules x (at k h) (plain_word rules k x h).0 (plain_word rules k x h).1
+no_flag_next : (k : Waiting) (h : Held) (x : Text) → short_of x ≡ None → next_of k h x None ≡ after_step checks x (at k h) (plain_word checks k x h).0 (plain_word checks k x h).1
 no_flag_next k h x is = rw is refl
 
 number_turn : (v : Text) → has_hyphen v ≡ false → turn_fault runner [] (at (option the_name) (asking [])) v ≡ []
@@ -439,10 +440,10 @@ number_turn v e =
     let turn : turn_fault runner [] (at (option the_name) (asking [])) v ≡ turn_of (option the_name) (asking []) v (long_of v) = rw (no_end v e) refl in
     turn ∙ ap (turn_of (option the_name) (asking []) v) (no_long v e) ∙ no_flag_turn (option the_name) (asking []) v (no_short v e)
 
-number_walk : (v : Text) → has_hyphen v ≡ false → walked rules [] (at (option the_name) (asking [])) v ≡ at idle (told [] v)
+number_walk : (v : Text) → has_hyphen v ≡ false → walked checks [] (at (option the_name) (asking [])) v ≡ at idle (told [] v)
 unfolding walked
 number_walk v e =
-    let next : walked rules [] (at (option the_name) (asking [])) v ≡ next_of (option the_name) (asking []) v (long_of v) = rw (no_end v e) refl in
+    let next : walked checks [] (at (option the_name) (asking [])) v ≡ next_of (option the_name) (asking []) v (long_of v) = rw (no_end v e) refl in
     next ∙ ap (next_of (option the_name) (asking []) v) (no_long v e) ∙ no_flag_next (option the_name) (asking []) v (no_short v e)
 
 option_first : (xs : List Text) → from begun (codes "--servers" ∷ xs) ≡ from (at (option the_name) (asking [])) xs
@@ -481,24 +482,24 @@ option_passes v opt end (inr is) at_end no_option e =
 
 -- ---- what is found
 
-found_told : (v : Text) (end : List Text) → IsEnd end → finished rules (fold (walked rules []) (at idle (told [] v)) end).held ≡ row v ∷ []
+found_told : (v : Text) (end : List Text) → IsEnd end → finished checks (fold (walked checks []) (at idle (told [] v)) end).held ≡ row v ∷ []
 unfolding walked
-found_told v end (inl is) = ap (λ (xs : List Text). finished rules (fold (walked rules []) (at idle (told [] v)) xs).held) is
-found_told v end (inr is) = ap (λ (xs : List Text). finished rules (fold (walked rules []) (at idle (told [] v)) xs).held) is
+found_told v end (inl is) = ap (λ (xs : List Text). finished checks (fold (walked checks []) (at idle (told [] v)) xs).held) is
+found_told v end (inr is) = ap (λ (xs : List Text). finished checks (fold (walked checks []) (at idle (told [] v)) xs).held) is
 
-found_given : (v : Text) (end : List Text) → IsEnd end → finished rules (fold (walked rules []) (at idle (held (row v ∷ []) None)) end).held ≡ row v ∷ []
+found_given : (v : Text) (end : List Text) → IsEnd end → finished checks (fold (walked checks []) (at idle (held (row v ∷ []) None)) end).held ≡ row v ∷ []
 unfolding walked
-found_given v end (inl is) = ap (λ (xs : List Text). finished rules (fold (walked rules []) (at idle (held (row v ∷ []) None)) xs).held) is
-found_given v end (inr is) = ap (λ (xs : List Text). finished rules (fold (walked rules []) (at idle (held (row v ∷ []) None)) xs).held) is
+found_given v end (inl is) = ap (λ (xs : List Text). finished checks (fold (walked checks []) (at idle (held (row v ∷ []) None)) xs).held) is
+found_given v end (inr is) = ap (λ (xs : List Text). finished checks (fold (walked checks []) (at idle (held (row v ∷ []) None)) xs).held) is
 
 found : (v : Text) (opt end : List Text) → IsOption opt v → IsEnd end → has_hyphen v ≡ false
-    → finished rules (fold (walked rules []) begun (opt ++ end)).held ≡ row v ∷ []
+    → finished checks (fold (walked checks []) begun (opt ++ end)).held ≡ row v ∷ []
 unfolding walked
 found v opt end (inl is) at_end no_option =
-    ap (λ (o : List Text). finished rules (fold (walked rules []) begun (o ++ end)).held) is
-    ∙ ap (λ (w : Walk). finished rules (fold (walked rules []) w end).held) (number_walk v no_option) ∙ found_told v end at_end
+    ap (λ (o : List Text). finished checks (fold (walked checks []) begun (o ++ end)).held) is
+    ∙ ap (λ (w : Walk). finished checks (fold (walked checks []) w end).held) (number_walk v no_option) ∙ found_told v end at_end
 found v opt end (inr is) at_end no_option =
-    ap (λ (o : List Text). finished rules (fold (walked rules []) begun (o ++ end)).held) is ∙ found_given v end at_end
+    ap (λ (o : List Text). finished checks (fold (walked checks []) begun (o ++ end)).held) is ∙ found_given v end at_end
 
 -- ---- the whole command line
 
@@ -577,7 +578,7 @@ run_is_free words n a =
     let passes = option_passes a.number a.option a.end a.is_option a.is_end (no_hyphen a.number n a.spells) (accepted a.number n a.spells) in
     ap (fault_of linda) a.spelled ∙ run_fault a.name (a.option ++ a.end) ∙ ap (λ (k : Kinds). or_else k []) passes
 
-run_rows : (name : Text) (rest : List Text) → subcommand_of linda (name ∷ codes "run" ∷ rest) ≡ Some (codes "run", finished rules (fold (walked rules []) begun rest).held)
+run_rows : (name : Text) (rest : List Text) → subcommand_of linda (name ∷ codes "run" ∷ rest) ≡ Some (codes "run", finished checks (fold (walked checks []) begun rest).held)
 run_rows name rest = sym (ap (entered (built linda)) (run_stops rest))
 
 -- and the parser finds their number

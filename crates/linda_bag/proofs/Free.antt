@@ -14,6 +14,7 @@ use Rattle.linda_tuple.specs.Template.{Template}
 use Rattle.linda_tuple.specs.Matching.{Matches, Fits}
 use Rattle.linda_bag.specs.FreeMatch.{IsFreeMatch}
 use Rattle.linda_bag.specs.Filing.{Rows, IsBare, row_at, placed, keyed, rows_at}
+use Rattle.linda_bag.specs.Heads.{with_head}
 use Rattle.linda_bag.specs.Candidates.{tag_of, count_of, first_of, first_among, first_value, with_first, candidates}
 use Rattle.linda_bag.proofs.Ordered.{atom_itself, number_itself}
 
@@ -57,10 +58,10 @@ first_there (patterns.Any ∷ rest) rows id row atoms same fit there = there
 
 pub candidate_there : (shape : Template) (rows : Rows Tuple) (id : ℕ) (row : Tuple) → Matches shape row → rows id ≡ Some row → candidates shape rows id ≡ Some row
 candidate_there shape rows id row match there =
-    let tagged = at_own atom_ord.ghosts.cmp tag_of rows id row row.tag shape.tag there refl (atom_tie shape.tag row.tag match.tag) in
+    let tagged = at_own atom_ord.ghosts.cmp (λ r. Some (tag_of r)) rows id row row.tag shape.tag there refl (atom_tie shape.tag row.tag match.tag) in
     let long = AllZip-long Fits shape.fields row.fields match.fields in
-    let counted = at_own nat_cmp count_of (rows_at atom_ord.ghosts.cmp tag_of shape.tag rows) id row (length row.fields) (length shape.fields) tagged refl (subst (λ n. is_eq (nat_cmp (length row.fields) n) ≡ true) long (number_itself (length row.fields))) in
-    first_there shape.fields (rows_at nat_cmp count_of (length shape.fields) (rows_at atom_ord.ghosts.cmp tag_of shape.tag rows)) id row row.fields refl match.fields counted
+    let counted = at_own nat_cmp (λ r. Some (count_of r)) (rows_at atom_ord.ghosts.cmp (λ r. Some (tag_of r)) shape.tag rows) id row (length row.fields) (length shape.fields) tagged refl (subst (λ n. is_eq (nat_cmp (length row.fields) n) ≡ true) long (number_itself (length row.fields))) in
+    first_there shape.fields (with_head tag_of count_of shape.tag (length shape.fields) rows) id row row.fields refl match.fields counted
 
 -- So where there is no candidate there is no match.
 pub no_candidate : (shape : Template) (rows : Rows Tuple) (id : ℕ) (row : Tuple) → IsBare (candidates shape rows) → Matches shape row → rows id ≡ Some row → ⊥

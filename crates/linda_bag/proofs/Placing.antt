@@ -1,16 +1,23 @@
--- Where a tuple stands in an index, as the index's code finds it.
-use Rattle.std.proofs.Common.{◌≡◌, List, [], ◌∷◌, Some, length, ap, ◌∙◌, refl}
+-- Where a row stands in an index, as the index's code finds it.
+use Rattle.std.proofs.Common.{◌≡◌, List, [], ◌∷◌, Option, None, Some, ap, ◌∙◌, refl}
 use Rattle.std.specs.List.{slice_get}
 use Rattle.linda_tuple.specs.declared.atom.Atom.{Atom}
+use Rattle.linda_tuple.specs.contracts.atom.AtomOrd.TheImpl as atom_ord
 use Rattle.linda_tuple.specs.Tuple.{Tuple}
-use Rattle.linda_bag.specs.Filing.{placed, keyed}
-use Rattle.linda_bag.specs.Candidates.{tag_of, count_of, first_of, first_among}
+use Rattle.linda_bag.specs.Filing.{Rows, IsBare, row_at, placed, keyed}
+use Rattle.linda_bag.specs.declared.heads.Heads.{Heads}
+use Rattle.linda_bag.specs.declared.index.Group.{Group}
+use Rattle.linda_bag.specs.contracts.index.GroupShelfTuple.TheImpl as group
+use Rattle.linda_bag.specs.Heads.{HasHeads}
+use Rattle.linda_bag.specs.Candidates.{tag_of, count_of, first_of, first_among, with_first}
 
-pub tag_placed : (row : Tuple) (tag : Atom) → tag ≡ row.tag → Some (tag, row) ≡ placed tag_of (Some row)
-tag_placed row tag same = ap (λ t. Some (t, row)) same
+-- The index has the tuples under these ids.
+abbrev pub HasIndex : Heads Group → Rows Tuple → Type 0
+HasIndex index rows = HasHeads tag_of count_of group.ghosts.has index rows
 
-pub count_placed : (row : Tuple) (fields : List Atom) → fields ≡ row.fields → Some (length fields, row) ≡ placed count_of (Some row)
-count_placed row fields same = ap (λ fs. Some (length fs, row)) same
+-- A row stands under the key that was read from it.
+pub key_placed : {K T : Type 0} (key_of : T → K) (row : T) (key : K) → key ≡ key_of row → Some (key, row) ≡ placed (λ r. Some (key_of r)) (Some row)
+key_placed key_of row key same = ap (λ k. Some (k, row)) same
 
 head_is : (fields : List Atom) → slice_get fields 0 ≡ first_among fields
 head_is [] = refl
@@ -19,3 +26,8 @@ head_is (atom ∷ atoms) = refl
 pub first_placed : (row : Tuple) (fields : List Atom) (atom : Atom) → fields ≡ row.fields → Some atom ≡ slice_get fields 0 → Some (atom, row) ≡ placed first_of (Some row)
 first_placed row fields atom same first =
     ap (λ o. keyed o row) (first ∙ head_is fields ∙ ap first_among same)
+
+-- Where there are no rows, none has the value first.
+pub bare_first : (first : Option Atom) (rows : Rows Tuple) → IsBare rows → IsBare (with_first first rows)
+bare_first None rows bare = bare
+bare_first (Some v) rows bare = λ id. ap (λ o. row_at atom_ord.ghosts.cmp v (placed first_of o)) (bare id)

@@ -1,6 +1,5 @@
 -- The tuples that a look-up has to look at: those that have what the template's head says.
 use Rattle.std.specs.Prelude.{ℕ, List, [], ◌∷◌, Option, None, Some, length}
-use Rattle.std.specs.Ordering.{nat_cmp}
 use Rattle.linda_tuple.specs.declared.atom.Atom.{Atom}
 use Rattle.linda_tuple.specs.declared.pattern.Pattern.{Pattern}
 use Rattle.linda_tuple.specs.declared.pattern.Pattern.TheVariants as patterns
@@ -8,13 +7,14 @@ use Rattle.linda_tuple.specs.contracts.atom.AtomOrd.TheImpl as atom_ord
 use Rattle.linda_tuple.specs.Tuple.{Tuple}
 use Rattle.linda_tuple.specs.Template.{Template}
 use Rattle.linda_bag.specs.Filing.{Rows, rows_at}
+use Rattle.linda_bag.specs.Heads.{with_head}
 
 -- what a tuple is filed under: its tag, then the number of its fields, then its first field, if it has one
-abbrev pub tag_of : Tuple → Option Atom
-tag_of row = Some row.tag
+abbrev pub tag_of : Tuple → Atom
+tag_of row = row.tag
 
-abbrev pub count_of : Tuple → Option ℕ
-count_of row = Some (length row.fields)
+abbrev pub count_of : Tuple → ℕ
+count_of row = length row.fields
 
 abbrev pub first_among : List Atom → Option Atom
 first_among [] = None
@@ -37,11 +37,8 @@ abbrev pub with_first : Option Atom → Rows Tuple → Rows Tuple
 with_first None rows = rows
 with_first (Some v) rows = rows_at atom_ord.ghosts.cmp first_of v rows
 
--- those of the rows that have as many fields as there are patterns and, where the first is a value,
--- that value first
-abbrev pub with_fields : List Pattern → Rows Tuple → Rows Tuple
-with_fields fields rows = with_first (first_value fields) (rows_at nat_cmp count_of (length fields) rows)
-
--- those of the rows that have the template's tag too
+-- those of the rows that have the template's tag and as many fields as it has patterns and, where the first pattern is
+-- a value, that value first
 abbrev pub candidates : Template → Rows Tuple → Rows Tuple
-candidates template rows = with_fields template.fields (rows_at atom_ord.ghosts.cmp tag_of template.tag rows)
+candidates template rows =
+    with_first (first_value template.fields) (with_head tag_of count_of template.tag (length template.fields) rows)

@@ -38,9 +38,13 @@ module _ {T : Type 0} where
   IsShelved Has None rows = IsBare rows
   IsShelved Has (Some shelf) rows = Has shelf rows × (IsBare rows → ⊥)
 
-  -- What was found are the ids of a part of the rows that the index has; nothing, where that part has none.
+  -- What was found is the shelf with a part of the rows that the index has; nothing, where that part has none.
+  abbrev pub FindsShelf : {S : Type 0} → (Rows T → Type 0) → (S → Rows T → Type 0) → (Rows T → Rows T) → Option S → Type 0
+  FindsShelf Has HasFound part found = (rows : Rows T) → Has rows → IsShelved HasFound found (part rows)
+
+  -- The same of the ids of a part of the rows.
   abbrev pub Finds : (Rows T → Type 0) → (Rows T → Rows T) → Option (BTreeSet ℕ) → Type 0
-  Finds Has part found = (rows : Rows T) → Has rows → IsShelved HasIds found (part rows)
+  Finds Has part found = FindsShelf Has HasIds part found
 
 module _ {K T : Type 0} where
   -- the row with its key, if it has one

@@ -1,3 +1,4 @@
 pub mod FreeMatch
 pub mod Filing
+pub mod Heads
 pub mod Candidates

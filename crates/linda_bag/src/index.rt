@@ -3,133 +3,35 @@
 
 ghost use Rattle.std.specs.Prelude.{◌≡◌, Some};
 ghost use Rattle.std.specs.Option.{option_copied};
-ghost use Rattle.std.specs.Ordering.{nat_cmp};
 ghost use Rattle.linda_bag.specs.Filing.{HasIds, Finds, IsShelved, IsFiled, place, placed};
-ghost use Rattle.linda_bag.specs.Candidates.{tag_of, count_of, first_of, first_value};
-ghost use Rattle.linda_bag.specs.Candidates.{with_first, with_fields, candidates};
+ghost use Rattle.linda_bag.specs.Candidates.{first_of, first_value, with_first, candidates};
 
 use crate::filing::{Shelf, refile, unfile};
+use crate::heads::{Heads, alike};
 use linda_tuple::{Atom, Pattern, Template, Tuple};
 use std::alloc::{AllocError, Global};
 use std::collections::{BTreeMap, BTreeSet};
 
-/// The ids of the tuples of a bag, by tag.
-#[derive(Drop)]
-pub(crate) struct Index {
-    tags: BTreeMap<Atom, Counts>,
-}
-
-/// The ids of tuples of one tag, by the number of fields.
-#[derive(Drop)]
-struct Counts {
-    groups: BTreeMap<usize, Group>,
-}
+/// The ids of the tuples of a bag, by head.
+pub(crate) type Index = Heads<Group>;
 
 /// The ids of tuples of one tag and one number of fields: all of them, and those of each first
 /// field.
 #[derive(Drop)]
-struct Group {
+pub(crate) struct Group {
     ids: BTreeSet<u64>,
     by_first: BTreeMap<Atom, BTreeSet<u64>>,
 }
 
-impl Index {
-    /// The ids of the tuples that have the template's tag, as many fields as it has patterns and,
-    /// where its first pattern is a value, that value first; nothing where there are none. Takes no
-    /// memory.
-    pub(crate) fn candidates(&self, template: &Template) -> Option<&BTreeSet<u64>>
-        ensures { Finds (⟦<Index as Shelf<Tuple>>⟧.has self.now) (candidates template.now)
-            (option_copied result) }
-    {
-        let counts = self.tags.get(template.tag())?;
-        counts.candidates(template.fields())
-    }
-}
-
-impl Shelf<Tuple> for Index {
-    ghost has = { λ i rows. IsFiled (⟦<Atom as Ord>⟧.cmp) (⟦<Counts as Shelf<Tuple>>⟧.has)
-        tag_of i.tags rows };
-
-    fn empty(alloc: Global) -> Index {
-        Index {
-            tags: BTreeMap::new(alloc),
-        }
-    }
-
-    fn put<'a>(
-        &mut self,
-        alloc: Global,
-        id: u64,
-        old: Option<&'a Tuple>,
-        new: &'a Tuple,
-    ) -> Result<(), AllocError> {
-        refile(
-            &mut self.tags,
-            alloc,
-            id,
-            tag_place(old),
-            tag_place(Some(new)),
-        )
-    }
-
-    fn remove(&mut self, id: u64, tuple: &Tuple) {
-        unfile(&mut self.tags, id, tuple.tag(), tuple);
-    }
-
-    fn is_empty(&self) -> bool {
-        self.tags.is_empty()
-    }
-}
-
-impl Counts {
-    /// Those of the ids whose tuples have as many fields as there are patterns and, where the first
-    /// is a value, that value first.
-    fn candidates(&self, patterns: &[Pattern]) -> Option<&BTreeSet<u64>>
-        ensures { Finds (⟦<Counts as Shelf<Tuple>>⟧.has self.now) (with_fields patterns.now)
-            (option_copied result) }
-    {
-        let group = self.groups.get(&patterns.len())?;
-        group.candidates(first_value(patterns))
-    }
-}
-
-impl Shelf<Tuple> for Counts {
-    ghost has = { λ c rows. IsFiled nat_cmp (⟦<Group as Shelf<Tuple>>⟧.has) count_of c.groups rows };
-
-    fn empty(alloc: Global) -> Counts {
-        Counts {
-            groups: BTreeMap::new(alloc),
-        }
-    }
-
-    fn put<'a>(
-        &mut self,
-        alloc: Global,
-        id: u64,
-        old: Option<&'a Tuple>,
-        new: &'a Tuple,
-    ) -> Result<(), AllocError> {
-        let new_count = new.fields().len();
-        let Some(old) = old else {
-            return refile(&mut self.groups, alloc, id, None, Some((&new_count, new)));
-        };
-        let old_count = old.fields().len();
-        refile(
-            &mut self.groups,
-            alloc,
-            id,
-            Some((&old_count, old)),
-            Some((&new_count, new)),
-        )
-    }
-
-    fn remove(&mut self, id: u64, tuple: &Tuple) {
-        unfile(&mut self.groups, id, &tuple.fields().len(), tuple);
-    }
-
-    fn is_empty(&self) -> bool {
-        self.groups.is_empty()
-    }
+/// The ids of the tuples that have the template's tag, as many fields as it has patterns and, where
+/// its first pattern is a value, that value first; nothing where there are none. Takes no memory.
+pub(crate) fn candidates<'a>(index: &'a Index, template: &Template) -> Option<&'a BTreeSet<u64>>
+    ensures { Finds (⟦<Index as Shelf<Tuple>>⟧.has index.now) (candidates template.now)
+        (option_copied result) }
+{
+    let patterns = template.fields();
+    let group = alike::<Tuple, Group>(index, template.tag(), patterns.len())?;
+    group.candidates(first_value(patterns))
 }
 
 impl Group {
@@ -191,14 +93,6 @@ impl Shelf<Tuple> for Group {
     fn is_empty(&self) -> bool {
         self.ids.is_empty()
     }
-}
-
-// The tag of the tuple, with the tuple.
-fn tag_place(tuple: Option<&Tuple>) -> Option<(&Atom, &Tuple)>
-    ensures { place result ≡ placed tag_of (option_copied tuple.entry) }
-{
-    let tuple = tuple?;
-    Some((tuple.tag(), tuple))
 }
 
 // The first field of the tuple, if it has one, with the tuple.

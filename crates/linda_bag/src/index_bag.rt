@@ -10,7 +10,7 @@ ghost use Rattle.linda_bag.specs.FreeMatch.{IsFreeMatch, rows_of};
 use crate::bags::Bag;
 use crate::by_id::{is_free_match, next_id};
 use crate::filing::Shelf;
-use crate::index::Index;
+use crate::index::{Index, candidates};
 use linda_tuple::{Template, Tuple};
 use std::alloc::{AllocError, Global};
 use std::collections::{BTreeMap, BTreeSet};
@@ -50,7 +50,7 @@ impl IndexBag {
         IndexBag {
             alloc,
             tuples: BTreeMap::new(alloc),
-            index: Index::empty(alloc),
+            index: Shelf::<Tuple>::empty(alloc),
         }
     }
 }
@@ -87,7 +87,7 @@ impl Bag for IndexBag {
     }
 
     fn least_match(&self, template: &Template, passed: &BTreeSet<u64>) -> Option<u64> {
-        for id in self.index.candidates(template)? {
+        for id in candidates(&self.index, template)? {
             if is_free(&self.tuples, template, passed, *id) {
                 return Some(*id);
             }

@@ -7,19 +7,21 @@
 //!
 //! `specs/FreeMatch` says which tuples a template may be answered with; the answer is always the
 //! least id among them. `specs/Filing` and `specs/Candidates` say what an index has and what is found
-//! in it. `filing` is written for rows of any type, so that `linda_hold` files its requests by it;
-//! `proofs/Maps` has what follows of finite maps, for the crates above as well.
+//! in it. `filing` and `heads` are written for rows of any type, so that `linda_hold` files its requests
+//! by them; `proofs/Maps` has what follows of finite maps, for the crates above as well.
 #![tactic(auto)]
 
 mod bags;
 mod by_id;
 mod filing;
+mod heads;
 mod index;
 mod index_bag;
 mod lists;
 
 pub use bags::Bag;
 pub use filing::{Key, Shelf, refile, unfile};
+pub use heads::{Headed, Heads, alike};
 pub use index_bag::IndexBag;
 pub use lists::ListBag;
 

@@ -1,5 +1,6 @@
 -- Reading at an offset: where a fault is told, and what is read there.
 use Rattle.std.specs.Prelude.{◌≡◌, ℕ, ◌-◌, ◌<◌, ◌≤◌, List, ◌++◌, length, drop, Result, Ok, Err}
+use Rattle.std.specs.Prelude.{IfOk, IfErr, IsOk, IsErrOf}
 use Rattle.linda_codec.specs.declared.fault.ReadFault.{ReadFault}
 use Rattle.linda_codec.specs.declared.fault.ReadFault.TheVariants.{Memory, Short, BadKind, BadBool, BadText, TooMany}
 use Rattle.linda_codec.specs.Steps.{Read, Reader, Gives}
@@ -43,3 +44,16 @@ abbrev pub ReadsSpelled : {A : Type 0} → Format A → List ℕ → ℕ → Res
 ReadsSpelled {A = A} f bytes at answer =
     (value : A) (rest : List ℕ) → f.Fits value → drop at bytes ≡ f.spell value ++ rest
     → Gives (λ x. x) answer (Ok (value, length bytes - length rest))
+
+-- What was read at the offset: a value and the offset of the byte after it, or the first fault.
+pub record IsReadAt {A : Type 0} (f : Format A) (bytes : List ℕ) (at : ℕ) (read : Result (A × ℕ) ReadFault) : Type 0 where
+  -- What is read is spelled so.
+  pub found : IfOk read (IsSpelledAt f bytes at)
+  -- What is spelled so is read, unless memory runs out.
+  pub only : ReadsSpelled f bytes at read
+  -- Which fault it is, and where.
+  pub exact : Gives (λ x. x) read (read_at f.read bytes at)
+  -- The offset of a fault is within what was read.
+  pub place : IfErr read (IsPlace at (length bytes))
+  -- Memory runs out only where a value stands at the offset.
+  pub memory : IsErrOf read Memory → IsOk (f.read (drop at bytes))

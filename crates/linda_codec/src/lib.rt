@@ -12,6 +12,7 @@
 #![tactic(auto)]
 
 mod fault;
+mod field;
 mod kinds;
 mod number;
 mod offset;

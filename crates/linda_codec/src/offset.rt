@@ -1,9 +1,11 @@
 //! Readers of atoms, tuples and templates at an offset, which give the value and the offset of the byte after it.
 
-ghost use Rattle.std.specs.Prelude.{◌≡◌, length, drop, IsOk, IsErrOf, IfOk, IfErr};
+ghost use Rattle.std.specs.Prelude.{◌≡◌, drop, IsOk, IsErrOf};
 ghost use Rattle.linda_codec.specs.Steps.{Gives};
-ghost use Rattle.linda_codec.specs.Places.{placed, read_at, IsPlace, IsSpelledAt, ReadsSpelled};
-ghost use Rattle.linda_codec.specs.Values as format;
+ghost use Rattle.linda_codec.specs.Places.{placed, IsReadAt};
+ghost use Rattle.linda_codec.specs.Formats.{Format};
+ghost use Rattle.linda_codec.specs.Lawful.{IsFormat};
+ghost use Rattle.linda_codec.specs.Values as values;
 
 use crate::fault::ReadFault;
 use crate::reading::{read_atom, read_template, read_tuple};
@@ -17,21 +19,9 @@ use std::alloc::Global;
 ///
 /// The first fault from the left, told by its offset; `Memory` where a text finds none.
 pub fn get_atom(alloc: Global, bytes: &[u8], at: usize) -> Result<(Atom, usize), ReadFault>
-    // What is read is spelled so.
-    ensures found { IfOk result (IsSpelledAt format.atom bytes.now at) }
-    // What is spelled so is read, unless memory runs out.
-    ensures only { ReadsSpelled format.atom bytes.now at result }
-    // Which fault it is, and where.
-    ensures exact { Gives (λ x. x) result (read_at format.atom.read bytes.now at) }
-    // The offset of a fault is within what was read.
-    ensures place { IfErr result (IsPlace at (length bytes.now)) }
-    // Memory runs out only where an atom stands at the offset.
-    ensures memory { IsErrOf result ReadFault.Memory → IsOk (format.atom.read (drop at bytes.now)) }
+    ensures { IsReadAt values.atom bytes.now at result }
 {
-    match read_atom(alloc, tail(bytes, at)) {
-        Ok((atom, rest)) => Ok((atom, bytes.len() - rest.len())),
-        Err(fault) => Err(fault.placed(bytes.len())),
-    }
+    get(alloc, bytes, at)
 }
 
 /// The tuple whose spelling begins at the offset, and the offset of the byte after it. Past the end there are no
@@ -41,21 +31,9 @@ pub fn get_atom(alloc: Global, bytes: &[u8], at: usize) -> Result<(Atom, usize),
 ///
 /// The first fault from the left, told by its offset; `Memory` where the values find none.
 pub fn get_tuple(alloc: Global, bytes: &[u8], at: usize) -> Result<(Tuple, usize), ReadFault>
-    // What is read is spelled so.
-    ensures found { IfOk result (IsSpelledAt format.tuple bytes.now at) }
-    // What is spelled so is read, unless memory runs out.
-    ensures only { ReadsSpelled format.tuple bytes.now at result }
-    // Which fault it is, and where.
-    ensures exact { Gives (λ x. x) result (read_at format.tuple.read bytes.now at) }
-    // The offset of a fault is within what was read.
-    ensures place { IfErr result (IsPlace at (length bytes.now)) }
-    // Memory runs out only where a tuple stands at the offset.
-    ensures memory { IsErrOf result ReadFault.Memory → IsOk (format.tuple.read (drop at bytes.now)) }
+    ensures { IsReadAt values.tuple bytes.now at result }
 {
-    match read_tuple(alloc, tail(bytes, at)) {
-        Ok((tuple, rest)) => Ok((tuple, bytes.len() - rest.len())),
-        Err(fault) => Err(fault.placed(bytes.len())),
-    }
+    get(alloc, bytes, at)
 }
 
 /// The template whose spelling begins at the offset, and the offset of the byte after it. Past the end there are no
@@ -65,19 +43,57 @@ pub fn get_tuple(alloc: Global, bytes: &[u8], at: usize) -> Result<(Tuple, usize
 ///
 /// The first fault from the left, told by its offset; `Memory` where the values find none.
 pub fn get_template(alloc: Global, bytes: &[u8], at: usize) -> Result<(Template, usize), ReadFault>
-    // What is read is spelled so.
-    ensures found { IfOk result (IsSpelledAt format.template bytes.now at) }
-    // What is spelled so is read, unless memory runs out.
-    ensures only { ReadsSpelled format.template bytes.now at result }
-    // Which fault it is, and where.
-    ensures exact { Gives (λ x. x) result (read_at format.template.read bytes.now at) }
-    // The offset of a fault is within what was read.
-    ensures place { IfErr result (IsPlace at (length bytes.now)) }
-    // Memory runs out only where a template stands at the offset.
-    ensures memory { IsErrOf result ReadFault.Memory → IsOk (format.template.read (drop at bytes.now)) }
+    ensures { IsReadAt values.template bytes.now at result }
 {
-    match read_template(alloc, tail(bytes, at)) {
-        Ok((template, rest)) => Ok((template, bytes.len() - rest.len())),
+    get(alloc, bytes, at)
+}
+
+// What is read at an offset.
+trait Value: Drop {
+    ghost format: { Format Self };
+
+    fn read(alloc: Global, bytes: &[u8]) -> Result<(Self, &[u8]), ReadFault>
+        ensures value { Gives (λ x. (x.0, x.1.now)) result (format.read bytes.now) }
+        ensures memory { IsErrOf result ReadFault.Memory → IsOk (format.read bytes.now) };
+}
+
+impl Value for Atom {
+    ghost use Rattle.linda_codec.specs.Values as values;
+
+    ghost format = { values.atom };
+
+    fn read(alloc: Global, bytes: &[u8]) -> Result<(Atom, &[u8]), ReadFault> {
+        read_atom(alloc, bytes)
+    }
+}
+
+impl Value for Tuple {
+    ghost use Rattle.linda_codec.specs.Values as values;
+
+    ghost format = { values.tuple };
+
+    fn read(alloc: Global, bytes: &[u8]) -> Result<(Tuple, &[u8]), ReadFault> {
+        read_tuple(alloc, bytes)
+    }
+}
+
+impl Value for Template {
+    ghost use Rattle.linda_codec.specs.Values as values;
+
+    ghost format = { values.template };
+
+    fn read(alloc: Global, bytes: &[u8]) -> Result<(Template, &[u8]), ReadFault> {
+        read_template(alloc, bytes)
+    }
+}
+
+// The value whose spelling begins at the offset, and the offset of the byte after it.
+fn get<V: Value>(alloc: Global, bytes: &[u8], at: usize) -> Result<(V, usize), ReadFault>
+    requires { IsFormat V.format }
+    ensures { IsReadAt V.format bytes.now at result }
+{
+    match V::read(alloc, tail(bytes, at)) {
+        Ok((value, rest)) => Ok((value, bytes.len() - rest.len())),
         Err(fault) => Err(fault.placed(bytes.len())),
     }
 }

@@ -3,11 +3,11 @@
 //! Want of memory is told last: only of bytes at whose front a whole value stands.
 
 ghost use Rattle.std.specs.Prelude.{◌≡◌, IsOk, IsErrOf};
-ghost use Rattle.linda_tuple.specs.declared.limits.TheConstants.{MAX_FIELDS};
-ghost use Rattle.linda_codec.specs.Steps.{Gives, many_at};
+ghost use Rattle.linda_codec.specs.Steps.{Gives};
 ghost use Rattle.linda_codec.specs.Values as format;
 
 use crate::fault::ReadFault;
+use crate::field::read_fields;
 use crate::kinds::{BOOL_FORMAL, INT_FORMAL, INTEGER, TEXT, TEXT_FORMAL, TRUTH, WILDCARD};
 use crate::number::{read_bool, read_i64};
 use crate::parts::{read_count, split_text};
@@ -90,7 +90,7 @@ fn build_tuple(alloc: Global, bytes: &[u8]) -> Result<(Tuple, &[u8]), ReadFault>
 {
     let (tag, rest) = read_atom(alloc, bytes)?;
     let (count, rest) = read_count(rest)?;
-    let (fields, rest) = read_atoms(alloc, count, rest)?;
+    let (fields, rest) = read_fields(alloc, count, rest)?;
     Ok((Tuple::from_parts(tag, fields), rest))
 }
 
@@ -100,38 +100,12 @@ fn build_template(alloc: Global, bytes: &[u8]) -> Result<(Template, &[u8]), Read
 {
     let (tag, rest) = read_atom(alloc, bytes)?;
     let (count, rest) = read_count(rest)?;
-    let (patterns, rest) = read_patterns(alloc, count, rest)?;
+    let (patterns, rest) = read_fields(alloc, count, rest)?;
     Ok((Template::from_parts(tag, patterns), rest))
 }
 
-fn read_atoms(alloc: Global, count: u8, bytes: &[u8]) -> Result<(Vec<Atom>, &[u8]), ReadFault>
-    ensures { Gives (λ x. (x.0.items, x.1.now)) result (many_at format.atom.read count bytes.now) }
-{
-    let mut atoms = Vec::new(alloc);
-    let mut rest = bytes;
-    for _ in 0..count {
-        let (atom, after) = read_atom(alloc, rest)?;
-        atoms.push(atom)?;
-        rest = after;
-    }
-    Ok((atoms, rest))
-}
-
-fn read_patterns(alloc: Global, count: u8, bytes: &[u8]) -> Result<(Vec<Pattern>, &[u8]), ReadFault>
-    ensures { Gives (λ x. (x.0.items, x.1.now)) result (many_at format.pattern.read count bytes.now) }
-{
-    let mut patterns = Vec::new(alloc);
-    let mut rest = bytes;
-    for _ in 0..count {
-        let (pattern, after) = read_pattern(alloc, rest)?;
-        patterns.push(pattern)?;
-        rest = after;
-    }
-    Ok((patterns, rest))
-}
-
-// The byte of a formal or of the wildcard, else an atom.
-fn read_pattern(alloc: Global, bytes: &[u8]) -> Result<(Pattern, &[u8]), ReadFault>
+/// The byte of a formal or of the wildcard, else an atom.
+pub(crate) fn read_pattern(alloc: Global, bytes: &[u8]) -> Result<(Pattern, &[u8]), ReadFault>
     ensures { Gives (λ x. (x.0, x.1.now)) result (format.pattern.read bytes.now) }
 {
     match bytes {

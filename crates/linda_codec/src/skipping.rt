@@ -1,13 +1,15 @@
 //! Passing over tuples and templates: what their readers leave and which fault they tell, without taking memory.
 
 ghost use Rattle.std.specs.Prelude.{◌≡◌};
-ghost use Rattle.linda_codec.specs.Steps.{GivesAlways, left_by, many_at};
+ghost use Rattle.linda_codec.specs.Steps.{GivesAlways, left_by};
 ghost use Rattle.linda_codec.specs.Values as format;
 
 use crate::fault::ReadFault;
+use crate::field::skip_fields;
 use crate::kinds::{BOOL_FORMAL, INT_FORMAL, INTEGER, TEXT, TEXT_FORMAL, TRUTH, WILDCARD};
 use crate::number::{read_bool, read_i64};
 use crate::parts::{read_count, split_text};
+use linda_tuple::{Atom, Pattern};
 
 /// The bytes after the tuple at the front.
 ///
@@ -19,7 +21,7 @@ pub fn skip_tuple(bytes: &[u8]) -> Result<&[u8], ReadFault>
 {
     let rest = skip_atom(bytes)?;
     let (count, rest) = read_count(rest)?;
-    skip_atoms(count, rest)
+    skip_fields::<Atom>(count, rest)
 }
 
 /// The bytes after the template at the front.
@@ -32,30 +34,11 @@ pub fn skip_template(bytes: &[u8]) -> Result<&[u8], ReadFault>
 {
     let rest = skip_atom(bytes)?;
     let (count, rest) = read_count(rest)?;
-    skip_patterns(count, rest)
+    skip_fields::<Pattern>(count, rest)
 }
 
-fn skip_atoms(count: u8, bytes: &[u8]) -> Result<&[u8], ReadFault>
-    ensures { GivesAlways (λ rest. rest.now) result (left_by (many_at format.atom.read count bytes.now)) }
-{
-    let mut rest = bytes;
-    for _ in 0..count {
-        rest = skip_atom(rest)?;
-    }
-    Ok(rest)
-}
-
-fn skip_patterns(count: u8, bytes: &[u8]) -> Result<&[u8], ReadFault>
-    ensures { GivesAlways (λ rest. rest.now) result (left_by (many_at format.pattern.read count bytes.now)) }
-{
-    let mut rest = bytes;
-    for _ in 0..count {
-        rest = skip_pattern(rest)?;
-    }
-    Ok(rest)
-}
-
-fn skip_atom(bytes: &[u8]) -> Result<&[u8], ReadFault>
+/// The bytes after the atom at the front.
+pub(crate) fn skip_atom(bytes: &[u8]) -> Result<&[u8], ReadFault>
     ensures { GivesAlways (λ rest. rest.now) result (left_by (format.atom.read bytes.now)) }
 {
     match bytes {
@@ -76,7 +59,8 @@ fn skip_atom(bytes: &[u8]) -> Result<&[u8], ReadFault>
     }
 }
 
-fn skip_pattern(bytes: &[u8]) -> Result<&[u8], ReadFault>
+/// The bytes after the pattern at the front.
+pub(crate) fn skip_pattern(bytes: &[u8]) -> Result<&[u8], ReadFault>
     ensures { GivesAlways (λ rest. rest.now) result (left_by (format.pattern.read bytes.now)) }
 {
     match bytes {

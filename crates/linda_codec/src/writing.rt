@@ -1,12 +1,12 @@
 //! Writing atoms, tuples and templates: each has one spelling.
 
-ghost use Rattle.std.specs.Prelude.{◌≡◌, ◌++◌, All, length, take, OnOk, OnErr};
-ghost use Rattle.std.specs.List.{flat_map};
+ghost use Rattle.std.specs.Prelude.{◌≡◌, ◌++◌, length, take, OnOk, OnErr};
 ghost use Rattle.linda_tuple.specs.Atom.{IsSound};
 ghost use Rattle.linda_tuple.specs.Tuple.{IsWithin};
 ghost use Rattle.linda_tuple.specs.Template.{IsSoundPattern, IsWithinTemplate};
 ghost use Rattle.linda_codec.specs.Values as format;
 
+use crate::field::push_fields;
 use crate::kinds::{BOOL_FORMAL, INT_FORMAL, INTEGER, TEXT, TEXT_FORMAL, TRUTH, WILDCARD};
 use linda_tuple::{Atom, Pattern, Template, Tuple};
 use std::alloc::AllocError;
@@ -83,7 +83,7 @@ fn push_tuple(out: &mut Vec<u8>, tuple: &Tuple) -> Result<(), AllocError>
     let fields = tuple.fields();
     push_atom(out, tuple.tag())?;
     out.push(fields.len() as u8)?;
-    push_atoms(out, fields)
+    push_fields(out, fields)
 }
 
 // Appends the spelling of the template; likewise.
@@ -95,35 +95,11 @@ fn push_template(out: &mut Vec<u8>, template: &Template) -> Result<(), AllocErro
     let patterns = template.fields();
     push_atom(out, template.tag())?;
     out.push(patterns.len() as u8)?;
-    push_patterns(out, patterns)
+    push_fields(out, patterns)
 }
 
-// Appends the spellings of the atoms, one after the other; likewise.
-fn push_atoms(out: &mut Vec<u8>, atoms: &[Atom]) -> Result<(), AllocError>
-    requires { All IsSound atoms.now }
-    ensures ok { OnOk result (out.new.items ≡ out.old.items ++ flat_map format.atom.spell atoms.now) }
-    ensures front { take (length out.old.items) out.new.items ≡ out.old.items }
-{
-    for atom in atoms {
-        push_atom(out, atom)?;
-    }
-    Ok(())
-}
-
-// Appends the spellings of the patterns, one after the other; likewise.
-fn push_patterns(out: &mut Vec<u8>, patterns: &[Pattern]) -> Result<(), AllocError>
-    requires { All IsSoundPattern patterns.now }
-    ensures ok { OnOk result (out.new.items ≡ out.old.items ++ flat_map format.pattern.spell patterns.now) }
-    ensures front { take (length out.old.items) out.new.items ≡ out.old.items }
-{
-    for pattern in patterns {
-        push_pattern(out, pattern)?;
-    }
-    Ok(())
-}
-
-// Appends the spelling of the pattern; likewise.
-fn push_pattern(out: &mut Vec<u8>, pattern: &Pattern) -> Result<(), AllocError>
+/// Appends the spelling of the pattern; likewise.
+pub(crate) fn push_pattern(out: &mut Vec<u8>, pattern: &Pattern) -> Result<(), AllocError>
     requires { IsSoundPattern pattern.now }
     ensures ok { OnOk result (out.new.items ≡ out.old.items ++ format.pattern.spell pattern.now) }
     ensures front { take (length out.old.items) out.new.items ≡ out.old.items }
@@ -139,8 +115,8 @@ fn push_pattern(out: &mut Vec<u8>, pattern: &Pattern) -> Result<(), AllocError>
     Ok(())
 }
 
-// Appends the spelling of the atom; likewise.
-fn push_atom(out: &mut Vec<u8>, atom: &Atom) -> Result<(), AllocError>
+/// Appends the spelling of the atom; likewise.
+pub(crate) fn push_atom(out: &mut Vec<u8>, atom: &Atom) -> Result<(), AllocError>
     requires { IsSound atom.now }
     ensures ok { OnOk result (out.new.items ≡ out.old.items ++ format.atom.spell atom.now) }
     ensures front { take (length out.old.items) out.new.items ≡ out.old.items }

@@ -5,28 +5,25 @@ use Rattle.std.specs.Option.{option_map}
 use Rattle.linda_bag.specs.Filing.{Rows, with_row, Refiles}
 use Rattle.linda_bag.proofs.Refiling.{same_rows}
 use Rattle.linda_bag.proofs.Kept.{undone}
-use Rattle.linda_hold.specs.Waits.{Wait}
-use Rattle.linda_hold.specs.Named.{Requests}
-use Rattle.linda_hold.specs.Heads.{Waiting}
-use Rattle.linda_hold.specs.Index.{requests_of}
 
-abbrev request : Option Wait → Option (ℕ × ℕ)
-request o = option_map (λ w. w.0) o
+-- What a part of each row is filed by: what had the parts of the rows has them still, as the rows change.
+module _ {T A : Type 0} (part : T → A) where
+  abbrev part_of : Rows T → Rows A
+  part_of rows q = option_map part (rows q)
 
-requests_with : (waiting : Waiting) (k : ℕ) (o : Option Wait) → with_row (requests_of waiting) k (request o) ≡ requests_of (with_row waiting k o)
-requests_with waiting k o = λ j. λ q. at q j
-  where
-    at : (q : ℕ) → with_row (requests_of waiting) k (request o) q ≡ requests_of (with_row waiting k o) q
-    at q =
-        elim (is_eq (nat_cmp k q)) as (λ b. cond b (request o) (request (waiting q)) ≡ request (cond b o (waiting q))) [
-          | true ↦ refl
-          | false ↦ refl
-        ]
+  part_with : (rows : Rows T) (k : ℕ) (o : Option T) → with_row (part_of rows) k (option_map part o) ≡ part_of (with_row rows k o)
+  part_with rows k o = λ j. λ q. at q j
+    where
+      at : (q : ℕ) → with_row (part_of rows) k (option_map part o) q ≡ part_of (with_row rows k o) q
+      at q =
+          elim (is_eq (nat_cmp k q)) as (λ b. cond b (option_map part o) (option_map part (rows q)) ≡ option_map part (cond b o (rows q))) [
+            | true ↦ refl
+            | false ↦ refl
+          ]
 
--- What had the requests of the waits has them still, as the waits change.
-pub renamed : (Old New : Requests → Type 0) (k : ℕ) (old new : Option Wait) → Refiles Old New k (request old) (request new) → Refiles (λ (w : Waiting). Old (requests_of w)) (λ (w : Waiting). New (requests_of w)) k old new
-renamed Old New k old new refiles waiting there has =
-    subst New (requests_with waiting k new) (refiles (requests_of waiting) (ap request there) has)
+  pub renamed : (Old New : Rows A → Type 0) (k : ℕ) (old new : Option T) → Refiles Old New k (option_map part old) (option_map part new) → Refiles (λ (rows : Rows T). Old (part_of rows)) (λ (rows : Rows T). New (part_of rows)) k old new
+  renamed Old New k old new refiles rows there has =
+      subst New (part_with rows k new) (refiles (part_of rows) (ap (option_map part) there) has)
 
 module _ {T : Type 0} (k : ℕ) where
   -- What does not change has what it had.

@@ -3,7 +3,6 @@ pub mod Linking
 pub mod Viewed
 pub mod Parts
 pub mod HeldParts
-pub mod HeadsPlacing
 pub mod Indexing
 pub mod Entries
 pub mod WaitParts

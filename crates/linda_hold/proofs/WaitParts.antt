@@ -24,7 +24,7 @@ use Rattle.linda_bag.proofs.Ordered.{atom_itself, number_itself}
 use Rattle.linda_hold.specs.Waits.{Wait, waits_of}
 use Rattle.linda_hold.specs.Named.{Requests, client_of}
 use Rattle.linda_hold.specs.Heads.{Waiting, tag_of, count_of, alike}
-use Rattle.linda_hold.specs.Index.{requests_of, before, waits_at}
+use Rattle.linda_hold.specs.Index.{requests_of, asked_of, before, waits_at}
 use Rattle.linda_hold.proofs.Parts.{part, found_some, found_none}
 
 part_values : (p : Wait → Bool) (es : List (ℕ × Wait)) → values_of (part p es) ≡ filter p (values_of es)
@@ -94,11 +94,11 @@ module _ (t : BTreeMap ℕ Wait) (ordered : tree.IsOrdered nat_cmp t) where
         ∙ part_values (λ w. client == w.0.0) t.entries
 
   module _ (row : Tuple) where
-    head_at : (o : Option Wait) → is_some (row_at nat_cmp (length row.fields) (placed count_of (row_at atom_ord.ghosts.cmp row.tag (placed tag_of o)))) ≡ is_some (option_filter (has_head row) o)
+    head_at : (o : Option Wait) → is_some (row_at nat_cmp (length row.fields) (placed (λ r. Some (count_of r)) (row_at atom_ord.ghosts.cmp row.tag (placed (λ r. Some (tag_of r)) (option_map (λ w. w.1) o))))) ≡ is_some (option_filter (has_head row) o)
     head_at None = refl
     head_at (Some w) =
-        elim (is_eq (atom_ord.ghosts.cmp w.1.template.tag row.tag)) as (λ b. is_some (row_at nat_cmp (length row.fields) (placed count_of (cond b (Some w) None))) ≡ is_some (cond (b && is_eq (nat_cmp (length w.1.template.fields) (length row.fields))) (Some w) None)) [
-          | true ↦ refl
+        elim (is_eq (atom_ord.ghosts.cmp w.1.template.tag row.tag)) as (λ b. is_some (row_at nat_cmp (length row.fields) (placed (λ r. Some (count_of r)) (cond b (Some w.1) None))) ≡ is_some (cond (b && is_eq (nat_cmp (length w.1.template.fields) (length row.fields))) (Some w) None)) [
+          | true ↦ told (is_eq (nat_cmp (length w.1.template.fields) (length row.fields))) w.1 ∙ sym (told (is_eq (nat_cmp (length w.1.template.fields) (length row.fields))) w)
           | false ↦ refl
         ]
 
@@ -109,10 +109,10 @@ module _ (t : BTreeMap ℕ Wait) (ordered : tree.IsOrdered nat_cmp t) where
         ∙ part_values (has_head row) t.entries
 
     -- The waits under the numbers that are filed under the tuple's head are those that have it, in order of arrival.
-    pub alike_waits : (numbers : BTreeSet ℕ) → sets.IsOrdered nat_cmp numbers → HasIds numbers (alike row (tree.get nat_cmp t)) → waits_at (tree.get nat_cmp t) numbers.keys ≡ filter (has_head row) (values_of t.entries)
+    pub alike_waits : (numbers : BTreeSet ℕ) → sets.IsOrdered nat_cmp numbers → HasIds numbers (alike row (asked_of (tree.get nat_cmp t))) → waits_at (tree.get nat_cmp t) numbers.keys ≡ filter (has_head row) (values_of t.entries)
     alike_waits numbers sorted has =
-        listed numbers.keys (found_some (has_head row) t ordered (alike row (tree.get nat_cmp t)) (λ q. head_at (tree.get nat_cmp t q)) numbers sorted has)
+        listed numbers.keys (found_some (has_head row) t ordered (alike row (asked_of (tree.get nat_cmp t))) (λ q. head_at (tree.get nat_cmp t q)) numbers sorted has)
 
-    pub no_alike : IsBare (alike row (tree.get nat_cmp t)) → [] ≡ filter (has_head row) (values_of t.entries)
+    pub no_alike : IsBare (alike row (asked_of (tree.get nat_cmp t))) → [] ≡ filter (has_head row) (values_of t.entries)
     no_alike bare =
-        listed [] (found_none (has_head row) t ordered (alike row (tree.get nat_cmp t)) (λ q. head_at (tree.get nat_cmp t q)) bare)
+        listed [] (found_none (has_head row) t ordered (alike row (asked_of (tree.get nat_cmp t))) (λ q. head_at (tree.get nat_cmp t q)) bare)

@@ -2,20 +2,25 @@
 -- ask for.
 use Rattle.std.specs.Prelude.{ℕ, List, [], ◌∷◌, Option, None, Some}
 use Rattle.std.specs.Option.{option_map}
+use Rattle.linda_bag.specs.Filing.{Rows}
 use Rattle.linda_hold.specs.declared.index.Index.{Index}
-use Rattle.linda_hold.specs.contracts.heads.HeadsShelfWait.TheImpl as heads
 use Rattle.linda_hold.specs.Named.{Requests, HasNames}
+use Rattle.linda_hold.specs.declared.asks.Asked.{Asked}
 use Rattle.linda_hold.specs.Waits.{Wait}
-use Rattle.linda_hold.specs.Heads.{Waiting}
+use Rattle.linda_hold.specs.Heads.{Waiting, HasAsked}
 
 -- the request of the wait under each number
 abbrev pub requests_of : Waiting → Requests
 requests_of waiting k = option_map (λ w. w.0) (waiting k)
 
+-- what the wait under each number asks
+abbrev pub asked_of : Waiting → Rows Asked
+asked_of waiting k = option_map (λ w. w.1) (waiting k)
+
 -- The index has these waits: the requests by their names, and the numbers by what they ask for.
 abbrev pub HasWaits : Index → Waiting → Type 0
 HasWaits index waiting =
-    HasNames index.names (requests_of waiting) × heads.ghosts.has index.heads waiting
+    HasNames index.names (requests_of waiting) × HasAsked index.heads (asked_of waiting)
 
 -- the wait, if there is one, before the others
 abbrev pub before : Option Wait → List Wait → List Wait

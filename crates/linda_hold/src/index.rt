@@ -6,6 +6,7 @@ ghost use Rattle.linda_bag.specs.Filing.{no_rows, Refiles};
 ghost use Rattle.linda_hold.specs.Named.{pair_cmp};
 ghost use Rattle.linda_hold.specs.Index.{HasWaits};
 
+use crate::asks::Asked;
 use crate::heads::{Heads, Wait};
 use crate::names::Names;
 use linda_bag::Shelf;
@@ -25,7 +26,7 @@ impl Index {
     {
         Index {
             names: Names::empty(alloc),
-            heads: Heads::empty(alloc),
+            heads: Shelf::<Asked>::empty(alloc),
         }
     }
 
@@ -42,7 +43,7 @@ impl Index {
             number None None) }
     {
         self.names.put(alloc, number, None, wait.0)?;
-        match self.heads.put(alloc, number, None, wait) {
+        match self.heads.put(alloc, number, None, &wait.1) {
             Ok(()) => Ok(()),
             Err(error) => {
                 self.names.remove(number, wait.0);
@@ -56,6 +57,6 @@ impl Index {
         ensures { Refiles (HasWaits self.old) (HasWaits self.new) number (Some wait.now) None }
     {
         self.names.remove(number, wait.0);
-        self.heads.remove(number, wait);
+        self.heads.remove(number, &wait.1);
     }
 }

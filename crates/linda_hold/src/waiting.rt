@@ -8,7 +8,7 @@ ghost use Rattle.linda_hold.specs.Waits.{AreDistinct, is_awaited, is_waiting, lo
 ghost use Rattle.linda_hold.specs.Waits.{waits_of, without, without_client, without_readers};
 
 use crate::asks::Asked;
-use crate::heads::Wait;
+use crate::heads::{Wait, alike};
 use crate::index::Index;
 use crate::walks::{first_input, is_answering_one, reads_among};
 use linda_tuple::Tuple;
@@ -151,7 +151,7 @@ impl Waits {
         ensures found { IfOk result (λ v. v.items ≡ map (λ w. w.0) (readers tuple.now self.now)) }
         ensures distinct { AreDistinct self.now }
     {
-        match self.index.heads.alike(tuple) {
+        match alike(&self.index.heads, tuple) {
             Some(numbers) => reads_among(alloc, &self.by_arrival, numbers, tuple),
             None => Ok(Vec::new(alloc)),
         }
@@ -162,7 +162,7 @@ impl Waits {
     pub fn is_awaited(&self, tuple: &Tuple) -> bool
         ensures { result ≡ is_awaited tuple.now self.now }
     {
-        match self.index.heads.alike(tuple) {
+        match alike(&self.index.heads, tuple) {
             Some(numbers) => is_answering_one(&self.by_arrival, numbers, tuple),
             None => false,
         }
@@ -174,7 +174,7 @@ impl Waits {
     pub fn longest(&self, tuple: &Tuple) -> Option<(u32, u64)>
         ensures { result ≡ option_map (λ w. w.0) (longest tuple.now self.now) }
     {
-        match self.index.heads.alike(tuple) {
+        match alike(&self.index.heads, tuple) {
             Some(numbers) => first_input(&self.by_arrival, numbers, tuple),
             None => None,
         }

@@ -1,5 +1,5 @@
 -- Banks as bytes: what they begin with, their parts, and that bytes are one bank.
-use Rattle.std.proofs.Common.{◌≡◌, ◌≢◌, ℕ, ◌+◌, ◌-◌, ◌^◌, ◌<◌, ◌≤◌, ◌⊎◌, inl, inr, List, [], ◌∷◌, ◌++◌, length, take, drop, Ok, refl, sym, ap, subst, ◌∙◌, arith}
+use Rattle.std.proofs.Common.{◌≡◌, ◌≢◌, ℕ, suc, ◌+◌, ◌-◌, ◌^◌, ◌<◌, ◌≤◌, ◌⊎◌, inl, inr, List, [], ◌∷◌, ◌++◌, length, take, drop, Ok, refl, sym, ap, subst, ◌∙◌, arith}
 use Rattle.std.proofs.lemmas.List.{take-append-drop, length-take, length-drop, drop-drop, take_at, drop_at, length-append, length-map}
 use Rattle.linda_codec.specs.Formats.{short_number, number}
 use Rattle.linda_codec.specs.Lawful.{IsBytes}
@@ -7,7 +7,7 @@ use Rattle.linda_codec.proofs.FormatLaws.{short_number_is, number_is}
 use Rattle.linda_codec.proofs.Takes.{IsBytes-drop}
 use Rattle.linda_state.specs.declared.deed.Deed.{Deed}
 use Rattle.linda_journal.specs.declared.kinds.TheConstants.{OPEN}
-use Rattle.linda_journal.specs.declared.limits.TheConstants.{MIN_BYTES}
+use Rattle.linda_journal.specs.declared.limits.TheConstants.{LENGTH_PLACE, MIN_BYTES}
 use Rattle.linda_journal.specs.declared.heading.Heading.TheVariants as headings
 use Rattle.linda_journal.specs.declared.fault.BankFault.{BankFault}
 use Rattle.linda_journal.specs.declared.fault.BankFault.TheVariants as faults
@@ -21,12 +21,16 @@ use Rattle.linda_journal.specs.Image.{IsBroken, IsFaultOfBank}
 use Rattle.linda_journal.proofs.Apart.{format_apart}
 use Rattle.linda_journal.proofs.RecordLaws.{one_journal, not_both}
 
+-- The offset of the generation: a gate and the letters stand before it.
+abbrev generation_place : ℕ
+generation_place = suc (length magic)
+
 -- A generation that was read behind the letters.
 pub bank_heading : (file behind rest : List ℕ) (g : ℕ) (after : List ℕ) → IsBytes file → file ≡ OPEN ∷ behind → behind ≡ magic ++ rest → number.read rest ≡ Ok (g, after) → MIN_BYTES ≤ length file → (g ≡ 0 → ⊥) → IsHeading file (headings.Bank g)
 bank_heading file behind rest g after fits one letters told long some =
     let whole : file ≡ OPEN ∷ magic ++ rest = one ∙ ap (λ (l : List ℕ). OPEN ∷ l) letters in
-    let back : drop 5 file ≡ rest = ap (drop 5) whole in
-    let t = number_is.takes rest (g, after) (subst IsBytes back (IsBytes-drop 5 file fits)) told in
+    let back : drop generation_place file ≡ rest = ap (drop generation_place) whole in
+    let t = number_is.takes rest (g, after) (subst IsBytes back (IsBytes-drop generation_place file fits)) told in
     (omega (arith, some), t.1, long, (after, whole ∙ ap (λ (l : List ℕ). OPEN ∷ magic ++ l) t.0.parts))
 
 -- The parts of a bank whose body is there, with bytes behind it.
@@ -39,11 +43,11 @@ pub record AreParts (file : List ℕ) (g len : ℕ) : Type 0 where
   pub place : length (head g body) ≡ MIN_BYTES + len
   pub short : length body < 2 ^ 32
 
-pub parts_of : (file rest : List ℕ) (g len : ℕ) (behind : List ℕ) → IsBytes file → file ≡ headed g rest → short_number.read (drop 13 file) ≡ Ok (len, behind) → len < length behind → AreParts file g len
+pub parts_of : (file rest : List ℕ) (g len : ℕ) (behind : List ℕ) → IsBytes file → file ≡ headed g rest → short_number.read (drop LENGTH_PLACE file) ≡ Ok (len, behind) → len < length behind → AreParts file g len
 parts_of file rest g len behind fits heading told room =
     let body : List ℕ = take len behind in
-    let t = short_number_is.takes (drop 13 file) (len, behind) (IsBytes-drop 13 file fits) told in
-    let from_length : drop 13 file ≡ rest = ap (drop 13) heading in
+    let t = short_number_is.takes (drop LENGTH_PLACE file) (len, behind) (IsBytes-drop LENGTH_PLACE file fits) told in
+    let from_length : drop LENGTH_PLACE file ≡ rest = ap (drop LENGTH_PLACE) heading in
     let field : rest ≡ short_number.spell len ++ behind = sym from_length ∙ t.0.parts in
     let count : length body ≡ len = omega (arith, length-take len behind, room) in
     let split : behind ≡ body ++ drop len behind = sym (take-append-drop len behind) in
@@ -53,27 +57,27 @@ parts_of file rest g len behind fits heading told room =
     ∙ ap (λ l. headed g (short_number.spell len ++ l)) split
     ∙ ap (λ n. headed g (short_number.spell n ++ (body ++ drop len behind))) (sym count)
     in
-    let from_body : drop 17 file ≡ behind = ap (drop 17) whole in
+    let from_body : drop MIN_BYTES file ≡ behind = ap (drop MIN_BYTES) whole in
     record {
       body = body;
       rest = drop len behind;
       parts = there;
-      told = ap (λ n. take n (drop 17 file)) (plain len) ∙ ap (take len) from_body;
-      journal = sym (drop-drop len 17 file) ∙ ap (drop len) from_body;
+      told = ap (λ n. take n (drop MIN_BYTES file)) (plain len) ∙ ap (take len) from_body;
+      journal = sym (drop-drop len MIN_BYTES file) ∙ ap (drop len) from_body;
       place = omega (arith, count);
       short = omega (arith, count, t.1);
     }
   where
-    plain : (n : ℕ) → 17 + n - 17 ≡ n
+    plain : (n : ℕ) → MIN_BYTES + n - MIN_BYTES ≡ n
     plain n = omega arith
 
-pub bank_there : (file rest : List ℕ) (g len : ℕ) (behind : List ℕ) (records : List (List Deed)) → IsBytes file → 1 ≤ g → g < 2 ^ 64 → file ≡ headed g rest → short_number.read (drop 13 file) ≡ Ok (len, behind) → len < length behind → IsJournal (drop (MIN_BYTES + len) file) records
+pub bank_there : (file rest : List ℕ) (g len : ℕ) (behind : List ℕ) (records : List (List Deed)) → IsBytes file → 1 ≤ g → g < 2 ^ 64 → file ≡ headed g rest → short_number.read (drop LENGTH_PLACE file) ≡ Ok (len, behind) → len < length behind → IsJournal (drop (MIN_BYTES + len) file) records
     → IsBank file g (take (MIN_BYTES + len - MIN_BYTES) (drop MIN_BYTES file)) records
 bank_there file rest g len behind records fits low high heading told room journal =
     let p = parts_of file rest g len behind fits heading told room in
     subst (λ b. IsBank file g b records) (sym p.told) (record { low = low; fits = high; short = p.short; rest = p.rest; parts = p.parts; journal = subst (λ l. IsJournal l records) p.journal journal })
 
-pub broken_there : (file rest : List ℕ) (g len : ℕ) (behind : List ℕ) (offset place : ℕ) → IsBytes file → 1 ≤ g → g < 2 ^ 64 → file ≡ headed g rest → short_number.read (drop 13 file) ≡ Ok (len, behind) → len < length behind → offset ≡ MIN_BYTES + len + place → IsDamaged (drop (MIN_BYTES + len) file) place
+pub broken_there : (file rest : List ℕ) (g len : ℕ) (behind : List ℕ) (offset place : ℕ) → IsBytes file → 1 ≤ g → g < 2 ^ 64 → file ≡ headed g rest → short_number.read (drop LENGTH_PLACE file) ≡ Ok (len, behind) → len < length behind → offset ≡ MIN_BYTES + len + place → IsDamaged (drop (MIN_BYTES + len) file) place
     → IsFaultOfBank file (faults.Damaged offset)
 broken_there file rest g len behind offset place fits low high heading told room offset_is damaged =
     let p = parts_of file rest g len behind fits heading told room in
@@ -95,7 +99,7 @@ broken_there file rest g len behind offset place fits low high heading told room
 -- No bank's head begins another's.
 pub heads_apart : (g h : ℕ) (b c x y : List ℕ) → g < 2 ^ 64 → h < 2 ^ 64 → length b < 2 ^ 32 → length c < 2 ^ 32 → head g b ++ x ≡ head h c ++ y → (g ≡ h) × (b ≡ c) × (x ≡ y)
 heads_apart g h b c x y fits_g fits_h fits_b fits_c e =
-    let generations = format_apart number_is g h (short_number.spell (length b) ++ (b ++ x)) (short_number.spell (length c) ++ (c ++ y)) fits_g fits_h (ap (drop 5) e) in
+    let generations = format_apart number_is g h (short_number.spell (length b) ++ (b ++ x)) (short_number.spell (length c) ++ (c ++ y)) fits_g fits_h (ap (drop generation_place) e) in
     let lengths = format_apart short_number_is (length b) (length c) (b ++ x) (c ++ y) fits_b fits_c generations.1 in
     let n : length b ≡ length c = lengths.0 in (
       generations.0,
@@ -162,6 +166,6 @@ pub settled_there : (bytes : List ℕ) (g at end : ℕ) (rs : List (List Deed)) 
     → IsSettled g (take (at - MIN_BYTES) (drop MIN_BYTES bytes)) rs end v
 settled_there bytes g at end rs v bank low room end_is same durable = record {
   file = subst (λ f. IsBank f g (take (at - MIN_BYTES) (drop MIN_BYTES bytes)) rs) (sym same) bank;
-  place = omega (arith, low, room, end_is, length-take (at - 17) (drop 17 bytes), length-drop 17 bytes);
+  place = omega (arith, low, room, end_is, length-take (at - MIN_BYTES) (drop MIN_BYTES bytes), length-drop MIN_BYTES bytes);
   durable = durable;
 }

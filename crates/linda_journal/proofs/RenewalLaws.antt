@@ -9,6 +9,7 @@ use Rattle.linda_disk.specs.Disk.{Writes}
 use Rattle.linda_disk.specs.Run.{LeavesOnly}
 use Rattle.linda_disk.proofs.RunLaws.{started, wrote, goes_on_by, weaker, joined}
 use Rattle.linda_journal.specs.declared.kinds.TheConstants.{OPEN, CLOSED}
+use Rattle.linda_journal.specs.declared.limits.TheConstants.{MIN_BYTES}
 use Rattle.linda_journal.specs.Gate.{ClosesAfter, IsShut, IsClosedOrOpened}
 use Rattle.linda_journal.specs.Bank.{behind_gate, IsSettled, IsNoneOrNew}
 use Rattle.linda_journal.specs.Renewal.{IsNoBank, IsClosed, IsSameOrNone, IsOpenOrShort, IsWhole}
@@ -26,7 +27,7 @@ no_open b more closed candidate = closed (heads_same b OPEN more candidate.1.0 c
 torn_first : (old image : List ℕ) → IsOpenOrShort old → TornWrite 0 1 old image → IsSameOrNone old image
 torn_first old image (inl short) torn = inr (λ candidate. too_short (length old) (length image) short torn.no_longer candidate.0)
   where
-    too_short : (n m : ℕ) → n < 17 → m ≤ max n 1 → 17 ≤ m → ⊥
+    too_short : (n m : ℕ) → n < MIN_BYTES → m ≤ max n 1 → MIN_BYTES ≤ m → ⊥
     too_short n m short le some = omega (arith, short, le, some)
 torn_first old image (inr opens) torn = by image torn.after
   where

@@ -14,6 +14,8 @@ use Rattle.linda_hold.specs.Holds.{IsHeldAt, held_in}
 use Rattle.linda_wire.specs.declared.limits.TheConstants.{MAX_ASKS, VERSION}
 use Rattle.linda_wire.specs.declared.message.Message.{Message}
 use Rattle.linda_wire.specs.declared.message.Message.TheVariants as messages
+use Rattle.linda_wire.specs.declared.refusal.Refusal.TheVariants as refusals
+use Rattle.linda_wire.specs.Refusal.{refused}
 use Rattle.linda_wire.specs.declared.reply.Reply.{Reply}
 use Rattle.linda_wire.specs.declared.reply.Reply.TheVariants as replies
 use Rattle.linda_book.specs.declared.kept.KeptReply.{KeptReply}
@@ -101,7 +103,7 @@ module _ (Known : ℕ → Reply → Type 0) (bag : Bagged) (x : Coming) where
 
   -- ---- what is asked
 
-  module _ (c ticket : ℕ) (remove : Bool) (shape : Template) (x_is : IsAskOf x (wait_of (c, ticket) remove shape)) (known : Known c (replies.Refused 10 ticket)) (old : Soft) where
+  module _ (c ticket : ℕ) (remove : Bool) (shape : Template) (x_is : IsAskOf x (wait_of (c, ticket) remove shape)) (known : Known c (refused (refusals.TooManyAsks ticket))) (old : Soft) where
     found : (b : Bool) → remove ≡ b → (id : ℕ) → IsFreeMatch bag shape (passed_over b old.holds) id → Move Known bag x old (serve bag (c, ticket) b shape (Some id) old)
     found true is id free =
         offers old id (wait_of (c, ticket) remove shape) free.row x_is is free.stored ((is_match_decides shape free.row).1 free.matches)
@@ -115,7 +117,7 @@ module _ (Known : ℕ → Reply → Type 0) (bag : Bagged) (x : Coming) where
     ask_move (Some id) least is_held is_least = repeats old id (c, ticket) is_held
     ask_move None least is_held is_least =
         either old (is_waiting (c, ticket) old.waits) (no_sends old) _ (stays old)
-        (either old (nat_le MAX_ASKS (open_asks c old)) _ (serve bag (c, ticket) remove shape least old) (tells old c (replies.Refused 10 ticket) refl known) (serve_move least is_least))
+        (either old (nat_le MAX_ASKS (open_asks c old)) _ (serve bag (c, ticket) remove shape least old) (tells old c (refused (refusals.TooManyAsks ticket)) refl known) (serve_move least is_least))
 
 -- ---- what is told without a deed
 
@@ -248,7 +250,7 @@ module _ (st new : State) (c : ℕ) (old : Soft) (is : IsState st) where
       let told : AnswersAsk st.bag (c, ticket) remove shape old step.answer.0 = step.answer.1.0 in
       told_move _ answered step.answer.0 step.answer.1.1 step.state_is
       (subst (Move (KnownIn new) st.bag (says c (messages.Ask ticket remove shape)) old) (sym told.told_is)
-      (ask_move (KnownIn new) st.bag _ c ticket remove shape refl (plain_known (replies.Refused 10 ticket) (refl, refl)) old told.held told.least told.is_held told.is_least))
+      (ask_move (KnownIn new) st.bag _ c ticket remove shape refl (plain_known (refused (refusals.TooManyAsks ticket)) (refl, refl)) old told.held told.least told.is_held told.is_least))
   step_move (messages.Cancel ticket) answered step =
       let told : AnswersCancel st.bag (c, ticket) old step.answer.0 = step.answer.1.0 in
       told_move _ answered step.answer.0 step.answer.1.1 step.state_is

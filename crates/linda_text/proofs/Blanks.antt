@@ -7,6 +7,7 @@ use Rattle.linda_text.specs.Letters.{is_blank}
 use Rattle.linda_text.specs.Grammar.{AreBlanks, EndsNumeral}
 use Rattle.linda_text.specs.Reading.{after_blanks}
 use Rattle.linda_text.proofs.Numerals.{from_digit}
+use Rattle.linda_text.specs.declared.marks.TheConstants as mark
 
 -- Bytes are blanks and what stands behind them.
 abbrev HasBlanks : List ℕ → List ℕ → Type 0
@@ -30,11 +31,11 @@ pub no_blank : (b : ℕ) (rest : List ℕ) → is_blank b ≡ false → after_bl
 unfolding after_blanks
 no_blank b rest e = rw e refl
 
-pub beyond_blanks : (b : ℕ) → 45 ≤ b → is_blank b ≡ false
-beyond_blanks b le = or_from _ _ (ne_eqb b 32 (λ e. omega arith)) (ne_eqb b 9 (λ e. omega arith))
+pub beyond_blanks : (b : ℕ) → mark.MINUS ≤ b → is_blank b ≡ false
+beyond_blanks b le = or_from _ _ (ne_eqb b mark.SPACE (λ e. omega arith)) (ne_eqb b mark.TAB (λ e. omega arith))
 
-blank_is : (b : ℕ) → is_blank b ≡ true → b ≤ 32
-blank_is b e = elim (or_cases (b == 32) (b == 9) e) [ inl s ↦ omega (arith, eqb-true b 32 s) | inr t ↦ omega (arith, eqb-true b 9 t) ]
+blank_is : (b : ℕ) → is_blank b ≡ true → b ≤ mark.SPACE
+blank_is b e = elim (or_cases (b == mark.SPACE) (b == mark.TAB) e) [ inl s ↦ omega (arith, eqb-true b mark.SPACE s) | inr t ↦ omega (arith, eqb-true b mark.TAB t) ]
 
 pub blank_ends : (b : ℕ) → is_blank b ≡ true → is_ascii_digit b ≡ false
 blank_ends b e = false_from_ne_true _ (λ d. omega (arith, (from_digit b d).0, blank_is b e))

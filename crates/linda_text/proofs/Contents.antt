@@ -13,6 +13,7 @@ use Rattle.linda_text.specs.Steps.{Read, ◌>>=◌, left_by}
 use Rattle.linda_text.specs.Reading.{wrong, chosen, escape_at, said_at, with_byte, with_escape, content_at, short_at, string_at}
 use Rattle.linda_text.proofs.Loop.{with_front, regroup, nothing_before}
 use Rattle.linda_text.proofs.SkipLaws.{is_fault, left_made}
+use Rattle.linda_text.specs.declared.marks.TheConstants as mark
 
 -- The string ends at its closing quote, and goes on behind a byte.
 abbrev pub then_content : Option ℕ × List ℕ → Read (List ℕ)
@@ -40,7 +41,7 @@ by_tests false false false b rest escape others e = refl
 pub content_by_bytes : (bytes : List ℕ) → content_at false bytes ≡ (said_at bytes >>= then_content)
 unfolding content_at said_at
 content_by_bytes [] = refl
-content_by_bytes (b ∷ rest) = by_tests (b == 34) (b == 92) (is_special b) b rest (escape_at rest) (content_at true rest) (behind_backslash rest)
+content_by_bytes (b ∷ rest) = by_tests (b == mark.QUOTE) (b == mark.BACKSLASH) (is_special b) b rest (escape_at rest) (content_at true rest) (behind_backslash rest)
 
 -- ---- the loop over the bytes of a string
 

@@ -16,27 +16,28 @@ use Rattle.linda_text.specs.Reading.{after_blanks, wrong, word_at, made, more_at
 use Rattle.linda_text.proofs.Steps.{bind_ok, ok_is}
 use Rattle.linda_text.proofs.Blanks.{no_blank, blanks_take, blanks_again, blanks_end}
 use Rattle.linda_text.proofs.AtomLaws.{IsReading, Begins, word_takes, atom_is, pattern_is}
+use Rattle.linda_text.specs.declared.marks.TheConstants as mark
 
 -- ---- the mark between fields and behind them
 
 abbrev mark_of : Bool → ℕ
-mark_of true = 44
-mark_of false = 41
+mark_of true = mark.COMMA
+mark_of false = mark.CLOSING
 
-mark_by : (comma close : Bool) (b : ℕ) (rest : List ℕ) (x : Bool × List ℕ) → (b == 44) ≡ comma → (b == 41) ≡ close
+mark_by : (comma close : Bool) (b : ℕ) (rest : List ℕ) (x : Bool × List ℕ) → (b == mark.COMMA) ≡ comma → (b == mark.CLOSING) ≡ close
     → cond comma (Ok (true, rest)) (cond close (Ok (false, rest)) (wrong (b ∷ rest))) ≡ Ok x → b ∷ rest ≡ mark_of x.0 ∷ x.1
 mark_by true close b rest x is_comma is_close e =
     let found : Bool × List ℕ = (true, rest) in
-    subst (λ (y : Bool × List ℕ). b ∷ rest ≡ mark_of y.0 ∷ y.1) {x = found} (ok_is found x e) (ap (λ (c : ℕ). c ∷ rest) (eqb-true b 44 is_comma))
+    subst (λ (y : Bool × List ℕ). b ∷ rest ≡ mark_of y.0 ∷ y.1) {x = found} (ok_is found x e) (ap (λ (c : ℕ). c ∷ rest) (eqb-true b mark.COMMA is_comma))
 mark_by false true b rest x is_comma is_close e =
     let found : Bool × List ℕ = (false, rest) in
-    subst (λ (y : Bool × List ℕ). b ∷ rest ≡ mark_of y.0 ∷ y.1) {x = found} (ok_is found x e) (ap (λ (c : ℕ). c ∷ rest) (eqb-true b 41 is_close))
+    subst (λ (y : Bool × List ℕ). b ∷ rest ≡ mark_of y.0 ∷ y.1) {x = found} (ok_is found x e) (ap (λ (c : ℕ). c ∷ rest) (eqb-true b mark.CLOSING is_close))
 mark_by false false b rest x is_comma is_close e = absurd cc
 
 mark_takes : (bytes : List ℕ) (x : Bool × List ℕ) → more_at bytes ≡ Ok x → bytes ≡ mark_of x.0 ∷ x.1
 unfolding more_at
 mark_takes [] x e = absurd cc
-mark_takes (b ∷ rest) x e = mark_by (b == 44) (b == 41) b rest x refl refl e
+mark_takes (b ∷ rest) x e = mark_by (b == mark.COMMA) (b == mark.CLOSING) b rest x refl refl e
 
 -- Blanks, and the mark.
 spaced_mark : (bytes : List ℕ) (x : Bool × List ℕ) → more_at (after_blanks bytes) ≡ Ok x → (blanks : List ℕ) × AreBlanks blanks × (bytes ≡ blanks ++ mark_of x.0 ∷ x.1)
@@ -44,13 +45,13 @@ spaced_mark bytes x e =
     let b = blanks_take bytes in
     (b.0, b.1, b.2 ∙ ap (λ (t : List ℕ). b.0 ++ t) (mark_takes (after_blanks bytes) x e))
 
-comma_again : (blanks rest : List ℕ) → AreBlanks blanks → more_at (after_blanks (blanks ++ 44 ∷ rest)) ≡ Ok (true, rest)
+comma_again : (blanks rest : List ℕ) → AreBlanks blanks → more_at (after_blanks (blanks ++ mark.COMMA ∷ rest)) ≡ Ok (true, rest)
 unfolding more_at after_blanks
-comma_again blanks rest all = rw (blanks_again blanks (44 ∷ rest) all) refl
+comma_again blanks rest all = rw (blanks_again blanks (mark.COMMA ∷ rest) all) refl
 
-close_again : (blanks rest : List ℕ) → AreBlanks blanks → more_at (after_blanks (blanks ++ 41 ∷ rest)) ≡ Ok (false, rest)
+close_again : (blanks rest : List ℕ) → AreBlanks blanks → more_at (after_blanks (blanks ++ mark.CLOSING ∷ rest)) ≡ Ok (false, rest)
 unfolding more_at after_blanks
-close_again blanks rest all = rw (blanks_again blanks (41 ∷ rest) all) refl
+close_again blanks rest all = rw (blanks_again blanks (mark.CLOSING ∷ rest) all) refl
 
 -- ---- fields
 
@@ -61,9 +62,9 @@ BeginFields IsText Fits room bytes x = (text : List ℕ) × AreFields IsText x.0
 none_begin : {A : Type 0} (IsText : A → List ℕ → Type 0) (Fits : A → Type 0) (room : ℕ) (bytes rest : List ℕ) → more_at (after_blanks bytes) ≡ Ok (false, rest) → BeginFields IsText Fits room bytes ([], rest)
 none_begin IsText Fits room bytes rest e =
     let m = spaced_mark bytes (false, rest) e in
-    (m.0 ++ 41 ∷ [], (m.0, m.1, refl), omega arith, tt, m.2 ∙ sym (append_assoc m.0 (41 ∷ []) rest))
+    (m.0 ++ mark.CLOSING ∷ [], (m.0, m.1, refl), omega arith, tt, m.2 ∙ sym (append_assoc m.0 (mark.CLOSING ∷ []) rest))
 
-regroup : (before between field others rest : List ℕ) → before ++ 44 ∷ (between ++ (field ++ (others ++ rest))) ≡ (before ++ 44 ∷ (between ++ (field ++ others))) ++ rest
+regroup : (before between field others rest : List ℕ) → before ++ mark.COMMA ∷ (between ++ (field ++ (others ++ rest))) ≡ (before ++ mark.COMMA ∷ (between ++ (field ++ others))) ++ rest
 regroup before between field others rest = simp append_assoc
 
 one_more : {A : Type 0} (IsText : A → List ℕ → Type 0) (Fits : A → Type 0) (room : ℕ) (bytes after behind rest : List ℕ) (a : A) (others : List A) → more_at (after_blanks bytes) ≡ Ok (true, after)
@@ -72,8 +73,8 @@ one_more IsText Fits room bytes after behind rest a others e first more =
     let m = spaced_mark bytes (true, after) e in
     let b = blanks_take after in
     let inner : after ≡ b.0 ++ (first.0 ++ (more.0 ++ rest)) = b.2 ∙ ap (λ (t : List ℕ). b.0 ++ t) (first.3 ∙ ap (λ (t : List ℕ). first.0 ++ t) more.4) in
-    let whole : bytes ≡ m.0 ++ 44 ∷ (b.0 ++ (first.0 ++ (more.0 ++ rest))) = m.2 ∙ ap (λ (t : List ℕ). m.0 ++ 44 ∷ t) inner in (
-      m.0 ++ 44 ∷ (b.0 ++ (first.0 ++ more.0)),
+    let whole : bytes ≡ m.0 ++ mark.COMMA ∷ (b.0 ++ (first.0 ++ (more.0 ++ rest))) = m.2 ∙ ap (λ (t : List ℕ). m.0 ++ mark.COMMA ∷ t) inner in (
+      m.0 ++ mark.COMMA ∷ (b.0 ++ (first.0 ++ more.0)),
       (m.0, b.0, first.0, more.0, m.1, b.1, first.1, more.1, refl),
       omega (arith, more.2),
       (first.2, more.3),
@@ -118,20 +119,20 @@ fields_takes {A = A} {IsText = IsText} {Fits = Fits} {field = field} is (suc roo
 -- Behind a field stand blanks and a mark.
 fields_end : {A : Type 0} (IsText : A → List ℕ → Type 0) (items : List A) (text rest : List ℕ) → AreFields IsText items text → EndsNumeral (text ++ rest)
 fields_end IsText [] text rest is =
-    rw (is.2, append_assoc is.0 (41 ∷ []) rest) (blanks_end is.0 41 rest is.1 refl)
+    rw (is.2, append_assoc is.0 (mark.CLOSING ∷ []) rest) (blanks_end is.0 mark.CLOSING rest is.1 refl)
 fields_end IsText (a ∷ items) text rest (before, between, field, others, spaces, more, is, are, parts) =
-    rw (parts, append_assoc before (44 ∷ (between ++ (field ++ others))) rest) (blanks_end before 44 ((between ++ (field ++ others)) ++ rest) spaces refl)
+    rw (parts, append_assoc before (mark.COMMA ∷ (between ++ (field ++ others))) rest) (blanks_end before mark.COMMA ((between ++ (field ++ others)) ++ rest) spaces refl)
 
 fields_again : {A : Type 0} {IsText : A → List ℕ → Type 0} {Fits : A → Type 0} {field : Reader A} → IsReading IsText Fits field → (room : ℕ) (items : List A) (text rest : List ℕ)
     → AreFields IsText items text → length items ≤ room → AllByRecursion Fits items → fields_at field room (text ++ rest) ≡ Ok (items, rest)
 unfolding fields_at no_more_at
 fields_again is zero [] text rest are few fits =
-    rw (are.2, append_assoc are.0 (41 ∷ []) rest, close_again are.0 rest are.1) refl
+    rw (are.2, append_assoc are.0 (mark.CLOSING ∷ []) rest, close_again are.0 rest are.1) refl
 fields_again is (suc room) [] text rest are few fits =
-    rw (are.2, append_assoc are.0 (41 ∷ []) rest, close_again are.0 rest are.1) refl
+    rw (are.2, append_assoc are.0 (mark.CLOSING ∷ []) rest, close_again are.0 rest are.1) refl
 fields_again is zero (a ∷ items) text rest are few fits = absurd (omega (arith, few))
 fields_again {IsText = IsText} {field = read} is (suc room) (a ∷ items) text rest (before, between, field, others, spaces, more, one, are, parts) few fits =
-    let regrouped : text ++ rest ≡ before ++ 44 ∷ (between ++ (field ++ (others ++ rest))) = ap (λ (t : List ℕ). t ++ rest) parts ∙ sym (regroup before between field others rest) in
+    let regrouped : text ++ rest ≡ before ++ mark.COMMA ∷ (between ++ (field ++ (others ++ rest))) = ap (λ (t : List ℕ). t ++ rest) parts ∙ sym (regroup before between field others rest) in
     let mark = comma_again before (between ++ (field ++ (others ++ rest))) spaces in
     let inner : after_blanks (between ++ (field ++ (others ++ rest))) ≡ field ++ (others ++ rest) = blanks_again between (field ++ (others ++ rest)) more ∙ is.begins a field (others ++ rest) one fits.0 in
     let first = is.again a field (others ++ rest) one fits.0 (fields_end IsText items others rest are) in
@@ -148,16 +149,16 @@ abbrev IsRow : {A : Type 0} → (A → List ℕ → Type 0) → Atom × List A �
 IsRow IsText row text = IsRowText IsText row.0 row.1 text
 
 -- The opening parenthesis, blanks, and a text of the tag.
-tag_takes : (bytes : List ℕ) (x : Atom × List ℕ) → tag_at bytes ≡ Ok x → (blanks text : List ℕ) × AreBlanks blanks × IsAtomText x.0 text × IsSound x.0 × (bytes ≡ 40 ∷ (blanks ++ (text ++ x.1)))
+tag_takes : (bytes : List ℕ) (x : Atom × List ℕ) → tag_at bytes ≡ Ok x → (blanks text : List ℕ) × AreBlanks blanks × IsAtomText x.0 text × IsSound x.0 × (bytes ≡ mark.OPENING ∷ (blanks ++ (text ++ x.1)))
 unfolding tag_at
 tag_takes bytes x e =
-    let opened = bind_ok (word_at (40 ∷ []) bytes) (λ opened. atom_at (after_blanks opened)) x e in
+    let opened = bind_ok (word_at (mark.OPENING ∷ []) bytes) (λ opened. atom_at (after_blanks opened)) x e in
     let b = blanks_take opened.0 in
     let t = atom_is.takes (after_blanks opened.0) x opened.2 in
     let inner : opened.0 ≡ b.0 ++ (t.0 ++ x.1) = b.2 ∙ ap (λ (w : List ℕ). b.0 ++ w) t.3 in
-    (b.0, t.0, b.1, t.1, t.2, word_takes (40 ∷ []) bytes opened.0 opened.1 ∙ ap (λ (w : List ℕ). 40 ∷ w) inner)
+    (b.0, t.0, b.1, t.1, t.2, word_takes (mark.OPENING ∷ []) bytes opened.0 opened.1 ∙ ap (λ (w : List ℕ). mark.OPENING ∷ w) inner)
 
-regroup_row : (blanks first others rest : List ℕ) → 40 ∷ (blanks ++ (first ++ (others ++ rest))) ≡ (40 ∷ (blanks ++ (first ++ others))) ++ rest
+regroup_row : (blanks first others rest : List ℕ) → mark.OPENING ∷ (blanks ++ (first ++ (others ++ rest))) ≡ (mark.OPENING ∷ (blanks ++ (first ++ others))) ++ rest
 regroup_row blanks first others rest = simp append_assoc
 
 row_takes : {A : Type 0} {IsText : A → List ℕ → Type 0} {Fits : A → Type 0} {field : Reader A} → IsReading IsText Fits field → (bytes : List ℕ) (x : (Atom × List A) × List ℕ) → row_at field bytes ≡ Ok x
@@ -169,15 +170,15 @@ row_takes {A = A} {IsText = IsText} {Fits = Fits} {field = field} is bytes x e =
     let found : (Atom × List A) × List ℕ = ((tag.0.0, fields.0.0), fields.0.1) in
     let t = tag_takes bytes tag.0 tag.1 in
     let f = fields_takes is MAX_FIELDS tag.0.1 fields.0 fields.1 in
-    let whole : bytes ≡ 40 ∷ (t.0 ++ (t.1 ++ (f.0 ++ fields.0.1))) = t.5 ∙ ap (λ (w : List ℕ). 40 ∷ (t.0 ++ (t.1 ++ w))) f.4 in
+    let whole : bytes ≡ mark.OPENING ∷ (t.0 ++ (t.1 ++ (f.0 ++ fields.0.1))) = t.5 ∙ ap (λ (w : List ℕ). mark.OPENING ∷ (t.0 ++ (t.1 ++ w))) f.4 in
     subst (λ (y : (Atom × List A) × List ℕ). Begins (IsRow IsText) (FitsRow Fits) bytes y) {x = found} (ok_is found x fields.2)
-    (40 ∷ (t.0 ++ (t.1 ++ f.0)), (t.0, t.1, f.0, t.2, t.3, f.1, refl), (t.4, f.2, f.3), whole ∙ regroup_row t.0 t.1 f.0 fields.0.1)
+    (mark.OPENING ∷ (t.0 ++ (t.1 ++ f.0)), (t.0, t.1, f.0, t.2, t.3, f.1, refl), (t.4, f.2, f.3), whole ∙ regroup_row t.0 t.1 f.0 fields.0.1)
 
-open_again : (rest : List ℕ) → word_at (40 ∷ []) (40 ∷ rest) ≡ Ok rest
+open_again : (rest : List ℕ) → word_at (mark.OPENING ∷ []) (mark.OPENING ∷ rest) ≡ Ok rest
 unfolding word_at
 open_again rest = refl
 
-tag_again : (blanks text rest : List ℕ) (tag : Atom) → AreBlanks blanks → IsAtomText tag text → IsSound tag → EndsNumeral rest → tag_at (40 ∷ (blanks ++ (text ++ rest))) ≡ Ok (tag, rest)
+tag_again : (blanks text rest : List ℕ) (tag : Atom) → AreBlanks blanks → IsAtomText tag text → IsSound tag → EndsNumeral rest → tag_at (mark.OPENING ∷ (blanks ++ (text ++ rest))) ≡ Ok (tag, rest)
 unfolding tag_at
 tag_again blanks text rest tag spaces is sound end =
     let inner : after_blanks (blanks ++ (text ++ rest)) ≡ text ++ rest = blanks_again blanks (text ++ rest) spaces ∙ atom_is.begins tag text rest is sound in
@@ -187,7 +188,7 @@ row_again : {A : Type 0} {IsText : A → List ℕ → Type 0} {Fits : A → Type
     → row_at field (text ++ rest) ≡ Ok (row, rest)
 unfolding row_at
 row_again {A = A} {IsText = IsText} {Fits = Fits} {field = field} is row text rest (blanks, first, others, spaces, tag, are, parts) fits =
-    let whole : text ++ rest ≡ 40 ∷ (blanks ++ (first ++ (others ++ rest))) = ap (λ (w : List ℕ). w ++ rest) parts ∙ sym (regroup_row blanks first others rest) in
+    let whole : text ++ rest ≡ mark.OPENING ∷ (blanks ++ (first ++ (others ++ rest))) = ap (λ (w : List ℕ). w ++ rest) parts ∙ sym (regroup_row blanks first others rest) in
     let one = tag_again blanks first (others ++ rest) row.0 spaces tag fits.0 (fields_end IsText row.1 others rest are) in
     let next = fields_again is MAX_FIELDS row.1 others rest are fits.1 fits.2 in
     rw (whole, one, next) refl
@@ -220,7 +221,7 @@ spaced_atom_is = record { takes = spaced_atom_takes; again = spaced_atom_again }
 
 -- No blank begins a row.
 row_begins : {A : Type 0} (IsText : A → List ℕ → Type 0) (row : Atom × List A) (text rest : List ℕ) → IsRow IsText row text → after_blanks (text ++ rest) ≡ text ++ rest
-row_begins IsText row text rest (blanks, first, others, spaces, tag, are, parts) = rw parts (no_blank 40 ((blanks ++ (first ++ others)) ++ rest) refl)
+row_begins IsText row text rest (blanks, first, others, spaces, tag, are, parts) = rw parts (no_blank mark.OPENING ((blanks ++ (first ++ others)) ++ rest) refl)
 
 -- What is made of a row.
 abbrev row_made : {A M : Type 0} → (Atom × List A → M) → Reader A → Reader M

@@ -16,30 +16,35 @@ use Rattle.linda_tuple.specs.declared.pattern.Pattern.TheVariants as patterns
 use Rattle.linda_tuple.specs.Template.{Template}
 use Rattle.linda_text.specs.Grammar.{IsForm, IsContent, IsAtomText, IsPatternText, AreFields, IsRowText, IsTupleText, IsTemplateText, IsAlone}
 use Rattle.linda_text.specs.Written.{written_byte, written_atom, written_pattern, written_field, written_row, written_tuple, written_template}
+use Rattle.linda_text.specs.declared.marks.TheConstants as mark
+
+-- The first code beyond ASCII.
+abbrev ascii_end : ℕ
+ascii_end = 128
 
 -- None of the five that are written as escapes.
 abbrev pub StandsAsItself : ℕ → Type 0
-StandsAsItself c = (c ≢ 34) × (c ≢ 92) × (c ≢ 10) × (c ≢ 9) × (c ≢ 13)
+StandsAsItself c = (c ≢ mark.QUOTE) × (c ≢ mark.BACKSLASH) × (c ≢ mark.LINE_FEED) × (c ≢ mark.TAB) × (c ≢ mark.CARRIAGE_RETURN)
 
 itself : (c : ℕ) → StandsAsItself c → written_byte c ≡ c ∷ []
-itself c not = rw (ne_eqb c 34 not.0, ne_eqb c 92 not.1, ne_eqb c 10 not.2, ne_eqb c 9 not.3, ne_eqb c 13 not.4) refl
+itself c not = rw (ne_eqb c mark.QUOTE not.0, ne_eqb c mark.BACKSLASH not.1, ne_eqb c mark.LINE_FEED not.2, ne_eqb c mark.TAB not.3, ne_eqb c mark.CARRIAGE_RETURN not.4) refl
 
-beyond_ascii : (bytes : List ℕ) → ((k : ℕ) → k < length bytes → 128 ≤ get_or bytes k 0) → flat_map written_byte bytes ≡ bytes
+beyond_ascii : (bytes : List ℕ) → ((k : ℕ) → k < length bytes → ascii_end ≤ get_or bytes k 0) → flat_map written_byte bytes ≡ bytes
 beyond_ascii [] high = refl
 beyond_ascii (b ∷ bytes) high =
-    let first : 128 ≤ b = high 0 (omega arith) in
+    let first : ascii_end ≤ b = high 0 (omega arith) in
     let one : written_byte b ≡ b ∷ [] = itself b ((λ e. omega arith), (λ e. omega arith), (λ e. omega arith), (λ e. omega arith), (λ e. omega arith)) in
     rw (flat_map-cons, one, beyond_ascii bytes (λ k lt. high (suc k) (omega (arith, lt)))) refl
 
-bytes_of : (c k : ℕ) → 128 ≤ c → k < length (encode_utf8 c) → 128 ≤ get_or (encode_utf8 c) k 0
-bytes_of c k high lt = elim (cases_lt (get_or (encode_utf8 c) k 0) 128) [
+bytes_of : (c k : ℕ) → ascii_end ≤ c → k < length (encode_utf8 c) → ascii_end ≤ get_or (encode_utf8 c) k 0
+bytes_of c k high lt = elim (cases_lt (get_or (encode_utf8 c) k 0) ascii_end) [
   | inl low ↦ absurd (omega (arith, inside_one c [] (encode_utf8 c) k (sym (append-nil (encode_utf8 c))) lt low))
   | inr le ↦ le
 ]
 
 -- Every other character is written as itself.
 pub written_itself : (c : ℕ) → StandsAsItself c → flat_map written_byte (encode_utf8 c) ≡ encode_utf8 c
-written_itself c not = elim (cases_lt c 128) [
+written_itself c not = elim (cases_lt c ascii_end) [
   | inl low ↦ rw (encode_ascii c low, flat_map-cons, itself c not) refl
   | inr high ↦ beyond_ascii (encode_utf8 c) (λ k lt. bytes_of c k high lt)
 ]
@@ -59,18 +64,18 @@ one_more front out new yielded c so_far now =
 
 -- ---- what is written is a text of its value
 
-form_by : (quote backslash feed tab return : Bool) (b : ℕ) → (b == 34) ≡ quote → (b == 92) ≡ backslash → (b == 10) ≡ feed → (b == 9) ≡ tab → (b == 13) ≡ return
-    → IsForm b (cond quote (92 ∷ 34 ∷ []) (cond backslash (92 ∷ 92 ∷ []) (cond feed (92 ∷ 110 ∷ []) (cond tab (92 ∷ 116 ∷ []) (cond return (92 ∷ 114 ∷ []) (b ∷ []))))))
-form_by true s f t r b is_q is_s is_f is_t is_r = inr (34, ap (λ (c : ℕ). Some c) (sym (eqb-true b 34 is_q)), refl)
-form_by false true f t r b is_q is_s is_f is_t is_r = inr (92, ap (λ (c : ℕ). Some c) (sym (eqb-true b 92 is_s)), refl)
-form_by false false true t r b is_q is_s is_f is_t is_r = inr (110, ap (λ (c : ℕ). Some c) (sym (eqb-true b 10 is_f)), refl)
-form_by false false false true r b is_q is_s is_f is_t is_r = inr (116, ap (λ (c : ℕ). Some c) (sym (eqb-true b 9 is_t)), refl)
-form_by false false false false true b is_q is_s is_f is_t is_r = inr (114, ap (λ (c : ℕ). Some c) (sym (eqb-true b 13 is_r)), refl)
-form_by false false false false false b is_q is_s is_f is_t is_r = inl (or_from _ (b == 13) (or_from _ (b == 10) (or_from (b == 34) (b == 92) is_q is_s) is_f) is_r, refl)
+form_by : (quote backslash feed tab return : Bool) (b : ℕ) → (b == mark.QUOTE) ≡ quote → (b == mark.BACKSLASH) ≡ backslash → (b == mark.LINE_FEED) ≡ feed → (b == mark.TAB) ≡ tab → (b == mark.CARRIAGE_RETURN) ≡ return
+    → IsForm b (cond quote (mark.BACKSLASH ∷ mark.QUOTE ∷ []) (cond backslash (mark.BACKSLASH ∷ mark.BACKSLASH ∷ []) (cond feed (mark.BACKSLASH ∷ mark.FEED_LETTER ∷ []) (cond tab (mark.BACKSLASH ∷ mark.TAB_LETTER ∷ []) (cond return (mark.BACKSLASH ∷ mark.RETURN_LETTER ∷ []) (b ∷ []))))))
+form_by true s f t r b is_q is_s is_f is_t is_r = inr (mark.QUOTE, ap (λ (c : ℕ). Some c) (sym (eqb-true b mark.QUOTE is_q)), refl)
+form_by false true f t r b is_q is_s is_f is_t is_r = inr (mark.BACKSLASH, ap (λ (c : ℕ). Some c) (sym (eqb-true b mark.BACKSLASH is_s)), refl)
+form_by false false true t r b is_q is_s is_f is_t is_r = inr (mark.FEED_LETTER, ap (λ (c : ℕ). Some c) (sym (eqb-true b mark.LINE_FEED is_f)), refl)
+form_by false false false true r b is_q is_s is_f is_t is_r = inr (mark.TAB_LETTER, ap (λ (c : ℕ). Some c) (sym (eqb-true b mark.TAB is_t)), refl)
+form_by false false false false true b is_q is_s is_f is_t is_r = inr (mark.RETURN_LETTER, ap (λ (c : ℕ). Some c) (sym (eqb-true b mark.CARRIAGE_RETURN is_r)), refl)
+form_by false false false false false b is_q is_s is_f is_t is_r = inl (or_from _ (b == mark.CARRIAGE_RETURN) (or_from _ (b == mark.LINE_FEED) (or_from (b == mark.QUOTE) (b == mark.BACKSLASH) is_q is_s) is_f) is_r, refl)
 
 content_is : (t : List ℕ) → IsContent t (flat_map written_byte t)
 content_is [] = refl
-content_is (b ∷ t) = (written_byte b, flat_map written_byte t, form_by (b == 34) (b == 92) (b == 10) (b == 9) (b == 13) b refl refl refl refl refl, content_is t, flat_map-cons written_byte b t)
+content_is (b ∷ t) = (written_byte b, flat_map written_byte t, form_by (b == mark.QUOTE) (b == mark.BACKSLASH) (b == mark.LINE_FEED) (b == mark.TAB) (b == mark.CARRIAGE_RETURN) b refl refl refl refl refl, content_is t, flat_map-cons written_byte b t)
 
 pub atom_written : (a : Atom) → IsAtomText a (written_atom a)
 atom_written (atoms.Int n) = refl
@@ -84,17 +89,17 @@ pattern_written patterns.TextFormal = refl
 pattern_written patterns.BoolFormal = refl
 pattern_written patterns.Any = refl
 
-fields_written : {A : Type 0} (IsText : A → List ℕ → Type 0) (written : A → List ℕ) → ((a : A) → IsText a (written a)) → (fields : List A) → AreFields IsText fields (flat_map (written_field written) fields ++ 41 ∷ [])
+fields_written : {A : Type 0} (IsText : A → List ℕ → Type 0) (written : A → List ℕ) → ((a : A) → IsText a (written a)) → (fields : List A) → AreFields IsText fields (flat_map (written_field written) fields ++ mark.CLOSING ∷ [])
 fields_written IsText written is [] = ([], tt, refl)
 fields_written IsText written is (a ∷ fields) =
-    let rest : List ℕ = flat_map (written_field written) fields ++ 41 ∷ [] in
-    let parts : flat_map (written_field written) (a ∷ fields) ++ 41 ∷ [] ≡ 44 ∷ (32 ∷ (written a ++ rest)) =
-    ap (λ (t : List ℕ). t ++ 41 ∷ []) (flat_map-cons (written_field written) a fields) ∙ append_assoc (written_field written a) (flat_map (written_field written) fields) (41 ∷ []) in
-    ([], 32 ∷ [], written a, rest, tt, (refl, tt), is a, fields_written IsText written is fields, parts)
+    let rest : List ℕ = flat_map (written_field written) fields ++ mark.CLOSING ∷ [] in
+    let parts : flat_map (written_field written) (a ∷ fields) ++ mark.CLOSING ∷ [] ≡ mark.COMMA ∷ (mark.SPACE ∷ (written a ++ rest)) =
+    ap (λ (t : List ℕ). t ++ mark.CLOSING ∷ []) (flat_map-cons (written_field written) a fields) ∙ append_assoc (written_field written a) (flat_map (written_field written) fields) (mark.CLOSING ∷ []) in
+    ([], mark.SPACE ∷ [], written a, rest, tt, (refl, tt), is a, fields_written IsText written is fields, parts)
 
 row_written : {A : Type 0} (IsText : A → List ℕ → Type 0) (written : A → List ℕ) → ((a : A) → IsText a (written a)) → (tag : Atom) (fields : List A) → IsRowText IsText tag fields (written_row written tag fields)
 row_written IsText written is tag fields =
-    ([], written_atom tag, flat_map (written_field written) fields ++ 41 ∷ [], tt, atom_written tag, fields_written IsText written is fields, refl)
+    ([], written_atom tag, flat_map (written_field written) fields ++ mark.CLOSING ∷ [], tt, atom_written tag, fields_written IsText written is fields, refl)
 
 tuple_written : (t : Tuple) → IsTupleText t (written_tuple t)
 tuple_written t = row_written IsAtomText written_atom atom_written t.tag t.fields

@@ -14,6 +14,7 @@ use Rattle.linda_tuple.specs.Tuple.{Tuple, IsWithin}
 use Rattle.linda_tuple.specs.Template.{Template, IsWithinTemplate}
 use Rattle.linda_text.specs.Letters.{is_blank, is_special, escaped, truth_word}
 use Rattle.linda_text.specs.Letters.{int_word, text_word, bool_word, any_word}
+use Rattle.linda_text.specs.declared.marks.TheConstants as mark
 
 -- Spaces and tabs, or nothing: what may stand between tokens.
 abbrev pub AreBlanks : List ℕ → Type 0
@@ -26,7 +27,7 @@ IsPlain b form = (is_special b ≡ false) × (form ≡ b ∷ [])
 
 -- A byte that stands as an escape: a backslash, and the letter that stands for the byte.
 abbrev pub IsEscape : ℕ → List ℕ → Type 0
-IsEscape b form = (e : ℕ) × (escaped e ≡ Some b) × (form ≡ 92 ∷ e ∷ [])
+IsEscape b form = (e : ℕ) × (escaped e ≡ Some b) × (form ≡ mark.BACKSLASH ∷ e ∷ [])
 
 abbrev pub IsForm : ℕ → List ℕ → Type 0
 IsForm b form = IsPlain b form ⊎ IsEscape b form
@@ -42,7 +43,7 @@ IsContent (b ∷ bytes) text =
 abbrev pub IsAtomText : Atom → List ℕ → Type 0
 IsAtomText (atoms.Int n) text = text ≡ signed_decimal n
 IsAtomText (atoms.Text t) text =
-    (content : List ℕ) × IsContent t content × (text ≡ 34 ∷ (content ++ 34 ∷ []))
+    (content : List ℕ) × IsContent t content × (text ≡ mark.QUOTE ∷ (content ++ mark.QUOTE ∷ []))
 IsAtomText (atoms.Bool b) text = text ≡ truth_word b
 
 -- A text of the pattern: of its value, or the formal's sign, or the wildcard's.
@@ -61,18 +62,18 @@ EndsNumeral (b ∷ rest) = is_ascii_digit b ≡ false
 -- The fields that follow the tag: before each a comma, behind the last one the closing parenthesis,
 -- and blanks before each token.
 abbrev pub AreFields : {A : Type 0} → (A → List ℕ → Type 0) → List A → List ℕ → Type 0
-AreFields IsText [] text = (blanks : List ℕ) × AreBlanks blanks × (text ≡ blanks ++ 41 ∷ [])
+AreFields IsText [] text = (blanks : List ℕ) × AreBlanks blanks × (text ≡ blanks ++ mark.CLOSING ∷ [])
 AreFields IsText (a ∷ others) text =
     (before between field rest : List ℕ) × AreBlanks before × AreBlanks between
     × IsText a field × AreFields IsText others rest
-    × (text ≡ before ++ 44 ∷ (between ++ (field ++ rest)))
+    × (text ≡ before ++ mark.COMMA ∷ (between ++ (field ++ rest)))
 
 -- The opening parenthesis, the tag, the fields.
 abbrev pub IsRowText : {A : Type 0} → (A → List ℕ → Type 0) → Atom → List A → List ℕ → Type 0
 IsRowText IsText tag fields text =
     (blanks first rest : List ℕ) × AreBlanks blanks
     × IsAtomText tag first × AreFields IsText fields rest
-    × (text ≡ 40 ∷ (blanks ++ (first ++ rest)))
+    × (text ≡ mark.OPENING ∷ (blanks ++ (first ++ rest)))
 
 -- A text of the tuple, from its parenthesis to its parenthesis.
 abbrev pub IsTupleText : Tuple → List ℕ → Type 0

@@ -1,11 +1,11 @@
 -- What the readers give: the value, or the first fault from the left.
-use Rattle.std.specs.Prelude.{ℕ, zero, suc, ◌^◌, ◌==◌, ◌&&◌, ℤ, Bool, true, false, not, nat_lt}
+use Rattle.std.specs.Prelude.{ℕ, zero, suc, ◌^◌, ◌==◌, ◌&&◌, ℤ, pos, neg_ℤ, Bool, true, false, not, nat_lt}
 use Rattle.std.specs.Prelude.{List, [], ◌∷◌, length, take, drop, if◌then◌else◌}
 use Rattle.std.specs.Prelude.{Option, Some, None, Result, Ok, Err}
 use Rattle.std.specs.Char.{is_ascii_digit}
 use Rattle.std.specs.Int.Signed.{mag}
 use Rattle.std.specs.Str.{is_utf8}
-use Rattle.std.specs.Str.Parse.{signed_digits_value, digits_value, without_leading_plus}
+use Rattle.std.specs.Str.Parse.{digits_value, without_leading_plus}
 use Rattle.std.specs.Str.Parse.{true_text, false_text}
 use Rattle.linda_tuple.specs.declared.atom.Atom.{Atom}
 use Rattle.linda_tuple.specs.declared.atom.Atom.TheVariants as atoms
@@ -19,6 +19,7 @@ use Rattle.linda_text.specs.declared.fault.TextFault.TheVariants.{SyntaxAt, TooM
 use Rattle.linda_text.specs.declared.fault.TextFault.TheVariants.{TextTooLong, NumberRange}
 use Rattle.linda_text.specs.Letters.{is_blank, is_special, escaped}
 use Rattle.linda_text.specs.Steps.{Read, Reader, ◌>>=◌}
+use Rattle.linda_text.specs.declared.marks.TheConstants as mark
 
 -- The fault of a text that does not go on at the first of these bytes, or that ends before them.
 abbrev pub wrong : {A : Type 0} → List ℕ → Read A
@@ -42,7 +43,7 @@ word_at (w ∷ word) (b ∷ rest) =
 abbrev pub named : {A : Type 0} → A → List ℕ → Reader A
 named a word bytes = word_at word bytes >>= λ rest. Ok (a, rest)
 
--- ---- integers
+-- ---- numbers
 
 -- How many decimal digits stand at the front.
 unfoldable pub digit_count : List ℕ → ℕ
@@ -53,45 +54,43 @@ digit_count (b ∷ rest) = if is_ascii_digit b then suc (digit_count rest) else 
 unfoldable pub positive_len : List ℕ → Result ℕ TextFault
 positive_len [] = Err (SyntaxAt 0)
 positive_len (b ∷ rest) =
-    if is_ascii_digit b && not (b == 48) then Ok (suc (digit_count rest))
+    if is_ascii_digit b && not (b == mark.ZERO) then Ok (suc (digit_count rest))
     else Err (SyntaxAt (suc (length rest)))
 
--- The length of a numeral: a 0 alone, or digits that do not begin with 0, before which a minus may
--- stand.
-unfoldable pub numeral_len : List ℕ → Result ℕ TextFault
-numeral_len [] = Err (SyntaxAt 0)
-numeral_len (b ∷ rest) =
-    if b == 48 then Ok 1
-    else (if b == 45 then (positive_len rest >>= λ n. Ok (suc n)) else positive_len (b ∷ rest))
+-- The number that digits write, within 64 bits.
+unfoldable pub number_of : List ℕ → Result ℕ TextFault
+number_of digits =
+    if nat_lt (digits_value 10 (without_leading_plus digits)) (2 ^ 64)
+    then Ok (digits_value 10 (without_leading_plus digits)) else Err NumberRange
 
--- The number that a numeral writes, within 64 bits.
-unfoldable pub number_of : List ℕ → Result ℤ TextFault
-number_of numeral =
-    if nat_lt (mag (signed_digits_value 10 numeral)) (2 ^ 63)
-    then Ok (signed_digits_value 10 numeral) else Err NumberRange
-
-unfoldable pub integer_at : Reader ℤ
-integer_at bytes = do
-  len ← numeral_len bytes
+-- A number whose digits do not begin with 0.
+unfoldable pub positive_at : Reader ℕ
+positive_at bytes = do
+  len ← positive_len bytes
   number ← number_of (take len bytes)
   Ok (number, drop len bytes)
 
--- The length of a number without a sign: a 0 alone, or digits that do not begin with 0.
-unfoldable pub natural_len : List ℕ → Result ℕ TextFault
-natural_len [] = Err (SyntaxAt 0)
-natural_len (b ∷ rest) = if b == 48 then Ok 1 else positive_len (b ∷ rest)
-
--- The number that digits write, within 64 bits.
-unfoldable pub natural_of : List ℕ → Result ℕ TextFault
-natural_of numeral =
-    if nat_lt (digits_value 10 (without_leading_plus numeral)) (2 ^ 64)
-    then Ok (digits_value 10 (without_leading_plus numeral)) else Err NumberRange
-
+-- A number without a sign: a 0 alone, or digits that do not begin with 0.
 unfoldable pub natural_at : Reader ℕ
-natural_at bytes = do
-  len ← natural_len bytes
-  number ← natural_of (take len bytes)
-  Ok (number, drop len bytes)
+natural_at [] = wrong []
+natural_at (b ∷ rest) = if b == mark.ZERO then Ok (0, rest) else positive_at (b ∷ rest)
+
+-- The integer, within 64 bits.
+unfoldable pub integer_of : ℤ → Result ℤ TextFault
+integer_of integer = if nat_lt (mag integer) (2 ^ 63) then Ok integer else Err NumberRange
+
+-- A number without a sign, or a minus before digits that do not begin with 0.
+unfoldable pub integer_at : Reader ℤ
+integer_at [] = wrong []
+integer_at (b ∷ rest) =
+    if b == mark.MINUS then (do
+      number ← positive_at rest
+      integer ← integer_of (neg_ℤ (pos number.0))
+      Ok (integer, number.1))
+    else (do
+      number ← natural_at (b ∷ rest)
+      integer ← integer_of (pos number.0)
+      Ok (integer, number.1))
 
 -- ---- strings
 
@@ -108,8 +107,8 @@ escape_at (e ∷ rest) = chosen (escaped e) (e ∷ rest) rest
 unfoldable pub said_at : Reader (Option ℕ)
 said_at [] = wrong []
 said_at (b ∷ rest) =
-    if b == 34 then Ok (None, rest)
-    else (if b == 92 then escape_at rest
+    if b == mark.QUOTE then Ok (None, rest)
+    else (if b == mark.BACKSLASH then escape_at rest
     else (if is_special b then wrong (b ∷ rest) else Ok (Some b, rest)))
 
 -- A byte of a string, and those behind it.
@@ -128,8 +127,8 @@ content_at in_escape [] = wrong []
 content_at true (e ∷ rest) =
     with_escape (escaped e) (wrong (e ∷ rest)) (content_at false rest)
 content_at false (b ∷ rest) =
-    if b == 34 then Ok ([], rest)
-    else (if b == 92 then content_at true rest
+    if b == mark.QUOTE then Ok ([], rest)
+    else (if b == mark.BACKSLASH then content_at true rest
     else (if is_special b then wrong (b ∷ rest) else with_byte b (content_at false rest)))
 
 -- What was found, if it is not too long for a string.
@@ -157,24 +156,24 @@ made make read = read >>= λ a. Ok (make a.0, a.1)
 unfoldable pub atom_at : Reader Atom
 atom_at [] = wrong []
 atom_at (b ∷ rest) =
-    if b == 34 then made (λ t. atoms.Text t) (string_at rest)
-    else (if b == 116 then named (atoms.Bool true) true_text (b ∷ rest)
-    else (if b == 102 then named (atoms.Bool false) false_text (b ∷ rest)
+    if b == mark.QUOTE then made (λ t. atoms.Text t) (string_at rest)
+    else (if b == mark.TRUE_LETTER then named (atoms.Bool true) true_text (b ∷ rest)
+    else (if b == mark.FALSE_LETTER then named (atoms.Bool false) false_text (b ∷ rest)
     else made (λ n. atoms.Int n) (integer_at (b ∷ rest))))
 
 -- The letter behind a question mark.
 unfoldable pub formal_at : Reader Pattern
 formal_at [] = wrong []
 formal_at (b ∷ rest) =
-    if b == 105 then Ok (patterns.IntFormal, rest)
-    else (if b == 115 then Ok (patterns.TextFormal, rest)
-    else (if b == 98 then Ok (patterns.BoolFormal, rest) else wrong (b ∷ rest)))
+    if b == mark.INT_LETTER then Ok (patterns.IntFormal, rest)
+    else (if b == mark.TEXT_LETTER then Ok (patterns.TextFormal, rest)
+    else (if b == mark.BOOL_LETTER then Ok (patterns.BoolFormal, rest) else wrong (b ∷ rest)))
 
 unfoldable pub pattern_at : Reader Pattern
 pattern_at [] = wrong []
 pattern_at (b ∷ rest) =
-    if b == 63 then formal_at rest
-    else (if b == 95 then Ok (patterns.Any, rest)
+    if b == mark.QUESTION then formal_at rest
+    else (if b == mark.WILDCARD then Ok (patterns.Any, rest)
     else made (λ v. patterns.Value v) (atom_at (b ∷ rest)))
 
 -- ---- tuples and templates
@@ -183,7 +182,7 @@ pattern_at (b ∷ rest) =
 unfoldable pub more_at : Reader Bool
 more_at [] = wrong []
 more_at (b ∷ rest) =
-    if b == 44 then Ok (true, rest) else (if b == 41 then Ok (false, rest) else wrong (b ∷ rest))
+    if b == mark.COMMA then Ok (true, rest) else (if b == mark.CLOSING then Ok (false, rest) else wrong (b ∷ rest))
 
 -- The closing parenthesis, where no more fields may follow.
 unfoldable pub no_more_at : List ℕ → Result (List ℕ) TextFault
@@ -202,7 +201,7 @@ fields_at field (suc room) bytes = do
 
 -- The opening parenthesis and the tag.
 unfoldable pub tag_at : Reader Atom
-tag_at bytes = word_at (40 ∷ []) bytes >>= λ opened. atom_at (after_blanks opened)
+tag_at bytes = word_at (mark.OPENING ∷ []) bytes >>= λ opened. atom_at (after_blanks opened)
 
 unfoldable pub row_at : {A : Type 0} → Reader A → Reader (Atom × List A)
 row_at field bytes = do

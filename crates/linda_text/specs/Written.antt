@@ -11,6 +11,7 @@ use Rattle.linda_tuple.specs.declared.pattern.Pattern.TheVariants as patterns
 use Rattle.linda_tuple.specs.Tuple.{Tuple}
 use Rattle.linda_tuple.specs.Template.{Template}
 use Rattle.linda_text.specs.Letters.{truth_word, int_word, text_word, bool_word, any_word}
+use Rattle.linda_text.specs.declared.marks.TheConstants as mark
 
 -- These bytes were written behind what stood there.
 abbrev pub IsWrittenBehind : String Global → String Global → List ℕ → Type 0
@@ -20,13 +21,14 @@ IsWrittenBehind old new bytes = string_bytes new ≡ string_bytes old ++ bytes
 -- itself.
 abbrev pub written_byte : ℕ → List ℕ
 written_byte b =
-    if b == 34 then 92 ∷ 34 ∷ []
-    else (if b == 92 then 92 ∷ 92 ∷ []
-    else (if b == 10 then 92 ∷ 110 ∷ []
-    else (if b == 9 then 92 ∷ 116 ∷ [] else (if b == 13 then 92 ∷ 114 ∷ [] else b ∷ []))))
+    if b == mark.QUOTE then mark.BACKSLASH ∷ mark.QUOTE ∷ []
+    else (if b == mark.BACKSLASH then mark.BACKSLASH ∷ mark.BACKSLASH ∷ []
+    else (if b == mark.LINE_FEED then mark.BACKSLASH ∷ mark.FEED_LETTER ∷ []
+    else (if b == mark.TAB then mark.BACKSLASH ∷ mark.TAB_LETTER ∷ []
+    else (if b == mark.CARRIAGE_RETURN then mark.BACKSLASH ∷ mark.RETURN_LETTER ∷ [] else b ∷ []))))
 
 abbrev pub written_string : List ℕ → List ℕ
-written_string bytes = 34 ∷ (flat_map written_byte bytes ++ 34 ∷ [])
+written_string bytes = mark.QUOTE ∷ (flat_map written_byte bytes ++ mark.QUOTE ∷ [])
 
 abbrev pub written_atom : Atom → List ℕ
 written_atom (atoms.Int n) = signed_decimal n
@@ -42,12 +44,12 @@ written_pattern patterns.Any = any_word
 
 -- A field behind its comma and one space.
 abbrev pub written_field : {A : Type 0} → (A → List ℕ) → A → List ℕ
-written_field written field = 44 ∷ 32 ∷ written field
+written_field written field = mark.COMMA ∷ mark.SPACE ∷ written field
 
 -- The opening parenthesis, the tag, the fields behind it, and the closing parenthesis.
 abbrev pub written_row : {A : Type 0} → (A → List ℕ) → Atom → List A → List ℕ
 written_row written tag fields =
-    40 ∷ (written_atom tag ++ (flat_map (written_field written) fields ++ 41 ∷ []))
+    mark.OPENING ∷ (written_atom tag ++ (flat_map (written_field written) fields ++ mark.CLOSING ∷ []))
 
 abbrev pub written_tuple : Tuple → List ℕ
 written_tuple tuple = written_row written_atom tuple.tag tuple.fields

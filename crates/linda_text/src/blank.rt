@@ -4,6 +4,8 @@ ghost use Rattle.std.specs.Prelude.{◌≡◌};
 ghost use Rattle.linda_text.specs.Letters.{is_blank};
 ghost use Rattle.linda_text.specs.Reading.{after_blanks};
 
+use crate::marks::{SPACE, TAB};
+
 /// The bytes behind the blanks at the front.
 #[tactic(auto, unfolding(crate::specs::Reading::after_blanks))]
 pub fn skip_blanks(bytes: &[u8]) -> &[u8]
@@ -22,5 +24,5 @@ pub fn skip_blanks(bytes: &[u8]) -> &[u8]
 fn is_blank(byte: u8) -> bool
     ensures { result ≡ is_blank byte }
 {
-    byte == b' ' || byte == b'\t'
+    byte == SPACE || byte == TAB
 }

@@ -8,6 +8,7 @@ ghost use Rattle.linda_text.specs.Steps.{Reader, Gives, GivesAlways, left_by};
 
 use crate::blank::skip_blanks;
 use crate::fault::TextFault;
+use crate::marks::{CLOSING, COMMA};
 use linda_tuple::MAX_FIELDS;
 use std::alloc::Global;
 
@@ -69,8 +70,8 @@ fn read_more(bytes: &[u8]) -> Result<(bool, &[u8]), TextFault>
     let rest = skip_blanks(bytes);
     match rest {
         [] => Err(TextFault::SyntaxAt(0)),
-        [b',', after @ ..] => Ok((true, after)),
-        [b')', after @ ..] => Ok((false, after)),
+        [COMMA, after @ ..] => Ok((true, after)),
+        [CLOSING, after @ ..] => Ok((false, after)),
         [_, ..] => Err(TextFault::SyntaxAt(rest.len())),
     }
 }

@@ -7,6 +7,9 @@ ghost use Rattle.linda_text.specs.Steps.{Gives, GivesAlways, left_by};
 use crate::fault::TextFault;
 use crate::field::Field;
 use crate::integer::read_integer;
+use crate::marks::{
+    BOOL_LETTER, FALSE_LETTER, INT_LETTER, QUESTION, QUOTE, TEXT_LETTER, TRUE_LETTER, WILDCARD,
+};
 use crate::string::{read_string, skip_string};
 use crate::word::skip_word;
 use linda_tuple::{Atom, Pattern};
@@ -20,15 +23,15 @@ pub(crate) fn read_atom(alloc: Global, bytes: &[u8]) -> Result<(Atom, &[u8]), Te
 {
     match bytes {
         [] => Err(TextFault::SyntaxAt(0)),
-        [b'"', rest @ ..] => {
+        [QUOTE, rest @ ..] => {
             let (text, rest) = read_string(alloc, rest)?;
             Ok((Atom::Text(text), rest))
         }
-        [b't', ..] => {
+        [TRUE_LETTER, ..] => {
             let rest = skip_word(bytes, b"true")?;
             Ok((Atom::Bool(true), rest))
         }
-        [b'f', ..] => {
+        [FALSE_LETTER, ..] => {
             let rest = skip_word(bytes, b"false")?;
             Ok((Atom::Bool(false), rest))
         }
@@ -46,9 +49,9 @@ pub(crate) fn skip_atom(bytes: &[u8]) -> Result<&[u8], TextFault>
 {
     match bytes {
         [] => Err(TextFault::SyntaxAt(0)),
-        [b'"', rest @ ..] => skip_string(rest),
-        [b't', ..] => skip_word(bytes, b"true"),
-        [b'f', ..] => skip_word(bytes, b"false"),
+        [QUOTE, rest @ ..] => skip_string(rest),
+        [TRUE_LETTER, ..] => skip_word(bytes, b"true"),
+        [FALSE_LETTER, ..] => skip_word(bytes, b"false"),
         [_, ..] => {
             let (_number, rest) = read_integer(bytes)?;
             Ok(rest)
@@ -79,8 +82,8 @@ impl Field for Pattern {
     fn read(alloc: Global, bytes: &[u8]) -> Result<(Pattern, &[u8]), TextFault> {
         match bytes {
             [] => Err(TextFault::SyntaxAt(0)),
-            [b'?', rest @ ..] => read_formal(rest),
-            [b'_', rest @ ..] => Ok((Pattern::Any, rest)),
+            [QUESTION, rest @ ..] => read_formal(rest),
+            [WILDCARD, rest @ ..] => Ok((Pattern::Any, rest)),
             [_, ..] => {
                 let (value, rest) = read_atom(alloc, bytes)?;
                 Ok((Pattern::Value(value), rest))
@@ -92,11 +95,11 @@ impl Field for Pattern {
     fn skip(bytes: &[u8]) -> Result<&[u8], TextFault> {
         match bytes {
             [] => Err(TextFault::SyntaxAt(0)),
-            [b'?', rest @ ..] => {
+            [QUESTION, rest @ ..] => {
                 let (_formal, rest) = read_formal(rest)?;
                 Ok(rest)
             }
-            [b'_', rest @ ..] => Ok(rest),
+            [WILDCARD, rest @ ..] => Ok(rest),
             [_, ..] => skip_atom(bytes),
         }
     }
@@ -109,9 +112,9 @@ fn read_formal(bytes: &[u8]) -> Result<(Pattern, &[u8]), TextFault>
 {
     match bytes {
         [] => Err(TextFault::SyntaxAt(0)),
-        [b'i', rest @ ..] => Ok((Pattern::IntFormal, rest)),
-        [b's', rest @ ..] => Ok((Pattern::TextFormal, rest)),
-        [b'b', rest @ ..] => Ok((Pattern::BoolFormal, rest)),
+        [INT_LETTER, rest @ ..] => Ok((Pattern::IntFormal, rest)),
+        [TEXT_LETTER, rest @ ..] => Ok((Pattern::TextFormal, rest)),
+        [BOOL_LETTER, rest @ ..] => Ok((Pattern::BoolFormal, rest)),
         [_, ..] => Err(TextFault::SyntaxAt(bytes.len())),
     }
 }

@@ -11,6 +11,7 @@ mod field;
 mod integer;
 mod item;
 mod laws;
+mod marks;
 mod number;
 mod offset;
 mod row;
@@ -22,6 +23,11 @@ mod written;
 pub use blank::skip_blanks;
 pub use fault::TextFault;
 pub use laws::{a_text_stands_for_one_value, what_is_written_stands_for_its_value};
+pub use marks::{
+    BACKSLASH, BOOL_LETTER, CARRIAGE_RETURN, CLOSING, COMMA, FALSE_LETTER, FEED_LETTER, INT_LETTER,
+    LINE_FEED, MINUS, NINE, OPENING, QUESTION, QUOTE, RETURN_LETTER, SPACE, TAB, TAB_LETTER,
+    TEXT_LETTER, TRUE_LETTER, WILDCARD, ZERO,
+};
 pub use number::split_number;
 pub use offset::{read_atom_at, read_template_at};
 pub use row::{skip_spaced_atom, skip_template, split_spaced_atom, split_template};

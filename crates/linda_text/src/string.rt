@@ -9,6 +9,9 @@ ghost use Rattle.linda_text.specs.Reading.{content_at, short_at, said_at, escape
 ghost use Rattle.linda_text.specs.Steps.{Gives, GivesAlways, left_by};
 
 use crate::fault::TextFault;
+use crate::marks::{
+    BACKSLASH, CARRIAGE_RETURN, FEED_LETTER, LINE_FEED, QUOTE, RETURN_LETTER, TAB, TAB_LETTER,
+};
 use linda_tuple::{MAX_TEXT, Text};
 use std::alloc::Global;
 
@@ -87,9 +90,9 @@ fn read_said(bytes: &[u8]) -> Result<(Option<u8>, &[u8]), TextFault>
 {
     match bytes {
         [] => Err(TextFault::SyntaxAt(0)),
-        [b'"', rest @ ..] => Ok((None, rest)),
-        [b'\\', rest @ ..] => read_escape(rest),
-        [b'\n' | b'\r', ..] => Err(TextFault::SyntaxAt(bytes.len())),
+        [QUOTE, rest @ ..] => Ok((None, rest)),
+        [BACKSLASH, rest @ ..] => read_escape(rest),
+        [LINE_FEED | CARRIAGE_RETURN, ..] => Err(TextFault::SyntaxAt(bytes.len())),
         [byte, rest @ ..] => Ok((Some(*byte), rest)),
     }
 }
@@ -102,11 +105,11 @@ fn read_escape(bytes: &[u8]) -> Result<(Option<u8>, &[u8]), TextFault>
 {
     match bytes {
         [] => Err(TextFault::SyntaxAt(0)),
-        [b'"', rest @ ..] => Ok((Some(b'"'), rest)),
-        [b'\\', rest @ ..] => Ok((Some(b'\\'), rest)),
-        [b'n', rest @ ..] => Ok((Some(b'\n'), rest)),
-        [b't', rest @ ..] => Ok((Some(b'\t'), rest)),
-        [b'r', rest @ ..] => Ok((Some(b'\r'), rest)),
+        [QUOTE, rest @ ..] => Ok((Some(QUOTE), rest)),
+        [BACKSLASH, rest @ ..] => Ok((Some(BACKSLASH), rest)),
+        [FEED_LETTER, rest @ ..] => Ok((Some(LINE_FEED), rest)),
+        [TAB_LETTER, rest @ ..] => Ok((Some(TAB), rest)),
+        [RETURN_LETTER, rest @ ..] => Ok((Some(CARRIAGE_RETURN), rest)),
         [_, ..] => Err(TextFault::SyntaxAt(bytes.len())),
     }
 }

@@ -226,8 +226,8 @@ fn step_lines(alloc: Global, step: &Step) -> Result<Vec<String>, Fail> {
     Ok(lines)
 }
 
-/// Plays these lines over a store in which client 7 has put tuples of these fields as its messages 1, 2, ..: over one with
-/// the plain bag, and over one with the index.
+/// Plays these lines over a store in which client 7 has put tuples of these fields as its messages 1, 2, ..: over one
+/// with the plain bag, and over one with the index.
 pub(crate) fn run(rt: &impl Abort, alloc: Global, fields: &[i64], lines: &str) -> Result<(), Fail> {
     Script::<ListBag>::with_tuples(alloc, fields)?.play(rt, lines)?;
     Script::<IndexBag>::with_tuples(alloc, fields)?.play(rt, lines)

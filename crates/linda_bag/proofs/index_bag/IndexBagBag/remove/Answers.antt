@@ -1,9 +1,9 @@
 use Rattle.std.proofs.Common.{sym, ap, ◌∙◌, nat_cmp}
 use Rattle.std.specs.BTreeMap as tree
 use Rattle.std.specs.FinMap as map
-use Rattle.linda_bag.specs.contracts.index.IndexShelfTuple.TheImpl as index
 use Rattle.linda_bag.proofs.Maps.{one_gone}
 use Rattle.linda_bag.proofs.Viewed.{viewed}
+use Rattle.linda_bag.proofs.Placing.{HasIndex}
 use Rattle.linda_bag.proofs.Kept.{as_after}
 use Rattle.linda_bag.proofs.index_bag.IndexBagBag.remove.Goals as goal
 
@@ -19,7 +19,7 @@ returns-in_err-tuple-clause-removed c =
 
 pub invariant_of-self-2 : goal.invariant_of-self-2
 invariant_of-self-2 c =
-    as_after (index.ghosts.has c.self.inside.index) (index.ghosts.has c.remove-2.new.self) (tree.get nat_cmp c.self.inside.tuples) _ (tree.get nat_cmp c.remove.new.self) _ _
+    as_after (HasIndex c.self.inside.index) (HasIndex c.remove-2.new.self) (tree.get nat_cmp c.self.inside.tuples) _ (tree.get nat_cmp c.remove.new.self) _ _
     (sym c.remove.ensures.value ∙ c.in_ok-tuple.was) c.remove.ensures.updates.0 c.remove-2.ensures c.self.invariant
 
 pub returns-clause-value : goal.returns-clause-value

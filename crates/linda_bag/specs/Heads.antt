@@ -1,0 +1,25 @@
+-- Rows that are filed under their heads: under the tag and, there, under the number of fields.
+use Rattle.std.specs.Prelude.{ℕ, Some}
+use Rattle.std.specs.Ordering.{nat_cmp}
+use Rattle.linda_tuple.specs.declared.atom.Atom.{Atom}
+use Rattle.linda_tuple.specs.contracts.atom.AtomOrd.TheImpl as atom_ord
+use Rattle.linda_bag.specs.declared.heads.Heads.{Heads}
+use Rattle.linda_bag.specs.declared.heads.Counts.{Counts}
+use Rattle.linda_bag.specs.Filing.{Rows, rows_at, IsFiled}
+
+module _ {T : Type 0} (count_of : T → ℕ) {S : Type 0} (Has : S → Rows T → Type 0) where
+  -- Under each number of fields stands a shelf with the rows of as many.
+  abbrev pub HasCounts : Counts S → Rows T → Type 0
+  HasCounts counts rows = IsFiled nat_cmp Has (λ row. Some (count_of row)) counts.groups rows
+
+module _ {T : Type 0} (tag_of : T → Atom) (count_of : T → ℕ) where
+  -- Under each head stands a shelf with the rows that have it.
+  abbrev pub HasHeads : {S : Type 0} → (S → Rows T → Type 0) → Heads S → Rows T → Type 0
+  HasHeads Has heads rows =
+      IsFiled atom_ord.ghosts.cmp (HasCounts count_of Has) (λ row. Some (tag_of row)) heads.tags rows
+
+  -- those of the rows that have the tag, and as many fields
+  abbrev pub with_head : Atom → ℕ → Rows T → Rows T
+  with_head tag count rows =
+      rows_at nat_cmp (λ row. Some (count_of row)) count
+      (rows_at atom_ord.ghosts.cmp (λ row. Some (tag_of row)) tag rows)

@@ -1,9 +1,0 @@
-use Rattle.linda_bag.proofs.Ordered.{atom_itself}
-use Rattle.linda_bag.proofs.Bare.{map_bare}
-use Rattle.linda_hold.specs.Waits.{Wait}
-use Rattle.linda_hold.proofs.heads.HeadsShelfWait.is_empty.Goals as goal
-
-pub returns : goal.returns
-returns c = λ rows filed.
-    let bare = map_bare _ atom_itself _ (λ (w : Wait). w.1.template.tag) c.args.self.now.tags rows filed in
-    ((λ yes. bare.0 (c.is_empty.ensures.0 yes)), (λ none. c.is_empty.ensures.1 (bare.1 none)))
