@@ -39,7 +39,8 @@ module _ {T : Type 0} where
   IsShelved Has (Some shelf) rows = Has shelf rows × (IsBare rows → ⊥)
 
   -- What was found is the shelf with a part of the rows that the index has; nothing, where that part has none.
-  abbrev pub FindsShelf : {S : Type 0} → (Rows T → Type 0) → (S → Rows T → Type 0) → (Rows T → Rows T) → Option S → Type 0
+  abbrev pub FindsShelf : {S : Type 0} → (Rows T → Type 0) → (S → Rows T → Type 0) → (Rows T → Rows T) → Option S
+      → Type 0
   FindsShelf Has HasFound part found = (rows : Rows T) → Has rows → IsShelved HasFound found (part rows)
 
   -- The same of the ids of a part of the rows.

@@ -46,7 +46,8 @@ ReadsSpelled {A = A} f bytes at answer =
     → Gives (λ x. x) answer (Ok (value, length bytes - length rest))
 
 -- What was read at the offset: a value and the offset of the byte after it, or the first fault.
-pub record IsReadAt {A : Type 0} (f : Format A) (bytes : List ℕ) (at : ℕ) (read : Result (A × ℕ) ReadFault) : Type 0 where
+pub record IsReadAt {A : Type 0} (f : Format A) (bytes : List ℕ) (at : ℕ)
+    (read : Result (A × ℕ) ReadFault) : Type 0 where
   -- What is read is spelled so.
   pub found : IfOk read (IsSpelledAt f bytes at)
   -- What is spelled so is read, unless memory runs out.
