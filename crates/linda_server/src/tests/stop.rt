@@ -53,6 +53,14 @@ fn put_by(alloc: Global, server: &mut Durable<MemDisk>, n: u64, number: i64) -> 
     Ok(())
 }
 
+/// Two tuples, of which client 8 holds the first.
+fn begin(alloc: Global, server: &mut Durable<MemDisk>) -> Result<(), Fail> {
+    put_by(alloc, server, 1, 3)?;
+    put_by(alloc, server, 2, 4)?;
+    let _offer = server.handle(alloc, 8, &take_any(alloc, 1)?)?;
+    Ok(())
+}
+
 /// What is in hand at the stop.
 fn work_of(alloc: Global, doing: Doing) -> Result<Work, Fail> {
     if doing == Doing::Snapshot {
@@ -107,9 +115,7 @@ fn played(alloc: Global, doing: Doing, at: u64, torn: Torn) -> Result<Found, Fai
         Err((fault, _, _)) => Err(Fail::from(fault)),
         Ok(server) => {
             let mut server = server;
-            put_by(alloc, &mut server, 1, 3)?;
-            put_by(alloc, &mut server, 2, 4)?;
-            let _offer = server.handle(alloc, 8, &take_any(alloc, 1)?)?;
+            begin(alloc, &mut server)?;
             stopped(alloc, &mut server, doing, at, torn)
         }
     }

@@ -2,7 +2,7 @@
 
 use crate::{LineFault, ScriptFault, run_script};
 use linda_client::MAX_SERVERS;
-use std::alloc::Global;
+use std::alloc::{AllocError, Global};
 use std::test::Fail;
 
 // A script over so many servers, what it prints, and how it ends.
@@ -194,5 +194,49 @@ fn sixty_four_clients_and_no_more(rt: HostRuntime) -> Result<(), Fail> {
     let end = run_script(alloc, &mut reader, &mut written, 1);
     assert!(rt; end == Err(ScriptFault::Line(65, LineFault::TooManyClients)));
     assert!(rt; written.is_empty());
+    Ok(())
+}
+
+/// What is printed of a tuple that is put, a stop, every packet again, and what is kept then.
+const KEPT_OVER_A_STOP: &str = "7 stored 0 1\n\
+    server 0 opened\n\
+    server 0 next 2 tuples 1 clients 1\n\
+    tuple 1 (\"a\", 3) free\n\
+    client 7 1 stored 1\n";
+
+fn is_kept_over(alloc: Global, stop: &str) -> Result<bool, AllocError> {
+    let mut script = String::from_str(alloc, "7 out (\"a\", 3)\n")?;
+    script.push_str(stop)?;
+    script.push_str("\nrepeat\nstate 0\n")?;
+    let mut reader = script.as_bytes();
+    let mut written = Vec::new(alloc);
+    let end = run_script(alloc, &mut reader, &mut written, 1);
+    Ok(end.is_ok() && written.as_slice() == KEPT_OVER_A_STOP.as_bytes())
+}
+
+#[test]
+fn a_stop_inside_each_device_call_of_a_snapshot_changes_nothing(
+    rt: HostRuntime,
+) -> Result<(), Fail> {
+    // The first snapshot of a server makes six device calls; behind them the stop comes after the work.
+    for stop in [
+        "stop 0",
+        "stop 0 0 0",
+        "stop 0 0 1",
+        "stop 0 0 255",
+        "stop 0 1 255",
+        "stop 0 2 0",
+        "stop 0 2 1",
+        "stop 0 2 255",
+        "stop 0 3 255",
+        "stop 0 4 0",
+        "stop 0 4 1",
+        "stop 0 4 127",
+        "stop 0 5 0",
+        "stop 0 5 1",
+        "stop 0 6 255",
+    ] {
+        assert!(rt; is_kept_over(rt.alloc(), stop)?, "{stop}");
+    }
     Ok(())
 }
