@@ -1,0 +1,88 @@
+#!/usr/bin/env python3
+"""Times a bank on a file: appends of records of 64 deeds, and opening it, beside a plain copy of the same bytes.
+
+It proves and builds `main.rt.txt` (so named since the gate reads each `.rt` file) over the crates of this repository, in a folder of its own,
+and runs it at some 1,000, 100,000 and 1,000,000 deeds (whole records of 64) `("job", i)` of 28 bytes. The files lie in memory where
+/dev/shm is there, so that a sync costs little and the work of the program is seen. A time is the least of five runs. It prints a
+line for each size with the time of a deed, and the growth of that time from the first size to the last, and fails where the time
+of a deed in an append or an opening grows more than twice.
+
+`run.py PROGRAM [FOLDER]` runs a program that is built already; the files are made in FOLDER.
+"""
+
+import os
+import shutil
+import subprocess
+import sys
+import tempfile
+
+RECORDS = [16, 1_563, 15_625]
+DEEDS = 64
+RUNS = 5
+MOST_GROWTH = 2.0
+HERE = os.path.dirname(os.path.abspath(__file__))
+TOP = os.path.join(HERE, "..", "..")
+NEEDED = ["linda_tuple", "linda_codec", "linda_wire", "linda_bag", "linda_book", "linda_state", "linda_disk", "linda_journal"]
+
+
+def build(folder):
+    """Lays out a repository of the crates that are needed and of the program, builds it, and answers the program's file."""
+    crates = os.path.join(folder, "crates")
+    for name in NEEDED:
+        shutil.copytree(os.path.join(TOP, "crates", name), os.path.join(crates, name), ignore=shutil.ignore_patterns("must-fail"))
+    program = os.path.join(crates, "bench_bank")
+    os.makedirs(os.path.join(program, "src"))
+    shutil.copy(os.path.join(HERE, "main.rt.txt"), os.path.join(program, "src", "main.rt"))
+    with open(os.path.join(TOP, "crates.txt")) as lines, open(os.path.join(folder, "crates.txt"), "w") as kept:
+        kept.writelines(line for line in lines if line.split(":")[0] in NEEDED)
+        kept.write("bench_bank: linda_tuple linda_state linda_disk linda_journal anyhow\n")
+    subprocess.run(["rt", "check"], cwd=program, check=True, stdout=subprocess.DEVNULL)
+    subprocess.run(["rt", "run"], cwd=program, stdout=subprocess.DEVNULL, stderr=subprocess.DEVNULL)
+    return os.path.join(program, "out", "bench_bank")
+
+
+def told(*words):
+    done = subprocess.run(words, check=True, stdout=subprocess.PIPE, text=True)
+    return int(done.stdout)
+
+
+def empty(path):
+    with open(path, "wb"):
+        pass
+    return path
+
+
+def times_of(program, folder, records):
+    """The least microseconds of an append of all, of an opening and of a copy, and the bytes of the bank."""
+    bank, other = os.path.join(folder, "bank"), os.path.join(folder, "other")
+    deeds = str(records * DEEDS)
+    times = [
+        [
+            told(program, "append", empty(bank), deeds),
+            told(program, "open", bank, deeds),
+            told(program, "copy", bank, empty(other)),
+        ]
+        for _ in range(RUNS)
+    ]
+    return [min(column) / 1000 for column in zip(*times)], os.path.getsize(bank)
+
+
+def main():
+    with tempfile.TemporaryDirectory() as built:
+        program = sys.argv[1] if len(sys.argv) > 1 else build(built)
+        place = sys.argv[2] if len(sys.argv) > 2 else "/dev/shm" if os.path.isdir("/dev/shm") else None
+        with tempfile.TemporaryDirectory(dir=place) as folder:
+            rows = [(records * DEEDS, *times_of(program, folder, records)) for records in RECORDS]
+    print("| deeds | bytes | append, a deed | open, a deed | copy, a deed | append / copy | open / copy |")
+    print("|---|---|---|---|---|---|---|")
+    for deeds, (append, opening, copy), size in rows:
+        each = " | ".join(f"{time / deeds:.3f} us" for time in (append, opening, copy))
+        print(f"| {deeds:,} | {size:,} | {each} | {append / copy:.1f} | {opening / copy:.1f} |")
+    (few, first, _), (many, last, _) = rows[0], rows[-1]
+    growths = [(after / many) / (before / few) for before, after in zip(first, last)]
+    print("growth of the time of a deed: " + ", ".join(f"{name} {growth:.2f}" for name, growth in zip(("append", "open", "copy"), growths)))
+    if max(growths[:2]) > MOST_GROWTH:
+        sys.exit(f"more than {MOST_GROWTH}")
+
+
+main()
