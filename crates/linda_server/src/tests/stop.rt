@@ -3,6 +3,9 @@
 //! Each starts with the tuples ("a", 3) and ("a", 4), of which client 8 holds the first; it is stopped in the call of
 //! that row. Then client 8 accepts what it held.
 
+ghost use Rattle.std.specs.Prelude.{IfOk};
+ghost use Rattle.linda_store.specs.Node.{IsBatch};
+
 use super::script::{put, take_any};
 use crate::Durable;
 use linda_bag::Bag;
@@ -62,7 +65,9 @@ fn begin(alloc: Global, server: &mut Durable<MemDisk>) -> Result<(), Fail> {
 }
 
 /// What is in hand at the stop.
-fn work_of(alloc: Global, doing: Doing) -> Result<Work, Fail> {
+fn work_of(alloc: Global, doing: Doing) -> Result<Work, Fail>
+    ensures { IfOk result IsBatch }
+{
     if doing == Doing::Snapshot {
         return Ok(Work::Snapshot);
     }
