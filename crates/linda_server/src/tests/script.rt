@@ -33,6 +33,15 @@ pub(super) const TWO: &[u8] =
 /// A closed gate alone.
 pub(super) const SHUT: &[u8] = &[0];
 
+/// The ways to crash, in the order of the columns of rows.
+pub(super) const TORN: [Torn; 5] = [
+    Torn::Kept,
+    Torn::Lost,
+    Torn::Filled(0),
+    Torn::Filled(1),
+    Torn::Filled(0xff),
+];
+
 /// How many device calls make a new left bank.
 const CALLS_OF_CREATE: u64 = 6;
 

@@ -6,7 +6,7 @@
 ghost use Rattle.std.specs.Prelude.{IfOk};
 ghost use Rattle.linda_store.specs.Node.{IsBatch};
 
-use super::script::{put, take_any};
+use super::script::{TORN, put, take_any};
 use crate::Durable;
 use linda_bag::Bag;
 use linda_disk::{MemDisk, Torn};
@@ -27,15 +27,6 @@ enum Doing {
 
 /// How many device calls make a new left bank, and put two tuples onto it.
 const CALLS_BEFORE: u64 = 14;
-
-/// The ways to crash, in the order of the columns.
-const TORN: [Torn; 5] = [
-    Torn::Kept,
-    Torn::Lost,
-    Torn::Filled(0),
-    Torn::Filled(1),
-    Torn::Filled(0xff),
-];
 
 /// A put in each of its four device calls, and behind them; whether its tuple is there after each crash. Until the gate
 /// is written none is; the gate's byte is 1, and it is on the disk once it is synced.

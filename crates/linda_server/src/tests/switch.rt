@@ -1,6 +1,6 @@
 //! Snapshots and trims, with a stop or a failure inside each device call.
 
-use super::script::{Call, ONE, Outcome, SHUT, disk_of, make, opened, played, put};
+use super::script::{Call, ONE, Outcome, SHUT, TORN, disk_of, make, opened, played, put};
 use crate::Durable;
 use linda_disk::{MemDisk, Torn};
 use linda_store::{Node, NodeFault, Work};
@@ -9,15 +9,6 @@ use std::test::Fail;
 
 /// The next id, how many tuples there are, and how many clients.
 type Kept = (u64, usize, usize);
-
-/// The ways to crash, in the order of the columns.
-const TORN: [Torn; 5] = [
-    Torn::Kept,
-    Torn::Lost,
-    Torn::Filled(0),
-    Torn::Filled(1),
-    Torn::Filled(0xff),
-];
 
 /// The four device calls of a snapshot onto a bank that is whole and closed, and none; whether the new bank is in use
 /// after each crash. Nothing is closed: the first call writes behind the gate, and the third one opens it.
