@@ -8,17 +8,18 @@ use Rattle.std.specs.Cmp.{unsigned_tied}
 use Rattle.std.proofs.lemmas.Map.Entries.{option_filter}
 use Rattle.linda_bag.specs.Filing.{HasIds, IsBare, row_at, placed, rows_at}
 use Rattle.linda_bag.proofs.Maps.{same_entries}
+use Rattle.linda_hold.specs.declared.request.Request.{Request}
 use Rattle.linda_hold.specs.Holds.{HeldFor, held_in}
 use Rattle.linda_hold.specs.Named.{Requests, client_of}
 use Rattle.linda_hold.proofs.Parts.{found_some, found_none}
 
-module _ (by_id : BTreeMap ℕ (ℕ × ℕ)) (ordered : tree.IsOrdered nat_cmp by_id) (holds : HeldFor) (view_is : map.from_entries by_id.entries ≡ holds) (client : ℕ) where
+module _ (by_id : BTreeMap ℕ Request) (ordered : tree.IsOrdered nat_cmp by_id) (holds : HeldFor) (view_is : map.from_entries by_id.entries ≡ holds) (client : ℕ) where
   abbrev pub own : Requests
   own = rows_at nat_cmp client_of client (tree.get nat_cmp by_id)
 
-  own_at : (o : Option (ℕ × ℕ)) → is_some (row_at nat_cmp client (placed client_of o)) ≡ is_some (option_filter (λ r. r.0 == client) o)
+  own_at : (o : Option Request) → is_some (row_at nat_cmp client (placed client_of o)) ≡ is_some (option_filter (λ r. r.client == client) o)
   own_at None = refl
-  own_at (Some r) = ap (λ b. is_some (cond b (Some r) None)) (unsigned_tied r.0 client)
+  own_at (Some r) = ap (λ b. is_some (cond b (Some r) None)) (unsigned_tied r.client client)
 
   same_view : map.entries holds ≡ by_id.entries
   same_view = sym (ap map.entries view_is) ∙ same_entries by_id ordered
@@ -26,11 +27,11 @@ module _ (by_id : BTreeMap ℕ (ℕ × ℕ)) (ordered : tree.IsOrdered nat_cmp b
   -- The set of the client's ids has them in their order.
   pub own_ids : (ids : BTreeSet ℕ) → sets.IsOrdered nat_cmp ids → HasIds ids own → ids.keys ≡ held_in client (map.entries holds)
   own_ids ids sorted has =
-      found_some (λ r. r.0 == client) by_id ordered own (λ q. own_at (tree.get nat_cmp by_id q)) ids sorted has
+      found_some (λ r. r.client == client) by_id ordered own (λ q. own_at (tree.get nat_cmp by_id q)) ids sorted has
       ∙ ap (held_in client) (sym same_view)
 
   -- Without one it has none.
   pub no_ids : IsBare own → [] ≡ held_in client (map.entries holds)
   no_ids bare =
-      found_none (λ r. r.0 == client) by_id ordered own (λ q. own_at (tree.get nat_cmp by_id q)) bare
+      found_none (λ r. r.client == client) by_id ordered own (λ q. own_at (tree.get nat_cmp by_id q)) bare
       ∙ ap (held_in client) (sym same_view)

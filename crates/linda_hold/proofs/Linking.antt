@@ -6,17 +6,19 @@ use Rattle.std.specs.Cmp.{unsigned_tied, unsigned_Decides, tied_then}
 use Rattle.std.proofs.lemmas.Bool.{true≢false}
 use Rattle.std.proofs.lemmas.Bool.Decides.{Decides-at, Decides-like, Decides-and}
 use Rattle.linda_bag.specs.Filing.{with_row}
-use Rattle.linda_hold.specs.Named.{Requests, IsNumbered, Sets, pair_cmp}
+use Rattle.linda_hold.specs.declared.request.Request.{Request}
+use Rattle.linda_hold.specs.Request.{request_of, request_cmp}
+use Rattle.linda_hold.specs.Named.{Requests, IsNumbered, Sets}
 
--- The orders tell numbers apart, and pairs of numbers.
+-- The orders tell numbers apart, and requests.
 pub number_told : (x y : ℕ) → Decides (is_eq (nat_cmp x y)) (x ≡ y)
 number_told x y = Decides-at _ _ (unsigned_tied x y) (unsigned_Decides x y)
 
-pair_told : (p q : ℕ × ℕ) → Decides (is_eq (pair_cmp p q)) (p ≡ q)
-pair_told p q =
-    Decides-at _ _ (sym (tied_then (nat_cmp p.0 q.0) (nat_cmp p.1 q.1)))
-    (Decides-like _ (λ e. λ j. (e.0 j, e.1 j)) (λ e. (ap (λ r. r.0) e, ap (λ r. r.1) e))
-    (Decides-and _ _ (number_told p.0 q.0) (number_told p.1 q.1)))
+order_told : (p q : Request) → Decides (is_eq (request_cmp p q)) (p ≡ q)
+order_told p q =
+    Decides-at _ _ (sym (tied_then (nat_cmp p.client q.client) (nat_cmp p.ticket q.ticket)))
+    (Decides-like _ (λ e. λ j. request_of (e.0 j) (e.1 j)) (λ e. (ap (λ r. r.client) e, ap (λ r. r.ticket) e))
+    (Decides-and _ _ (number_told p.client q.client) (number_told p.ticket q.ticket)))
 
 either : {P : Type 0} (b : Bool) → Decides b P → P ⊎ (P → ⊥)
 either true told = inl (told.0 refl)
@@ -26,8 +28,8 @@ either false told = inr (λ p. true≢false (sym (told.1 p)))
 pub same_number : (i k : ℕ) → (i ≡ k) ⊎ (i ≢ k)
 same_number i k = either _ (number_told i k)
 
-pub same_pair : (p q : ℕ × ℕ) → (p ≡ q) ⊎ (p ≢ q)
-same_pair p q = either _ (pair_told p q)
+pub same_or_not : (p q : Request) → (p ≡ q) ⊎ (p ≢ q)
+same_or_not p q = either _ (order_told p q)
 
 module _ {K A : Type 0} (test : K → K → Bool) (told : (x y : K) → Decides (test x y) (x ≡ y)) where
   passed_over : (b : Bool) (w x : A) → (b ≡ true → ⊥) → cond b w x ≡ x
@@ -44,31 +46,31 @@ module _ {K A : Type 0} (test : K → K → Bool) (told : (x y : K) → Decides 
 set_row : {A : Type 0} (rows : ℕ → Option A) (k : ℕ) (w : Option A) → Sets rows (with_row rows k w) k w
 set_row rows k w = sets (λ x y. is_eq (nat_cmp x y)) number_told rows (with_row rows k w) k w (λ q. refl)
 
-pub sets_pair : {A : Type 0} (old new : ℕ × ℕ → A) (k : ℕ × ℕ) (w : A) → ((q : ℕ × ℕ) → new q ≡ cond (is_eq (pair_cmp k q)) w (old q)) → Sets old new k w
-sets_pair = sets (λ x y. is_eq (pair_cmp x y)) pair_told
+pub sets_request : {A : Type 0} (old new : Request → A) (k : Request) (w : A) → ((q : Request) → new q ≡ cond (is_eq (request_cmp k q)) w (old q)) → Sets old new k w
+sets_request = sets (λ x y. is_eq (request_cmp x y)) order_told
 
-module _ {rows : Requests} {u : ℕ × ℕ → Option ℕ} (numbered : IsNumbered u rows) (k : ℕ) where
+module _ {rows : Requests} {u : Request → Option ℕ} (numbered : IsNumbered u rows) (k : ℕ) where
   -- A request loses its number.
-  module _ (pair : ℕ × ℕ) (was : rows k ≡ Some pair) {v : ℕ × ℕ → Option ℕ} where
-    pub numbered_gone : Sets u v pair None → IsNumbered v (with_row rows k None)
+  module _ (request : Request) (was : rows k ≡ Some request) {v : Request → Option ℕ} where
+    pub numbered_gone : Sets u v request None → IsNumbered v (with_row rows k None)
     numbered_gone out = record {
-      there = λ i p e. there i p e (same_number k i) (same_pair pair p);
-      back = λ p i e. back p i e (same_number k i) (same_pair pair p);
+      there = λ i p e. there i p e (same_number k i) (same_or_not request p);
+      back = λ p i e. back p i e (same_number k i) (same_or_not request p);
     }
       where
         row : Sets rows (with_row rows k None) k None
         row = set_row rows k None
 
-        there : (i : ℕ) (p : ℕ × ℕ) → with_row rows k None i ≡ Some p → (k ≡ i) ⊎ (k ≢ i) → (pair ≡ p) ⊎ (pair ≢ p) → v p ≡ Some i
+        there : (i : ℕ) (p : Request) → with_row rows k None i ≡ Some p → (k ≡ i) ⊎ (k ≢ i) → (request ≡ p) ⊎ (request ≢ p) → v p ≡ Some i
         there i p e (inl same) q = let none : with_row rows k None i ≡ None = subst (λ x. with_row rows k None x ≡ None) same row.here in cc
         there i p e (inr other) (inl same) =
             let old : rows i ≡ Some p = sym (row.apart i other) ∙ e in
             let one : u p ≡ Some i = numbered.there i p old in
-            let two : u pair ≡ Some k = numbered.there k pair was in
+            let two : u request ≡ Some k = numbered.there k request was in
             absurd (other (cc))
         there i p e (inr other) (inr apart) = out.apart p apart ∙ numbered.there i p (sym (row.apart i other) ∙ e)
 
-        back : (p : ℕ × ℕ) (i : ℕ) → v p ≡ Some i → (k ≡ i) ⊎ (k ≢ i) → (pair ≡ p) ⊎ (pair ≢ p) → with_row rows k None i ≡ Some p
+        back : (p : Request) (i : ℕ) → v p ≡ Some i → (k ≡ i) ⊎ (k ≢ i) → (request ≡ p) ⊎ (request ≢ p) → with_row rows k None i ≡ Some p
         back p i e q (inl same) = let none : v p ≡ None = subst (λ x. v x ≡ None) same out.here in cc
         back p i e (inl same) (inr apart) =
             let old : u p ≡ Some i = sym (out.apart p apart) ∙ e in
@@ -77,20 +79,20 @@ module _ {rows : Requests} {u : ℕ × ℕ → Option ℕ} (numbered : IsNumbere
         back p i e (inr other) (inr apart) = row.apart i other ∙ numbered.back p i (sym (out.apart p apart) ∙ e)
 
   -- A number that had no request is given to one that had no number.
-  module _ (pair : ℕ × ℕ) (free : rows k ≡ None) (none : u pair ≡ None) {v : ℕ × ℕ → Option ℕ} where
-    pub numbered_new : Sets u v pair (Some k) → IsNumbered v (with_row rows k (Some pair))
+  module _ (request : Request) (free : rows k ≡ None) (none : u request ≡ None) {v : Request → Option ℕ} where
+    pub numbered_new : Sets u v request (Some k) → IsNumbered v (with_row rows k (Some request))
     numbered_new put = record {
-      there = λ i p e. there i p e (same_number k i) (same_pair pair p);
-      back = λ p i e. back p i e (same_number k i) (same_pair pair p);
+      there = λ i p e. there i p e (same_number k i) (same_or_not request p);
+      back = λ p i e. back p i e (same_number k i) (same_or_not request p);
     }
       where
-        row : Sets rows (with_row rows k (Some pair)) k (Some pair)
-        row = set_row rows k (Some pair)
+        row : Sets rows (with_row rows k (Some request)) k (Some request)
+        row = set_row rows k (Some request)
 
-        there : (i : ℕ) (p : ℕ × ℕ) → with_row rows k (Some pair) i ≡ Some p → (k ≡ i) ⊎ (k ≢ i) → (pair ≡ p) ⊎ (pair ≢ p) → v p ≡ Some i
-        there i p e (inl same) (inl agree) = subst (λ x. v x ≡ Some i) agree (subst (λ x. v pair ≡ Some x) same put.here)
+        there : (i : ℕ) (p : Request) → with_row rows k (Some request) i ≡ Some p → (k ≡ i) ⊎ (k ≢ i) → (request ≡ p) ⊎ (request ≢ p) → v p ≡ Some i
+        there i p e (inl same) (inl agree) = subst (λ x. v x ≡ Some i) agree (subst (λ x. v request ≡ Some x) same put.here)
         there i p e (inl same) (inr apart) =
-            let now : with_row rows k (Some pair) i ≡ Some pair = subst (λ x. with_row rows k (Some pair) x ≡ Some pair) same row.here in
+            let now : with_row rows k (Some request) i ≡ Some request = subst (λ x. with_row rows k (Some request) x ≡ Some request) same row.here in
             absurd (apart (cc))
         there i p e (inr other) q =
             let one : u p ≡ Some i = numbered.there i p (sym (row.apart i other) ∙ e) in
@@ -99,53 +101,53 @@ module _ {rows : Requests} {u : ℕ × ℕ → Option ℕ} (numbered : IsNumbere
               | inr apart ↦ put.apart p apart ∙ one
             ]
 
-        back : (p : ℕ × ℕ) (i : ℕ) → v p ≡ Some i → (k ≡ i) ⊎ (k ≢ i) → (pair ≡ p) ⊎ (pair ≢ p) → with_row rows k (Some pair) i ≡ Some p
+        back : (p : Request) (i : ℕ) → v p ≡ Some i → (k ≡ i) ⊎ (k ≢ i) → (request ≡ p) ⊎ (request ≢ p) → with_row rows k (Some request) i ≡ Some p
         back p i e (inl same) (inl agree) =
-            subst (λ x. with_row rows k (Some pair) x ≡ Some p) same (subst (λ x. with_row rows k (Some pair) k ≡ Some x) agree row.here)
+            subst (λ x. with_row rows k (Some request) x ≡ Some p) same (subst (λ x. with_row rows k (Some request) k ≡ Some x) agree row.here)
         back p i e (inr other) (inl agree) =
             let now : v p ≡ Some k = subst (λ x. v x ≡ Some k) agree put.here in
             absurd (other (cc))
         back p i e q (inr apart) =
             let one : rows i ≡ Some p = numbered.back p i (sym (put.apart p apart) ∙ e) in
-            elim q as (λ _. with_row rows k (Some pair) i ≡ Some p) [
+            elim q as (λ _. with_row rows k (Some request) i ≡ Some p) [
               | inl same ↦ let empty : rows i ≡ None = subst (λ x. rows x ≡ None) same free in cc
               | inr other ↦ row.apart i other ∙ one
             ]
 
   -- A number goes over from the request that had it to one that had none.
-  module _ (old pair : ℕ × ℕ) (was : rows k ≡ Some old) (none : u pair ≡ None) {mid v : ℕ × ℕ → Option ℕ} where
-    pub numbered_over : Sets u mid pair (Some k) → Sets mid v old None → IsNumbered v (with_row rows k (Some pair))
+  module _ (old request : Request) (was : rows k ≡ Some old) (none : u request ≡ None) {mid v : Request → Option ℕ} where
+    pub numbered_over : Sets u mid request (Some k) → Sets mid v old None → IsNumbered v (with_row rows k (Some request))
     numbered_over put out = record {
       there = λ i p e. there i p e (same_number k i);
-      back = λ p i e. back p i e (same_pair old p) (same_pair pair p);
+      back = λ p i e. back p i e (same_or_not old p) (same_or_not request p);
     }
       where
-        row : Sets rows (with_row rows k (Some pair)) k (Some pair)
-        row = set_row rows k (Some pair)
+        row : Sets rows (with_row rows k (Some request)) k (Some request)
+        row = set_row rows k (Some request)
 
         left : u old ≡ Some k
         left = numbered.there k old was
 
-        there : (i : ℕ) (p : ℕ × ℕ) → with_row rows k (Some pair) i ≡ Some p → (k ≡ i) ⊎ (k ≢ i) → v p ≡ Some i
+        there : (i : ℕ) (p : Request) → with_row rows k (Some request) i ≡ Some p → (k ≡ i) ⊎ (k ≢ i) → v p ≡ Some i
         there i p e (inl same) =
             let two : u old ≡ Some k = left in
-            let now : v pair ≡ Some k = out.apart pair (λ is. let gone : u old ≡ None = subst (λ x. u x ≡ None) (sym is) none in cc) ∙ put.here in
-            let other : with_row rows k (Some pair) i ≡ Some pair = subst (λ x. with_row rows k (Some pair) x ≡ Some pair) same row.here in
-            let agree : pair ≡ p = cc in
-            subst (λ x. v x ≡ Some i) agree (subst (λ x. v pair ≡ Some x) same now)
+            let now : v request ≡ Some k = out.apart request (λ is. let gone : u old ≡ None = subst (λ x. u x ≡ None) (sym is) none in cc) ∙ put.here in
+            let other : with_row rows k (Some request) i ≡ Some request = subst (λ x. with_row rows k (Some request) x ≡ Some request) same row.here in
+            let agree : request ≡ p = cc in
+            subst (λ x. v x ≡ Some i) agree (subst (λ x. v request ≡ Some x) same now)
         there i p e (inr other) =
             let one : u p ≡ Some i = numbered.there i p (sym (row.apart i other) ∙ e) in
             out.apart p (λ is. let two : u p ≡ Some k = subst (λ x. u x ≡ Some k) is left in other (cc))
             ∙ put.apart p (λ is. let gone : u p ≡ None = subst (λ x. u x ≡ None) is none in cc)
             ∙ one
 
-        back : (p : ℕ × ℕ) (i : ℕ) → v p ≡ Some i → (old ≡ p) ⊎ (old ≢ p) → (pair ≡ p) ⊎ (pair ≢ p) → with_row rows k (Some pair) i ≡ Some p
+        back : (p : Request) (i : ℕ) → v p ≡ Some i → (old ≡ p) ⊎ (old ≢ p) → (request ≡ p) ⊎ (request ≢ p) → with_row rows k (Some request) i ≡ Some p
         back p i e (inl gone) q = let empty : v p ≡ None = subst (λ x. v x ≡ None) gone out.here in cc
         back p i e (inr kept) (inl agree) =
             let now : mid p ≡ Some k = subst (λ x. mid x ≡ Some k) agree put.here in
             let still : mid p ≡ Some i = sym (out.apart p kept) ∙ e in
             let same : k ≡ i = cc in
-            subst (λ x. with_row rows k (Some pair) x ≡ Some p) same (subst (λ x. with_row rows k (Some pair) k ≡ Some x) agree row.here)
+            subst (λ x. with_row rows k (Some request) x ≡ Some p) same (subst (λ x. with_row rows k (Some request) k ≡ Some x) agree row.here)
         back p i e (inr kept) (inr apart) =
             let one : rows i ≡ Some p = numbered.back p i (sym (put.apart p apart) ∙ sym (out.apart p kept) ∙ e) in
             row.apart i (λ is. let two : rows i ≡ Some old = subst (λ x. rows x ≡ Some old) is was in kept (cc)) ∙ one
@@ -159,9 +161,9 @@ set_back same old mid new k w first then q =
     ]
 
 -- A request that could not be given the number has none, as before.
-pub numbered_back : {rows : Requests} {u mid v : ℕ × ℕ → Option ℕ} (pair : ℕ × ℕ) (w : Option ℕ) → u pair ≡ None → Sets u mid pair w → Sets mid v pair None → IsNumbered u rows → IsNumbered v rows
-numbered_back {rows} {u} {mid} {v} pair w none put out numbered =
-    let same : (q : ℕ × ℕ) → v q ≡ u q = set_back same_pair u mid v pair w put (subst (Sets mid v pair) (sym none) out) in
+pub numbered_back : {rows : Requests} {u mid v : Request → Option ℕ} (request : Request) (w : Option ℕ) → u request ≡ None → Sets u mid request w → Sets mid v request None → IsNumbered u rows → IsNumbered v rows
+numbered_back {rows} {u} {mid} {v} request w none put out numbered =
+    let same : (q : Request) → v q ≡ u q = set_back same_or_not u mid v request w put (subst (Sets mid v request) (sym none) out) in
     record {
       there = λ i p e. same p ∙ numbered.there i p e;
       back = λ p i e. numbered.back p i (sym (same p) ∙ e);

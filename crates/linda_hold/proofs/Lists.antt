@@ -7,13 +7,15 @@ use Rattle.std.specs.Bool.{Decides}
 use Rattle.std.proofs.lemmas.Bool.{true≢false, false_from_ne_true, and_left, not-true}
 use Rattle.std.proofs.lemmas.List.Elements.{filter_agree}
 use Rattle.std.proofs.lemmas.Bool.Decides.{Decides-like, Decides-and, Decides-eqb}
-use Rattle.linda_hold.specs.Waits.{Wait, same_pair, without, without_client, AreDistinct}
+use Rattle.linda_hold.specs.declared.request.Request.{Request}
+use Rattle.linda_hold.specs.Request.{request_of, same_request}
+use Rattle.linda_hold.specs.Waits.{Wait, without, without_client, AreDistinct}
 
 -- The test of two requests decides whether they are the same.
-pub pair_told : (p q : ℕ × ℕ) → Decides (same_pair p q) (p ≡ q)
-pair_told p q =
-    Decides-like _ (λ e. λ j. (e.0 j, e.1 j)) (λ e. (ap (λ r. r.0) e, ap (λ r. r.1) e))
-    (Decides-and _ _ (Decides-eqb p.0 q.0) (Decides-eqb p.1 q.1))
+pub request_told : (p q : Request) → Decides (same_request p q) (p ≡ q)
+request_told p q =
+    Decides-like _ (λ e. λ j. request_of (e.0 j) (e.1 j)) (λ e. (ap (λ r. r.client) e, ap (λ r. r.ticket) e))
+    (Decides-and _ _ (Decides-eqb p.client q.client) (Decides-eqb p.ticket q.ticket))
 
 module _ {K X : Type 0} (test : K → Bool) where
   cases : (b : Bool) (x : X) (rest : Option X) → is_some (cond b (Some x) rest) ≡ (b || is_some rest)
@@ -82,13 +84,13 @@ module _ {X : Type 0} (p q : X → Bool) (also : (x : X) → p x ≡ true → q 
       by false e rest = rest ∙ ap (λ b. b || list_any p xs) (sym (false_from_ne_true (p x) (λ is. true≢false (sym (also x is) ∙ e))))
 
 -- Waits but those of several requests, one taken out after another.
-abbrev pub without_all : List (ℕ × ℕ) → List Wait → List Wait
+abbrev pub without_all : List Request → List Wait → List Wait
 without_all [] waits = waits
-without_all (pair ∷ pairs) waits = without_all pairs (without pair waits)
+without_all (request ∷ requests) waits = without_all requests (without request waits)
 
 -- Waits but those of the requests of some of them are those of the others, where no two are of one request.
-among : List (ℕ × ℕ) → Wait → Bool
-among pairs w = list_any (λ pair. same_pair pair w.0) pairs
+among : List Request → Wait → Bool
+among requests w = list_any (λ request. same_request request w.0) requests
 
 passed_twice : {X : Type 0} (p q : X → Bool) (xs : List X) → filter q (filter (λ x. not (p x)) xs) ≡ filter (λ x. not (p x) && q x) xs
 passed_twice p q [] = refl
@@ -108,38 +110,38 @@ all_true [] = tt
 all_true (w ∷ waits) = (refl, all_true waits)
 
 -- One after another comes to the same as all at once.
-at_once : (pairs : List (ℕ × ℕ)) (waits : List Wait) → without_all pairs waits ≡ filter (λ w. not (among pairs w)) waits
+at_once : (requests : List Request) (waits : List Wait) → without_all requests waits ≡ filter (λ w. not (among requests w)) waits
 unfolding among
 at_once [] waits = sym (all_kept (λ w. not (among [] w)) waits (all_true waits))
-at_once (pair ∷ pairs) waits =
-    at_once pairs (without pair waits)
-    ∙ passed_twice (λ w. same_pair pair w.0) (λ w. not (among pairs w)) waits
-    ∙ filter_agree (λ w. not (same_pair pair w.0) && not (among pairs w)) (λ w. not (among (pair ∷ pairs) w)) (λ w. not_either (same_pair pair w.0) (among pairs w)) waits
+at_once (request ∷ requests) waits =
+    at_once requests (without request waits)
+    ∙ passed_twice (λ w. same_request request w.0) (λ w. not (among requests w)) waits
+    ∙ filter_agree (λ w. not (same_request request w.0) && not (among requests w)) (λ w. not (among (request ∷ requests) w)) (λ w. not_either (same_request request w.0) (among requests w)) waits
 
 module _ (p : Wait → Bool) where
   -- the requests of those that pass
-  abbrev passing : List Wait → List (ℕ × ℕ)
+  abbrev passing : List Wait → List Request
   passing waits = map (λ w. w.0) (filter p waits)
 
-  not_among : (pair : ℕ × ℕ) (w : Wait) (waits : List Wait) → AllByRecursion (λ q. same_pair pair q ≡ false) (keys_of waits) → w.0 ≡ pair → among (passing waits) w ≡ false
+  not_among : (request : Request) (w : Wait) (waits : List Wait) → AllByRecursion (λ q. same_request request q ≡ false) (keys_of waits) → w.0 ≡ request → among (passing waits) w ≡ false
   unfolding among
-  not_among pair w [] apart same = refl
-  not_among pair w (v ∷ waits) apart same = by (p v) (not_among pair w waits apart.1 same)
+  not_among request w [] apart same = refl
+  not_among request w (v ∷ waits) apart same = by (p v) (not_among request w waits apart.1 same)
     where
-      off : same_pair v.0 w.0 ≡ false
-      off = false_from_ne_true _ (λ is. true≢false (sym ((pair_told pair v.0).1 (sym ((pair_told v.0 w.0).0 is ∙ same))) ∙ apart.0))
+      off : same_request v.0 w.0 ≡ false
+      off = false_from_ne_true _ (λ is. true≢false (sym ((request_told request v.0).1 (sym ((request_told v.0 w.0).0 is ∙ same))) ∙ apart.0))
 
-      by : (b : Bool) → list_any (λ q. same_pair q w.0) (passing waits) ≡ false → list_any (λ q. same_pair q w.0) (map (λ x. x.0) (cond b (v ∷ filter p waits) (filter p waits))) ≡ false
-      by true rest = ap (λ b. b || list_any (λ q. same_pair q w.0) (passing waits)) off ∙ rest
+      by : (b : Bool) → list_any (λ q. same_request q w.0) (passing waits) ≡ false → list_any (λ q. same_request q w.0) (map (λ x. x.0) (cond b (v ∷ filter p waits) (filter p waits))) ≡ false
+      by true rest = ap (λ b. b || list_any (λ q. same_request q w.0) (passing waits)) off ∙ rest
       by false rest = rest
 
   -- Those whose request is not that of w are treated alike with it and without it.
-  rest_alike : (pair : ℕ × ℕ) (pairs : List (ℕ × ℕ)) (waits : List Wait) → AllByRecursion (λ q. same_pair pair q ≡ false) (keys_of waits) → filter (λ w. not (among (pair ∷ pairs) w)) waits ≡ filter (λ w. not (among pairs w)) waits
+  rest_alike : (request : Request) (requests : List Request) (waits : List Wait) → AllByRecursion (λ q. same_request request q ≡ false) (keys_of waits) → filter (λ w. not (among (request ∷ requests) w)) waits ≡ filter (λ w. not (among requests w)) waits
   unfolding among
-  rest_alike pair pairs [] apart = refl
-  rest_alike pair pairs (w ∷ waits) apart =
-      ap (λ b. cond (not (b || among pairs w)) (w ∷ filter (λ v. not (among (pair ∷ pairs) v)) waits) (filter (λ v. not (among (pair ∷ pairs) v)) waits)) apart.0
-      ∙ ap (λ l. cond (not (among pairs w)) (w ∷ l) l) (rest_alike pair pairs waits apart.1)
+  rest_alike request requests [] apart = refl
+  rest_alike request requests (w ∷ waits) apart =
+      ap (λ b. cond (not (b || among requests w)) (w ∷ filter (λ v. not (among (request ∷ requests) v)) waits) (filter (λ v. not (among (request ∷ requests) v)) waits)) apart.0
+      ∙ ap (λ l. cond (not (among requests w)) (w ∷ l) l) (rest_alike request requests waits apart.1)
 
   others : (waits : List Wait) → AreDistinct waits → filter (λ w. not (among (passing waits) w)) waits ≡ filter (λ w. not (p w)) waits
   unfolding IsDistinct among
@@ -148,7 +150,7 @@ module _ (p : Wait → Bool) where
     where
       by : (b : Bool) → filter (λ v. not (among (passing waits) v)) waits ≡ filter (λ v. not (p v)) waits → filter (λ v. not (among (map (λ x. x.0) (cond b (w ∷ filter p waits) (filter p waits))) v)) (w ∷ waits) ≡ cond (not b) (w ∷ filter (λ v. not (p v)) waits) (filter (λ v. not (p v)) waits)
       by true rest =
-          ap (λ b. cond (not (b || among (passing waits) w)) (w ∷ filter (λ v. not (among (w.0 ∷ passing waits) v)) waits) (filter (λ v. not (among (w.0 ∷ passing waits) v)) waits)) ((pair_told w.0 w.0).1 refl)
+          ap (λ b. cond (not (b || among (passing waits) w)) (w ∷ filter (λ v. not (among (w.0 ∷ passing waits) v)) waits) (filter (λ v. not (among (w.0 ∷ passing waits) v)) waits)) ((request_told w.0 w.0).1 refl)
           ∙ rest_alike w.0 (passing waits) waits distinct.0
           ∙ rest
       by false rest =
@@ -160,9 +162,9 @@ module _ (p : Wait → Bool) where
   without_passing waits distinct = at_once (passing waits) waits ∙ others waits distinct
 
 -- Several requests and then one more.
-pub without_more : (pairs : List (ℕ × ℕ)) (pair : ℕ × ℕ) (waits : List Wait) → without_all (pairs ++ pair ∷ []) waits ≡ without pair (without_all pairs waits)
-without_more [] pair waits = refl
-without_more (q ∷ pairs) pair waits = without_more pairs pair (without q waits)
+pub without_more : (requests : List Request) (request : Request) (waits : List Wait) → without_all (requests ++ request ∷ []) waits ≡ without request (without_all requests waits)
+without_more [] request waits = refl
+without_more (q ∷ requests) request waits = without_more requests request (without q waits)
 
 -- Where none passes, all are left.
 pub all_left : {X : Type 0} (p : X → Bool) (xs : List X) → filter p xs ≡ [] → filter (λ x. not (p x)) xs ≡ xs
@@ -174,8 +176,8 @@ all_left p (x ∷ xs) none = by (p x) none (all_left p xs)
     by false is rest = ap (λ l. x ∷ l) (rest is)
 
 -- A wait of a client is none of the others'.
-pub others_stay : (client ticket : ℕ) (waits : List Wait) → without_client client (without (client, ticket) waits) ≡ without_client client waits
+pub others_stay : (client ticket : ℕ) (waits : List Wait) → without_client client (without (request_of client ticket) waits) ≡ without_client client waits
 others_stay client ticket waits =
-    filter_within (λ w. not (client == w.0.0)) (λ w. not (same_pair (client, ticket) w.0))
-    (λ w other. ap not (and_left (client == w.0.0) (ticket == w.0.1) (not-true (client == w.0.0) other)))
+    filter_within (λ w. not (client == w.0.client)) (λ w. not (same_request (request_of client ticket) w.0))
+    (λ w other. ap not (and_left (client == w.0.client) (ticket == w.0.ticket) (not-true (client == w.0.client) other)))
     waits

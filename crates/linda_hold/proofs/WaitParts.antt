@@ -73,25 +73,25 @@ module _ (t : BTreeMap ℕ Wait) (ordered : tree.IsOrdered nat_cmp t) where
     abbrev pub own : Requests
     own = rows_at nat_cmp client_of client (requests_of (tree.get nat_cmp t))
 
-    own_at : (o : Option Wait) → is_some (row_at nat_cmp client (placed client_of (option_map (λ w. w.0) o))) ≡ is_some (option_filter (λ w. client == w.0.0) o)
+    own_at : (o : Option Wait) → is_some (row_at nat_cmp client (placed client_of (option_map (λ w. w.0) o))) ≡ is_some (option_filter (λ w. client == w.0.client) o)
     own_at None = refl
     own_at (Some w) =
-        told (is_eq (nat_cmp w.0.0 client)) w.0
-        ∙ (eq_by_cmp_equiv nat_cmp_total).symm w.0.0 client
-        ∙ unsigned_tied client w.0.0
-        ∙ sym (told (client == w.0.0) w)
+        told (is_eq (nat_cmp w.0.client client)) w.0
+        ∙ (eq_by_cmp_equiv nat_cmp_total).symm w.0.client client
+        ∙ unsigned_tied client w.0.client
+        ∙ sym (told (client == w.0.client) w)
 
     -- There are as many numbers of the client as it has waits.
     pub own_count : (numbers : BTreeSet ℕ) → sets.IsOrdered nat_cmp numbers → HasIds numbers own → length numbers.keys ≡ length (waits_of client (values_of t.entries))
     own_count numbers sorted has =
-        ap length (found_some (λ w. client == w.0.0) t ordered own (λ q. own_at (tree.get nat_cmp t q)) numbers sorted has)
-        ∙ part_length (λ w. client == w.0.0) t.entries
+        ap length (found_some (λ w. client == w.0.client) t ordered own (λ q. own_at (tree.get nat_cmp t q)) numbers sorted has)
+        ∙ part_length (λ w. client == w.0.client) t.entries
 
     pub own_none : IsBare own → [] ≡ waits_of client (values_of t.entries)
     own_none bare =
-        ap (λ ks. waits_at (tree.get nat_cmp t) ks) (found_none (λ w. client == w.0.0) t ordered own (λ q. own_at (tree.get nat_cmp t q)) bare)
-        ∙ looked_up (tree.get nat_cmp t) (part (λ w. client == w.0.0) t.entries) (kept_found _ (λ w. client == w.0.0) t.entries (recursion_from_All (λ e. tree.get nat_cmp t e.0 ≡ Some e.1) t.entries (All-found nat_cmp_total t ordered)))
-        ∙ part_values (λ w. client == w.0.0) t.entries
+        ap (λ ks. waits_at (tree.get nat_cmp t) ks) (found_none (λ w. client == w.0.client) t ordered own (λ q. own_at (tree.get nat_cmp t q)) bare)
+        ∙ looked_up (tree.get nat_cmp t) (part (λ w. client == w.0.client) t.entries) (kept_found _ (λ w. client == w.0.client) t.entries (recursion_from_All (λ e. tree.get nat_cmp t e.0 ≡ Some e.1) t.entries (All-found nat_cmp_total t ordered)))
+        ∙ part_values (λ w. client == w.0.client) t.entries
 
   module _ (row : Tuple) where
     head_at : (o : Option Wait) → is_some (row_at nat_cmp (length row.fields) (placed (λ r. Some (count_of r)) (row_at atom_ord.ghosts.cmp row.tag (placed (λ r. Some (tag_of r)) (option_map (λ w. w.1) o))))) ≡ is_some (option_filter (has_head row) o)

@@ -1,8 +1,9 @@
 -- How a wait is stored where a model's value holds one.
 use Rattle.std.specs.Prelude.{Bool, refl}
-use Rattle.std.specs.Coded.{Coded, code_by, coded×, coded_ℕ, coded_bool}
+use Rattle.std.specs.Coded.{Coded, code_by, coded×, coded_bool}
 use Rattle.linda_tuple.specs.Template.{Template}
 use Rattle.linda_tuple.specs.Codes.{template_code}
+use Rattle.linda_hold.specs.Request.{request_code}
 use Rattle.linda_hold.specs.declared.asks.Asked.{Asked}
 use Rattle.linda_hold.specs.Waits.{Wait}
 
@@ -14,4 +15,4 @@ asked_code =
 
 -- the code of a wait
 abbrev pub wait_code : Coded Wait
-wait_code = coded× (coded× coded_ℕ coded_ℕ) asked_code
+wait_code = coded× request_code asked_code

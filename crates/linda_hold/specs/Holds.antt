@@ -2,21 +2,22 @@
 use Rattle.std.specs.Prelude.{◌≡◌, ℕ, ◌==◌, List, Option, None, Some, map, filter}
 use Rattle.std.specs.Ordering.{nat_cmp}
 use Rattle.std.specs.FinMap as map
+use Rattle.linda_hold.specs.declared.request.Request.{Request}
 
--- The client and the ticket of the request that each tuple is held for, by the tuple's id.
+-- The request that each tuple is held for, by the tuple's id.
 abbrev pub HeldFor : Type 0
-HeldFor = map.FinMap nat_cmp (ℕ × ℕ)
+HeldFor = map.FinMap nat_cmp Request
 
--- The id of the tuple that is held for a client and ticket; none where nothing is held for them.
-abbrev pub IsHeldAt : HeldFor → ℕ × ℕ → Option ℕ → Type 0
-IsHeldAt holds pair (Some id) = map.get holds id ≡ Some pair
-IsHeldAt holds pair None = (id : ℕ) → map.get holds id ≡ Some pair → ⊥
+-- The id of the tuple that is held for a request; none where nothing is held for it.
+abbrev pub IsHeldAt : HeldFor → Request → Option ℕ → Type 0
+IsHeldAt holds request (Some id) = map.get holds id ≡ Some request
+IsHeldAt holds request None = (id : ℕ) → map.get holds id ≡ Some request → ⊥
 
 -- No request holds two tuples.
 abbrev pub IsOneEach : HeldFor → Type 0
 IsOneEach holds =
-    (i k : ℕ) (pair : ℕ × ℕ) → map.get holds i ≡ Some pair → map.get holds k ≡ Some pair → i ≡ k
+    (i k : ℕ) (request : Request) → map.get holds i ≡ Some request → map.get holds k ≡ Some request → i ≡ k
 
 -- the ids that are held for a client, in the order of the entries
-abbrev pub held_in : ℕ → List (ℕ × (ℕ × ℕ)) → List ℕ
-held_in client es = map (λ e. e.0) (filter (λ e. e.1.0 == client) es)
+abbrev pub held_in : ℕ → List (ℕ × Request) → List ℕ
+held_in client es = map (λ e. e.0) (filter (λ e. e.1.client == client) es)

@@ -1,3 +1,4 @@
+pub mod Request
 pub mod Waits
 pub mod Holds
 pub mod Named

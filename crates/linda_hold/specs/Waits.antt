@@ -5,19 +5,17 @@ use Rattle.std.specs.List.{list_any, IsDistinct}
 use Rattle.std.specs.Map.{keys_of}
 use Rattle.linda_tuple.specs.Tuple.{Tuple}
 use Rattle.linda_tuple.specs.Testing.{is_match}
+use Rattle.linda_hold.specs.declared.request.Request.{Request}
+use Rattle.linda_hold.specs.Request.{same_request}
 use Rattle.linda_hold.specs.declared.asks.Asked.{Asked}
 
--- A wait: the client and the ticket of a request, and what it asked.
+-- A wait: a request, and what it asked.
 abbrev pub Wait : Type 0
-Wait = (ℕ × ℕ) × Asked
+Wait = Request × Asked
 
--- whether two pairs of client and ticket are the same
-abbrev pub same_pair : ℕ × ℕ → ℕ × ℕ → Bool
-same_pair p q = (p.0 == q.0) && (p.1 == q.1)
-
--- whether the client and the ticket wait
-abbrev pub is_waiting : ℕ × ℕ → List Wait → Bool
-is_waiting pair waits = list_any (λ w. same_pair pair w.0) waits
+-- whether the request waits
+abbrev pub is_waiting : Request → List Wait → Bool
+is_waiting request waits = list_any (λ w. same_request request w.0) waits
 
 -- whether some wait is answered by the tuple
 abbrev pub is_awaited : Tuple → List Wait → Bool
@@ -45,16 +43,16 @@ longest row waits = find (is_taker row) waits
 
 -- the waits of a client
 abbrev pub waits_of : ℕ → List Wait → List Wait
-waits_of client waits = filter (λ w. client == w.0.0) waits
+waits_of client waits = filter (λ w. client == w.0.client) waits
 
 -- the waits of the other clients
 abbrev pub without_client : ℕ → List Wait → List Wait
-without_client client waits = filter (λ w. not (client == w.0.0)) waits
+without_client client waits = filter (λ w. not (client == w.0.client)) waits
 
--- the waits but that of one client and ticket
-abbrev pub without : ℕ × ℕ → List Wait → List Wait
-without pair waits = filter (λ w. not (same_pair pair w.0)) waits
+-- the waits but that of one request
+abbrev pub without : Request → List Wait → List Wait
+without request waits = filter (λ w. not (same_request request w.0)) waits
 
--- No client waits twice with one ticket.
+-- No request waits twice.
 abbrev pub AreDistinct : List Wait → Type 0
-AreDistinct waits = IsDistinct same_pair (keys_of waits)
+AreDistinct waits = IsDistinct same_request (keys_of waits)

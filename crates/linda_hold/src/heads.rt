@@ -7,12 +7,13 @@ ghost use Rattle.linda_bag.specs.Filing.{Finds};
 ghost use Rattle.linda_hold.specs.Heads.{HasAsked, alike};
 
 use crate::asks::Asked;
+use crate::request::Request;
 use linda_bag::Headed;
 use linda_tuple::{Atom, Tuple};
 use std::collections::BTreeSet;
 
-/// A request that waits: its client and its ticket, and what it asked.
-pub(crate) type Wait = ((u32, u64), Asked);
+/// A request that waits, and what it asked.
+pub(crate) type Wait = (Request, Asked);
 
 /// The numbers of requests, by the tag and the number of fields that they ask for.
 pub(crate) type Heads = linda_bag::Heads<BTreeSet<u64>>;

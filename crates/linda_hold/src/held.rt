@@ -3,10 +3,11 @@
 ghost use Rattle.std.specs.Prelude.{◌≡◌, None, Some, OnOk, OnErr};
 ghost use Rattle.std.specs.BTreeMap as tree;
 ghost use Rattle.linda_bag.specs.Filing.{no_rows, Refiles};
-ghost use Rattle.linda_hold.specs.Named.{pair_cmp};
+ghost use Rattle.linda_hold.specs.Request.{request_cmp};
 ghost use Rattle.linda_hold.specs.Held.{HasHeld};
 
 use crate::names::Names;
+use crate::request::Request;
 use std::alloc::{AllocError, Global};
 use std::collections::BTreeSet;
 
@@ -37,10 +38,10 @@ impl Held {
         &mut self,
         alloc: Global,
         id: u64,
-        old: Option<(u32, u64)>,
-        new: (u32, u64),
+        old: Option<Request>,
+        new: Request,
     ) -> Result<(), AllocError>
-        requires { tree.get pair_cmp self.old.names.by_request new ≡ None }
+        requires { tree.get request_cmp self.old.names.by_request new ≡ None }
         ensures ok { OnOk result (Refiles (HasHeld self.old) (HasHeld self.new) id old (Some new)) }
         ensures err { OnErr result (Refiles (HasHeld self.old) (HasHeld self.new) id old old) }
     {
@@ -57,7 +58,7 @@ impl Held {
     }
 
     /// The id, which is held for the request, is held no more. Takes no memory.
-    pub(crate) fn remove(&mut self, id: u64, request: (u32, u64))
+    pub(crate) fn remove(&mut self, id: u64, request: Request)
         ensures { Refiles (HasHeld self.old) (HasHeld self.new) id (Some request) None }
     {
         self.ids.remove(&id);

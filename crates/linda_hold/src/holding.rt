@@ -8,31 +8,32 @@ ghost use Rattle.std.specs.BTreeSet as set;
 ghost use Rattle.linda_hold.specs.Holds.{IsHeldAt, IsOneEach, held_in};
 
 use crate::held::Held;
+use crate::request::Request;
 use std::alloc::{AllocError, Global};
 use std::collections::{BTreeMap, BTreeSet};
 use std::marker::Model;
 
 /// Which tuple is held for which request: each tuple, named by its id, for at most one request, and
-/// for each request, named by its client and its ticket, at most one tuple. Any 64-bit number may be
-/// an id.
+/// for each request at most one tuple. Any 64-bit number may be an id.
 #[derive(Drop)]
 pub struct Holds {
     alloc: Global,
-    by_id: BTreeMap<u64, (u32, u64)>,
+    by_id: BTreeMap<u64, Request>,
     held: Held,
 }
 
 impl Model for Holds {
-    ghost use Rattle.std.specs.Prelude.{ℕ};
-    ghost use Rattle.std.specs.Coded.{coded×, coded_ℕ};
+    ghost use Rattle.std.specs.Coded.{coded_ℕ};
     ghost use Rattle.std.specs.Ordering.{nat_cmp};
     ghost use Rattle.std.specs.FinMap as map;
     ghost use Rattle.std.specs.BTreeMap as tree;
+    ghost use Rattle.linda_hold.specs.Request.{request_code};
+    ghost use Rattle.linda_hold.specs.Holds.{HeldFor};
     ghost use Rattle.linda_hold.specs.Held.{HasHeld};
 
-    ghost Value = { map.FinMap nat_cmp (ℕ × ℕ) };
+    ghost Value = { HeldFor };
 
-    ghost coded = { map.code coded_ℕ (coded× coded_ℕ coded_ℕ) };
+    ghost coded = { map.code coded_ℕ request_code };
 
     ghost view = { λ h. map.from_entries h.by_id.entries };
 
@@ -52,20 +53,20 @@ impl Holds {
         }
     }
 
-    /// The client and the ticket that the tuple is held for. Takes no memory.
-    pub fn get(&self, id: u64) -> Option<(u32, u64)>
+    /// The request that the tuple is held for. Takes no memory.
+    pub fn get(&self, id: u64) -> Option<Request>
         ensures value { result ≡ map.get self.now id }
         ensures one_each { IsOneEach self.now }
     {
         self.by_id.get(&id).copied()
     }
 
-    /// The id of the tuple that is held for the client and the ticket. Takes no memory.
-    pub fn find(&self, client: u32, ticket: u64) -> Option<u64>
-        ensures value { IsHeldAt self.now (client, ticket) result }
+    /// The id of the tuple that is held for the request. Takes no memory.
+    pub fn find(&self, request: Request) -> Option<u64>
+        ensures value { IsHeldAt self.now request result }
         ensures one_each { IsOneEach self.now }
     {
-        self.held.names.number_of(client, ticket)
+        self.held.names.number_of(request)
     }
 
     /// The ids of all tuples that are held.
@@ -99,18 +100,17 @@ impl Holds {
         }
     }
 
-    /// Lets the tuple be held for the client and the ticket. If it was held for others, it is theirs
-    /// no more.
+    /// Lets the tuple be held for the request. If it was held for another, it is held for that no
+    /// more.
     ///
     /// # Errors
     ///
     /// `AllocError` where memory runs out, and then the holds are as before.
-    pub fn insert(&mut self, id: u64, client: u32, ticket: u64) -> Result<(), AllocError>
-        requires { IsHeldAt self.old (client, ticket) None }
-        ensures ok { OnOk result (self.new ≡ map.insert self.old id (client, ticket)) }
+    pub fn insert(&mut self, id: u64, request: Request) -> Result<(), AllocError>
+        requires { IsHeldAt self.old request None }
+        ensures ok { OnOk result (self.new ≡ map.insert self.old id request) }
         ensures err { OnErr result (self.new ≡ self.old) }
     {
-        let request = (client, ticket);
         let old = self.by_id.get(&id).copied();
         self.held.put(self.alloc, id, old, request)?;
         match self.by_id.insert(id, request) {
@@ -123,8 +123,7 @@ impl Holds {
         }
     }
 
-    /// Lets the tuple be held for the client and the ticket no more; where it is not held, nothing
-    /// changes. Takes no memory.
+    /// Lets the tuple be held for nobody; where it is not held, nothing changes. Takes no memory.
     pub fn remove(&mut self, id: u64)
         ensures { self.new ≡ map.remove self.old id }
     {

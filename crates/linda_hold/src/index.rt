@@ -3,7 +3,7 @@
 ghost use Rattle.std.specs.Prelude.{◌≡◌, None, Some, OnOk, OnErr};
 ghost use Rattle.std.specs.BTreeMap as tree;
 ghost use Rattle.linda_bag.specs.Filing.{no_rows, Refiles};
-ghost use Rattle.linda_hold.specs.Named.{pair_cmp};
+ghost use Rattle.linda_hold.specs.Request.{request_cmp};
 ghost use Rattle.linda_hold.specs.Index.{HasWaits};
 
 use crate::asks::Asked;
@@ -36,7 +36,7 @@ impl Index {
     ///
     /// `AllocError` where memory runs out, and then each wait is found as before.
     pub(crate) fn put(&mut self, alloc: Global, number: u64, wait: &Wait) -> Result<(), AllocError>
-        requires { tree.get pair_cmp self.old.names.by_request wait.now.0 ≡ None }
+        requires { tree.get request_cmp self.old.names.by_request wait.now.0 ≡ None }
         ensures ok { OnOk result (Refiles (HasWaits self.old) (HasWaits self.new)
             number None (Some wait.now)) }
         ensures err { OnErr result (Refiles (HasWaits self.old) (HasWaits self.new)

@@ -1,11 +1,11 @@
 //! What a server keeps for its clients besides their replies: who waits for a tuple, and which
 //! tuples are held for whom.
 //!
-//! A request is named by its client and its ticket. `Waits` has the requests that no tuple has
+//! A `Request` is named by its client and its ticket. `Waits` has the requests that no tuple has
 //! answered yet, in order of arrival, and `Holds` says which tuples were offered to a request and
 //! not yet accepted. Neither is kept on disk. Contracts see the waits as the list in order of
-//! arrival, and the holds as a finite map from ids to pairs of client and ticket; the words for both
-//! are in `specs/Waits` and `specs/Holds`.
+//! arrival, and the holds as a finite map from ids to requests; the words for both are in
+//! `specs/Waits` and `specs/Holds`.
 #![tactic(auto)]
 
 mod asks;
@@ -14,11 +14,13 @@ mod held;
 mod holding;
 mod index;
 mod names;
+mod request;
 mod waiting;
 mod walks;
 
 pub use asks::Asked;
 pub use holding::Holds;
+pub use request::Request;
 pub use waiting::Waits;
 
 #[cfg(test)]

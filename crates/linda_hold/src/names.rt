@@ -5,16 +5,18 @@ ghost use Rattle.std.specs.Option.{option_copied};
 ghost use Rattle.std.specs.Ordering.{nat_cmp};
 ghost use Rattle.std.specs.BTreeMap as tree;
 ghost use Rattle.linda_bag.specs.Filing.{no_rows, rows_at, placed, place, Finds, Refiles};
-ghost use Rattle.linda_hold.specs.Named.{HasNames, client_of, pair_cmp};
+ghost use Rattle.linda_hold.specs.Request.{request_cmp};
+ghost use Rattle.linda_hold.specs.Named.{HasNames, client_of};
 
+use crate::request::Request;
 use linda_bag::{refile, unfile};
 use std::alloc::{AllocError, Global};
 use std::collections::{BTreeMap, BTreeSet};
 
-/// The numbers of requests, each of which is a client and a ticket.
+/// The numbers of requests.
 #[derive(Drop)]
 pub(crate) struct Names {
-    pub(crate) by_request: BTreeMap<(u32, u64), u64>,
+    pub(crate) by_request: BTreeMap<Request, u64>,
     by_client: BTreeMap<u32, BTreeSet<u64>>,
 }
 
@@ -30,10 +32,10 @@ impl Names {
     }
 
     /// The number of the request. Takes no memory.
-    pub(crate) fn number_of(&self, client: u32, ticket: u64) -> Option<u64>
-        ensures { result ≡ tree.get pair_cmp self.now.by_request (client, ticket) }
+    pub(crate) fn number_of(&self, request: Request) -> Option<u64>
+        ensures { result ≡ tree.get request_cmp self.now.by_request request }
     {
-        self.by_request.get(&(client, ticket)).copied()
+        self.by_request.get(&request).copied()
     }
 
     /// The numbers of the client's requests; nothing where it has none. Takes no memory.
@@ -53,10 +55,10 @@ impl Names {
         &mut self,
         alloc: Global,
         number: u64,
-        old: Option<(u32, u64)>,
-        new: (u32, u64),
+        old: Option<Request>,
+        new: Request,
     ) -> Result<(), AllocError>
-        requires { tree.get pair_cmp self.old.by_request new ≡ None }
+        requires { tree.get request_cmp self.old.by_request new ≡ None }
         ensures ok { OnOk result (Refiles (HasNames self.old) (HasNames self.new)
             number old (Some new)) }
         ensures err { OnErr result (Refiles (HasNames self.old) (HasNames self.new)
@@ -80,18 +82,18 @@ impl Names {
     }
 
     /// Takes the number from the request, which has it. Takes no memory.
-    pub(crate) fn remove(&mut self, number: u64, request: (u32, u64))
+    pub(crate) fn remove(&mut self, number: u64, request: Request)
         ensures { Refiles (HasNames self.old) (HasNames self.new) number (Some request) None }
     {
         self.by_request.remove(&request);
-        unfile(&mut self.by_client, number, &request.0, &request);
+        unfile(&mut self.by_client, number, &request.client, &request);
     }
 }
 
 // The client of the request, with the request.
-fn client_place(request: Option<&(u32, u64)>) -> Option<(&u32, &(u32, u64))>
+fn client_place(request: Option<&Request>) -> Option<(&u32, &Request)>
     ensures { place result ≡ placed client_of (option_copied request.entry) }
 {
     let request = request?;
-    Some((&request.0, request))
+    Some((&request.client, request))
 }

@@ -1,6 +1,6 @@
 //! Each public call once, in the orders that the server's rules ask for.
 
-use crate::{Asked, Holds, Waits};
+use crate::{Asked, Holds, Request, Waits};
 use linda_tuple::{Atom, Pattern, Template, Tuple};
 use std::alloc::Global;
 use std::process::Abort;
@@ -11,27 +11,32 @@ fn tuple(alloc: Global, kind: i64) -> Result<Tuple, Fail> {
     Ok(Tuple::new(Atom::Int(kind), Vec::new(alloc))?)
 }
 
-/// A request for the tuple `(kind)`.
+/// The request of the client with the ticket.
+fn of(client: u32, ticket: u64) -> Request {
+    Request { client, ticket }
+}
+
+/// What a request for the tuple `(kind)` asks.
 fn asked(alloc: Global, remove: bool, kind: i64) -> Result<Asked, Fail> {
     let template = Template::new(Atom::Int(kind), Vec::new(alloc))?;
     Ok(Asked { remove, template })
 }
 
-/// Whether the request could be added: false where one of that name waits.
-fn wait(waits: &mut Waits, client: u32, ticket: u64, asked: Asked) -> Result<bool, Fail> {
-    if waits.contains(client, ticket) {
+/// Whether the request could be added: false where it waits.
+fn wait(waits: &mut Waits, request: Request, asked: Asked) -> Result<bool, Fail> {
+    if waits.contains(request) {
         return Ok(false);
     }
-    waits.add(client, ticket, asked)?;
+    waits.add(request, asked)?;
     Ok(true)
 }
 
 /// Whether the tuple could be held for the request: false where the request holds one.
-fn hold(holds: &mut Holds, id: u64, client: u32, ticket: u64) -> Result<bool, Fail> {
-    match holds.find(client, ticket) {
+fn hold(holds: &mut Holds, id: u64, request: Request) -> Result<bool, Fail> {
+    match holds.find(request) {
         Some(_) => Ok(false),
         None => {
-            holds.insert(id, client, ticket)?;
+            holds.insert(id, request)?;
             Ok(true)
         }
     }
@@ -46,9 +51,9 @@ fn add_rows(
     rows: &[(u32, u64, bool, i64, bool)],
 ) -> Result<(), Fail> {
     for (client, ticket, remove, kind, added) in rows {
-        let request = asked(alloc, *remove, *kind)?;
+        let asked = asked(alloc, *remove, *kind)?;
         assert_eq!(rt;
-            wait(waits, *client, *ticket, request)?,
+            wait(waits, of(*client, *ticket), asked)?,
             *added,
             "client {client}, ticket {ticket}"
         );
@@ -62,7 +67,7 @@ fn see_longest(
     alloc: Global,
     waits: &Waits,
     kind: i64,
-    want: Option<(u32, u64)>,
+    want: Option<Request>,
 ) -> Result<(), Fail> {
     let tuple = tuple(alloc, kind)?;
     assert_eq!(rt; waits.longest(&tuple), want);
@@ -75,7 +80,7 @@ fn take_readers(
     alloc: Global,
     waits: &mut Waits,
     kind: i64,
-    want: &[(u32, u64)],
+    want: &[Request],
 ) -> Result<(), Fail> {
     let tuple = tuple(alloc, kind)?;
     let readers = waits.take_readers(alloc, &tuple)?;
@@ -86,14 +91,14 @@ fn take_readers(
 /// Sees the five requests of `requests_wait_in_order_of_arrival`.
 fn see_five(rt: &impl Abort, alloc: Global, waits: &mut Waits) -> Result<(), Fail> {
     assert_eq!(rt; waits.len(), 5);
-    assert!(rt; waits.contains(3, 9));
-    assert!(rt; !waits.contains(9, 3));
+    assert!(rt; waits.contains(of(3, 9)));
+    assert!(rt; !waits.contains(of(9, 3)));
     assert_eq!(rt; waits.count_of(1), 2);
     assert_eq!(rt; waits.count_of(4), 0);
-    see_longest(rt, alloc, waits, 7, Some((3, 9)))?;
+    see_longest(rt, alloc, waits, 7, Some(of(3, 9)))?;
     see_longest(rt, alloc, waits, 8, None)?;
-    take_readers(rt, alloc, waits, 7, [(2, 1), (1, 2)].as_slice())?;
-    take_readers(rt, alloc, waits, 8, [(2, 2)].as_slice())
+    take_readers(rt, alloc, waits, 7, [of(2, 1), of(1, 2)].as_slice())?;
+    take_readers(rt, alloc, waits, 8, [of(2, 2)].as_slice())
 }
 
 #[test]
@@ -114,12 +119,12 @@ fn requests_wait_in_order_of_arrival(rt: HostRuntime) -> Result<(), Fail> {
 
 /// Removes one request after another and sees who waits longest then.
 fn remove_in_turn(rt: &impl Abort, alloc: Global, waits: &mut Waits) -> Result<(), Fail> {
-    waits.remove(1, 5);
-    see_longest(rt, alloc, waits, 7, Some((1, 6)))?;
-    waits.remove(1, 6);
-    see_longest(rt, alloc, waits, 7, Some((2, 6)))?;
+    waits.remove(of(1, 5));
+    see_longest(rt, alloc, waits, 7, Some(of(1, 6)))?;
+    waits.remove(of(1, 6));
+    see_longest(rt, alloc, waits, 7, Some(of(2, 6)))?;
     waits.remove_client(2);
-    see_longest(rt, alloc, waits, 7, Some((3, 6)))?;
+    see_longest(rt, alloc, waits, 7, Some(of(3, 6)))?;
     assert_eq!(rt; waits.len(), 2);
     Ok(())
 }
@@ -138,7 +143,7 @@ fn removal_keeps_the_order_of_the_rest(rt: HostRuntime) -> Result<(), Fail> {
     remove_in_turn(&rt, alloc, &mut waits)
 }
 
-/// A request for the tuple `(7, number)`, to take it.
+/// What a request for the tuple `(7, number)` asks, to take it.
 fn asked_for_two(alloc: Global, number: i64) -> Result<Asked, Fail> {
     let mut fields = Vec::new(alloc);
     fields.push(Pattern::Value(Atom::Int(number)))?;
@@ -155,7 +160,7 @@ fn see_longest_of_two(
     alloc: Global,
     waits: &Waits,
     number: i64,
-    want: Option<(u32, u64)>,
+    want: Option<Request>,
 ) -> Result<(), Fail> {
     let mut fields = Vec::new(alloc);
     fields.push(Atom::Int(number))?;
@@ -170,22 +175,22 @@ fn see_longest_of_two(
 fn a_tuple_is_for_requests_with_as_many_fields(rt: HostRuntime) -> Result<(), Fail> {
     let alloc = rt.alloc();
     let mut waits = Waits::new(alloc);
-    assert!(rt; wait(&mut waits, 1, 1, asked(alloc, true, 7)?)?);
-    waits.remove(1, 1);
+    assert!(rt; wait(&mut waits, of(1, 1), asked(alloc, true, 7)?)?);
+    waits.remove(of(1, 1));
     see_longest_of_two(&rt, alloc, &waits, 5, None)?;
-    assert!(rt; wait(&mut waits, 2, 1, asked_for_two(alloc, 4)?)?);
-    assert!(rt; wait(&mut waits, 2, 2, asked_for_two(alloc, 5)?)?);
-    see_longest_of_two(&rt, alloc, &waits, 5, Some((2, 2)))?;
+    assert!(rt; wait(&mut waits, of(2, 1), asked_for_two(alloc, 4)?)?);
+    assert!(rt; wait(&mut waits, of(2, 2), asked_for_two(alloc, 5)?)?);
+    see_longest_of_two(&rt, alloc, &waits, 5, Some(of(2, 2)))?;
     waits.remove_client(2);
     see_longest_of_two(&rt, alloc, &waits, 5, None)
 }
 
 /// Takes out the reads of `(7)`, and sees the two requests that are left.
 fn take_out_reads(rt: &impl Abort, alloc: Global, waits: &mut Waits) -> Result<(), Fail> {
-    take_readers(rt, alloc, waits, 7, [(1, 1), (2, 2)].as_slice())?;
+    take_readers(rt, alloc, waits, 7, [of(1, 1), of(2, 2)].as_slice())?;
     assert_eq!(rt; waits.len(), 2);
-    assert!(rt; waits.contains(1, 2));
-    assert!(rt; waits.contains(2, 1));
+    assert!(rt; waits.contains(of(1, 2)));
+    assert!(rt; waits.contains(of(2, 1)));
     Ok(())
 }
 
@@ -211,16 +216,16 @@ fn hold_rows(
     rows: &[(u64, u32, u64, bool)],
 ) -> Result<(), Fail> {
     for (id, client, ticket, held) in rows {
-        assert_eq!(rt; hold(holds, *id, *client, *ticket)?, *held, "id {id}");
+        assert_eq!(rt; hold(holds, *id, of(*client, *ticket))?, *held, "id {id}");
     }
     Ok(())
 }
 
 /// Sees the three holds of `tuples_are_held_for_requests`.
 fn see_three(rt: &impl Abort, alloc: Global, holds: &Holds) -> Result<(), Fail> {
-    assert_eq!(rt; holds.get(5), Some((2, 40)));
-    assert_eq!(rt; holds.find(1, 41), Some(3));
-    assert_eq!(rt; holds.find(2, 41), None);
+    assert_eq!(rt; holds.get(5), Some(of(2, 40)));
+    assert_eq!(rt; holds.find(of(1, 41)), Some(3));
+    assert_eq!(rt; holds.find(of(2, 41)), None);
     assert_eq!(rt; holds.count_of(1), 2);
     assert_eq!(rt; holds.count_of(3), 0);
     assert!(rt; holds.ids().contains(&5));
@@ -232,7 +237,7 @@ fn see_three(rt: &impl Abort, alloc: Global, holds: &Holds) -> Result<(), Fail> 
 /// Sees that the hold of 5 is gone, and two are left.
 fn see_two(rt: &impl Abort, holds: &Holds) {
     assert_eq!(rt; holds.get(5), None);
-    assert_eq!(rt; holds.find(2, 40), None);
+    assert_eq!(rt; holds.find(of(2, 40)), None);
     assert!(rt; !holds.ids().contains(&5));
     assert_eq!(rt; holds.ids().len(), 2);
 }
@@ -258,9 +263,9 @@ fn tuples_are_held_for_requests(rt: HostRuntime) -> Result<(), Fail> {
 
 /// Sees that 5 is held for its second request alone.
 fn see_handed_over(rt: &impl Abort, holds: &Holds) {
-    assert_eq!(rt; holds.get(5), Some((2, 4)));
-    assert_eq!(rt; holds.find(1, 1), None);
-    assert_eq!(rt; holds.find(2, 4), Some(5));
+    assert_eq!(rt; holds.get(5), Some(of(2, 4)));
+    assert_eq!(rt; holds.find(of(1, 1)), None);
+    assert_eq!(rt; holds.find(of(2, 4)), Some(5));
     assert_eq!(rt; holds.ids().len(), 1);
 }
 

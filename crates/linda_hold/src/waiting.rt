@@ -4,20 +4,21 @@ ghost use Rattle.std.specs.Prelude.{◌≡◌, ◌<◌, ◌++◌, ◌∷◌, [],
 ghost use Rattle.std.specs.Prelude.{IfOk, OnOk, OnErr, IfSome, IfNone};
 ghost use Rattle.std.specs.Option.{option_map};
 ghost use Rattle.std.specs.BTreeMap as tree;
+ghost use Rattle.linda_hold.specs.Request.{request_of};
 ghost use Rattle.linda_hold.specs.Waits.{AreDistinct, is_awaited, is_waiting, longest, readers};
 ghost use Rattle.linda_hold.specs.Waits.{waits_of, without, without_client, without_readers};
 
 use crate::asks::Asked;
 use crate::heads::{Wait, alike};
 use crate::index::Index;
+use crate::request::Request;
 use crate::walks::{first_input, is_answering_one, reads_among};
 use linda_tuple::Tuple;
 use std::alloc::{AllocError, Global};
 use std::collections::BTreeMap;
 use std::marker::Model;
 
-/// The requests that no tuple has answered yet, in order of arrival. Each is named by its client and
-/// its ticket, and no two have the same name.
+/// The requests that no tuple has answered yet, in order of arrival, each of them once.
 ///
 /// Each has a number, greater than those of all that came before it and wait still.
 #[derive(Drop)]
@@ -62,26 +63,26 @@ impl Waits {
         self.by_arrival.len()
     }
 
-    /// Whether the client waits with the ticket. Takes no memory.
-    pub fn contains(&self, client: u32, ticket: u64) -> bool
-        ensures { result ≡ is_waiting (client, ticket) self.now }
+    /// Whether the request waits. Takes no memory.
+    pub fn contains(&self, request: Request) -> bool
+        ensures { result ≡ is_waiting request self.now }
     {
-        self.index.names.number_of(client, ticket).is_some()
+        self.index.names.number_of(request).is_some()
     }
 
-    /// Lets the client wait with the ticket, last in order.
+    /// Lets the request wait, last in order.
     ///
     /// # Errors
     ///
     /// `AllocError` where memory runs out, or the numbers do, which takes 2^64 arrivals while somebody
     /// waits; and then the waits are as before and what was asked is dropped.
-    pub fn add(&mut self, client: u32, ticket: u64, asked: Asked) -> Result<(), AllocError>
-        requires { is_waiting (client, ticket) self.old ≡ false }
-        ensures ok { OnOk result (self.new ≡ self.old ++ ((client, ticket), asked) ∷ []) }
+    pub fn add(&mut self, request: Request, asked: Asked) -> Result<(), AllocError>
+        requires { is_waiting request self.old ≡ false }
+        ensures ok { OnOk result (self.new ≡ self.old ++ (request, asked) ∷ []) }
         ensures err { OnErr result (self.new ≡ self.old) }
     {
         let number = next_number(&self.by_arrival)?;
-        let wait = ((client, ticket), asked);
+        let wait = (request, asked);
         self.index.put(self.alloc, number, &wait)?;
         match self.by_arrival.insert(number, wait) {
             Ok(_) => Ok(()),
@@ -92,12 +93,12 @@ impl Waits {
         }
     }
 
-    /// Takes out the wait of the client with the ticket; where there is none, nothing changes. The
-    /// others keep their order. Takes no memory, and walks over nobody's waits.
-    pub fn remove(&mut self, client: u32, ticket: u64)
-        ensures { self.new ≡ without (client, ticket) self.old }
+    /// Takes out the request; where it does not wait, nothing changes. The others keep their order.
+    /// Takes no memory, and walks over nobody's waits.
+    pub fn remove(&mut self, request: Request)
+        ensures { self.new ≡ without request self.old }
     {
-        if let Some(number) = self.index.names.number_of(client, ticket) {
+        if let Some(number) = self.index.names.number_of(request) {
             if let Some(wait) = self.by_arrival.remove(&number) {
                 self.index.remove(number, &wait);
             }
@@ -110,44 +111,40 @@ impl Waits {
         ensures { self.new ≡ without_client client self.old }
     {
         while let Some(ticket) = self.first_ticket(client) {
-            self.remove(client, ticket);
+            self.remove(Request { client, ticket });
         }
     }
 
     // The ticket of some request of the client that waits; nothing where none does.
     fn first_ticket(&self, client: u32) -> Option<u64>
-        ensures waits { IfSome result (λ ticket. is_waiting (client, ticket) self.now ≡ true) }
+        ensures waits { IfSome result (λ ticket. is_waiting (request_of client ticket) self.now ≡ true) }
         ensures none { IfNone result (waits_of client self.now ≡ []) }
     {
         let number = self.index.names.of_client(client)?.first()?;
         let wait = self.by_arrival.get(number)?;
-        Some(wait.0.1)
+        Some(wait.0.ticket)
     }
 
-    /// Takes out the reads that the tuple answers, and gives the client and the ticket of each, in
-    /// order of arrival. The others keep their order.
+    /// Takes out the reads that the tuple answers, and gives them in order of arrival. The others keep
+    /// their order.
     ///
     /// # Errors
     ///
     /// `AllocError` where memory runs out, and then the waits are as before.
-    pub fn take_readers(
-        &mut self,
-        alloc: Global,
-        tuple: &Tuple,
-    ) -> Result<Vec<(u32, u64)>, AllocError>
+    pub fn take_readers(&mut self, alloc: Global, tuple: &Tuple) -> Result<Vec<Request>, AllocError>
         ensures found { IfOk result (λ v. v.items ≡ map (λ w. w.0) (readers tuple.now self.old)) }
         ensures left { OnOk result (self.new ≡ without_readers tuple.now self.old) }
         ensures err { OnErr result (self.new ≡ self.old) }
     {
         let found = self.readers(alloc, tuple)?;
-        for (client, ticket) in &found {
-            self.remove(*client, *ticket);
+        for request in &found {
+            self.remove(*request);
         }
         Ok(found)
     }
 
-    // The client and the ticket of each read that the tuple answers, in order of arrival.
-    fn readers(&self, alloc: Global, tuple: &Tuple) -> Result<Vec<(u32, u64)>, AllocError>
+    // The reads that the tuple answers, in order of arrival.
+    fn readers(&self, alloc: Global, tuple: &Tuple) -> Result<Vec<Request>, AllocError>
         ensures found { IfOk result (λ v. v.items ≡ map (λ w. w.0) (readers tuple.now self.now)) }
         ensures distinct { AreDistinct self.now }
     {
@@ -168,10 +165,9 @@ impl Waits {
         }
     }
 
-    /// The client and the ticket of the input that has waited longest of those that the tuple
-    /// answers. It looks at those alone that ask for its tag and its number of fields, and takes no
-    /// memory.
-    pub fn longest(&self, tuple: &Tuple) -> Option<(u32, u64)>
+    /// The input that has waited longest of those that the tuple answers. It looks at those alone that
+    /// ask for its tag and its number of fields, and takes no memory.
+    pub fn longest(&self, tuple: &Tuple) -> Option<Request>
         ensures { result ≡ option_map (λ w. w.0) (longest tuple.now self.now) }
     {
         match alike(&self.index.heads, tuple) {

@@ -9,17 +9,17 @@ ghost use Rattle.linda_hold.specs.Waits.{is_awaited, longest, readers};
 ghost use Rattle.linda_hold.specs.Index.{waits_at};
 
 use crate::heads::Wait;
+use crate::request::Request;
 use linda_tuple::{Tuple, matches};
 use std::alloc::{AllocError, Global};
 use std::collections::{BTreeMap, BTreeSet};
 
-/// The client and the ticket of the first input under these numbers that the tuple answers. Takes no
-/// memory.
+/// The first input under these numbers that the tuple answers. Takes no memory.
 pub(crate) fn first_input(
     by_arrival: &BTreeMap<u64, Wait>,
     numbers: &BTreeSet<u64>,
     tuple: &Tuple,
-) -> Option<(u32, u64)>
+) -> Option<Request>
     ensures first { result ≡ option_map (λ w. w.0)
         (longest tuple.now (waits_at (tree.get nat_cmp by_arrival.now) numbers.now.keys)) }
     ensures ordered { set.IsOrdered nat_cmp numbers.now }
@@ -54,8 +54,7 @@ pub(crate) fn is_answering_one(
     false
 }
 
-/// The client and the ticket of each read under these numbers that the tuple answers, in their
-/// order.
+/// The reads under these numbers that the tuple answers, in their order.
 ///
 /// # Errors
 ///
@@ -65,7 +64,7 @@ pub(crate) fn reads_among(
     by_arrival: &BTreeMap<u64, Wait>,
     numbers: &BTreeSet<u64>,
     tuple: &Tuple,
-) -> Result<Vec<(u32, u64)>, AllocError>
+) -> Result<Vec<Request>, AllocError>
     ensures reads { IfOk result (λ v. v.items ≡ map (λ w. w.0)
         (readers tuple.now (waits_at (tree.get nat_cmp by_arrival.now) numbers.now.keys))) }
     ensures ordered { set.IsOrdered nat_cmp numbers.now }

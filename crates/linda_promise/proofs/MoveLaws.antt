@@ -9,7 +9,9 @@ use Rattle.linda_tuple.specs.Template.{Template}
 use Rattle.linda_tuple.specs.Testing.{is_match}
 use Rattle.linda_tuple.proofs.Deciding.{is_match_decides}
 use Rattle.linda_bag.specs.FreeMatch.{IsFreeMatch}
-use Rattle.linda_hold.specs.Waits.{Wait, is_waiting, without, without_client, same_pair}
+use Rattle.linda_hold.specs.declared.request.Request.{Request}
+use Rattle.linda_hold.specs.Request.{request_of}
+use Rattle.linda_hold.specs.Waits.{Wait, is_waiting, without, without_client}
 use Rattle.linda_hold.specs.Holds.{IsHeldAt, held_in}
 use Rattle.linda_wire.specs.declared.limits.TheConstants.{MAX_ASKS, VERSION}
 use Rattle.linda_wire.specs.declared.message.Message.{Message}
@@ -42,7 +44,7 @@ use Rattle.linda_promise.specs.Replies.{reports_deed, KeepsReply}
 
 -- Nothing more is held, and nobody else waits.
 pub record IsLess (old new : Soft) : Type 0 where
-  pub holds : (id : ℕ) (pair : ℕ × ℕ) → get new.holds id ≡ Some pair → get old.holds id ≡ Some pair
+  pub holds : (id : ℕ) (request : Request) → get new.holds id ≡ Some request → get old.holds id ≡ Some request
   pub waits : All (Contains old.waits) new.waits
 
 -- The moves: something is given up; a reply that is no offer, of which so much is known; a tuple of the bag is
@@ -52,8 +54,8 @@ pub data Move (Known : ℕ → Reply → Type 0) (bag : Bagged) (x : Coming) : S
   gives_up : (old new : Soft) → IsLess old new → Move Known bag x old (no_sends new)
   tells : (old : Soft) (c : ℕ) (r : Reply) → is_offer r ≡ false → Known c r → Move Known bag x old (only_sent ((c, r) ∷ []) old)
   dispatches : (old : Soft) (id : ℕ) (tuple : Tuple) → get bag id ≡ Some tuple → Move Known bag x old (dispatch id tuple old)
-  repeats : (old : Soft) (id : ℕ) (pair : ℕ × ℕ) → get old.holds id ≡ Some pair → Move Known bag x old (only_sent (offer_of bag id pair) old)
-  reads : (old : Soft) (id : ℕ) (pair : ℕ × ℕ) → Move Known bag x old (only_sent (read_of bag id pair) old)
+  repeats : (old : Soft) (id : ℕ) (request : Request) → get old.holds id ≡ Some request → Move Known bag x old (only_sent (offer_of bag id request) old)
+  reads : (old : Soft) (id : ℕ) (request : Request) → Move Known bag x old (only_sent (read_of bag id request) old)
   offers : (old : Soft) (id : ℕ) (w : Wait) (tuple : Tuple) → IsAskOf x w → w.1.remove ≡ true → get bag id ≡ Some tuple → is_match w.1.template tuple ≡ true
       → Move Known bag x old (record { sends = offer_of bag id w.0; soft = record { holds = insert old.holds id w.0; waits = old.waits } })
   waits : (old : Soft) (w : Wait) → IsAskOf x w → Move Known bag x old (no_sends (record { holds = old.holds; waits = old.waits ++ w ∷ [] }))
@@ -62,10 +64,10 @@ pub data Move (Known : ℕ → Reply → Type 0) (bag : Bagged) (x : Coming) : S
 
 module _ (Known : ℕ → Reply → Type 0) (bag : Bagged) (x : Coming) where
   stays : (old : Soft) → Move Known bag x old (no_sends old)
-  stays old = gives_up old old (record { holds = λ id pair h. h; waits = All-contains_itself old.waits })
+  stays old = gives_up old old (record { holds = λ id request h. h; waits = All-contains_itself old.waits })
 
   fewer : (p : Wait → Bool) (old : Soft) → Move Known bag x old (no_sends (record { holds = old.holds; waits = Rattle.std.specs.List.filter p old.waits }))
-  fewer p old = gives_up old _ (record { holds = λ id pair h. h; waits = All-filter p (Contains old.waits) old.waits (All-contains_itself old.waits) })
+  fewer p old = gives_up old _ (record { holds = λ id request h. h; waits = All-filter p (Contains old.waits) old.waits (All-contains_itself old.waits) })
 
   either : (old : Soft) (b : Bool) (first other : Sends) → Move Known bag x old first → Move Known bag x old other → Move Known bag x old (cond b first other)
   either old true first other h k = h
@@ -98,26 +100,26 @@ module _ (Known : ℕ → Reply → Type 0) (bag : Bagged) (x : Coming) where
       goes_on old (no_sends mid) (release_all bag (held_in client (entries old.holds)) mid) (fewer _ old) (all_released mid (held_in client (entries old.holds)))
 
   -- A request that is given up.
-  cancel_move : (pair : ℕ × ℕ) (held : Option ℕ) (old : Soft) → Move Known bag x old (on_cancel bag pair held old)
-  cancel_move pair held old = either old (is_waiting pair old.waits) _ (release_if bag held old) (fewer _ old) (released_if old held)
+  cancel_move : (request : Request) (held : Option ℕ) (old : Soft) → Move Known bag x old (on_cancel bag request held old)
+  cancel_move request held old = either old (is_waiting request old.waits) _ (release_if bag held old) (fewer _ old) (released_if old held)
 
   -- ---- what is asked
 
-  module _ (c ticket : ℕ) (remove : Bool) (shape : Template) (x_is : IsAskOf x (wait_of (c, ticket) remove shape)) (known : Known c (refused (refusals.TooManyAsks ticket))) (old : Soft) where
-    found : (b : Bool) → remove ≡ b → (id : ℕ) → IsFreeMatch bag shape (passed_over b old.holds) id → Move Known bag x old (serve bag (c, ticket) b shape (Some id) old)
+  module _ (c ticket : ℕ) (remove : Bool) (shape : Template) (x_is : IsAskOf x (wait_of (request_of c ticket) remove shape)) (known : Known c (refused (refusals.TooManyAsks ticket))) (old : Soft) where
+    found : (b : Bool) → remove ≡ b → (id : ℕ) → IsFreeMatch bag shape (passed_over b old.holds) id → Move Known bag x old (serve bag (request_of c ticket) b shape (Some id) old)
     found true is id free =
-        offers old id (wait_of (c, ticket) remove shape) free.row x_is is free.stored ((is_match_decides shape free.row).1 free.matches)
-    found false is id free = reads old id (c, ticket)
+        offers old id (wait_of (request_of c ticket) remove shape) free.row x_is is free.stored ((is_match_decides shape free.row).1 free.matches)
+    found false is id free = reads old id (request_of c ticket)
 
-    serve_move : (least : Option ℕ) → IsLeast bag shape (passed_over remove old.holds) least → Move Known bag x old (serve bag (c, ticket) remove shape least old)
-    serve_move None is = waits old (wait_of (c, ticket) remove shape) x_is
+    serve_move : (least : Option ℕ) → IsLeast bag shape (passed_over remove old.holds) least → Move Known bag x old (serve bag (request_of c ticket) remove shape least old)
+    serve_move None is = waits old (wait_of (request_of c ticket) remove shape) x_is
     serve_move (Some id) is = found remove refl id is.0
 
-    ask_move : (held least : Option ℕ) → IsHeldAt old.holds (c, ticket) held → IsLeast bag shape (passed_over remove old.holds) least → Move Known bag x old (on_ask bag (c, ticket) remove shape held least old)
-    ask_move (Some id) least is_held is_least = repeats old id (c, ticket) is_held
+    ask_move : (held least : Option ℕ) → IsHeldAt old.holds (request_of c ticket) held → IsLeast bag shape (passed_over remove old.holds) least → Move Known bag x old (on_ask bag (request_of c ticket) remove shape held least old)
+    ask_move (Some id) least is_held is_least = repeats old id (request_of c ticket) is_held
     ask_move None least is_held is_least =
-        either old (is_waiting (c, ticket) old.waits) (no_sends old) _ (stays old)
-        (either old (nat_le MAX_ASKS (open_asks c old)) _ (serve bag (c, ticket) remove shape least old) (tells old c (refused (refusals.TooManyAsks ticket)) refl known) (serve_move least is_least))
+        either old (is_waiting (request_of c ticket) old.waits) (no_sends old) _ (stays old)
+        (either old (nat_le MAX_ASKS (open_asks c old)) _ (serve bag (request_of c ticket) remove shape least old) (tells old c (refused (refusals.TooManyAsks ticket)) refl known) (serve_move least is_least))
 
 -- ---- what is told without a deed
 
@@ -226,7 +228,7 @@ module _ (st new : State) (c : ℕ) (old : Soft) (is : IsState st) where
 
   accept_move : (n ticket id : ℕ) (o : Option Reply) → accept_without_deed st c n ≡ o → IsStep st old c (messages.Accept n ticket id) (on_accept st c n ticket id o old) new → MoveOf (messages.Accept n ticket id) (on_accept st c n ticket id o old)
   accept_move n ticket id (Some r) e step = undone_move (messages.Accept n ticket id) n _ r e step.state_is
-  accept_move n ticket id None e step = taken_move n ticket id (held_tuple st (c, ticket) id old) step
+  accept_move n ticket id None e step = taken_move n ticket id (held_tuple st (request_of c ticket) id old) step
 
   -- what is told without a deed is told over the old bag, which is the new one
   told_move : (m : Message) (answered : Answer) (told : Sends) → answered ≡ only_sends told → IsAfter st (option_to_list answered.deed) new
@@ -247,11 +249,11 @@ module _ (st new : State) (c : ℕ) (old : Soft) (is : IsState st) where
       subst (MoveOf (messages.Accept n ticket id)) (sym step.answer)
       (accept_move n ticket id (accept_without_deed st c n) refl (subst (λ (a : Answer). IsStep st old c (messages.Accept n ticket id) a new) step.answer step))
   step_move (messages.Ask ticket remove shape) answered step =
-      let told : AnswersAsk st.bag (c, ticket) remove shape old step.answer.0 = step.answer.1.0 in
+      let told : AnswersAsk st.bag (request_of c ticket) remove shape old step.answer.0 = step.answer.1.0 in
       told_move _ answered step.answer.0 step.answer.1.1 step.state_is
       (subst (Move (KnownIn new) st.bag (says c (messages.Ask ticket remove shape)) old) (sym told.told_is)
       (ask_move (KnownIn new) st.bag _ c ticket remove shape refl (plain_known (refused (refusals.TooManyAsks ticket)) (refl, refl)) old told.held told.least told.is_held told.is_least))
   step_move (messages.Cancel ticket) answered step =
-      let told : AnswersCancel st.bag (c, ticket) old step.answer.0 = step.answer.1.0 in
+      let told : AnswersCancel st.bag (request_of c ticket) old step.answer.0 = step.answer.1.0 in
       told_move _ answered step.answer.0 step.answer.1.1 step.state_is
-      (subst (Move (KnownIn new) st.bag (says c (messages.Cancel ticket)) old) (sym told.told_is) (cancel_move (KnownIn new) st.bag _ (c, ticket) told.held old))
+      (subst (Move (KnownIn new) st.bag (says c (messages.Cancel ticket)) old) (sym told.told_is) (cancel_move (KnownIn new) st.bag _ (request_of c ticket) told.held old))

@@ -35,9 +35,9 @@ module _ (st : State) (bag : Bagged) (x : Coming) where
   backed _ _ (dispatches old id tuple there) =
       All-append IsBacked (map (read_to id tuple) (readers tuple old.waits)) (map (offer_to id tuple) (option_to_list (longest tuple old.waits)))
       (silent (read_to id tuple) (readers tuple old.waits) (λ w. refl)) (silent (offer_to id tuple) (option_to_list (longest tuple old.waits)) (λ w. refl))
-  backed _ _ (repeats old id pair held) = silent (λ (tuple : Tuple). (pair.0, replies.Offer pair.1 id tuple)) (option_to_list (get bag id)) (λ tuple. refl)
-  backed _ _ (reads old id pair) = silent (λ (tuple : Tuple). (pair.0, replies.Read pair.1 id tuple)) (option_to_list (get bag id)) (λ tuple. refl)
-  backed _ _ (offers old id w tuple asked removes there fits) = silent (λ (row : Tuple). (w.0.0, replies.Offer w.0.1 id row)) (option_to_list (get bag id)) (λ row. refl)
+  backed _ _ (repeats old id request held) = silent (λ (tuple : Tuple). (request.client, replies.Offer request.ticket id tuple)) (option_to_list (get bag id)) (λ tuple. refl)
+  backed _ _ (reads old id request) = silent (λ (tuple : Tuple). (request.client, replies.Read request.ticket id tuple)) (option_to_list (get bag id)) (λ tuple. refl)
+  backed _ _ (offers old id w tuple asked removes there fits) = silent (λ (row : Tuple). (w.0.client, replies.Offer w.0.ticket id row)) (option_to_list (get bag id)) (λ row. refl)
   backed _ _ (waits old w asked) = All-nil IsBacked
   backed _ _ (goes_on old first later a b) = All-append IsBacked first.sends later.sends (backed old first a) (backed first.soft later b)
 

@@ -5,6 +5,7 @@ use Rattle.std.proofs.lemmas.Option.{none-some, same_Some}
 use Rattle.std.specs.FinMap.{get, remove}
 use Rattle.linda_bag.proofs.Maps.{get_removed_same}
 use Rattle.linda_tuple.specs.Tuple.{Tuple}
+use Rattle.linda_hold.specs.Request.{request_of}
 use Rattle.linda_wire.specs.declared.message.Message.{Message}
 use Rattle.linda_wire.specs.declared.message.Message.TheVariants as messages
 use Rattle.linda_wire.specs.declared.reply.Reply.{Reply}
@@ -19,7 +20,7 @@ use Rattle.linda_state.specs.Deed.{client_of, number_of}
 use Rattle.linda_state.specs.State.{State, IsState}
 use Rattle.linda_step.specs.Soft.{Soft}
 use Rattle.linda_step.specs.Answer.{Answer, last_number, is_one_too_many, class_in, without_deed, on_out, out_without_deed, on_accept, accept_without_deed, take_or_pass, held_tuple, is_for, IsStep}
-use Rattle.linda_step.proofs.ApartLaws.{same_pair_yes}
+use Rattle.linda_step.proofs.ApartLaws.{same_request_yes}
 use Rattle.linda_step.proofs.NumberLaws.{allowed_out, allowed_pass}
 use Rattle.linda_promise.specs.Steps.{HoldsWhatIsThere, DoesAsAsked, comes_next, deed_behind, number_of_message, reported_deed}
 
@@ -38,23 +39,23 @@ module _ (st : State) (c : ℕ) (old : Soft) where
       record { client = ap client_of (sym same); number = ap (λ x. Some (number_of x)) same; let_go = tt }
 
   -- what is held and there could be taken
-  not_held : (ticket id : ℕ) → HoldsWhatIsThere st old → held_tuple st (c, ticket) id old ≡ None → get old.holds id ≢ Some (c, ticket)
+  not_held : (ticket id : ℕ) → HoldsWhatIsThere st old → held_tuple st (request_of c ticket) id old ≡ None → get old.holds id ≢ Some (request_of c ticket)
   not_held ticket id there none held =
-      let own : is_for (c, ticket) (get old.holds id) ≡ true = ap (is_for (c, ticket)) held ∙ same_pair_yes (c, ticket) (c, ticket) refl in
-      let missing : get st.bag id ≡ None = sym (cond-true (is_for (c, ticket) (get old.holds id)) (get st.bag id) None own) ∙ none in
+      let own : is_for (request_of c ticket) (get old.holds id) ≡ true = ap (is_for (request_of c ticket)) held ∙ same_request_yes (request_of c ticket) (request_of c ticket) refl in
+      let missing : get st.bag id ≡ None = sym (cond-true (is_for (request_of c ticket) (get old.holds id)) (get st.bag id) None own) ∙ none in
       true≢false (sym (there id (ap is_some held)) ∙ ap is_some missing)
 
-  taken_asked : (n ticket id : ℕ) (o : Option Tuple) → HoldsWhatIsThere st old → held_tuple st (c, ticket) id old ≡ o → IsAsked (messages.Accept n ticket id) (take_or_pass c n id o old)
+  taken_asked : (n ticket id : ℕ) (o : Option Tuple) → HoldsWhatIsThere st old → held_tuple st (request_of c ticket) id old ≡ o → IsAsked (messages.Accept n ticket id) (take_or_pass c n id o old)
   taken_asked n ticket id (Some tuple) there held d is =
       let same = same_Some (deeds.Take c n id) d is in
-      record { client = ap client_of (sym same); number = ap (λ x. Some (number_of x)) same; let_go = λ h. none-some (c, ticket) (sym (get_removed_same old.holds id) ∙ h) }
+      record { client = ap client_of (sym same); number = ap (λ x. Some (number_of x)) same; let_go = λ h. none-some (request_of c ticket) (sym (get_removed_same old.holds id) ∙ h) }
   taken_asked n ticket id None there held d is =
       let same = same_Some (deeds.Pass c n id) d is in
       record { client = ap client_of (sym same); number = ap (λ x. Some (number_of x)) same; let_go = not_held ticket id there held }
 
   accept_asked : (n ticket id : ℕ) (o : Option Reply) → HoldsWhatIsThere st old → IsAsked (messages.Accept n ticket id) (on_accept st c n ticket id o old)
   accept_asked n ticket id (Some r) there d is = absurd (none-some d is)
-  accept_asked n ticket id None there d is = taken_asked n ticket id (held_tuple st (c, ticket) id old) there refl d is
+  accept_asked n ticket id None there d is = taken_asked n ticket id (held_tuple st (request_of c ticket) id old) there refl d is
 
   asked : (new : State) (m : Message) (answered : Answer) → HoldsWhatIsThere st old → IsStep st old c m answered new → IsAsked m answered
   asked new (messages.Hello version client fresh) answered there step = not_done _ answered _ step.answer refl
@@ -121,7 +122,7 @@ module _ (st : State) (c : ℕ) (old : Soft) (is : IsState st) where
   accept_told : (n ticket id : ℕ) (o : Option Reply) → accept_without_deed st c n ≡ o → IsReported (messages.Accept n ticket id) (on_accept st c n ticket id o old)
   accept_told n ticket id (Some r) e =
       untold (messages.Accept n ticket id) n ((c, r) ∷ []) (λ next. ap (λ s. deed_behind c (messages.Accept n ticket id) ((c, s) ∷ [])) (refused_next st c n _ r next e).is)
-  accept_told n ticket id None e = taken_told n ticket id (held_tuple st (c, ticket) id old) (allowed_pass st c n is id e).number
+  accept_told n ticket id None e = taken_told n ticket id (held_tuple st (request_of c ticket) id old) (allowed_pass st c n is id e).number
 
   reported : (new : State) (m : Message) (answered : Answer) → IsStep st old c m answered new → IsReported m answered
   reported new (messages.Hello version client fresh) answered step = ap (λ (a : Answer). a.deed) step.answer

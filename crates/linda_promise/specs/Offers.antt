@@ -3,6 +3,7 @@ use Rattle.std.specs.Prelude.{◌≡◌, ℕ, true, false, Bool, List, ◌⊎◌
 use Rattle.std.specs.FinMap as map
 use Rattle.linda_tuple.specs.Tuple.{Tuple}
 use Rattle.linda_tuple.specs.Testing.{is_match}
+use Rattle.linda_hold.specs.declared.request.Request.{Request}
 use Rattle.linda_hold.specs.Waits.{Wait}
 use Rattle.linda_wire.specs.declared.message.Message.TheVariants as messages
 use Rattle.linda_wire.specs.declared.reply.Reply.{Reply}
@@ -12,43 +13,44 @@ use Rattle.linda_step.specs.History.{Coming, says}
 
 -- what comes is the Ask of this request
 abbrev pub IsAskOf : Coming → Wait → Type 0
-IsAskOf x w = x ≡ says w.0.0 (messages.Ask w.0.1 w.1.remove w.1.template)
+IsAskOf x w = x ≡ says w.0.client (messages.Ask w.0.ticket w.1.remove w.1.template)
 
 -- The request waits, or it is asked now.
 abbrev pub Seeks : Soft → Coming → Wait → Type 0
 Seeks soft x w = Contains soft.waits w ⊎ IsAskOf x w
 
--- An input of this client and ticket seeks a tuple like this one.
-pub record HasTaker (soft : Soft) (x : Coming) (pair : ℕ × ℕ) (tuple : Tuple) : Type 0 where
+-- The request is an input that seeks a tuple like this one.
+pub record HasTaker (soft : Soft) (x : Coming) (request : Request) (tuple : Tuple) : Type 0 where
   pub wait : Wait
   pub seeks : Seeks soft x wait
-  pub pair_is : wait.0 ≡ pair
+  pub request_is : wait.0 ≡ request
   pub removes : wait.1.remove ≡ true
   pub matches : is_match wait.1.template tuple ≡ true
 
--- The tuple of this id is in the bag, is offered now to this client and ticket, and has a taker in them.
+-- The tuple of this id is in the bag, is offered now for this request, and has a taker in it.
 pub record MakesOffer (bag : Bagged) (soft : Soft) (x : Coming) (sends : List (ℕ × Reply)) (id : ℕ)
-    (pair : ℕ × ℕ) : Type 0 where
+    (request : Request) : Type 0 where
   pub tuple : Tuple
   pub there : map.get bag id ≡ Some tuple
-  pub sent : Contains sends (pair.0, replies.Offer pair.1 id tuple)
-  pub taker : HasTaker soft x pair tuple
+  pub sent : Contains sends (request.client, replies.Offer request.ticket id tuple)
+  pub taker : HasTaker soft x request tuple
 
--- an offer that is made again: the tuple was held for this client and ticket before
-abbrev pub OffersAgain : Bagged → Soft → ℕ → ℕ × ℕ → Tuple → Type 0
-OffersAgain bag old id pair tuple = (map.get old.holds id ≡ Some pair) × (map.get bag id ≡ Some tuple)
+-- an offer that is made again: the tuple was held for this request before
+abbrev pub OffersAgain : Bagged → Soft → ℕ → Request → Tuple → Type 0
+OffersAgain bag old id request tuple = (map.get old.holds id ≡ Some request) × (map.get bag id ≡ Some tuple)
 
 -- From the old holds and waits to the new ones by what is sent: what is held was held so, or is offered now; what waits
 -- waited, or asks now; and each offer is one that is made again, or has a taker.
 pub record OffersWhatIsSought (bag : Bagged) (x : Coming) (old : Soft) (sends : List (ℕ × Reply))
     (new : Soft) : Type 0 where
   pub holds :
-      (id : ℕ) (pair : ℕ × ℕ) → map.get new.holds id ≡ Some pair
-      → (map.get old.holds id ≡ Some pair) ⊎ MakesOffer bag old x sends id pair
+      (id : ℕ) (request : Request) → map.get new.holds id ≡ Some request
+      → (map.get old.holds id ≡ Some request) ⊎ MakesOffer bag old x sends id request
   pub waits : (w : Wait) → Contains new.waits w → Seeks old x w
   pub offers :
-      (pair : ℕ × ℕ) (id : ℕ) (tuple : Tuple) → Contains sends (pair.0, replies.Offer pair.1 id tuple)
-      → OffersAgain bag old id pair tuple ⊎ HasTaker old x pair tuple
+      (request : Request) (id : ℕ) (tuple : Tuple)
+      → Contains sends (request.client, replies.Offer request.ticket id tuple)
+      → OffersAgain bag old id request tuple ⊎ HasTaker old x request tuple
 
 -- whether the reply is an offer
 abbrev pub is_offer : Reply → Bool

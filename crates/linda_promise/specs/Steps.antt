@@ -2,6 +2,7 @@
 use Rattle.std.specs.Prelude.{◌≡◌, ◌≢◌, ℕ, ◌+◌, ◌==◌, Bool, false, if◌then◌else◌}
 use Rattle.std.specs.Prelude.{List, [], ◌∷◌, Option, Some, None, IsSome}
 use Rattle.std.specs.FinMap as map
+use Rattle.linda_hold.specs.Request.{request_of}
 use Rattle.linda_wire.specs.declared.message.Message.{Message}
 use Rattle.linda_wire.specs.declared.message.Message.TheVariants as messages
 use Rattle.linda_wire.specs.declared.reply.Reply.{Reply}
@@ -20,12 +21,12 @@ number_of_message (messages.Ask ticket remove template) = None
 number_of_message (messages.Accept n ticket id) = Some n
 number_of_message (messages.Cancel ticket) = None
 
--- What an Accept names is held no longer for its client and ticket.
+-- What an Accept names is held no longer for its request.
 abbrev pub LetsGo : ℕ → Message → Soft → Type 0
 LetsGo c (messages.Hello version client fresh) soft = Unit {0}
 LetsGo c (messages.Out n tuple) soft = Unit {0}
 LetsGo c (messages.Ask ticket remove template) soft = Unit {0}
-LetsGo c (messages.Accept n ticket id) soft = map.get soft.holds id ≢ Some (c, ticket)
+LetsGo c (messages.Accept n ticket id) soft = map.get soft.holds id ≢ Some (request_of c ticket)
 LetsGo c (messages.Cancel ticket) soft = Unit {0}
 
 -- The deed does what the client's message asks: it is the client's, it bears the message's number, and an offer that

@@ -6,6 +6,8 @@ use Rattle.std.proofs.lemmas.List.Elements.{All-nil, All-cons, All-head, All-tai
 use Rattle.std.specs.FinMap.{get}
 use Rattle.linda_tuple.specs.Tuple.{Tuple}
 use Rattle.linda_tuple.specs.Testing.{is_match}
+use Rattle.linda_hold.specs.declared.request.Request.{Request}
+use Rattle.linda_hold.specs.Request.{request_of}
 use Rattle.linda_hold.specs.Waits.{Wait}
 use Rattle.linda_book.specs.Entries.{number_in}
 use Rattle.linda_wire.specs.declared.message.Message.{Message}
@@ -156,10 +158,10 @@ module _ (laws : OfSteps) (ms : Members) (ps : List Sent) (s : ℕ) (ds es : Lis
   asks_so v (inl waits) = All-contains (IsWaitOf ms) old.soft.waits v waited.waits waits
   asks_so v (inr comes) = subst (IsSpoken ms s) comes spoken
 
-  wanted_suits : (pair : ℕ × ℕ) (row : Tuple) → HasTaker old.soft x pair row → OfMember ms pair.0 (OfTicket pair.1 (Suits row))
-  wanted_suits pair row wanted =
+  wanted_suits : (request : Request) (row : Tuple) → HasTaker old.soft x request row → OfMember ms request.client (OfTicket request.ticket (Suits row))
+  wanted_suits request row wanted =
       let is = asks_so wanted.wait wanted.seeks in
-      subst (λ (p : ℕ × ℕ). OfMember ms p.0 (OfTicket p.1 (Suits row))) wanted.pair_is (record {
+      subst (λ (p : Request). OfMember ms p.client (OfTicket p.ticket (Suits row))) wanted.request_is (record {
         member = is.member;
         known = is.known;
         holds = record {
@@ -170,28 +172,28 @@ module _ (laws : OfSteps) (ms : Members) (ps : List Sent) (s : ℕ) (ds es : Lis
         };
       })
 
-  held_suits : (id : ℕ) (pair : ℕ × ℕ) (row : Tuple) → get old.soft.holds id ≡ Some pair → get new.state.bag id ≡ Some row → OfMember ms pair.0 (OfTicket pair.1 (Suits row))
-  held_suits id pair row held there = by (get old.state.bag id) refl
+  held_suits : (id : ℕ) (request : Request) (row : Tuple) → get old.soft.holds id ≡ Some request → get new.state.bag id ≡ Some row → OfMember ms request.client (OfTicket request.ticket (Suits row))
+  held_suits id request row held there = by (get old.state.bag id) refl
     where
-      by : (o : Option Tuple) → get old.state.bag id ≡ o → OfMember ms pair.0 (OfTicket pair.1 (Suits row))
+      by : (o : Option Tuple) → get old.state.bag id ≡ o → OfMember ms request.client (OfTicket request.ticket (Suits row))
       by None e = absurd (true≢false (sym (orderly.soft_is.there id (ap is_some held)) ∙ ap is_some e))
       by (Some was) e =
           let same = same_tuple old.state new.state (option_to_list one.deed) id was row orderly.state_is (after_by x (record { deed = one.deed; sends = sends; soft = new.soft }) new.state one.comes) e there in
-          subst (λ t. OfMember ms pair.0 (OfTicket pair.1 (Suits t))) same (waited.fits id pair was held e)
+          subst (λ t. OfMember ms request.client (OfTicket request.ticket (Suits t))) same (waited.fits id request was held e)
 
-  fits_then : (id : ℕ) (pair : ℕ × ℕ) (row : Tuple) → get new.soft.holds id ≡ Some pair → get new.state.bag id ≡ Some row → OfMember ms pair.0 (OfTicket pair.1 (Suits row))
-  fits_then id pair row held there = by (spreads.holds id pair held)
+  fits_then : (id : ℕ) (request : Request) (row : Tuple) → get new.soft.holds id ≡ Some request → get new.state.bag id ≡ Some row → OfMember ms request.client (OfTicket request.ticket (Suits row))
+  fits_then id request row held there = by (spreads.holds id request held)
     where
-      by : (get old.soft.holds id ≡ Some pair) ⊎ MakesOffer new.state.bag old.soft x sends id pair → OfMember ms pair.0 (OfTicket pair.1 (Suits row))
-      by (inl was) = held_suits id pair row was there
-      by (inr offered) = subst (λ t. OfMember ms pair.0 (OfTicket pair.1 (Suits t))) (same_Some offered.tuple row (sym offered.there ∙ there)) (wanted_suits pair offered.tuple offered.taker)
+      by : (get old.soft.holds id ≡ Some request) ⊎ MakesOffer new.state.bag old.soft x sends id request → OfMember ms request.client (OfTicket request.ticket (Suits row))
+      by (inl was) = held_suits id request row was there
+      by (inr offered) = subst (λ t. OfMember ms request.client (OfTicket request.ticket (Suits t))) (same_Some offered.tuple row (sym offered.there ∙ there)) (wanted_suits request offered.tuple offered.taker)
 
-  offer_suits : (pair : ℕ × ℕ) (id : ℕ) (row : Tuple) → Contains sends (pair.0, replies.Offer pair.1 id row) → OfMember ms pair.0 (OfTicket pair.1 (Suits row))
-  offer_suits pair id row there = by (spreads.offers pair id row there)
+  offer_suits : (request : Request) (id : ℕ) (row : Tuple) → Contains sends (request.client, replies.Offer request.ticket id row) → OfMember ms request.client (OfTicket request.ticket (Suits row))
+  offer_suits request id row there = by (spreads.offers request id row there)
     where
-      by : ((get old.soft.holds id ≡ Some pair) × (get new.state.bag id ≡ Some row)) ⊎ HasTaker old.soft x pair row → OfMember ms pair.0 (OfTicket pair.1 (Suits row))
-      by (inl held) = held_suits id pair row held.0 held.1
-      by (inr wanted) = wanted_suits pair row wanted
+      by : ((get old.soft.holds id ≡ Some request) × (get new.state.bag id ≡ Some row)) ⊎ HasTaker old.soft x request row → OfMember ms request.client (OfTicket request.ticket (Suits row))
+      by (inl held) = held_suits id request row held.0 held.1
+      by (inr wanted) = wanted_suits request row wanted
 
   -- What is sent offers only what suits.
   pub sends_suit : All (λ (r : ℕ × Reply). IsReplied ms r.0 r.1) sends
@@ -200,7 +202,7 @@ module _ (laws : OfSteps) (ms : Members) (ps : List Sent) (s : ℕ) (ds es : Lis
       by : (c : ℕ) (r : Reply) → Contains sends (c, r) → IsReplied ms c r
       by c (replies.Welcome last) there = tt
       by c (replies.Stored n id) there = tt
-      by c (replies.Offer k id row) there = offer_suits (c, k) id row there
+      by c (replies.Offer k id row) there = offer_suits (request_of c k) id row there
       by c (replies.Read k id row) there = tt
       by c (replies.Taken n id row) there = tt
       by c (replies.Gone n) there = tt
@@ -213,7 +215,7 @@ module _ (laws : OfSteps) (ms : Members) (ps : List Sent) (s : ℕ) (ds es : Lis
   -- An accepted offer that is not done is not done now, if its tuple is held still.
   module _ (sound : IsSound ds old) (then : IsSound (ds ++ es) new) where
     not_done : (c k id : ℕ) (a : Accepted) (member : Member) → get ms c ≡ Some member → unanswered member.client.task ≡ Some (s, messages.Accept a.n k id)
-        → get new.soft.holds id ≡ Some (c, k) → last_number ds c < a.n → last_number (ds ++ es) c < a.n
+        → get new.soft.holds id ≡ Some (request_of c k) → last_number ds c < a.n → last_number (ds ++ es) c < a.n
     not_done c k id a member known awaits held low = by x refl one.deed refl
       where
         none : es ≡ [] → last_number (ds ++ es) c < a.n
@@ -227,7 +229,7 @@ module _ (laws : OfSteps) (ms : Members) (ps : List Sent) (s : ℕ) (ds es : Lis
             let waits : unanswered is.member.client.task ≡ Some (s, messages.Accept a.n k id) = ap (λ (m : Member). unanswered m.client.task) member_is ∙ awaits in
             let m_is : messages.Accept a.n k id ≡ m =
             from_some (λ (p : Packet). p.0 ≡ s → sent.number_of p.1 ≡ Some (number_of d) → p.1 ≡ m) (unanswered is.member.client.task) (s, messages.Accept a.n k id) waits said.own refl (ap (λ n. Some n) same) in
-            subst (λ z. LetsGo y z new.soft) (sym m_is) gone (held ∙ ap (λ z. Some (z, k)) (sym y_is))
+            subst (λ z. LetsGo y z new.soft) (sym m_is) gone (held ∙ ap (λ z. Some (request_of z k)) (sym y_is))
 
         done : (y : ℕ) (m : Message) (d : Deed) → x ≡ says y m → one.deed ≡ Some d → DoesAsAsked y m new.soft d → last_number (ds ++ es) c < a.n
         done y m d x_is e is = subst (λ l. last_number (ds ++ l) c < a.n) (sym es_are) (by_client (client_of d == c) refl)
@@ -260,12 +262,12 @@ module _ (laws : OfSteps) (ms : Members) (ps : List Sent) (s : ℕ) (ds es : Lis
             done y m d x_is e (laws.step_deed old.state new.state y old.soft m (record { deed = one.deed; sends = sends; soft = new.soft }) d orderly.soft_is.there step e)
 
     -- What is held then has a reason, where packets stay and those that are sent are among them.
-    held_then : (news : List Sent) → ((d k : ℕ) → HasCancel ps s d k → HasCancel news s d k) → ((d k id : ℕ) → HasOffer ps s d k id → HasOffer news s d k id)
-        → ((d k id : ℕ) (row : Tuple) → Contains sends (d, replies.Offer k id row) → HasOffer news s d k id)
-        → (id : ℕ) (pair : ℕ × ℕ) → get new.soft.holds id ≡ Some pair → HasReason ms news s (ds ++ es) id pair
-    held_then news cancels offers offered id pair held = by (spreads.holds id pair held)
+    held_then : (news : List Sent) → ((r : Request) → HasCancel ps s r → HasCancel news s r) → ((r : Request) (id : ℕ) → HasOffer ps s r id → HasOffer news s r id)
+        → ((r : Request) (id : ℕ) (row : Tuple) → Contains sends (r.client, replies.Offer r.ticket id row) → HasOffer news s r id)
+        → (id : ℕ) (request : Request) → get new.soft.holds id ≡ Some request → HasReason ms news s (ds ++ es) id request
+    held_then news cancels offers offered id request held = by (spreads.holds id request held)
       where
-        in_hand : OfMember ms pair.0 (HasInHand s (last_number ds pair.0) pair.1 id) → OfMember ms pair.0 (HasInHand s (last_number (ds ++ es) pair.0) pair.1 id)
+        in_hand : OfMember ms request.client (HasInHand s (last_number ds request.client) request.ticket id) → OfMember ms request.client (HasInHand s (last_number (ds ++ es) request.client) request.ticket id)
         in_hand is = record {
           member = is.member;
           known = is.known;
@@ -279,28 +281,28 @@ module _ (laws : OfSteps) (ms : Members) (ps : List Sent) (s : ℕ) (ds es : Lis
           };
         }
           where
-            by_hand : InHand (λ a. last_number ds pair.0 < a.n) is.holds.pending s pair.1 id → InHand (λ a. last_number (ds ++ es) pair.0 < a.n) is.holds.pending s pair.1 id
+            by_hand : InHand (λ a. last_number ds request.client < a.n) is.holds.pending s request.ticket id → InHand (λ a. last_number (ds ++ es) request.client < a.n) is.holds.pending s request.ticket id
             by_hand (inl saved) = inl saved
             by_hand (inr accepted) =
                 let a : Accepted = accepted.0.own in
-                let awaits : unanswered is.member.client.task ≡ Some (s, messages.Accept a.n pair.1 id) =
+                let awaits : unanswered is.member.client.task ≡ Some (s, messages.Accept a.n request.ticket id) =
                 accepted_unanswered is.member.client.task is.holds.pending a is.holds.pending_is accepted.0.there
-                ∙ ap (λ z. Some (z, messages.Accept a.n a.ticket a.id)) accepted.0.server_is ∙ ap (λ z. Some (s, messages.Accept a.n z a.id)) accepted.0.ticket_is ∙ ap (λ z. Some (s, messages.Accept a.n pair.1 z)) accepted.0.id_is in
-                inr (accepted.0, not_done pair.0 pair.1 id a is.member is.known awaits held accepted.1)
+                ∙ ap (λ z. Some (z, messages.Accept a.n a.ticket a.id)) accepted.0.server_is ∙ ap (λ z. Some (s, messages.Accept a.n z a.id)) accepted.0.ticket_is ∙ ap (λ z. Some (s, messages.Accept a.n request.ticket z)) accepted.0.id_is in
+                inr (accepted.0, not_done request.client request.ticket id a is.member is.known awaits held accepted.1)
 
-        by : (get old.soft.holds id ≡ Some pair) ⊎ MakesOffer new.state.bag old.soft x sends id pair → HasReason ms news s (ds ++ es) id pair
-        by (inr offer) = inl (offered pair.0 pair.1 id offer.tuple offer.sent)
-        by (inl was) = elim (waited.held id pair was) [
-          | inl offer ↦ inl (offers pair.0 pair.1 id offer)
+        by : (get old.soft.holds id ≡ Some request) ⊎ MakesOffer new.state.bag old.soft x sends id request → HasReason ms news s (ds ++ es) id request
+        by (inr offer) = inl (offered request id offer.tuple offer.sent)
+        by (inl was) = elim (waited.held id request was) [
+          | inl offer ↦ inl (offers request id offer)
           | inr other ↦ elim other [
-            | inl cancel ↦ inr (inl (cancels pair.0 pair.1 cancel))
+            | inl cancel ↦ inr (inl (cancels request cancel))
             | inr hand ↦ inr (inr (in_hand hand))
           ]
         ]
 
     -- So the server is as it should be.
-    pub waited_then : (news : List Sent) → ((d k : ℕ) → HasCancel ps s d k → HasCancel news s d k) → ((d k id : ℕ) → HasOffer ps s d k id → HasOffer news s d k id)
-        → ((d k id : ℕ) (row : Tuple) → Contains sends (d, replies.Offer k id row) → HasOffer news s d k id)
+    pub waited_then : (news : List Sent) → ((r : Request) → HasCancel ps s r → HasCancel news s r) → ((r : Request) (id : ℕ) → HasOffer ps s r id → HasOffer news s r id)
+        → ((r : Request) (id : ℕ) (row : Tuple) → Contains sends (r.client, replies.Offer r.ticket id row) → HasOffer news s r id)
         → IsWaitedFor ms news s (record { deeds = ds ++ es; node = new })
     waited_then news cancels offers offered = record {
       waits = All-weaker (Contains new.soft.waits) (IsWaitOf ms) (λ v there. asks_so v (spreads.waits v there)) new.soft.waits (All-contains_itself new.soft.waits);

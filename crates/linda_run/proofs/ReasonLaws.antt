@@ -6,6 +6,8 @@ use Rattle.std.proofs.lemmas.List.Elements.{All-nil, All-weaker, All-contains, A
 use Rattle.std.specs.FinMap.{get}
 use Rattle.linda_bag.proofs.Maps.{get_same, get_other, get_empty}
 use Rattle.linda_tuple.specs.Tuple.{Tuple}
+use Rattle.linda_hold.specs.declared.request.Request.{Request}
+use Rattle.linda_hold.specs.Request.{request_of}
 use Rattle.linda_wire.specs.declared.message.Message.TheVariants as messages
 use Rattle.linda_wire.specs.declared.reply.Reply.{Reply}
 use Rattle.linda_wire.specs.declared.reply.Reply.TheVariants as replies
@@ -71,7 +73,7 @@ module _ (of_deeds : OfDeeds) (of_calls : OfCalls) (call : Call) (c : ℕ) (ks :
           (after, (ap (get new.members) same ∙ known_now, subst (λ (x : Member). Rattle.linda_run.proofs.CallLaws.IsLater x.client now) is (later of_calls was call reaction.reaction is_client reaction.answer)))
       by (inr apart) = (m, (others d apart ∙ known, same_later m.client))
 
-  cancel_sent : (s k : ℕ) → Contains reaction.reaction.packets (s, messages.Cancel k) → HasCancel new.packets s c k
+  cancel_sent : (s k : ℕ) → Contains reaction.reaction.packets (s, messages.Cancel k) → HasCancel new.packets s (request_of c k)
   cancel_sent s k there = (false, sent_there (sent_by c) ks w.packets new.packets reaction.reaction.packets reaction.packets (s, messages.Cancel k) there)
 
   -- the same client, by its number
@@ -88,7 +90,7 @@ module _ (of_deeds : OfDeeds) (of_calls : OfCalls) (call : Call) (c : ℕ) (ks :
 
     -- What is in hand at the client then is so in the world.
     in_hand_now : (pending then : Pending) (ask : Ask) → s < servers was → pending_in was.task ≡ Some pending → pending_in now.task ≡ Some then → ask_at pending k ≡ Some ask
-        → InHand (λ a. last < a.n) then s k id → HasReason new.members new.packets s server.deeds id (c, k)
+        → InHand (λ a. last < a.n) then s k id → HasReason new.members new.packets s server.deeds id (request_of c k)
     in_hand_now pending then ask within before pending_now is_open hand = inr (inr (record {
       member = after;
       known = known_now;
@@ -116,7 +118,7 @@ module _ (of_deeds : OfDeeds) (of_calls : OfCalls) (call : Call) (c : ℕ) (ks :
     taken_done n i row e = done_by n (replies.Taken n i row) e refl (λ ds reply proper. (of_deeds.numbered ds proper).low (Take c n i) (of_deeds.told_take ds c n i row reply))
 
     -- what the client had in hand
-    own_hand : HasInHand s last k id was → HasReason new.members new.packets s server.deeds id (c, k)
+    own_hand : HasInHand s last k id was → HasReason new.members new.packets s server.deeds id (request_of c k)
     own_hand h = by (of_calls.in_hand was call reaction.reaction is_client reaction.answer h.pending h.pending_is last s k id h.within h.ask h.is_open h.hand)
       where
         still : (then : Pending) → InHand (λ a. (last < a.n) ⊎ (a.n ≡ next_at was s)) then s k id → InHand (λ a. last < a.n) then s k id
@@ -130,13 +132,13 @@ module _ (of_deeds : OfDeeds) (of_calls : OfCalls) (call : Call) (c : ℕ) (ks :
           | inr taken ↦ (let done = taken_done a.accepted.own.n id taken.0 taken.1 in let low = a.holds in omega (arith, done, low))
         ]
 
-        by : Becomes (λ a. last < a.n) call was h.pending s k id reaction.reaction → HasReason new.members new.packets s server.deeds id (c, k)
+        by : Becomes (λ a. last < a.n) call was h.pending s k id reaction.reaction → HasReason new.members new.packets s server.deeds id (request_of c k)
         by (inl cancelled) = inr (inl (cancel_sent s k cancelled))
         by (inr (inl stays)) = in_hand_now h.pending stays.later h.ask h.within h.pending_is stays.after h.is_open (still stays.later stays.hand)
         by (inr (inr answered)) = absurd (never answered)
 
     -- an Offer that comes now
-    offer_comes : (row : Tuple) → call ≡ Receive s (replies.Offer k id row) → OfTicket k (Suits row) was → HasReason new.members new.packets s server.deeds id (c, k)
+    offer_comes : (row : Tuple) → call ≡ Receive s (replies.Offer k id row) → OfTicket k (Suits row) was → HasReason new.members new.packets s server.deeds id (request_of c k)
     offer_comes row e suits = by_pending (pending_in was.task) refl
       where
         treated : IsTreated was s k id row reaction.reaction
@@ -145,12 +147,12 @@ module _ (of_deeds : OfDeeds) (of_calls : OfCalls) (call : Call) (c : ℕ) (ks :
         within : s < servers was
         within = received_within was s (replies.Offer k id row) reaction.reaction (ap (react was) (sym e) ∙ reaction.answer)
 
-        stray : asked_in (pending_in was.task) k ≡ None → HasReason new.members new.packets s server.deeds id (c, k)
+        stray : asked_in (pending_in was.task) k ≡ None → HasReason new.members new.packets s server.deeds id (request_of c k)
         stray none = inr (inl (cancel_sent s k (subst (λ (r : Reaction). Contains {X = client_packets.Packet} r.packets (s, messages.Cancel k)) (sym (treated.stray none))
             (placed {X = client_packets.Packet} ((s, messages.Cancel k) ∷ []) 0 (s, messages.Cancel k) refl))))
 
         by_accepted : (pending : Pending) (ask : Ask) → pending_in was.task ≡ Some pending → ask_at pending k ≡ Some ask → is_fit ask true row ≡ true → (o : Option Accepted) → pending.accepted ≡ o
-            → HasReason new.members new.packets s server.deeds id (c, k)
+            → HasReason new.members new.packets s server.deeds id (request_of c k)
         by_accepted pending ask before is_open fits (Some own) accepted =
             let then = some_and (λ then. IsSaved then s k id) (pending_in now.task) (treated.saved pending ask before is_open fits (ap is_some accepted)) in
             in_hand_now pending then.0 ask within before then.1.0 is_open (inl then.1.1)
@@ -159,22 +161,22 @@ module _ (of_deeds : OfDeeds) (of_calls : OfCalls) (call : Call) (c : ℕ) (ks :
             in_hand_now pending then.0 ask within before then.1.0 is_open
             (inr (record { own = next_accept was s k id; there = then.1.1; server_is = refl; ticket_is = refl; id_is = refl }, next_undone within))
 
-        by_ask : (pending : Pending) → pending_in was.task ≡ Some pending → (o : Option Ask) → ask_at pending k ≡ o → HasReason new.members new.packets s server.deeds id (c, k)
+        by_ask : (pending : Pending) → pending_in was.task ≡ Some pending → (o : Option Ask) → ask_at pending k ≡ o → HasReason new.members new.packets s server.deeds id (request_of c k)
         by_ask pending before None none = stray (ap (λ o. asked_in o k) before ∙ none)
         by_ask pending before (Some ask) is_open =
             by_accepted pending ask before is_open (suits.asked ask (ap (λ o. asked_in o k) before ∙ is_open)) pending.accepted refl
 
-        by_pending : (o : Option Pending) → pending_in was.task ≡ o → HasReason new.members new.packets s server.deeds id (c, k)
+        by_pending : (o : Option Pending) → pending_in was.task ≡ o → HasReason new.members new.packets s server.deeds id (request_of c k)
         by_pending None none = stray (ap (λ o. asked_in o k) none)
         by_pending (Some pending) before = by_ask pending before (ask_at pending k) refl
 
     -- A reason stays one, whosever it is, or there is another.
-    reason_on : (d : ℕ) → HasReason w.members w.packets s server.deeds id (d, k) → HasReason new.members new.packets s server.deeds id (d, k)
-    reason_on d (inr (inl cancel)) = inr (inl (cancel_there (sent_by c) ks w.packets new.packets reaction.reaction.packets reaction.packets s d k cancel))
+    reason_on : (d : ℕ) → HasReason w.members w.packets s server.deeds id (request_of d k) → HasReason new.members new.packets s server.deeds id (request_of d k)
+    reason_on d (inr (inl cancel)) = inr (inl (cancel_there (sent_by c) ks w.packets new.packets reaction.reaction.packets reaction.packets s (request_of d k) cancel))
     reason_on d (inr (inr hand)) = by (same_or_apart d c)
       where
-        by : (d ≡ c) ⊎ (d ≢ c) → HasReason new.members new.packets s server.deeds id (d, k)
-        by (inl same) = subst (λ x. HasReason new.members new.packets s server.deeds id (x, k)) (sym same)
+        by : (d ≡ c) ⊎ (d ≢ c) → HasReason new.members new.packets s server.deeds id (request_of d k)
+        by (inl same) = subst (λ x. HasReason new.members new.packets s server.deeds id (request_of x k)) (sym same)
             (own_hand (own_member (HasInHand s last k id) (subst (λ x. OfMember w.members x (HasInHand s (last_number server.deeds x) k id)) same hand)))
         by (inr apart) = inr (inr (record { member = hand.member; known = others d apart ∙ hand.known; holds = hand.holds }))
     reason_on d (inl (row, offer)) = by (received_or_same w call c ks called (sent_from s (d, replies.Offer k id row)) (replies.Offer k id row) refl offer)
@@ -182,9 +184,9 @@ module _ (of_deeds : OfDeeds) (of_calls : OfCalls) (call : Call) (c : ℕ) (ks :
         suits : OfMember w.members d (OfTicket k (Suits row))
         suits = All-contains (λ (p : Packet). IsSane w.members p.server p.client p.body) w.packets (sent_from s (d, replies.Offer k id row)) reasons.sane offer
 
-        by : Contains (delivered ks w.packets) (sent_from s (d, replies.Offer k id row)) ⊎ ((d ≡ c) × (call ≡ Receive s (replies.Offer k id row))) → HasReason new.members new.packets s server.deeds id (d, k)
+        by : Contains (delivered ks w.packets) (sent_from s (d, replies.Offer k id row)) ⊎ ((d ≡ c) × (call ≡ Receive s (replies.Offer k id row))) → HasReason new.members new.packets s server.deeds id (request_of d k)
         by (inl same) = inl (row, kept_there (sent_by c) ks w.packets new.packets reaction.reaction.packets reaction.packets (sent_from s (d, replies.Offer k id row)) same)
-        by (inr comes) = subst (λ x. HasReason new.members new.packets s server.deeds id (x, k)) (sym comes.0)
+        by (inr comes) = subst (λ x. HasReason new.members new.packets s server.deeds id (request_of x k)) (sym comes.0)
             (offer_comes row comes.1 (own_member (OfTicket k (Suits row)) (subst (λ x. OfMember w.members x (OfTicket k (Suits row))) comes.0 suits)))
 
   pub reacted_reasons : HasReasons new
@@ -197,7 +199,7 @@ module _ (of_deeds : OfDeeds) (of_calls : OfCalls) (call : Call) (c : ℕ) (ks :
         reaction.reaction.packets (All-contains_itself reaction.reaction.packets));
     servers = λ s server found.
         let there : slice_get w.servers s ≡ Some server = ap (λ l. slice_get l s) (sym reaction.servers) ∙ found in
-        reasoned_on w.members new.members go w.packets new.packets s server (λ id pair is. reason_on s server there pair.1 id pair.0 is) (reasons.servers s server there);
+        reasoned_on w.members new.members go w.packets new.packets s server (λ id request is. reason_on s server there request.ticket id request.client is) (reasons.servers s server there);
   }
 
 -- A client joined.
@@ -207,7 +209,7 @@ joined_reasons c w new reasons joined = record {
       (All-weaker (λ (p : Packet). IsSane w.members p.server p.client p.body) (λ (p : Packet). IsSane new.members p.server p.client p.body)
       (λ p. sane_on w.members new.members go p.server p.client p.body) w.packets reasons.sane);
   servers = λ s server found. subst (λ l. IsReasoned new.members l s server) (sym joined.packets)
-      (reasoned_on w.members new.members go w.packets w.packets s server (λ id pair is. reason_on s server.deeds id pair is) (reasons.servers s server (ap (λ l. slice_get l s) (sym joined.servers) ∙ found)));
+      (reasoned_on w.members new.members go w.packets w.packets s server (λ id request is. reason_on s server.deeds id request is) (reasons.servers s server (ap (λ l. slice_get l s) (sym joined.servers) ∙ found)));
 }
   where
     same : (d : ℕ) (m : Member) → get w.members d ≡ Some m → get new.members d ≡ Some m
@@ -217,10 +219,10 @@ joined_reasons c w new reasons joined = record {
     go : Goes w.members new.members
     go d m known = (m, (same d m known, same_later m.client))
 
-    reason_on : (s : ℕ) (ds : List Deed) (id : ℕ) (pair : ℕ × ℕ) → HasReason w.members w.packets s ds id pair → HasReason new.members w.packets s ds id pair
-    reason_on s ds id pair (inl offer) = inl offer
-    reason_on s ds id pair (inr (inl cancel)) = inr (inl cancel)
-    reason_on s ds id pair (inr (inr hand)) = inr (inr (record { member = hand.member; known = same pair.0 hand.member hand.known; holds = hand.holds }))
+    reason_on : (s : ℕ) (ds : List Deed) (id : ℕ) (request : Request) → HasReason w.members w.packets s ds id request → HasReason new.members w.packets s ds id request
+    reason_on s ds id request (inl offer) = inl offer
+    reason_on s ds id request (inr (inl cancel)) = inr (inl cancel)
+    reason_on s ds id request (inr (inr hand)) = inr (inr (record { member = hand.member; known = same request.client hand.member hand.known; holds = hand.holds }))
 
 -- A world begins with nothing held.
 start_reasons : (w : World) → IsStart w → HasReasons w
@@ -229,8 +231,8 @@ start_reasons w start = record {
   servers = λ s server there. new_reasoned s server (All-contains IsNew w.servers server start.servers (placed w.servers s server there));
 }
   where
-    nothing : (server : Server) → IsNew server → (id : ℕ) (pair : ℕ × ℕ) → get server.node.soft.holds id ≡ Some pair → ⊥
-    nothing server is id pair held = none-some pair (sym (get_empty id) ∙ sym (ap (λ (f : Soft). get f.holds id) is.unused.soft) ∙ held)
+    nothing : (server : Server) → IsNew server → (id : ℕ) (request : Request) → get server.node.soft.holds id ≡ Some request → ⊥
+    nothing server is id request held = none-some request (sym (get_empty id) ∙ sym (ap (λ (f : Soft). get f.holds id) is.unused.soft) ∙ held)
 
     new_reasoned : (s : ℕ) (server : Server) → IsNew server → IsReasoned w.members w.packets s server
     new_reasoned s server is = record {
@@ -238,8 +240,8 @@ start_reasons w start = record {
       lost = λ down. absurd (true≢false (sym down ∙ is.unused.is_up));
       up = λ _. record {
         waits = subst (λ (f : Soft). All (IsWaitOf w.members) f.waits) (sym is.unused.soft) (All-nil (IsWaitOf w.members));
-        fits = λ id pair row held. absurd (nothing server is id pair held);
-        held = λ id pair held. absurd (nothing server is id pair held);
+        fits = λ id request row held. absurd (nothing server is id request held);
+        held = λ id request held. absurd (nothing server is id request held);
       };
     }
 
@@ -256,9 +258,9 @@ module _ (of_sound : OfSound) (of_deeds : OfDeeds) (of_steps : OfSteps) (of_call
 
   -- Each hold is right.
   pub reached_right : (w : World) → IsReached w → AreHeldRightly w
-  reached_right w reached s server id pair there up held = by ((((reached_reasons w reached).servers s server there).up up).held id pair held)
+  reached_right w reached s server id request there up held = by ((((reached_reasons w reached).servers s server there).up up).held id request held)
     where
-      by : HasReason w.members w.packets s server.deeds id pair → IsOpenAt w.members pair.0 pair.1 ⊎ (HasCancel w.packets s pair.0 pair.1 ⊎ HasOffer w.packets s pair.0 pair.1 id)
+      by : HasReason w.members w.packets s server.deeds id request → IsOpenAt w.members request ⊎ (HasCancel w.packets s request ⊎ HasOffer w.packets s request id)
       by (inl offer) = inr (inr offer)
       by (inr (inl cancel)) = inr (inl cancel)
-      by (inr (inr h)) = inl (record { member = h.member; known = h.known; is_open = ap is_some (ap (λ o. asked_in o pair.1) h.holds.pending_is ∙ h.holds.is_open) })
+      by (inr (inr h)) = inl (record { member = h.member; known = h.known; is_open = ap is_some (ap (λ o. asked_in o request.ticket) h.holds.pending_is ∙ h.holds.is_open) })

@@ -7,6 +7,7 @@ use Rattle.std.proofs.lemmas.List.Elements.{All-nil, All-cons, All-append, All-w
 use Rattle.std.specs.FinMap.{get}
 use Rattle.linda_bag.proofs.Maps.{get_empty}
 use Rattle.linda_tuple.specs.Tuple.{Tuple}
+use Rattle.linda_hold.specs.declared.request.Request.{Request}
 use Rattle.linda_wire.specs.declared.message.Message.{Message}
 use Rattle.linda_wire.specs.declared.message.Message.TheVariants as messages
 use Rattle.linda_wire.specs.declared.reply.Reply.{Reply}
@@ -69,15 +70,15 @@ module _ (ms news : Members) (go : Goes ms news) where
 
   -- What is kept of a server is kept, where its holds have a reason still.
   pub reasoned_on : (ps new : List Packet) (s : ℕ) (server : Server)
-      → ((id : ℕ) (pair : ℕ × ℕ) → HasReason ms ps s server.deeds id pair → HasReason news new s server.deeds id pair)
+      → ((id : ℕ) (request : Request) → HasReason ms ps s server.deeds id request → HasReason news new s server.deeds id request)
       → IsReasoned ms ps s server → IsReasoned news new s server
   reasoned_on ps new s server held is = record {
     deeds = All-weaker (IsUsedBy ms s) (IsUsedBy news s) (used_on s) server.deeds is.deeds;
     lost = λ down. All-weaker (IsUsedBy ms s) (IsUsedBy news s) (used_on s) server.node.lost (is.lost down);
     up = λ up. record {
-      waits = All-weaker (IsWaitOf ms) (IsWaitOf news) (λ v. ticket_on v.0.0 v.0.1 (Asks v.1.remove v.1.template)) server.node.soft.waits (is.up up).waits;
-      fits = λ id pair row h b. ticket_on pair.0 pair.1 (Suits row) ((is.up up).fits id pair row h b);
-      held = λ id pair h. held id pair ((is.up up).held id pair h);
+      waits = All-weaker (IsWaitOf ms) (IsWaitOf news) (λ v. ticket_on v.0.client v.0.ticket (Asks v.1.remove v.1.template)) server.node.soft.waits (is.up up).waits;
+      fits = λ id request row h b. ticket_on request.client request.ticket (Suits row) ((is.up up).fits id request row h b);
+      held = λ id request h. held id request ((is.up up).held id request h);
     };
   }
 
@@ -89,10 +90,10 @@ module _ {X : Type 0} (f : X → Packet) (ks : List ℕ) (ps new : List Packet) 
   pub sent_there : (x : X) → Contains sent x → Contains new (f x)
   sent_there x there = subst (λ l. Contains l (f x)) (sym is) (Contains-append_right (delivered ks ps) (map f sent) (f x) (mapped_there f sent x there))
 
-  pub cancel_there : (s d k : ℕ) → HasCancel ps s d k → HasCancel new s d k
-  cancel_there s d k (b, there) =
-      let now = still_there ks ps (record (sent_by d (s, messages.Cancel k)) { delivered = b }) there in
-      (now.is_delivered, kept_there (record (sent_by d (s, messages.Cancel k)) { delivered = now.is_delivered }) now.there)
+  pub cancel_there : (s : ℕ) (r : Request) → HasCancel ps s r → HasCancel new s r
+  cancel_there s r (b, there) =
+      let now = still_there ks ps (record (sent_by r.client (s, messages.Cancel r.ticket)) { delivered = b }) there in
+      (now.is_delivered, kept_there (record (sent_by r.client (s, messages.Cancel r.ticket)) { delivered = now.is_delivered }) now.there)
 
 -- What a task lets come to its server.
 abbrev comings_of : Task → List Coming
@@ -157,24 +158,24 @@ module _ (of_sound : OfSound) (of_steps : OfSteps) (task : Task) (s : ℕ) (ks :
   was : IsReasoned ms w.packets s served.server
   was = reasons.servers s served.server served.there
 
-  cancels : (t d k : ℕ) → HasCancel w.packets t d k → HasCancel new.packets t d k
+  cancels : (t : ℕ) (r : Request) → HasCancel w.packets t r → HasCancel new.packets t r
   cancels = cancel_there (sent_from s) ks w.packets new.packets (sends_of task served.answer) served.packets
 
-  offers : (t d k id : ℕ) → HasOffer w.packets t d k id → HasOffer new.packets t d k id
-  offers t d k id (row, there) = (
+  offers : (t : ℕ) (r : Request) (id : ℕ) → HasOffer w.packets t r id → HasOffer new.packets t r id
+  offers t r id (row, there) = (
     row,
-    kept_there (sent_from s) ks w.packets new.packets (sends_of task served.answer) served.packets (sent_from t (d, replies.Offer k id row))
-        (offer_unmoved w task s ks asked (sent_from t (d, replies.Offer k id row)) (λ m e. apart m (replies.Offer k id row) e) there),
+    kept_there (sent_from s) ks w.packets new.packets (sends_of task served.answer) served.packets (sent_from t (r.client, replies.Offer r.ticket id row))
+        (offer_unmoved w task s ks asked (sent_from t (r.client, replies.Offer r.ticket id row)) (λ m e. apart m (replies.Offer r.ticket id row) e) there),
   )
     where
       apart : (m : Message) (r : Reply) → bodies.Reply r ≡ bodies.Message m → ⊥
       apart m r e = cc
 
   -- a reason stays one
-  reason_on : (t : ℕ) (ds : List Deed) (id : ℕ) (pair : ℕ × ℕ) → HasReason ms w.packets t ds id pair → HasReason ms new.packets t ds id pair
-  reason_on t ds id pair (inl offer) = inl (offers t pair.0 pair.1 id offer)
-  reason_on t ds id pair (inr (inl cancel)) = inr (inl (cancels t pair.0 pair.1 cancel))
-  reason_on t ds id pair (inr (inr hand)) = inr (inr hand)
+  reason_on : (t : ℕ) (ds : List Deed) (id : ℕ) (request : Request) → HasReason ms w.packets t ds id request → HasReason ms new.packets t ds id request
+  reason_on t ds id request (inl offer) = inl (offers t request id offer)
+  reason_on t ds id request (inr (inl cancel)) = inr (inl (cancels t request cancel))
+  reason_on t ds id request (inr (inr hand)) = inr (inr hand)
 
   same : Goes ms ms
   same d m known = (m, (known, same_later m.client))
@@ -220,13 +221,13 @@ module _ (of_sound : OfSound) (of_steps : OfSteps) (task : Task) (s : ℕ) (ks :
     lost = λ down. absurd (true≢false (sym down ∙ is.is_up));
     up = λ _. record {
       waits = subst (λ (f : Soft). All (IsWaitOf ms) f.waits) (sym is.soft_is) (All-nil (IsWaitOf ms));
-      fits = λ id pair row held. absurd (nothing id pair held);
-      held = λ id pair held. absurd (nothing id pair held);
+      fits = λ id request row held. absurd (nothing id request held);
+      held = λ id request held. absurd (nothing id request held);
     };
   }
     where
-      nothing : (id : ℕ) (pair : ℕ × ℕ) → get served.node.soft.holds id ≡ Some pair → ⊥
-      nothing id pair held = none-some pair (sym (get_empty id) ∙ sym (ap (λ (f : Soft). get f.holds id) is.soft_is) ∙ held)
+      nothing : (id : ℕ) (request : Request) → get served.node.soft.holds id ≡ Some request → ⊥
+      nothing id request held = none-some request (sym (get_empty id) ∙ sym (ap (λ (f : Soft). get f.holds id) is.soft_is) ∙ held)
 
   done : (x : Coming) (sends : List (ℕ × Reply)) → IsSpoken ms s x → sends_of task served.answer ≡ sends → IsDone old (x ∷ []) served.deeds sends served.node → IsGood
   done x sends heard sends_are is = (
@@ -244,11 +245,11 @@ module _ (of_sound : OfSound) (of_steps : OfSteps) (task : Task) (s : ℕ) (ks :
       one : Rattle.linda_run.proofs.ComingLaws.IsSingle old x served.deeds sends served.node
       one = single old x served.deeds sends served.node is.happens
 
-      offered : (d k id : ℕ) (row : Tuple) → Contains sends (d, replies.Offer k id row) → HasOffer new.packets s d k id
-      offered d k id row there = (
+      offered : (r : Request) (id : ℕ) (row : Tuple) → Contains sends (r.client, replies.Offer r.ticket id row) → HasOffer new.packets s r id
+      offered r id row there = (
         row,
-        sent_there (sent_from s) ks w.packets new.packets (sends_of task served.answer) served.packets (d, replies.Offer k id row)
-            (subst (λ l. Contains {X = ℕ × Reply} l (d, replies.Offer k id row)) (sym sends_are) there),
+        sent_there (sent_from s) ks w.packets new.packets (sends_of task served.answer) served.packets (r.client, replies.Offer r.ticket id row)
+            (subst (λ l. Contains {X = ℕ × Reply} l (r.client, replies.Offer r.ticket id row)) (sym sends_are) there),
       )
 
   good : IsGood

@@ -2,6 +2,7 @@
 use Rattle.std.specs.Prelude.{◌≡◌, ℕ, Bool, true, false, List, ◌++◌, Option, Some, All, Contains, IfSome, IsSome, ◌⊎◌}
 use Rattle.std.specs.List.{slice_get}
 use Rattle.std.specs.FinMap as map
+use Rattle.linda_hold.specs.declared.request.Request.{Request}
 use Rattle.linda_wire.specs.declared.message.Message.TheVariants as messages
 use Rattle.linda_wire.specs.declared.reply.Reply.TheVariants as replies
 use Rattle.linda_tuple.specs.Tuple.{Tuple}
@@ -68,26 +69,26 @@ pub record IsSafe (w : World) : Type 0 where
 abbrev pub IsHanded : World → ℕ → Option Handed → Type 0
 IsHanded w c handed = IfSome handed (λ h. OfServer w.servers h.server (λ ds. HandsOver ds c h.id h.tuple))
 
--- A Cancel of this client, to this server, of this ticket, was sent, be it delivered or not.
-abbrev pub HasCancel : List Packet → ℕ → ℕ → ℕ → Type 0
-HasCancel ps s c k = (is_delivered : Bool)
-    × Contains ps (record (sent_by c (s, messages.Cancel k)) { delivered = is_delivered })
+-- A Cancel of this request was sent to this server, be it delivered or not.
+abbrev pub HasCancel : List Packet → ℕ → Request → Type 0
+HasCancel ps s request = (is_delivered : Bool)
+    × Contains ps (record (sent_by request.client (s, messages.Cancel request.ticket)) { delivered = is_delivered })
 
--- An Offer of this tuple for this ticket was sent, and never delivered.
-abbrev pub HasOffer : List Packet → ℕ → ℕ → ℕ → ℕ → Type 0
-HasOffer ps s c k id = (row : Tuple) × Contains ps (sent_from s (c, replies.Offer k id row))
+-- An Offer of this tuple for this request was sent, and never delivered.
+abbrev pub HasOffer : List Packet → ℕ → Request → ℕ → Type 0
+HasOffer ps s request id =
+    (row : Tuple) × Contains ps (sent_from s (request.client, replies.Offer request.ticket id row))
 
--- The ticket is open at its client.
-pub record IsOpenAt (ms : Members) (c k : ℕ) : Type 0 where
+-- The ticket of the request is open at its client.
+pub record IsOpenAt (ms : Members) (request : Request) : Type 0 where
   pub member : Member
-  pub known : map.get ms c ≡ Some member
-  pub is_open : IsSome (asked_in (pending_in member.client.task) k)
+  pub known : map.get ms request.client ≡ Some member
+  pub is_open : IsSome (asked_in (pending_in member.client.task) request.ticket)
 
 -- Each tuple that is held at a server that is up is held for a reason: its ticket is open, or a
 -- Cancel of that was sent, or its Offer was never delivered.
 abbrev pub AreHeldRightly : World → Type 0
-AreHeldRightly w = (s : ℕ) (server : Server) (id : ℕ) (pair : ℕ × ℕ)
+AreHeldRightly w = (s : ℕ) (server : Server) (id : ℕ) (request : Request)
     → slice_get w.servers s ≡ Some server → server.node.is_down ≡ false
-    → map.get server.node.soft.holds id ≡ Some pair
-    → IsOpenAt w.members pair.0 pair.1
-    ⊎ (HasCancel w.packets s pair.0 pair.1 ⊎ HasOffer w.packets s pair.0 pair.1 id)
+    → map.get server.node.soft.holds id ≡ Some request
+    → IsOpenAt w.members request ⊎ (HasCancel w.packets s request ⊎ HasOffer w.packets s request id)

@@ -3,6 +3,7 @@ use Rattle.std.specs.Prelude.{◌≡◌, ℕ, ◌<◌, Bool, true, false, List, 
 use Rattle.std.specs.FinMap as map
 use Rattle.linda_tuple.specs.Tuple.{Tuple}
 use Rattle.linda_tuple.specs.Template.{Template}
+use Rattle.linda_hold.specs.declared.request.Request.{Request}
 use Rattle.linda_hold.specs.Waits.{Wait}
 use Rattle.linda_wire.specs.declared.message.Message.{Message}
 use Rattle.linda_wire.specs.declared.message.Message.TheVariants as messages
@@ -75,7 +76,7 @@ IsUsedBy ms s d = OfMember ms (client_of d) (λ c. deeds.number_of d < next_at c
 
 -- A client that waits did ask so.
 abbrev pub IsWaitOf : Members → Wait → Type 0
-IsWaitOf ms w = OfMember ms w.0.0 (OfTicket w.0.1 (Asks w.1.remove w.1.template))
+IsWaitOf ms w = OfMember ms w.0.client (OfTicket w.0.ticket (Asks w.1.remove w.1.template))
 
 -- The client has the offer in hand: its ticket is open, and the offer is saved, or accepted by a
 -- message that the server has not done.
@@ -88,17 +89,18 @@ pub record HasInHand (s : ℕ) (last k id : ℕ) (c : Client) : Type 0 where
   pub hand : InHand (λ a. last < a.n) pending s k id
 
 -- Why a tuple is held: its Offer was never delivered, its ticket is cancelled, or the client has it in hand.
-abbrev pub HasReason : Members → List Packet → ℕ → List Deed → ℕ → ℕ × ℕ → Type 0
-HasReason ms ps s ds id pair = HasOffer ps s pair.0 pair.1 id
-    ⊎ (HasCancel ps s pair.0 pair.1 ⊎ OfMember ms pair.0 (HasInHand s (last_number ds pair.0) pair.1 id))
+abbrev pub HasReason : Members → List Packet → ℕ → List Deed → ℕ → Request → Type 0
+HasReason ms ps s ds id request = HasOffer ps s request id
+    ⊎ (HasCancel ps s request
+    ⊎ OfMember ms request.client (HasInHand s (last_number ds request.client) request.ticket id))
 
 -- What is kept of a server that is up: who waits did ask, and what is held fits its ticket and has a reason.
 pub record IsWaitedFor (ms : Members) (ps : List Packet) (s : ℕ) (server : Server) : Type 0 where
   pub waits : All (IsWaitOf ms) server.node.soft.waits
-  pub fits : (id : ℕ) (pair : ℕ × ℕ) (row : Tuple) → map.get server.node.soft.holds id ≡ Some pair
-      → map.get server.node.state.bag id ≡ Some row → OfMember ms pair.0 (OfTicket pair.1 (Suits row))
-  pub held : (id : ℕ) (pair : ℕ × ℕ) → map.get server.node.soft.holds id ≡ Some pair
-      → HasReason ms ps s server.deeds id pair
+  pub fits : (id : ℕ) (request : Request) (row : Tuple) → map.get server.node.soft.holds id ≡ Some request
+      → map.get server.node.state.bag id ≡ Some row → OfMember ms request.client (OfTicket request.ticket (Suits row))
+  pub held : (id : ℕ) (request : Request) → map.get server.node.soft.holds id ≡ Some request
+      → HasReason ms ps s server.deeds id request
 
 -- What is kept of a server: its deeds, and those that it may have done where it went down, have numbers that were used.
 pub record IsReasoned (ms : Members) (ps : List Packet) (s : ℕ) (server : Server) : Type 0 where

@@ -4,6 +4,8 @@ use Rattle.std.proofs.lemmas.Option.{none-some, same_Some}
 use Rattle.std.specs.FinMap.{get}
 use Rattle.linda_tuple.specs.Tuple.{Tuple}
 use Rattle.linda_tuple.specs.Template.{Template}
+use Rattle.linda_hold.specs.declared.request.Request.{Request}
+use Rattle.linda_hold.specs.Request.{request_of}
 use Rattle.linda_hold.specs.Holds.{IsOneEach}
 use Rattle.linda_wire.specs.declared.message.Message.{Message}
 use Rattle.linda_wire.specs.declared.message.Message.TheVariants.{Hello, Out, Ask, Accept, Cancel}
@@ -25,8 +27,8 @@ use Rattle.linda_step.proofs.NumberLaws.{allowed_out, allowed_take, allowed_pass
 use Rattle.linda_state.proofs.ProperLaws.{more_proper, takes_below, proper_state}
 
 -- A held tuple is in the bag.
-pub held_there : (st : State) (pair : ℕ × ℕ) (id : ℕ) (soft : Soft) (row : Tuple) → held_tuple st pair id soft ≡ Some row → get st.bag id ≡ Some row
-held_there st pair id soft row = by (is_for pair (get soft.holds id))
+pub held_there : (st : State) (request : Request) (id : ℕ) (soft : Soft) (row : Tuple) → held_tuple st request id soft ≡ Some row → get st.bag id ≡ Some row
+held_there st request id soft row = by (is_for request (get soft.holds id))
   where
     by : (b : Bool) → cond b (get st.bag id) None ≡ Some row → get st.bag id ≡ Some row
     by true some = some
@@ -39,14 +41,14 @@ out_deed st c n tuple None soft d is = (refl, same_Some (deeds.Out c n tuple) d 
 accept_deed : (st : State) (c n ticket id : ℕ) (soft : Soft) (d : Deed) → IsState st → (on_accept st c n ticket id (accept_without_deed st c n) soft).deed ≡ Some d → IsAllowed st d
 accept_deed st c n ticket id soft d ranges = by (accept_without_deed st c n) refl
   where
-    deed_of : (row : Option Tuple) → held_tuple st (c, ticket) id soft ≡ row → accept_without_deed st c n ≡ None → (take_or_pass c n id row soft).deed ≡ Some d → IsAllowed st d
+    deed_of : (row : Option Tuple) → held_tuple st (request_of c ticket) id soft ≡ row → accept_without_deed st c n ≡ None → (take_or_pass c n id row soft).deed ≡ Some d → IsAllowed st d
     deed_of (Some row) held none is =
-        subst (IsAllowed st) (same_Some (deeds.Take c n id) d is) (allowed_take st c n ranges id none (ap is_some (held_there st (c, ticket) id soft row held)))
+        subst (IsAllowed st) (same_Some (deeds.Take c n id) d is) (allowed_take st c n ranges id none (ap is_some (held_there st (request_of c ticket) id soft row held)))
     deed_of None held none is = subst (IsAllowed st) (same_Some (deeds.Pass c n id) d is) (allowed_pass st c n ranges id none)
 
     by : (reply : Option Reply) → accept_without_deed st c n ≡ reply → (on_accept st c n ticket id reply soft).deed ≡ Some d → IsAllowed st d
     by (Some reply) e is = absurd (none-some d is)
-    by None e is = deed_of (held_tuple st (c, ticket) id soft) refl e is
+    by None e is = deed_of (held_tuple st (request_of c ticket) id soft) refl e is
 
 -- The deed of an answer is allowed.
 pub answer_allowed : (st : State) (soft : Soft) (c : ℕ) (m : Message) (answered : Answer) (d : Deed) → IsState st → IsAnswer st soft c m answered → answered.deed ≡ Some d → IsAllowed st d
@@ -67,17 +69,17 @@ step_state st new soft c m answered ranges step = by answered.deed refl
     by (Some d) e = one_state st new d ranges (answer_allowed st soft c m answered d ranges step.answer e) (subst (λ d. IsAfter st (option_to_list d) new) e step.state_is)
 
 -- What is told for an Ask, and for a Cancel, is one thing alone.
-one_ask : (st : State) (pair : ℕ × ℕ) (remove : Bool) (soft : Soft) (shape : Template) (a b : Sends) → IsOneEach soft.holds → AnswersAsk st.bag pair remove shape soft a → AnswersAsk st.bag pair remove shape soft b → a ≡ b
-one_ask st pair remove soft shape a b one_each first second =
+one_ask : (st : State) (request : Request) (remove : Bool) (soft : Soft) (shape : Template) (a b : Sends) → IsOneEach soft.holds → AnswersAsk st.bag request remove shape soft a → AnswersAsk st.bag request remove shape soft b → a ≡ b
+one_ask st request remove soft shape a b one_each first second =
     first.told_is
-    ∙ ap (λ held. on_ask st.bag pair remove shape held first.least soft) (one_held soft.holds pair first.held second.held one_each first.is_held second.is_held)
-    ∙ ap (λ least. on_ask st.bag pair remove shape second.held least soft) (one_least st.bag shape (passed_over remove soft.holds) first.least second.least first.is_least second.is_least)
+    ∙ ap (λ held. on_ask st.bag request remove shape held first.least soft) (one_held soft.holds request first.held second.held one_each first.is_held second.is_held)
+    ∙ ap (λ least. on_ask st.bag request remove shape second.held least soft) (one_least st.bag shape (passed_over remove soft.holds) first.least second.least first.is_least second.is_least)
     ∙ sym second.told_is
 
-one_cancel : (st : State) (pair : ℕ × ℕ) (soft : Soft) (a b : Sends) → IsOneEach soft.holds → AnswersCancel st.bag pair soft a → AnswersCancel st.bag pair soft b → a ≡ b
-one_cancel st pair soft a b one_each first second =
+one_cancel : (st : State) (request : Request) (soft : Soft) (a b : Sends) → IsOneEach soft.holds → AnswersCancel st.bag request soft a → AnswersCancel st.bag request soft b → a ≡ b
+one_cancel st request soft a b one_each first second =
     first.told_is
-    ∙ ap (λ held. on_cancel st.bag pair held soft) (one_held soft.holds pair first.held second.held one_each first.is_held second.is_held)
+    ∙ ap (λ held. on_cancel st.bag request held soft) (one_held soft.holds request first.held second.held one_each first.is_held second.is_held)
     ∙ sym second.told_is
 
 -- There is one answer alone.
@@ -86,9 +88,9 @@ one_answer st soft c (Hello version client fresh) a b one_each first second = fi
 one_answer st soft c (Out n tuple) a b one_each first second = first ∙ sym second
 one_answer st soft c (Accept n ticket id) a b one_each first second = first ∙ sym second
 one_answer st soft c (Ask ticket remove template) a b one_each first second =
-    first.1.1 ∙ ap only_sends (one_ask st (c, ticket) remove soft template first.0 second.0 one_each first.1.0 second.1.0) ∙ sym second.1.1
+    first.1.1 ∙ ap only_sends (one_ask st (request_of c ticket) remove soft template first.0 second.0 one_each first.1.0 second.1.0) ∙ sym second.1.1
 one_answer st soft c (Cancel ticket) a b one_each first second =
-    first.1.1 ∙ ap only_sends (one_cancel st (c, ticket) soft first.0 second.0 one_each first.1.0 second.1.0) ∙ sym second.1.1
+    first.1.1 ∙ ap only_sends (one_cancel st (request_of c ticket) soft first.0 second.0 one_each first.1.0 second.1.0) ∙ sym second.1.1
 
 -- The deed of a step, if it has one, makes a proper list longer, and the new state is the state after that.
 pub step_proper : (st mid new : State) (soft : Soft) (ds : List Deed) (c : ℕ) (m : Message) (answered : Answer) → IsState st → IsProper st ds → IsAfter st ds mid → IsStep mid soft c m answered new
@@ -116,10 +118,10 @@ module _ (bag : Bagged) (st : State) (soft : Soft) (c ticket : ℕ) (m : Message
         state_is = subst (λ d. IsAfter st (option_to_list d) st) (sym deed_is) (none_after st is);
       }
 
-  pub ask_step : (remove : Bool) (shape : Template) → m ≡ Ask ticket remove shape → AnswersAsk bag (c, ticket) remove shape soft (record { sends = items; soft = new })
+  pub ask_step : (remove : Bool) (shape : Template) → m ≡ Ask ticket remove shape → AnswersAsk bag (request_of c ticket) remove shape soft (record { sends = items; soft = new })
       → IsStep st soft c m (record { deed = deed; sends = sends; soft = new }) st
-  ask_step remove shape m_is told = told_step (λ b. AnswersAsk b (c, ticket) remove shape soft) told (ap (IsAnswer st soft c) m_is)
+  ask_step remove shape m_is told = told_step (λ b. AnswersAsk b (request_of c ticket) remove shape soft) told (ap (IsAnswer st soft c) m_is)
 
-  pub cancel_step : m ≡ Cancel ticket → AnswersCancel bag (c, ticket) soft (record { sends = items; soft = new })
+  pub cancel_step : m ≡ Cancel ticket → AnswersCancel bag (request_of c ticket) soft (record { sends = items; soft = new })
       → IsStep st soft c m (record { deed = deed; sends = sends; soft = new }) st
-  cancel_step m_is told = told_step (λ b. AnswersCancel b (c, ticket) soft) told (ap (IsAnswer st soft c) m_is)
+  cancel_step m_is told = told_step (λ b. AnswersCancel b (request_of c ticket) soft) told (ap (IsAnswer st soft c) m_is)

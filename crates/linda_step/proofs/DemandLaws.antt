@@ -1,12 +1,13 @@
 -- A message does the deed that it asks for exactly where its demand is met; so the bytes of all deeds can be told.
-use Rattle.std.proofs.Common.{◌≡◌, ℕ, ◌+◌, ◌≤◌, ◌<◌, Bool, true, false, cond, not, ◌&&◌, ◌||◌, ◌==◌, nat_le, List, [], ◌∷◌, ◌++◌, length, Option, Some, None, IfSome, is_some, option_to_list, refl, sym, ap, ◌∙◌, subst, eq-eqb, eqb-true, ne_eqb, length-append, append-nil, arith}
-use Rattle.std.proofs.lemmas.Bool.{cond-true, cond-false, and_parts, and_from, not-true, not_from_false, true≢false, cases_Bool}
+use Rattle.std.proofs.Common.{◌≡◌, ℕ, ◌+◌, ◌≤◌, ◌<◌, Bool, true, false, cond, not, ◌&&◌, ◌==◌, List, [], ◌∷◌, length, Option, Some, None, IfSome, is_some, option_to_list, refl, sym, ap, ◌∙◌, subst, eq-eqb, eqb-true, ne_eqb, length-append, append-nil, arith}
+use Rattle.std.proofs.lemmas.Bool.{cond-true, cond-false, and_parts, and_from, not-true, not_from_false, cases_Bool}
 use Rattle.std.proofs.Common.{inl, inr}
 use Rattle.std.proofs.lemmas.Option.{none-some}
 use Rattle.std.proofs.lemmas.Grind.{flat_map-append}
 use Rattle.std.specs.FinMap.{get, insert, len}
 use Rattle.linda_tuple.specs.Tuple.{Tuple}
 use Rattle.linda_bag.proofs.Maps.{get_inserted, len_new, len_old}
+use Rattle.linda_hold.specs.Request.{request_of}
 use Rattle.linda_wire.specs.declared.message.Message.{Message}
 use Rattle.linda_wire.specs.declared.message.Message.TheVariants as messages
 use Rattle.linda_wire.specs.declared.reply.Reply.{Reply}
@@ -25,8 +26,8 @@ use Rattle.linda_state.proofs.DoneLaws.{done, done_after, next_done}
 use Rattle.linda_step.specs.declared.size.Demand.{Demand}
 use Rattle.linda_step.specs.Soft.{Soft}
 use Rattle.linda_step.specs.Answer.{Answer, last_number, is_one_too_many, class_in, without_deed, out_without_deed, accept_without_deed, on_out, on_accept, take_or_pass, held_tuple, IsStep}
-use Rattle.linda_step.specs.History.{History, Happens, comings, first_then}
-use Rattle.linda_step.specs.Size.{Numbers, numbers_of, demand_of, is_met, done_of, numbers_after, bytes_of, bytes_from}
+use Rattle.linda_step.specs.History.{History, Happens, comings}
+use Rattle.linda_step.specs.Size.{Numbers, numbers_of, done_of, numbers_after, bytes_of, bytes_from}
 use Rattle.linda_step.proofs.NumberLaws.{fresh}
 use Rattle.linda_step.proofs.AnswerLaws.{step_state}
 
@@ -117,7 +118,7 @@ module _ (st : State) (c : ℕ) (soft : Soft) where
 
   accept_outcome : (n ticket id : ℕ) (reply : Option Reply) → accept_without_deed st c n ≡ reply → Outcome st c (messages.Accept n ticket id) (on_accept st c n ticket id reply soft).deed
   accept_outcome n ticket id (Some reply) is = nothing refl (not_where_some st c n _ _ reply is)
-  accept_outcome n ticket id None is = taken_outcome n ticket id (held_tuple st (c, ticket) id soft) is
+  accept_outcome n ticket id None is = taken_outcome n ticket id (held_tuple st (request_of c ticket) id soft) is
 
   outcome_of : (m : Message) (answered : Answer) (new : State) → IsStep st soft c m answered new → Outcome st c m answered.deed
   outcome_of (messages.Hello version client fresh) answered new step = nothing (ap (λ (a : Answer). a.deed) step.answer) refl

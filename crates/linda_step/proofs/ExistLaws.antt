@@ -1,13 +1,14 @@
 -- Whatever comes to a server in order has an outcome: what a request looks up is found by going through the ids.
-use Rattle.std.proofs.Common.{◌≡◌, ℕ, zero, suc, ◌<◌, ◌≤◌, Bool, true, false, true≢false, cond, not, ◌&&◌, List, [], ◌∷◌, Option, Some, None, IsSome, is_some, option_to_list, inl, inr, refl, sym, ap, ◌∙◌, subst, arith}
+use Rattle.std.proofs.Common.{◌≡◌, ℕ, zero, suc, ◌<◌, Bool, true, false, true≢false, not, ◌&&◌, List, [], ◌∷◌, Option, Some, None, IsSome, is_some, option_to_list, inl, inr, refl, sym, ap, ◌∙◌, arith}
 use Rattle.std.proofs.lemmas.Bool.{cases_lt, and_parts, and_from, not-true, not_from_false}
-use Rattle.std.proofs.lemmas.Option.{none-some, same_Some}
 use Rattle.std.specs.FinMap.{get}
 use Rattle.linda_tuple.specs.Tuple.{Tuple}
 use Rattle.linda_tuple.specs.Template.{Template}
 use Rattle.linda_tuple.specs.Testing.{is_match}
 use Rattle.linda_tuple.proofs.Deciding.{is_match_decides}
 use Rattle.linda_bag.specs.FreeMatch.{IsFreeMatch}
+use Rattle.linda_hold.specs.declared.request.Request.{Request}
+use Rattle.linda_hold.specs.Request.{request_of}
 use Rattle.linda_hold.specs.Holds.{IsHeldAt}
 use Rattle.linda_wire.specs.declared.message.Message.{Message}
 use Rattle.linda_wire.specs.declared.message.Message.TheVariants as messages
@@ -16,14 +17,14 @@ use Rattle.linda_state.specs.State.{State, IsState}
 use Rattle.linda_state.specs.After.{IsAfter}
 use Rattle.linda_state.proofs.AfterLaws.{none_after, none_from_next}
 use Rattle.linda_state.proofs.DoneLaws.{done, done_after}
-use Rattle.linda_step.specs.Soft.{Soft, Bagged}
+use Rattle.linda_step.specs.Soft.{Soft}
 use Rattle.linda_step.specs.Looking.{IsLeast, passed_over}
 use Rattle.linda_step.specs.Dispatch.{on_cancel, on_close}
 use Rattle.linda_step.specs.Asking.{on_ask}
 use Rattle.linda_step.specs.Answer.{Answer, only_sends, only_reply, greeting, on_out, out_without_deed, on_accept, accept_without_deed, is_for, IsAnswer, IsStep}
 use Rattle.linda_step.specs.History.{Coming, says, leaves, Comes, History, Happens, nothing_yet, first_then}
 use Rattle.linda_step.specs.Store.{IsOrderly}
-use Rattle.linda_step.proofs.ApartLaws.{same_pair_is, same_pair_yes}
+use Rattle.linda_step.proofs.ApartLaws.{same_request_is, same_request_yes}
 use Rattle.linda_step.proofs.OutcomeLaws.{came_orderly}
 
 -- ---- the least number that passes a test
@@ -84,20 +85,20 @@ module _ (st : State) (is : IsState st) where
         by (first id passes before) = (Some id, (free_if id passes, λ k below f. true≢false (sym (fits_free k f) ∙ before k below)))
         by (nowhere before) = (None, λ k f. true≢false (sym (fits_free k f) ∙ before k (in_bag_below k (ap is_some f.stored))))
 
-  module _ (soft : Soft) (there : (id : ℕ) → IsSome (get soft.holds id) → IsSome (get st.bag id)) (pair : ℕ × ℕ) where
-    held_if : (o : Option (ℕ × ℕ)) → is_for pair o ≡ true → o ≡ Some pair
+  module _ (soft : Soft) (there : (id : ℕ) → IsSome (get soft.holds id) → IsSome (get st.bag id)) (request : Request) where
+    held_if : (o : Option Request) → is_for request o ≡ true → o ≡ Some request
     held_if None e = absurd (true≢false (sym e))
-    held_if (Some other) e = ap (λ q. Some q) (same_pair_is other pair e)
+    held_if (Some other) e = ap (λ q. Some q) (same_request_is other request e)
 
-    held_of : (o : Option ℕ) × IsHeldAt soft.holds pair o
-    held_of = by (search_below (λ id. is_for pair (get soft.holds id)) st.next)
+    held_of : (o : Option ℕ) × IsHeldAt soft.holds request o
+    held_of = by (search_below (λ id. is_for request (get soft.holds id)) st.next)
       where
-        by : Search (λ id. is_for pair (get soft.holds id)) st.next → (o : Option ℕ) × IsHeldAt soft.holds pair o
+        by : Search (λ id. is_for request (get soft.holds id)) st.next → (o : Option ℕ) × IsHeldAt soft.holds request o
         by (first id passes before) = (Some id, held_if (get soft.holds id) passes)
         by (nowhere before) = (
           None,
           λ id held.
-              true≢false (sym (ap (is_for pair) held ∙ same_pair_yes pair pair refl) ∙ before id (in_bag_below id (there id (ap is_some held)))),
+              true≢false (sym (ap (is_for request) held ∙ same_request_yes request request refl) ∙ before id (in_bag_below id (there id (ap is_some held)))),
         )
 
   state_behind : (deed : Option Deed) → (new : State) × IsAfter st (option_to_list deed) new
@@ -111,13 +112,13 @@ answer_of st soft c (messages.Hello version client fresh) orderly = (only_reply 
 answer_of st soft c (messages.Out n tuple) orderly = (on_out st c n tuple (out_without_deed st c n) soft, refl)
 answer_of st soft c (messages.Accept n ticket id) orderly = (on_accept st c n ticket id (accept_without_deed st c n) soft, refl)
 answer_of st soft c (messages.Ask ticket remove shape) orderly =
-    let held = held_of st orderly.state_is soft orderly.soft_is.there (c, ticket) in
+    let held = held_of st orderly.state_is soft orderly.soft_is.there (request_of c ticket) in
     let least = least_of st orderly.state_is shape (passed_over remove soft.holds) in
-    let told = on_ask st.bag (c, ticket) remove shape held.0 least.0 soft in
+    let told = on_ask st.bag (request_of c ticket) remove shape held.0 least.0 soft in
     (only_sends told, (told, (record { held = held.0; is_held = held.1; least = least.0; is_least = least.1; told_is = refl }, refl)))
 answer_of st soft c (messages.Cancel ticket) orderly =
-    let held = held_of st orderly.state_is soft orderly.soft_is.there (c, ticket) in
-    let told = on_cancel st.bag (c, ticket) held.0 soft in
+    let held = held_of st orderly.state_is soft orderly.soft_is.there (request_of c ticket) in
+    let told = on_cancel st.bag (request_of c ticket) held.0 soft in
     (only_sends told, (told, (record { held = held.0; is_held = held.1; told_is = refl }, refl)))
 
 -- Each message has an answer, and each list of things to come an outcome.

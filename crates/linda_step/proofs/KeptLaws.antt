@@ -3,6 +3,7 @@ use Rattle.std.proofs.Common.{◌≡◌, ℕ, ◌+◌, List, [], ◌∷◌, Opti
 use Rattle.std.specs.FinMap.{get}
 use Rattle.linda_tuple.specs.Tuple.{Tuple}
 use Rattle.linda_bag.proofs.Maps.{get_same}
+use Rattle.linda_hold.specs.Request.{request_of}
 use Rattle.linda_book.specs.declared.kept.KeptReply.{KeptReply}
 use Rattle.linda_book.specs.declared.kept.KeptReply.TheVariants as kept
 use Rattle.linda_wire.specs.declared.message.Message.{Message}
@@ -66,7 +67,7 @@ module _ (st new : State) (c : ℕ) (is : IsState st) where
       → IsKeptFor c n (on_accept st c n ticket id reply soft).sends new
   accept_kept n ticket id (Some reply) soft some after = absurd (true≢false (sym some))
   accept_kept n ticket id None soft some after =
-      taken_kept n id (held_tuple st (c, ticket) id soft) soft (λ row held. held_there st (c, ticket) id soft row held) after
+      taken_kept n id (held_tuple st (request_of c ticket) id soft) soft (λ row held. held_there st (request_of c ticket) id soft row held) after
 
   -- A numbered message that does a deed is answered with the reply that is kept for its number.
   abbrev Says : ℕ → Answer → Type 0

@@ -3,6 +3,7 @@ use Rattle.std.proofs.Common.{◌≡◌, ℕ, ◌<◌, Bool, true, false, ◌&&�
 use Rattle.std.proofs.lemmas.Bool.{cases_lt, cases_eq}
 use Rattle.linda_tuple.specs.Template.{Template}
 use Rattle.linda_bag.specs.FreeMatch.{IsFreeMatch}
+use Rattle.linda_hold.specs.declared.request.Request.{Request}
 use Rattle.linda_hold.specs.Holds.{HeldFor, IsHeldAt, IsOneEach}
 use Rattle.linda_step.specs.Soft.{Bagged}
 use Rattle.linda_step.specs.Looking.{IsLeast}
@@ -23,11 +24,11 @@ one_least bag shape passed None (Some k) first second = absurd (first k second.0
 one_least bag shape passed None None first second = refl
 
 -- Two answers to what is held for a request are one, where no request holds two tuples.
-pub one_held : (holds : HeldFor) (pair : ℕ × ℕ) (a b : Option ℕ) → IsOneEach holds → IsHeldAt holds pair a → IsHeldAt holds pair b → a ≡ b
-one_held holds pair (Some i) (Some k) each first second = ap (λ n. Some n) (each i k pair first second)
-one_held holds pair (Some i) None each first second = absurd (second i first)
-one_held holds pair None (Some k) each first second = absurd (first k second)
-one_held holds pair None None each first second = refl
+pub one_held : (holds : HeldFor) (request : Request) (a b : Option ℕ) → IsOneEach holds → IsHeldAt holds request a → IsHeldAt holds request b → a ≡ b
+one_held holds request (Some i) (Some k) each first second = ap (λ n. Some n) (each i k request first second)
+one_held holds request (Some i) None each first second = absurd (second i first)
+one_held holds request None (Some k) each first second = absurd (first k second)
+one_held holds request None None each first second = refl
 
 -- What an input does not pass over is not held.
 pub not_held : (takes : Bool) {X : Type 0} (o : Option X) → (takes && is_some o) ≡ false → takes ≡ true → o ≡ None

@@ -1,6 +1,8 @@
 -- Every step and every close keep what a store keeps: the ranges of its state, of its holds and waits, and that nobody waits in vain.
 use Rattle.std.proofs.Common.{◌≡◌, ℕ, ◌<◌, Bool, true, false, cond, nat_le, List, [], ◌∷◌, Option, Some, None, option_to_list, is_some, refl, sym, ap, ◌∙◌, subst, leb-false}
 use Rattle.std.specs.FinMap.{remove}
+use Rattle.linda_hold.specs.declared.request.Request.{Request}
+use Rattle.linda_hold.specs.Request.{request_of}
 use Rattle.linda_wire.specs.declared.limits.TheConstants.{MAX_ASKS}
 use Rattle.linda_wire.specs.Refusal.{refused}
 use Rattle.linda_wire.specs.declared.refusal.Refusal.TheVariants as refusals
@@ -32,30 +34,30 @@ pub record IsSettled (bag : Bagged) (soft : Soft) : Type 0 where
   pub rest : IsAtRest bag soft
 
 -- A request is served, given what it can have.
-served_settled : (bag : Bagged) (pair : ℕ × ℕ) (remove : Bool) (shape : Template) (least : Option ℕ) (soft : Soft) → IsLeast bag shape (passed_over remove soft.holds) least
-    → is_waiting pair soft.waits ≡ false → IsHeldAt soft.holds pair None → open_asks pair.0 soft < MAX_ASKS → IsSettled bag soft → IsSettled bag (serve bag pair remove shape least soft).soft
-served_settled bag pair true shape (Some id) soft least never nothing room is = record {
-  soft_is = offer_soft bag id pair soft (ap is_some least.0.stored) never nothing room is.soft_is;
-  rest = held_rests bag id pair soft is.rest;
+served_settled : (bag : Bagged) (request : Request) (remove : Bool) (shape : Template) (least : Option ℕ) (soft : Soft) → IsLeast bag shape (passed_over remove soft.holds) least
+    → is_waiting request soft.waits ≡ false → IsHeldAt soft.holds request None → open_asks request.client soft < MAX_ASKS → IsSettled bag soft → IsSettled bag (serve bag request remove shape least soft).soft
+served_settled bag request true shape (Some id) soft least never nothing room is = record {
+  soft_is = offer_soft bag id request soft (ap is_some least.0.stored) never nothing room is.soft_is;
+  rest = held_rests bag id request soft is.rest;
 }
-served_settled bag pair false shape (Some id) soft least never nothing room is = is
-served_settled bag pair remove shape None soft least never nothing room is = record {
-  soft_is = waiting_soft bag (wait_of pair remove shape) soft never nothing room is.soft_is;
-  rest = waiting_rests bag (wait_of pair remove shape) soft least is.rest;
+served_settled bag request false shape (Some id) soft least never nothing room is = is
+served_settled bag request remove shape None soft least never nothing room is = record {
+  soft_is = waiting_soft bag (wait_of request remove shape) soft never nothing room is.soft_is;
+  rest = waiting_rests bag (wait_of request remove shape) soft least is.rest;
 }
 
-asking_settled : (bag : Bagged) (pair : ℕ × ℕ) (remove : Bool) (shape : Template) (held least : Option ℕ) (soft : Soft) → IsHeldAt soft.holds pair held → IsLeast bag shape (passed_over remove soft.holds) least
-    → IsSettled bag soft → IsSettled bag (on_ask bag pair remove shape held least soft).soft
-asking_settled bag pair remove shape (Some id) least soft held found is = is
-asking_settled bag pair remove shape None least soft held found is = by (is_waiting pair soft.waits) refl
+asking_settled : (bag : Bagged) (request : Request) (remove : Bool) (shape : Template) (held least : Option ℕ) (soft : Soft) → IsHeldAt soft.holds request held → IsLeast bag shape (passed_over remove soft.holds) least
+    → IsSettled bag soft → IsSettled bag (on_ask bag request remove shape held least soft).soft
+asking_settled bag request remove shape (Some id) least soft held found is = is
+asking_settled bag request remove shape None least soft held found is = by (is_waiting request soft.waits) refl
   where
-    fresh : (b : Bool) → nat_le MAX_ASKS (open_asks pair.0 soft) ≡ b → is_waiting pair soft.waits ≡ false → IsSettled bag (cond b (only_sent ((pair.0, (refused (refusals.TooManyAsks pair.1))) ∷ []) soft) (serve bag pair remove shape least soft)).soft
+    fresh : (b : Bool) → nat_le MAX_ASKS (open_asks request.client soft) ≡ b → is_waiting request soft.waits ≡ false → IsSettled bag (cond b (only_sent ((request.client, (refused (refusals.TooManyAsks request.ticket))) ∷ []) soft) (serve bag request remove shape least soft)).soft
     fresh true many never = is
-    fresh false few never = served_settled bag pair remove shape least soft found never held (leb-false MAX_ASKS (open_asks pair.0 soft) few) is
+    fresh false few never = served_settled bag request remove shape least soft found never held (leb-false MAX_ASKS (open_asks request.client soft) few) is
 
-    by : (b : Bool) → is_waiting pair soft.waits ≡ b → IsSettled bag (cond b (no_sends soft) (cond (nat_le MAX_ASKS (open_asks pair.0 soft)) (only_sent ((pair.0, (refused (refusals.TooManyAsks pair.1))) ∷ []) soft) (serve bag pair remove shape least soft))).soft
+    by : (b : Bool) → is_waiting request soft.waits ≡ b → IsSettled bag (cond b (no_sends soft) (cond (nat_le MAX_ASKS (open_asks request.client soft)) (only_sent ((request.client, (refused (refusals.TooManyAsks request.ticket))) ∷ []) soft) (serve bag request remove shape least soft))).soft
     by true waits = is
-    by false never = fresh (nat_le MAX_ASKS (open_asks pair.0 soft)) refl never
+    by false never = fresh (nat_le MAX_ASKS (open_asks request.client soft)) refl never
 
 -- A message without a deed leaves the state as it was.
 same_state : (st new : State) → IsState st → IsAfter st [] new → st ≡ new
@@ -84,10 +86,10 @@ module _ (st new : State) (soft : Soft) (c : ℕ) (is : IsOrderly st soft) where
 
   accept_settled : (n ticket id : ℕ) (reply : Option Reply) → IsAfter st (option_to_list (on_accept st c n ticket id reply soft).deed) new → IsSettled new.bag (on_accept st c n ticket id reply soft).soft
   accept_settled n ticket id (Some reply) after = unchanged soft was after
-  accept_settled n ticket id None after = taken_settled n id (held_tuple st (c, ticket) id soft) after
+  accept_settled n ticket id None after = taken_settled n id (held_tuple st (request_of c ticket) id soft) after
 
-  cancel_settled : (pair : ℕ × ℕ) (held : Option ℕ) → IsSettled st.bag (on_cancel st.bag pair held soft).soft
-  cancel_settled pair held = record { soft_is = cancelling_soft st.bag pair held soft is.soft_is; rest = cancelling_rests st.bag pair held soft is.rest }
+  cancel_settled : (request : Request) (held : Option ℕ) → IsSettled st.bag (on_cancel st.bag request held soft).soft
+  cancel_settled request held = record { soft_is = cancelling_soft st.bag request held soft is.soft_is; rest = cancelling_rests st.bag request held soft is.rest }
 
   -- the answer to a message settles, where the state is the one after its deed
   settled : (m : Message) (answered : Answer) → IsAnswer st soft c m answered → IsAfter st (option_to_list answered.deed) new → IsSettled new.bag answered.soft
@@ -104,13 +106,13 @@ module _ (st new : State) (soft : Soft) (c : ℕ) (is : IsOrderly st soft) where
       let then_settled : (a : Answer) → Type 0 = λ a. IsAfter st (option_to_list a.deed) new → IsSettled new.bag a.soft in
       let asked = answer.1.0 in
       subst then_settled (sym (answer.1.1 ∙ ap only_sends asked.told_is))
-      (unchanged (on_ask st.bag (c, ticket) remove template asked.held asked.least soft).soft
-      (asking_settled st.bag (c, ticket) remove template asked.held asked.least soft asked.is_held asked.is_least was)) after
+      (unchanged (on_ask st.bag (request_of c ticket) remove template asked.held asked.least soft).soft
+      (asking_settled st.bag (request_of c ticket) remove template asked.held asked.least soft asked.is_held asked.is_least was)) after
   settled (Cancel ticket) answered answer after =
       let then_settled : (a : Answer) → Type 0 = λ a. IsAfter st (option_to_list a.deed) new → IsSettled new.bag a.soft in
       let given_up = answer.1.0 in
       subst then_settled (sym (answer.1.1 ∙ ap only_sends given_up.told_is))
-      (unchanged (on_cancel st.bag (c, ticket) given_up.held soft).soft (cancel_settled (c, ticket) given_up.held)) after
+      (unchanged (on_cancel st.bag (request_of c ticket) given_up.held soft).soft (cancel_settled (request_of c ticket) given_up.held)) after
 
   pub step_orderly : (m : Message) (answered : Answer) → IsStep st soft c m answered new → IsOrderly new answered.soft
   step_orderly m answered step =

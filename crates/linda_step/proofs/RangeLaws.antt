@@ -8,43 +8,45 @@ use Rattle.std.proofs.lemmas.Map.Made.{IsDistinct-keys_filter}
 use Rattle.std.specs.List.{IsDistinct, AllByRecursion}
 use Rattle.std.specs.Map.{keys_of}
 use Rattle.std.specs.FinMap.{get, insert, remove, entries, len-entries, len-empty}
+use Rattle.linda_hold.specs.declared.request.Request.{Request}
+use Rattle.linda_hold.specs.Request.{same_request}
 use Rattle.linda_wire.specs.declared.limits.TheConstants.{MAX_ASKS}
 use Rattle.linda_tuple.specs.Tuple.{Tuple}
 use Rattle.linda_bag.proofs.Maps.{get_same, get_other, get_removed_same, get_removed_other, get_empty}
-use Rattle.linda_hold.specs.Waits.{Wait, AreDistinct, same_pair, is_waiting, is_reader, is_taker, without_readers, longest, waits_of}
+use Rattle.linda_hold.specs.Waits.{Wait, AreDistinct, is_waiting, is_reader, is_taker, without_readers, longest, waits_of}
 use Rattle.linda_hold.specs.Holds.{HeldFor, IsHeldAt, IsOneEach, held_in}
 use Rattle.linda_step.specs.Soft.{Soft, Bagged, IsSoft, AreApart, open_asks, no_asks}
 use Rattle.linda_step.specs.Dispatch.{dispatch, held_for, release, release_tuple, on_cancel, on_close}
 use Rattle.linda_step.proofs.WaitLaws.{or_none, found_has}
 use Rattle.linda_step.proofs.SoftLaws.{kept_waits, cancelling_keeps, closing_keeps}
-use Rattle.linda_step.proofs.ApartLaws.{same_pair_yes, turned_no, held_before, new_or_before, fewer_apart, dispatch_apart, taken_apart, waiting_apart, offer_apart}
+use Rattle.linda_step.proofs.ApartLaws.{same_request_yes, turned_no, held_before, new_or_before, fewer_apart, dispatch_apart, taken_apart, waiting_apart, offer_apart}
 use Rattle.linda_step.proofs.CountLaws.{fewer_pass, found_gone, insert_counted, remove_counted}
 
 -- A tuple is held for a request that held nothing.
-pub one_each_held : (holds : HeldFor) (id : ℕ) (pair : ℕ × ℕ) → IsHeldAt holds pair None → IsOneEach holds → IsOneEach (insert holds id pair)
-one_each_held holds id pair nothing each i k other first second =
-    elim (new_or_before holds id i pair other first) [
+pub one_each_held : (holds : HeldFor) (id : ℕ) (request : Request) → IsHeldAt holds request None → IsOneEach holds → IsOneEach (insert holds id request)
+one_each_held holds id request nothing each i k other first second =
+    elim (new_or_before holds id i request other first) [
       | inl here ↦
-          elim (new_or_before holds id k pair other second) [
+          elim (new_or_before holds id k request other second) [
             | inl there ↦ here.0 ∙ sym there.0
             | inr before ↦ absurd (nothing k (before ∙ ap (λ p. Some p) (sym here.1)))
           ]
       | inr was ↦
-          elim (new_or_before holds id k pair other second) [
+          elim (new_or_before holds id k request other second) [
             | inl there ↦ absurd (nothing i (was ∙ ap (λ p. Some p) (sym there.1)))
             | inr before ↦ each i k other was before
           ]
     ]
 
 pub one_each_gone : (holds : HeldFor) (id : ℕ) → IsOneEach holds → IsOneEach (remove holds id)
-one_each_gone holds id each i k pair first second = each i k pair (held_before holds id i pair first) (held_before holds id k pair second)
+one_each_gone holds id each i k request first second = each i k request (held_before holds id i request first) (held_before holds id k request second)
 
 -- What is held is in the bag, after a hold came and after one went.
-there_held : (bag : Bagged) (holds : HeldFor) (id : ℕ) (pair : ℕ × ℕ) → IsSome (get bag id) → ((k : ℕ) → IsSome (get holds k) → IsSome (get bag k)) → (k : ℕ) → IsSome (get (insert holds id pair) k) → IsSome (get bag k)
-there_held bag holds id pair stored there k held =
+there_held : (bag : Bagged) (holds : HeldFor) (id : ℕ) (request : Request) → IsSome (get bag id) → ((k : ℕ) → IsSome (get holds k) → IsSome (get bag k)) → (k : ℕ) → IsSome (get (insert holds id request) k) → IsSome (get bag k)
+there_held bag holds id request stored there k held =
     elim (cases_eq k id) [
       | inl same ↦ subst (λ i. IsSome (get bag i)) (sym same) stored
-      | inr other ↦ there k (subst IsSome (get_other holds id pair k other) held)
+      | inr other ↦ there k (subst IsSome (get_other holds id request k other) held)
     ]
 
 there_gone : (bag : Bagged) (holds : HeldFor) (id : ℕ) → ((k : ℕ) → IsSome (get holds k) → IsSome (get bag k)) → (k : ℕ) → IsSome (get (remove holds id) k) → IsSome (get bag k)
@@ -59,25 +61,25 @@ all_pass [] = refl
 all_pass (x ∷ xs) = ap suc (all_pass xs)
 
 -- How many asks are open.
-held_count : (client : ℕ) (holds : HeldFor) → length (held_in client (entries holds)) ≡ length (filter (λ e. e.1.0 == client) (entries holds))
-held_count client holds = length-map (filter (λ (e : ℕ × (ℕ × ℕ)). e.1.0 == client) (entries holds)) (λ e. e.0)
+held_count : (client : ℕ) (holds : HeldFor) → length (held_in client (entries holds)) ≡ length (filter (λ e. e.1.client == client) (entries holds))
+held_count client holds = length-map (filter (λ (e : ℕ × Request). e.1.client == client) (entries holds)) (λ e. e.0)
 
-held_more : (client id : ℕ) (pair : ℕ × ℕ) (holds : HeldFor) → length (held_in client (entries (insert holds id pair))) ≤ length (held_in client (entries holds)) + cond (pair.0 == client) 1 0
-held_more client id pair holds =
-    let counted = insert_counted (λ (p : ℕ × ℕ). p.0 == client) holds id pair in
+held_more : (client id : ℕ) (request : Request) (holds : HeldFor) → length (held_in client (entries (insert holds id request))) ≤ length (held_in client (entries holds)) + cond (request.client == client) 1 0
+held_more client id request holds =
+    let counted = insert_counted (λ (p : Request). p.client == client) holds id request in
     let old = held_count client holds in
-    let new = held_count client (insert holds id pair) in
+    let new = held_count client (insert holds id request) in
     omega (arith, counted, old, new)
 
-held_one : (client id : ℕ) (pair : ℕ × ℕ) (holds : HeldFor) → pair.0 ≡ client → length (held_in client (entries (insert holds id pair))) ≤ length (held_in client (entries holds)) + 1
-held_one client id pair holds same = subst (λ b. length (held_in client (entries (insert holds id pair))) ≤ length (held_in client (entries holds)) + cond b 1 0) (eq-eqb pair.0 client same) (held_more client id pair holds)
+held_one : (client id : ℕ) (request : Request) (holds : HeldFor) → request.client ≡ client → length (held_in client (entries (insert holds id request))) ≤ length (held_in client (entries holds)) + 1
+held_one client id request holds same = subst (λ b. length (held_in client (entries (insert holds id request))) ≤ length (held_in client (entries holds)) + cond b 1 0) (eq-eqb request.client client same) (held_more client id request holds)
 
-held_none : (client id : ℕ) (pair : ℕ × ℕ) (holds : HeldFor) → pair.0 ≢ client → length (held_in client (entries (insert holds id pair))) ≤ length (held_in client (entries holds)) + 0
-held_none client id pair holds other = subst (λ b. length (held_in client (entries (insert holds id pair))) ≤ length (held_in client (entries holds)) + cond b 1 0) (ne_eqb pair.0 client other) (held_more client id pair holds)
+held_none : (client id : ℕ) (request : Request) (holds : HeldFor) → request.client ≢ client → length (held_in client (entries (insert holds id request))) ≤ length (held_in client (entries holds)) + 0
+held_none client id request holds other = subst (λ b. length (held_in client (entries (insert holds id request))) ≤ length (held_in client (entries holds)) + cond b 1 0) (ne_eqb request.client client other) (held_more client id request holds)
 
 held_less : (client id : ℕ) (holds : HeldFor) → length (held_in client (entries (remove holds id))) ≤ length (held_in client (entries holds))
 held_less client id holds =
-    let counted = remove_counted (λ (p : ℕ × ℕ). p.0 == client) holds id in
+    let counted = remove_counted (λ (p : Request). p.client == client) holds id in
     let old = held_count client holds in
     let new = held_count client (remove holds id) in
     omega (arith, counted, old, new)
@@ -85,10 +87,10 @@ held_less client id holds =
 -- Some no longer wait.
 pub fewer_soft : (bag : Bagged) (p : Wait → Bool) (soft : Soft) → IsSoft bag soft → IsSoft bag (kept_waits p soft)
 fewer_soft bag p soft is = record {
-  distinct = IsDistinct-keys_filter same_pair p soft.waits is.distinct;
+  distinct = IsDistinct-keys_filter same_request p soft.waits is.distinct;
   one_each = is.one_each;
   apart = fewer_apart p soft is.apart;
-  few = λ client. let old = is.few client in let less = fewer_pass (λ w. client == w.0.0) p soft.waits in omega (arith, old, less);
+  few = λ client. let old = is.few client in let less = fewer_pass (λ w. client == w.0.client) p soft.waits in omega (arith, old, less);
   there = is.there;
 }
 
@@ -103,26 +105,26 @@ gone_soft bag id soft is = record {
 }
 
 -- A request that didn't wait and held nothing, of a client with room for one more, gets an offer.
-pub offer_soft : (bag : Bagged) (id : ℕ) (pair : ℕ × ℕ) (soft : Soft) → IsSome (get bag id) → is_waiting pair soft.waits ≡ false → IsHeldAt soft.holds pair None → open_asks pair.0 soft < MAX_ASKS
-    → IsSoft bag soft → IsSoft bag (record { holds = insert soft.holds id pair; waits = soft.waits })
-offer_soft bag id pair soft stored never nothing room is = record {
+pub offer_soft : (bag : Bagged) (id : ℕ) (request : Request) (soft : Soft) → IsSome (get bag id) → is_waiting request soft.waits ≡ false → IsHeldAt soft.holds request None → open_asks request.client soft < MAX_ASKS
+    → IsSoft bag soft → IsSoft bag (record { holds = insert soft.holds id request; waits = soft.waits })
+offer_soft bag id request soft stored never nothing room is = record {
   distinct = is.distinct;
-  one_each = one_each_held soft.holds id pair nothing is.one_each;
-  apart = offer_apart id pair soft never is.apart;
+  one_each = one_each_held soft.holds id request nothing is.one_each;
+  apart = offer_apart id request soft never is.apart;
   few = few;
-  there = there_held bag soft.holds id pair stored is.there;
+  there = there_held bag soft.holds id request stored is.there;
 }
   where
-    few : (client : ℕ) → open_asks client (record { holds = insert soft.holds id pair; waits = soft.waits }) ≤ MAX_ASKS
+    few : (client : ℕ) → open_asks client (record { holds = insert soft.holds id request; waits = soft.waits }) ≤ MAX_ASKS
     few client =
         let old = is.few client in
-        elim (cases_eq pair.0 client) [
+        elim (cases_eq request.client client) [
           | inl same ↦
               let here : open_asks client soft < MAX_ASKS = subst (λ c. open_asks c soft < MAX_ASKS) same room in
-              let more = held_one client id pair soft.holds same in
+              let more = held_one client id request soft.holds same in
               omega (arith, here, more)
           | inr other ↦
-              let more = held_none client id pair soft.holds other in
+              let more = held_none client id request soft.holds other in
               omega (arith, old, more)
         ]
 
@@ -130,7 +132,7 @@ offer_soft bag id pair soft stored never nothing room is = record {
 taken_soft_by : (bag : Bagged) (id : ℕ) (row : Tuple) (soft : Soft) (first : Wait) → longest row soft.waits ≡ Some first → IsSome (get bag id) → IsSoft bag soft
     → IsSoft bag (held_for id (Some first) (record { holds = soft.holds; waits = without_readers row soft.waits }))
 taken_soft_by bag id row soft first found stored is = record {
-  distinct = IsDistinct-keys_filter same_pair (λ w. not (same_pair first.0 w.0)) (without_readers row soft.waits) (IsDistinct-keys_filter same_pair (λ w. not (is_reader row w)) soft.waits is.distinct);
+  distinct = IsDistinct-keys_filter same_request (λ w. not (same_request first.0 w.0)) (without_readers row soft.waits) (IsDistinct-keys_filter same_request (λ w. not (is_reader row w)) soft.waits is.distinct);
   one_each = one_each_held soft.holds id first.0 (found_has (is_taker row) (λ w. (k : ℕ) → get soft.holds k ≡ Some w.0 → ⊥) soft.waits first found is.apart) is.one_each;
   apart = subst (λ o. AreApart (held_for id o (record { holds = soft.holds; waits = without_readers row soft.waits }))) found (dispatch_apart id row soft is.apart);
   few = few;
@@ -140,15 +142,15 @@ taken_soft_by bag id row soft first found stored is = record {
     few : (client : ℕ) → open_asks client (held_for id (Some first) (record { holds = soft.holds; waits = without_readers row soft.waits })) ≤ MAX_ASKS
     few client =
         let old = is.few client in
-        elim (cases_eq first.0.0 client) [
+        elim (cases_eq first.0.client client) [
           | inl same ↦
               let more = held_one client id first.0 soft.holds same in
-              let less = found_gone (λ (w : Wait). client == w.0.0) (λ w. not (is_reader row w)) (λ w. not (same_pair first.0 w.0)) (is_taker row) soft.waits first found (eq-eqb client first.0.0 (sym same)) (ap not (same_pair_yes first.0 first.0 refl)) in
+              let less = found_gone (λ (w : Wait). client == w.0.client) (λ w. not (is_reader row w)) (λ w. not (same_request first.0 w.0)) (is_taker row) soft.waits first found (eq-eqb client first.0.client (sym same)) (ap not (same_request_yes first.0 first.0 refl)) in
               omega (arith, old, more, less)
           | inr other ↦
               let more = held_none client id first.0 soft.holds other in
-              let less = fewer_pass (λ (w : Wait). client == w.0.0) (λ w. not (is_reader row w)) soft.waits in
-              let fewer = fewer_pass (λ (w : Wait). client == w.0.0) (λ w. not (same_pair first.0 w.0)) (without_readers row soft.waits) in
+              let less = fewer_pass (λ (w : Wait). client == w.0.client) (λ w. not (is_reader row w)) soft.waits in
+              let fewer = fewer_pass (λ (w : Wait). client == w.0.client) (λ w. not (same_request first.0 w.0)) (without_readers row soft.waits) in
               omega (arith, old, more, less, fewer)
         ]
 
@@ -202,15 +204,15 @@ distinct_push : (w : Wait) (waits : List Wait) → is_waiting w.0 waits ≡ fals
 unfolding IsDistinct
 distinct_push w [] never distinct = (tt, tt)
 distinct_push w (v ∷ waits) never distinct =
-    let parts = or_none (same_pair w.0 v.0) (is_waiting w.0 waits) never in
+    let parts = or_none (same_request w.0 v.0) (is_waiting w.0 waits) never in
     (others waits distinct.0, distinct_push w waits parts.1 distinct.1)
   where
-    others : (ws : List Wait) → AllByRecursion (λ p. same_pair v.0 p ≡ false) (keys_of ws) → AllByRecursion (λ p. same_pair v.0 p ≡ false) (keys_of (ws ++ w ∷ []))
-    others [] all = (turned_no w.0 v.0 (or_none (same_pair w.0 v.0) (is_waiting w.0 waits) never).0, tt)
+    others : (ws : List Wait) → AllByRecursion (λ p. same_request v.0 p ≡ false) (keys_of ws) → AllByRecursion (λ p. same_request v.0 p ≡ false) (keys_of (ws ++ w ∷ []))
+    others [] all = (turned_no w.0 v.0 (or_none (same_request w.0 v.0) (is_waiting w.0 waits) never).0, tt)
     others (u ∷ ws) all = (all.0, others ws all.1)
 
 -- A request that didn't wait and holds nothing, of a client with room for one more, waits.
-pub waiting_soft : (bag : Bagged) (w : Wait) (soft : Soft) → is_waiting w.0 soft.waits ≡ false → IsHeldAt soft.holds w.0 None → open_asks w.0.0 soft < MAX_ASKS
+pub waiting_soft : (bag : Bagged) (w : Wait) (soft : Soft) → is_waiting w.0 soft.waits ≡ false → IsHeldAt soft.holds w.0 None → open_asks w.0.client soft < MAX_ASKS
     → IsSoft bag soft → IsSoft bag (record { holds = soft.holds; waits = soft.waits ++ w ∷ [] })
 waiting_soft bag w soft never nothing room is = record {
   distinct = distinct_push w soft.waits never is.distinct;
@@ -221,19 +223,19 @@ waiting_soft bag w soft never nothing room is = record {
 }
   where
     counted : (client : ℕ) → length (waits_of client (soft.waits ++ w ∷ [])) ≡ length (waits_of client soft.waits) + length (waits_of client (w ∷ []))
-    counted client = ap length (filter-append (λ (v : Wait). client == v.0.0) soft.waits (w ∷ [])) ∙ length-append (waits_of client soft.waits) (waits_of client (w ∷ []))
+    counted client = ap length (filter-append (λ (v : Wait). client == v.0.client) soft.waits (w ∷ [])) ∙ length-append (waits_of client soft.waits) (waits_of client (w ∷ []))
 
     few : (client : ℕ) → open_asks client (record { holds = soft.holds; waits = soft.waits ++ w ∷ [] }) ≤ MAX_ASKS
     few client =
         let old = is.few client in
         let more = counted client in
-        elim (cases_eq w.0.0 client) [
+        elim (cases_eq w.0.client client) [
           | inl same ↦
               let here : open_asks client soft < MAX_ASKS = subst (λ c. open_asks c soft < MAX_ASKS) same room in
-              let one : length (waits_of client (w ∷ [])) ≡ length (w ∷ []) = ap (λ b. length (cond b (w ∷ []) [])) (eq-eqb client w.0.0 (sym same)) in
+              let one : length (waits_of client (w ∷ [])) ≡ length (w ∷ []) = ap (λ b. length (cond b (w ∷ []) [])) (eq-eqb client w.0.client (sym same)) in
               omega (arith, here, one, more)
           | inr other ↦
-              let none : length (waits_of client (w ∷ [])) ≡ length {A = Wait} [] = ap (λ b. length (cond b (w ∷ []) [])) (ne_eqb client w.0.0 (λ e. other (sym e))) in
+              let none : length (waits_of client (w ∷ [])) ≡ length {A = Wait} [] = ap (λ b. length (cond b (w ∷ []) [])) (ne_eqb client w.0.client (λ e. other (sym e))) in
               omega (arith, old, none, more)
         ]
 
@@ -245,7 +247,7 @@ nobody = tt
 pub no_asks_soft : (bag : Bagged) → IsSoft bag no_asks
 no_asks_soft bag = record {
   distinct = nobody;
-  one_each = λ i k pair first second. absurd (none-some pair (sym (get_empty i) ∙ first));
+  one_each = λ i k request first second. absurd (none-some request (sym (get_empty i) ∙ first));
   apart = All-nil (λ (w : Wait). (id : ℕ) → get no_asks.holds id ≡ Some w.0 → ⊥);
   few = few;
   there = λ id held. absurd (true≢false (sym held ∙ ap is_some (get_empty id)));
@@ -254,14 +256,14 @@ no_asks_soft bag = record {
     few : (client : ℕ) → open_asks client no_asks ≤ MAX_ASKS
     few client =
         let counted = held_count client no_asks.holds in
-        let fewer = fewer_pass (λ (e : ℕ × (ℕ × ℕ)). true) (λ e. e.1.0 == client) (entries no_asks.holds) in
+        let fewer = fewer_pass (λ (e : ℕ × Request). true) (λ e. e.1.client == client) (entries no_asks.holds) in
         let whole = all_pass (entries no_asks.holds) in
-        let left = all_pass (filter (λ (e : ℕ × (ℕ × ℕ)). e.1.0 == client) (entries no_asks.holds)) in
-        let none = sym (len-entries no_asks.holds) ∙ len-empty nat_cmp (ℕ × ℕ) in
+        let left = all_pass (filter (λ (e : ℕ × Request). e.1.client == client) (entries no_asks.holds)) in
+        let none = sym (len-entries no_asks.holds) ∙ len-empty nat_cmp Request in
         omega (arith, counted, fewer, whole, left, none)
 
 -- A request is given up; a client is closed.
-pub cancelling_soft : (bag : Bagged) (pair : ℕ × ℕ) (held : Option ℕ) (soft : Soft) → IsSoft bag soft → IsSoft bag (on_cancel bag pair held soft).soft
+pub cancelling_soft : (bag : Bagged) (request : Request) (held : Option ℕ) (soft : Soft) → IsSoft bag soft → IsSoft bag (on_cancel bag request held soft).soft
 cancelling_soft bag = cancelling_keeps bag (IsSoft bag) (freed_soft bag) (fewer_soft bag)
 
 pub closing_soft : (bag : Bagged) (client : ℕ) (soft : Soft) → IsSoft bag soft → IsSoft bag (on_close bag client soft).soft

@@ -9,7 +9,9 @@ use Rattle.linda_tuple.specs.Testing.{is_match}
 use Rattle.linda_tuple.proofs.Deciding.{is_match_decides}
 use Rattle.linda_bag.specs.FreeMatch.{IsFreeMatch}
 use Rattle.linda_bag.proofs.Maps.{get_same, get_other, get_removed_same, get_removed_other}
-use Rattle.linda_hold.specs.Waits.{Wait, same_pair, is_reader, is_taker, without_readers, longest}
+use Rattle.linda_hold.specs.declared.request.Request.{Request}
+use Rattle.linda_hold.specs.Request.{same_request}
+use Rattle.linda_hold.specs.Waits.{Wait, is_reader, is_taker, without_readers, longest}
 use Rattle.linda_hold.specs.Holds.{HeldFor}
 use Rattle.linda_step.specs.Soft.{Soft, Bagged, no_asks}
 use Rattle.linda_step.specs.Looking.{IsLeast, passed_over, IsAtRest}
@@ -23,7 +25,7 @@ abbrev CanHave : Bagged → HeldFor → Wait → ℕ → Type 0
 CanHave bag holds w id = IsFreeMatch bag w.1.template (passed_over w.1.remove holds) id
 
 -- What is held alike is passed over alike.
-passed_alike : (takes : Bool) (new old : Option (ℕ × ℕ)) → new ≡ old → (takes && is_some new) ≡ false → (takes && is_some old) ≡ false
+passed_alike : (takes : Bool) (new old : Option Request) → new ≡ old → (takes && is_some new) ≡ false → (takes && is_some old) ≡ false
 passed_alike takes new old same free = subst (λ o. (takes && is_some o) ≡ false) same free
 
 -- There is nothing that a waiting request can have, but for one tuple.
@@ -72,7 +74,7 @@ module _ (bag : Bagged) (id : ℕ) (row : Tuple) (stored : get bag id ≡ Some r
       by (Some first) some =
           let new = insert soft.holds id first.0 in
           let held : get new id ≡ Some first.0 = get_same soft.holds id first.0 in
-          All-filter {X = Wait} (λ w. not (same_pair first.0 w.0)) (λ w. (k : ℕ) → CanHave bag new w k → ⊥) (without_readers row soft.waits)
+          All-filter {X = Wait} (λ w. not (same_request first.0 w.0)) (λ w. (k : ℕ) → CanHave bag new w k → ⊥) (without_readers row soft.waits)
           (all_kept {X = Wait} (λ w. not (is_reader row w))
           (λ w. (k : ℕ) → k ≢ id → CanHave bag soft.holds w k → ⊥)
           (λ w. (k : ℕ) → CanHave bag new w k → ⊥)
@@ -119,16 +121,16 @@ taken_rests bag id soft rest k d within j may =
     ]
 
 -- A tuple is held, for whomever: what may be had after it might be had before.
-pub held_rests : (bag : Bagged) (id : ℕ) (pair : ℕ × ℕ) (soft : Soft) → IsAtRest bag soft → IsAtRest bag (record { holds = insert soft.holds id pair; waits = soft.waits })
-held_rests bag id pair soft rest k d within j may =
+pub held_rests : (bag : Bagged) (id : ℕ) (request : Request) (soft : Soft) → IsAtRest bag soft → IsAtRest bag (record { holds = insert soft.holds id request; waits = soft.waits })
+held_rests bag id request soft rest k d within j may =
     rest k d within j (record { row = may.row; stored = may.stored; matches = may.matches; free = was_free _ may.free })
   where
-    was_free : (takes : Bool) → (takes && is_some (get (insert soft.holds id pair) j)) ≡ false → (takes && is_some (get soft.holds j)) ≡ false
+    was_free : (takes : Bool) → (takes && is_some (get (insert soft.holds id request) j)) ≡ false → (takes && is_some (get soft.holds j)) ≡ false
     was_free false free = refl
     was_free true free =
         elim (cases_eq j id) [
-          | inl same ↦ absurd (true≢false (sym (ap is_some (ap (get (insert soft.holds id pair)) same ∙ get_same soft.holds id pair)) ∙ free))
-          | inr other ↦ passed_alike true (get (insert soft.holds id pair) j) (get soft.holds j) (get_other soft.holds id pair j other) free
+          | inl same ↦ absurd (true≢false (sym (ap is_some (ap (get (insert soft.holds id request)) same ∙ get_same soft.holds id request)) ∙ free))
+          | inr other ↦ passed_alike true (get (insert soft.holds id request) j) (get soft.holds j) (get_other soft.holds id request j other) free
         ]
 
 -- A request that can have nothing waits.
@@ -144,7 +146,7 @@ pub fewer_rests : (bag : Bagged) (p : Wait → Bool) (soft : Soft) → IsAtRest 
 fewer_rests bag p soft rest = All-filter p (λ (w : Wait). (id : ℕ) → CanHave bag soft.holds w id → ⊥) soft.waits rest
 
 -- A request is given up; a client is closed.
-pub cancelling_rests : (bag : Bagged) (pair : ℕ × ℕ) (held : Option ℕ) (soft : Soft) → IsAtRest bag soft → IsAtRest bag (on_cancel bag pair held soft).soft
+pub cancelling_rests : (bag : Bagged) (request : Request) (held : Option ℕ) (soft : Soft) → IsAtRest bag soft → IsAtRest bag (on_cancel bag request held soft).soft
 cancelling_rests bag = cancelling_keeps bag (IsAtRest bag) (freed_rests bag) (fewer_rests bag)
 
 pub closing_rests : (bag : Bagged) (client : ℕ) (soft : Soft) → IsAtRest bag soft → IsAtRest bag (on_close bag client soft).soft

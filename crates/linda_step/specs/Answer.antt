@@ -3,12 +3,13 @@ use Rattle.std.specs.Prelude.{◌≡◌, ℕ, Bool, ◌==◌, false, nat_lt, nat
 use Rattle.std.specs.Prelude.{List, [], ◌∷◌, Option, Some, None, option_to_list}
 use Rattle.std.specs.FinMap as map
 use Rattle.std.specs.Option.{option_map}
+use Rattle.linda_hold.specs.declared.request.Request.{Request}
+use Rattle.linda_hold.specs.Request.{request_of, same_request}
 use Rattle.linda_wire.specs.declared.limits.TheConstants.{MAX_CLIENTS, VERSION}
 use Rattle.linda_wire.specs.declared.limits.TheConstants.{NUMBER_LIMIT}
 use Rattle.linda_wire.specs.Refusal.{refused}
 use Rattle.linda_wire.specs.declared.refusal.Refusal.TheVariants as refusals
 use Rattle.linda_tuple.specs.Tuple.{Tuple}
-use Rattle.linda_hold.specs.Waits.{same_pair}
 use Rattle.linda_wire.specs.declared.message.Message.{Message}
 use Rattle.linda_wire.specs.declared.message.Message.TheVariants as messages
 use Rattle.linda_wire.specs.declared.reply.Reply.{Reply}
@@ -100,14 +101,14 @@ on_out st c n tuple None soft =
       soft = told.soft;
     }
 
--- whether this is the pair that a tuple is held for
-abbrev pub is_for : ℕ × ℕ → Option (ℕ × ℕ) → Bool
-is_for pair None = false
-is_for pair (Some other) = same_pair other pair
+-- whether this is the request that a tuple is held for
+abbrev pub is_for : Request → Option Request → Bool
+is_for request None = false
+is_for request (Some other) = same_request other request
 
--- the tuple under this id, where it is held for this client and ticket
-abbrev pub held_tuple : State → ℕ × ℕ → ℕ → Soft → Option Tuple
-held_tuple st pair id soft = if is_for pair (map.get soft.holds id) then map.get st.bag id else None
+-- the tuple under this id, where it is held for this request
+abbrev pub held_tuple : State → Request → ℕ → Soft → Option Tuple
+held_tuple st request id soft = if is_for request (map.get soft.holds id) then map.get st.bag id else None
 
 -- An accepted offer, given its tuple where it is held for the client: the tuple is taken and its hold is gone; or
 -- the offer is gone, and nothing else changes.
@@ -124,7 +125,7 @@ take_or_pass c n id None soft =
 -- the answer to an Accept, given the reply where it makes no deed
 abbrev pub on_accept : State → ℕ → ℕ → ℕ → ℕ → Option Reply → Soft → Answer
 on_accept st c n ticket id (Some reply) soft = only_reply c reply soft
-on_accept st c n ticket id None soft = take_or_pass c n id (held_tuple st (c, ticket) id soft) soft
+on_accept st c n ticket id None soft = take_or_pass c n id (held_tuple st (request_of c ticket) id soft) soft
 
 -- an answer without a deed that tells what this says
 abbrev pub Tells : (Sends → Type 0) → Answer → Type 0
@@ -139,9 +140,9 @@ IsAnswer st soft c (messages.Out n tuple) answered =
 IsAnswer st soft c (messages.Accept n ticket id) answered =
     answered ≡ on_accept st c n ticket id (accept_without_deed st c n) soft
 IsAnswer st soft c (messages.Ask ticket remove template) answered =
-    Tells (AnswersAsk st.bag (c, ticket) remove template soft) answered
+    Tells (AnswersAsk st.bag (request_of c ticket) remove template soft) answered
 IsAnswer st soft c (messages.Cancel ticket) answered =
-    Tells (AnswersCancel st.bag (c, ticket) soft) answered
+    Tells (AnswersCancel st.bag (request_of c ticket) soft) answered
 
 -- One step of a server: this is the answer, and the new state is the old one after its deed.
 pub record IsStep (st : State) (soft : Soft) (c : ℕ) (m : Message) (answered : Answer) (new : State) : Type 0 where

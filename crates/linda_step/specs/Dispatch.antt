@@ -3,6 +3,7 @@
 use Rattle.std.specs.Prelude.{ℕ, List, [], ◌∷◌, ◌++◌, map, Option, Some, None, option_to_list, if◌then◌else◌}
 use Rattle.std.specs.FinMap as maps
 use Rattle.linda_tuple.specs.Tuple.{Tuple}
+use Rattle.linda_hold.specs.declared.request.Request.{Request}
 use Rattle.linda_hold.specs.Waits.{Wait, is_waiting, readers, without_readers, longest, without, without_client}
 use Rattle.linda_hold.specs.Holds.{held_in}
 use Rattle.linda_wire.specs.declared.reply.Reply.{Reply}
@@ -20,11 +21,11 @@ no_sends soft = record { sends = []; soft = soft }
 
 -- a tuple as the answer to a read that waited
 abbrev pub read_to : ℕ → Tuple → Wait → ℕ × Reply
-read_to id row w = (w.0.0, replies.Read w.0.1 id row)
+read_to id row w = (w.0.client, replies.Read w.0.ticket id row)
 
 -- a tuple as the offer to an input that waited
 abbrev pub offer_to : ℕ → Tuple → Wait → ℕ × Reply
-offer_to id row w = (w.0.0, replies.Offer w.0.1 id row)
+offer_to id row w = (w.0.client, replies.Offer w.0.ticket id row)
 
 -- the tuple is held for this wait, which ends it, or for nobody
 abbrev pub held_for : ℕ → Option Wait → Soft → Soft
@@ -58,10 +59,10 @@ release_if bag None soft = no_sends soft
 release_if bag (Some id) soft = release bag id soft
 
 -- A request is given up, given what is held for it: it waits no longer, or what was held for it is released.
-abbrev pub on_cancel : Bagged → ℕ × ℕ → Option ℕ → Soft → Sends
-on_cancel bag pair held soft =
-    if is_waiting pair soft.waits
-    then no_sends (record { holds = soft.holds; waits = without pair soft.waits })
+abbrev pub on_cancel : Bagged → Request → Option ℕ → Soft → Sends
+on_cancel bag request held soft =
+    if is_waiting request soft.waits
+    then no_sends (record { holds = soft.holds; waits = without request soft.waits })
     else release_if bag held soft
 
 -- one after the other

@@ -1,6 +1,8 @@
 -- What the definitions of states, deeds and steps come to, in the words of those who hand jobs out.
 use Rattle.std.specs.Prelude.{◌≡◌, ◌≢◌, ℕ, false, List, ◌∷◌, All, Some, None}
 use Rattle.std.specs.FinMap as map
+use Rattle.linda_hold.specs.declared.request.Request.{Request}
+use Rattle.linda_hold.specs.Request.{request_of}
 use Rattle.linda_hold.specs.Waits.{is_waiting}
 use Rattle.linda_hold.specs.Holds.{IsHeldAt}
 use Rattle.linda_wire.specs.declared.reply.Reply.{Reply}
@@ -38,10 +40,10 @@ pub record IsAnsweredAgain (c : ℕ) (first again : Answer) (soft : Soft) : Type
   pub again_is : again ≡ only_reply c reply soft
 
 -- A request is over: it neither waits nor holds.
-abbrev pub IsOver : ℕ × ℕ → Soft → Type 0
-IsOver pair soft = (is_waiting pair soft.waits ≡ false) × IsHeldAt soft.holds pair None
+abbrev pub IsOver : Request → Soft → Type 0
+IsOver request soft = (is_waiting request soft.waits ≡ false) × IsHeldAt soft.holds request None
 
 -- A client has left: all its requests are over, and nothing was sent to it.
 pub record HasLeft (client : ℕ) (told : Sends) : Type 0 where
-  pub requests : (ticket : ℕ) → IsOver (client, ticket) told.soft
+  pub requests : (ticket : ℕ) → IsOver (request_of client ticket) told.soft
   pub silent : All (λ (send : ℕ × Reply). send.0 ≢ client) told.sends

@@ -11,8 +11,7 @@ use Rattle.linda_hold.specs.Holds.{HeldFor, IsOneEach, held_in}
 abbrev pub Bagged : Type 0
 Bagged = map.FinMap nat_cmp Tuple
 
--- The tuples that are held, by id, each for a client and a ticket; and the requests that wait, in order of
--- arrival.
+-- The tuples that are held, by id, each for a request; and the requests that wait, in order of arrival.
 pub record Soft : Type 0 where
   pub holds : HeldFor
   pub waits : List Wait
@@ -25,11 +24,11 @@ no_asks = record { holds = map.empty; waits = [] }
 abbrev pub open_asks : ℕ → Soft → ℕ
 open_asks client soft = length (waits_of client soft.waits) + length (held_in client (map.entries soft.holds))
 
--- Nobody waits and holds with the same ticket.
+-- No request waits and holds.
 abbrev pub AreApart : Soft → Type 0
 AreApart soft = All (λ (w : Wait). (id : ℕ) → map.get soft.holds id ≡ Some w.0 → ⊥) soft.waits
 
--- The ranges that holds and waits keep beside a bag: no client and ticket stand twice in them, no client has more
+-- The ranges that holds and waits keep beside a bag: no request stands twice in them, no client has more
 -- open asks than the limit, and what is held is in the bag.
 pub record IsSoft (bag : Bagged) (soft : Soft) : Type 0 where
   pub distinct : AreDistinct soft.waits

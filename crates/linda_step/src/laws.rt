@@ -3,6 +3,7 @@
 
 ghost use Rattle.std.specs.Prelude.{◌≡◌, ℕ, ◌++◌, List, Option, IsSome, option_to_list};
 ghost use Rattle.std.specs.FinMap as map;
+ghost use Rattle.linda_hold.specs.declared.request.Request.{Request};
 ghost use Rattle.linda_hold.specs.Holds.{IsHeldAt, IsOneEach};
 ghost use Rattle.linda_wire.specs.declared.message.Message.{Message};
 ghost use Rattle.linda_state.specs.declared.deed.Deed.{Deed};
@@ -86,8 +87,8 @@ pub fn a_repeated_message_gets_the_same_reply()
 
 /// A request that is given up neither waits nor holds.
 pub fn a_cancelled_request_is_over()
-    ensures { (bag : Bagged) (pair : ℕ × ℕ) (held : Option ℕ) (soft : Soft)
-        → IsSoft bag soft → IsHeldAt soft.holds pair held → IsOver pair (on_cancel bag pair held soft).soft }
+    ensures { (bag : Bagged) (request : Request) (held : Option ℕ) (soft : Soft)
+        → IsSoft bag soft → IsHeldAt soft.holds request held → IsOver request (on_cancel bag request held soft).soft }
 {}
 
 /// A client that is closed has no request that waits or holds, and nothing is sent to it.

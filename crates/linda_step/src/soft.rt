@@ -11,7 +11,7 @@ ghost use Rattle.linda_step.specs.Dispatch.{Sends, dispatch, release, release_al
 ghost use Rattle.linda_step.specs.Asking.{AnswersCancel};
 
 use linda_bag::Bag;
-use linda_hold::{Holds, Waits};
+use linda_hold::{Holds, Request, Waits};
 use linda_tuple::Tuple;
 use linda_wire::Reply;
 use std::alloc::{AllocError, Global};
@@ -84,11 +84,12 @@ impl Soft {
         let longest = self.waits.longest(tuple);
         let readers = self.waits.take_readers(alloc, tuple)?;
         answer_reads(alloc, readers, id, tuple, sends)?;
-        if let Some((client, ticket)) = longest {
+        if let Some(request) = longest {
+            let Request { client, ticket } = request;
             let tuple = tuple.try_clone(alloc)?;
             sends.push((client, Reply::Offer { ticket, id, tuple }))?;
-            self.holds.insert(id, client, ticket)?;
-            self.waits.remove(client, ticket);
+            self.holds.insert(id, request)?;
+            self.waits.remove(request);
         }
         Ok(())
     }
@@ -139,8 +140,8 @@ impl Soft {
         Ok(())
     }
 
-    /// The client gives up the ticket: it waits no more, or what is held for it is released. A ticket
-    /// that neither waits nor holds changes nothing. What is sent, each reply to a client, in order.
+    /// The request is given up: it waits no more, or what is held for it is released. One that neither
+    /// waits nor holds changes nothing. What is sent, each reply to a client, in order.
     ///
     /// # Errors
     ///
@@ -149,17 +150,16 @@ impl Soft {
         &mut self,
         alloc: Global,
         bag: &B,
-        client: u32,
-        ticket: u64,
+        request: Request,
     ) -> Result<Vec<(u32, Reply)>, AllocError>
         requires { AreApart self.old }
-        ensures { IfOk result (λ sends. AnswersCancel (B.contents bag.now) (client, ticket) self.old
+        ensures { IfOk result (λ sends. AnswersCancel (B.contents bag.now) request self.old
             (record { sends = sends.items; soft = self.new })) }
     {
         let mut sends = Vec::new(alloc);
-        let held = self.holds.find(client, ticket);
-        if self.waits.contains(client, ticket) {
-            self.waits.remove(client, ticket);
+        let held = self.holds.find(request);
+        if self.waits.contains(request) {
+            self.waits.remove(request);
         } else if let Some(id) = held {
             self.release(alloc, bag, id, &mut sends)?;
         }
@@ -193,15 +193,15 @@ impl Soft {
 // Answers each of the reads with the tuple, in this order.
 fn answer_reads(
     alloc: Global,
-    readers: Vec<(u32, u64)>,
+    readers: Vec<Request>,
     id: u64,
     tuple: &Tuple,
     sends: &mut Vec<(u32, Reply)>,
 ) -> Result<(), AllocError>
     ensures { OnOk result (sends.new.items
-        ≡ sends.old.items ++ map (λ pair. (pair.0, replies.Read pair.1 id tuple.now)) readers.items) }
+        ≡ sends.old.items ++ map (λ r. (r.client, replies.Read r.ticket id tuple.now)) readers.items) }
 {
-    for (client, ticket) in readers {
+    for Request { client, ticket } in readers {
         let tuple = tuple.try_clone(alloc)?;
         sends.push((client, Reply::Read { ticket, id, tuple }))?;
     }

@@ -9,6 +9,7 @@ ghost use Rattle.linda_step.specs.Answer.{IsStep};
 
 use crate::soft::Soft;
 use linda_bag::Bag;
+use linda_hold::Request;
 use linda_state::{Deed, State};
 use linda_wire::{Message, Reply};
 use std::alloc::{AllocError, Global};
@@ -71,9 +72,15 @@ pub(crate) fn answer_message<B: Bag>(
             ticket,
             remove,
             template,
-        } => Ok(only_sends(soft.ask(alloc, &state.bag, client, *ticket, *remove, template)?)),
+        } => {
+            let ticket = *ticket;
+            let request = Request { client, ticket };
+            Ok(only_sends(soft.ask(alloc, &state.bag, request, *remove, template)?))
+        }
         Message::Cancel { ticket } => {
-            Ok(only_sends(soft.cancel(alloc, &state.bag, client, *ticket)?))
+            let ticket = *ticket;
+            let request = Request { client, ticket };
+            Ok(only_sends(soft.cancel(alloc, &state.bag, request)?))
         }
     }
 }

@@ -2,7 +2,7 @@
 
 use linda_bag::Bag;
 use linda_book::{Book, KeptReply};
-use linda_hold::Holds;
+use linda_hold::{Holds, Request};
 use linda_state::State;
 use linda_text::write_tuple;
 use linda_tuple::Tuple;
@@ -62,12 +62,14 @@ fn push_tuple(
     lines: &mut String,
     id: u64,
     tuple: &Tuple,
-    held: Option<(u32, u64)>,
+    held: Option<Request>,
 ) -> Result<(), AllocError> {
     let text = write_tuple(alloc, tuple)?;
     match held {
         None => writeln!(lines, "tuple {id} {text} free"),
-        Some((client, ticket)) => writeln!(lines, "tuple {id} {text} held {client} {ticket}"),
+        Some(Request { client, ticket }) => {
+            writeln!(lines, "tuple {id} {text} held {client} {ticket}")
+        }
     }
 }
 

@@ -12,15 +12,15 @@ ghost use Rattle.linda_step.specs.Asking.{AnswersAsk, offer_of, read_of, serve};
 use super::Soft;
 use crate::step::one_send;
 use linda_bag::Bag;
-use linda_hold::Asked;
+use linda_hold::{Asked, Request};
 use linda_tuple::Template;
 use linda_wire::{MAX_ASKS, Refusal, Reply};
 use std::alloc::{AllocError, Global};
 use std::collections::BTreeSet;
 
 impl Soft {
-    /// The client asks for a tuple that the template matches, to take it away or to copy it. A ticket
-    /// for which a tuple is held is offered that again, one that waits is sent nothing, and a client
+    /// The request asks for a tuple that the template matches, to take it away or to copy it. One for
+    /// which a tuple is held is offered that again, one that waits is sent nothing, and one of a client
     /// with 64 open asks is refused; nothing changes then. Else the least tuple that it can have is
     /// offered to an input, which holds it, or answers a read; and where there is none it waits. What
     /// is sent, each reply to a client, in order.
@@ -32,22 +32,25 @@ impl Soft {
         &mut self,
         alloc: Global,
         bag: &B,
-        client: u32,
-        ticket: u64,
+        request: Request,
         remove: bool,
         template: &Template,
     ) -> Result<Vec<(u32, Reply)>, AllocError>
-        ensures { IfOk result (λ sends. AnswersAsk (B.contents bag.now) (client, ticket) remove template.now
+        ensures { IfOk result (λ sends. AnswersAsk (B.contents bag.now) request remove template.now
             self.old (record { sends = sends.items; soft = self.new })) }
     {
-        if let Some(id) = self.holds.find(client, ticket) {
-            offer_of(alloc, bag, id, client, ticket)
-        } else if self.waits.contains(client, ticket) {
+        if let Some(id) = self.holds.find(request) {
+            offer_of(alloc, bag, id, request)
+        } else if self.waits.contains(request) {
             Ok(Vec::new(alloc))
-        } else if self.asks_too_much(client) {
-            one_send(alloc, client, Refusal::TooManyAsks(ticket).reply())
+        } else if self.asks_too_much(request.client) {
+            one_send(
+                alloc,
+                request.client,
+                Refusal::TooManyAsks(request.ticket).reply(),
+            )
         } else {
-            self.serve(alloc, bag, client, ticket, remove, template)
+            self.serve(alloc, bag, request, remove, template)
         }
     }
 
@@ -65,28 +68,27 @@ impl Soft {
         &mut self,
         alloc: Global,
         bag: &B,
-        client: u32,
-        ticket: u64,
+        request: Request,
         remove: bool,
         template: &Template,
     ) -> Result<Vec<(u32, Reply)>, AllocError>
-        requires held { IsHeldAt self.old.holds (client, ticket) None }
-        requires waiting { is_waiting (client, ticket) self.old.waits ≡ false }
+        requires held { IsHeldAt self.old.holds request None }
+        requires waiting { is_waiting request self.old.waits ≡ false }
         ensures { IfOk result (λ sends. (least : Option ℕ)
             × IsLeast (B.contents bag.now) template.now (passed_over remove self.old.holds) least
             × (let t : Sends = record { sends = sends.items; soft = self.new }
-            in t ≡ serve (B.contents bag.now) (client, ticket) remove template.now least self.old)) }
+            in t ≡ serve (B.contents bag.now) request remove template.now least self.old)) }
     {
         match self.least_match(alloc, bag, remove, template) {
             Some(id) if remove => {
-                let sends = offer_of(alloc, bag, id, client, ticket)?;
-                self.holds.insert(id, client, ticket)?;
+                let sends = offer_of(alloc, bag, id, request)?;
+                self.holds.insert(id, request)?;
                 Ok(sends)
             }
-            Some(id) => read_of(alloc, bag, id, client, ticket),
+            Some(id) => read_of(alloc, bag, id, request),
             None => {
                 let template = template.try_clone(alloc)?;
-                self.waits.add(client, ticket, Asked { remove, template })?;
+                self.waits.add(request, Asked { remove, template })?;
                 Ok(Vec::new(alloc))
             }
         }
@@ -110,16 +112,16 @@ impl Soft {
     }
 }
 
-// The tuple under the id, if the bag has it, offered to the client for its ticket.
+// The tuple under the id, if the bag has it, offered for the request.
 fn offer_of<B: Bag>(
     alloc: Global,
     bag: &B,
     id: u64,
-    client: u32,
-    ticket: u64,
+    request: Request,
 ) -> Result<Vec<(u32, Reply)>, AllocError>
-    ensures { IfOk result (λ sends. sends.items ≡ offer_of (B.contents bag.now) id (client, ticket)) }
+    ensures { IfOk result (λ sends. sends.items ≡ offer_of (B.contents bag.now) id request) }
 {
+    let Request { client, ticket } = request;
     match bag.get(id) {
         Some(tuple) => {
             let tuple = tuple.try_clone(alloc)?;
@@ -129,16 +131,16 @@ fn offer_of<B: Bag>(
     }
 }
 
-// The tuple under the id, if the bag has it, as the answer to the client's read.
+// The tuple under the id, if the bag has it, as the answer to the read.
 fn read_of<B: Bag>(
     alloc: Global,
     bag: &B,
     id: u64,
-    client: u32,
-    ticket: u64,
+    request: Request,
 ) -> Result<Vec<(u32, Reply)>, AllocError>
-    ensures { IfOk result (λ sends. sends.items ≡ read_of (B.contents bag.now) id (client, ticket)) }
+    ensures { IfOk result (λ sends. sends.items ≡ read_of (B.contents bag.now) id request) }
 {
+    let Request { client, ticket } = request;
     match bag.get(id) {
         Some(tuple) => {
             let tuple = tuple.try_clone(alloc)?;

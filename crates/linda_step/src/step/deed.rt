@@ -4,6 +4,7 @@
 
 ghost use Rattle.std.specs.Prelude.{◌≡◌, ◌∷◌, [], Some, IfOk, OnOk, OnErr, option_to_list};
 ghost use Rattle.linda_wire.specs.declared.reply.Reply.TheVariants as replies;
+ghost use Rattle.linda_hold.specs.Request.{request_of};
 ghost use Rattle.linda_state.specs.declared.deed.Deed.TheVariants as deeds;
 ghost use Rattle.linda_state.specs.State.{IsState};
 ghost use Rattle.linda_state.specs.After.{IsAfter};
@@ -16,6 +17,7 @@ ghost use Rattle.linda_step.specs.Answer.{held_tuple, take_or_pass};
 use super::{Step, one_send};
 use crate::soft::Soft;
 use linda_bag::Bag;
+use linda_hold::Request;
 use linda_state::{Deed, State};
 use linda_tuple::Tuple;
 use linda_wire::Reply;
@@ -77,11 +79,11 @@ pub(crate) fn accept<B: Bag>(
     requires { IsState state.old }
     ensures answer { IfOk result (λ s.
         record { deed = s.deed; sends = s.sends.items; soft = soft.new }
-        ≡ take_or_pass client n id (held_tuple state.old (client, ticket) id soft.old) soft.old) }
+        ≡ take_or_pass client n id (held_tuple state.old (request_of client ticket) id soft.old) soft.old) }
     ensures after { IfOk result (λ s. IsAfter state.old (option_to_list s.deed) state.new) }
     ensures err { OnErr result (state.new ≡ state.old) }
 {
-    if !is_for(client, ticket, soft.holds.get(id)) {
+    if !is_for(Request { client, ticket }, soft.holds.get(id)) {
         return pass(state, alloc, client, n, id);
     }
     let mut sends = Vec::with_capacity(alloc, 1)?;
@@ -120,12 +122,12 @@ fn pass<B: Bag>(
     })
 }
 
-// Whether this is the client and the ticket that a tuple is held for.
-fn is_for(client: u32, ticket: u64, held_for: Option<(u32, u64)>) -> bool
-    ensures { result ≡ spec.is_for (client, ticket) held_for }
+// Whether this is the request that a tuple is held for.
+fn is_for(request: Request, held_for: Option<Request>) -> bool
+    ensures { result ≡ spec.is_for request held_for }
 {
     match held_for {
-        Some(pair) => pair == (client, ticket),
+        Some(other) => other == request,
         None => false,
     }
 }

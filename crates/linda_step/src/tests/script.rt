@@ -10,6 +10,7 @@
 use crate::step::Step;
 use crate::store::Store;
 use linda_bag::{Bag, IndexBag, ListBag};
+use linda_hold::Request;
 use linda_state::{Deed, State};
 use linda_tuple::{Atom, Pattern, Template, Text, Tuple};
 use linda_wire::{Message, Reply};
@@ -379,7 +380,7 @@ impl<B: Bag> Script<B> {
 
     fn hold_line(&self, id: u64) -> Result<String, Fail> {
         match self.store.holds().get(id) {
-            Some((client, ticket)) => {
+            Some(Request { client, ticket }) => {
                 Ok(format!(in self.alloc; "= hold {id} {client} {ticket}")?)
             }
             None => Ok(format!(in self.alloc; "= hold {id} nobody")?),

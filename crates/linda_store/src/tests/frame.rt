@@ -57,6 +57,12 @@ pub(crate) const STORED_1_1: [u8; 21] = [
     0, 0, 0, 0x11, 0x12, 0, 0, 0, 0, 0, 0, 0, 1, 0, 0, 0, 0, 0, 0, 0, 1,
 ];
 
+/// The client and the ticket that the tuple 1 is held for.
+pub(crate) fn holder(node: &Volatile) -> Option<(u32, u64)> {
+    let request = node.holds().get(1)?;
+    Some((request.client, request.ticket))
+}
+
 /// The tuple 1, `("a", 3)`, by the reply of this kind to the number or ticket of one byte.
 pub(crate) fn with_tuple(kind: u8, number: u8) -> [u8; 34] {
     [

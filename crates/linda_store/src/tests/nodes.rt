@@ -3,7 +3,7 @@
 ghost use Rattle.std.specs.Prelude.{◌≤◌, length, IfOk};
 ghost use Rattle.linda_step.specs.declared.size.TheConstants.{MAX_BATCH};
 
-use super::frame::{OUT, STORED_1_1, ask_by, joined, message, with_tuple};
+use super::frame::{OUT, STORED_1_1, ask_by, holder, joined, message, with_tuple};
 use crate::node::Node;
 use crate::volatile::Volatile;
 use crate::work::Work;
@@ -61,7 +61,7 @@ fn closes_a_client(rt: &impl Abort, alloc: Global, node: &mut Volatile) -> Resul
 fn a_node_that_closes_a_client_offers_what_it_held(rt: HostRuntime) -> Result<(), Fail> {
     let mut node = Volatile::new(rt.alloc());
     closes_a_client(&rt, rt.alloc(), &mut node)?;
-    assert_eq!(rt; node.holds().get(1), Some((8, 2)));
+    assert_eq!(rt; holder(&node), Some((8, 2)));
     assert_eq!(rt; node.state().next, 2);
     assert!(rt; !node.is_down());
     Ok(())
@@ -89,9 +89,9 @@ fn is_stopped(rt: &impl Abort, alloc: Global, node: &mut Volatile) -> Result<(),
         frames_to(rt, alloc, 7, &sends)?.as_slice(),
         want.as_slice()
     );
-    assert_eq!(rt; node.holds().get(1), Some((7, 1)));
+    assert_eq!(rt; holder(node), Some((7, 1)));
     node.snapshot(alloc)?;
-    assert_eq!(rt; node.holds().get(1), Some((7, 1)));
+    assert_eq!(rt; holder(node), Some((7, 1)));
     let work = Work::Messages(batch(alloc, &[(8, &OUT), (8, &ask_by(2))])?);
     let deeds = node.stop(alloc, work, 0, Torn::Lost)?;
     assert_eq!(rt; deeds.len(), 1);
@@ -102,7 +102,7 @@ fn is_stopped(rt: &impl Abort, alloc: Global, node: &mut Volatile) -> Result<(),
 fn a_stopped_node_keeps_its_deeds_and_nothing_that_is_held(rt: HostRuntime) -> Result<(), Fail> {
     let mut node = Volatile::new(rt.alloc());
     is_stopped(&rt, rt.alloc(), &mut node)?;
-    assert_eq!(rt; node.holds().get(1), None);
+    assert_eq!(rt; holder(&node), None);
     assert_eq!(rt; node.state().next, 3);
     assert!(rt; !node.is_down());
     Ok(())

@@ -157,9 +157,9 @@ fn the_end_of_a_conversation_closes_its_client(rt: HostRuntime) -> Result<(), Fa
     let alloc = rt.alloc();
     let mut node = Volatile::new(alloc);
     fill(alloc, &mut node)?;
-    assert_eq!(rt; node.holds().get(1), Some((7, 5)));
+    assert_eq!(rt; holder(&node), Some((7, 5)));
     talks(&rt, alloc, &mut node, &[&HELLO_AGAIN], &[&WELCOME_1])?;
-    assert_eq!(rt; node.holds().get(1), Some((8, 6)));
+    assert_eq!(rt; holder(&node), Some((8, 6)));
     Ok(())
 }
 
@@ -169,7 +169,7 @@ fn a_client_that_is_not_welcome_is_not_closed(rt: HostRuntime) -> Result<(), Fai
     let mut node = Volatile::new(alloc);
     fill(alloc, &mut node)?;
     talks(&rt, alloc, &mut node, &[&HELLO], &[&refused(2, 1)])?;
-    assert_eq!(rt; node.holds().get(1), Some((7, 5)));
+    assert_eq!(rt; holder(&node), Some((7, 5)));
     Ok(())
 }
 
@@ -185,7 +185,7 @@ fn a_failed_conversation_closes_its_client(rt: HostRuntime) -> Result<(), Fail> 
     };
     let end = converse(alloc, &mut node, &mut reader, &mut writer);
     assert_eq!(rt; end, Err(ConverseFault::Write));
-    assert_eq!(rt; node.holds().get(1), Some((8, 6)));
+    assert_eq!(rt; holder(&node), Some((8, 6)));
     Ok(())
 }
 
@@ -201,7 +201,7 @@ fn replies_to_other_clients_are_not_written(rt: HostRuntime) -> Result<(), Fail>
         &[&HELLO, &OUT],
         &[&WELCOME_0, &STORED_1_1],
     )?;
-    assert_eq!(rt; node.holds().get(1), Some((8, 6)));
+    assert_eq!(rt; holder(&node), Some((8, 6)));
     Ok(())
 }
 

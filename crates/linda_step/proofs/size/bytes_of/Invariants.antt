@@ -1,4 +1,4 @@
-use Rattle.std.proofs.Common.{◌≡◌, ℕ, ◌+◌, ◌*◌, ◌≤◌, take, drop, length}
+use Rattle.std.proofs.Common.{◌≡◌, ◌+◌, ◌*◌, ◌≤◌, take, drop}
 use Rattle.linda_wire.specs.declared.limits.TheConstants.{MAX_CLIENTS}
 use Rattle.linda_state.specs.declared.limits.TheConstants.{MAX_DEED_BYTES}
 use Rattle.linda_wire.specs.declared.limits.TheConstants.{NUMBER_LIMIT}

@@ -6,9 +6,9 @@ use Rattle.linda_hold.proofs.holding.Holds.find.Goals as goal
 pub returns-clause-value : goal.returns-clause-value
 returns-clause-value c =
     subst
-    (IsHeldAt c.args.self.now (c.args.client, c.args.ticket))
+    (IsHeldAt c.args.self.now c.args.request)
     (sym c.number_of.ensures)
-    (held_at c.self.inside.by_id c.args.self.now c.self.view_is c.self.invariant.1.1.0 (c.args.client, c.args.ticket))
+    (held_at c.self.inside.by_id c.args.self.now c.self.view_is c.self.invariant.1.1.0 c.args.request)
 
 pub returns-clause-one_each : goal.returns-clause-one_each
 returns-clause-one_each c = one_each c.self.inside.by_id c.args.self.now c.self.view_is c.self.invariant.1.1.0

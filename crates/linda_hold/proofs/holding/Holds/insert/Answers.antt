@@ -26,8 +26,8 @@ invariant_of-self-in-Ok c = (
 
 pub returns-in-Ok-clause-ok : goal.returns-in-Ok-clause-ok
 returns-in-Ok-clause-ok c =
-    one_set c.self.inside.by_id c.insert.new.self c.args.id (c.args.client, c.args.ticket) c.in-Ok.ensures.updates
-    ∙ ap (λ m. map.insert m c.args.id (c.args.client, c.args.ticket)) c.self.view_is
+    one_set c.self.inside.by_id c.insert.new.self c.args.id c.args.request c.in-Ok.ensures.updates
+    ∙ ap (λ m. map.insert m c.args.id c.args.request) c.self.view_is
 
 pub invariant_of-self-in-Err : goal.invariant_of-self-in-Err
 invariant_of-self-in-Err c = (

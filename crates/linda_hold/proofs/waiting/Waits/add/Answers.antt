@@ -10,8 +10,8 @@ use Rattle.linda_hold.proofs.waiting.Waits.add.Goals as goal
 
 pub put-requires : goal.put-requires
 put-requires c =
-    unnamed c.self.inside.by_arrival c.self.invariant.0 c.self.invariant.1.0.0 (c.args.client, c.args.ticket)
-    (ap (is_waiting (c.args.client, c.args.ticket)) c.self.view_is ∙ c.requires)
+    unnamed c.self.inside.by_arrival c.self.invariant.0 c.self.invariant.1.0.0 c.args.request
+    (ap (is_waiting c.args.request) c.self.view_is ∙ c.requires)
 
 pub invariant_of-self : goal.invariant_of-self
 invariant_of-self c =
@@ -33,8 +33,8 @@ pub returns-in-Ok-clause-ok : goal.returns-in-Ok-clause-ok
 returns-in-Ok-clause-ok c =
     let above = recursion_from_All (λ q. q < c.in_ok-number.number) (tree.keys c.self.inside.by_arrival) c.in_ok-number.ensures in
     ap values_of c.in-Ok.ensures.entries
-    ∙ inserted_last _ ((c.args.client, c.args.ticket), c.args.asked) c.self.inside.by_arrival.entries above
-    ∙ ap (λ waits. waits ++ ((c.args.client, c.args.ticket), c.args.asked) ∷ []) c.self.view_is
+    ∙ inserted_last _ (c.args.request, c.args.asked) c.self.inside.by_arrival.entries above
+    ∙ ap (λ waits. waits ++ (c.args.request, c.args.asked) ∷ []) c.self.view_is
 
 pub invariant_of-self-in-Err : goal.invariant_of-self-in-Err
 invariant_of-self-in-Err c = (

@@ -8,5 +8,5 @@ pub returns : goal.returns
 returns c =
     c.is_some.ensures
     ∙ ap is_some c.number_of.ensures
-    ∙ waits_where_found c.self.inside.by_arrival c.self.invariant.0 c.self.invariant.1.0.0 (c.args.client, c.args.ticket)
-    ∙ ap (is_waiting (c.args.client, c.args.ticket)) c.self.view_is
+    ∙ waits_where_found c.self.inside.by_arrival c.self.invariant.0 c.self.invariant.1.0.0 c.args.request
+    ∙ ap (is_waiting c.args.request) c.self.view_is

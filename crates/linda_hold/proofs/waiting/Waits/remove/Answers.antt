@@ -17,19 +17,19 @@ invariant_of-self c = (
 pub returns-in-Some-remove : goal.returns-in-Some-remove
 returns-in-Some-remove c =
     ap values_of c.remove.ensures.entries
-    ∙ without_found c.self.inside.by_arrival c.self.invariant.0 c.self.invariant.1.0.0 (c.args.client, c.args.ticket) c.in-Some.number (sym c.in-Some.ensures)
-    ∙ ap (without (c.args.client, c.args.ticket)) c.self.view_is
+    ∙ without_found c.self.inside.by_arrival c.self.invariant.0 c.self.invariant.1.0.0 c.args.request c.in-Some.number (sym c.in-Some.ensures)
+    ∙ ap (without c.args.request) c.self.view_is
 
 pub invariant_of-self-in_default-remove : goal.invariant_of-self-in_default-remove
 invariant_of-self-in_default-remove c =
-    absurd (entry_found c.self.inside.by_arrival c.self.invariant.0 c.self.invariant.1.0.0 (c.args.client, c.args.ticket) c.in-Some.number (sym c.in-Some.ensures) (sym c.remove.ensures.value ∙ c.in_default-remove.is))
+    absurd (entry_found c.self.inside.by_arrival c.self.invariant.0 c.self.invariant.1.0.0 c.args.request c.in-Some.number (sym c.in-Some.ensures) (sym c.remove.ensures.value ∙ c.in_default-remove.is))
 
 pub returns-in_default-remove : goal.returns-in_default-remove
 returns-in_default-remove c =
-    absurd (entry_found c.self.inside.by_arrival c.self.invariant.0 c.self.invariant.1.0.0 (c.args.client, c.args.ticket) c.in-Some.number (sym c.in-Some.ensures) (sym c.remove.ensures.value ∙ c.in_default-remove.is))
+    absurd (entry_found c.self.inside.by_arrival c.self.invariant.0 c.self.invariant.1.0.0 c.args.request c.in-Some.number (sym c.in-Some.ensures) (sym c.remove.ensures.value ∙ c.in_default-remove.is))
 
 pub returns-in_default : goal.returns-in_default
 returns-in_default c =
     sym c.self.view_is
-    ∙ without_absent c.self.inside.by_arrival c.self.invariant.0 c.self.invariant.1.0.0 (c.args.client, c.args.ticket) (sym c.number_of.ensures ∙ c.in_default.is)
-    ∙ ap (without (c.args.client, c.args.ticket)) c.self.view_is
+    ∙ without_absent c.self.inside.by_arrival c.self.invariant.0 c.self.invariant.1.0.0 c.args.request (sym c.number_of.ensures ∙ c.in_default.is)
+    ∙ ap (without c.args.request) c.self.view_is

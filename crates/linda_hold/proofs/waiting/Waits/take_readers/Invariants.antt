@@ -3,5 +3,5 @@ use Rattle.linda_hold.proofs.Lists.{without_all}
 use Rattle.linda_hold.proofs.waiting.Waits.take_readers.Given as goal
 
 -- Those that were passed are taken out.
-abbrev pub invariant-loop-client : goal.invariant-loop-client
-invariant-loop-client l = l.self ≡ without_all (take l.client-index l.client-items) l.fn.self
+abbrev pub invariant-loop-request : goal.invariant-loop-request
+invariant-loop-request l = l.self ≡ without_all (take l.request-index l.request-items) l.fn.self

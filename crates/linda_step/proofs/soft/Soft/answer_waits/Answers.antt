@@ -9,7 +9,7 @@ use Rattle.linda_step.proofs.soft.Soft.answer_waits.Goals as goal
 pub insert-requires : goal.insert-requires
 insert-requires c =
     let soft : Soft = record { holds = c.self.inside.holds; waits = c.self.inside.waits } in
-    longest_holds_nothing c.args.id c.args.tuple.now soft (c.in-Some.client, c.in-Some.ticket)
+    longest_holds_nothing c.args.id c.args.tuple.now soft c.in-Some.request
     (subst AreApart (sym c.self.view_is) c.requires)
     (sym c.longest-longest.ensures ∙ c.in-Some.is)
 
@@ -17,15 +17,15 @@ insert-requires c =
 pub returns-in_ok-insert-clause-sends : goal.returns-in_ok-insert-clause-sends
 returns-in_ok-insert-clause-sends c =
     let soft : Soft = record { holds = c.self.inside.holds; waits = c.self.inside.waits } in
-    let told = told_offer c.args.id c.args.tuple.now soft (c.in-Some.client, c.in-Some.ticket) (sym c.longest-longest.ensures ∙ c.in-Some.is) in
+    let told = told_offer c.args.id c.args.tuple.now soft c.in-Some.request (sym c.longest-longest.ensures ∙ c.in-Some.is) in
     subst
     (λ s. c.push.new.self.items ≡ c.args.sends.now.items ++ (dispatch c.args.id c.args.tuple.now s).sends)
     c.self.view_is
     (c.in_ok-push.ensures.items
-    ∙ ap (λ row. c.answer_reads.new.sends.items ++ offer_for c.args.id row (c.in-Some.client, c.in-Some.ticket) ∷ []) c.in_ok-tuple.ensures
-    ∙ ap (λ sends. sends ++ offer_for c.args.id c.args.tuple.now (c.in-Some.client, c.in-Some.ticket) ∷ [])
-    (c.in_ok-answer_reads.ensures ∙ ap (λ pairs. c.args.sends.now.items ++ map (read_for c.args.id c.args.tuple.now) pairs) c.in_ok-readers.ensures.found)
-    ∙ append_assoc c.args.sends.now.items (map (read_for c.args.id c.args.tuple.now) (map (λ w. w.0) (readers c.args.tuple.now soft.waits))) (offer_for c.args.id c.args.tuple.now (c.in-Some.client, c.in-Some.ticket) ∷ [])
+    ∙ ap (λ row. c.answer_reads.new.sends.items ++ offer_for c.args.id row c.in-Some.request ∷ []) c.in_ok-tuple.ensures
+    ∙ ap (λ sends. sends ++ offer_for c.args.id c.args.tuple.now c.in-Some.request ∷ [])
+    (c.in_ok-answer_reads.ensures ∙ ap (λ requests. c.args.sends.now.items ++ map (read_for c.args.id c.args.tuple.now) requests) c.in_ok-readers.ensures.found)
+    ∙ append_assoc c.args.sends.now.items (map (read_for c.args.id c.args.tuple.now) (map (λ w. w.0) (readers c.args.tuple.now soft.waits))) (offer_for c.args.id c.args.tuple.now c.in-Some.request ∷ [])
     ∙ ap (λ t. c.args.sends.now.items ++ t.sends) (sym told))
 
 -- The answers to the reads alone.
@@ -37,5 +37,5 @@ returns-in_default-clause-sends c =
     (λ s. c.answer_reads.new.sends.items ≡ c.args.sends.now.items ++ (dispatch c.args.id c.args.tuple.now s).sends)
     c.self.view_is
     (c.in_ok-answer_reads.ensures
-    ∙ ap (λ pairs. c.args.sends.now.items ++ map (read_for c.args.id c.args.tuple.now) pairs) c.in_ok-readers.ensures.found
+    ∙ ap (λ requests. c.args.sends.now.items ++ map (read_for c.args.id c.args.tuple.now) requests) c.in_ok-readers.ensures.found
     ∙ ap (λ t. c.args.sends.now.items ++ t.sends) (sym told))

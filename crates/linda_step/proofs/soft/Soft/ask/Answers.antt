@@ -10,7 +10,7 @@ pub returns-in-Some : goal.returns-in-Some
 returns-in-Some g c =
     let soft : Soft = record { holds = c.self.inside.holds; waits = c.self.inside.waits } in
     subst
-    (λ s. IfOk c.offer_of.result (λ sends. AnswersAsk (g.B.Bag.contents c.args.bag.now) (c.args.client, c.args.ticket) c.args.remove c.args.template.now s (only_sent sends.items s)))
+    (λ s. IfOk c.offer_of.result (λ sends. AnswersAsk (g.B.Bag.contents c.args.bag.now) c.args.request c.args.remove c.args.template.now s (only_sent sends.items s)))
     c.self.view_is
     (IfOk-weaker c.offer_of.result _ _ (λ sends. offered_again _ _ _ _ soft sends.items c.in-Some.id c.in-Some.ensures.value) c.offer_of.ensures)
 
@@ -18,7 +18,7 @@ pub returns-then-contains : goal.returns-then-contains
 returns-then-contains g c =
     let soft : Soft = record { holds = c.self.inside.holds; waits = c.self.inside.waits } in
     subst
-    (λ s. AnswersAsk (g.B.Bag.contents c.args.bag.now) (c.args.client, c.args.ticket) c.args.remove c.args.template.now s (only_sent c.new.result.items s))
+    (λ s. AnswersAsk (g.B.Bag.contents c.args.bag.now) c.args.request c.args.remove c.args.template.now s (only_sent c.new.result.items s))
     c.self.view_is
     (waits_on _ _ _ _ soft c.new.result.items c.in_default.ensures.value (sym c.contains.ensures ∙ c.if-contains.true) c.new.ensures.items)
 
@@ -26,8 +26,8 @@ pub returns-then-asks_too_much : goal.returns-then-asks_too_much
 returns-then-asks_too_much g c =
     let soft : Soft = record { holds = c.self.inside.holds; waits = c.self.inside.waits } in
     subst
-    (λ s. IfOk c.one_send.result (λ sends. AnswersAsk (g.B.Bag.contents c.args.bag.now) (c.args.client, c.args.ticket) c.args.remove c.args.template.now s (only_sent sends.items s)))
+    (λ s. IfOk c.one_send.result (λ sends. AnswersAsk (g.B.Bag.contents c.args.bag.now) c.args.request c.args.remove c.args.template.now s (only_sent sends.items s)))
     c.self.view_is
     (IfOk-weaker c.one_send.result _ _
-    (λ sends sent. turned_away _ _ _ _ soft sends.items c.in_default.ensures.value (sym c.contains.ensures ∙ c.if-contains.false) (ap (λ s. nat_le MAX_ASKS (open_asks c.args.client s)) c.self.view_is ∙ sym c.if-asks_too_much.ensures) (sent ∙ ap (λ reply. (c.args.client, reply) ∷ []) c.reply.ensures))
+    (λ sends sent. turned_away _ _ _ _ soft sends.items c.in_default.ensures.value (sym c.contains.ensures ∙ c.if-contains.false) (ap (λ s. nat_le MAX_ASKS (open_asks c.args.request.client s)) c.self.view_is ∙ sym c.if-asks_too_much.ensures) (sent ∙ ap (λ reply. (c.args.request.client, reply) ∷ []) c.reply.ensures))
     c.one_send.ensures)

@@ -10,4 +10,4 @@ release_all-requires g c =
     subst
     (λ waits. AreApart (record { holds = c.self.inside.holds; waits = waits }))
     (sym c.remove_client.ensures)
-    (fewer_apart (λ w. not (c.args.client == w.0.0)) soft (subst AreApart (sym c.self.view_is) c.requires))
+    (fewer_apart (λ w. not (c.args.client == w.0.client)) soft (subst AreApart (sym c.self.view_is) c.requires))

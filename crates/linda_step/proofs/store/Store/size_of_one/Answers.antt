@@ -1,6 +1,6 @@
 -- The bytes of one message are those of a list of it.
-use Rattle.std.proofs.Common.{rules, ◌∷◌, [], ◌≡◌, subst, sym, ap, ◌∙◌}
-use Rattle.linda_state.specs.State.{State, IsState}
+use Rattle.std.proofs.Common.{rules, ◌∷◌, [], ◌≡◌, subst, ap}
+use Rattle.linda_state.specs.State.{IsState}
 use Rattle.linda_step.specs.Store.{Store}
 use Rattle.linda_step.proofs.DemandLaws.{all_bytes}
 use Rattle.linda_step.proofs.store.Store.size_of_one.Goals as goal
