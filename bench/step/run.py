@@ -3,7 +3,7 @@
 
 It proves and builds `main.rt.txt` (so named since the gate reads each `.rt` file) over the crates of this repository, in a folder of its own, and runs it for each act (`key`,
 `any`, `out`, `last`, `ask`: see there) at 1,000, 10,000 and 100,000 tuples and at 0, 64, 4,096 and 65,536 open asks. A time
-is the least of nine runs, each the mean of some rounds. It prints the table, and the growth from the first size to the
+is the least of four runs, each the mean of some rounds. It prints the table, and the growth from the first size to the
 last, and fails where a take by key or a take of any grows more than twice from 1,000 to 100,000 tuples, or any act but
 `last` more than twice from no open ask to 65,536 asks for another tag.
 
@@ -19,7 +19,7 @@ import tempfile
 ACTS = ["key", "any", "out", "ask", "last"]
 TUPLES = [1_000, 10_000, 100_000]
 ASKS = [0, 64, 4_096, 65_536]
-RUNS = 9
+RUNS = 4
 MOST_GROWTH = 2.0
 HERE = os.path.dirname(os.path.abspath(__file__))
 TOP = os.path.join(HERE, "..", "..")
@@ -42,8 +42,10 @@ def build(folder):
 
 
 def rounds(act, asks):
-    """Few, so that some run is not disturbed; fewest where a put looks at many asks for its own tag."""
-    return 300 if act != "last" or asks < 1_000 else 5
+    """Many, so that what is timed is a store at work for a while; few where a put looks at many asks for its own tag."""
+    if act != "last":
+        return 20_000
+    return 300 if asks < 1_000 else 5
 
 
 def time_once(program, act, tuples, asks):

@@ -9,7 +9,7 @@ use Rattle.std.specs.BTreeMap.{BTreeMap, is_at}
 use Rattle.linda_bag.specs.Filing.{Rows, IsBare, IsShelved, row_at, placed, IsFiled}
 use Rattle.linda_bag.proofs.Ordered.{number_itself}
 
-no_such : {T : Type 0} (o : Option T) → is_some o ≡ false → o ≡ None
+pub no_such : {T : Type 0} (o : Option T) → is_some o ≡ false → o ≡ None
 no_such None e = refl
 no_such (Some row) e = absurd (true≢false e)
 

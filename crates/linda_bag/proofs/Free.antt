@@ -5,6 +5,7 @@ use Rattle.std.specs.Ordering.{is_eq}
 use Rattle.std.specs.List.{AllZip}
 use Rattle.std.proofs.lemmas.Slice.Zip.{AllZip-long}
 use Rattle.std.specs.FinMap.{FinMap, get}
+use Rattle.std.specs.BTreeSet.{BTreeSet, contains}
 use Rattle.linda_tuple.specs.declared.atom.Atom.{Atom}
 use Rattle.linda_tuple.specs.declared.pattern.Pattern.{Pattern}
 use Rattle.linda_tuple.specs.declared.pattern.Pattern.TheVariants as patterns
@@ -15,8 +16,12 @@ use Rattle.linda_tuple.specs.Matching.{Matches, Fits}
 use Rattle.linda_bag.specs.FreeMatch.{IsFreeMatch}
 use Rattle.linda_bag.specs.Filing.{Rows, IsBare, row_at, placed, keyed, rows_at}
 use Rattle.linda_bag.specs.Heads.{with_head}
+use Rattle.linda_bag.specs.declared.ids.Ids.{Ids}
+use Rattle.linda_bag.specs.declared.ids.Ids.TheVariants as ids
+use Rattle.linda_bag.specs.Ids.{has_id, IsOf}
 use Rattle.linda_bag.specs.Candidates.{tag_of, count_of, first_of, first_among, first_value, with_first, candidates}
 use Rattle.linda_bag.proofs.Ordered.{atom_itself, number_itself}
+use Rattle.linda_bag.proofs.Refiling.{id_told}
 
 some_same : {A : Type 0} {x y : A} → Some x ≡ Some y → x ≡ y
 some_same {x = x} e = ap (λ o. unwrap_or o x) e
@@ -66,3 +71,21 @@ candidate_there shape rows id row match there =
 -- So where there is no candidate there is no match.
 pub no_candidate : (shape : Template) (rows : Rows Tuple) (id : ℕ) (row : Tuple) → IsBare (candidates shape rows) → Matches shape row → rows id ≡ Some row → ⊥
 no_candidate shape rows id row bare match there = true≢false (ap is_some (sym (candidate_there shape rows id row match there) ∙ bare id))
+
+-- Of what is found for a template: each tuple that it may be answered with has its id in it.
+module _ (shape : Template) (rows : Rows Tuple) (m : FinMap nat_cmp Tuple) (passed : ℕ → Bool) (kept : (k : ℕ) → rows k ≡ get m k) where
+  pub none_found : IsBare (candidates shape rows) → (k : ℕ) → IsFreeMatch m shape passed k → ⊥
+  none_found bare k free = no_candidate shape rows k free.row bare free.matches (kept k ∙ free.stored)
+
+  module _ (found : Ids) (listed : IsOf found (candidates shape rows)) where
+    has_free : (k : ℕ) → IsFreeMatch m shape passed k → has_id found k ≡ true
+    has_free k free = listed k ∙ ap is_some (candidate_there shape rows k free.row free.matches (kept k ∙ free.stored))
+
+    pub nothing_free : found ≡ ids.Nothing → (k : ℕ) → IsFreeMatch m shape passed k → ⊥
+    nothing_free is k free = true≢false (sym (has_free k free) ∙ ap (λ s. has_id s k) is)
+
+    pub one_free : (only : ℕ) → found ≡ ids.One only → (k : ℕ) → IsFreeMatch m shape passed k → k ≡ only
+    one_free only is k free = (id_told k only).0 (sym (ap (λ s. has_id s k) is) ∙ has_free k free)
+
+    pub many_free : (many : BTreeSet ℕ) → found ≡ ids.Many many → (k : ℕ) → IsFreeMatch m shape passed k → contains nat_cmp many k ≡ true
+    many_free many is k free = sym (ap (λ s. has_id s k) is) ∙ has_free k free

@@ -27,3 +27,9 @@ module _ {T : Type 0} (old new : ℕ → Bool) (rows : Rows T) (id : ℕ) (noted
   pub still_there : (row : Option T) → ((q : ℕ) → new q ≡ cond (is_eq (nat_cmp id q)) true (old q)) → rows id ≡ row → (added : Bool) → added ≡ not (old id) → added ≡ false → (q : ℕ) → new q ≡ is_some (with_row rows id row q)
   still_there row put there added is_new was_old =
       noted_with true row put (sym (not_false (old id) (sym was_old ∙ is_new)) ∙ noted id ∙ ap is_some there)
+
+-- Whether an id is one of a set hangs on whether it has a row, not on which.
+pub any_row : {T : Type 0} (has : ℕ → Bool) (rows : Rows T) (id : ℕ) (before after : Option T) → is_some after ≡ is_some before → ((q : ℕ) → has q ≡ is_some (with_row rows id after q)) → (q : ℕ) → has q ≡ is_some (with_row rows id before q)
+any_row has rows id before after same noted q =
+    noted q
+    ∙ elim (is_eq (nat_cmp id q)) as (λ t. is_some (cond t after (rows q)) ≡ is_some (cond t before (rows q))) [ true ↦ same | false ↦ refl ]

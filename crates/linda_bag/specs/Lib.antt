@@ -1,4 +1,5 @@
 pub mod FreeMatch
 pub mod Filing
 pub mod Heads
+pub mod Ids
 pub mod Candidates

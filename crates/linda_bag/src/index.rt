@@ -3,14 +3,16 @@
 
 ghost use Rattle.std.specs.Prelude.{◌≡◌, Some};
 ghost use Rattle.std.specs.Option.{option_copied};
-ghost use Rattle.linda_bag.specs.Filing.{HasIds, Finds, IsShelved, IsFiled, place, placed};
+ghost use Rattle.linda_bag.specs.Filing.{FindsShelf, IsShelved, IsFiled, place, placed};
+ghost use Rattle.linda_bag.specs.Ids.{IsOf};
 ghost use Rattle.linda_bag.specs.Candidates.{first_of, first_value, with_first, candidates};
 
 use crate::filing::{Shelf, refile, unfile};
 use crate::heads::{Heads, alike};
+use crate::ids::Ids;
 use linda_tuple::{Atom, Pattern, Template, Tuple};
 use std::alloc::{AllocError, Global};
-use std::collections::{BTreeMap, BTreeSet};
+use std::collections::BTreeMap;
 
 /// The ids of the tuples of a bag, by head.
 pub(crate) type Index = Heads<Group>;
@@ -19,14 +21,14 @@ pub(crate) type Index = Heads<Group>;
 /// field.
 #[derive(Drop)]
 pub(crate) struct Group {
-    ids: BTreeSet<u64>,
-    by_first: BTreeMap<Atom, BTreeSet<u64>>,
+    ids: Ids,
+    by_first: BTreeMap<Atom, Ids>,
 }
 
 /// The ids of the tuples that have the template's tag, as many fields as it has patterns and, where
 /// its first pattern is a value, that value first; nothing where there are none. Takes no memory.
-pub(crate) fn candidates<'a>(index: &'a Index, template: &Template) -> Option<&'a BTreeSet<u64>>
-    ensures { Finds (⟦<Index as Shelf<Tuple>>⟧.has index.now) (candidates template.now)
+pub(crate) fn candidates<'a>(index: &'a Index, template: &Template) -> Option<&'a Ids>
+    ensures { FindsShelf (⟦<Index as Shelf<Tuple>>⟧.has index.now) IsOf (candidates template.now)
         (option_copied result) }
 {
     let patterns = template.fields();
@@ -36,8 +38,8 @@ pub(crate) fn candidates<'a>(index: &'a Index, template: &Template) -> Option<&'
 
 impl Group {
     /// Those of the ids whose tuples have the value first, where there is one; else all.
-    fn candidates(&self, first: Option<&Atom>) -> Option<&BTreeSet<u64>>
-        ensures { Finds (IsShelved (⟦<Group as Shelf<Tuple>>⟧.has) (Some self.now))
+    fn candidates(&self, first: Option<&Atom>) -> Option<&Ids>
+        ensures { FindsShelf (IsShelved (⟦<Group as Shelf<Tuple>>⟧.has) (Some self.now)) IsOf
             (with_first (option_copied first.entry)) (option_copied result) }
     {
         match first {
@@ -48,12 +50,12 @@ impl Group {
 }
 
 impl Shelf<Tuple> for Group {
-    ghost has = { λ g rows. HasIds g.ids rows
-        × IsFiled (⟦<Atom as Ord>⟧.cmp) HasIds first_of g.by_first rows };
+    ghost has = { λ g rows. IsOf g.ids rows
+        × IsFiled (⟦<Atom as Ord>⟧.cmp) IsOf first_of g.by_first rows };
 
     fn empty(alloc: Global) -> Group {
         Group {
-            ids: BTreeSet::new(alloc),
+            ids: Shelf::<Tuple>::empty(alloc),
             by_first: BTreeMap::new(alloc),
         }
     }
@@ -65,7 +67,7 @@ impl Shelf<Tuple> for Group {
         old: Option<&'a Tuple>,
         new: &'a Tuple,
     ) -> Result<(), AllocError> {
-        let is_new = self.ids.insert(id)?;
+        self.ids.put(alloc, id, old, new)?;
         match refile(
             &mut self.by_first,
             alloc,
@@ -75,8 +77,8 @@ impl Shelf<Tuple> for Group {
         ) {
             Ok(()) => Ok(()),
             Err(error) => {
-                if is_new {
-                    self.ids.remove(&id);
+                if old.is_none() {
+                    self.ids.remove(id, new);
                 }
                 Err(error)
             }
@@ -84,14 +86,14 @@ impl Shelf<Tuple> for Group {
     }
 
     fn remove(&mut self, id: u64, tuple: &Tuple) {
-        self.ids.remove(&id);
+        self.ids.remove(id, tuple);
         if let Some(first) = tuple.fields().first() {
             unfile(&mut self.by_first, id, first, tuple);
         }
     }
 
     fn is_empty(&self) -> bool {
-        self.ids.is_empty()
+        Shelf::<Tuple>::is_empty(&self.ids)
     }
 }
 

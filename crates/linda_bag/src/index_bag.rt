@@ -1,7 +1,7 @@
 //! The bag of a server that has many tuples: a look-up looks at those alone that have the template's
 //! head, its tag, its number of fields and the value that it begins with.
 
-ghost use Rattle.std.specs.Prelude.{◌≡◌, ◌↔◌, IsTrue};
+ghost use Rattle.std.specs.Prelude.{◌≡◌, ◌<◌, ◌↔◌, ℕ, true, IsTrue, IfSome, IfNone};
 ghost use Rattle.std.specs.Ordering.{nat_cmp};
 ghost use Rattle.std.specs.BTreeSet.{contains};
 ghost use Rattle.std.specs.FinMap as map;
@@ -10,6 +10,7 @@ ghost use Rattle.linda_bag.specs.FreeMatch.{IsFreeMatch, rows_of};
 use crate::bags::Bag;
 use crate::by_id::{is_free_match, next_id};
 use crate::filing::Shelf;
+use crate::ids::Ids;
 use crate::index::{Index, candidates};
 use linda_tuple::{Template, Tuple};
 use std::alloc::{AllocError, Global};
@@ -87,12 +88,17 @@ impl Bag for IndexBag {
     }
 
     fn least_match(&self, template: &Template, passed: &BTreeSet<u64>) -> Option<u64> {
-        for id in candidates(&self.index, template)? {
-            if is_free(&self.tuples, template, passed, *id) {
-                return Some(*id);
+        match candidates(&self.index, template)? {
+            Ids::Nothing => None,
+            Ids::One(id) => {
+                if is_free(&self.tuples, template, passed, *id) {
+                    Some(*id)
+                } else {
+                    None
+                }
             }
+            Ids::Many(ids) => least_free(&self.tuples, template, passed, ids),
         }
-        None
     }
 
     fn len(&self) -> usize {
@@ -102,6 +108,28 @@ impl Bag for IndexBag {
     fn next_from(&self, id: u64) -> Option<u64> {
         next_id(&self.tuples, id)
     }
+}
+
+// The least of the ids whose tuple may answer the template.
+fn least_free(
+    tuples: &BTreeMap<u64, Tuple>,
+    template: &Template,
+    passed: &BTreeSet<u64>,
+    ids: &BTreeSet<u64>,
+) -> Option<u64>
+    ensures found { IfSome result
+        (IsFreeMatch (rows_of tuples.now) template.now (contains nat_cmp passed.now)) }
+    ensures least { IfSome result (λ id. (k : ℕ) → k < id → contains nat_cmp ids.now k ≡ true
+        → IsFreeMatch (rows_of tuples.now) template.now (contains nat_cmp passed.now) k → ⊥) }
+    ensures none { IfNone result ((k : ℕ) → contains nat_cmp ids.now k ≡ true
+        → IsFreeMatch (rows_of tuples.now) template.now (contains nat_cmp passed.now) k → ⊥) }
+{
+    for id in ids {
+        if is_free(tuples, template, passed, *id) {
+            return Some(*id);
+        }
+    }
+    None
 }
 
 // Whether there is a tuple under the id that may answer the template.

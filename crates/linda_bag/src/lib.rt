@@ -15,6 +15,7 @@ mod bags;
 mod by_id;
 mod filing;
 mod heads;
+mod ids;
 mod index;
 mod index_bag;
 mod lists;

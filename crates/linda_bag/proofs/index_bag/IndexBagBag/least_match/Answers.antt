@@ -1,38 +1,64 @@
-use Rattle.std.proofs.Common.{is_some, nat_cmp, sym, ap, subst, ◌∙◌, true≢false}
+use Rattle.std.proofs.Common.{ℕ, Option, None, Some, ◌<◌, arith, sym, subst, ◌∙◌, nat_cmp, true≢false}
 use Rattle.std.specs.BTreeMap as tree
 use Rattle.std.specs.BTreeSet.{contains}
+use Rattle.std.specs.Option.{IfNone}
+use Rattle.std.proofs.lemmas.Option.{IfSome_then}
 use Rattle.linda_bag.specs.FreeMatch.{IsFreeMatch}
 use Rattle.linda_bag.proofs.Viewed.{viewed}
-use Rattle.linda_bag.proofs.Free.{candidate_there, no_candidate}
-use Rattle.linda_bag.proofs.Ahead.{IsAhead, found_key, fewer_ahead, none_before, none_ahead}
+use Rattle.linda_bag.proofs.Free.{none_found, nothing_free, one_free, many_free}
 use Rattle.linda_bag.proofs.index_bag.IndexBagBag.least_match.Goals as goal
 
-pub returns-in_err-id-items-clause-none : goal.returns-in_err-id-items-clause-none
-returns-in_err-id-items-clause-none c = rw c.from_residual.ensures (λ k free.
-    no_candidate c.args.template.now (tree.get nat_cmp c.self.inside.tuples) k free.row
-    (c.in_err-id-items.ensures (tree.get nat_cmp c.self.inside.tuples) c.self.invariant)
-    free.matches
-    (viewed c.self.inside.tuples c.args.self.now c.self.view_is k ∙ free.stored))
+IfNone_then : {X P Q : Type 0} (r : Option X) → IfNone r P → (P → Q) → IfNone r Q
+IfNone_then None p then = then p
+IfNone_then (Some x) p then = tt
 
-pub loop-id-init : goal.loop-id-init
-loop-id-init c =
-    let begun = c.into_iter-id-iterator.ensures.into_iter_gives in
-    let rows = tree.get nat_cmp c.self.inside.tuples in
-    let listed = c.in_ok-id-items.ensures rows c.self.invariant in
-    subst (IsAhead (IsFreeMatch c.args.self.now c.args.template.now (contains nat_cmp c.args.passed.now))) (sym begun.0) record {
-      sorted = begun.4;
-      each = λ k free.
-          found_key k _
-          (listed.0 k ∙ ap is_some (candidate_there c.args.template.now rows k free.row free.matches (viewed c.self.inside.tuples c.args.self.now c.self.view_is k ∙ free.stored)));
-    }
+pub returns-in_err-id-clause-none : goal.returns-in_err-id-clause-none
+returns-in_err-id-clause-none c = rw c.from_residual.ensures
+    (none_found c.args.template.now (tree.get nat_cmp c.self.inside.tuples) c.args.self.now (contains nat_cmp c.args.passed.now)
+    (viewed c.self.inside.tuples c.args.self.now c.self.view_is)
+    (c.in_err-id.ensures (tree.get nat_cmp c.self.inside.tuples) c.self.invariant))
+
+pub returns-in-Nothing-clause-none : goal.returns-in-Nothing-clause-none
+returns-in-Nothing-clause-none c =
+    nothing_free c.args.template.now (tree.get nat_cmp c.self.inside.tuples) c.args.self.now (contains nat_cmp c.args.passed.now)
+    (viewed c.self.inside.tuples c.args.self.now c.self.view_is)
+    c.in_ok-id.field-0.now (c.in_ok-id.ensures (tree.get nat_cmp c.self.inside.tuples) c.self.invariant).0 c.in-Nothing.is
 
 pub returns-then-is_free-clause-least : goal.returns-then-is_free-clause-least
-returns-then-is_free-clause-least c = none_before _ _ c.in-Some.id.now _ c.loop-id.invariant c.in-Some.ensures.steps
+returns-then-is_free-clause-least c = λ k below free.
+    let same =
+    one_free c.args.template.now (tree.get nat_cmp c.self.inside.tuples) c.args.self.now (contains nat_cmp c.args.passed.now)
+    (viewed c.self.inside.tuples c.args.self.now c.self.view_is)
+    c.in_ok-id.field-0.now (c.in_ok-id.ensures (tree.get nat_cmp c.self.inside.tuples) c.self.invariant).0
+    c.in-One.id c.in-One.is k free in
+    omega arith
 
-pub loop-id-preserved : goal.loop-id-preserved
-loop-id-preserved c =
+pub returns-else-is_free-clause-none : goal.returns-else-is_free-clause-none
+returns-else-is_free-clause-none c = λ k free.
     let told = rw c.self.view_is at c.is_free.ensures in
-    fewer_ahead _ _ c.in-Some.id.now _ c.loop-id.invariant c.in-Some.ensures.steps (λ free. true≢false (sym (told.1 free) ∙ c.if-is_free.false))
+    let same =
+    one_free c.args.template.now (tree.get nat_cmp c.self.inside.tuples) c.args.self.now (contains nat_cmp c.args.passed.now)
+    (viewed c.self.inside.tuples c.args.self.now c.self.view_is)
+    c.in_ok-id.field-0.now (c.in_ok-id.ensures (tree.get nat_cmp c.self.inside.tuples) c.self.invariant).0
+    c.in-One.id c.in-One.is k free in
+    true≢false (sym (told.1 (subst (IsFreeMatch c.args.self.now c.args.template.now (contains nat_cmp c.args.passed.now)) same free)) ∙ c.if-is_free.false)
 
-pub returns-clause-none : goal.returns-clause-none
-returns-clause-none c = none_ahead _ _ c.loop-id.invariant c.in-None.ensures.steps.0
+pub returns-in-Many-clause-least : goal.returns-in-Many-clause-least
+returns-in-Many-clause-least c =
+    IfSome_then c.least_free.result (rw c.self.view_is at c.least_free.ensures.least) (λ id least. λ k below free.
+    least k below
+    (many_free c.args.template.now (tree.get nat_cmp c.self.inside.tuples) c.args.self.now (contains nat_cmp c.args.passed.now)
+    (viewed c.self.inside.tuples c.args.self.now c.self.view_is)
+    c.in_ok-id.field-0.now (c.in_ok-id.ensures (tree.get nat_cmp c.self.inside.tuples) c.self.invariant).0
+    c.in-Many.ids c.in-Many.is k free)
+    free)
+
+pub returns-in-Many-clause-none : goal.returns-in-Many-clause-none
+returns-in-Many-clause-none c =
+    IfNone_then c.least_free.result (rw c.self.view_is at c.least_free.ensures.none) (λ none. λ k free.
+    none k
+    (many_free c.args.template.now (tree.get nat_cmp c.self.inside.tuples) c.args.self.now (contains nat_cmp c.args.passed.now)
+    (viewed c.self.inside.tuples c.args.self.now c.self.view_is)
+    c.in_ok-id.field-0.now (c.in_ok-id.ensures (tree.get nat_cmp c.self.inside.tuples) c.self.invariant).0
+    c.in-Many.ids c.in-Many.is k free)
+    free)

@@ -4,8 +4,12 @@ use Rattle.std.specs.FinMap as map
 use Rattle.linda_bag.proofs.Maps.{one_gone}
 use Rattle.linda_bag.proofs.Viewed.{viewed}
 use Rattle.linda_bag.proofs.Placing.{HasIndex}
-use Rattle.linda_bag.proofs.Kept.{as_after}
+use Rattle.linda_bag.proofs.Kept.{as_after, same_rows_as}
 use Rattle.linda_bag.proofs.index_bag.IndexBagBag.remove.Goals as goal
+
+pub invariant_of-self : goal.invariant_of-self
+invariant_of-self c =
+    same_rows_as (HasIndex c.self.inside.index) c.self.inside.tuples c.remove.new.self c.in_err-tuple.ensures.unchanged c.self.invariant
 
 pub returns-in_err-tuple-clause-value : goal.returns-in_err-tuple-clause-value
 returns-in_err-tuple-clause-value c =

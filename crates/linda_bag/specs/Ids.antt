@@ -1,0 +1,22 @@
+-- A set of ids that has a place for a single one.
+use Rattle.std.specs.Prelude.{◌≡◌, ℕ, Bool, false, ◌||◌}
+use Rattle.std.specs.Ordering.{is_eq, nat_cmp}
+use Rattle.std.specs.Option.{is_some}
+use Rattle.std.specs.BTreeSet.{BTreeSet, contains}
+use Rattle.linda_bag.specs.declared.ids.Ids.{Ids}
+use Rattle.linda_bag.specs.declared.ids.Ids.TheVariants as ids
+use Rattle.linda_bag.specs.Filing.{Rows}
+
+-- whether the id is one of the set
+abbrev pub has_id : Ids → ℕ → Bool
+has_id ids.Nothing id = false
+has_id (ids.One only) id = is_eq (nat_cmp id only)
+has_id (ids.Many many) id = contains nat_cmp many id
+
+-- The set has the ids of the rows, and no others.
+abbrev pub IsOf : {T : Type 0} → Ids → Rows T → Type 0
+IsOf set rows = (id : ℕ) → has_id set id ≡ is_some (rows id)
+
+-- The set has these two ids, and no others.
+abbrev pub HasPair : ℕ → ℕ → BTreeSet ℕ → Type 0
+HasPair one other both = (id : ℕ) → contains nat_cmp both id ≡ (is_eq (nat_cmp id one) || is_eq (nat_cmp id other))

@@ -1,0 +1,88 @@
+//! Ids of rows, often of a single one, which then takes no memory of its own: one tuple stands under a
+//! key of a queue of jobs or of a request.
+
+ghost use Rattle.std.specs.Prelude.{◌≡◌, ℕ, true, IfOk};
+ghost use Rattle.std.specs.Ordering.{nat_cmp};
+ghost use Rattle.std.specs.BTreeSet.{contains};
+ghost use Rattle.linda_bag.specs.Ids.{HasPair};
+
+use crate::filing::Shelf;
+use std::alloc::{AllocError, Global};
+use std::collections::BTreeSet;
+
+/// A set of ids.
+#[derive(Drop)]
+pub(crate) enum Ids {
+    Nothing,
+    One(u64),
+    Many(BTreeSet<u64>),
+}
+
+impl<T> Shelf<T> for Ids {
+    ghost use Rattle.linda_bag.specs.Ids.{IsOf};
+
+    ghost has = { IsOf };
+
+    fn empty(_alloc: Global) -> Ids {
+        Ids::Nothing
+    }
+
+    fn put<'a>(
+        &mut self,
+        alloc: Global,
+        id: u64,
+        _old: Option<&'a T>,
+        _new: &'a T,
+    ) -> Result<(), AllocError> {
+        match self {
+            Ids::Nothing => {
+                *self = Ids::One(id);
+                Ok(())
+            }
+            Ids::One(only) => {
+                if *only == id {
+                    return Ok(());
+                }
+                let both = pair(alloc, *only, id)?;
+                *self = Ids::Many(both);
+                Ok(())
+            }
+            Ids::Many(ids) => {
+                ids.insert(id)?;
+                Ok(())
+            }
+        }
+    }
+
+    fn remove(&mut self, id: u64, _row: &T) {
+        match self {
+            Ids::Nothing => {}
+            Ids::One(only) => {
+                if *only == id {
+                    *self = Ids::Nothing;
+                }
+            }
+            Ids::Many(ids) => {
+                ids.remove(&id);
+            }
+        }
+    }
+
+    fn is_empty(&self) -> bool {
+        match self {
+            Ids::Nothing => true,
+            Ids::One(_) => false,
+            Ids::Many(ids) => ids.is_empty(),
+        }
+    }
+}
+
+// The set of both ids.
+fn pair(alloc: Global, one: u64, other: u64) -> Result<BTreeSet<u64>, AllocError>
+    ensures { IfOk result (HasPair one other) }
+{
+    let mut both = BTreeSet::new(alloc);
+    both.insert(one)?;
+    both.insert(other)?;
+    Ok(both)
+}
