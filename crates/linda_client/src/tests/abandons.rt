@@ -1,11 +1,13 @@
 //! A synchronization that is abandoned, at each stage.
 
-use super::script::{run, run_accepting, run_waiting};
+use super::script::{ACCEPTING, NEW, Row, WAITING, run_rows};
 use std::test::Fail;
 
-#[test]
-fn abandon_cancels_all_and_raises_all(rt: HostRuntime) -> Result<(), Fail> {
-    let lines = r#"
+const ROWS: &[Row] = &[
+    (
+        "abandon cancels all and raises all",
+        WAITING,
+        r#"
         abandon
         > 0 cancel 1
         > 1 cancel 1
@@ -17,13 +19,12 @@ fn abandon_cancels_all_and_raises_all(rt: HostRuntime) -> Result<(), Fail> {
         sync in ("a", ?i)
         > 0 in 3 ("a", ?i)
         > 1 in 3 ("a", ?i)
-    "#;
-    run_waiting(&rt, rt.alloc(), lines)
-}
-
-#[test]
-fn abandon_while_a_tuple_is_put_is_refused(rt: HostRuntime) -> Result<(), Fail> {
-    let lines = r#"
+    "#,
+    ),
+    (
+        "abandon while a tuple is put is refused",
+        NEW,
+        r#"
         out ("a", 3)
         > 1 out 1 ("a", 3)
         abandon
@@ -32,13 +33,12 @@ fn abandon_while_a_tuple_is_put_is_refused(rt: HostRuntime) -> Result<(), Fail> 
         > stored 1 9
         abandon
         > refused idle
-    "#;
-    run(&rt, rt.alloc(), lines)
-}
-
-#[test]
-fn abandon_before_the_accept_is_answered_is_refused(rt: HostRuntime) -> Result<(), Fail> {
-    let lines = r#"
+    "#,
+    ),
+    (
+        "abandon before the accept is answered is refused",
+        ACCEPTING,
+        r#"
         abandon
         > refused busy
         1 taken 1 4 ("a", 3)
@@ -48,13 +48,12 @@ fn abandon_before_the_accept_is_answered_is_refused(rt: HostRuntime) -> Result<(
         > base 0 took 1 4 ("a", 3) binds [3] labels [5] raised [2]
         abandon
         > refused idle
-    "#;
-    run_accepting(&rt, rt.alloc(), lines)
-}
-
-#[test]
-fn abandon_after_the_offer_is_gone_cancels_all(rt: HostRuntime) -> Result<(), Fail> {
-    let lines = r#"
+    "#,
+    ),
+    (
+        "abandon after the offer is gone cancels all",
+        ACCEPTING,
+        "
         1 gone 1
         abandon
         > 0 cancel 1
@@ -62,18 +61,22 @@ fn abandon_after_the_offer_is_gone_cancels_all(rt: HostRuntime) -> Result<(), Fa
         > 0 cancel 2
         > 1 cancel 2
         > dropped raised [1, 2]
-    "#;
-    run_accepting(&rt, rt.alloc(), lines)
-}
-
-#[test]
-fn abandon_while_a_saved_offer_is_accepted_is_refused(rt: HostRuntime) -> Result<(), Fail> {
-    let lines = r#"
+    ",
+    ),
+    (
+        "abandon while a saved offer is accepted is refused",
+        ACCEPTING,
+        r#"
         0 offer 1 2 ("a", 3)
         1 gone 1
         > 0 accept 1 1 2
         abandon
         > refused busy
-    "#;
-    run_accepting(&rt, rt.alloc(), lines)
+    "#,
+    ),
+];
+
+#[test]
+fn abandoned_synchronizations_end(rt: HostRuntime) -> Result<(), Fail> {
+    run_rows(&rt, rt.alloc(), ROWS)
 }

@@ -1,11 +1,13 @@
 //! What is ready without a server: alarms and values.
 
-use super::script::{run, run_accepting, run_waiting};
+use super::script::{ACCEPTING, NEW, Row, WAITING, run_rows};
 use std::test::Fail;
 
-#[test]
-fn an_alarm_commits_and_all_is_cancelled(rt: HostRuntime) -> Result<(), Fail> {
-    let lines = r#"
+const ROWS: &[Row] = &[
+    (
+        "an alarm commits and all is cancelled",
+        WAITING,
+        "
         tick 2
         tick 3
         > 0 cancel 1
@@ -13,13 +15,12 @@ fn an_alarm_commits_and_all_is_cancelled(rt: HostRuntime) -> Result<(), Fail> {
         > 0 cancel 2
         > 1 cancel 2
         > base 2 alarm labels [] raised [1, 2]
-    "#;
-    run_waiting(&rt, rt.alloc(), lines)
-}
-
-#[test]
-fn no_alarm_commits_before_the_accept_is_answered(rt: HostRuntime) -> Result<(), Fail> {
-    let lines = r#"
+    ",
+    ),
+    (
+        "no alarm commits before the accept is answered",
+        ACCEPTING,
+        "
         tick 3
         1 gone 1
         > 0 cancel 1
@@ -27,14 +28,13 @@ fn no_alarm_commits_before_the_accept_is_answered(rt: HostRuntime) -> Result<(),
         > 0 cancel 2
         > 1 cancel 2
         > base 2 alarm labels [] raised [1, 2]
-    "#;
-    run_accepting(&rt, rt.alloc(), lines)
-}
-
-// What is ready at once is committed to, the first in tree order; nothing is sent, and no ticket is used.
-#[test]
-fn what_is_ready_at_once(rt: HostRuntime) -> Result<(), Fail> {
-    let lines = r#"
+    ",
+    ),
+    // What is ready at once is committed to, the first in tree order; nothing is sent, and no ticket is used.
+    (
+        "what is ready at once",
+        NEW,
+        r#"
         sync choose [in ("a", ?i), wrap 4 always 8, alarm 0]
         > base 1 always 8 labels [4] raised []
         tick 5
@@ -44,13 +44,12 @@ fn what_is_ready_at_once(rt: HostRuntime) -> Result<(), Fail> {
         sync in ("a", ?i)
         > 0 in 1 ("a", ?i)
         > 1 in 1 ("a", ?i)
-    "#;
-    run(&rt, rt.alloc(), lines)
-}
-
-#[test]
-fn an_empty_choice_and_never_wait(rt: HostRuntime) -> Result<(), Fail> {
-    let lines = r#"
+    "#,
+    ),
+    (
+        "an empty choice and never wait",
+        NEW,
+        "
         sync choose []
         tick 100
         abandon
@@ -58,6 +57,11 @@ fn an_empty_choice_and_never_wait(rt: HostRuntime) -> Result<(), Fail> {
         sync never
         tick 200
         resend
-    "#;
-    run(&rt, rt.alloc(), lines)
+    ",
+    ),
+];
+
+#[test]
+fn what_is_ready_without_a_server_commits(rt: HostRuntime) -> Result<(), Fail> {
+    run_rows(&rt, rt.alloc(), ROWS)
 }

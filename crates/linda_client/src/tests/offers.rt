@@ -1,26 +1,25 @@
 //! Offers that come, are saved and come again.
 
-use super::script::{run, run_accepting, run_waiting};
+use super::script::{ACCEPTING, NEW, Row, WAITING, run_rows};
 use std::test::Fail;
 
-#[test]
-fn an_offer_is_taken_and_a_second_one_saved(rt: HostRuntime) -> Result<(), Fail> {
-    let lines = r#"
+const ROWS: &[Row] = &[
+    (
+        "an offer is taken and a second one saved",
+        ACCEPTING,
+        r#"
         0 offer 1 2 ("a", 3)
         1 taken 1 4 ("a", 3)
         > 0 cancel 1
         > 0 cancel 2
         > 1 cancel 2
         > base 0 took 1 4 ("a", 3) binds [3] labels [5] raised [2]
-    "#;
-    run_accepting(&rt, rt.alloc(), lines)
-}
-
-#[test]
-fn the_accepted_pair_is_cancelled_where_another_offer_of_it_is_saved(
-    rt: HostRuntime,
-) -> Result<(), Fail> {
-    let lines = r#"
+    "#,
+    ),
+    (
+        "the accepted pair is cancelled where another offer of it is saved",
+        ACCEPTING,
+        r#"
         1 offer 1 5 ("a", 3)
         1 taken 1 4 ("a", 3)
         > 0 cancel 1
@@ -28,13 +27,12 @@ fn the_accepted_pair_is_cancelled_where_another_offer_of_it_is_saved(
         > 0 cancel 2
         > 1 cancel 2
         > base 0 took 1 4 ("a", 3) binds [3] labels [5] raised [2]
-    "#;
-    run_accepting(&rt, rt.alloc(), lines)
-}
-
-#[test]
-fn the_accepted_offer_comes_again_and_its_pair_is_cancelled(rt: HostRuntime) -> Result<(), Fail> {
-    let lines = r#"
+    "#,
+    ),
+    (
+        "the accepted offer comes again and its pair is cancelled",
+        ACCEPTING,
+        r#"
         1 offer 1 4 ("a", 3)
         1 taken 1 4 ("a", 3)
         > 0 cancel 1
@@ -42,13 +40,12 @@ fn the_accepted_offer_comes_again_and_its_pair_is_cancelled(rt: HostRuntime) -> 
         > 0 cancel 2
         > 1 cancel 2
         > base 0 took 1 4 ("a", 3) binds [3] labels [5] raised [2]
-    "#;
-    run_accepting(&rt, rt.alloc(), lines)
-}
-
-#[test]
-fn saved_offers_come_before_an_alarm_the_oldest_first(rt: HostRuntime) -> Result<(), Fail> {
-    let lines = r#"
+    "#,
+    ),
+    (
+        "saved offers come before an alarm the oldest first",
+        ACCEPTING,
+        r#"
         0 offer 1 2 ("a", 3)
         1 offer 1 9 ("a", 3)
         tick 3
@@ -56,14 +53,13 @@ fn saved_offers_come_before_an_alarm_the_oldest_first(rt: HostRuntime) -> Result
         > 0 accept 1 1 2
         0 gone 1
         > 1 accept 2 1 9
-    "#;
-    run_accepting(&rt, rt.alloc(), lines)
-}
-
-// The same offer is saved once, also where it comes again; that of the accepted offer is saved too.
-#[test]
-fn offers_that_come_again(rt: HostRuntime) -> Result<(), Fail> {
-    let lines = r#"
+    "#,
+    ),
+    // The same offer is saved once, also where it comes again; that of the accepted offer is saved too.
+    (
+        "offers that come again",
+        ACCEPTING,
+        r#"
         0 offer 1 2 ("a", 3)
         0 offer 1 2 ("a", 3)
         1 offer 1 4 ("a", 3)
@@ -72,15 +68,14 @@ fn offers_that_come_again(rt: HostRuntime) -> Result<(), Fail> {
         0 gone 1
         > 1 accept 2 1 4
         1 gone 2
-    "#;
-    run_accepting(&rt, rt.alloc(), lines)
-}
-
-// A Taken of another number, server or id, one whose tuple does not fit, a Gone of another number or
-// server, and a Stored for an Accept change nothing; then the right one carries its own tuple.
-#[test]
-fn answers_to_something_else_are_ignored(rt: HostRuntime) -> Result<(), Fail> {
-    let lines = r#"
+    "#,
+    ),
+    // A Taken of another number, server or id, one whose tuple does not fit, a Gone of another number or
+    // server, and a Stored for an Accept change nothing; then the right one carries its own tuple.
+    (
+        "answers to something else are ignored",
+        ACCEPTING,
+        r#"
         1 taken 2 4 ("a", 3)
         0 taken 1 4 ("a", 3)
         1 taken 1 5 ("a", 3)
@@ -94,15 +89,14 @@ fn answers_to_something_else_are_ignored(rt: HostRuntime) -> Result<(), Fail> {
         > 0 cancel 2
         > 1 cancel 2
         > base 0 took 1 4 ("a", 8) binds [8] labels [5] raised [2]
-    "#;
-    run_accepting(&rt, rt.alloc(), lines)
-}
-
-// An Offer for a read, a Read for an input, and an Offer that does not match are ignored; an Offer for a
-// ticket that is not open is cancelled, and a Read for one ignored.
-#[test]
-fn what_does_not_fit_its_ticket(rt: HostRuntime) -> Result<(), Fail> {
-    let lines = r#"
+    "#,
+    ),
+    // An Offer for a read, a Read for an input, and an Offer that does not match are ignored; an Offer for a
+    // ticket that is not open is cancelled, and a Read for one ignored.
+    (
+        "what does not fit its ticket",
+        WAITING,
+        r#"
         0 offer 2 6 ("b")
         0 read 1 6 ("b")
         0 offer 1 6 ("b")
@@ -111,13 +105,12 @@ fn what_does_not_fit_its_ticket(rt: HostRuntime) -> Result<(), Fail> {
         0 offer 0 6 ("a", 3)
         > 0 cancel 0
         1 read 3 6 ("b")
-    "#;
-    run_waiting(&rt, rt.alloc(), lines)
-}
-
-#[test]
-fn an_idle_client_cancels_offers_and_ignores_the_rest(rt: HostRuntime) -> Result<(), Fail> {
-    let lines = r#"
+    "#,
+    ),
+    (
+        "an idle client cancels offers and ignores the rest",
+        NEW,
+        r#"
         0 offer 1 6 ("a", 3)
         > 0 cancel 1
         0 read 1 6 ("b")
@@ -128,6 +121,11 @@ fn an_idle_client_cancels_offers_and_ignores_the_rest(rt: HostRuntime) -> Result
         resend
         abandon
         > refused idle
-    "#;
-    run(&rt, rt.alloc(), lines)
+    "#,
+    ),
+];
+
+#[test]
+fn offers_that_come_are_treated_as_they_must_be(rt: HostRuntime) -> Result<(), Fail> {
+    run_rows(&rt, rt.alloc(), ROWS)
 }

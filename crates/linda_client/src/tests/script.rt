@@ -14,7 +14,7 @@ use std::process::Abort;
 use std::test::Fail;
 
 /// Client 7 waits for the worked event: ticket 1 is the input's, ticket 2 the read's.
-const WAITS: &str = r#"
+const ASKS: &str = r#"
     sync choose [nack 1 wrap 5 in ("a", ?i), nack 2 rd ("b"), alarm 3]
     > 0 in 1 ("a", ?i)
     > 1 in 1 ("a", ?i)
@@ -28,28 +28,39 @@ const ACCEPTS: &str = r#"
     > 1 accept 1 1 4
 "#;
 
-/// Runs these lines with client 7 over two servers.
-pub(super) fn run(rt: &impl Abort, alloc: Global, lines: &str) -> Result<(), Fail> {
-    run_all(rt, alloc, &[lines])
-}
+/// What a new client does before a script begins: nothing; it asks for the worked event; it accepts an offer too.
+pub(super) const NEW: &[&str] = &[];
 
-/// The same, after it has asked for the worked event.
-pub(super) fn run_waiting(rt: &impl Abort, alloc: Global, lines: &str) -> Result<(), Fail> {
-    run_all(rt, alloc, &[WAITS, lines])
-}
+pub(super) const WAITING: &[&str] = &[ASKS];
 
-/// The same, after it has accepted an offer.
-pub(super) fn run_accepting(rt: &impl Abort, alloc: Global, lines: &str) -> Result<(), Fail> {
-    run_all(rt, alloc, &[WAITS, ACCEPTS, lines])
-}
+pub(super) const ACCEPTING: &[&str] = &[ASKS, ACCEPTS];
 
-fn run_all(rt: &impl Abort, alloc: Global, scripts: &[&str]) -> Result<(), Fail> {
-    let mut client = Client::new(alloc, 7, 2)?;
-    for script in scripts {
-        let came = played(alloc, &mut client, script)?;
-        let want = tidied(alloc, script)?;
-        assert_eq!(rt; came.as_str(), want.as_str());
+/// What is to be seen, what the client did before, and the script.
+pub(super) type Row = (&'static str, &'static [&'static str], &'static str);
+
+/// Plays each row with client 7 over two servers.
+pub(super) fn run_rows(rt: &impl Abort, alloc: Global, rows: &[Row]) -> Result<(), Fail> {
+    for (name, before, script) in rows {
+        let mut client = Client::new(alloc, 7, 2)?;
+        for script in *before {
+            run(rt, alloc, &mut client, name, script)?;
+        }
+        run(rt, alloc, &mut client, name, script)?;
     }
+    Ok(())
+}
+
+/// All that comes of what the script says is what it tells.
+fn run(
+    rt: &impl Abort,
+    alloc: Global,
+    client: &mut Client,
+    name: &str,
+    script: &str,
+) -> Result<(), Fail> {
+    let came = played(alloc, client, script)?;
+    let want = tidied(alloc, script)?;
+    assert_eq!(rt; came.as_str(), want.as_str(), "{name}");
     Ok(())
 }
 
