@@ -8,6 +8,7 @@
 
 mod fault;
 mod frames;
+mod kept;
 mod lines;
 mod message;
 mod number;
@@ -15,8 +16,9 @@ mod reply;
 
 pub use fault::WordsFault;
 pub use frames::{said_frames, told_frames};
+pub use kept::{tell_replies, tell_tuple};
 pub use lines::{said, tidied, told};
-pub use message::{read_message, write_message};
+pub use message::{read_message, read_messages, write_message};
 pub use number::{read_numbered, split_word};
 pub use reply::{read_reply, write_reply};
 

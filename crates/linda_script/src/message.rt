@@ -5,7 +5,8 @@ ghost use Rattle.std.specs.String.{string_bytes};
 ghost use Rattle.linda_script.specs.Words.{message_words};
 
 use crate::fault::WordsFault;
-use crate::number::{split_number, split_word};
+use crate::lines::said;
+use crate::number::{read_numbered, split_number, split_word};
 use linda_text::{push_template, read_template, read_tuple, write_tuple};
 use linda_wire::Message;
 use std::alloc::{AllocError, Global};
@@ -62,6 +63,22 @@ pub fn read_message(alloc: Global, text: &str) -> Result<Message, WordsFault>
     } else {
         Err(WordsFault::Unknown)
     }
+}
+
+/// The messages that a script says, each behind the number of its client, as `7 out 1 ("a", 3)`.
+///
+/// # Errors
+///
+/// `Unknown` where a line says no message so; `Memory` where memory runs out.
+pub fn read_messages(alloc: Global, script: &str) -> Result<Vec<(u32, Message)>, WordsFault> {
+    let mut messages = Vec::new(alloc);
+    for line in script.lines() {
+        if let Some(words) = said(line) {
+            let (client, words) = read_numbered(words)?;
+            messages.push((client, read_message(alloc, words)?))?;
+        }
+    }
+    Ok(messages)
 }
 
 // The message that the words may say.

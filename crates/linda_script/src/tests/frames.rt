@@ -1,23 +1,17 @@
 //! Messages and replies in words, each with its frame, worked by hand from the table of frames.
 
-use crate::{said_frames, told_frames};
+use crate::{WordsFault, said_frames, told_frames};
 use std::alloc::Global;
-use std::process::Abort;
 use std::test::Fail;
 
-/// The bytes of what is said and of what is told are the same.
-fn are_same(rt: &impl Abort, alloc: Global, said: &str, told: &str) -> Result<(), Fail> {
-    let said = said_frames(alloc, said)?;
-    let told = told_frames(alloc, told)?;
-    assert_eq!(rt; said.as_slice(), told.as_slice());
-    Ok(())
+/// Whether the bytes of what is said are these.
+fn are_bytes(alloc: Global, said: &str, bytes: &[u8]) -> Result<bool, WordsFault> {
+    Ok(said_frames(alloc, said)?.as_slice() == bytes)
 }
 
-/// The bytes of what is said are these.
-fn are_bytes(rt: &impl Abort, alloc: Global, said: &str, bytes: &[u8]) -> Result<(), Fail> {
-    let frames = said_frames(alloc, said)?;
-    assert_eq!(rt; frames.as_slice(), bytes, "{said}");
-    Ok(())
+/// Whether the bytes of what is said and of what is told are the same.
+fn are_same(alloc: Global, said: &str, told: &str) -> Result<bool, WordsFault> {
+    Ok(said_frames(alloc, said)?.as_slice() == told_frames(alloc, told)?.as_slice())
 }
 
 #[test]
@@ -50,7 +44,7 @@ fn each_message_has_its_frame(rt: HostRuntime) -> Result<(), Fail> {
         ),
     ];
     for (said, bytes) in rows {
-        are_bytes(&rt, rt.alloc(), said, bytes)?;
+        assert!(rt; are_bytes(rt.alloc(), said, bytes)?, "{said}");
     }
     Ok(())
 }
@@ -75,5 +69,6 @@ fn each_reply_has_its_frame(rt: HostRuntime) -> Result<(), Fail> {
         > gone 2
         > refused 5 1
     ";
-    are_same(&rt, rt.alloc(), bytes, replies)
+    assert!(rt; are_same(rt.alloc(), bytes, replies)?);
+    Ok(())
 }

@@ -23,47 +23,47 @@ fn reply_among<'a>(alloc: Global, texts: &[&'a str]) -> Option<&'a str> {
     None
 }
 
-#[test]
-fn other_words_say_no_message(rt: HostRuntime) {
-    let texts = [
-        "",
-        "out",
-        "out 1",
-        "out 01 (1)",
-        "out 1 (1,2)",
-        "out 1  (1)",
-        "out 1 (?i)",
-        "out 18446744073709551616 (1)",
-        "in 1 (1) ",
-        "take 1 (1)",
-        "accept 1 2",
-        "accept 1 2 3 4",
-        "hello 1 7 new",
-        "hello 256 7 fresh",
-        "hello 1 4294967296 fresh",
-        "cancel 1 2",
-        "stored 1 1",
-    ];
-    assert_eq!(rt; message_among(rt.alloc(), &texts), None);
-}
+/// Words that say no message.
+const NO_MESSAGES: [&str; 17] = [
+    "",
+    "out",
+    "out 1",
+    "out 01 (1)",
+    "out 1 (1,2)",
+    "out 1  (1)",
+    "out 1 (?i)",
+    "out 18446744073709551616 (1)",
+    "in 1 (1) ",
+    "take 1 (1)",
+    "accept 1 2",
+    "accept 1 2 3 4",
+    "hello 1 7 new",
+    "hello 256 7 fresh",
+    "hello 1 4294967296 fresh",
+    "cancel 1 2",
+    "stored 1 1",
+];
+
+/// Words that say no reply.
+const NO_REPLIES: [&str; 12] = [
+    "",
+    "welcome",
+    "welcome 01",
+    "welcome 1 2",
+    "stored 1",
+    "stored 1 1 (1)",
+    "offer 1 1",
+    "offer 1 1 (?i)",
+    "given 1 1 (1)",
+    "gone 1 ",
+    "refused 256 1",
+    "out 1 (1)",
+];
 
 #[test]
-fn other_words_say_no_reply(rt: HostRuntime) {
-    let texts = [
-        "",
-        "welcome",
-        "welcome 01",
-        "welcome 1 2",
-        "stored 1",
-        "stored 1 1 (1)",
-        "offer 1 1",
-        "offer 1 1 (?i)",
-        "given 1 1 (1)",
-        "gone 1 ",
-        "refused 256 1",
-        "out 1 (1)",
-    ];
-    assert_eq!(rt; reply_among(rt.alloc(), &texts), None);
+fn other_words_say_nothing(rt: HostRuntime) {
+    assert_eq!(rt; message_among(rt.alloc(), &NO_MESSAGES), None);
+    assert_eq!(rt; reply_among(rt.alloc(), &NO_REPLIES), None);
 }
 
 #[test]
