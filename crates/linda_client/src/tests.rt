@@ -4,9 +4,10 @@
 
 mod abandons;
 mod alarms;
+mod call;
 mod calls;
 mod copies;
-mod lines;
+mod event;
 mod offers;
 mod script;
-mod words;
+mod told;

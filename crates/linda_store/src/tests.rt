@@ -1,8 +1,8 @@
-//! Tests of nodes, sessions and conversations, with frames written out by hand.
+//! Tests of nodes, sessions and conversations, as scripts worked by hand.
 
-mod frame;
 mod memory;
 mod nodes;
 mod pipe;
+mod script;
 mod sessions;
 mod talks;

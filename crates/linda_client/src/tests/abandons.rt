@@ -1,86 +1,82 @@
 //! A synchronization that is abandoned, at each stage.
 
-use super::script::{run, run_accepting, run_waiting};
+use super::script::{ACCEPTING, NEW, Row, WAITING, run_rows};
 use std::test::Fail;
 
-#[test]
-fn abandon_cancels_all_and_raises_all(rt: HostRuntime) -> Result<(), Fail> {
-    let lines = "
+const ROWS: &[Row] = &[
+    (
+        "abandon cancels all and raises all",
+        WAITING,
+        r#"
         abandon
         > 0 cancel 1
         > 1 cancel 1
         > 0 cancel 2
         > 1 cancel 2
-        > dropped
-        > raises 1
-        > raises 2
+        > dropped raised [1, 2]
         abandon
-        > idle
-        sync input
-        > 0 in 3 a
-        > 1 in 3 a
-    ";
-    run_waiting(&rt, rt.alloc(), lines)
-}
-
-#[test]
-fn abandon_while_a_tuple_is_put_is_refused(rt: HostRuntime) -> Result<(), Fail> {
-    let lines = "
-        out 3
-        > 1 out 1 3
+        > refused idle
+        sync in ("a", ?i)
+        > 0 in 3 ("a", ?i)
+        > 1 in 3 ("a", ?i)
+    "#,
+    ),
+    (
+        "abandon while a tuple is put is refused",
+        NEW,
+        r#"
+        out ("a", 3)
+        > 1 out 1 ("a", 3)
         abandon
-        > idle
+        > refused idle
         1 stored 1 9
         > stored 1 9
         abandon
-        > idle
-    ";
-    run(&rt, rt.alloc(), lines)
-}
-
-#[test]
-fn abandon_before_the_accept_is_answered_is_refused(rt: HostRuntime) -> Result<(), Fail> {
-    let lines = "
+        > refused idle
+    "#,
+    ),
+    (
+        "abandon before the accept is answered is refused",
+        ACCEPTING,
+        r#"
         abandon
-        > busy
-        1 taken 1 4 3
+        > refused busy
+        1 taken 1 4 ("a", 3)
         > 0 cancel 1
         > 0 cancel 2
         > 1 cancel 2
-        > took base 0 1 4 3
-        > binds 3
-        > label 5
-        > raises 2
+        > base 0 took 1 4 ("a", 3) binds [3] labels [5] raised [2]
         abandon
-        > idle
-    ";
-    run_accepting(&rt, rt.alloc(), lines)
-}
-
-#[test]
-fn abandon_after_the_offer_is_gone_cancels_all(rt: HostRuntime) -> Result<(), Fail> {
-    let lines = "
+        > refused idle
+    "#,
+    ),
+    (
+        "abandon after the offer is gone cancels all",
+        ACCEPTING,
+        "
         1 gone 1
         abandon
         > 0 cancel 1
         > 1 cancel 1
         > 0 cancel 2
         > 1 cancel 2
-        > dropped
-        > raises 1
-        > raises 2
-    ";
-    run_accepting(&rt, rt.alloc(), lines)
-}
-
-#[test]
-fn abandon_while_a_saved_offer_is_accepted_is_refused(rt: HostRuntime) -> Result<(), Fail> {
-    let lines = "
-        0 offer 1 2 3
+        > dropped raised [1, 2]
+    ",
+    ),
+    (
+        "abandon while a saved offer is accepted is refused",
+        ACCEPTING,
+        r#"
+        0 offer 1 2 ("a", 3)
         1 gone 1
         > 0 accept 1 1 2
         abandon
-        > busy
-    ";
-    run_accepting(&rt, rt.alloc(), lines)
+        > refused busy
+    "#,
+    ),
+];
+
+#[test]
+fn abandoned_synchronizations_end(rt: HostRuntime) -> Result<(), Fail> {
+    run_rows(&rt, rt.alloc(), ROWS)
 }

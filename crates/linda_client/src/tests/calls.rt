@@ -1,98 +1,101 @@
 //! Outs, what is sent again, and calls that are refused.
 
-use super::script::{run, run_accepting};
+use super::script::{ACCEPTING, NEW, Row, run_rows};
 use crate::{Client, ClientFault};
 use std::test::Fail;
 
-// The first out of client 7 goes to server 1 of the two, the second to server 0. Each waits for the Stored
-// of its own server and number, and is sent again.
-#[test]
-fn outs_go_round_the_servers(rt: HostRuntime) -> Result<(), Fail> {
-    let lines = "
-        out 3
-        > 1 out 1 3
+const ROWS: &[Row] = &[
+    // The first out of client 7 goes to server 1 of the two, the second to server 0. Each waits for the Stored
+    // of its own server and number, and is sent again.
+    (
+        "outs go round the servers",
+        NEW,
+        r#"
+        out ("a", 3)
+        > 1 out 1 ("a", 3)
         0 stored 1 9
         1 stored 2 9
-        1 taken 1 4 3
+        1 taken 1 4 ("a", 3)
         1 gone 1
         resend
-        > 1 out 1 3
+        > 1 out 1 ("a", 3)
         reconnected 0
         abandon
-        > idle
+        > refused idle
         1 stored 1 9
         > stored 1 9
-        out 4
-        > 0 out 1 4
+        out ("a", 4)
+        > 0 out 1 ("a", 4)
         0 stored 1 2
         > stored 0 2
-        out 5
-        > 1 out 2 5
-    ";
-    run(&rt, rt.alloc(), lines)
-}
-
-#[test]
-fn resend_and_reconnected_repeat_the_accept_and_the_asks(rt: HostRuntime) -> Result<(), Fail> {
-    let lines = "
+        out ("a", 5)
+        > 1 out 2 ("a", 5)
+    "#,
+    ),
+    (
+        "resend and reconnected repeat the accept and the asks",
+        ACCEPTING,
+        r#"
         resend
         > 1 accept 1 1 4
-        > 0 in 1 a
-        > 1 in 1 a
-        > 0 rd 2 b
-        > 1 rd 2 b
+        > 0 in 1 ("a", ?i)
+        > 1 in 1 ("a", ?i)
+        > 0 rd 2 ("b")
+        > 1 rd 2 ("b")
         reconnected 1
         > 1 accept 1 1 4
-        > 1 in 1 a
-        > 1 rd 2 b
+        > 1 in 1 ("a", ?i)
+        > 1 rd 2 ("b")
         reconnected 2
-        > no server
-    ";
-    run_accepting(&rt, rt.alloc(), lines)
-}
-
-#[test]
-fn a_refusal_is_handed_on_and_changes_nothing(rt: HostRuntime) -> Result<(), Fail> {
-    let lines = "
+        > refused no such server
+    "#,
+    ),
+    (
+        "a refusal is handed on and changes nothing",
+        ACCEPTING,
+        "
         1 refused 7 1024
         > fault 1 7 1024
         2 refused 7 1024
-        > no server
+        > refused no such server
         1 gone 1
         0 refused 10 2
         > fault 0 10 2
-    ";
-    run_accepting(&rt, rt.alloc(), lines)
-}
+    ",
+    ),
+    (
+        "a busy client refuses outs and events",
+        ACCEPTING,
+        r#"
+        out ("a", 3)
+        > refused busy
+        sync 65 labels
+        > refused busy
+        abandon
+        > refused busy
+    "#,
+    ),
+    (
+        "events beyond their limits are refused",
+        NEW,
+        "
+        sync 257 alarms
+        > refused too many bases
+        sync 65 inputs
+        > refused too many bases
+        sync 65 labels
+        > refused an event that is nested too deeply
+        sync 64 labels
+        abandon
+        > dropped raised []
+        sync 256 alarms
+    ",
+    ),
+];
 
 #[test]
-fn a_busy_client_refuses_outs_and_events(rt: HostRuntime) -> Result<(), Fail> {
-    let lines = "
-        out 3
-        > busy
-        sync 65-labels
-        > busy
-        abandon
-        > busy
-    ";
-    run_accepting(&rt, rt.alloc(), lines)
-}
-
-#[test]
-fn events_beyond_their_limits_are_refused(rt: HostRuntime) -> Result<(), Fail> {
-    let lines = "
-        sync 257-alarms
-        > too many bases
-        sync 65-inputs
-        > too many bases
-        sync 65-labels
-        > too deep
-        sync 64-labels
-        abandon
-        > dropped
-        sync 256-alarms
-    ";
-    run(&rt, rt.alloc(), lines)
+fn calls_are_answered_or_refused(rt: HostRuntime) -> Result<(), Fail> {
+    run_rows(&rt, rt.alloc(), ROWS)
 }
 
 #[test]

@@ -1,60 +1,54 @@
 //! Copies that come, at once and saved.
 
-use super::script::{run, run_accepting, run_waiting};
+use super::script::{ACCEPTING, NEW, Row, WAITING, run_rows};
 use std::test::Fail;
 
-#[test]
-fn a_copy_commits_to_the_read(rt: HostRuntime) -> Result<(), Fail> {
-    let lines = "
-        0 read 2 6 b
+const ROWS: &[Row] = &[
+    (
+        "a copy commits to the read",
+        WAITING,
+        r#"
+        0 read 2 6 ("b")
         > 0 cancel 1
         > 1 cancel 1
         > 0 cancel 2
         > 1 cancel 2
-        > copied base 1 0 6 0
-        > raises 1
-    ";
-    run_waiting(&rt, rt.alloc(), lines)
-}
-
-#[test]
-fn a_copy_tells_what_its_template_binds(rt: HostRuntime) -> Result<(), Fail> {
-    let lines = "
-        sync read
-        > 0 rd 1 a
-        > 1 rd 1 a
-        1 read 1 5 8
+        > base 1 read 0 6 ("b") binds [] labels [] raised [1]
+    "#,
+    ),
+    (
+        "a copy tells what its template binds",
+        NEW,
+        r#"
+        sync rd ("a", ?i)
+        > 0 rd 1 ("a", ?i)
+        > 1 rd 1 ("a", ?i)
+        1 read 1 5 ("a", 8)
         > 0 cancel 1
         > 1 cancel 1
-        > copied base 0 1 5 8
-        > binds 8
-    ";
-    run(&rt, rt.alloc(), lines)
-}
-
-#[test]
-fn a_saved_copy_commits_after_gone(rt: HostRuntime) -> Result<(), Fail> {
-    let lines = "
-        0 read 2 6 b
-        1 offer 1 5 3
+        > base 0 read 1 5 ("a", 8) binds [8] labels [] raised []
+    "#,
+    ),
+    (
+        "a saved copy commits after gone",
+        ACCEPTING,
+        r#"
+        0 read 2 6 ("b")
+        1 offer 1 5 ("a", 3)
         1 gone 1
         > 0 cancel 1
         > 1 cancel 1
         > 0 cancel 2
         > 1 cancel 2
-        > copied base 1 0 6 0
-        > raises 1
-    ";
-    run_accepting(&rt, rt.alloc(), lines)
-}
-
-#[test]
-fn a_copy_saved_behind_an_offer_commits_once_both_offers_are_gone(
-    rt: HostRuntime,
-) -> Result<(), Fail> {
-    let lines = "
-        0 offer 1 2 3
-        0 read 2 6 b
+        > base 1 read 0 6 ("b") binds [] labels [] raised [1]
+    "#,
+    ),
+    (
+        "a copy saved behind an offer commits once both offers are gone",
+        ACCEPTING,
+        r#"
+        0 offer 1 2 ("a", 3)
+        0 read 2 6 ("b")
         1 gone 1
         > 0 accept 1 1 2
         0 gone 1
@@ -62,8 +56,12 @@ fn a_copy_saved_behind_an_offer_commits_once_both_offers_are_gone(
         > 1 cancel 1
         > 0 cancel 2
         > 1 cancel 2
-        > copied base 1 0 6 0
-        > raises 1
-    ";
-    run_accepting(&rt, rt.alloc(), lines)
+        > base 1 read 0 6 ("b") binds [] labels [] raised [1]
+    "#,
+    ),
+];
+
+#[test]
+fn copies_that_come_are_treated_as_they_must_be(rt: HostRuntime) -> Result<(), Fail> {
+    run_rows(&rt, rt.alloc(), ROWS)
 }

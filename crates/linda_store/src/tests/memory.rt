@@ -1,10 +1,12 @@
 //! A stream that spells nothing is told so where memory is short for what it holds.
 
-use super::frame::refused;
 use super::pipe::Room;
 use crate::conversation::converse;
 use crate::end::End;
 use crate::volatile::Volatile;
+
+/// Refused, as malformed at 17.
+const REFUSED: [u8; 14] = [0, 0, 0, 0xa, 0x17, 9, 0, 0, 0, 0, 0, 0, 0, 17];
 
 /// Out 1 of a tuple with a text for its tag and a byte that is no atom for its field, at 17.
 const BAD_FIELD: [u8; 18] = [0, 0, 0, 0xe, 2, 0, 0, 0, 0, 0, 0, 0, 1, 2, 1, 0x61, 1, 9];
@@ -21,5 +23,5 @@ fn a_bad_frame_is_told_where_there_is_no_memory_for_its_text(rt: HostRuntime) {
     let mut reader: &[u8] = &BAD_FIELD;
     let end = converse(rt.alloc(), &mut node, &mut reader, &mut room);
     assert_eq!(rt; end, Ok(End::Malformed(17)));
-    assert_eq!(rt; room.taken.as_slice(), refused(9, 17).as_slice());
+    assert_eq!(rt; room.taken.as_slice(), REFUSED.as_slice());
 }

@@ -3,107 +3,120 @@
 ghost use Rattle.std.specs.Prelude.{◌≤◌, length, IfOk};
 ghost use Rattle.linda_step.specs.declared.size.TheConstants.{MAX_BATCH};
 
-use super::frame::{OUT, STORED_1_1, ask_by, holder, joined, message, with_tuple};
+use super::script::plays;
 use crate::node::Node;
 use crate::volatile::Volatile;
 use crate::work::Work;
 use linda_disk::Torn;
+use linda_script::{read_messages, tell_replies, tidied};
 use linda_step::MAX_BATCH;
-use linda_wire::{Message, Reply, encode_reply};
+use linda_wire::Message;
 use std::alloc::Global;
 use std::process::Abort;
 use std::test::Fail;
 
-/// What goes to the client, as frames; and nothing else goes.
-fn frames_to(
-    rt: &impl Abort,
-    alloc: Global,
-    client: u32,
-    sends: &[(u32, Reply)],
-) -> Result<Vec<u8>, Fail> {
-    let mut frames = Vec::new(alloc);
-    for (to, reply) in sends {
-        assert_eq!(rt; *to, client);
-        encode_reply(&mut frames, reply)?;
-    }
-    Ok(frames)
-}
-
-/// What the node answers to the frame of a client is these frames to that client.
-fn answers(
-    rt: &impl Abort,
-    alloc: Global,
-    node: &mut Volatile,
-    client: u32,
-    frame: &[u8],
-    want: &[u8],
-) -> Result<(), Fail> {
-    let sends = node.handle(alloc, client, &message(alloc, frame)?)?;
-    assert_eq!(rt; frames_to(rt, alloc, client, &sends)?.as_slice(), want);
-    Ok(())
-}
-
-/// Client 7 puts a tuple and holds it, client 8 waits for it, and client 7 is closed.
-fn closes_a_client(rt: &impl Abort, alloc: Global, node: &mut Volatile) -> Result<(), Fail> {
-    answers(rt, alloc, node, 7, &OUT, &STORED_1_1)?;
-    answers(rt, alloc, node, 7, &ask_by(1), &with_tuple(0x13, 1))?;
-    answers(rt, alloc, node, 8, &ask_by(2), &[])?;
-    let sends = node.close(alloc, 7)?;
-    let want = with_tuple(0x13, 2);
-    assert_eq!(rt;
-        frames_to(rt, alloc, 8, &sends)?.as_slice(),
-        want.as_slice()
-    );
-    Ok(())
-}
-
 #[test]
 fn a_node_that_closes_a_client_offers_what_it_held(rt: HostRuntime) -> Result<(), Fail> {
+    let lines = r#"
+        7 out 1 ("a", 3)
+        > 7 stored 1 1
+        7 in 1 ("a", ?i)
+        > 7 offer 1 1 ("a", 3)
+        8 in 2 ("a", ?i)
+        close 7
+        > 8 offer 2 1 ("a", 3)
+        tuple 1
+        > tuple 1 ("a", 3) held 8 2
+        next
+        > next 2
+    "#;
     let mut node = Volatile::new(rt.alloc());
-    closes_a_client(&rt, rt.alloc(), &mut node)?;
-    assert_eq!(rt; holder(&node), Some((8, 2)));
-    assert_eq!(rt; node.state().next, 2);
+    plays(&rt, rt.alloc(), &mut node, "a close", lines)?;
     assert!(rt; !node.is_down());
     Ok(())
 }
 
-/// The messages of these frames, each of its client.
-fn batch(alloc: Global, frames: &[(u32, &[u8])]) -> Result<Vec<(u32, Message)>, Fail>
+/// The messages of these lines, which are few enough for one call.
+fn batch(alloc: Global, script: &str) -> Result<Vec<(u32, Message)>, Fail>
     ensures { IfOk result (λ messages. length messages.items ≤ MAX_BATCH) }
 {
-    let mut messages = Vec::new(alloc);
-    for (client, frame) in frames {
-        messages.push((*client, message(alloc, frame)?))?;
-    }
+    let messages = read_messages(alloc, script)?;
     if messages.len() > MAX_BATCH {
         return Err(Fail::new("too many messages"));
     }
     Ok(messages)
 }
 
-/// Client 7 puts a tuple and holds it, in one call; then the node is stopped in work of client 8.
-fn is_stopped(rt: &impl Abort, alloc: Global, node: &mut Volatile) -> Result<(), Fail> {
-    let sends = node.handle_all(alloc, &batch(alloc, &[(7, &OUT), (7, &ask_by(1))])?)?;
-    let want = joined(alloc, &[&STORED_1_1, &with_tuple(0x13, 1)])?;
-    assert_eq!(rt;
-        frames_to(rt, alloc, 7, &sends)?.as_slice(),
-        want.as_slice()
-    );
-    assert_eq!(rt; holder(node), Some((7, 1)));
-    node.snapshot(alloc)?;
-    assert_eq!(rt; holder(node), Some((7, 1)));
-    let work = Work::Messages(batch(alloc, &[(8, &OUT), (8, &ask_by(2))])?);
-    let deeds = node.stop(alloc, work, 0, Torn::Lost)?;
-    assert_eq!(rt; deeds.len(), 1);
+/// The node takes what the lines say in one call, and sends what the others tell.
+fn takes_at_once(
+    rt: &impl Abort,
+    alloc: Global,
+    node: &mut Volatile,
+    script: &str,
+    want: &str,
+) -> Result<(), Fail> {
+    let sends = node.handle_all(alloc, &batch(alloc, script)?)?;
+    let mut came = String::new(alloc);
+    tell_replies(alloc, &mut came, &sends)?;
+    let want = tidied(alloc, want)?;
+    assert_eq!(rt; came.as_str(), want.as_str());
     Ok(())
+}
+
+/// The node is stopped in work on the messages of these lines, which does so many deeds.
+fn stops_at_work(
+    rt: &impl Abort,
+    alloc: Global,
+    node: &mut Volatile,
+    script: &str,
+    deeds: usize,
+) -> Result<(), Fail> {
+    let work = Work::Messages(batch(alloc, script)?);
+    let did = node.stop(alloc, work, 0, Torn::Lost)?;
+    assert_eq!(rt; did.len(), deeds);
+    Ok(())
+}
+
+const PUT_AND_HELD: &str = r#"
+    7 out 1 ("a", 3)
+    7 in 1 ("a", ?i)
+"#;
+
+const SENT: &str = r#"
+    > 7 stored 1 1
+    > 7 offer 1 1 ("a", 3)
+"#;
+
+const HELD: &str = r#"
+    tuple 1
+    > tuple 1 ("a", 3) held 7 1
+"#;
+
+const AT_WORK: &str = r#"
+    8 out 1 ("a", 3)
+    8 in 2 ("a", ?i)
+"#;
+
+const FREE: &str = r#"
+    tuple 1
+    > tuple 1 ("a", 3) free
+    next
+    > next 3
+"#;
+
+fn is_stopped(rt: &impl Abort, alloc: Global, node: &mut Volatile) -> Result<(), Fail> {
+    takes_at_once(rt, alloc, node, PUT_AND_HELD, SENT)?;
+    plays(rt, alloc, node, "before", HELD)?;
+    node.snapshot(alloc)?;
+    plays(rt, alloc, node, "a snapshot", HELD)?;
+    stops_at_work(rt, alloc, node, AT_WORK, 1)?;
+    plays(rt, alloc, node, "a stop", FREE)
 }
 
 #[test]
 fn a_stopped_node_keeps_its_deeds_and_nothing_that_is_held(rt: HostRuntime) -> Result<(), Fail> {
     let mut node = Volatile::new(rt.alloc());
     is_stopped(&rt, rt.alloc(), &mut node)?;
-    assert_eq!(rt; holder(&node), None);
-    assert_eq!(rt; node.state().next, 3);
     assert!(rt; !node.is_down());
     Ok(())
 }

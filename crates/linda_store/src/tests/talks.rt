@@ -1,251 +1,311 @@
-//! Whole conversations with a volatile node, with streams and replies worked by hand.
+//! Whole conversations with a volatile node, worked by hand: what a script says is the stream, and what it tells are the
+//! replies.
 
-use super::frame::*;
 use super::pipe::{Pieces, Room};
+use super::script::{HELD_BY_7, plays};
 use crate::conversation::converse;
 use crate::end::{ConverseFault, End};
 use crate::volatile::Volatile;
-use linda_bag::Bag;
+use linda_script::{said_frames, told_frames};
 use std::alloc::Global;
 use std::process::Abort;
 use std::test::Fail;
 
-/// A conversation over this stream ends so and writes this, however the stream is cut.
-fn ends_so(
+/// The node's conversation over what the script says, in pieces of at most so many bytes, ends so and writes what the
+/// script tells.
+fn answers(
     rt: &impl Abort,
     alloc: Global,
-    stream: &[&[u8]],
+    node: &mut Volatile,
+    name: &str,
+    script: &str,
+    size: usize,
     end: End,
-    replies: &[&[u8]],
 ) -> Result<(), Fail> {
-    let stream = joined(alloc, stream)?;
-    let replies = joined(alloc, replies)?;
-    for size in [1, 7, 10_000] {
-        let mut node = Volatile::new(alloc);
-        let mut reader = Pieces {
-            bytes: &stream,
-            size,
-            fails: false,
-        };
-        let mut written = Vec::new(alloc);
-        let got = converse(alloc, &mut node, &mut reader, &mut written);
-        assert_eq!(rt; got, Ok(end), "in pieces of {size}");
-        assert_eq!(rt; written.as_slice(), replies.as_slice());
+    let stream = said_frames(alloc, script)?;
+    let replies = told_frames(alloc, script)?;
+    let mut reader = Pieces {
+        bytes: &stream,
+        size,
+        fails: false,
+    };
+    let mut written = Vec::new(alloc);
+    let got = converse(alloc, node, &mut reader, &mut written);
+    assert_eq!(rt; got, Ok(end), "{name}, in pieces of {size}");
+    assert_eq!(rt; written.as_slice(), replies.as_slice(), "{name}");
+    Ok(())
+}
+
+const WHOLE: End = End::Ended { rest: 0 };
+
+/// What is to be seen, the script, and how the conversation ends.
+const TALKS: &[(&str, &str, End)] = &[
+    ("nothing is said", "", WHOLE),
+    (
+        "messages are answered",
+        r#"
+        hello 1 7 fresh
+        > welcome 0
+        out 1 ("a", 3)
+        > stored 1 1
+        out 1 ("a", 3)
+        > stored 1 1
+        out 3 ("a", 3)
+        > refused 5 1
+    "#,
+        WHOLE,
+    ),
+    (
+        "a connection begins with one Hello",
+        r#"
+        out 1 ("a", 3)
+        > refused 12 0
+        hello 1 7 fresh
+        > welcome 0
+        hello 1 7 fresh
+        > refused 3 0
+        out 1 ("a", 3)
+        > stored 1 1
+    "#,
+        WHOLE,
+    ),
+    (
+        "a Hello of another version is none",
+        r#"
+        hello 2 7 fresh
+        > refused 1 1
+        out 1 ("a", 3)
+        > refused 12 0
+        hello 1 7 fresh
+        > welcome 0
+    "#,
+        WHOLE,
+    ),
+    // the tag is a truth value, spelled 2
+    (
+        "a frame that spells nothing ends the conversation",
+        r#"
+        hello 1 7 fresh
+        > welcome 0
+        bytes 0000000c020000000000000001030200
+        > refused 9 14
+        out 1 ("a", 3)
+    "#,
+        End::Malformed(14),
+    ),
+    (
+        "a frame of no bytes ends the conversation",
+        r#"
+        hello 1 7 fresh
+        > welcome 0
+        bytes 00000000
+        > refused 9 0
+        out 1 ("a", 3)
+    "#,
+        End::Malformed(0),
+    ),
+    (
+        "a frame that is cut short is not answered",
+        "
+        hello 1 7 fresh
+        > welcome 0
+        bytes 0000000901
+    ",
+        End::Ended { rest: 5 },
+    ),
+    (
+        "an offer is accepted",
+        r#"
+        hello 1 7 fresh
+        > welcome 0
+        out 1 ("a", 3)
+        > stored 1 1
+        out 1 ("a", 3)
+        > stored 1 1
+        in 1 ("a", ?i)
+        > offer 1 1 ("a", 3)
+        accept 2 1 1
+        > taken 2 1 ("a", 3)
+    "#,
+        WHOLE,
+    ),
+    (
+        "all messages are answered",
+        r#"
+        in 1 ("a", ?i)
+        > refused 12 0
+        hello 1 7 fresh
+        > welcome 0
+        cancel 1
+        out 1 ("a", 3)
+        > stored 1 1
+        in 1 ("a", ?i)
+        > offer 1 1 ("a", 3)
+        rd 2 ("a", _)
+        > read 2 1 ("a", 3)
+        cancel 1
+        accept 2 1 1
+        > gone 2
+        rd 2 ("a", _)
+        > read 2 1 ("a", 3)
+    "#,
+        WHOLE,
+    ),
+];
+
+#[test]
+fn conversations_are_answered_however_they_are_cut(rt: HostRuntime) -> Result<(), Fail> {
+    let alloc = rt.alloc();
+    for (name, script, end) in TALKS {
+        for size in [1, 7, 10_000] {
+            let mut node = Volatile::new(alloc);
+            answers(&rt, alloc, &mut node, name, script, size, *end)?;
+        }
     }
     Ok(())
 }
 
-#[test]
-fn messages_are_answered(rt: HostRuntime) -> Result<(), Fail> {
-    let alloc = rt.alloc();
-    let whole = End::Ended { rest: 0 };
-    ends_so(&rt, alloc, &[], whole, &[])?;
-    ends_so(
-        &rt,
-        alloc,
-        &[&HELLO, &OUT, &OUT, &OUT_3],
-        whole,
-        &[&WELCOME_0, &STORED_1_1, &STORED_1_1, &refused(5, 1)],
-    )
-}
+const HELD_BY_8: &str = r#"
+    tuple 1
+    > tuple 1 ("a", 3) held 8 6
+"#;
 
-#[test]
-fn a_connection_begins_with_one_hello(rt: HostRuntime) -> Result<(), Fail> {
-    let alloc = rt.alloc();
-    let whole = End::Ended { rest: 0 };
-    ends_so(
-        &rt,
-        alloc,
-        &[&OUT, &HELLO, &HELLO, &OUT],
-        whole,
-        &[&refused(12, 0), &WELCOME_0, &refused(3, 0), &STORED_1_1],
-    )?;
-    ends_so(
-        &rt,
-        alloc,
-        &[&HELLO_OF_TWO, &OUT, &HELLO],
-        whole,
-        &[&refused(1, 1), &refused(12, 0), &WELCOME_0],
-    )
-}
+/// Client 7 is greeted, and has put a tuple before.
+const GREETED_AGAIN: &str = "
+    hello 1 7 known
+    > welcome 1
+";
 
-#[test]
-fn streams_that_are_no_messages(rt: HostRuntime) -> Result<(), Fail> {
-    let alloc = rt.alloc();
-    ends_so(
-        &rt,
-        alloc,
-        &[&HELLO, &BAD_OUT, &OUT],
-        End::Malformed(14),
-        &[&WELCOME_0, &refused(9, 14)],
-    )?;
-    ends_so(
-        &rt,
-        alloc,
-        &[&HELLO, &[0, 0, 0, 0], &OUT],
-        End::Malformed(0),
-        &[&WELCOME_0, &refused(9, 0)],
-    )?;
-    ends_so(
-        &rt,
-        alloc,
-        &[&HELLO, &[0, 0, 0, 9, 1]],
-        End::Ended { rest: 5 },
-        &[&WELCOME_0],
-    )
-}
+/// Client 7 puts a tuple.
+const PUTS: &str = r#"
+    hello 1 7 fresh
+    > welcome 0
+    out 1 ("a", 3)
+    > stored 1 1
+"#;
 
-#[test]
-fn an_offer_is_accepted(rt: HostRuntime) -> Result<(), Fail> {
-    let alloc = rt.alloc();
-    ends_so(
-        &rt,
-        alloc,
-        &[&HELLO, &OUT, &OUT, &ASK, &ACCEPT],
-        End::Ended { rest: 0 },
-        &[
-            &WELCOME_0,
-            &STORED_1_1,
-            &STORED_1_1,
-            &with_tuple(0x13, 1),
-            &with_tuple(0x15, 2),
-        ],
-    )
-}
+/// What is to be seen, what the node plays before, the conversation, and what the node plays after it.
+const TALKS_BETWEEN: &[(&str, &str, &str, &str)] = &[
+    (
+        "the end of a conversation closes its client",
+        HELD_BY_7,
+        GREETED_AGAIN,
+        HELD_BY_8,
+    ),
+    (
+        "a client that is not welcome is not closed",
+        HELD_BY_7,
+        "
+        hello 1 7 fresh
+        > refused 2 1
+    ",
+        r#"
+        tuple 1
+        > tuple 1 ("a", 3) held 7 5
+    "#,
+    ),
+    (
+        "replies to other clients are not written",
+        r#"8 in 6 ("a", ?i)"#,
+        PUTS,
+        HELD_BY_8,
+    ),
+    (
+        "a node keeps what a stream put",
+        "",
+        r#"
+        hello 1 7 fresh
+        > welcome 0
+        out 1 ("a", 3)
+        > stored 1 1
+        out 1 ("a", 3)
+        > stored 1 1
+    "#,
+        r#"
+        next
+        > next 2
+        tuple 1
+        > tuple 1 ("a", 3) free
+    "#,
+    ),
+];
 
-#[test]
-fn all_messages_are_answered(rt: HostRuntime) -> Result<(), Fail> {
-    let alloc = rt.alloc();
-    ends_so(
-        &rt,
-        alloc,
-        &[
-            &ASK, &HELLO, &CANCEL, &OUT, &ASK, &READ, &CANCEL, &ACCEPT, &READ,
-        ],
-        End::Ended { rest: 0 },
-        &[
-            &refused(12, 0),
-            &WELCOME_0,
-            &STORED_1_1,
-            &with_tuple(0x13, 1),
-            &with_tuple(0x14, 2),
-            &GONE_2,
-            &with_tuple(0x14, 2),
-        ],
-    )
-}
-
-/// A conversation of the node over this stream ends with the stream and writes this.
-fn talks(
+fn talks_between(
     rt: &impl Abort,
     alloc: Global,
     node: &mut Volatile,
-    stream: &[&[u8]],
-    replies: &[&[u8]],
+    row: &(&str, &str, &str, &str),
 ) -> Result<(), Fail> {
-    let stream = joined(alloc, stream)?;
-    let mut reader = stream.as_slice();
-    let mut written = Vec::new(alloc);
-    let end = converse(alloc, node, &mut reader, &mut written);
-    assert_eq!(rt; end, Ok(End::Ended { rest: 0 }));
-    assert_eq!(rt; written.as_slice(), joined(alloc, replies)?.as_slice());
-    Ok(())
+    let (name, before, talk, after) = row;
+    plays(rt, alloc, node, name, before)?;
+    answers(rt, alloc, node, name, talk, 10_000, WHOLE)?;
+    plays(rt, alloc, node, name, after)
 }
 
 #[test]
-fn the_end_of_a_conversation_closes_its_client(rt: HostRuntime) -> Result<(), Fail> {
-    let alloc = rt.alloc();
-    let mut node = Volatile::new(alloc);
-    fill(alloc, &mut node)?;
-    assert_eq!(rt; holder(&node), Some((7, 5)));
-    talks(&rt, alloc, &mut node, &[&HELLO_AGAIN], &[&WELCOME_1])?;
-    assert_eq!(rt; holder(&node), Some((8, 6)));
+fn a_conversation_is_one_of_many(rt: HostRuntime) -> Result<(), Fail> {
+    for row in TALKS_BETWEEN {
+        let mut node = Volatile::new(rt.alloc());
+        talks_between(&rt, rt.alloc(), &mut node, row)?;
+    }
     Ok(())
 }
 
+/// The node's conversation over what the script says, where the reader fails at the end and the writer has room for so
+/// many bytes: it ends with this fault and writes what of the replies there is room for.
+fn fails_so(
+    rt: &impl Abort,
+    alloc: Global,
+    node: &mut Volatile,
+    script: &str,
+    room: usize,
+    fault: ConverseFault,
+) -> Result<(), Fail> {
+    let stream = said_frames(alloc, script)?;
+    let replies = told_frames(alloc, script)?;
+    let mut reader = Pieces {
+        bytes: &stream,
+        size: 16,
+        fails: true,
+    };
+    let mut writer = Room {
+        taken: Vec::new(alloc),
+        room,
+    };
+    let end = converse(alloc, node, &mut reader, &mut writer);
+    assert_eq!(rt; end, Err(fault), "with room for {room}");
+    let written = &replies[..room.min(replies.len())];
+    assert_eq!(rt; writer.taken.as_slice(), written, "with room for {room}");
+    Ok(())
+}
+
+// A Welcome has 13 bytes, and a Stored 21.
 #[test]
-fn a_client_that_is_not_welcome_is_not_closed(rt: HostRuntime) -> Result<(), Fail> {
-    let alloc = rt.alloc();
-    let mut node = Volatile::new(alloc);
-    fill(alloc, &mut node)?;
-    talks(&rt, alloc, &mut node, &[&HELLO], &[&refused(2, 1)])?;
-    assert_eq!(rt; holder(&node), Some((7, 5)));
+fn a_reader_or_a_writer_fails(rt: HostRuntime) -> Result<(), Fail> {
+    for room in 0..36 {
+        let mut node = Volatile::new(rt.alloc());
+        let fault = if room < 34 {
+            ConverseFault::Write
+        } else {
+            ConverseFault::Read
+        };
+        fails_so(&rt, rt.alloc(), &mut node, PUTS, room, fault)?;
+    }
     Ok(())
 }
 
 #[test]
 fn a_failed_conversation_closes_its_client(rt: HostRuntime) -> Result<(), Fail> {
-    let alloc = rt.alloc();
-    let mut node = Volatile::new(alloc);
-    fill(alloc, &mut node)?;
-    let mut reader = HELLO_AGAIN.as_slice();
-    let mut writer = Room {
-        taken: Vec::new(alloc),
-        room: 6,
-    };
-    let end = converse(alloc, &mut node, &mut reader, &mut writer);
-    assert_eq!(rt; end, Err(ConverseFault::Write));
-    assert_eq!(rt; holder(&node), Some((8, 6)));
-    Ok(())
-}
-
-#[test]
-fn replies_to_other_clients_are_not_written(rt: HostRuntime) -> Result<(), Fail> {
-    let alloc = rt.alloc();
-    let mut node = Volatile::new(alloc);
-    tell(alloc, &mut node, 8, &ask_by(6))?;
-    talks(
+    let mut node = Volatile::new(rt.alloc());
+    let name = "a failed conversation";
+    plays(&rt, rt.alloc(), &mut node, name, HELD_BY_7)?;
+    fails_so(
         &rt,
-        alloc,
+        rt.alloc(),
         &mut node,
-        &[&HELLO, &OUT],
-        &[&WELCOME_0, &STORED_1_1],
+        GREETED_AGAIN,
+        6,
+        ConverseFault::Write,
     )?;
-    assert_eq!(rt; holder(&node), Some((8, 6)));
-    Ok(())
-}
-
-#[test]
-fn a_node_keeps_what_a_stream_put(rt: HostRuntime) -> Result<(), Fail> {
-    let alloc = rt.alloc();
-    let mut node = Volatile::new(alloc);
-    let stream = joined(alloc, &[&HELLO, &OUT, &OUT])?;
-    let mut reader = stream.as_slice();
-    let mut written = Vec::new(alloc);
-    let end = converse(alloc, &mut node, &mut reader, &mut written);
-    assert_eq!(rt; end, Ok(End::Ended { rest: 0 }));
-    assert_eq!(rt; node.state().next, 2);
-    assert!(rt; node.state().bag.get(1).is_some());
-    Ok(())
-}
-
-#[test]
-fn a_reader_or_a_writer_fails(rt: HostRuntime) -> Result<(), Fail> {
-    let alloc = rt.alloc();
-    let stream = joined(alloc, &[&HELLO, &OUT])?;
-    let replies = joined(alloc, &[&WELCOME_0, &STORED_1_1])?;
-    for room in 0..35 {
-        let mut node = Volatile::new(alloc);
-        let mut reader = Pieces {
-            bytes: &stream,
-            size: 16,
-            fails: true,
-        };
-        let mut writer = Room {
-            taken: Vec::new(alloc),
-            room,
-        };
-        let end = converse(alloc, &mut node, &mut reader, &mut writer);
-        let fault = if room < replies.len() {
-            ConverseFault::Write
-        } else {
-            ConverseFault::Read
-        };
-        assert_eq!(rt; end, Err(fault), "with room for {room}");
-        assert_eq!(rt;
-            writer.taken.as_slice(),
-            &replies[..room.min(replies.len())]
-        );
-    }
-    Ok(())
+    plays(&rt, rt.alloc(), &mut node, name, HELD_BY_8)
 }

@@ -1,0 +1,52 @@
+-- The one text of a message and of a reply: a word, numbers behind one blank each, and a tuple or a template.
+use Rattle.std.specs.Prelude.{ℕ, Bool, true, false, List, ◌∷◌, ◌++◌, codes}
+use Rattle.std.specs.Fmt.{decimal}
+use Rattle.linda_tuple.specs.Tuple.{Tuple}
+use Rattle.linda_text.specs.Written.{written_tuple, written_template}
+use Rattle.linda_wire.specs.declared.message.Message.{Message}
+use Rattle.linda_wire.specs.declared.message.Message.TheVariants.{Hello, Out, Ask, Accept, Cancel}
+use Rattle.linda_wire.specs.declared.reply.Reply.{Reply}
+use Rattle.linda_wire.specs.declared.reply.Reply.TheVariants.{Welcome, Stored, Offer, Read, Taken, Gone, Refused}
+
+-- A blank, and what follows.
+abbrev pub spaced : List ℕ → List ℕ
+spaced text = 32 ∷ text
+
+-- A word and a number.
+abbrev pub numbered : List ℕ → ℕ → List ℕ
+numbered word number = word ++ spaced (decimal number)
+
+-- A word, a number, and what follows behind a blank.
+abbrev pub numbered_then : List ℕ → ℕ → List ℕ → List ℕ
+numbered_then word number rest = word ++ spaced (decimal number ++ spaced rest)
+
+-- Whether a client has kept nothing.
+abbrev pub fresh_word : Bool → List ℕ
+fresh_word true = codes "fresh"
+fresh_word false = codes "known"
+
+-- Whether a client wants to take what it asks for.
+abbrev pub ask_word : Bool → List ℕ
+ask_word true = codes "in"
+ask_word false = codes "rd"
+
+abbrev pub message_words : Message → List ℕ
+message_words (Hello version client fresh) =
+    numbered_then (codes "hello") version (decimal client ++ spaced (fresh_word fresh))
+message_words (Out n tuple) = numbered_then (codes "out") n (written_tuple tuple)
+message_words (Ask ticket remove template) = numbered_then (ask_word remove) ticket (written_template template)
+message_words (Accept n ticket id) = numbered_then (codes "accept") n (decimal ticket ++ spaced (decimal id))
+message_words (Cancel ticket) = numbered (codes "cancel") ticket
+
+-- Two numbers and a tuple behind a word.
+abbrev pub entry_words : List ℕ → ℕ → ℕ → Tuple → List ℕ
+entry_words word number id tuple = numbered_then word number (decimal id ++ spaced (written_tuple tuple))
+
+abbrev pub reply_words : Reply → List ℕ
+reply_words (Welcome last) = numbered (codes "welcome") last
+reply_words (Stored n id) = numbered_then (codes "stored") n (decimal id)
+reply_words (Offer ticket id tuple) = entry_words (codes "offer") ticket id tuple
+reply_words (Read ticket id tuple) = entry_words (codes "read") ticket id tuple
+reply_words (Taken n id tuple) = entry_words (codes "taken") n id tuple
+reply_words (Gone n) = numbered (codes "gone") n
+reply_words (Refused code detail) = numbered_then (codes "refused") code (decimal detail)

@@ -1,0 +1,61 @@
+//! The bytes of what a script says and tells.
+
+use crate::fault::WordsFault;
+use crate::lines::{said, told};
+use crate::message::read_message;
+use crate::reply::read_reply;
+use hex::FromHexError;
+use linda_wire::{encode_message, encode_reply};
+use std::alloc::Global;
+
+/// The frames of the messages that a script says, one behind the other.
+///
+/// # Errors
+///
+/// `Unknown` where a line says no message; `Memory` where memory runs out.
+pub fn said_frames(alloc: Global, script: &str) -> Result<Vec<u8>, WordsFault> {
+    let mut frames = Vec::new(alloc);
+    for line in script.lines() {
+        if let Some(words) = said(line) {
+            push_said(alloc, &mut frames, words)?;
+        }
+    }
+    Ok(frames)
+}
+
+/// The frames of the replies that a script tells, one behind the other.
+///
+/// # Errors
+///
+/// `Unknown` where a line tells no reply; `Memory` where memory runs out.
+pub fn told_frames(alloc: Global, script: &str) -> Result<Vec<u8>, WordsFault> {
+    let mut frames = Vec::new(alloc);
+    for line in script.lines() {
+        if let Some(words) = told(line) {
+            push_told(alloc, &mut frames, words)?;
+        }
+    }
+    Ok(frames)
+}
+
+// Appends the frame of the message that is said, or the bytes whose digits stand behind the word `bytes`.
+fn push_said(alloc: Global, frames: &mut Vec<u8>, words: &str) -> Result<(), WordsFault> {
+    match words.strip_prefix("bytes ") {
+        Some(digits) => push_bytes(alloc, frames, digits),
+        None => Ok(encode_message(frames, &read_message(alloc, words)?)?),
+    }
+}
+
+// Appends the bytes of these hexadecimal digits.
+fn push_bytes(alloc: Global, frames: &mut Vec<u8>, digits: &str) -> Result<(), WordsFault> {
+    match hex::decode(alloc, digits.as_bytes()) {
+        Ok(bytes) => Ok(frames.extend_from_slice(bytes.as_slice())?),
+        Err(FromHexError::OutOfMemory) => Err(WordsFault::Memory),
+        Err(_) => Err(WordsFault::Unknown),
+    }
+}
+
+// Appends the frame of the reply that is told.
+fn push_told(alloc: Global, frames: &mut Vec<u8>, words: &str) -> Result<(), WordsFault> {
+    Ok(encode_reply(frames, &read_reply(alloc, words)?)?)
+}

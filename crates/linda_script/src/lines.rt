@@ -1,0 +1,36 @@
+//! The lines of a script.
+
+use std::alloc::{AllocError, Global};
+
+/// What a line says that goes in: the line without the blanks around it, if anything stands there and it is not told
+/// behind `>`.
+pub fn said(line: &str) -> Option<&str> {
+    let line = line.trim();
+    if line.is_empty() || line.starts_with('>') {
+        None
+    } else {
+        Some(line)
+    }
+}
+
+/// What a line tells that comes out: what stands behind `> `, if it begins so.
+pub fn told(line: &str) -> Option<&str> {
+    line.trim().strip_prefix("> ")
+}
+
+/// The lines of a script that say or tell something, without blanks around them, each with a line feed.
+///
+/// # Errors
+///
+/// `AllocError` where memory runs out.
+pub fn tidied(alloc: Global, script: &str) -> Result<String, AllocError> {
+    let mut lines = String::new(alloc);
+    for line in script.lines() {
+        let line = line.trim();
+        if !line.is_empty() {
+            lines.push_str(line)?;
+            lines.push('\n')?;
+        }
+    }
+    Ok(lines)
+}

@@ -1,0 +1,33 @@
+//! Words and numbers at the front of a text.
+
+use crate::fault::WordsFault;
+
+/// The first word of a text and what stands behind the blank after it, which is nothing where no blank stands there.
+pub fn split_word(text: &str) -> (&str, &str) {
+    match text.split_once(' ') {
+        Some((word, rest)) => (word, rest),
+        None => (text, ""),
+    }
+}
+
+/// The number of 64 bits that is the first word of a text, and what stands behind the blank after it.
+pub(crate) fn split_number(text: &str) -> Result<(u64, &str), WordsFault> {
+    let (word, rest) = split_word(text);
+    match word.parse::<u64>() {
+        Ok(number) => Ok((number, rest)),
+        Err(_) => Err(WordsFault::Unknown),
+    }
+}
+
+/// The number of 32 bits that is the first word, of a client or a server, and what stands behind the blank after it.
+///
+/// # Errors
+///
+/// `Unknown` where there is no such number.
+pub fn read_numbered(text: &str) -> Result<(u32, &str), WordsFault> {
+    let (number, rest) = split_number(text)?;
+    match u32::try_from(number) {
+        Ok(number) => Ok((number, rest)),
+        Err(_) => Err(WordsFault::Unknown),
+    }
+}

@@ -1,0 +1,118 @@
+//! What servers say to clients, in words.
+
+ghost use Rattle.std.specs.Prelude.{◌≡◌, IfOk};
+ghost use Rattle.std.specs.String.{string_bytes};
+ghost use Rattle.linda_script.specs.Words.{reply_words};
+
+use crate::fault::WordsFault;
+use crate::number::{split_number, split_word};
+use linda_text::{read_tuple, write_tuple};
+use linda_tuple::Tuple;
+use linda_wire::Reply;
+use std::alloc::{AllocError, Global};
+
+/// The reply in words, as `offer 1 2 ("a", 3)`.
+///
+/// # Errors
+///
+/// `AllocError` where memory runs out.
+pub fn write_reply(alloc: Global, reply: &Reply) -> Result<String, AllocError>
+    ensures { IfOk result (λ s. string_bytes s ≡ reply_words reply.now) }
+{
+    match reply {
+        Reply::Welcome { last } => format!(in alloc; "welcome {last}"),
+        Reply::Stored { n, id } => format!(in alloc; "stored {n} {id}"),
+        Reply::Offer { ticket, id, tuple } => {
+            let tuple = write_tuple(alloc, tuple)?;
+            format!(in alloc; "offer {ticket} {id} {tuple}")
+        }
+        Reply::Read { ticket, id, tuple } => {
+            let tuple = write_tuple(alloc, tuple)?;
+            format!(in alloc; "read {ticket} {id} {tuple}")
+        }
+        Reply::Taken { n, id, tuple } => {
+            let tuple = write_tuple(alloc, tuple)?;
+            format!(in alloc; "taken {n} {id} {tuple}")
+        }
+        Reply::Gone { n } => format!(in alloc; "gone {n}"),
+        Reply::Refused { code, detail } => format!(in alloc; "refused {code} {detail}"),
+    }
+}
+
+/// The reply that the words say, in the one way in which it is written.
+///
+/// # Errors
+///
+/// `Unknown` where they say no reply so; `Memory` where memory runs out.
+pub fn read_reply(alloc: Global, text: &str) -> Result<Reply, WordsFault>
+    ensures { IfOk result (λ r. text.now ≡ reply_words r) }
+{
+    let reply = reply_in(alloc, text)?;
+    let written = write_reply(alloc, &reply)?;
+    if written.as_str() == text {
+        Ok(reply)
+    } else {
+        Err(WordsFault::Unknown)
+    }
+}
+
+// The reply that the words may say.
+fn reply_in(alloc: Global, text: &str) -> Result<Reply, WordsFault> {
+    let (word, rest) = split_word(text);
+    let (first, rest) = split_number(rest)?;
+    if word == "welcome" {
+        Ok(Reply::Welcome { last: first })
+    } else if word == "gone" {
+        Ok(Reply::Gone { n: first })
+    } else {
+        reply_of_two(alloc, word, first, rest)
+    }
+}
+
+// The reply of two numbers or more that the words may say behind the first number.
+fn reply_of_two(alloc: Global, word: &str, first: u64, text: &str) -> Result<Reply, WordsFault> {
+    let (second, rest) = split_number(text)?;
+    if word == "stored" {
+        Ok(Reply::Stored {
+            n: first,
+            id: second,
+        })
+    } else if word == "refused" {
+        refusal(first, second)
+    } else {
+        with_tuple(word, first, second, read_tuple(alloc, rest)?)
+    }
+}
+
+// The refusal of this code, if it is one.
+fn refusal(code: u64, detail: u64) -> Result<Reply, WordsFault> {
+    match u8::try_from(code) {
+        Ok(code) => Ok(Reply::Refused { code, detail }),
+        Err(_) => Err(WordsFault::Unknown),
+    }
+}
+
+// The reply of this word, two numbers and a tuple.
+fn with_tuple(word: &str, first: u64, id: u64, tuple: Tuple) -> Result<Reply, WordsFault> {
+    if word == "offer" {
+        Ok(Reply::Offer {
+            ticket: first,
+            id,
+            tuple,
+        })
+    } else if word == "read" {
+        Ok(Reply::Read {
+            ticket: first,
+            id,
+            tuple,
+        })
+    } else if word == "taken" {
+        Ok(Reply::Taken {
+            n: first,
+            id,
+            tuple,
+        })
+    } else {
+        Err(WordsFault::Unknown)
+    }
+}
