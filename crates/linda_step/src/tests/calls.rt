@@ -1,29 +1,40 @@
 //! Each public call succeeds with ample memory.
 
-use super::script::run;
+use super::script::{Row, run_rows};
 use std::test::Fail;
+
+const CALLS: &[Row] = &[(
+    "a call succeeds",
+    r#"
+        7 in 1 ("a", ?i)
+        8 in 1 ("a", ?i)
+        waiting
+        > waiting 2
+        7 out 1 ("a", 3)
+        > put 7 1 ("a", 3)
+        > 7 stored 1 1
+        > 7 offer 1 1 ("a", 3)
+        tuple 1
+        > tuple 1 ("a", 3) held 7 1
+        close 7
+        > 8 offer 1 1 ("a", 3)
+        tuple 1
+        > tuple 1 ("a", 3) held 8 1
+        waiting
+        > waiting 0
+        8 accept 1 1 1
+        > take 8 1 1
+        > 8 taken 1 1 ("a", 3)
+        tuple 1
+        > tuple 1 none
+        clients
+        > clients 2
+        next
+        > next 2
+    "#,
+)];
 
 #[test]
 fn a_call_succeeds(rt: HostRuntime) -> Result<(), Fail> {
-    let lines = "
-        7 in 1 any
-        8 in 1 any
-        = waiting 2
-        7 out 1 3
-        > put 7 1 3
-        > 7 stored 1 1
-        > 7 offer 1 1 3
-        = hold 1 7 1
-        7 close
-        > 8 offer 1 1 3
-        = hold 1 8 1
-        = waiting 0
-        8 accept 1 1 1
-        > take 8 1 1
-        > 8 taken 1 1 3
-        = bag 1 none
-        = clients 2
-        = next 2
-    ";
-    run(&rt, rt.alloc(), &[], lines)
+    run_rows(&rt, rt.alloc(), "", CALLS)
 }

@@ -1,25 +1,32 @@
 //! Hellos, row by row of the server's table, with values worked by hand.
 
-use super::script::run;
+use super::script::{Row, run_rows};
 use std::test::Fail;
+
+const HELLOS: &[Row] = &[(
+    "hellos in the tables order",
+    "
+        puts 3
+        7 hello 2 7 known
+        > 7 refused 1 1
+        7 hello 0 7 fresh
+        > 7 refused 1 1
+        7 hello 1 7 fresh
+        > 7 refused 2 1
+        7 hello 1 7 known
+        > 7 welcome 1
+        8 hello 1 7 fresh
+        > 8 welcome 0
+        8 hello 1 7 known
+        > 8 welcome 0
+        next
+        > next 2
+        clients
+        > clients 1
+    ",
+)];
 
 #[test]
 fn hellos_in_the_tables_order(rt: HostRuntime) -> Result<(), Fail> {
-    let acts = "
-        7 hello 2 known
-        > 7 refused 1 1
-        7 hello 0 fresh
-        > 7 refused 1 1
-        7 hello 1 fresh
-        > 7 refused 2 1
-        7 hello 1 known
-        > 7 welcome 1
-        8 hello 1 fresh
-        > 8 welcome 0
-        8 hello 1 known
-        > 8 welcome 0
-        = next 2
-        = clients 1
-    ";
-    run(&rt, rt.alloc(), &[3], acts)
+    run_rows(&rt, rt.alloc(), "", HELLOS)
 }
