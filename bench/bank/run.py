@@ -4,8 +4,9 @@
 It proves and builds `main.rt.txt` (so named since the gate reads each `.rt` file) over the crates of this repository, in a folder of its own,
 and runs it at some 1,000, 100,000 and 1,000,000 deeds (whole records of 64) `("job", i)` of 28 bytes. The files lie in memory where
 /dev/shm is there, so that a sync costs little and the work of the program is seen. A time is the least of five runs. It prints a
-line for each size with the time of a deed, and the growth of that time from the first size to the last, and fails where the time
-of a deed in an append or an opening grows more than twice.
+line for each size with the time of a deed, the growth of that time from the first size to the last, and the greatest memory in use
+of a process that opens the bank, for each byte of the bank and beyond that of a process that opens the smallest one. It fails where
+the time of a deed in an append or an opening grows more than twice.
 
 `run.py PROGRAM [FOLDER]` runs a program that is built already; the files are made in FOLDER.
 """
@@ -41,9 +42,15 @@ def build(folder):
     return os.path.join(program, "out", "bench_bank")
 
 
-def told(*words):
-    done = subprocess.run(words, check=True, stdout=subprocess.PIPE, text=True)
-    return int(done.stdout)
+def run(*words):
+    """The number that the program tells, and the greatest memory in use, in bytes."""
+    child = subprocess.Popen(words, stdout=subprocess.PIPE, text=True)
+    number = child.stdout.read()
+    _, status, usage = os.wait4(child.pid, 0)
+    child.returncode = os.waitstatus_to_exitcode(status)
+    if child.returncode != 0:
+        sys.exit(f"{words} ended with status {child.returncode}")
+    return int(number), usage.ru_maxrss * 1024
 
 
 def empty(path):
@@ -53,18 +60,20 @@ def empty(path):
 
 
 def times_of(program, folder, records):
-    """The least microseconds of an append of all, of an opening and of a copy, and the bytes of the bank."""
+    """The least microseconds of an append of all, of an opening and of a copy, the bytes of the bank, and the least of the greatest
+    memory in use of an opening."""
     bank, other = os.path.join(folder, "bank"), os.path.join(folder, "other")
     deeds = str(records * DEEDS)
     times = [
         [
-            told(program, "append", empty(bank), deeds),
-            told(program, "open", bank, deeds),
-            told(program, "copy", bank, empty(other)),
+            run(program, "append", empty(bank), deeds),
+            run(program, "open", bank, deeds),
+            run(program, "copy", bank, empty(other)),
         ]
         for _ in range(RUNS)
     ]
-    return [min(column) / 1000 for column in zip(*times)], os.path.getsize(bank)
+    least = [min(time for time, _ in column) / 1000 for column in zip(*times)]
+    return least, os.path.getsize(bank), min(memory for _, (_, memory), _ in times)
 
 
 def main():
@@ -75,12 +84,13 @@ def main():
             rows = [(records * DEEDS, *times_of(program, folder, records)) for records in RECORDS]
     print("| deeds | bytes | append, a deed | open, a deed | copy, a deed | append / copy | open / copy |")
     print("|---|---|---|---|---|---|---|")
-    for deeds, (append, opening, copy), size in rows:
+    for deeds, (append, opening, copy), size, _ in rows:
         each = " | ".join(f"{time / deeds:.3f} us" for time in (append, opening, copy))
         print(f"| {deeds:,} | {size:,} | {each} | {append / copy:.1f} | {opening / copy:.1f} |")
-    (few, first, _), (many, last, _) = rows[0], rows[-1]
+    (few, first, small, low), (many, last, large, high) = rows[0], rows[-1]
     growths = [(after / many) / (before / few) for before, after in zip(first, last)]
     print("growth of the time of a deed: " + ", ".join(f"{name} {growth:.2f}" for name, growth in zip(("append", "open", "copy"), growths)))
+    print(f"opening {many:,} deeds: at most {high / 2**20:.1f} MiB in use, {low / 2**20:.1f} MiB for {few:,}: {(high - low) / (large - small):.1f} bytes a byte")
     if max(growths[:2]) > MOST_GROWTH:
         sys.exit(f"more than {MOST_GROWTH}")
 

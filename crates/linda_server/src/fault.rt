@@ -2,6 +2,7 @@
 
 ghost use Rattle.std.specs.Prelude.{◌≡◌, ◌↔◌, ◌≢◌};
 
+use linda_disk::DiskFault;
 use linda_store::NodeFault;
 use thiserror::Error;
 
@@ -48,6 +49,17 @@ pub enum ServeFault {
     /// No memory. The server is down.
     #[error("out of memory")]
     Memory,
+}
+
+/// What a server tells of a fault of its disk.
+pub(crate) fn of_disk(fault: DiskFault) -> ServeFault
+    ensures device { (result ≡ ServeFault.Disk) ↔ (fault ≡ DiskFault.Device) }
+    ensures memory { (result ≡ ServeFault.Memory) ↔ (fault ≡ DiskFault.Memory) }
+{
+    match fault {
+        DiskFault::Device => ServeFault::Disk,
+        DiskFault::Memory => ServeFault::Memory,
+    }
 }
 
 /// What a node answers for it.

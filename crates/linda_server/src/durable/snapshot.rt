@@ -1,10 +1,10 @@
 //! A snapshot: the state in few bytes, on the disk that was not in use.
 
-ghost use Rattle.std.specs.Prelude.{◌≡◌, [], ◌↔◌, true, false, OnOk, IsErrOf};
-ghost use Rattle.linda_server.specs.Disks.{both, AreHonest, number_of};
+ghost use Rattle.std.specs.Prelude.{◌≡◌, [], ◌<◌, ◌↔◌, true, false, OnOk, IsErrOf};
+ghost use Rattle.linda_server.specs.Disks.{both, AreHonest, failures, number_of};
 
 use super::Durable;
-use crate::fault::ServeFault;
+use crate::fault::{ServeFault, node_fault};
 use crate::renewal::renew;
 use linda_disk::Disk;
 use linda_store::NodeFault;
@@ -17,7 +17,65 @@ impl<D: Disk> Durable<D> {
     ghost use Rattle.linda_server.specs.Switch.{HasNoNext, IsSwitched};
 
     /// Writes a snapshot of the state as a new bank onto the disk that is not in use; from then on
-    /// that bank is in use. Nothing changes that a client sees.
+    /// that bank is in use. It is what `snapshot` stands on, and tells a device's failure from want
+    /// of memory.
+    ///
+    /// # Errors
+    ///
+    /// `Down`, then `Full` where the new bank would pass the limit or no generation is left: nothing
+    /// changed. `Disk` where the device failed, and `Memory`: the server is down.
+    pub fn renew(&mut self, alloc: Global) -> Result<(), ServeFault>
+        // At no moment crashes leave anything but the state.
+        ensures any_moment { self.old.down ≡ false
+            → AreHonest (λ b. D.honest b.disk) D.honest self.old.disks
+            → PairsSince (both (λ b. D.view b.disk) D.view self.old.disks)
+            (both (λ b. D.view b.disk) D.view self.new.disks) (StandsFor self.old.store.state) }
+        ensures now { OnOk result (AreHonest (λ b. D.honest b.disk) D.honest self.new.disks
+            → PairsNow (both (λ b. D.view b.disk) D.view self.new.disks)
+            (StandsFor self.new.store.state)) }
+        // At Ok the other disk holds the bank in use, of the next generation and without a record.
+        ensures switched { OnOk result (IsSwitched (λ b. b.generation) (λ b. b.records)
+            (λ b. b.disk) self.old.disks self.new.disks) }
+        ensures same { (self.new.store ≡ self.old.store) × (self.new.limit ≡ self.old.limit) }
+        ensures up { OnOk result ((self.old.down ≡ false) × (self.new.down ≡ false)) }
+        // It is Full exactly where there is no next bank for the state; nothing changed then.
+        ensures full { IsErrOf result ServeFault.Full → (self.new ≡ self.old)
+            × HasNoNext self.old.store.state self.old.limit
+            (number_of (λ b. b.generation) self.old.disks) }
+        ensures room { OnOk result (HasNoNext self.old.store.state self.old.limit
+            (number_of (λ b. b.generation) self.old.disks) → ⊥) }
+        // It is down exactly where it was, and goes down only where a device failed or memory ran
+        // out.
+        ensures was_down { IsErrOf result ServeFault.Down ↔ (self.old.down ≡ true) }
+        ensures stays_down { self.old.down ≡ true → self.new ≡ self.old }
+        ensures goes_down { (IsErrOf result ServeFault.Disk → self.new.down ≡ true)
+            × (IsErrOf result ServeFault.Memory → self.new.down ≡ true) }
+        ensures cause { IsErrOf result ServeFault.Disk
+            → failures (λ b. D.failures b.disk) D.failures self.old.disks
+            < failures (λ b. D.failures b.disk) D.failures self.new.disks }
+        // Nothing is done in the call in which it goes down.
+        ensures lost { self.old.down ≡ false → self.new.down ≡ true
+            → (self.new.before.value ≡ self.old.store.state) × (self.new.lost.items ≡ []) }
+        ensures honest { AreHonest (λ b. D.honest b.disk) D.honest self.old.disks
+            ↔ AreHonest (λ b. D.honest b.disk) D.honest self.new.disks }
+    {
+        if self.down {
+            return Err(ServeFault::Down);
+        }
+        match renew(&mut self.disks, alloc, self.store.state()) {
+            Ok(()) => Ok(()),
+            Err(fault) => {
+                if fault == ServeFault::Full {
+                    return Err(fault);
+                }
+                self.before = Snapshot::of(self.store.state());
+                self.down = true;
+                Err(fault)
+            }
+        }
+    }
+
+    /// Takes a snapshot, as `renew` does. Nothing changes that a client sees.
     ///
     /// # Errors
     ///
@@ -52,17 +110,9 @@ impl<D: Disk> Durable<D> {
         ensures honest { AreHonest (λ b. D.honest b.disk) D.honest self.old.disks
             ↔ AreHonest (λ b. D.honest b.disk) D.honest self.new.disks }
     {
-        if self.down {
-            return Err(NodeFault::Down);
-        }
-        match renew(&mut self.disks, alloc, self.store.state()) {
+        match self.renew(alloc) {
             Ok(()) => Ok(()),
-            Err(ServeFault::Full) => Err(NodeFault::Full),
-            Err(_) => {
-                self.before = Snapshot::of(self.store.state());
-                self.down = true;
-                Err(NodeFault::Down)
-            }
+            Err(fault) => Err(node_fault(fault)),
         }
     }
 }

@@ -1,10 +1,11 @@
 //! Giving back the room of the bank that was in use before the last snapshot.
 
-ghost use Rattle.std.specs.Prelude.{◌≡◌, [], ◌↔◌, true, false, OnOk, IsErrOf};
-ghost use Rattle.linda_server.specs.Disks.{both, AreHonest};
+ghost use Rattle.std.specs.Prelude.{◌≡◌, [], ◌<◌, ◌↔◌, true, false, OnOk, IsErrOf};
+ghost use Rattle.linda_server.specs.Disks.{both, AreHonest, failures};
 
 use super::Durable;
 use crate::clearing::clear;
+use crate::fault::{ServeFault, node_fault, of_disk};
 use linda_disk::Disk;
 use linda_store::NodeFault;
 use std::snapshot::Snapshot;
@@ -14,8 +15,57 @@ impl<D: Disk> Durable<D> {
     ghost use Rattle.linda_server.specs.Calls.{StandsFor};
     ghost use Rattle.linda_server.specs.Switch.{IsTrimmed};
 
-    /// Leaves one byte of the disk that is not in use, a closed gate. It takes no snapshot, and
-    /// nothing changes that a client sees.
+    /// Leaves one byte of the disk that is not in use, a closed gate. It is what `trim` stands on,
+    /// and tells a device's failure from want of memory.
+    ///
+    /// # Errors
+    ///
+    /// `Down`: nothing changed. `Disk` where the device failed, and `Memory` where the disk found
+    /// none: the server is down.
+    pub fn clear(&mut self) -> Result<(), ServeFault>
+        // At no moment crashes leave anything but the state.
+        ensures any_moment { self.old.down ≡ false
+            → AreHonest (λ b. D.honest b.disk) D.honest self.old.disks
+            → PairsSince (both (λ b. D.view b.disk) D.view self.old.disks)
+            (both (λ b. D.view b.disk) D.view self.new.disks) (StandsFor self.old.store.state) }
+        ensures now { OnOk result (AreHonest (λ b. D.honest b.disk) D.honest self.new.disks
+            → PairsNow (both (λ b. D.view b.disk) D.view self.new.disks)
+            (StandsFor self.new.store.state)) }
+        // At Ok the bank in use is as it was, and one byte is left of the other disk.
+        ensures trimmed { OnOk result (IsTrimmed D.view D.honest self.old.disks self.new.disks) }
+        ensures same { (self.new.store ≡ self.old.store) × (self.new.limit ≡ self.old.limit) }
+        ensures up { OnOk result ((self.old.down ≡ false) × (self.new.down ≡ false)) }
+        // It is down exactly where it was, and goes down only where a device failed or the disk
+        // found no memory.
+        ensures was_down { IsErrOf result ServeFault.Down ↔ (self.old.down ≡ true) }
+        ensures stays_down { self.old.down ≡ true → self.new ≡ self.old }
+        ensures goes_down { (IsErrOf result ServeFault.Disk → self.new.down ≡ true)
+            × (IsErrOf result ServeFault.Memory → self.new.down ≡ true) }
+        ensures cause { IsErrOf result ServeFault.Disk
+            → failures (λ b. D.failures b.disk) D.failures self.old.disks
+            < failures (λ b. D.failures b.disk) D.failures self.new.disks }
+        ensures never_full { IsErrOf result ServeFault.Full → ⊥ }
+        // Nothing is done in the call in which it goes down.
+        ensures lost { self.old.down ≡ false → self.new.down ≡ true
+            → (self.new.before.value ≡ self.old.store.state) × (self.new.lost.items ≡ []) }
+        ensures honest { AreHonest (λ b. D.honest b.disk) D.honest self.old.disks
+            ↔ AreHonest (λ b. D.honest b.disk) D.honest self.new.disks }
+    {
+        if self.down {
+            return Err(ServeFault::Down);
+        }
+        match clear(&mut self.disks) {
+            Ok(()) => Ok(()),
+            Err(fault) => {
+                self.before = Snapshot::of(self.store.state());
+                self.down = true;
+                Err(of_disk(fault))
+            }
+        }
+    }
+
+    /// Gives back the room of the disk that is not in use, as `clear` does. It takes no snapshot,
+    /// and nothing changes that a client sees.
     ///
     /// # Errors
     ///
@@ -43,16 +93,9 @@ impl<D: Disk> Durable<D> {
         ensures honest { AreHonest (λ b. D.honest b.disk) D.honest self.old.disks
             ↔ AreHonest (λ b. D.honest b.disk) D.honest self.new.disks }
     {
-        if self.down {
-            return Err(NodeFault::Down);
-        }
-        match clear(&mut self.disks) {
+        match self.clear() {
             Ok(()) => Ok(()),
-            Err(_) => {
-                self.before = Snapshot::of(self.store.state());
-                self.down = true;
-                Err(NodeFault::Down)
-            }
+            Err(fault) => Err(node_fault(fault)),
         }
     }
 }

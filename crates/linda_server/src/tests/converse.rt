@@ -1,10 +1,7 @@
 //! A connection to a durable server, from bytes to bytes.
 
-use super::script::{NEW, ONE};
-use crate::Durable;
-use linda_disk::MemDisk;
-use linda_store::converse;
-use std::alloc::Global;
+use super::script::{Do, Side, Told, played};
+use super::words::{EMPTY, NEW, ONE};
 use std::test::Fail;
 
 /// Client 7 greets, and puts ("a", 3) by its message 1.
@@ -19,27 +16,16 @@ const REFUSED: &[u8] = b"\0\0\0\x09\x11\0\0\0\0\0\0\0\0\
 const STORED: &[u8] = b"\0\0\0\x09\x11\0\0\0\0\0\0\0\0\
     \0\0\0\x11\x12\0\0\0\0\0\0\0\x01\0\0\0\0\0\0\0\x01";
 
-/// What a new server of this limit answers, and what is on its left disk then.
-fn answered(alloc: Global, limit: usize) -> Result<(Vec<u8>, Vec<u8>), Fail> {
-    match Durable::create(alloc, MemDisk::new(alloc), MemDisk::new(alloc), limit) {
-        Err((fault, _, _)) => Err(Fail::from(fault)),
-        Ok(server) => {
-            let mut server = server;
-            let mut reader = SENT;
-            let mut written = Vec::new(alloc);
-            let _end = converse(alloc, &mut server, &mut reader, &mut written)?;
-            let (left, _right) = server.into_disks();
-            Ok((written, Vec::from_slice(alloc, left.bytes())?))
-        }
-    }
-}
-
 #[test]
 fn a_put_beyond_the_limit_is_refused_and_nothing_is_written(rt: HostRuntime) -> Result<(), Fail> {
     for (limit, replies, bank) in [(64, REFUSED, NEW), (65, STORED, ONE)] {
-        let (written, left) = answered(rt.alloc(), limit)?;
-        assert_eq!(rt; written.as_slice(), replies, "{limit}");
-        assert_eq!(rt; left.as_slice(), bank, "{limit}");
+        let steps = [
+            (Do::Create(limit), EMPTY),
+            (Do::Talk(SENT, replies), Told::Done),
+            (Do::Shut, Told::Done),
+            (Do::Reads(Side::Left, bank), Told::Done),
+        ];
+        played(&rt, rt.alloc(), b"", b"", &[&steps])?;
     }
     Ok(())
 }

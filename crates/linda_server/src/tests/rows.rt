@@ -1,58 +1,69 @@
 //! Banks to the byte: what a server writes, and what it says of what it reads.
 
-use super::script::{BOTH, Call, NEW, ONE, Outcome, SHUT, TWO, opened_of, played};
+use super::script::{Do, Side, Told, played, played_between};
+use super::words::{BOTH, EMPTY, NEW, ONE, SHUT, TWO, WITH_ONE};
 use crate::OpenFault;
-use linda_disk::MemDisk;
-use linda_store::NodeFault;
-use std::alloc::Global;
 use std::test::Fail;
 
-/// The limit of a new server, its calls, what it tells of the last one, and the bytes of the two disks behind it.
-type Row = (
-    usize,
-    &'static [Call],
-    Result<usize, NodeFault>,
-    &'static [u8],
-    &'static [u8],
-);
+const PUT: (Do, Told) = (Do::Put(7, 1, 3), Told::Replies(1));
+
+/// The steps of a new server, and the bytes of the two disks behind them.
+type Row = (&'static [(Do, Told)], &'static [u8], &'static [u8]);
 
 const ROWS: &[Row] = &[
-    (34, &[], Ok(0), NEW, SHUT),
-    (64, &[Call::PutOne], Err(NodeFault::Full), NEW, SHUT),
-    (65, &[Call::PutOne], Ok(1), ONE, SHUT),
-    (90, &[Call::PutBoth], Err(NodeFault::Full), NEW, SHUT),
-    (91, &[Call::PutBoth], Ok(2), BOTH, SHUT),
+    (&[(Do::Create(34), EMPTY)], NEW, SHUT),
     (
-        75,
-        &[Call::PutOne, Call::Snapshot],
-        Err(NodeFault::Full),
+        &[(Do::Create(64), EMPTY), (Do::Put(7, 1, 3), Told::Full)],
+        NEW,
+        SHUT,
+    ),
+    (&[(Do::Create(65), EMPTY), PUT], ONE, SHUT),
+    (
+        &[(Do::Create(90), EMPTY), (Do::PutBoth, Told::Full)],
+        NEW,
+        SHUT,
+    ),
+    (
+        &[(Do::Create(91), EMPTY), (Do::PutBoth, Told::Replies(2))],
+        BOTH,
+        SHUT,
+    ),
+    (
+        &[(Do::Create(75), EMPTY), PUT, (Do::Snapshot, Told::Full)],
         ONE,
         SHUT,
     ),
-    (76, &[Call::PutOne, Call::Snapshot], Ok(0), ONE, TWO),
-    (76, &[Call::PutOne, Call::Trim], Ok(0), ONE, SHUT),
     (
-        76,
-        &[Call::PutOne, Call::Snapshot, Call::Trim],
-        Ok(0),
+        &[(Do::Create(76), EMPTY), PUT, (Do::Snapshot, Told::Done)],
+        ONE,
+        TWO,
+    ),
+    (
+        &[(Do::Create(76), EMPTY), PUT, (Do::Trim, Told::Done)],
+        ONE,
+        SHUT,
+    ),
+    (
+        &[
+            (Do::Create(76), EMPTY),
+            PUT,
+            (Do::Snapshot, Told::Done),
+            (Do::Trim, Told::Done),
+        ],
         SHUT,
         TWO,
     ),
 ];
 
-/// Whether a new server that makes the calls of that row tells and leaves what stands there.
-fn is_so(alloc: Global, row: &Row) -> Result<bool, Fail> {
-    let (limit, calls, want, left_bytes, right_bytes) = row;
-    let Outcome { told, left, right } = played(alloc, MemDisk::new(alloc), *limit, calls)?;
-    Ok(told == *want && left.bytes() == *left_bytes && right.bytes() == *right_bytes)
-}
-
 #[test]
 fn each_call_leaves_these_bytes(rt: HostRuntime) -> Result<(), Fail> {
-    let alloc = rt.alloc();
-    for row in ROWS {
-        let (limit, calls, ..) = row;
-        assert!(rt; is_so(alloc, row)?, "{limit} {calls:?}");
+    for (steps, left, right) in ROWS {
+        let behind = [
+            (Do::Shut, Told::Done),
+            (Do::Reads(Side::Left, *left), Told::Done),
+            (Do::Reads(Side::Right, *right), Told::Done),
+        ];
+        played_between(&rt, rt.alloc(), (b"", b""), &[], steps, &behind)?;
     }
     Ok(())
 }
@@ -60,19 +71,24 @@ fn each_call_leaves_these_bytes(rt: HostRuntime) -> Result<(), Fail> {
 #[test]
 fn a_server_is_opened_as_it_stands(rt: HostRuntime) -> Result<(), Fail> {
     let alloc = rt.alloc();
-    assert_eq!(rt; opened_of(alloc, ONE, SHUT)?, Ok((2, 1, 1)));
-    assert_eq!(rt; opened_of(alloc, SHUT, BOTH)?, Ok((3, 2, 1)));
-    Ok(())
+    played(&rt, alloc, ONE, SHUT, &[&[(Do::Open(100), WITH_ONE)]])?;
+    played(
+        &rt,
+        alloc,
+        SHUT,
+        BOTH,
+        &[&[(Do::Open(100), Told::State(3, 2, 1, 0))]],
+    )
 }
 
 #[test]
 fn a_damage_is_told_with_its_side(rt: HostRuntime) -> Result<(), Fail> {
     let alloc = rt.alloc();
-    let cut = OpenFault::Damaged {
+    let none = Told::Refused(OpenFault::NoStore);
+    let cut = Told::Refused(OpenFault::Damaged {
         right: true,
         offset: 33,
-    };
-    assert_eq!(rt; opened_of(alloc, SHUT, SHUT)?, Err(OpenFault::NoStore));
-    assert_eq!(rt; opened_of(alloc, SHUT, &ONE[..64])?, Err(cut));
-    Ok(())
+    });
+    played(&rt, alloc, SHUT, SHUT, &[&[(Do::Open(100), none)]])?;
+    played(&rt, alloc, SHUT, &ONE[..64], &[&[(Do::Open(100), cut)]])
 }

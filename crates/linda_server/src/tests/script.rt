@@ -1,209 +1,408 @@
-//! Servers on disks in memory, and what is done with them in one go.
+//! Two disks in memory and the server on them, played step by step. Each step of a script stands beside what it tells.
 
+ghost use Rattle.std.specs.Prelude.{IfOk, ◌≤◌, length};
+ghost use Rattle.linda_store.specs.Node.{IsBatch};
+ghost use Rattle.linda_step.specs.declared.size.TheConstants.{MAX_BATCH};
+
+use super::words::{put, put_both, put_long, take_any};
 use crate::{Durable, OpenFault};
 use linda_bag::Bag;
+use linda_book::KeptReply;
 use linda_disk::{MemDisk, Torn};
-use linda_store::NodeFault;
-use linda_tuple::{Atom, Pattern, Template, Text, Tuple};
-use linda_wire::Message;
+use linda_state::Deed;
+use linda_step::MAX_BATCH;
+use linda_store::{Node, NodeFault, Work, converse};
+use linda_tuple::Tuple;
+use linda_wire::{Message, Reply};
 use std::alloc::{AllocError, Global};
+use std::mem;
+use std::process::Abort;
 use std::test::Fail;
 
-/// The left bank of a new server: the empty state, no record.
-pub(super) const NEW: &[u8] =
-    b"\x01LND1\0\0\0\0\0\0\0\x01\0\0\0\x10\0\0\0\0\0\0\0\x01\0\0\0\0\0\0\0\0\0";
+/// One of the two disks.
+#[derive(Clone, Copy, Debug, PartialEq, Eq)]
+pub(super) enum Side {
+    Left,
+    Right,
+}
 
-/// The same bank with one record: client 7 put ("a", 3) by its message 1.
-pub(super) const ONE: &[u8] =
-    b"\x01LND1\0\0\0\0\0\0\0\x01\0\0\0\x10\0\0\0\0\0\0\0\x01\0\0\0\0\0\0\0\0\
-    \x01\0\0\0\x1a\x01\0\0\0\x07\0\0\0\0\0\0\0\x01\x02\x01a\x01\x01\0\0\0\0\0\0\0\x03\0";
-
-/// The same bank with one record of two deeds: client 7 put ("a", 3) and ("a", 4).
-pub(super) const BOTH: &[u8] =
-    b"\x01LND1\0\0\0\0\0\0\0\x01\0\0\0\x10\0\0\0\0\0\0\0\x01\0\0\0\0\0\0\0\0\
-    \x01\0\0\0\x34\x01\0\0\0\x07\0\0\0\0\0\0\0\x01\x02\x01a\x01\x01\0\0\0\0\0\0\0\x03\
-    \x01\0\0\0\x07\0\0\0\0\0\0\0\x02\x02\x01a\x01\x01\0\0\0\0\0\0\0\x04\0";
-
-/// The bank of generation 2 whose snapshot is the state that the bank with one record stands for.
-pub(super) const TWO: &[u8] =
-    b"\x01LND1\0\0\0\0\0\0\0\x02\0\0\0\x3a\0\0\0\0\0\0\0\x02\0\0\0\x01\0\0\0\0\0\0\0\x01\
-    \x02\x01a\x01\x01\0\0\0\0\0\0\0\x03\0\0\0\x01\0\0\0\x07\0\0\0\0\0\0\0\x01\
-    \x01\0\0\0\0\0\0\0\x01\0";
-
-/// A closed gate alone.
-pub(super) const SHUT: &[u8] = &[0];
-
-/// The ways to crash, in the order of the columns of rows.
-pub(super) const TORN: [Torn; 5] = [
-    Torn::Kept,
-    Torn::Lost,
-    Torn::Filled(0),
-    Torn::Filled(1),
-    Torn::Filled(0xff),
-];
-
-/// How many device calls make a new left bank.
-const CALLS_OF_CREATE: u64 = 6;
-
-/// A call of a server: one message, or several at once, or one that no client asks for.
+/// A step, first of the two disks, which no server has then, and then of the server on them.
 #[derive(Clone, Copy, Debug)]
-pub(super) enum Call {
-    PutOne,
+pub(super) enum Do {
+    /// The power is to go off inside the write, cut or sync of this number, from 0.
+    Fuse(Side, u64),
+    /// The call of this number, from 0, is to fail; reads and lengths count too.
+    Fail(Side, u64),
+    /// Both disks crash so.
+    Crash(Torn),
+    /// Both disks crash, and all bytes that were not synced are 0x55 then; which disk reads otherwise than before.
+    Unsync,
+    /// Whether the disk reads so.
+    Reads(Side, &'static [u8]),
+    /// Whether the disk holds a bank: 17 bytes at least, of which the first is an open gate.
+    HasBank(Side),
+    /// A new server of this limit.
+    Create(usize),
+    /// The server that the disks hold, of this limit.
+    Open(usize),
+    /// The server gives its disks back.
+    Shut,
+    /// The client puts ("a", number) by its message n.
+    Put(u32, u64, i64),
+    /// Client 7 puts ("a", 3) and ("a", 4) at once.
     PutBoth,
+    /// Client 7 puts so many tuples at once, by its messages from this number on; their tags have 255 letters.
+    PutLong(u64, u64),
+    /// Client 8 asks for any tuple ("a", _), which is to be held.
+    Ask,
+    /// Client 8 accepts tuple 1.
+    Accept,
+    /// Whether these bytes of a connection are answered so.
+    Talk(&'static [u8], &'static [u8]),
     Snapshot,
     Trim,
+    /// The client leaves.
+    Close(u32),
+    /// It is stopped inside this device call, and opened again; client 9 puts ("a", 5), or nobody does.
+    StopPut(bool, u64, Torn),
+    /// The same of a snapshot.
+    StopSnapshot(u64, Torn),
+    /// What it keeps.
+    Look,
 }
 
-/// Message `n` of a client, which puts ("a", number).
-pub(super) fn put(alloc: Global, n: u64, number: i64) -> Result<Message, AllocError> {
-    let tag = Atom::Text(Text::new(String::from_str(alloc, "a")?));
-    let fields = vec![in alloc; Atom::Int(number)]?;
-    match Tuple::new(tag, fields) {
-        Ok(tuple) => Ok(Message::Out { n, tuple }),
-        Err(_) => Err(AllocError),
-    }
+/// What a step tells.
+#[derive(Clone, Copy, Debug, PartialEq, Eq)]
+pub(super) enum Told {
+    /// It was done, or it is so.
+    Done,
+    /// It is not so.
+    Differs,
+    /// The left disk, and the right one, had bytes that were not synced.
+    Unsynced(bool, bool),
+    /// The next id, and how many tuples, clients and holds there are.
+    State(u64, usize, usize, usize),
+    /// How many replies there are.
+    Replies(usize),
+    /// There is one reply, Gone, to this client with this number.
+    Gone(u32, u64),
+    /// How many deeds a stop added.
+    Deeds(usize),
+    Full,
+    Down,
+    Refused(OpenFault),
+    /// There is no server.
+    Absent,
 }
 
-/// An Ask for any tuple of tag "a" and one field, which is to be held.
-pub(super) fn take_any(alloc: Global, ticket: u64) -> Result<Message, AllocError> {
-    let tag = Atom::Text(Text::new(String::from_str(alloc, "a")?));
-    let fields = vec![in alloc; Pattern::Any]?;
-    match Template::new(tag, fields) {
-        Ok(template) => Ok(Message::Ask {
-            ticket,
-            remove: true,
-            template,
-        }),
-        Err(_) => Err(AllocError),
-    }
-}
-
-fn puts(alloc: Global) -> Result<Vec<(u32, Message)>, AllocError> {
-    let mut messages = Vec::with_capacity(alloc, 2)?;
-    messages.push((7, put(alloc, 1, 3)?))?;
-    messages.push((7, put(alloc, 2, 4)?))?;
-    Ok(messages)
-}
-
-/// How many replies there are where there may be none.
-fn none_of(told: Result<(), NodeFault>) -> Result<usize, NodeFault> {
-    match told {
-        Ok(()) => Ok(0),
-        Err(fault) => Err(fault),
-    }
-}
-
-/// Makes the call, and gives how many replies there are.
-pub(super) fn make(
-    alloc: Global,
-    server: &mut Durable<MemDisk>,
-    call: Call,
-) -> Result<Result<usize, NodeFault>, AllocError> {
-    match call {
-        Call::Snapshot => Ok(none_of(server.snapshot(alloc))),
-        Call::Trim => Ok(none_of(server.trim())),
-        Call::PutOne => match server.handle(alloc, 7, &put(alloc, 1, 3)?) {
-            Ok(sends) => Ok(Ok(sends.len())),
-            Err(fault) => Ok(Err(fault)),
-        },
-        Call::PutBoth => {
-            let messages = puts(alloc)?;
-            if messages.len() > 64 {
-                return Err(AllocError);
-            }
-            match server.handle_all(alloc, &messages) {
-                Ok(sends) => Ok(Ok(sends.len())),
-                Err(fault) => Ok(Err(fault)),
-            }
-        }
-    }
-}
-
-/// Makes the calls, and gives how many replies there are to the last one.
-fn make_all(
-    alloc: Global,
-    server: &mut Durable<MemDisk>,
-    calls: &[Call],
-) -> Result<Result<usize, NodeFault>, AllocError> {
-    let mut told = Ok(0);
-    for call in calls {
-        told = make(alloc, server, *call)?;
-    }
-    Ok(told)
-}
-
-/// What the last call told, and the two disks behind it.
+/// The two disks, if no server has them, and the server.
 #[derive(Drop)]
-pub(super) struct Outcome {
-    pub(super) told: Result<usize, NodeFault>,
+pub(super) struct Stand {
     pub(super) left: MemDisk,
     pub(super) right: MemDisk,
-}
-
-/// A new server on the left disk and an empty one makes these calls.
-pub(super) fn played(
-    alloc: Global,
-    left: MemDisk,
-    limit: usize,
-    calls: &[Call],
-) -> Result<Outcome, Fail> {
-    match Durable::create(alloc, left, MemDisk::new(alloc), limit) {
-        Err((fault, _, _)) => Err(Fail::from(fault)),
-        Ok(server) => {
-            let mut server = server;
-            let told = make_all(alloc, &mut server, calls)?;
-            let (left, right) = server.into_disks();
-            Ok(Outcome { told, left, right })
-        }
-    }
-}
-
-/// What a server tells that is opened on these disks: its next id, and how many tuples and clients
-/// there are.
-pub(super) fn opened(
-    alloc: Global,
-    left: MemDisk,
-    right: MemDisk,
-) -> Result<(u64, usize, usize), OpenFault> {
-    match Durable::open(alloc, left, right, 100) {
-        Err((fault, _, _)) => Err(fault),
-        Ok(server) => {
-            let state = server.state();
-            Ok((state.next, state.bag.len(), state.book.len()))
-        }
-    }
+    server: Option<Durable<MemDisk>>,
 }
 
 /// A disk that holds these bytes.
-pub(super) fn disk_of(alloc: Global, bytes: &[u8]) -> Result<MemDisk, Fail> {
-    Ok(MemDisk::from_bytes(alloc, Vec::from_slice(alloc, bytes)?)?)
+fn disk_of(alloc: Global, bytes: &[u8]) -> Result<MemDisk, AllocError> {
+    match MemDisk::from_bytes(alloc, Vec::from_slice(alloc, bytes)?) {
+        Ok(disk) => Ok(disk),
+        Err(_) => Err(AllocError),
+    }
 }
 
-/// The same of disks that hold these bytes.
-pub(super) fn opened_of(
+/// Two disks that hold these bytes.
+pub(super) fn stand_on(alloc: Global, left: &[u8], right: &[u8]) -> Result<Stand, AllocError> {
+    let left = disk_of(alloc, left)?;
+    let right = disk_of(alloc, right)?;
+    Ok(Stand {
+        left,
+        right,
+        server: None,
+    })
+}
+
+fn of_fault(fault: NodeFault) -> Told {
+    match fault {
+        NodeFault::Full => Told::Full,
+        NodeFault::Down => Told::Down,
+    }
+}
+
+fn of_sends(sends: &[(u32, Reply)]) -> Told {
+    match sends {
+        [(client, Reply::Gone { n })] => Told::Gone(*client, *n),
+        _ => Told::Replies(sends.len()),
+    }
+}
+
+fn of_answer(told: Result<Vec<(u32, Reply)>, NodeFault>) -> Told {
+    match told {
+        Ok(sends) => of_sends(&sends),
+        Err(fault) => of_fault(fault),
+    }
+}
+
+fn of_nothing(told: Result<(), NodeFault>) -> Told {
+    match told {
+        Ok(()) => Told::Done,
+        Err(fault) => of_fault(fault),
+    }
+}
+
+fn of_stop(told: Result<Vec<Deed>, NodeFault>) -> Told {
+    match told {
+        Ok(deeds) => Told::Deeds(deeds.len()),
+        Err(fault) => of_fault(fault),
+    }
+}
+
+fn is_so(same: bool) -> Told {
+    if same { Told::Done } else { Told::Differs }
+}
+
+fn look(server: &Durable<MemDisk>) -> Told {
+    let state = server.state();
+    let held = server.holds().ids().len();
+    Told::State(state.next, state.bag.len(), state.book.len(), held)
+}
+
+fn send(alloc: Global, server: &mut Durable<MemDisk>, client: u32, message: &Message) -> Told {
+    of_answer(server.handle(alloc, client, message))
+}
+
+fn send_all(
+    alloc: Global,
+    server: &mut Durable<MemDisk>,
+    messages: &[(u32, Message)],
+) -> Result<Told, AllocError> {
+    if messages.len() > MAX_BATCH {
+        return Err(AllocError);
+    }
+    Ok(of_answer(server.handle_all(alloc, messages)))
+}
+
+fn talk(
+    alloc: Global,
+    server: &mut Durable<MemDisk>,
+    sent: &[u8],
+    replies: &[u8],
+) -> Result<Told, AllocError> {
+    let mut reader = sent;
+    let mut written = Vec::new(alloc);
+    match converse(alloc, server, &mut reader, &mut written) {
+        Ok(_) => Ok(is_so(written.as_slice() == replies)),
+        Err(_) => Err(AllocError),
+    }
+}
+
+/// What is in hand at a stop.
+fn in_hand(alloc: Global, put_it: bool) -> Result<Work, AllocError>
+    ensures { IfOk result IsBatch }
+{
+    let mut messages = Vec::new(alloc);
+    if put_it {
+        messages.push((9, put(alloc, 1, 5)?))?;
+    }
+    Ok(Work::Messages(messages))
+}
+
+/// A step of the server.
+fn ask(alloc: Global, server: &mut Durable<MemDisk>, what: Do) -> Result<Told, AllocError> {
+    match what {
+        Do::Put(client, n, number) => Ok(send(alloc, server, client, &put(alloc, n, number)?)),
+        Do::PutBoth => send_all(alloc, server, &put_both(alloc)?),
+        Do::PutLong(first, count) => send_all(alloc, server, &put_long(alloc, first, count)?),
+        Do::Ask => Ok(send(alloc, server, 8, &take_any(alloc)?)),
+        Do::Accept => {
+            let accept = Message::Accept {
+                n: 1,
+                ticket: 1,
+                id: 1,
+            };
+            Ok(send(alloc, server, 8, &accept))
+        }
+        Do::Talk(sent, replies) => talk(alloc, server, sent, replies),
+        Do::Snapshot => Ok(of_nothing(server.snapshot(alloc))),
+        Do::Trim => Ok(of_nothing(server.trim())),
+        Do::Close(client) => Ok(of_answer(server.close(alloc, client))),
+        Do::StopPut(put_it, at, torn) => {
+            let work = in_hand(alloc, put_it)?;
+            Ok(of_stop(server.stop(alloc, work, at, torn)))
+        }
+        Do::StopSnapshot(at, torn) => Ok(of_stop(server.stop(alloc, Work::Snapshot, at, torn))),
+        _ => Ok(look(server)),
+    }
+}
+
+/// Makes or opens a server on the two disks.
+fn begin(alloc: Global, stand: &mut Stand, limit: usize, is_new: bool) -> Told {
+    let left = mem::replace(&mut stand.left, MemDisk::new(alloc));
+    let right = mem::replace(&mut stand.right, MemDisk::new(alloc));
+    let begun = if is_new {
+        Durable::create(alloc, left, right, limit)
+    } else {
+        Durable::open(alloc, left, right, limit)
+    };
+    match begun {
+        Ok(server) => {
+            let told = look(&server);
+            stand.server = Some(server);
+            told
+        }
+        Err((fault, left, right)) => {
+            stand.left = left;
+            stand.right = right;
+            Told::Refused(fault)
+        }
+    }
+}
+
+/// The server gives its disks back.
+fn shut(stand: &mut Stand) -> Told {
+    match stand.server.take() {
+        None => Told::Absent,
+        Some(server) => {
+            let (left, right) = server.into_disks();
+            stand.left = left;
+            stand.right = right;
+            Told::Done
+        }
+    }
+}
+
+fn crash(disk: &mut MemDisk, torn: Torn) -> Result<(), AllocError> {
+    match disk.crash(torn) {
+        Ok(()) => Ok(()),
+        Err(_) => Err(AllocError),
+    }
+}
+
+/// Lets the disk crash, and tells whether some of its bytes were not synced.
+fn unsync(alloc: Global, disk: &mut MemDisk) -> Result<bool, AllocError> {
+    let before = Vec::from_slice(alloc, disk.bytes())?;
+    crash(disk, Torn::Filled(0x55))?;
+    Ok(before.as_slice() != disk.bytes())
+}
+
+fn has_bank(bytes: &[u8]) -> bool {
+    bytes.len() >= 17 && bytes[0] == 1
+}
+
+fn disk_on(stand: &mut Stand, side: Side) -> &mut MemDisk {
+    match side {
+        Side::Left => &mut stand.left,
+        Side::Right => &mut stand.right,
+    }
+}
+
+/// A step.
+pub(super) fn step(alloc: Global, stand: &mut Stand, what: Do) -> Result<Told, AllocError> {
+    match what {
+        Do::Fuse(side, passes) => {
+            disk_on(stand, side).fuse(passes);
+            Ok(Told::Done)
+        }
+        Do::Fail(side, number) => {
+            disk_on(stand, side).fail_once(number);
+            Ok(Told::Done)
+        }
+        Do::Reads(side, bytes) => Ok(is_so(disk_on(stand, side).bytes() == bytes)),
+        Do::HasBank(side) => Ok(is_so(has_bank(disk_on(stand, side).bytes()))),
+        Do::Crash(torn) => {
+            crash(&mut stand.left, torn)?;
+            crash(&mut stand.right, torn)?;
+            Ok(Told::Done)
+        }
+        Do::Unsync => {
+            let left = unsync(alloc, &mut stand.left)?;
+            let right = unsync(alloc, &mut stand.right)?;
+            Ok(Told::Unsynced(left, right))
+        }
+        Do::Create(limit) => Ok(begin(alloc, stand, limit, true)),
+        Do::Open(limit) => Ok(begin(alloc, stand, limit, false)),
+        Do::Shut => Ok(shut(stand)),
+        _ => match &mut stand.server {
+            None => Ok(Told::Absent),
+            Some(server) => ask(alloc, server, what),
+        },
+    }
+}
+
+fn is_tuple(found: Option<&Tuple>, tuple: &Tuple) -> bool {
+    match found {
+        Some(found) => *found == *tuple,
+        None => false,
+    }
+}
+
+/// Whether the server keeps this tuple under each id from 1 on, so many.
+pub(super) fn keeps_each(stand: &Stand, count: u64, tuple: &Tuple) -> bool {
+    match &stand.server {
+        None => false,
+        Some(server) => {
+            for id in 0..count {
+                if !is_tuple(server.state().bag.get(id.saturating_add(1)), tuple) {
+                    return false;
+                }
+            }
+            true
+        }
+    }
+}
+
+/// Whether the reply that is kept for client 7 is Stored, to its message of this number and with this id.
+pub(super) fn keeps_stored(stand: &Stand, n: u64, id: u64) -> bool {
+    match &stand.server {
+        None => false,
+        Some(server) => match server.state().book.kept(7) {
+            Some((last, KeptReply::Stored(stored))) => last == n && *stored == id,
+            _ => false,
+        },
+    }
+}
+
+/// Plays the steps of a script.
+pub(super) fn play(
+    rt: &impl Abort,
+    alloc: Global,
+    stand: &mut Stand,
+    steps: &[(Do, Told)],
+) -> Result<(), Fail> {
+    for (what, want) in steps {
+        let told = step(alloc, stand, *what)?;
+        assert_eq!(rt; told, *want, "{what:?} of {steps:?}");
+    }
+    Ok(())
+}
+
+/// Plays the scripts, one behind another, on two disks that hold these bytes.
+pub(super) fn played(
+    rt: &impl Abort,
     alloc: Global,
     left: &[u8],
     right: &[u8],
-) -> Result<Result<(u64, usize, usize), OpenFault>, Fail> {
-    Ok(opened(alloc, disk_of(alloc, left)?, disk_of(alloc, right)?))
+    scripts: &[&[(Do, Told)]],
+) -> Result<(), Fail> {
+    let mut stand = stand_on(alloc, left, right)?;
+    for steps in scripts {
+        play(rt, alloc, &mut stand, steps)?;
+    }
+    Ok(())
 }
 
-/// A new server is stopped inside this device call of a put, its disks crash so, and it is opened
-/// again.
-pub(super) fn stopped(
+/// Plays a script between two others, on two disks that hold these bytes.
+pub(super) fn played_between(
+    rt: &impl Abort,
     alloc: Global,
-    call: u64,
-    torn: Torn,
-) -> Result<(Result<usize, NodeFault>, u64), Fail> {
-    let mut disk = MemDisk::new(alloc);
-    disk.fuse(CALLS_OF_CREATE.saturating_add(call));
-    let Outcome {
-        told,
-        mut left,
-        mut right,
-    } = played(alloc, disk, 100, &[Call::PutOne])?;
-    left.crash(torn)?;
-    right.crash(torn)?;
-    let (next, _, _) = opened(alloc, left, right)?;
-    Ok((told, next))
+    disks: (&[u8], &[u8]),
+    before: &[(Do, Told)],
+    steps: &[(Do, Told)],
+    behind: &[(Do, Told)],
+) -> Result<(), Fail> {
+    let (left, right) = disks;
+    let mut stand = stand_on(alloc, left, right)?;
+    play(rt, alloc, &mut stand, before)?;
+    play(rt, alloc, &mut stand, steps)?;
+    play(rt, alloc, &mut stand, behind)
 }

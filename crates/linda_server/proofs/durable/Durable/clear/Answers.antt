@@ -6,7 +6,7 @@ use Rattle.linda_server.specs.Disks.{both}
 use Rattle.linda_server.specs.Calls.{StandsFor, IsWithOrWithout}
 use Rattle.linda_server.proofs.CallLaws.{now_since, stands_so}
 use Rattle.linda_server.proofs.SwitchLaws.{other_durable, stands_since, kept_since, with_none}
-use Rattle.linda_server.proofs.durable.Durable.trim.Goals as goal
+use Rattle.linda_server.proofs.durable.Durable.clear.Goals as goal
 
 pub clear-requires-clause-durable : goal.clear-requires-clause-durable
 clear-requires-clause-durable g c =

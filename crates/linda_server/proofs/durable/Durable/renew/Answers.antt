@@ -1,5 +1,5 @@
 -- The other disk becomes a new bank, for the state that stands.
-use Rattle.std.proofs.Common.{Err, sym, subst, ap, ◌∙◌}
+use Rattle.std.proofs.Common.{sym, subst, ◌∙◌}
 use Rattle.linda_state.specs.State.{IsState}
 use Rattle.linda_server.specs.Pairs.{PairsNow}
 use Rattle.linda_server.specs.Disks.{both, number_of}
@@ -8,7 +8,7 @@ use Rattle.linda_server.specs.Switch.{HasNoNext}
 use Rattle.linda_server.proofs.CallLaws.{now_since, stands_so}
 use Rattle.linda_server.proofs.SwitchLaws.{other_durable, stands_since, kept_since, with_none}
 use Rattle.linda_server.proofs.SameLaws.{same_server}
-use Rattle.linda_server.proofs.durable.Durable.snapshot.Goals as goal
+use Rattle.linda_server.proofs.durable.Durable.renew.Goals as goal
 
 pub renew-requires-clause-durable : goal.renew-requires-clause-durable
 renew-requires-clause-durable g c =
@@ -46,22 +46,22 @@ returns-in-Ok-clause-now g c are =
     (λ b h. g.met.D.Disk.timed b.disk h) (λ d h. g.met.D.Disk.timed d h) c.renew.new.disks s.store.state are (kept_since (λ b. b.generation) (λ b. b.end) (λ b. g.D.Disk.view b.disk) g.D.Disk.view (λ b. g.D.Disk.honest b.disk) g.D.Disk.honest
     (λ b h. g.met.D.Disk.timed b.disk h) (λ d h. g.met.D.Disk.timed d h) s.disks c.renew.new.disks s.store.state c.state.result.now c.state.ensures.state (s.kept c.if-self.false) c.in-Ok.ensures.kept)
 
-pub returns-in-Err-Full-clause-any_moment : goal.returns-in-Err-Full-clause-any_moment
-returns-in-Err-Full-clause-any_moment g c is_up are =
+pub returns-then-eq-clause-any_moment : goal.returns-then-eq-clause-any_moment
+returns-then-eq-clause-any_moment g c is_up are =
     let s = c.args.self.now in
     stands_since (λ b. b.generation) (λ b. b.end) (λ b. g.D.Disk.view b.disk) g.D.Disk.view (λ b. g.D.Disk.honest b.disk) g.D.Disk.honest
     (λ b h. g.met.D.Disk.timed b.disk h) (λ d h. g.met.D.Disk.timed d h) s.disks c.renew.new.disks s.store.state c.state.result.now c.state.ensures.state are (s.kept is_up) c.renew.ensures.any_moment
 
-pub returns-in-Err-clause-any_moment : goal.returns-in-Err-clause-any_moment
-returns-in-Err-clause-any_moment g c is_up are =
+pub returns-else-eq-clause-any_moment : goal.returns-else-eq-clause-any_moment
+returns-else-eq-clause-any_moment g c is_up are =
     let s = c.args.self.now in
     stands_since (λ b. b.generation) (λ b. b.end) (λ b. g.D.Disk.view b.disk) g.D.Disk.view (λ b. g.D.Disk.honest b.disk) g.D.Disk.honest
     (λ b h. g.met.D.Disk.timed b.disk h) (λ d h. g.met.D.Disk.timed d h) s.disks c.renew.new.disks s.store.state c.state.result.now c.state.ensures.state are (s.kept is_up) c.renew.ensures.any_moment
 
-pub returns-in-Err-Full-clause-full : goal.returns-in-Err-Full-clause-full
-returns-in-Err-Full-clause-full g c _ =
+pub returns-then-eq-clause-full : goal.returns-then-eq-clause-full
+returns-then-eq-clause-full g c is =
     let s = c.args.self.now in
-    let told = c.in-Err-Full.ensures.full (ap Err c.in-Err-Full.field-0-is) in
+    let told = c.in-Err.ensures.full is in
     let generation = number_of (λ b. b.generation) s.disks in (
       same_server g.row.D.Denot g.D.Disk s c.renew.new.disks (sym told.0) _,
       subst (λ st. HasNoNext st s.limit generation) c.state.ensures.state
