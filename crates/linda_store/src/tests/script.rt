@@ -53,20 +53,31 @@ fn played(alloc: Global, node: &mut Volatile, script: &str) -> Result<String, Fa
 fn play(alloc: Global, node: &mut Volatile, words: &str, came: &mut String) -> Result<(), Fail> {
     let (word, rest) = split_word(words);
     if word == "close" {
-        let sends = node.close(alloc, rest.parse::<u32>()?)?;
-        Ok(tell_replies(alloc, came, &sends)?)
+        closes(alloc, node, rest.parse::<u32>()?, came)
     } else if word == "next" {
         let next = node.state().next;
         Ok(writeln!(came, "> next {next}")?)
     } else if word == "tuple" {
-        let id = rest.parse::<u64>()?;
-        let tuple = node.state().bag.get(id);
-        let held = node.holds().get(id).map(|r| (r.client, r.ticket));
-        Ok(tell_tuple(alloc, came, id, tuple, held)?)
+        shows(alloc, node, rest.parse::<u64>()?, came)
     } else {
-        let (client, words) = read_numbered(words)?;
-        let message = read_message(alloc, words)?;
-        let sends = node.handle(alloc, client, &message)?;
-        Ok(tell_replies(alloc, came, &sends)?)
+        says(alloc, node, words, came)
     }
+}
+
+fn closes(alloc: Global, node: &mut Volatile, client: u32, came: &mut String) -> Result<(), Fail> {
+    let sends = node.close(alloc, client)?;
+    Ok(tell_replies(alloc, came, &sends)?)
+}
+
+fn shows(alloc: Global, node: &Volatile, id: u64, came: &mut String) -> Result<(), Fail> {
+    let tuple = node.state().bag.get(id);
+    let held = node.holds().get(id).map(|r| (r.client, r.ticket));
+    Ok(tell_tuple(alloc, came, id, tuple, held)?)
+}
+
+fn says(alloc: Global, node: &mut Volatile, words: &str, came: &mut String) -> Result<(), Fail> {
+    let (client, words) = read_numbered(words)?;
+    let message = read_message(alloc, words)?;
+    let sends = node.handle(alloc, client, &message)?;
+    Ok(tell_replies(alloc, came, &sends)?)
 }

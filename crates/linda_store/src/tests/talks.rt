@@ -11,28 +11,45 @@ use std::alloc::Global;
 use std::process::Abort;
 use std::test::Fail;
 
-/// The node's conversation over what the script says, in pieces of at most so many bytes, ends so and writes what the
-/// script tells.
+/// How a stream is cut into pieces, whether the reader fails at its end, and for how many bytes the writer has room.
+type Peer = (usize, bool, usize);
+
+/// A reader and a writer that do not fail, in pieces of any size.
+const AT_ONCE: Peer = (10_000, false, 10_000);
+
+/// The node's conversation over what the script says ends so, and writes what the script tells, as far as there is room.
 fn answers(
     rt: &impl Abort,
     alloc: Global,
     node: &mut Volatile,
     name: &str,
     script: &str,
-    size: usize,
-    end: End,
+    peer: Peer,
+    end: Result<End, ConverseFault>,
 ) -> Result<(), Fail> {
     let stream = said_frames(alloc, script)?;
     let replies = told_frames(alloc, script)?;
+    let (size, fails, room) = peer;
     let mut reader = Pieces {
         bytes: &stream,
         size,
-        fails: false,
+        fails,
     };
-    let mut written = Vec::new(alloc);
-    let got = converse(alloc, node, &mut reader, &mut written);
-    assert_eq!(rt; got, Ok(end), "{name}, in pieces of {size}");
-    assert_eq!(rt; written.as_slice(), replies.as_slice(), "{name}");
+    let mut writer = Room {
+        taken: Vec::new(alloc),
+        room,
+    };
+    let got = converse(alloc, node, &mut reader, &mut writer);
+    assert!(rt;
+        got == end,
+        "{name}, in pieces of {size}, with room for {room}"
+    );
+    let written = &replies[..room.min(replies.len())];
+    assert_eq!(rt;
+        writer.taken.as_slice(),
+        written,
+        "{name}, in pieces of {size}, with room for {room}"
+    );
     Ok(())
 }
 
@@ -159,7 +176,8 @@ fn conversations_are_answered_however_they_are_cut(rt: HostRuntime) -> Result<()
     for (name, script, end) in TALKS {
         for size in [1, 7, 10_000] {
             let mut node = Volatile::new(alloc);
-            answers(&rt, alloc, &mut node, name, script, size, *end)?;
+            let peer = (size, false, 10_000);
+            answers(&rt, alloc, &mut node, name, script, peer, Ok(*end))?;
         }
     }
     Ok(())
@@ -238,7 +256,7 @@ fn talks_between(
 ) -> Result<(), Fail> {
     let (name, before, talk, after) = row;
     plays(rt, alloc, node, name, before)?;
-    answers(rt, alloc, node, name, talk, 10_000, WHOLE)?;
+    answers(rt, alloc, node, name, talk, AT_ONCE, Ok(WHOLE))?;
     plays(rt, alloc, node, name, after)
 }
 
@@ -248,34 +266,6 @@ fn a_conversation_is_one_of_many(rt: HostRuntime) -> Result<(), Fail> {
         let mut node = Volatile::new(rt.alloc());
         talks_between(&rt, rt.alloc(), &mut node, row)?;
     }
-    Ok(())
-}
-
-/// The node's conversation over what the script says, where the reader fails at the end and the writer has room for so
-/// many bytes: it ends with this fault and writes what of the replies there is room for.
-fn fails_so(
-    rt: &impl Abort,
-    alloc: Global,
-    node: &mut Volatile,
-    script: &str,
-    room: usize,
-    fault: ConverseFault,
-) -> Result<(), Fail> {
-    let stream = said_frames(alloc, script)?;
-    let replies = told_frames(alloc, script)?;
-    let mut reader = Pieces {
-        bytes: &stream,
-        size: 16,
-        fails: true,
-    };
-    let mut writer = Room {
-        taken: Vec::new(alloc),
-        room,
-    };
-    let end = converse(alloc, node, &mut reader, &mut writer);
-    assert_eq!(rt; end, Err(fault), "with room for {room}");
-    let written = &replies[..room.min(replies.len())];
-    assert_eq!(rt; writer.taken.as_slice(), written, "with room for {room}");
     Ok(())
 }
 
@@ -289,23 +279,22 @@ fn a_reader_or_a_writer_fails(rt: HostRuntime) -> Result<(), Fail> {
         } else {
             ConverseFault::Read
         };
-        fails_so(&rt, rt.alloc(), &mut node, PUTS, room, fault)?;
+        let peer = (16, true, room);
+        answers(&rt, rt.alloc(), &mut node, "a put", PUTS, peer, Err(fault))?;
     }
     Ok(())
+}
+
+fn fails_to_write(rt: &impl Abort, alloc: Global, node: &mut Volatile) -> Result<(), Fail> {
+    let name = "a failed conversation";
+    let end = Err(ConverseFault::Write);
+    plays(rt, alloc, node, name, HELD_BY_7)?;
+    answers(rt, alloc, node, name, GREETED_AGAIN, (16, false, 6), end)?;
+    plays(rt, alloc, node, name, HELD_BY_8)
 }
 
 #[test]
 fn a_failed_conversation_closes_its_client(rt: HostRuntime) -> Result<(), Fail> {
     let mut node = Volatile::new(rt.alloc());
-    let name = "a failed conversation";
-    plays(&rt, rt.alloc(), &mut node, name, HELD_BY_7)?;
-    fails_so(
-        &rt,
-        rt.alloc(),
-        &mut node,
-        GREETED_AGAIN,
-        6,
-        ConverseFault::Write,
-    )?;
-    plays(&rt, rt.alloc(), &mut node, name, HELD_BY_8)
+    fails_to_write(&rt, rt.alloc(), &mut node)
 }
