@@ -21,6 +21,7 @@ use Rattle.clap.proofs.OnLiterals.{clap_on_literals}
 use Rattle.clap.proofs.WalkLemmas.{walk_stopped}
 use Rattle.clap.proofs.FaultLemmas.{stopped_fault}
 use Rattle.linda.specs.Commands.{AsksForPipe, has_hyphen, linda}
+use Rattle.linda.specs.Marks.{hyphen, help_letter}
 
 abbrev rules : List Rule
 rules = filled_from 1 (help_rule ∷ [])
@@ -60,9 +61,9 @@ long_is name = go (bytes_eq (codes "help") name) refl
     go false t = inl (rw t refl)
 
 short_is : (x : ℕ) → (arg_by_short rules x ≡ None) ⊎ (arg_by_short rules x ≡ the_help)
-short_is x = go (104 == x) refl
+short_is x = go (help_letter == x) refl
   where
-    go : (b : Bool) → (104 == x) ≡ b → (arg_by_short rules x ≡ None) ⊎ (arg_by_short rules x ≡ the_help)
+    go : (b : Bool) → (help_letter == x) ≡ b → (arg_by_short rules x ≡ None) ⊎ (arg_by_short rules x ≡ the_help)
     go true t = inr (rw t refl)
     go false t = inl (rw t refl)
 
@@ -126,7 +127,7 @@ other_turn s word =
     let met = subcommand_or_other rules None idle 1 word nothing_held in
     or_else (other_fault (helped s) None word nothing_held) (step_fault (helped s) 1 met.0 met.1)
 
-other_refused : (s : Shape) (word : Text) → bytes_eq word (45 ∷ 45 ∷ []) ≡ false → other_turn s word ≡ [] → ⊥
+other_refused : (s : Shape) (word : Text) → bytes_eq word (codes "--") ≡ false → other_turn s word ≡ [] → ⊥
 other_refused s word t e =
     let turn : flag_turn s word (long_of word) ≡ [] = rw t at e in
     flag_refused s word (long_of word) turn
@@ -148,11 +149,11 @@ only_end (w ∷ rest) e = let bad : kind.UnknownArgument ∷ [] ≡ [] = e in cc
 leaf_words : (words : List Text) → level_fault leaf [] nothing_held words false [] ≡ [] → (words ≡ []) ⊎ (words ≡ codes "--" ∷ [])
 unfolding walk_fault
 leaf_words [] e = inl refl
-leaf_words (w ∷ rest) e = go (bytes_eq w (45 ∷ 45 ∷ [])) refl
+leaf_words (w ∷ rest) e = go (bytes_eq w (codes "--")) refl
   where
-    go : (b : Bool) → bytes_eq w (45 ∷ 45 ∷ []) ≡ b → (w ∷ rest ≡ []) ⊎ (w ∷ rest ≡ codes "--" ∷ [])
+    go : (b : Bool) → bytes_eq w (codes "--") ≡ b → (w ∷ rest ≡ []) ⊎ (w ∷ rest ≡ codes "--" ∷ [])
     go true t =
-        let is : w ≡ codes "--" = (bytes_eq-Decides w (45 ∷ 45 ∷ [])).0 t in
+        let is : w ≡ codes "--" = (bytes_eq-Decides w (codes "--")).0 t in
         let end : level_fault leaf [] nothing_held (codes "--" ∷ rest) false [] ≡ [] = subst (λ (x : Text). level_fault leaf [] nothing_held (x ∷ rest) false [] ≡ []) is e in
         inr (ap (λ (x : Text). x ∷ rest) is ∙ only_end rest end)
     go false t = absurd (other_refused leaf w t (first_empty _ _ (first_empty _ _ e)))
@@ -227,8 +228,8 @@ passing (w ∷ rest) e = at_pipe (bytes_eq (codes "pipe") w) refl
     behind is (inl none) = inl (rw (is, none) refl)
     behind is (inr end) = inr (rw (is, end) refl)
 
-    at_end : (b : Bool) → bytes_eq w (45 ∷ 45 ∷ []) ≡ b → bytes_eq (codes "pipe") w ≡ false → bytes_eq (codes "run") w ≡ false → bytes_eq (codes "help") w ≡ false → ⊥
-    at_end true t no_pipe no_run no_help = no_command rest (to (codes "--") ((bytes_eq-Decides w (45 ∷ 45 ∷ [])).0 t))
+    at_end : (b : Bool) → bytes_eq w (codes "--") ≡ b → bytes_eq (codes "pipe") w ≡ false → bytes_eq (codes "run") w ≡ false → bytes_eq (codes "help") w ≡ false → ⊥
+    at_end true t no_pipe no_run no_help = no_command rest (to (codes "--") ((bytes_eq-Decides w (codes "--")).0 t))
     at_end false t no_pipe no_run no_help =
         let first : turn_fault top (names_of (built linda)) (walk_from nothing_held) w ≡ [] = first_empty _ _ (first_empty _ _ e) in
         let turn : other_turn top w ≡ [] = rw (no_pipe, no_run, no_help) at first in
@@ -236,7 +237,7 @@ passing (w ∷ rest) e = at_pipe (bytes_eq (codes "pipe") w) refl
 
     at_help : (b : Bool) → bytes_eq (codes "help") w ≡ b → bytes_eq (codes "pipe") w ≡ false → bytes_eq (codes "run") w ≡ false → ⊥
     at_help true t no_pipe no_run = help_wanted rest (to (codes "help") (sym ((bytes_eq-Decides (codes "help") w).0 t)))
-    at_help false t no_pipe no_run = at_end (bytes_eq w (45 ∷ 45 ∷ [])) refl no_pipe no_run t
+    at_help false t no_pipe no_run = at_end (bytes_eq w (codes "--")) refl no_pipe no_run t
 
     at_run : (b : Bool) → bytes_eq (codes "run") w ≡ b → bytes_eq (codes "pipe") w ≡ false → RunsOn (w ∷ rest)
     at_run true t no_pipe =
@@ -308,16 +309,16 @@ past a b e = ap (λ x. or_else x b) e
 pub first_is : (a b : Kinds) (k : ErrorKind) (ks : Kinds) → a ≡ k ∷ ks → or_else a b ≡ k ∷ ks
 first_is a b k ks e = ap (λ x. or_else x b) e
 
-pub no_strip : (w : Text) → has_hyphen w ≡ false → strip_byte 45 w ≡ None
+pub no_strip : (w : Text) → has_hyphen w ≡ false → strip_byte hyphen w ≡ None
 no_strip [] e = refl
 no_strip (x ∷ xs) e = rw e refl
 
-pub no_end : (w : Text) → has_hyphen w ≡ false → bytes_eq w (45 ∷ 45 ∷ []) ≡ false
-no_end w e = go (bytes_eq w (45 ∷ 45 ∷ [])) refl
+pub no_end : (w : Text) → has_hyphen w ≡ false → bytes_eq w (codes "--") ≡ false
+no_end w e = go (bytes_eq w (codes "--")) refl
   where
-    go : (b : Bool) → bytes_eq w (45 ∷ 45 ∷ []) ≡ b → bytes_eq w (45 ∷ 45 ∷ []) ≡ false
+    go : (b : Bool) → bytes_eq w (codes "--") ≡ b → bytes_eq w (codes "--") ≡ false
     go true t =
-        let bad : true ≡ false = subst (λ (x : Text). has_hyphen x ≡ false) ((bytes_eq-Decides w (45 ∷ 45 ∷ [])).0 t) e in
+        let bad : true ≡ false = subst (λ (x : Text). has_hyphen x ≡ false) ((bytes_eq-Decides w (codes "--")).0 t) e in
         cc
     go false t = t
 

@@ -24,6 +24,7 @@ use Rattle.clap.specs.Matches.{ReadsOne}
 use Rattle.clap.proofs.KindLemmas.{value_kinds-ok, value_kinds-refused}
 use Rattle.clap.proofs.ValueTestLemmas.{accepts-Accepts}
 use Rattle.linda.specs.Commands.{IsRefusedRun, AsksForRun, Spells, IsEnd, IsOption, has_hyphen, linda, servers_rule}
+use Rattle.linda.specs.Marks.{hyphen, equals_sign, plus_sign, help_letter}
 use Rattle.linda_client.specs.declared.limits.TheConstants.{MAX_SERVERS}
 use Rattle.linda.proofs.Parsing.{first_is, AsksToRun, run_stops, first_empty, no_end, no_strip, past, second_empty, run_passes, run_walk, runner, top_fault}
 
@@ -125,9 +126,9 @@ long_is name = go (bytes_eq the_name name) refl
     go false t = inr (other (bytes_eq (codes "help") name) refl t)
 
 short_is : (c : ℕ) → (arg_by_short checks c ≡ None) ⊎ (arg_by_short checks c ≡ Some help)
-short_is c = go (104 == c) refl
+short_is c = go (help_letter == c) refl
   where
-    go : (b : Bool) → (104 == c) ≡ b → (arg_by_short checks c ≡ None) ⊎ (arg_by_short checks c ≡ Some help)
+    go : (b : Bool) → (help_letter == c) ≡ b → (arg_by_short checks c ≡ None) ⊎ (arg_by_short checks c ≡ Some help)
     go true t = inr (rw t refl)
     go false t = inl (rw t refl)
 
@@ -206,14 +207,14 @@ no_command positional x = refl
 goes : (k : Waiting) (rows : List Row) (pending : Option (Text × List Text)) (x : Text)
     → turn_fault runner [] (at k (held rows pending)) x ≡ [] → Goes k rows pending x (walked checks [] (at k (held rows pending)) x)
 unfolding walked
-goes k rows pending x e = by_end (bytes_eq x (45 ∷ 45 ∷ [])) refl
+goes k rows pending x e = by_end (bytes_eq x (codes "--")) refl
   where
     met : (o : Option (Text × Option Text)) → long_of x ≡ o → turn_of k (held rows pending) x o ≡ [] → Goes k rows pending x (next_of k (held rows pending) x o)
     met (Some p) is turn = by_long k rows pending x p.0 p.1 is turn
     met None is turn = by_short k rows pending x (short_of x) refl turn
 
-    by_end : (b : Bool) → bytes_eq x (45 ∷ 45 ∷ []) ≡ b → Goes k rows pending x (walked checks [] (at k (held rows pending)) x)
-    by_end true t = rw (no_command k x, t) (ends ((bytes_eq-Decides x (45 ∷ 45 ∷ [])).0 t))
+    by_end : (b : Bool) → bytes_eq x (codes "--") ≡ b → Goes k rows pending x (walked checks [] (at k (held rows pending)) x)
+    by_end true t = rw (no_command k x, t) (ends ((bytes_eq-Decides x (codes "--")).0 t))
     by_end false t =
         let turn : turn_of k (held rows pending) x (long_of x) ≡ [] = rw (no_command k x, t) at e in
         rw (no_command k x, t) (met (long_of x) refl turn)
@@ -317,7 +318,7 @@ from_told v (x ∷ xs) e =
 
 abbrev with_value : Text × Option Text → Text
 with_value (name, None) = name
-with_value (name, Some v) = name ++ 61 ∷ v
+with_value (name, Some v) = name ++ equals_sign ∷ v
 
 one_more : (n : ℕ) → 1 + n ≡ suc n
 one_more n = omega arith
@@ -327,29 +328,29 @@ one_later n = omega arith
 
 -- how many bytes stand before the `=`
 abbrev front : Text → ℕ
-front = position_or_len (λ x. x == 61)
+front = position_or_len (λ x. x == equals_sign)
 
-cut : (t : Text) → has_byte 61 t ≡ true → t ≡ before_first (λ x. x == 61) t ++ 61 ∷ after_first (λ x. x == 61) t
+cut : (t : Text) → has_byte equals_sign t ≡ true → t ≡ before_first (λ x. x == equals_sign) t ++ equals_sign ∷ after_first (λ x. x == equals_sign) t
 cut [] e = let bad : false ≡ true = e in cc
-cut (x ∷ xs) e = go (x == 61) refl (cut xs)
+cut (x ∷ xs) e = go (x == equals_sign) refl (cut xs)
   where
-    go : (b : Bool) → (x == 61) ≡ b → (has_byte 61 xs ≡ true → xs ≡ before_first (λ y. y == 61) xs ++ 61 ∷ after_first (λ y. y == 61) xs)
-        → x ∷ xs ≡ before_first (λ y. y == 61) (x ∷ xs) ++ 61 ∷ after_first (λ y. y == 61) (x ∷ xs)
-    go true t later = rw t (ap (λ y. y ∷ xs) (eqb-true x 61 t))
+    go : (b : Bool) → (x == equals_sign) ≡ b → (has_byte equals_sign xs ≡ true → xs ≡ before_first (λ y. y == equals_sign) xs ++ equals_sign ∷ after_first (λ y. y == equals_sign) xs)
+        → x ∷ xs ≡ before_first (λ y. y == equals_sign) (x ∷ xs) ++ equals_sign ∷ after_first (λ y. y == equals_sign) (x ∷ xs)
+    go true t later = rw t (ap (λ y. y ∷ xs) (eqb-true x equals_sign t))
     go false t later = rw (t, one_more (front xs), one_later (front xs)) (ap (λ ys. x ∷ ys) (later (rw t at e)))
 
-uncut : (t : Text) → has_byte 61 t ≡ false → t ≡ before_first (λ x. x == 61) t
+uncut : (t : Text) → has_byte equals_sign t ≡ false → t ≡ before_first (λ x. x == equals_sign) t
 uncut [] e = refl
-uncut (x ∷ xs) e = go (x == 61) refl (uncut xs)
+uncut (x ∷ xs) e = go (x == equals_sign) refl (uncut xs)
   where
-    go : (b : Bool) → (x == 61) ≡ b → (has_byte 61 xs ≡ false → xs ≡ before_first (λ y. y == 61) xs) → x ∷ xs ≡ before_first (λ y. y == 61) (x ∷ xs)
+    go : (b : Bool) → (x == equals_sign) ≡ b → (has_byte equals_sign xs ≡ false → xs ≡ before_first (λ y. y == equals_sign) xs) → x ∷ xs ≡ before_first (λ y. y == equals_sign) (x ∷ xs)
     go true t later = let bad : true ≡ false = rw t at e in cc
     go false t later = rw (t, one_more (front xs)) (ap (λ ys. x ∷ ys) (later (rw t at e)))
 
 valued : (t : Text) → t ≡ with_value (name_and_value t)
-valued t = go (has_byte 61 t) refl
+valued t = go (has_byte equals_sign t) refl
   where
-    go : (b : Bool) → has_byte 61 t ≡ b → t ≡ with_value (name_and_value t)
+    go : (b : Bool) → has_byte equals_sign t ≡ b → t ≡ with_value (name_and_value t)
     go true h = rw h (cut t h)
     go false h = rw h (uncut t h)
 
@@ -357,20 +358,20 @@ rest_spelled : (x : Text) (p : Text × Option Text) → long_of_rest x ≡ Some 
 rest_spelled [] p e = let bad : None ≡ Some p = e in cc
 rest_spelled (y ∷ ys) p e = valued (y ∷ ys) ∙ ap (λ o. with_value (unwrap_or o p)) e
 
-second_spelled : (x : Text) (p : Text × Option Text) → option_and_then long_of_rest (strip_byte 45 x) ≡ Some p → x ≡ 45 ∷ with_value p
+second_spelled : (x : Text) (p : Text × Option Text) → option_and_then long_of_rest (strip_byte hyphen x) ≡ Some p → x ≡ hyphen ∷ with_value p
 second_spelled [] p e = let bad : None ≡ Some p = e in cc
-second_spelled (y ∷ ys) p e = go (y == 45) refl
+second_spelled (y ∷ ys) p e = go (y == hyphen) refl
   where
-    go : (b : Bool) → (y == 45) ≡ b → y ∷ ys ≡ 45 ∷ with_value p
-    go true t = let rest : long_of_rest ys ≡ Some p = rw t at e in rw (eqb-true y 45 t, ← rest_spelled ys p rest) refl
+    go : (b : Bool) → (y == hyphen) ≡ b → y ∷ ys ≡ hyphen ∷ with_value p
+    go true t = let rest : long_of_rest ys ≡ Some p = rw t at e in rw (eqb-true y hyphen t, ← rest_spelled ys p rest) refl
     go false t = let bad : None ≡ Some p = rw t at e in cc
 
-long_spelled : (x : Text) (p : Text × Option Text) → long_of x ≡ Some p → x ≡ 45 ∷ 45 ∷ with_value p
+long_spelled : (x : Text) (p : Text × Option Text) → long_of x ≡ Some p → x ≡ hyphen ∷ hyphen ∷ with_value p
 long_spelled [] p e = let bad : None ≡ Some p = e in cc
-long_spelled (y ∷ ys) p e = go (y == 45) refl
+long_spelled (y ∷ ys) p e = go (y == hyphen) refl
   where
-    go : (b : Bool) → (y == 45) ≡ b → y ∷ ys ≡ 45 ∷ 45 ∷ with_value p
-    go true t = let rest : option_and_then long_of_rest (strip_byte 45 ys) ≡ Some p = rw t at e in rw (eqb-true y 45 t, ← second_spelled ys p rest) refl
+    go : (b : Bool) → (y == hyphen) ≡ b → y ∷ ys ≡ hyphen ∷ hyphen ∷ with_value p
+    go true t = let rest : option_and_then long_of_rest (strip_byte hyphen ys) ≡ Some p = rw t at e in rw (eqb-true y hyphen t, ← second_spelled ys p rest) refl
     go false t = let bad : None ≡ Some p = rw t at e in cc
 
 -- ---- the words behind `run` that pass
@@ -511,16 +512,16 @@ run_fault name rest =
 
 -- ---- the number
 
-digit_is : (b : ℕ) (bs : Text) → IsNumeral 10 (b ∷ bs) → (b == 45) ≡ false
-digit_is b bs h = ne_eqb b 45 (λ e. omega (arith, digit_from_value b h.1.0))
+digit_is : (b : ℕ) (bs : Text) → IsNumeral 10 (b ∷ bs) → (b == hyphen) ≡ false
+digit_is b bs h = ne_eqb b hyphen (λ e. omega (arith, digit_from_value b h.1.0))
 
 -- such a text does not begin with a hyphen
 no_hyphen : (v : Text) (n : ℕ) → Spells v n → has_hyphen v ≡ false
 no_hyphen [] n h = refl
-no_hyphen (b ∷ bs) n h = go (b == 43) refl h.numeral
+no_hyphen (b ∷ bs) n h = go (b == plus_sign) refl h.numeral
   where
-    go : (t : Bool) → (b == 43) ≡ t → IsNumeral 10 (without_leading_plus (b ∷ bs)) → (b == 45) ≡ false
-    go true t num = rw (eqb-true b 43 t) refl
+    go : (t : Bool) → (b == plus_sign) ≡ t → IsNumeral 10 (without_leading_plus (b ∷ bs)) → (b == hyphen) ≡ false
+    go true t num = rw (eqb-true b plus_sign t) refl
     go false t num = digit_is b bs (rw t at num)
 
 no_minus : (v : Text) → has_hyphen v ≡ false → starts_with_minus v ≡ false

@@ -34,7 +34,7 @@ command_found m words (tasks.Run n) asks rows = name_of_rows m ∙ ap (λ o. opt
 pub only_pipe : (task : Task) → Some (command_of task) ≡ Some (codes "pipe") → tasks.Pipe ≡ task
 only_pipe tasks.Pipe e = refl
 only_pipe (tasks.Run n) e =
-    let bad : ◌≡◌ {A = ℕ} 114 112 = ap (λ (o : Option Text). slice_index (unwrap_or o []) 0) e in
+    let bad : ◌≡◌ {A = ℕ} (slice_index (codes "run") 0) (slice_index (codes "pipe") 0) = ap (λ (o : Option Text). slice_index (unwrap_or o []) 0) e in
     absurd (omega (arith, bad))
 
 -- where the parser's command is not `pipe`, the task is a run
@@ -81,8 +81,8 @@ second words = slice_index (unwrap_or (slice_get words 1) []) 0
 
 -- no words ask for the pipe and for a run
 pub apart : (words : List Text) (n : ℕ) → AsksForPipe words → AsksForRun words n → ⊥
-apart words n (name, inl h) run = let bad : ◌≡◌ {A = ℕ} 112 114 = ap second (sym h) ∙ ap second run.spelled in absurd (omega (arith, bad))
-apart words n (name, inr h) run = let bad : ◌≡◌ {A = ℕ} 112 114 = ap second (sym h) ∙ ap second run.spelled in absurd (omega (arith, bad))
+apart words n (name, inl h) run = let bad : ◌≡◌ {A = ℕ} (slice_index (codes "pipe") 0) (slice_index (codes "run") 0) = ap second (sym h) ∙ ap second run.spelled in absurd (omega (arith, bad))
+apart words n (name, inr h) run = let bad : ◌≡◌ {A = ℕ} (slice_index (codes "pipe") 0) (slice_index (codes "run") 0) = ap second (sym h) ∙ ap second run.spelled in absurd (omega (arith, bad))
 
 -- what was found is what the words ask for
 pub found_asked : (words : List Text) (task : Task) (result : Option Task) → fault_of linda words ≡ [] → result ≡ Some task

@@ -9,6 +9,7 @@ use Rattle.clap.specs.declared.builder.action.ArgAction.TheVariants.{Set}
 use Rattle.clap.specs.declared.builder.value_parser.ValueParser.TheVariants as parsers
 use Rattle.clap.specs.declared.error.Error.{Error}
 use Rattle.clap.specs.declared.error.kind.ErrorKind.TheVariants as kinds
+use Rattle.linda.specs.Marks.{hyphen}
 use Rattle.linda.specs.declared.command.Task.{Task}
 use Rattle.linda.specs.declared.command.Task.TheVariants as tasks
 use Rattle.linda_client.specs.declared.limits.TheConstants.{MAX_SERVERS}
@@ -76,7 +77,7 @@ HasServers (tasks.Run n) = (1 ≤ n) × (n ≤ MAX_SERVERS)
 -- whether a word begins with a hyphen
 abbrev pub has_hyphen : List ℕ → Bool
 has_hyphen [] = false
-has_hyphen (b ∷ bs) = b == 45
+has_hyphen (b ∷ bs) = b == hyphen
 
 -- The words are a program's name and then a word that is no option, and none of `pipe`, `run`, `help`.
 pub record HasUnknown (words : List (List ℕ)) : Type 0 where

@@ -3,7 +3,7 @@
 //! `linda pipe` serves one connection to a new server in memory. Each line of standard input is a piece of
 //! the client's stream in hexadecimal digits; each reply is such a line on standard output.
 //!
-//! `linda run --servers N` plays a script from standard input with N servers in memory, 1 to 16.
+//! `linda run --servers N` plays a script from standard input with N servers on disks in memory, 1 to 16.
 //!
 //! The exit status is 0 at the end; 2 for a fault of the command line, with the parser's text on standard
 //! error; 3 with one line there, `io` or `memory`, where standard input or output fails or memory runs out;

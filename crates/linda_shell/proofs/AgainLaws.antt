@@ -13,6 +13,8 @@ use Rattle.linda_text.specs.Reading.{after_blanks, natural_at, template_at, spac
 use Rattle.linda_text.proofs.Blanks.{blanks_again}
 use Rattle.linda_text.proofs.RowLaws.{template_is, spaced_atom_is}
 use Rattle.linda_event.specs.Trees.{Kind, input, read, alarm, always, never, Tree, leaf, choose, wrap, nack, Trees, no_trees, and_tree, members_of}
+use Rattle.linda_text.specs.declared.marks.TheConstants.{COMMA, SPACE, TAB}
+use Rattle.linda_shell.specs.declared.marks.TheConstants.{OPENING_BRACKET, CLOSING_BRACKET}
 use Rattle.linda_shell.specs.declared.keyword.Keyword.{Keyword}
 use Rattle.linda_shell.specs.declared.keyword.Keyword.TheVariants as keywords
 use Rattle.linda_shell.specs.Words.{keyword_text, EndsWord, inside, mark_at}
@@ -65,9 +67,9 @@ event_long t text is =
 -- ---- what ends a word
 
 pub blank_ends : (b : ℕ) → is_blank b ≡ true → is_ascii_alphanumeric b ≡ false
-blank_ends b e = elim (or_cases (b == 32) (b == 9) e) [
-  | inl s ↦ rw (eqb-true b 32 s) refl
-  | inr t ↦ rw (eqb-true b 9 t) refl
+blank_ends b e = elim (or_cases (b == SPACE) (b == TAB) e) [
+  | inl s ↦ rw (eqb-true b SPACE s) refl
+  | inr t ↦ rw (eqb-true b TAB t) refl
 ]
 
 marks_end : (blanks : List ℕ) (mark : ℕ) (rest : List ℕ) → AreBlanks blanks → is_ascii_alphanumeric mark ≡ false → EndsWord (blanks ++ mark ∷ rest)
@@ -75,9 +77,9 @@ marks_end [] mark rest all e = e
 marks_end (b ∷ blanks) mark rest all e = blank_ends b all.0
 
 more_ends : (ts : Trees) (text rest : List ℕ) → AreMore ts text → EndsWord (text ++ rest)
-more_ends no_trees text rest (blanks, spaces, parts) = rw (parts, append_assoc blanks (93 ∷ []) rest) (marks_end blanks 93 rest spaces refl)
+more_ends no_trees text rest (blanks, spaces, parts) = rw (parts, append_assoc blanks (CLOSING_BRACKET ∷ []) rest) (marks_end blanks CLOSING_BRACKET rest spaces refl)
 more_ends (and_tree t ts) text rest (before, between, next, others, spaces, more, is, are, parts) =
-    rw (parts, append_assoc before (44 ∷ (between ++ (next ++ others))) rest) (marks_end before 44 ((between ++ (next ++ others)) ++ rest) spaces refl)
+    rw (parts, append_assoc before (COMMA ∷ (between ++ (next ++ others))) rest) (marks_end before COMMA ((between ++ (next ++ others)) ++ rest) spaces refl)
 
 -- ---- nodes
 
@@ -136,7 +138,7 @@ more_long (and_tree t ts) text (before, between, next, others, spaces, more, is,
     let rest = more_long ts others are in
     let behind : length (next ++ others) ≡ length next + length others = length-append next others in
     let inner : length (between ++ (next ++ others)) ≡ length between + length (next ++ others) = length-append between (next ++ others) in
-    let all : length (before ++ 44 ∷ (between ++ (next ++ others))) ≡ length before + suc (length (between ++ (next ++ others))) = length-append before (44 ∷ (between ++ (next ++ others))) in
+    let all : length (before ++ COMMA ∷ (between ++ (next ++ others))) ≡ length before + suc (length (between ++ (next ++ others))) = length-append before (COMMA ∷ (between ++ (next ++ others))) in
     omega (arith, ap length parts, rest, behind, inner, all)
 
 -- What stands behind a member is read as these members.
@@ -153,17 +155,17 @@ some_again room (suc n) t ts blanks first more rest spaces is one others few =
     let o = others n (omega (arith, few)) in
     rw (inner, one, o.1, o.2) refl
 
-none_again : (room : ℕ) (before between rest : List ℕ) → AreBlanks before → AreBlanks between → members_at (event_at room) ((before ++ 91 ∷ (between ++ 93 ∷ [])) ++ rest) ≡ Ok ([], rest)
+none_again : (room : ℕ) (before between rest : List ℕ) → AreBlanks before → AreBlanks between → members_at (event_at room) ((before ++ OPENING_BRACKET ∷ (between ++ CLOSING_BRACKET ∷ [])) ++ rest) ≡ Ok ([], rest)
 unfolding members_at after_blanks
 none_again room before between rest spaces more =
-    let whole : (before ++ 91 ∷ (between ++ 93 ∷ [])) ++ rest ≡ before ++ 91 ∷ (between ++ 93 ∷ rest) = append_assoc before (91 ∷ (between ++ 93 ∷ [])) rest ∙ ap (λ (w : List ℕ). before ++ 91 ∷ w) (append_assoc between (93 ∷ []) rest) in
-    rw (whole, open_again before between (93 ∷ rest) spaces more refl) refl
+    let whole : (before ++ OPENING_BRACKET ∷ (between ++ CLOSING_BRACKET ∷ [])) ++ rest ≡ before ++ OPENING_BRACKET ∷ (between ++ CLOSING_BRACKET ∷ rest) = append_assoc before (OPENING_BRACKET ∷ (between ++ CLOSING_BRACKET ∷ [])) rest ∙ ap (λ (w : List ℕ). before ++ OPENING_BRACKET ∷ w) (append_assoc between (CLOSING_BRACKET ∷ []) rest) in
+    rw (whole, open_again before between (CLOSING_BRACKET ∷ rest) spaces more refl) refl
 
 list_again : (room : ℕ) (t : Tree) (ts : Trees) (before between first more rest : List ℕ) → AreBlanks before → AreBlanks between → IsEventText t first → AreMore ts more
-    → event_at room (first ++ (more ++ rest)) ≡ Ok (t, more ++ rest) → MoreAgain room ts more rest → members_at (event_at room) ((before ++ 91 ∷ (between ++ (first ++ more))) ++ rest) ≡ Ok (t ∷ list_of ts, rest)
+    → event_at room (first ++ (more ++ rest)) ≡ Ok (t, more ++ rest) → MoreAgain room ts more rest → members_at (event_at room) ((before ++ OPENING_BRACKET ∷ (between ++ (first ++ more))) ++ rest) ≡ Ok (t ∷ list_of ts, rest)
 unfolding members_at
 list_again room t ts before between first more rest spaces blanks is are one others =
-    let whole : (before ++ 91 ∷ (between ++ (first ++ more))) ++ rest ≡ before ++ 91 ∷ (between ++ (first ++ (more ++ rest))) = simp append_assoc in
+    let whole : (before ++ OPENING_BRACKET ∷ (between ++ (first ++ more))) ++ rest ≡ before ++ OPENING_BRACKET ∷ (between ++ (first ++ (more ++ rest))) = simp append_assoc in
     let opens = open_again before between (first ++ (more ++ rest)) spaces blanks (event_begins t first (more ++ rest) is) in
     let some = some_again room (length (first ++ (more ++ rest))) t ts [] first more rest tt is one others
     (omega (arith, event_long t first is, more_long ts more are, length-append first (more ++ rest), length-append more rest)) in
@@ -174,7 +176,7 @@ choice_again : (room : ℕ) (ts : Trees) (text blanks list rest : List ℕ) → 
 choice_again room ts text blanks list rest parts ends behind members =
     node_again keywords.Choose (choose ts) room text (blanks ++ list) rest parts ends behind (rw (members, members_list ts) refl)
 
-comma_behind : (before between next others rest : List ℕ) → (before ++ 44 ∷ (between ++ (next ++ others))) ++ rest ≡ before ++ 44 ∷ (between ++ (next ++ (others ++ rest)))
+comma_behind : (before between next others rest : List ℕ) → (before ++ COMMA ∷ (between ++ (next ++ others))) ++ rest ≡ before ++ COMMA ∷ (between ++ (next ++ (others ++ rest)))
 comma_behind before between next others rest = simp append_assoc
 
 mutual
@@ -202,7 +204,7 @@ mutual
   more_again : (ts : Trees) (room n : ℕ) (text rest : List ℕ) → AreMore ts text → AreSoundEvents ts → height_of_all ts ≤ room → count ts ≤ n
       → (more : Bool × List ℕ) × (mark_at (after_blanks (text ++ rest)) ≡ Ok more) × (rest_at (event_at room) n more ≡ Ok (list_of ts, rest))
   more_again no_trees room n text rest (blanks, spaces, parts) sound high few =
-      ((false, rest), rw (parts, append_assoc blanks (93 ∷ []) rest) (close_again blanks rest spaces), refl)
+      ((false, rest), rw (parts, append_assoc blanks (CLOSING_BRACKET ∷ []) rest) (close_again blanks rest spaces), refl)
   more_again (and_tree t ts) room n text rest (before, between, next, others, spaces, blanks, is, are, parts) sound high few = (
     (true, between ++ (next ++ (others ++ rest))),
     rw (parts, comma_behind before between next others rest) (comma_again before (between ++ (next ++ (others ++ rest))) spaces),

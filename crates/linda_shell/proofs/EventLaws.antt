@@ -9,6 +9,8 @@ use Rattle.linda_text.specs.Reading.{after_blanks, natural_at, template_at, spac
 use Rattle.linda_text.proofs.Blanks.{blanks_take}
 use Rattle.linda_text.proofs.RowLaws.{template_is, spaced_atom_is}
 use Rattle.linda_event.specs.Trees.{Kind, input, read, alarm, always, never, Tree, leaf, choose, wrap, nack, Trees, no_trees, and_tree, members_of}
+use Rattle.linda_text.specs.declared.marks.TheConstants.{COMMA}
+use Rattle.linda_shell.specs.declared.marks.TheConstants.{OPENING_BRACKET, CLOSING_BRACKET}
 use Rattle.linda_shell.specs.declared.keyword.Keyword.{Keyword}
 use Rattle.linda_shell.specs.declared.keyword.Keyword.TheVariants as keywords
 use Rattle.linda_shell.specs.Words.{keyword_text, EndsWord, keyword_at, label_at, open_at, mark_at}
@@ -123,14 +125,14 @@ rest_by : (room most : ℕ) → ((bytes : List ℕ) (x : List Tree × List ℕ) 
 rest_by room most others false behind blanks bytes x spaces parts e =
     let found : List Tree × List ℕ = ([], behind) in
     subst (λ (z : List Tree × List ℕ). HasMore room bytes z) {x = found} (ok_is found x e)
-    (blanks ++ 93 ∷ [], (blanks, spaces, refl), tt, omega arith, parts ∙ sym (append_assoc blanks (93 ∷ []) behind))
+    (blanks ++ CLOSING_BRACKET ∷ [], (blanks, spaces, refl), tt, omega arith, parts ∙ sym (append_assoc blanks (CLOSING_BRACKET ∷ []) behind))
 rest_by room most others true behind blanks bytes x spaces parts e =
     let o = others behind x e in
     let text : List ℕ = o.2 in
     let is = o.4 in
-    let more : AreMore (and_tree o.0 (members_of o.1)) (blanks ++ 44 ∷ text) = (blanks, is.0, is.1, is.2, spaces, is.3, is.4, is.5, ap (λ (w : List ℕ). blanks ++ 44 ∷ w) is.6) in
-    let parted : bytes ≡ (blanks ++ 44 ∷ text) ++ x.1 = parts ∙ ap (λ (w : List ℕ). blanks ++ 44 ∷ w) o.9 ∙ sym (append_assoc blanks (44 ∷ text) x.1) in
-    subst (λ (items : List Tree). HasMore room bytes (items, x.1)) (sym o.3) (blanks ++ 44 ∷ text, more, (o.5, o.6), max-le o.7 o.8, parted)
+    let more : AreMore (and_tree o.0 (members_of o.1)) (blanks ++ COMMA ∷ text) = (blanks, is.0, is.1, is.2, spaces, is.3, is.4, is.5, ap (λ (w : List ℕ). blanks ++ COMMA ∷ w) is.6) in
+    let parted : bytes ≡ (blanks ++ COMMA ∷ text) ++ x.1 = parts ∙ ap (λ (w : List ℕ). blanks ++ COMMA ∷ w) o.9 ∙ sym (append_assoc blanks (COMMA ∷ text) x.1) in
+    subst (λ (items : List Tree). HasMore room bytes (items, x.1)) (sym o.3) (blanks ++ COMMA ∷ text, more, (o.5, o.6), max-le o.7 o.8, parted)
 
 some_take : (room : ℕ) → Takes room → (most : ℕ) (bytes : List ℕ) (x : List Tree × List ℕ) → some_members_at (event_at room) most bytes ≡ Ok x → HasSome room bytes x
 unfolding some_members_at
@@ -156,18 +158,18 @@ both_blanks [] ys all more = more
 both_blanks (b ∷ xs) ys all more = (all.0, both_blanks xs ys all.1 more)
 
 -- Members behind blanks and the opening bracket.
-joined : (between text : List ℕ) (t : Tree) (ts : Trees) → AreBlanks between → AreSome t ts text → IsListText (and_tree t ts) (91 ∷ (between ++ text))
+joined : (between text : List ℕ) (t : Tree) (ts : Trees) → AreBlanks between → AreSome t ts text → IsListText (and_tree t ts) (OPENING_BRACKET ∷ (between ++ text))
 joined between text t ts more (blanks, first, rest, spaces, is, others, parts) =
-    (between ++ blanks, first, rest, both_blanks between blanks more spaces, is, others, ap (λ (w : List ℕ). 91 ∷ w) (ap (λ (w : List ℕ). between ++ w) parts ∙ sym (append_assoc between blanks (first ++ rest))))
+    (between ++ blanks, first, rest, both_blanks between blanks more spaces, is, others, ap (λ (w : List ℕ). OPENING_BRACKET ∷ w) (ap (λ (w : List ℕ). between ++ w) parts ∙ sym (append_assoc between blanks (first ++ rest))))
 
 -- A choice, from the members between its brackets.
 choice_by : (room : ℕ) → Takes room → (some : Bool) (behind before between bytes : List ℕ) (x : List Tree × List ℕ) → AreBlanks before → AreBlanks between → EndsWord bytes
-    → bytes ≡ before ++ 91 ∷ (between ++ opened (some, behind)) → cond some (some_members_at (event_at room) (length behind) behind) (Ok ([], behind)) ≡ Ok x
+    → bytes ≡ before ++ OPENING_BRACKET ∷ (between ++ opened (some, behind)) → cond some (some_members_at (event_at room) (length behind) behind) (Ok ([], behind)) ≡ Ok x
     → HasNode keywords.Choose room bytes (choose (members_of x.0), x.1)
 choice_by room takes false behind before between bytes x spaces more ends parts e =
-    let list : List ℕ = 91 ∷ (between ++ 93 ∷ []) in
+    let list : List ℕ = OPENING_BRACKET ∷ (between ++ CLOSING_BRACKET ∷ []) in
     let is : IsListText no_trees list = (between, more, refl) in
-    let whole : bytes ≡ before ++ (list ++ behind) = parts ∙ ap (λ (w : List ℕ). before ++ 91 ∷ w) (sym (append_assoc between (93 ∷ []) behind)) in
+    let whole : bytes ≡ before ++ (list ++ behind) = parts ∙ ap (λ (w : List ℕ). before ++ OPENING_BRACKET ∷ w) (sym (append_assoc between (CLOSING_BRACKET ∷ []) behind)) in
     let b = behind_word (keyword_text keywords.Choose) (λ rest. IsListText no_trees rest) before list behind bytes spaces is ends whole in
     let found : List Tree × List ℕ = ([], behind) in
     subst (λ (z : List Tree × List ℕ). HasNode keywords.Choose room bytes (choose (members_of z.0), z.1)) {x = found} (ok_is found x e)
@@ -175,9 +177,9 @@ choice_by room takes false behind before between bytes x spaces more ends parts 
 choice_by room takes true behind before between bytes x spaces more ends parts e =
     let o = some_take room takes (length behind) behind x e in
     let text : List ℕ = o.2 in
-    let list : List ℕ = 91 ∷ (between ++ text) in
+    let list : List ℕ = OPENING_BRACKET ∷ (between ++ text) in
     let members : IsListText (and_tree o.0 (members_of o.1)) list = joined between text o.0 (members_of o.1) more o.4 in
-    let parted : bytes ≡ before ++ (list ++ x.1) = parts ∙ ap (λ (w : List ℕ). before ++ 91 ∷ w) (ap (λ (w : List ℕ). between ++ w) o.9 ∙ sym (append_assoc between text x.1)) in
+    let parted : bytes ≡ before ++ (list ++ x.1) = parts ∙ ap (λ (w : List ℕ). before ++ OPENING_BRACKET ∷ w) (ap (λ (w : List ℕ). between ++ w) o.9 ∙ sym (append_assoc between text x.1)) in
     let b = behind_word (keyword_text keywords.Choose) (λ rest. IsListText (and_tree o.0 (members_of o.1)) rest) before list x.1 bytes spaces members ends parted in
     let tall : max (height o.0) (height_of_all (members_of o.1)) ≤ room = max-le o.7 o.8 in
     subst (λ (items : List Tree). HasNode keywords.Choose room bytes (choose (members_of items), x.1)) (sym o.3) (before ++ list, b.0, (o.5, o.6), omega (arith, tall), b.1)

@@ -12,6 +12,8 @@ use Rattle.linda_text.proofs.Steps.{bind_ok, ok_is}
 use Rattle.linda_text.proofs.Blanks.{blanks_take, blanks_again, no_blank, beyond_blanks}
 use Rattle.linda_text.proofs.Numerals.{natural_takes, natural_again, natural_begins}
 use Rattle.linda_text.proofs.AtomLaws.{word_takes}
+use Rattle.linda_text.specs.declared.marks.TheConstants.{COMMA}
+use Rattle.linda_shell.specs.declared.marks.TheConstants.{OPENING_BRACKET, CLOSING_BRACKET}
 use Rattle.linda_shell.specs.declared.keyword.Keyword.{Keyword}
 use Rattle.linda_shell.specs.declared.keyword.Keyword.TheVariants as keywords
 use Rattle.linda_shell.specs.Words.{keyword_text, EndsWord, candidate, chosen_word, word_end, keyword_at, label_at, inside, open_at, mark_at}
@@ -162,64 +164,64 @@ label_again blanks n rest spaces lt ends = rw (number_again blanks n rest spaces
 -- ---- commas and brackets
 
 abbrev pub mark_of : Bool → ℕ
-mark_of true = 44
-mark_of false = 93
+mark_of true = COMMA
+mark_of false = CLOSING_BRACKET
 
-mark_by : (comma close : Bool) (b : ℕ) (rest : List ℕ) (x : Bool × List ℕ) → (b == 44) ≡ comma → (b == 93) ≡ close
+mark_by : (comma close : Bool) (b : ℕ) (rest : List ℕ) (x : Bool × List ℕ) → (b == COMMA) ≡ comma → (b == CLOSING_BRACKET) ≡ close
     → cond comma (Ok (true, rest)) (cond close (Ok (false, rest)) (wrong (b ∷ rest))) ≡ Ok x → b ∷ rest ≡ mark_of x.0 ∷ x.1
 mark_by true close b rest x is_comma is_close e =
     let found : Bool × List ℕ = (true, rest) in
-    subst (λ (y : Bool × List ℕ). b ∷ rest ≡ mark_of y.0 ∷ y.1) {x = found} (ok_is found x e) (ap (λ (c : ℕ). c ∷ rest) (eqb-true b 44 is_comma))
+    subst (λ (y : Bool × List ℕ). b ∷ rest ≡ mark_of y.0 ∷ y.1) {x = found} (ok_is found x e) (ap (λ (c : ℕ). c ∷ rest) (eqb-true b COMMA is_comma))
 mark_by false true b rest x is_comma is_close e =
     let found : Bool × List ℕ = (false, rest) in
-    subst (λ (y : Bool × List ℕ). b ∷ rest ≡ mark_of y.0 ∷ y.1) {x = found} (ok_is found x e) (ap (λ (c : ℕ). c ∷ rest) (eqb-true b 93 is_close))
+    subst (λ (y : Bool × List ℕ). b ∷ rest ≡ mark_of y.0 ∷ y.1) {x = found} (ok_is found x e) (ap (λ (c : ℕ). c ∷ rest) (eqb-true b CLOSING_BRACKET is_close))
 mark_by false false b rest x is_comma is_close e = absurd cc
 
 mark_front : (bytes : List ℕ) (x : Bool × List ℕ) → mark_at bytes ≡ Ok x → bytes ≡ mark_of x.0 ∷ x.1
 unfolding mark_at
 mark_front [] x e = absurd cc
-mark_front (b ∷ rest) x e = mark_by (b == 44) (b == 93) b rest x refl refl e
+mark_front (b ∷ rest) x e = mark_by (b == COMMA) (b == CLOSING_BRACKET) b rest x refl refl e
 
 pub mark_takes : (bytes : List ℕ) (x : Bool × List ℕ) → mark_at (after_blanks bytes) ≡ Ok x → (blanks : List ℕ) × AreBlanks blanks × (bytes ≡ blanks ++ mark_of x.0 ∷ x.1)
 mark_takes bytes x e =
     let b = blanks_take bytes in
     (b.0, b.1, b.2 ∙ ap (λ (t : List ℕ). b.0 ++ t) (mark_front (after_blanks bytes) x e))
 
-pub comma_again : (blanks rest : List ℕ) → AreBlanks blanks → mark_at (after_blanks (blanks ++ 44 ∷ rest)) ≡ Ok (true, rest)
+pub comma_again : (blanks rest : List ℕ) → AreBlanks blanks → mark_at (after_blanks (blanks ++ COMMA ∷ rest)) ≡ Ok (true, rest)
 unfolding mark_at after_blanks
-comma_again blanks rest all = rw (blanks_again blanks (44 ∷ rest) all) refl
+comma_again blanks rest all = rw (blanks_again blanks (COMMA ∷ rest) all) refl
 
-pub close_again : (blanks rest : List ℕ) → AreBlanks blanks → mark_at (after_blanks (blanks ++ 93 ∷ rest)) ≡ Ok (false, rest)
+pub close_again : (blanks rest : List ℕ) → AreBlanks blanks → mark_at (after_blanks (blanks ++ CLOSING_BRACKET ∷ rest)) ≡ Ok (false, rest)
 unfolding mark_at after_blanks
-close_again blanks rest all = rw (blanks_again blanks (93 ∷ rest) all) refl
+close_again blanks rest all = rw (blanks_again blanks (CLOSING_BRACKET ∷ rest) all) refl
 
 -- What stands behind an opening bracket: members, or the closing bracket.
 abbrev pub opened : Bool × List ℕ → List ℕ
 opened (true, rest) = rest
-opened (false, rest) = 93 ∷ rest
+opened (false, rest) = CLOSING_BRACKET ∷ rest
 
-inside_by : (t : Bool) (b : ℕ) (rest : List ℕ) → (b == 93) ≡ t → b ∷ rest ≡ opened (cond t (false, rest) (true, b ∷ rest))
-inside_by true b rest is = ap (λ (c : ℕ). c ∷ rest) (eqb-true b 93 is)
+inside_by : (t : Bool) (b : ℕ) (rest : List ℕ) → (b == CLOSING_BRACKET) ≡ t → b ∷ rest ≡ opened (cond t (false, rest) (true, b ∷ rest))
+inside_by true b rest is = ap (λ (c : ℕ). c ∷ rest) (eqb-true b CLOSING_BRACKET is)
 inside_by false b rest is = refl
 
 inside_is : (bytes : List ℕ) → bytes ≡ opened (inside bytes)
 inside_is [] = refl
-inside_is (b ∷ rest) = inside_by (b == 93) b rest refl
+inside_is (b ∷ rest) = inside_by (b == CLOSING_BRACKET) b rest refl
 
-pub open_takes : (bytes : List ℕ) (x : Bool × List ℕ) → open_at bytes ≡ Ok x → (before between : List ℕ) × AreBlanks before × AreBlanks between × (bytes ≡ before ++ 91 ∷ (between ++ opened x))
+pub open_takes : (bytes : List ℕ) (x : Bool × List ℕ) → open_at bytes ≡ Ok x → (before between : List ℕ) × AreBlanks before × AreBlanks between × (bytes ≡ before ++ OPENING_BRACKET ∷ (between ++ opened x))
 unfolding open_at
 open_takes bytes x e =
-    let w = bind_ok (word_at (91 ∷ []) (after_blanks bytes)) (λ rest. Ok (inside (after_blanks rest))) x e in
+    let w = bind_ok (word_at (OPENING_BRACKET ∷ []) (after_blanks bytes)) (λ rest. Ok (inside (after_blanks rest))) x e in
     let b = blanks_take bytes in
     let c = blanks_take w.0 in
     let found : Bool × List ℕ = inside (after_blanks w.0) in
     let inner : w.0 ≡ c.0 ++ opened found = c.2 ∙ ap (λ (t : List ℕ). c.0 ++ t) (inside_is (after_blanks w.0)) in
-    let word : after_blanks bytes ≡ 91 ∷ (c.0 ++ opened found) = word_takes (91 ∷ []) (after_blanks bytes) w.0 w.1 ∙ ap (λ (t : List ℕ). 91 ∷ t) inner in
-    subst (λ (y : Bool × List ℕ). (before between : List ℕ) × AreBlanks before × AreBlanks between × (bytes ≡ before ++ 91 ∷ (between ++ opened y))) {x = found} (ok_is found x w.2)
+    let word : after_blanks bytes ≡ OPENING_BRACKET ∷ (c.0 ++ opened found) = word_takes (OPENING_BRACKET ∷ []) (after_blanks bytes) w.0 w.1 ∙ ap (λ (t : List ℕ). OPENING_BRACKET ∷ t) inner in
+    subst (λ (y : Bool × List ℕ). (before between : List ℕ) × AreBlanks before × AreBlanks between × (bytes ≡ before ++ OPENING_BRACKET ∷ (between ++ opened y))) {x = found} (ok_is found x w.2)
     (b.0, c.0, b.1, c.1, b.2 ∙ ap (λ (t : List ℕ). b.0 ++ t) word)
 
-pub open_again : (before between rest : List ℕ) → AreBlanks before → AreBlanks between → after_blanks rest ≡ rest → open_at (before ++ 91 ∷ (between ++ rest)) ≡ Ok (inside rest)
+pub open_again : (before between rest : List ℕ) → AreBlanks before → AreBlanks between → after_blanks rest ≡ rest → open_at (before ++ OPENING_BRACKET ∷ (between ++ rest)) ≡ Ok (inside rest)
 unfolding open_at after_blanks word_at
 open_again before between rest spaces more begins =
     let inner : after_blanks (between ++ rest) ≡ rest = blanks_again between rest more ∙ begins in
-    rw (blanks_again before (91 ∷ (between ++ rest)) spaces, inner) refl
+    rw (blanks_again before (OPENING_BRACKET ∷ (between ++ rest)) spaces, inner) refl

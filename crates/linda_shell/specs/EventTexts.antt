@@ -4,6 +4,8 @@ use Rattle.std.specs.Fmt.{decimal}
 use Rattle.linda_event.specs.Trees.{Kind, input, read, alarm, always, never}
 use Rattle.linda_event.specs.Trees.{Tree, leaf, choose, wrap, nack, Trees, no_trees, and_tree}
 use Rattle.linda_text.specs.Grammar.{AreBlanks, IsAtomText, IsTemplateText, IsAlone}
+use Rattle.linda_text.specs.declared.marks.TheConstants.{COMMA}
+use Rattle.linda_shell.specs.declared.marks.TheConstants.{OPENING_BRACKET, CLOSING_BRACKET}
 use Rattle.linda_shell.specs.declared.keyword.Keyword.TheVariants as keywords
 use Rattle.linda_shell.specs.Words.{keyword_text, EndsWord}
 use Rattle.linda_shell.specs.Limits.{IsWithinEvent}
@@ -39,19 +41,20 @@ abbrev mutual
 
   -- The members of a choice between brackets.
   pub IsListText : Trees → List ℕ → Type 0
-  IsListText no_trees text = (blanks : List ℕ) × AreBlanks blanks × (text ≡ 91 ∷ (blanks ++ 93 ∷ []))
+  IsListText no_trees text =
+      (blanks : List ℕ) × AreBlanks blanks × (text ≡ OPENING_BRACKET ∷ (blanks ++ CLOSING_BRACKET ∷ []))
   IsListText (and_tree member others) text =
       (blanks first rest : List ℕ) × AreBlanks blanks
       × IsEventText member first × AreMore others rest
-      × (text ≡ 91 ∷ (blanks ++ (first ++ rest)))
+      × (text ≡ OPENING_BRACKET ∷ (blanks ++ (first ++ rest)))
 
   -- What stands behind a member: a comma and the next one, or the closing bracket.
   pub AreMore : Trees → List ℕ → Type 0
-  AreMore no_trees text = (blanks : List ℕ) × AreBlanks blanks × (text ≡ blanks ++ 93 ∷ [])
+  AreMore no_trees text = (blanks : List ℕ) × AreBlanks blanks × (text ≡ blanks ++ CLOSING_BRACKET ∷ [])
   AreMore (and_tree member others) text =
       (before between next rest : List ℕ) × AreBlanks before × AreBlanks between
       × IsEventText member next × AreMore others rest
-      × (text ≡ before ++ 44 ∷ (between ++ (next ++ rest)))
+      × (text ≡ before ++ COMMA ∷ (between ++ (next ++ rest)))
 
 -- An event within its limits is all there is, but for blanks.
 abbrev pub IsEventAlone : List ℕ → Tree → Type 0

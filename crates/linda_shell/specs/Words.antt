@@ -1,24 +1,28 @@
 -- The words that texts of events are made of, and how they are read.
 use Rattle.std.specs.Prelude.{◌≡◌, ℕ, suc, Bool, true, false, ◌==◌, if◌then◌else◌}
-use Rattle.std.specs.Prelude.{List, [], ◌∷◌, length, Option, Some, None, Result, Ok, Err}
+use Rattle.std.specs.Prelude.{List, [], ◌∷◌, length, Option, Some, None, Result, Ok, Err, codes}
 use Rattle.std.specs.Char.{is_ascii_alphanumeric}
 use Rattle.linda_text.specs.declared.fault.TextFault.{TextFault}
 use Rattle.linda_text.specs.Steps.{Reader, ◌>>=◌}
 use Rattle.linda_text.specs.declared.fault.TextFault.TheVariants.{SyntaxAt}
 use Rattle.linda_text.specs.Reading.{wrong, after_blanks, word_at, natural_at}
+use Rattle.linda_text.specs.declared.marks.TheConstants.{COMMA}
+use Rattle.linda_shell.specs.declared.marks.TheConstants.{OPENING_BRACKET, CLOSING_BRACKET}
+use Rattle.linda_shell.specs.declared.marks.TheConstants.{IN_LETTER, RD_LETTER, A_LETTER, N_LETTER}
+use Rattle.linda_shell.specs.declared.marks.TheConstants.{CHOOSE_LETTER, WRAP_LETTER, ALWAYS_LETTER, NACK_LETTER}
 use Rattle.linda_shell.specs.declared.keyword.Keyword.{Keyword}
 use Rattle.linda_shell.specs.declared.keyword.Keyword.TheVariants as keywords
 
 -- `in`, `rd`, `alarm`, `always`, `never`, `choose`, `wrap`, `nack`.
 abbrev pub keyword_text : Keyword → List ℕ
-keyword_text keywords.In = 105 ∷ 110 ∷ []
-keyword_text keywords.Rd = 114 ∷ 100 ∷ []
-keyword_text keywords.Alarm = 97 ∷ 108 ∷ 97 ∷ 114 ∷ 109 ∷ []
-keyword_text keywords.Always = 97 ∷ 108 ∷ 119 ∷ 97 ∷ 121 ∷ 115 ∷ []
-keyword_text keywords.Never = 110 ∷ 101 ∷ 118 ∷ 101 ∷ 114 ∷ []
-keyword_text keywords.Choose = 99 ∷ 104 ∷ 111 ∷ 111 ∷ 115 ∷ 101 ∷ []
-keyword_text keywords.Wrap = 119 ∷ 114 ∷ 97 ∷ 112 ∷ []
-keyword_text keywords.Nack = 110 ∷ 97 ∷ 99 ∷ 107 ∷ []
+keyword_text keywords.In = codes "in"
+keyword_text keywords.Rd = codes "rd"
+keyword_text keywords.Alarm = codes "alarm"
+keyword_text keywords.Always = codes "always"
+keyword_text keywords.Never = codes "never"
+keyword_text keywords.Choose = codes "choose"
+keyword_text keywords.Wrap = codes "wrap"
+keyword_text keywords.Nack = codes "nack"
 
 -- No letter or digit stands at the front: where one does, a keyword or a number before it runs on.
 abbrev pub EndsWord : List ℕ → Type 0
@@ -32,12 +36,12 @@ EndsWord (b ∷ rest) = is_ascii_alphanumeric b ≡ false
 abbrev pub is_always : List ℕ → Bool
 is_always [] = false
 is_always (b ∷ []) = false
-is_always (b ∷ c ∷ rest) = c == 119
+is_always (b ∷ c ∷ rest) = c == ALWAYS_LETTER
 
 -- Whether the second letter of what begins with `n` is that of `nack`.
 abbrev pub is_nack : List ℕ → Bool
 is_nack [] = false
-is_nack (b ∷ rest) = b == 97
+is_nack (b ∷ rest) = b == NACK_LETTER
 
 abbrev pub a_word : Bool → Keyword
 a_word true = keywords.Always
@@ -50,12 +54,12 @@ n_word false = keywords.Never
 unfoldable pub candidate : List ℕ → Option Keyword
 candidate [] = None
 candidate (b ∷ rest) =
-    if b == 105 then Some keywords.In
-    else (if b == 114 then Some keywords.Rd
-    else (if b == 97 then Some (a_word (is_always rest))
-    else (if b == 110 then Some (n_word (is_nack rest))
-    else (if b == 99 then Some keywords.Choose
-    else (if b == 119 then Some keywords.Wrap else None)))))
+    if b == IN_LETTER then Some keywords.In
+    else (if b == RD_LETTER then Some keywords.Rd
+    else (if b == A_LETTER then Some (a_word (is_always rest))
+    else (if b == N_LETTER then Some (n_word (is_nack rest))
+    else (if b == CHOOSE_LETTER then Some keywords.Choose
+    else (if b == WRAP_LETTER then Some keywords.Wrap else None)))))
 
 -- ---- reading
 
@@ -88,16 +92,17 @@ label_at bytes = do
 -- closing one.
 abbrev pub inside : List ℕ → Bool × List ℕ
 inside [] = (true, [])
-inside (b ∷ rest) = if b == 93 then (false, rest) else (true, b ∷ rest)
+inside (b ∷ rest) = if b == CLOSING_BRACKET then (false, rest) else (true, b ∷ rest)
 
 -- The opening bracket behind blanks, and whether members follow it.
 unfoldable pub open_at : Reader Bool
 open_at bytes = do
-  rest ← word_at (91 ∷ []) (after_blanks bytes)
+  rest ← word_at (OPENING_BRACKET ∷ []) (after_blanks bytes)
   Ok (inside (after_blanks rest))
 
 -- A comma, after which a member follows, or the closing bracket.
 unfoldable pub mark_at : Reader Bool
 mark_at [] = wrong []
 mark_at (b ∷ rest) =
-    if b == 44 then Ok (true, rest) else (if b == 93 then Ok (false, rest) else wrong (b ∷ rest))
+    if b == COMMA then Ok (true, rest)
+    else (if b == CLOSING_BRACKET then Ok (false, rest) else wrong (b ∷ rest))

@@ -5,6 +5,10 @@ ghost use Rattle.linda_text.specs.Steps.{GivesAlways};
 ghost use Rattle.linda_shell.specs.Words.{keyword_text, is_always, is_nack, a_word, n_word};
 ghost use Rattle.linda_shell.specs.Words.{candidate, keyword_at};
 
+use crate::marks::{
+    A_LETTER, ALWAYS_LETTER, CHOOSE_LETTER, IN_LETTER, N_LETTER, NACK_LETTER, RD_LETTER,
+    WRAP_LETTER,
+};
 use crate::token::end_word;
 use linda_text::{TextFault, skip_word};
 
@@ -60,12 +64,12 @@ fn candidate(bytes: &[u8]) -> Option<Keyword>
 {
     match bytes {
         [] => None,
-        [b'i', ..] => Some(Keyword::In),
-        [b'r', ..] => Some(Keyword::Rd),
-        [b'a', rest @ ..] => Some(a_word(rest)),
-        [b'n', rest @ ..] => Some(n_word(rest)),
-        [b'c', ..] => Some(Keyword::Choose),
-        [b'w', ..] => Some(Keyword::Wrap),
+        [IN_LETTER, ..] => Some(Keyword::In),
+        [RD_LETTER, ..] => Some(Keyword::Rd),
+        [A_LETTER, rest @ ..] => Some(a_word(rest)),
+        [N_LETTER, rest @ ..] => Some(n_word(rest)),
+        [CHOOSE_LETTER, ..] => Some(Keyword::Choose),
+        [WRAP_LETTER, ..] => Some(Keyword::Wrap),
         [_, ..] => None,
     }
 }
@@ -75,7 +79,7 @@ fn a_word(rest: &[u8]) -> Keyword
     ensures { result ≡ a_word (is_always rest.now) }
 {
     match rest {
-        [_, b'w', ..] => Keyword::Always,
+        [_, ALWAYS_LETTER, ..] => Keyword::Always,
         _ => Keyword::Alarm,
     }
 }
@@ -85,7 +89,7 @@ fn n_word(rest: &[u8]) -> Keyword
     ensures { result ≡ n_word (is_nack rest.now) }
 {
     match rest {
-        [b'a', ..] => Keyword::Nack,
+        [NACK_LETTER, ..] => Keyword::Nack,
         _ => Keyword::Never,
     }
 }

@@ -10,6 +10,7 @@ mod fault;
 mod keyword;
 mod laws;
 mod limits;
+mod marks;
 mod node;
 mod script;
 mod skipping;

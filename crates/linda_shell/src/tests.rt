@@ -4,3 +4,4 @@ mod events;
 mod faults;
 mod nested;
 mod scripts;
+mod worlds;

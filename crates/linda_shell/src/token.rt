@@ -5,7 +5,8 @@ ghost use Rattle.linda_text.specs.Steps.{GivesAlways};
 ghost use Rattle.linda_text.specs.Reading.{after_blanks};
 ghost use Rattle.linda_shell.specs.Words.{word_end, label_at, open_at, mark_at};
 
-use linda_text::{TextFault, skip_blanks, skip_word, split_number};
+use crate::marks::{CLOSING_BRACKET, OPENING_BRACKET};
+use linda_text::{COMMA, TextFault, skip_blanks, skip_word, split_number};
 
 /// The bytes, where no letter or digit stands at their front.
 #[tactic(auto, unfolding(crate::specs::Words::word_end))]
@@ -38,10 +39,10 @@ pub(crate) fn read_label(bytes: &[u8]) -> Result<(u64, &[u8]), TextFault>
 pub(crate) fn open_list(bytes: &[u8]) -> Result<(bool, &[u8]), TextFault>
     ensures { GivesAlways (λ x. (x.0, x.1.now)) result (open_at bytes.now) }
 {
-    let rest = skip_blanks(skip_word(skip_blanks(bytes), b"[")?);
+    let rest = skip_blanks(skip_word(skip_blanks(bytes), &[OPENING_BRACKET])?);
     match rest {
         [] => Ok((true, rest)),
-        [b']', behind @ ..] => Ok((false, behind)),
+        [CLOSING_BRACKET, behind @ ..] => Ok((false, behind)),
         [_, ..] => Ok((true, rest)),
     }
 }
@@ -54,8 +55,8 @@ pub(crate) fn read_mark(bytes: &[u8]) -> Result<(bool, &[u8]), TextFault>
     let rest = skip_blanks(bytes);
     match rest {
         [] => Err(TextFault::SyntaxAt(0)),
-        [b',', after @ ..] => Ok((true, after)),
-        [b']', after @ ..] => Ok((false, after)),
+        [COMMA, after @ ..] => Ok((true, after)),
+        [CLOSING_BRACKET, after @ ..] => Ok((false, after)),
         [_, ..] => Err(TextFault::SyntaxAt(rest.len())),
     }
 }

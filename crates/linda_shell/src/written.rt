@@ -5,6 +5,7 @@ ghost use Rattle.std.specs.Fmt.{decimal};
 ghost use Rattle.std.specs.String.{string_bytes};
 ghost use Rattle.linda_event.specs.Trees.{tree_of};
 ghost use Rattle.linda_text.specs.Written.{IsWrittenBehind};
+ghost use Rattle.linda_text.specs.declared.marks.TheConstants.{SPACE};
 ghost use Rattle.linda_shell.specs.Words.{keyword_text};
 ghost use Rattle.linda_shell.specs.Written.{written_event, written_comma};
 
@@ -71,7 +72,7 @@ fn push_event(out: &mut String, event: &Event) -> Result<(), AllocError>
 
 // A keyword and a blank.
 fn push_keyword(out: &mut String, keyword: Keyword) -> Result<(), AllocError>
-    ensures { OnOk result (IsWrittenBehind out.old out.new (keyword_text keyword ++ 32 ∷ [])) }
+    ensures { OnOk result (IsWrittenBehind out.old out.new (keyword_text keyword ++ SPACE ∷ [])) }
 {
     out.push_str(keyword.text())?;
     out.push_str(" ")
@@ -79,7 +80,7 @@ fn push_keyword(out: &mut String, keyword: Keyword) -> Result<(), AllocError>
 
 // A number and a blank.
 fn push_number(out: &mut String, number: u64) -> Result<(), AllocError>
-    ensures { OnOk result (IsWrittenBehind out.old out.new (decimal number ++ 32 ∷ [])) }
+    ensures { OnOk result (IsWrittenBehind out.old out.new (decimal number ++ SPACE ∷ [])) }
 {
     write!(out, "{number}")?;
     out.push_str(" ")

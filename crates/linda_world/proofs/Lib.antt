@@ -3,4 +3,3 @@ pub mod MemberLaws
 pub mod MessageLaws
 pub mod SceneLaws
 pub mod WorldLaws
-pub mod FrailLaws

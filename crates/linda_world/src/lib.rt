@@ -18,5 +18,3 @@ pub use fault::WorldFault;
 pub use linda_run::{Body, Packet, Seen, WorldEvent};
 pub use world::World;
 
-#[cfg(test)]
-mod tests;

@@ -1,109 +1,84 @@
-//! Events that are read, and the texts that are written of them.
+//! Events that are read, told by the one text that is written of each.
 
 use crate::{read_event, write_event};
-use linda_event::{Event, base_count};
-use linda_text::{read_template, write_atom};
 use std::alloc::Global;
-use std::test::*;
+use std::process::Abort;
+use std::test::Fail;
 
-// Whether the text is read as an input of the template.
-fn is_input(alloc: Global, text: &str, template: &str) -> Result<bool, Fail> {
-    let wanted = read_template(alloc, template)?;
+/// The text that is written of the event that is read.
+fn written_of(alloc: Global, text: &str) -> Result<String, Fail> {
     let event = read_event(alloc, text)?;
-    Ok(match &event {
-        Event::Input(found) => *found == wanted,
-        _ => false,
-    })
+    Ok(write_event(alloc, &event)?)
 }
 
-// Whether the text is read as a read of the template.
-fn is_read(alloc: Global, text: &str, template: &str) -> Result<bool, Fail> {
-    let wanted = read_template(alloc, template)?;
-    let event = read_event(alloc, text)?;
-    Ok(match &event {
-        Event::Read(found) => *found == wanted,
-        _ => false,
-    })
+/// Each first text is read as the event of which the second one is written.
+fn read_as(rt: &impl Abort, alloc: Global, rows: &[(&str, &str)]) -> Result<(), Fail> {
+    for (text, written) in rows {
+        assert_eq!(rt; written_of(alloc, text)?.as_str(), *written);
+    }
+    Ok(())
 }
+
+const BASES: [(&str, &str); 6] = [
+    ("in (\"a\", ?i)", "in (\"a\", ?i)"),
+    (" in(5,_) ", "in (5, _)"),
+    ("rd\t( true , ?s )", "rd (true, ?s)"),
+    ("alarm 7", "alarm 7"),
+    ("alarm \t0 ", "alarm 0"),
+    (" never\t", "never"),
+];
 
 #[test]
 fn each_kind_of_base_is_read(rt: HostRuntime) -> Result<(), Fail> {
-    let alloc = rt.alloc();
-    assert!(rt; is_input(alloc, "in (\"a\", ?i)", "(\"a\", ?i)")?);
-    assert!(rt; is_input(alloc, " in(5,_) ", "(5, _)")?);
-    assert!(rt; is_read(alloc, "rd\t( true , ?s )", "(true, ?s)")?);
-    assert!(rt; matches!(read_event(alloc, "alarm 7")?, Event::Alarm(7)));
-    assert!(rt; matches!(read_event(alloc, "alarm \t0 ")?, Event::Alarm(0)));
-    assert!(rt; matches!(read_event(alloc, " never\t")?, Event::Never));
-    Ok(())
+    read_as(&rt, rt.alloc(), &BASES)
 }
+
+const VALUES: [(&str, &str); 4] = [
+    ("always\"x\"", "always \"x\""),
+    ("always-1", "always -1"),
+    ("always 0", "always 0"),
+    (" always  \"\\t\" ", "always \"\\t\""),
+];
 
 #[test]
 fn no_blank_is_needed_before_a_mark(rt: HostRuntime) -> Result<(), Fail> {
-    let rows: [(&str, &str); 4] = [
-        ("always\"x\"", "\"x\""),
-        ("always-1", "-1"),
-        ("always 0", "0"),
-        (" always  \"\\t\" ", "\"\\t\""),
-    ];
-    for (text, written) in rows {
-        let is = match read_event(rt.alloc(), text)? {
-            Event::Always(value) => write_atom(rt.alloc(), &value)?.as_str() == written,
-            _ => false,
-        };
-        assert!(rt; is, "{text}");
-    }
-    Ok(())
+    read_as(&rt, rt.alloc(), &VALUES)
 }
 
-#[test]
-fn labels_and_nack_numbers_stand_above_an_event(rt: HostRuntime) -> Result<(), Fail> {
-    let is = match read_event(rt.alloc(), "wrap 0 nack 18446744073709551615 never")? {
-        Event::Wrap(0, below) => matches!(*below, Event::Nack(18446744073709551615, _)),
-        _ => false,
-    };
-    assert!(rt; is);
-    Ok(())
-}
+const NODES: [(&str, &str); 4] = [
+    (
+        "wrap 0 nack 18446744073709551615 never",
+        "wrap 0 nack 18446744073709551615 never",
+    ),
+    ("choose []", "choose []"),
+    ("choose [ choose[], never ]", "choose [choose [], never]"),
+    ("choose[ \t]", "choose []"),
+];
 
 #[test]
-fn a_choice_may_be_empty(rt: HostRuntime) -> Result<(), Fail> {
-    for (text, count) in [
-        ("choose []", 0),
-        ("choose [ choose[], never ]", 1),
-        ("choose[ \t]", 0),
-    ] {
-        assert_eq!(rt; base_count(&read_event(rt.alloc(), text)?), count, "{text}");
-    }
-    Ok(())
+fn labels_nack_numbers_and_choices_stand_above_events(rt: HostRuntime) -> Result<(), Fail> {
+    read_as(&rt, rt.alloc(), &NODES)
 }
+
+const WRITTEN: [(&str, &str); 9] = [
+    ("in(\"a\",?i,_,?s,?b,5)", "in (\"a\", ?i, _, ?s, ?b, 5)"),
+    (" rd\t( true ) ", "rd (true)"),
+    ("alarm  18446744073709551615", "alarm 18446744073709551615"),
+    ("always-1", "always -1"),
+    ("always\"\t\"", "always \"\\t\""),
+    ("choose[ ]", "choose []"),
+    (
+        "choose[never,alarm 0 ,never]",
+        "choose [never, alarm 0, never]",
+    ),
+    ("wrap 1  nack\t2 never", "wrap 1 nack 2 never"),
+    (
+        "choose [choose[never],wrap 3 choose [ ]]",
+        "choose [choose [never], wrap 3 choose []]",
+    ),
+];
 
 #[test]
 fn each_event_is_written_in_one_way(rt: HostRuntime) -> Result<(), Fail> {
-    let rows: [(&str, &str); 9] = [
-        ("in(\"a\",?i,_,?s,?b,5)", "in (\"a\", ?i, _, ?s, ?b, 5)"),
-        (" rd\t( true ) ", "rd (true)"),
-        ("alarm  18446744073709551615", "alarm 18446744073709551615"),
-        ("always-1", "always -1"),
-        ("always\"\t\"", "always \"\\t\""),
-        ("choose[ ]", "choose []"),
-        (
-            "choose[never,alarm 0 ,never]",
-            "choose [never, alarm 0, never]",
-        ),
-        ("wrap 1  nack\t2 never", "wrap 1 nack 2 never"),
-        (
-            "choose [choose[never],wrap 3 choose [ ]]",
-            "choose [choose [never], wrap 3 choose []]",
-        ),
-    ];
-    for (read, written) in rows {
-        let event = read_event(rt.alloc(), read)?;
-        assert_eq!(rt;
-            write_event(rt.alloc(), &event)?.as_str(),
-            written,
-            "{read}"
-        );
-    }
-    Ok(())
+    read_as(&rt, rt.alloc(), &WRITTEN)
 }

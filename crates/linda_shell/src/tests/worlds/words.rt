@@ -1,11 +1,9 @@
 //! What comes of an event, and what a world shows, in words.
 
-use crate::fault::WorldFault;
-use crate::world::World;
 use linda_client::{Got, Outcome};
-use linda_run::{Body, Packet, Seen};
 use linda_store::{Deed, Node};
 use linda_wire::{Message, Reply};
+use linda_world::{Body, Packet, Seen, World, WorldFault};
 use std::alloc::AllocError;
 
 /// What is told of an event: of a server that it served, or was full; of a client what it got; or why it is refused.
@@ -79,7 +77,7 @@ fn push_packet(out: &mut String, packet: &Packet) -> Result<(), AllocError> {
     }
 }
 
-fn push_message(out: &mut String, message: &Message) -> Result<(), AllocError> {
+pub(super) fn push_message(out: &mut String, message: &Message) -> Result<(), AllocError> {
     match message {
         Message::Hello { .. } => out.push_str("hello"),
         Message::Out { n, .. } => write!(out, "out {n}"),
