@@ -1,7 +1,9 @@
 //! Scripts for tests: what is done with a client and what comes of it, written as text.
 //!
-//! A line that says something is a call: `out TUPLE`, `sync EVENT`, `tick NOW`, `resend`, `reconnected SERVER`, `abandon`,
-//! or a reply behind the server that it comes from, as `1 offer 1 4 ("a", 3)`. The lines behind it tell all that comes of
+//! A line that says something is a call: `out TUPLE`, `sync EVENT`, `tick NOW`, `resend`, `reconnected SERVER`,
+//! `abandon`,
+//! or a reply behind the server that it comes from, as `1 offer 1 4 ("a", 3)`. The lines behind it tell all that
+//! comes of
 //! the call: packets behind the servers that they go to, and then the outcome, a server's fault or why the call is
 //! refused. An outcome is told as `linda run` prints it, but for the client; that of an event stands behind its base.
 

@@ -177,7 +177,8 @@ fn asks_and_cancels_in_the_tables_order(rt: HostRuntime) -> Result<(), Fail> {
     run_rows(&rt, rt.alloc(), "", ASKS)
 }
 
-/// Client 7 holds the tuples 3, 4 and 5, asked for in another order, and waits for the tuple 6 and for any. Then client 8
+/// Client 7 holds the tuples 3, 4 and 5, asked for in another order, and waits for the tuple 6 and for any. Then
+/// client 8
 /// waits for the tuple 5, client 9 for any, and client 8 for any.
 const BEFORE_A_CLOSE: &str = r#"
     puts 3 4 5

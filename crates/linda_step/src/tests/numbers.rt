@@ -4,7 +4,8 @@ use super::script::runs;
 use super::state::{SPENT, store_of_one};
 use std::test::Fail;
 
-/// What is to be seen; the last number of client 7 with the reply that is kept, and the next id; and the script. Where a
+/// What is to be seen; the last number of client 7 with the reply that is kept, and the next id; and the script.
+/// Where a
 /// thousand clients more passed, the book is full: it keeps 7 and 1,000 to 2,022.
 const ROWS: &[(&str, (u64, &str, u64), &str)] = &[
     (

@@ -23,7 +23,8 @@ const RUNS: &[Row] = &[
         > tuple 2 none
     "#,
     ),
-    // A tuple that is given up is offered to the next; its first holder's Accept finds it gone, and gets Gone again when it
+    // A tuple that is given up is offered to the next; its first holder's Accept finds it gone, and gets Gone again
+    // when it
     // repeats it, though it is offered the tuple anew; and then it takes it.
     (
         "an offer that is gone and one that is taken",

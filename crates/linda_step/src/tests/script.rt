@@ -1,9 +1,12 @@
 //! Scripts for tests: what clients say to a store, and what comes of it.
 //!
-//! A line says a message behind its client, as `7 out 1 ("a", 3)`, or `close 7`; it is told the deed, if there is one, and
-//! then each reply behind the client that it goes to. `tuple 1` is told what is kept under that id; `next`, `waiting` and
+//! A line says a message behind its client, as `7 out 1 ("a", 3)`, or `close 7`; it is told the deed, if there is
+//! one, and
+//! then each reply behind the client that it goes to. `tuple 1` is told what is kept under that id; `next`, `waiting`
+//! and
 //! `clients` are told the next id, how many requests wait, and how many clients are kept. Of what goes before a script
-//! nothing is told: `puts 3 4` lets client 7 put tuples of these fields, as its messages 1, 2, ..; `asks 64` lets client 8
+//! nothing is told: `puts 3 4` lets client 7 put tuples of these fields, as its messages 1, 2, ..; `asks 64` lets
+//! client 8
 //! ask by the tickets from 1 on, below this one, for the tuple 5, to take it by an odd ticket, else to read it;
 //! `passes 1000 2023` lets each client from the first on, below the second, accept what nobody offered it.
 
@@ -22,7 +25,8 @@ use std::test::Fail;
 /// What is to be seen, and the script.
 pub(super) type Row = (&'static str, &'static str);
 
-/// Plays each row, behind the lines that come before it, over a new store with the plain bag, and over one with the index.
+/// Plays each row, behind the lines that come before it, over a new store with the plain bag, and over one with the
+/// index.
 pub(super) fn run_rows(
     rt: &impl Abort,
     alloc: Global,

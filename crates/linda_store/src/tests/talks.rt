@@ -1,4 +1,5 @@
-//! Whole conversations with a volatile node, worked by hand: what a script says is the stream, and what it tells are the
+//! Whole conversations with a volatile node, worked by hand: what a script says is the stream, and what it tells are
+//! the
 //! replies.
 
 use super::pipe::{Pieces, Room};
@@ -17,7 +18,8 @@ type Peer = (usize, bool, usize);
 /// A reader and a writer that do not fail, in pieces of any size.
 const AT_ONCE: Peer = (10_000, false, 10_000);
 
-/// The node's conversation over what the script says ends so, and writes what the script tells, as far as there is room.
+/// The node's conversation over what the script says ends so, and writes what the script tells, as far as there is
+/// room.
 fn answers(
     rt: &impl Abort,
     alloc: Global,
