@@ -32,9 +32,9 @@ const OPENED: Row = [NEW, CLOSED, CLOSED, NEW, ODD];
 
 const SHUTS: Row = [SHUT, SHUT, SHUT, SHUT, SHUT];
 
-/// A device call of the disk on this side, from 0, inside which the machine stops: the right gate is laid, then the left
-/// one, then the body behind it, and then it is opened, each with a sync. What the left disk reads then, and the right
-/// one.
+/// A device call of the disk on this side, from 0, inside which the machine stops: the right gate is laid, then
+/// the left one, then the body behind it, and then it is opened, each with a sync. What the left disk reads then,
+/// and the right one.
 const STOPS: &[(Side, u64, Row, Row)] = &[
     (Side::Right, 0, NONE, GATE),
     (Side::Right, 1, NONE, GATE),
@@ -92,8 +92,8 @@ fn a_server_that_was_made_is_there(rt: HostRuntime) -> Result<(), Fail> {
     Ok(())
 }
 
-/// A call of the device on this side, from 0, that fails alone and changes nothing, the asking for its length first; and
-/// what the left disk reads then, and the right one.
+/// A call of the device on this side, from 0, that fails alone and changes nothing, the asking for its length
+/// first; and what the left disk reads then, and the right one.
 const FAILURES: &[(Side, u64, &[u8], &[u8])] = &[
     (Side::Left, 0, b"", b""),
     (Side::Right, 0, b"", b""),

@@ -20,8 +20,9 @@ const PUTS: &[(Do, Told)] = &[
 
 const ALL: Told = Told::State(301, 300, 1, 0);
 
-/// The bank of generation 2 with that state, whose snapshot has 79,837 bytes, 0x137dd: the next id, a count, 300 times an
-/// id, a kind, a length, 255 letters and a count of fields; a count, and client 7 with its number and its reply Stored.
+/// The bank of generation 2 with that state, whose snapshot has 79,837 bytes, 0x137dd: the next id, a count, 300
+/// times an id, a kind, a length, 255 letters and a count of fields; a count, and client 7 with its number and
+/// its reply Stored.
 fn bank_bytes(alloc: Global) -> Result<Vec<u8>, AllocError> {
     let mut out = Vec::from_slice(alloc, b"\x01LND1\0\0\0\0\0\0\0\x02\0\x01\x37\xdd")?;
     out.extend_from_slice(b"\0\0\0\0\0\0\x01\x2d\0\0\x01\x2c")?;
@@ -53,8 +54,8 @@ fn a_long_snapshot_is_spelled_in_one(rt: HostRuntime) -> Result<(), Fail> {
     Ok(())
 }
 
-/// The seven device calls of the snapshot, and none: the gate is closed, two pieces are written and synced, and the gate
-/// is opened. Whether the new bank is in use after each crash.
+/// The seven device calls of the snapshot, and none: the gate is closed, two pieces are written and synced, and
+/// the gate is opened. Whether the new bank is in use after each crash.
 const STOPS: &[(u64, [bool; 5])] = &[
     (0, [false, false, false, false, false]),
     (1, [false, false, false, false, false]),

@@ -5,8 +5,8 @@ use super::words::{EMPTY, NEW, ONE, SHUT, TORN, TWO, WITH_ONE};
 use crate::OpenFault;
 use std::test::Fail;
 
-/// A put whose last sync failed: what the left disk reads has the tuple, and its gate was not synced. The left device is
-/// asked six times by the opening, and the sync is the fourth call of the put.
+/// A put whose last sync failed: what the left disk reads has the tuple, and its gate was not synced. The left
+/// device is asked six times by the opening, and the sync is the fourth call of the put.
 const LOOSE: &[(Do, Told)] = &[
     (Do::Fail(Side::Left, 9), Told::Done),
     (Do::Open(100), EMPTY),
@@ -15,8 +15,8 @@ const LOOSE: &[(Do, Told)] = &[
     (Do::Reads(Side::Left, ONE), Told::Done),
 ];
 
-/// A sync of the opening, of the disk on this side, inside which the machine stops: the left one and the right one are
-/// synced, and the one that is chosen once more. Whether the tuple is there after each crash.
+/// A sync of the opening, of the disk on this side, inside which the machine stops: the left one and the right
+/// one are synced, and the one that is chosen once more. Whether the tuple is there after each crash.
 const STOPS: &[(Side, u64, [bool; 5])] = &[
     (Side::Left, 0, [true, false, false, true, false]),
     (Side::Right, 0, [true, true, true, true, true]),
@@ -59,8 +59,9 @@ fn what_was_opened_stays(rt: HostRuntime) -> Result<(), Fail> {
     Ok(())
 }
 
-/// Two disks that hold the same state, and how often the opening asks the left device and the right one: each for a
-/// sync, a length, and the front of a bank where there may be one; and the one that is chosen for all three once more.
+/// Two disks that hold the same state, and how often the opening asks the left device and the right one: each for
+/// a sync, a length, and the front of a bank where there may be one; and the one that is chosen for all three
+/// once more.
 const DISKS: &[(&[u8], &[u8], u64, u64)] = &[
     (ONE, SHUT, 6, 2),
     (ONE, TWO, 3, 6),
