@@ -2,6 +2,7 @@ pub mod Pairs
 pub mod Disks
 pub mod Served
 pub mod Calls
+pub mod Server
 pub mod Opening
 pub mod Node
 pub mod Reopening

@@ -8,9 +8,8 @@ ghost use Rattle.linda_disk.specs.Run.{LeavesOnly};
 ghost use Rattle.linda_journal.specs.Renewal.{IsNoBank, IsClosed, IsSameOrNone};
 ghost use Rattle.linda_snap.specs.Stands.{Stands};
 ghost use Rattle.linda_server.specs.Pairs.{PairsSince};
-ghost use Rattle.linda_server.specs.Disks.{both, AreHonest, failures};
+ghost use Rattle.linda_server.specs.Server.{both_of, BothHonest, failures_of, IsUpFor, IsKeptFor};
 ghost use Rattle.linda_server.specs.Disks.{is_there, is_ready, number_of};
-ghost use Rattle.linda_server.specs.Disks.{IsUpOn, IsKeptOn};
 ghost use Rattle.linda_server.specs.Switch.{IsOtherDurable, IsTrimmed};
 
 use crate::disks::{Disks, Pair};
@@ -29,24 +28,19 @@ pub(crate) fn clear<D: Disk>(disks: &mut Disks<Bank<D>, D>) -> Result<(), DiskFa
     requires durable { IsOtherDurable D.view D.honest disks.old }
     // At no moment crashes leave anything but the state, which is the same.
     ensures any_moment { (st : state.State)
-        → AreHonest (λ b. D.honest b.disk) D.honest disks.old
-        → IsUpOn (λ b. b.generation) (λ b. b.end) (λ b. D.view b.disk) D.view disks.old st
-        → PairsSince (both (λ b. D.view b.disk) D.view disks.old)
-        (both (λ b. D.view b.disk) D.view disks.new) (λ left right. Stands left right st) }
+        → BothHonest disks.old
+        → IsUpFor disks.old st
+        → PairsSince (both_of disks.old) (both_of disks.new) (λ left right. Stands left right st) }
     ensures kept { (st : state.State)
-        → IsKeptOn (λ b. b.generation) (λ b. b.end) (λ b. D.view b.disk) D.view
-        (λ b. D.honest b.disk) D.honest disks.old st
-        → OnOk result (IsKeptOn (λ b. b.generation) (λ b. b.end) (λ b. D.view b.disk) D.view
-        (λ b. D.honest b.disk) D.honest disks.new st) }
+        → IsKeptFor disks.old st
+        → OnOk result (IsKeptFor disks.new st) }
     ensures trimmed { OnOk result (IsTrimmed D.view D.honest disks.old disks.new) }
     ensures there { is_there disks.new ≡ true }
     ensures ready { is_ready (λ b. b.is_spent) disks.new ≡ true }
     ensures limit { number_of (λ b. b.limit) disks.new ≡ number_of (λ b. b.limit) disks.old }
-    ensures honest { AreHonest (λ b. D.honest b.disk) D.honest disks.old
-        ↔ AreHonest (λ b. D.honest b.disk) D.honest disks.new }
+    ensures honest { BothHonest disks.old ↔ BothHonest disks.new }
     ensures cause { IsErrOf result DiskFault.Device
-        → failures (λ b. D.failures b.disk) D.failures disks.old
-        < failures (λ b. D.failures b.disk) D.failures disks.new }
+        → failures_of disks.old < failures_of disks.new }
 {
     match mem::replace(disks, Disks::Away) {
         Disks::InUse(pair) => {

@@ -6,9 +6,8 @@ ghost use Rattle.linda_state.specs.State as state;
 ghost use Rattle.linda_step.specs.declared.size.TheConstants.{MAX_BATCH};
 ghost use Rattle.linda_server.specs.declared.limits.TheConstants.{RECORD_BYTES};
 ghost use Rattle.linda_server.specs.Pairs.{PairsSince};
-ghost use Rattle.linda_server.specs.Disks.{both, AreHonest, failures};
+ghost use Rattle.linda_server.specs.Server.{both_of, BothHonest, failures_of, IsUpFor, IsKeptFor};
 ghost use Rattle.linda_server.specs.Disks.{is_there, is_ready, number_of};
-ghost use Rattle.linda_server.specs.Disks.{IsUpOn, IsKeptOn};
 ghost use Rattle.linda_server.specs.Calls.{LeadTo, IsOldOrNew};
 
 use crate::disks::{Disks, Pair};
@@ -36,26 +35,21 @@ pub(crate) fn commit<D: Disk>(
         ≤ number_of (λ b. b.limit) disks.old }
     // At no moment crashes leave anything but the old state, or the one after all of these deeds;
     ensures any_moment { (st new : state.State)
-        → AreHonest (λ b. D.honest b.disk) D.honest disks.old
-        → IsUpOn (λ b. b.generation) (λ b. b.end) (λ b. D.view b.disk) D.view disks.old st
+        → BothHonest disks.old
+        → IsUpFor disks.old st
         → LeadTo st deeds.now new
-        → PairsSince (both (λ b. D.view b.disk) D.view disks.old)
-        (both (λ b. D.view b.disk) D.view disks.new) (IsOldOrNew st new) }
+        → PairsSince (both_of disks.old) (both_of disks.new) (IsOldOrNew st new) }
     // at Ok they leave the latter.
     ensures kept { (st new : state.State)
-        → IsKeptOn (λ b. b.generation) (λ b. b.end) (λ b. D.view b.disk) D.view
-        (λ b. D.honest b.disk) D.honest disks.old st
+        → IsKeptFor disks.old st
         → LeadTo st deeds.now new
-        → OnOk result (IsKeptOn (λ b. b.generation) (λ b. b.end) (λ b. D.view b.disk) D.view
-        (λ b. D.honest b.disk) D.honest disks.new new) }
+        → OnOk result (IsKeptFor disks.new new) }
     ensures there { is_there disks.old ≡ true → is_there disks.new ≡ true }
     ensures ready { OnOk result (is_ready (λ b. b.is_spent) disks.new ≡ true) }
     ensures limit { number_of (λ b. b.limit) disks.new ≡ number_of (λ b. b.limit) disks.old }
-    ensures honest { AreHonest (λ b. D.honest b.disk) D.honest disks.old
-        ↔ AreHonest (λ b. D.honest b.disk) D.honest disks.new }
+    ensures honest { BothHonest disks.old ↔ BothHonest disks.new }
     ensures cause { IsErrOf result ServeFault.Disk
-        → failures (λ b. D.failures b.disk) D.failures disks.old
-        < failures (λ b. D.failures b.disk) D.failures disks.new }
+        → failures_of disks.old < failures_of disks.new }
     ensures known { (IsErrOf result ServeFault.Full → ⊥) × (IsErrOf result ServeFault.Down → ⊥) }
 {
     if deeds.is_empty() {

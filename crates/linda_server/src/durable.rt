@@ -12,8 +12,9 @@ mod trim;
 ghost use Rattle.std.specs.Prelude.{◌≡◌, ◌≤◌, [], nat_le, true, false, Some};
 ghost use Rattle.linda_server.specs.declared.limits.TheConstants.{SNAPSHOT_RECORDS};
 ghost use Rattle.linda_server.specs.Pairs.{PairsNow};
-ghost use Rattle.linda_server.specs.Disks.{both, disks_of, AreHonest};
-ghost use Rattle.linda_server.specs.Disks.{is_there, is_ready, number_of, IsKeptOn};
+ghost use Rattle.linda_server.specs.Disks.{disks_of};
+ghost use Rattle.linda_server.specs.Server.{both_of, BothHonest, IsKeptFor, StandNow};
+ghost use Rattle.linda_server.specs.Disks.{is_there, is_ready, number_of};
 ghost use Rattle.linda_server.specs.Calls.{IsLimit, IsWithOrWithout};
 
 use crate::disks::Disks;
@@ -48,17 +49,15 @@ pub struct Durable<D: Disk> {
     ghost ready: { down ≡ false → is_ready (λ b. b.is_spent) disks ≡ true },
     ghost limited: { down ≡ false → number_of (λ b. b.limit) disks ≡ limit },
     ghost none_lost: { down ≡ false → lost.items ≡ [] },
-    ghost kept: { down ≡ false → ∥ IsKeptOn (λ b. b.generation) (λ b. b.end)
-        (λ b. D.view b.disk) D.view (λ b. D.honest b.disk) D.honest disks store.state ∥₁ },
-    ghost fallen: { down ≡ true → AreHonest (λ b. D.honest b.disk) D.honest disks
-        → PairsNow (both (λ b. D.view b.disk) D.view disks)
+    ghost kept: { down ≡ false → ∥ IsKeptFor disks store.state ∥₁ },
+    ghost fallen: { down ≡ true → BothHonest disks
+        → PairsNow (both_of disks)
         (IsWithOrWithout before.value lost.items) },
 }
 
 impl<D: Disk> Durable<D> {
     ghost use Rattle.linda_state.specs.State.{IsState};
     ghost use Rattle.linda_step.specs.Store.{IsOrderly};
-    ghost use Rattle.linda_server.specs.Calls.{StandsFor};
 
     /// What the server keeps, in its ranges.
     pub fn state(&self) -> &State<IndexBag>
@@ -87,9 +86,7 @@ impl<D: Disk> Durable<D> {
     pub fn is_down(&self) -> bool
         ensures down { result ≡ self.now.down }
         ensures orderly { IsOrderly self.now.store.state self.now.store.soft }
-        ensures stands { result ≡ false → AreHonest (λ b. D.honest b.disk) D.honest self.now.disks
-            → PairsNow (both (λ b. D.view b.disk) D.view self.now.disks)
-            (StandsFor self.now.store.state) }
+        ensures stands { result ≡ false → StandNow self.now.disks self.now.store.state }
     {
         let _ = self.store.is_spent();
         self.down

@@ -4,9 +4,8 @@ ghost use Rattle.std.specs.Prelude.{◌≡◌, ◌<◌, ◌^◌, ◌↔◌, ◌�
 ghost use Rattle.linda_state.specs.State.{IsState};
 ghost use Rattle.linda_snap.specs.Stands.{Stands};
 ghost use Rattle.linda_server.specs.Pairs.{PairsSince};
-ghost use Rattle.linda_server.specs.Disks.{both, AreHonest, failures};
+ghost use Rattle.linda_server.specs.Server.{both_of, BothHonest, failures_of, IsUpFor, IsKeptFor};
 ghost use Rattle.linda_server.specs.Disks.{is_there, is_ready, number_of};
-ghost use Rattle.linda_server.specs.Disks.{IsUpOn, IsKeptOn};
 ghost use Rattle.linda_server.specs.Switch.{HasNoNext, IsOtherDurable, IsSwitched};
 
 use crate::disks::{Disks, Pair};
@@ -36,15 +35,12 @@ pub(crate) fn renew<B: Bag, D: Disk>(
     requires short { number_of (λ b. b.limit) disks.old < 2 ^ 32 }
     requires durable { IsOtherDurable D.view D.honest disks.old }
     // At no moment crashes leave anything but the state;
-    ensures any_moment { AreHonest (λ b. D.honest b.disk) D.honest disks.old
-        → IsUpOn (λ b. b.generation) (λ b. b.end) (λ b. D.view b.disk) D.view disks.old state.now
-        → PairsSince (both (λ b. D.view b.disk) D.view disks.old)
-        (both (λ b. D.view b.disk) D.view disks.new) (λ left right. Stands left right state.now) }
+    ensures any_moment { BothHonest disks.old
+        → IsUpFor disks.old state.now
+        → PairsSince (both_of disks.old) (both_of disks.new) (λ left right. Stands left right state.now) }
     // at Ok the new bank is in use, and stands for it.
-    ensures kept { IsKeptOn (λ b. b.generation) (λ b. b.end) (λ b. D.view b.disk) D.view
-        (λ b. D.honest b.disk) D.honest disks.old state.now
-        → OnOk result (IsKeptOn (λ b. b.generation) (λ b. b.end) (λ b. D.view b.disk) D.view
-        (λ b. D.honest b.disk) D.honest disks.new state.now) }
+    ensures kept { IsKeptFor disks.old state.now
+        → OnOk result (IsKeptFor disks.new state.now) }
     ensures switched { OnOk result (IsSwitched (λ b. b.generation) (λ b. b.records) (λ b. b.disk)
         disks.old disks.new) }
     ensures there { is_there disks.new ≡ true }
@@ -57,11 +53,9 @@ pub(crate) fn renew<B: Bag, D: Disk>(
         (number_of (λ b. b.generation) disks.old) }
     ensures room { OnOk result (HasNoNext state.now (number_of (λ b. b.limit) disks.old)
         (number_of (λ b. b.generation) disks.old) → ⊥) }
-    ensures honest { AreHonest (λ b. D.honest b.disk) D.honest disks.old
-        ↔ AreHonest (λ b. D.honest b.disk) D.honest disks.new }
+    ensures honest { BothHonest disks.old ↔ BothHonest disks.new }
     ensures cause { IsErrOf result ServeFault.Disk
-        → failures (λ b. D.failures b.disk) D.failures disks.old
-        < failures (λ b. D.failures b.disk) D.failures disks.new }
+        → failures_of disks.old < failures_of disks.new }
     ensures known { IsErrOf result ServeFault.Down → ⊥ }
 {
     match mem::replace(disks, Disks::Away) {

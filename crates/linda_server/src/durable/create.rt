@@ -16,9 +16,9 @@ impl<D: Disk> Durable<D> {
     ghost use Rattle.std.specs.Prelude.{◌<◌, ◌↔◌, [], false, length, IfOk, IfErr};
     ghost use Rattle.linda_state.specs.State.{empty_state};
     ghost use Rattle.linda_step.specs.Soft.{no_asks};
-    ghost use Rattle.linda_server.specs.Pairs.{PairsSince, PairsNow, two, IsVoid};
-    ghost use Rattle.linda_server.specs.Disks.{both, AreHonest};
-    ghost use Rattle.linda_server.specs.Calls.{IsNothingOr, StandsFor, IsLimit};
+    ghost use Rattle.linda_server.specs.Pairs.{PairsSince, two, IsVoid};
+    ghost use Rattle.linda_server.specs.Server.{both_of, BothHonest, StandNow};
+    ghost use Rattle.linda_server.specs.Calls.{IsNothingOr, IsLimit};
 
     /// Makes a server that was never used on two empty disks: a closed gate on the right one, and
     /// on the left one a new bank of generation 1 with a snapshot of the empty state.
@@ -38,12 +38,11 @@ impl<D: Disk> Durable<D> {
         ensures any_moment { D.honest left → D.honest right → IsVoid (D.view left)
             → IsVoid (D.view right)
             → IfOk result (λ s. PairsSince (two (D.view left) (D.view right))
-            (both (λ b. D.view b.disk) D.view s.disks) (IsNothingOr empty_state))
+            (both_of s.disks) (IsNothingOr empty_state))
             × IfErr result (λ e. PairsSince (two (D.view left) (D.view right))
             (two (D.view e.1) (D.view e.2)) (IsNothingOr empty_state)) }
         // at Ok they leave the empty state now.
-        ensures now { IfOk result (λ s. AreHonest (λ b. D.honest b.disk) D.honest s.disks
-            → PairsNow (both (λ b. D.view b.disk) D.view s.disks) (StandsFor empty_state)) }
+        ensures now { IfOk result (λ s. StandNow s.disks empty_state) }
         ensures new { IfOk result (λ s. (s.store
             ≡ record { state = empty_state; soft = no_asks; is_spent = false })
             × (s.limit ≡ limit) × (s.down ≡ false)) }
@@ -54,8 +53,7 @@ impl<D: Disk> Durable<D> {
             × IfErr result (λ e. e.0 ≡ OpenFault.NotEmpty
             → (0 < length (D.view left).seen) ⊎ (0 < length (D.view right).seen)) }
         ensures known { IfErr result (λ e. e.0 ≡ OpenFault.NoStore → ⊥) }
-        ensures honest { IfOk result (λ s. (D.honest left × D.honest right)
-            ↔ AreHonest (λ b. D.honest b.disk) D.honest s.disks)
+        ensures honest { IfOk result (λ s. (D.honest left × D.honest right) ↔ BothHonest s.disks)
             × IfErr result (λ e. (D.honest left × D.honest right)
             ↔ (D.honest e.1 × D.honest e.2)) }
         ensures cause { IfErr result (λ e. e.0 ≡ OpenFault.Disk

@@ -1,7 +1,7 @@
 //! A call that is cut off, and the server coming back on what its disks read.
 
 ghost use Rattle.std.specs.Prelude.{◌≡◌, [], true, false, IfOk, OnOk, OnErr, IsErrOf};
-ghost use Rattle.linda_server.specs.Disks.{AreHonest};
+ghost use Rattle.linda_server.specs.Server.{BothHonest};
 ghost use Rattle.linda_server.specs.Reopening.{has_done, IsReopened};
 
 use super::Durable;
@@ -64,7 +64,7 @@ impl<D: Disk> Durable<D> {
     /// `Down` where it could not be opened: it is down as before.
     pub(super) fn come_back(&mut self, alloc: Global) -> Result<Vec<Deed>, NodeFault>
         requires { self.old.down ≡ true }
-        ensures opened { AreHonest (λ b. D.honest b.disk) D.honest self.old.disks
+        ensures opened { BothHonest self.old.disks
             → IfOk result (λ deeds. IsReopened self.old.before.value self.old.lost.items
             deeds.items self.new.store) }
         ensures up { OnOk result (self.new.down ≡ false) }

@@ -2,7 +2,8 @@
 
 ghost use Rattle.std.specs.Prelude.{◌≡◌, ◌∷◌, [], ◌≤◌, ◌↔◌, true, false, length};
 ghost use Rattle.std.specs.Prelude.{IfOk, OnOk, OnErr, IsErrOf};
-ghost use Rattle.linda_server.specs.Disks.{both, AreHonest, number_of};
+ghost use Rattle.linda_server.specs.Disks.{number_of};
+ghost use Rattle.linda_server.specs.Server.{BothHonest, AlwaysLeave, StandNow};
 
 use super::Durable;
 use crate::fault::node_fault;
@@ -16,7 +17,6 @@ impl<D: Disk> Durable<D> {
     ghost use Rattle.linda_step.specs.declared.size.TheConstants.{MAX_BATCH};
     ghost use Rattle.linda_step.specs.History.{says, leaves, comings};
     ghost use Rattle.linda_store.specs.Node.{MayRemain};
-    ghost use Rattle.linda_server.specs.Pairs.{PairsSince, PairsNow};
     ghost use Rattle.linda_server.specs.Calls.{IsBeforeOrAfter, StandsFor, HasHandled, HasNoRoom};
     ghost use Rattle.linda_server.specs.Node.{shown};
 
@@ -34,15 +34,11 @@ impl<D: Disk> Durable<D> {
         message: &Message,
     ) -> Result<Vec<(u32, Reply)>, NodeFault>
         ensures any_moment { self.old.down ≡ false
-            → AreHonest (λ b. D.honest b.disk) D.honest self.old.disks
-            → PairsSince (both (λ b. D.view b.disk) D.view self.old.disks)
-            (both (λ b. D.view b.disk) D.view self.new.disks)
+            → AlwaysLeave self.old.disks self.new.disks
             (IsBeforeOrAfter self.old.store (says client message.now ∷ [])) }
         ensures done { IfOk result (λ sends. HasHandled self.old.store
             (says client message.now ∷ []) sends.items self.new.store) }
-        ensures now { OnOk result (AreHonest (λ b. D.honest b.disk) D.honest self.new.disks
-            → PairsNow (both (λ b. D.view b.disk) D.view self.new.disks)
-            (StandsFor self.new.store.state)) }
+        ensures now { OnOk result (StandNow self.new.disks self.new.store.state) }
         ensures up { OnOk result ((self.old.down ≡ false) × (self.new.down ≡ false)) }
         ensures full { IsErrOf result NodeFault.Full → (self.new ≡ self.old)
             × HasNoRoom self.old.store ((client, message.now) ∷ [])
@@ -52,8 +48,7 @@ impl<D: Disk> Durable<D> {
         ensures down { IsErrOf result NodeFault.Down → self.new.down ≡ true }
         ensures stays_down { self.old.down ≡ true
             → IsErrOf result NodeFault.Down × (self.new ≡ self.old) }
-        ensures honest { AreHonest (λ b. D.honest b.disk) D.honest self.old.disks
-            ↔ AreHonest (λ b. D.honest b.disk) D.honest self.new.disks }
+        ensures honest { BothHonest self.old.disks ↔ BothHonest self.new.disks }
         ensures limit { self.new.limit ≡ self.old.limit }
         ensures lost { self.old.down ≡ false → self.new.down ≡ true → MayRemain
             (shown self.old.before.value self.old.store self.old.down self.old.lost.items)
@@ -80,15 +75,11 @@ impl<D: Disk> Durable<D> {
     ) -> Result<Vec<(u32, Reply)>, NodeFault>
         requires { length messages.now ≤ MAX_BATCH }
         ensures any_moment { self.old.down ≡ false
-            → AreHonest (λ b. D.honest b.disk) D.honest self.old.disks
-            → PairsSince (both (λ b. D.view b.disk) D.view self.old.disks)
-            (both (λ b. D.view b.disk) D.view self.new.disks)
+            → AlwaysLeave self.old.disks self.new.disks
             (IsBeforeOrAfter self.old.store (comings messages.now)) }
         ensures done { IfOk result (λ sends. HasHandled self.old.store (comings messages.now)
             sends.items self.new.store) }
-        ensures now { OnOk result (AreHonest (λ b. D.honest b.disk) D.honest self.new.disks
-            → PairsNow (both (λ b. D.view b.disk) D.view self.new.disks)
-            (StandsFor self.new.store.state)) }
+        ensures now { OnOk result (StandNow self.new.disks self.new.store.state) }
         ensures up { OnOk result ((self.old.down ≡ false) × (self.new.down ≡ false)) }
         ensures full { IsErrOf result NodeFault.Full → (self.new ≡ self.old)
             × HasNoRoom self.old.store messages.now
@@ -98,8 +89,7 @@ impl<D: Disk> Durable<D> {
         ensures down { IsErrOf result NodeFault.Down → self.new.down ≡ true }
         ensures stays_down { self.old.down ≡ true
             → IsErrOf result NodeFault.Down × (self.new ≡ self.old) }
-        ensures honest { AreHonest (λ b. D.honest b.disk) D.honest self.old.disks
-            ↔ AreHonest (λ b. D.honest b.disk) D.honest self.new.disks }
+        ensures honest { BothHonest self.old.disks ↔ BothHonest self.new.disks }
         ensures limit { self.new.limit ≡ self.old.limit }
         ensures lost { self.old.down ≡ false → self.new.down ≡ true → MayRemain
             (shown self.old.before.value self.old.store self.old.down self.old.lost.items)
@@ -120,9 +110,7 @@ impl<D: Disk> Durable<D> {
     /// `Down` where it was down, and then nothing changed; or memory ran out: the server is down.
     pub fn close(&mut self, alloc: Global, client: u32) -> Result<Vec<(u32, Reply)>, NodeFault>
         ensures any_moment { self.old.down ≡ false
-            → AreHonest (λ b. D.honest b.disk) D.honest self.old.disks
-            → PairsSince (both (λ b. D.view b.disk) D.view self.old.disks)
-            (both (λ b. D.view b.disk) D.view self.new.disks) (StandsFor self.old.store.state) }
+            → AlwaysLeave self.old.disks self.new.disks (StandsFor self.old.store.state) }
         ensures done { IfOk result (λ sends.
             record { sends = sends.items; soft = self.new.store.soft }
             ≡ on_close self.old.store.state.bag client self.old.store.soft) }

@@ -19,9 +19,9 @@ impl<D: Disk> Durable<D> {
     ghost use Rattle.linda_step.specs.Soft.{no_asks};
     ghost use Rattle.linda_disk.specs.Run.{LeavesOnly};
     ghost use Rattle.linda_snap.specs.Stands.{Stands};
-    ghost use Rattle.linda_server.specs.Pairs.{PairsNow, LeavesNoOther, two};
-    ghost use Rattle.linda_server.specs.Disks.{both, AreHonest};
-    ghost use Rattle.linda_server.specs.Calls.{StandsFor, IsLimit};
+    ghost use Rattle.linda_server.specs.Pairs.{LeavesNoOther, two};
+    ghost use Rattle.linda_server.specs.Server.{both_of, BothHonest, StandNow};
+    ghost use Rattle.linda_server.specs.Calls.{IsLimit};
     ghost use Rattle.linda_server.specs.Opening.{IsOpenFault};
 
     /// Opens the server that two disks hold: its state is the one that stands on them, nothing is
@@ -41,8 +41,7 @@ impl<D: Disk> Durable<D> {
         ensures found { D.honest left → D.honest right → IfOk result (λ s.
             Stands (D.view left).seen (D.view right).seen s.store.state) }
         // and crashes leave that now.
-        ensures now { IfOk result (λ s. AreHonest (λ b. D.honest b.disk) D.honest s.disks
-            → PairsNow (both (λ b. D.view b.disk) D.view s.disks) (StandsFor s.store.state)) }
+        ensures now { IfOk result (λ s. StandNow s.disks s.store.state) }
         ensures new { IfOk result (λ s. (s.store.soft ≡ no_asks) × (s.limit ≡ limit)
             × (s.down ≡ false)) }
         // Where a state stands, that one is opened, or a device failed, or memory ran out.
@@ -57,11 +56,10 @@ impl<D: Disk> Durable<D> {
         // At no moment a crash leaves of a disk what it could not leave at entry.
         ensures any_moment { D.honest left → D.honest right
             → IfOk result (λ s. LeavesNoOther (two (D.view left) (D.view right))
-            (both (λ b. D.view b.disk) D.view s.disks))
+            (both_of s.disks))
             × IfErr result (λ e. LeavesNoOther (two (D.view left) (D.view right))
             (two (D.view e.1) (D.view e.2))) }
-        ensures honest { IfOk result (λ s. (D.honest left × D.honest right)
-            ↔ AreHonest (λ b. D.honest b.disk) D.honest s.disks)
+        ensures honest { IfOk result (λ s. (D.honest left × D.honest right) ↔ BothHonest s.disks)
             × IfErr result (λ e. (D.honest left × D.honest right)
             ↔ (D.honest e.1 × D.honest e.2)) }
         ensures cause { IfErr result (λ e. e.0 ≡ OpenFault.Disk

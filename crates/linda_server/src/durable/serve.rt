@@ -3,8 +3,8 @@
 ghost use Rattle.std.specs.Prelude.{◌≡◌, ◌∷◌, [], ◌<◌, ◌≤◌, ◌+◌, ◌^◌, ◌⊎◌, ◌↔◌};
 ghost use Rattle.std.specs.Prelude.{true, false, length, IfOk, OnOk, OnErr, IsErrOf};
 ghost use Rattle.linda_server.specs.declared.limits.TheConstants.{RECORD_BYTES};
-ghost use Rattle.linda_server.specs.Disks.{both, AreHonest, failures};
-ghost use Rattle.linda_server.specs.Disks.{is_ready, number_of, IsKeptOn};
+ghost use Rattle.linda_server.specs.Server.{BothHonest, failures_of, IsKeptFor, AlwaysLeave, StandNow};
+ghost use Rattle.linda_server.specs.Disks.{is_ready, number_of};
 
 use super::Durable;
 use crate::commit::commit;
@@ -23,10 +23,9 @@ impl<D: Disk> Durable<D> {
     ghost use Rattle.linda_step.specs.declared.size.TheConstants.{MAX_BATCH};
     ghost use Rattle.linda_step.specs.History.{says, comings};
     ghost use Rattle.linda_store.specs.Node.{MayRemain};
-    ghost use Rattle.linda_server.specs.Pairs.{PairsSince, PairsNow};
     ghost use Rattle.linda_server.specs.Served.{IsServed};
     ghost use Rattle.linda_server.specs.Calls.{LeadTo, IsEither};
-    ghost use Rattle.linda_server.specs.Calls.{IsBeforeOrAfter, StandsFor, HasNoRoom};
+    ghost use Rattle.linda_server.specs.Calls.{IsBeforeOrAfter, HasNoRoom};
     ghost use Rattle.linda_server.specs.Node.{shown};
 
     /// Does what the messages ask, one after another, each of its client, and tells for each of
@@ -45,16 +44,12 @@ impl<D: Disk> Durable<D> {
         requires { length messages.now ≤ MAX_BATCH }
         // At no moment crashes leave anything but the state of before, or the one after all deeds;
         ensures any_moment { self.old.down ≡ false
-            → AreHonest (λ b. D.honest b.disk) D.honest self.old.disks
-            → PairsSince (both (λ b. D.view b.disk) D.view self.old.disks)
-            (both (λ b. D.view b.disk) D.view self.new.disks)
+            → AlwaysLeave self.old.disks self.new.disks
             (IsBeforeOrAfter self.old.store (comings messages.now)) }
         // at Ok it did what they ask, and crashes now leave the state after that.
         ensures done { IfOk result (λ served. IsServed self.old.store.state self.old.store.soft
             messages.now served self.new.store.state self.new.store.soft) }
-        ensures now { OnOk result (AreHonest (λ b. D.honest b.disk) D.honest self.new.disks
-            → PairsNow (both (λ b. D.view b.disk) D.view self.new.disks)
-            (StandsFor self.new.store.state)) }
+        ensures now { OnOk result (StandNow self.new.disks self.new.store.state) }
         ensures up { OnOk result ((self.old.down ≡ false) × (self.new.down ≡ false)) }
         // It is Full exactly where the record of the deeds, and the gate behind it, would pass the
         // limit; nothing changed then.
@@ -70,10 +65,8 @@ impl<D: Disk> Durable<D> {
         ensures goes_down { (IsErrOf result ServeFault.Disk → self.new.down ≡ true)
             × (IsErrOf result ServeFault.Memory → self.new.down ≡ true) }
         ensures cause { IsErrOf result ServeFault.Disk
-            → failures (λ b. D.failures b.disk) D.failures self.old.disks
-            < failures (λ b. D.failures b.disk) D.failures self.new.disks }
-        ensures honest { AreHonest (λ b. D.honest b.disk) D.honest self.old.disks
-            ↔ AreHonest (λ b. D.honest b.disk) D.honest self.new.disks }
+            → failures_of self.old.disks < failures_of self.new.disks }
+        ensures honest { BothHonest self.old.disks ↔ BothHonest self.new.disks }
         ensures limit { self.new.limit ≡ self.old.limit }
         // In the call in which it goes down, some first deeds of what came may be done.
         ensures lost { self.old.down ≡ false → self.new.down ≡ true → MayRemain
@@ -103,15 +96,11 @@ impl<D: Disk> Durable<D> {
         message: &Message,
     ) -> Result<Served, ServeFault>
         ensures any_moment { self.old.down ≡ false
-            → AreHonest (λ b. D.honest b.disk) D.honest self.old.disks
-            → PairsSince (both (λ b. D.view b.disk) D.view self.old.disks)
-            (both (λ b. D.view b.disk) D.view self.new.disks)
+            → AlwaysLeave self.old.disks self.new.disks
             (IsBeforeOrAfter self.old.store (says client message.now ∷ [])) }
         ensures done { IfOk result (λ served. IsServed self.old.store.state self.old.store.soft
             ((client, message.now) ∷ []) served self.new.store.state self.new.store.soft) }
-        ensures now { OnOk result (AreHonest (λ b. D.honest b.disk) D.honest self.new.disks
-            → PairsNow (both (λ b. D.view b.disk) D.view self.new.disks)
-            (StandsFor self.new.store.state)) }
+        ensures now { OnOk result (StandNow self.new.disks self.new.store.state) }
         ensures up { OnOk result ((self.old.down ≡ false) × (self.new.down ≡ false)) }
         ensures full { IsErrOf result ServeFault.Full → (self.new ≡ self.old)
             × HasNoRoom self.old.store ((client, message.now) ∷ [])
@@ -123,10 +112,8 @@ impl<D: Disk> Durable<D> {
         ensures goes_down { (IsErrOf result ServeFault.Disk → self.new.down ≡ true)
             × (IsErrOf result ServeFault.Memory → self.new.down ≡ true) }
         ensures cause { IsErrOf result ServeFault.Disk
-            → failures (λ b. D.failures b.disk) D.failures self.old.disks
-            < failures (λ b. D.failures b.disk) D.failures self.new.disks }
-        ensures honest { AreHonest (λ b. D.honest b.disk) D.honest self.old.disks
-            ↔ AreHonest (λ b. D.honest b.disk) D.honest self.new.disks }
+            → failures_of self.old.disks < failures_of self.new.disks }
+        ensures honest { BothHonest self.old.disks ↔ BothHonest self.new.disks }
         ensures limit { self.new.limit ≡ self.old.limit }
         // In the call in which it goes down, some first deeds of what came may be done.
         ensures lost { self.old.down ≡ false → self.new.down ≡ true → MayRemain
@@ -175,9 +162,7 @@ impl<D: Disk> Durable<D> {
         ensures ranges { IsState self.new.store.state }
         ensures ready { is_ready (λ b. b.is_spent) self.new.disks ≡ true }
         ensures limited { number_of (λ b. b.limit) self.new.disks ≡ self.new.limit }
-        ensures kept { ∥ IsKeptOn (λ b. b.generation) (λ b. b.end)
-            (λ b. D.view b.disk) D.view (λ b. D.honest b.disk) D.honest
-            self.new.disks self.old.store.state ∥₁ }
+        ensures kept { ∥ IsKeptFor self.new.disks self.old.store.state ∥₁ }
     {
         self.before = Snapshot::of(self.store.state());
         self.down = true;
@@ -191,17 +176,13 @@ impl<D: Disk> Durable<D> {
         requires ranges { IsState self.old.before.value }
         requires ready { is_ready (λ b. b.is_spent) self.old.disks ≡ true }
         requires limited { number_of (λ b. b.limit) self.old.disks ≡ self.old.limit }
-        requires kept { ∥ IsKeptOn (λ b. b.generation) (λ b. b.end)
-            (λ b. D.view b.disk) D.view (λ b. D.honest b.disk) D.honest
-            self.old.disks self.old.before.value ∥₁ }
+        requires kept { ∥ IsKeptFor self.old.disks self.old.before.value ∥₁ }
         requires leads { LeadTo self.old.before.value served.deeds.items self.old.store.state }
         requires few { length served.deeds.items ≤ MAX_BATCH }
         requires room { 0 < length served.deeds.items
             → number_of (λ b. b.end) self.old.disks + RECORD_BYTES
             + length (payload served.deeds.items) ≤ self.old.limit }
-        ensures any_moment { AreHonest (λ b. D.honest b.disk) D.honest self.old.disks
-            → PairsSince (both (λ b. D.view b.disk) D.view self.old.disks)
-            (both (λ b. D.view b.disk) D.view self.new.disks)
+        ensures any_moment { AlwaysLeave self.old.disks self.new.disks
             (IsEither self.old.before.value self.old.store.state) }
         ensures done { IfOk result (λ s. s ≡ served) }
         ensures up { OnOk result (self.new.down ≡ false) }
@@ -212,10 +193,8 @@ impl<D: Disk> Durable<D> {
         ensures same { (self.new.store ≡ self.old.store) × (self.new.limit ≡ self.old.limit)
             × (self.new.before.value ≡ self.old.before.value) }
         ensures cause { IsErrOf result ServeFault.Disk
-            → failures (λ b. D.failures b.disk) D.failures self.old.disks
-            < failures (λ b. D.failures b.disk) D.failures self.new.disks }
-        ensures honest { AreHonest (λ b. D.honest b.disk) D.honest self.old.disks
-            ↔ AreHonest (λ b. D.honest b.disk) D.honest self.new.disks }
+            → failures_of self.old.disks < failures_of self.new.disks }
+        ensures honest { BothHonest self.old.disks ↔ BothHonest self.new.disks }
     {
         match commit(&mut self.disks, alloc, &served.deeds) {
             Ok(()) => {

@@ -1,7 +1,8 @@
 //! A snapshot: the state in few bytes, on the disk that was not in use.
 
 ghost use Rattle.std.specs.Prelude.{◌≡◌, [], ◌<◌, ◌↔◌, true, false, OnOk, IsErrOf};
-ghost use Rattle.linda_server.specs.Disks.{both, AreHonest, failures, number_of};
+ghost use Rattle.linda_server.specs.Disks.{number_of};
+ghost use Rattle.linda_server.specs.Server.{BothHonest, failures_of, AlwaysLeave, StandNow};
 
 use super::Durable;
 use crate::fault::{ServeFault, node_fault};
@@ -12,7 +13,6 @@ use std::alloc::Global;
 use std::snapshot::Snapshot;
 
 impl<D: Disk> Durable<D> {
-    ghost use Rattle.linda_server.specs.Pairs.{PairsSince, PairsNow};
     ghost use Rattle.linda_server.specs.Calls.{StandsFor};
     ghost use Rattle.linda_server.specs.Switch.{HasNoNext, IsSwitched};
 
@@ -27,12 +27,8 @@ impl<D: Disk> Durable<D> {
     pub fn renew(&mut self, alloc: Global) -> Result<(), ServeFault>
         // At no moment crashes leave anything but the state.
         ensures any_moment { self.old.down ≡ false
-            → AreHonest (λ b. D.honest b.disk) D.honest self.old.disks
-            → PairsSince (both (λ b. D.view b.disk) D.view self.old.disks)
-            (both (λ b. D.view b.disk) D.view self.new.disks) (StandsFor self.old.store.state) }
-        ensures now { OnOk result (AreHonest (λ b. D.honest b.disk) D.honest self.new.disks
-            → PairsNow (both (λ b. D.view b.disk) D.view self.new.disks)
-            (StandsFor self.new.store.state)) }
+            → AlwaysLeave self.old.disks self.new.disks (StandsFor self.old.store.state) }
+        ensures now { OnOk result (StandNow self.new.disks self.new.store.state) }
         // At Ok the other disk holds the bank in use, of the next generation and without a record.
         ensures switched { OnOk result (IsSwitched (λ b. b.generation) (λ b. b.records)
             (λ b. b.disk) self.old.disks self.new.disks) }
@@ -51,13 +47,11 @@ impl<D: Disk> Durable<D> {
         ensures goes_down { (IsErrOf result ServeFault.Disk → self.new.down ≡ true)
             × (IsErrOf result ServeFault.Memory → self.new.down ≡ true) }
         ensures cause { IsErrOf result ServeFault.Disk
-            → failures (λ b. D.failures b.disk) D.failures self.old.disks
-            < failures (λ b. D.failures b.disk) D.failures self.new.disks }
+            → failures_of self.old.disks < failures_of self.new.disks }
         // Nothing is done in the call in which it goes down.
         ensures lost { self.old.down ≡ false → self.new.down ≡ true
             → (self.new.before.value ≡ self.old.store.state) × (self.new.lost.items ≡ []) }
-        ensures honest { AreHonest (λ b. D.honest b.disk) D.honest self.old.disks
-            ↔ AreHonest (λ b. D.honest b.disk) D.honest self.new.disks }
+        ensures honest { BothHonest self.old.disks ↔ BothHonest self.new.disks }
     {
         if self.down {
             return Err(ServeFault::Down);
@@ -84,12 +78,8 @@ impl<D: Disk> Durable<D> {
     pub fn snapshot(&mut self, alloc: Global) -> Result<(), NodeFault>
         // At no moment crashes leave anything but the state.
         ensures any_moment { self.old.down ≡ false
-            → AreHonest (λ b. D.honest b.disk) D.honest self.old.disks
-            → PairsSince (both (λ b. D.view b.disk) D.view self.old.disks)
-            (both (λ b. D.view b.disk) D.view self.new.disks) (StandsFor self.old.store.state) }
-        ensures now { OnOk result (AreHonest (λ b. D.honest b.disk) D.honest self.new.disks
-            → PairsNow (both (λ b. D.view b.disk) D.view self.new.disks)
-            (StandsFor self.new.store.state)) }
+            → AlwaysLeave self.old.disks self.new.disks (StandsFor self.old.store.state) }
+        ensures now { OnOk result (StandNow self.new.disks self.new.store.state) }
         // At Ok the other disk holds the bank in use, of the next generation and without a record.
         ensures switched { OnOk result (IsSwitched (λ b. b.generation) (λ b. b.records)
             (λ b. b.disk) self.old.disks self.new.disks) }
@@ -107,8 +97,7 @@ impl<D: Disk> Durable<D> {
         // Nothing is done in the call in which it goes down.
         ensures lost { self.old.down ≡ false → self.new.down ≡ true
             → (self.new.before.value ≡ self.old.store.state) × (self.new.lost.items ≡ []) }
-        ensures honest { AreHonest (λ b. D.honest b.disk) D.honest self.old.disks
-            ↔ AreHonest (λ b. D.honest b.disk) D.honest self.new.disks }
+        ensures honest { BothHonest self.old.disks ↔ BothHonest self.new.disks }
     {
         match self.renew(alloc) {
             Ok(()) => Ok(()),

@@ -1,7 +1,7 @@
 //! Giving back the room of the bank that was in use before the last snapshot.
 
 ghost use Rattle.std.specs.Prelude.{◌≡◌, [], ◌<◌, ◌↔◌, true, false, OnOk, IsErrOf};
-ghost use Rattle.linda_server.specs.Disks.{both, AreHonest, failures};
+ghost use Rattle.linda_server.specs.Server.{BothHonest, failures_of, AlwaysLeave, StandNow};
 
 use super::Durable;
 use crate::clearing::clear;
@@ -11,7 +11,6 @@ use linda_store::NodeFault;
 use std::snapshot::Snapshot;
 
 impl<D: Disk> Durable<D> {
-    ghost use Rattle.linda_server.specs.Pairs.{PairsSince, PairsNow};
     ghost use Rattle.linda_server.specs.Calls.{StandsFor};
     ghost use Rattle.linda_server.specs.Switch.{IsTrimmed};
 
@@ -25,12 +24,8 @@ impl<D: Disk> Durable<D> {
     pub fn clear(&mut self) -> Result<(), ServeFault>
         // At no moment crashes leave anything but the state.
         ensures any_moment { self.old.down ≡ false
-            → AreHonest (λ b. D.honest b.disk) D.honest self.old.disks
-            → PairsSince (both (λ b. D.view b.disk) D.view self.old.disks)
-            (both (λ b. D.view b.disk) D.view self.new.disks) (StandsFor self.old.store.state) }
-        ensures now { OnOk result (AreHonest (λ b. D.honest b.disk) D.honest self.new.disks
-            → PairsNow (both (λ b. D.view b.disk) D.view self.new.disks)
-            (StandsFor self.new.store.state)) }
+            → AlwaysLeave self.old.disks self.new.disks (StandsFor self.old.store.state) }
+        ensures now { OnOk result (StandNow self.new.disks self.new.store.state) }
         // At Ok the bank in use is as it was, and one byte is left of the other disk.
         ensures trimmed { OnOk result (IsTrimmed D.view D.honest self.old.disks self.new.disks) }
         ensures same { (self.new.store ≡ self.old.store) × (self.new.limit ≡ self.old.limit) }
@@ -42,14 +37,12 @@ impl<D: Disk> Durable<D> {
         ensures goes_down { (IsErrOf result ServeFault.Disk → self.new.down ≡ true)
             × (IsErrOf result ServeFault.Memory → self.new.down ≡ true) }
         ensures cause { IsErrOf result ServeFault.Disk
-            → failures (λ b. D.failures b.disk) D.failures self.old.disks
-            < failures (λ b. D.failures b.disk) D.failures self.new.disks }
+            → failures_of self.old.disks < failures_of self.new.disks }
         ensures never_full { IsErrOf result ServeFault.Full → ⊥ }
         // Nothing is done in the call in which it goes down.
         ensures lost { self.old.down ≡ false → self.new.down ≡ true
             → (self.new.before.value ≡ self.old.store.state) × (self.new.lost.items ≡ []) }
-        ensures honest { AreHonest (λ b. D.honest b.disk) D.honest self.old.disks
-            ↔ AreHonest (λ b. D.honest b.disk) D.honest self.new.disks }
+        ensures honest { BothHonest self.old.disks ↔ BothHonest self.new.disks }
     {
         if self.down {
             return Err(ServeFault::Down);
@@ -73,12 +66,8 @@ impl<D: Disk> Durable<D> {
     pub fn trim(&mut self) -> Result<(), NodeFault>
         // At no moment crashes leave anything but the state.
         ensures any_moment { self.old.down ≡ false
-            → AreHonest (λ b. D.honest b.disk) D.honest self.old.disks
-            → PairsSince (both (λ b. D.view b.disk) D.view self.old.disks)
-            (both (λ b. D.view b.disk) D.view self.new.disks) (StandsFor self.old.store.state) }
-        ensures now { OnOk result (AreHonest (λ b. D.honest b.disk) D.honest self.new.disks
-            → PairsNow (both (λ b. D.view b.disk) D.view self.new.disks)
-            (StandsFor self.new.store.state)) }
+            → AlwaysLeave self.old.disks self.new.disks (StandsFor self.old.store.state) }
+        ensures now { OnOk result (StandNow self.new.disks self.new.store.state) }
         // At Ok the bank in use is as it was, and one byte is left of the other disk.
         ensures trimmed { OnOk result (IsTrimmed D.view D.honest self.old.disks self.new.disks) }
         ensures same { (self.new.store ≡ self.old.store) × (self.new.limit ≡ self.old.limit) }
@@ -90,8 +79,7 @@ impl<D: Disk> Durable<D> {
         // Nothing is done in the call in which it goes down.
         ensures lost { self.old.down ≡ false → self.new.down ≡ true
             → (self.new.before.value ≡ self.old.store.state) × (self.new.lost.items ≡ []) }
-        ensures honest { AreHonest (λ b. D.honest b.disk) D.honest self.old.disks
-            ↔ AreHonest (λ b. D.honest b.disk) D.honest self.new.disks }
+        ensures honest { BothHonest self.old.disks ↔ BothHonest self.new.disks }
     {
         match self.clear() {
             Ok(()) => Ok(()),
