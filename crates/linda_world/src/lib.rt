@@ -17,4 +17,3 @@ mod world;
 pub use fault::WorldFault;
 pub use linda_run::{Body, Packet, Seen, WorldEvent};
 pub use world::World;
-
