@@ -2,8 +2,8 @@
 """Times a durable server on two files and on two disks in memory, beside a plain loop over a file.
 
 It proves and builds `main.rt.txt` (so named since the gate reads each `.rt` file) over the crates of this repository, in a folder of its own.
-A record of one put or of 64 is written and synced in four device calls, two of them data syncs; the plain loop writes as many bytes and
-syncs as often, and no more. A time is the least of five runs. The ratio is the plain loop's time to the server's; it fails where
+A record of one put or of 64, and then of as many takes, is written and synced in four device calls, two of them data syncs; the plain loop
+writes as many bytes and syncs as often, and no more. A time is the least of five runs. The ratio is the plain loop's time to the server's; it fails where
 that is below 0.8 on files. Then the server with 1,000,000 tuples writes a snapshot and is opened again, with the memory that took.
 
 `run.py PROGRAM [FOLDER]` runs a program that is built already; the files are made in FOLDER (the folder for temporary files, if none).
@@ -18,8 +18,9 @@ import tempfile
 
 RUNS = 5
 RECORDS = {1: 1_000, 64: 500}
-# the deed of ("job", i) and what a record has beside its deeds: the gate, four bytes of length
-DEED, FRAME = 28, 5
+# the bytes of a deed, of ("job", i) put and of a tuple taken, and what a record has beside its deeds: the gate, four bytes of length
+DEEDS = {"put": 28, "take": 21}
+FRAME = 5
 TUPLES = 1_000_000
 LEAST_RATIO = 0.8
 HERE = os.path.dirname(os.path.abspath(__file__))
@@ -56,8 +57,9 @@ def empty(folder, name):
 
 
 def least(words, folder, names):
-    """The least time of some runs, each with new files of these names in place of the words with those names."""
-    return min(told([empty(folder, word) if word in names else word for word in words])[0] for _ in range(RUNS))
+    """The least times of some runs, each with new files of these names in place of the words with those names."""
+    runs = [told([empty(folder, word) if word in names else word for word in words]) for _ in range(RUNS)]
+    return [min(times) / 1000 for times in zip(*runs)]
 
 
 def main():
@@ -71,17 +73,17 @@ def main():
 
 
 def compare(program, folder):
-    print("| messages a record | server on files, a record | plain loop, a record | ratio | server in memory, a record |")
-    print("|---|---|---|---|---|")
+    print("| messages a record | what | server on files, a record | plain loop, a record | ratio | server in memory, a record |")
+    print("|---|---|---|---|---|---|")
     worst = None
     for batch, records in RECORDS.items():
-        size = FRAME + DEED * batch
-        file = least([program, "file", "left", "right", str(batch), str(records)], folder, ("left", "right")) / records / 1000
-        plain = least([program, "plain", "plain.file", str(size), str(records)], folder, ("plain.file",)) / records / 1000
-        memory = least([program, "memory", str(batch), str(records)], folder, ()) / records / 1000
-        ratio = plain / file
-        worst = ratio if worst is None else min(worst, ratio)
-        print(f"| {batch} | {file:.1f} us | {plain:.1f} us | {ratio:.2f} | {memory:.1f} us |")
+        files = least([program, "file", "left", "right", str(batch), str(records)], folder, ("left", "right"))
+        memory = least([program, "memory", str(batch), str(records)], folder, ())
+        for (what, deed), on_files, in_memory in zip(DEEDS.items(), files, memory):
+            [plain] = least([program, "plain", "plain.file", str(FRAME + deed * batch), str(records)], folder, ("plain.file",))
+            ratio = plain / on_files
+            worst = ratio if worst is None else min(worst, ratio)
+            print(f"| {batch} | {what} | {on_files / records:.1f} us | {plain / records:.1f} us | {ratio:.2f} | {in_memory / records:.1f} us |")
     return worst
 
 
