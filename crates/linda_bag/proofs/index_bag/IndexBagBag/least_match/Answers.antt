@@ -47,18 +47,18 @@ pub returns-in-Many-clause-least : goal.returns-in-Many-clause-least
 returns-in-Many-clause-least c =
     IfSome_then c.least_free.result (rw c.self.view_is at c.least_free.ensures.least) (λ id least. λ k below free.
     least k below
-    (many_free c.args.template.now (tree.get nat_cmp c.self.inside.tuples) c.args.self.now (contains nat_cmp c.args.passed.now)
+    (rw c.deref.ensures (many_free c.args.template.now (tree.get nat_cmp c.self.inside.tuples) c.args.self.now (contains nat_cmp c.args.passed.now)
     (viewed c.self.inside.tuples c.args.self.now c.self.view_is)
     c.in_ok-id.field-0.now (c.in_ok-id.ensures (tree.get nat_cmp c.self.inside.tuples) c.self.invariant).0
-    c.in-Many.ids c.in-Many.is k free)
+    c.in-Many.ids c.in-Many.is k free))
     free)
 
 pub returns-in-Many-clause-none : goal.returns-in-Many-clause-none
 returns-in-Many-clause-none c =
     IfNone_then c.least_free.result (rw c.self.view_is at c.least_free.ensures.none) (λ none. λ k free.
     none k
-    (many_free c.args.template.now (tree.get nat_cmp c.self.inside.tuples) c.args.self.now (contains nat_cmp c.args.passed.now)
+    (rw c.deref.ensures (many_free c.args.template.now (tree.get nat_cmp c.self.inside.tuples) c.args.self.now (contains nat_cmp c.args.passed.now)
     (viewed c.self.inside.tuples c.args.self.now c.self.view_is)
     c.in_ok-id.field-0.now (c.in_ok-id.ensures (tree.get nat_cmp c.self.inside.tuples) c.self.invariant).0
-    c.in-Many.ids c.in-Many.is k free)
+    c.in-Many.ids c.in-Many.is k free))
     free)
