@@ -3,3 +3,4 @@ pub mod Filing
 pub mod Heads
 pub mod Ids
 pub mod Candidates
+pub mod Firsts

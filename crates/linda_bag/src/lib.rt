@@ -14,6 +14,7 @@
 mod bags;
 mod by_id;
 mod filing;
+mod firsts;
 mod heads;
 mod ids;
 mod index;
