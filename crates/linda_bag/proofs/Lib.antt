@@ -1,5 +1,5 @@
 pub mod Maps
-pub mod Viewed
+pub mod Unboxed
 pub mod Refiling
 pub mod Ordered
 pub mod Bare

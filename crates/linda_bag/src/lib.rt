@@ -20,6 +20,7 @@ mod ids;
 mod index;
 mod index_bag;
 mod lists;
+mod tuples;
 
 pub use bags::Bag;
 pub use filing::{Key, Shelf, refile, unfile};
