@@ -1,7 +1,9 @@
 -- What an index has, beside the tree that keeps the tuples, once both were changed or neither.
-use Rattle.std.proofs.Common.{◌≡◌, ℕ, ◌==◌, Bool, true, false, cond, Option, Some, None, refl, sym, ap, subst, ◌∙◌, nat_cmp}
+use Rattle.std.proofs.Common.{◌≡◌, ℕ, ◌==◌, Bool, true, false, cond, Option, Some, None, refl, sym, ap, subst, ◌∙◌, nat_cmp, BTreeMap}
 use Rattle.std.specs.Ordering.{is_eq}
 use Rattle.std.specs.Cmp.{nat_cmp_total, eq_by_cmp_equiv, unsigned_ties}
+use Rattle.std.specs.Map.{lookup}
+use Rattle.std.specs.BTreeMap as tree
 use Rattle.std.specs.FinMap.{FinMap, get, insert, remove}
 use Rattle.linda_bag.specs.Filing.{Rows, with_row, Refiles}
 use Rattle.linda_bag.proofs.Refiling.{same_row, same_rows}
@@ -42,3 +44,7 @@ module _ {T : Type 0} (old new : FinMap nat_cmp T) (id : ℕ) where
 
   pub rows_gone : new ≡ remove old id → (q : ℕ) → get new q ≡ cond (is_eq (nat_cmp id q)) None (get old q)
   rows_gone is q = ap (λ m. get m q) is ∙ get_removed old id q ∙ ap (λ b. cond b None (get old q)) (told id q)
+
+-- Trees with the same entries have the same rows.
+pub same_rows_as : {T : Type 0} (Has : Rows T → Type 0) (old new : BTreeMap ℕ T) → new.entries ≡ old.entries → Has (tree.get nat_cmp old) → Has (tree.get nat_cmp new)
+same_rows_as Has old new same = subst Has (λ j. λ q. lookup (tree.is_at (nat_cmp q)) (sym same j))

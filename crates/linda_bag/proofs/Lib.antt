@@ -1,4 +1,5 @@
 pub mod Maps
+pub mod Viewed
 pub mod Unboxed
 pub mod Refiling
 pub mod Ordered
