@@ -1,5 +1,6 @@
 pub mod Maps
 pub mod Viewed
+pub mod Unboxed
 pub mod Refiling
 pub mod Ordered
 pub mod Bare

@@ -79,16 +79,22 @@ module _ {X : Type 0} where
   sorted_tested (e ∷ es) sorted = both_hold _ _ (below_tested e.0 es sorted.0) (sorted_tested es sorted.1)
 
   -- The map of a tree's entries has those entries, in their order, and so as many as the tree.
+  sorted_entries : (es : List (ℕ × X)) → IsStrictlySortedBy nat_cmp (keys_of es) → entries (from_entries {R = nat_cmp} es) ≡ es
+  sorted_entries es ordered =
+      let sorted = sorted_tested es ordered in
+      let same : from_entries {R = nat_cmp} es ≡ from_sorted es = same_map _ _ (λ q. get-from_entries nat_cmp_total es q ∙ sym (get-from_sorted nat_cmp es q sorted)) in
+      ap entries same ∙ entries-from_sorted nat_cmp es sorted
+
+  pub len_sorted : (es : List (ℕ × X)) → IsStrictlySortedBy nat_cmp (keys_of es) → len (from_entries {R = nat_cmp} es) ≡ length es
+  len_sorted es ordered = len-entries _ ∙ ap length (sorted_entries es ordered)
+
   pub same_entries : (t : BTreeMap ℕ X) → tree.IsOrdered nat_cmp t → entries (from_entries {R = nat_cmp} t.entries) ≡ t.entries
-  same_entries t ordered =
-      let sorted = sorted_tested t.entries ordered in
-      let same : from_entries {R = nat_cmp} t.entries ≡ from_sorted t.entries = same_map _ _ (λ q. get-from_entries nat_cmp_total t.entries q ∙ sym (get-from_sorted nat_cmp t.entries q sorted)) in
-      ap entries same ∙ entries-from_sorted nat_cmp t.entries sorted
+  same_entries t ordered = sorted_entries t.entries ordered
 
   pub len_entries : (t : BTreeMap ℕ X) → tree.IsOrdered nat_cmp t → len (from_entries {R = nat_cmp} t.entries) ≡ btree_map_len t
-  len_entries t ordered = len-entries _ ∙ ap length (same_entries t ordered)
+  len_entries t ordered = len_sorted t.entries ordered
 
-  find_is_lookup : (k : ℕ) (es : List (ℕ × X)) → find nat_cmp k es ≡ lookup (eq_by_cmp nat_cmp k) es
+  pub find_is_lookup : (k : ℕ) (es : List (ℕ × X)) → find nat_cmp k es ≡ lookup (eq_by_cmp nat_cmp k) es
   find_is_lookup k [] = refl
   find_is_lookup k (e ∷ es) = ap (cond (eq_by_cmp nat_cmp k e.0) (Some e.1)) (find_is_lookup k es)
 

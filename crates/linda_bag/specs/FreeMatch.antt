@@ -15,5 +15,5 @@ pub record IsFreeMatch (bag : FinMap nat_cmp Tuple) (shape : Template) (passed :
   pub free : passed id ≡ false
 
 -- the finite map that a tree stands for
-abbrev pub rows_of : BTreeMap ℕ Tuple → FinMap nat_cmp Tuple
+abbrev pub rows_of : {T : Type 0} → BTreeMap ℕ T → FinMap nat_cmp T
 rows_of tree = from_entries tree.entries

@@ -11,7 +11,7 @@ use Rattle.linda_bag.specs.Filing.{Rows}
 abbrev pub has_id : Ids → ℕ → Bool
 has_id ids.Nothing id = false
 has_id (ids.One only) id = is_eq (nat_cmp id only)
-has_id (ids.Many many) id = contains nat_cmp many id
+has_id (ids.Many many) id = contains nat_cmp many.value id
 
 -- The set has the ids of the rows, and no others.
 abbrev pub IsOf : {T : Type 0} → Ids → Rows T → Type 0

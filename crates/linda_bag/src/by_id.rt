@@ -26,13 +26,13 @@ pub(crate) fn is_free_match(
 
 /// The least id of the tree that is not below `id`.
 #[tactic(auto, using(crate::proofs::Maps::get_is_lookup))]
-pub(crate) fn next_id(tuples: &BTreeMap<u64, Tuple>, id: u64) -> Option<u64>
-    ensures found { IfSome result (λ next. IsSome (map.get (rows_of tuples.now) next)) }
+pub(crate) fn next_id<T>(rows: &BTreeMap<u64, T>, id: u64) -> Option<u64>
+    ensures found { IfSome result (λ next. IsSome (map.get (rows_of rows.now) next)) }
     ensures above { IfSome result (λ next. id ≤ next) }
     ensures least { IfSome result (λ next. (k : ℕ) → id ≤ k → k < next
-        → map.get (rows_of tuples.now) k ≡ None) }
-    ensures none { IfNone result ((k : ℕ) → id ≤ k → map.get (rows_of tuples.now) k ≡ None) }
+        → map.get (rows_of rows.now) k ≡ None) }
+    ensures none { IfNone result ((k : ℕ) → id ≤ k → map.get (rows_of rows.now) k ≡ None) }
 {
-    let (next, _) = tuples.range(id..).next()?;
+    let (next, _) = rows.range(id..).next()?;
     Some(*next)
 }

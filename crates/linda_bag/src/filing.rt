@@ -26,6 +26,12 @@ impl Key for Atom {
     }
 }
 
+impl Key for i64 {
+    fn copy(&self, _alloc: Global) -> Result<i64, AllocError> {
+        Ok(*self)
+    }
+}
+
 impl Key for u32 {
     fn copy(&self, _alloc: Global) -> Result<u32, AllocError> {
         Ok(*self)
@@ -120,9 +126,7 @@ pub fn refile<'a, K: Key, T, S: Shelf<T>>(
         id (place old.entry) (place old.entry)) }
 {
     let Some((key, row)) = new else {
-        if let Some((old_key, old_row)) = old {
-            unfile(shelves, id, old_key, old_row);
-        }
+        unfile_if_any(shelves, id, old);
         return Ok(());
     };
     let Some((old_key, old_row)) = old else {
@@ -166,6 +170,19 @@ pub fn unfile<K: Key, T, S: Shelf<T>>(shelves: &mut BTreeMap<K, S>, id: u64, key
     ensures { RefilesBy K.cmp S.has shelves.old shelves.new id (Some (key.now, row.now)) None }
 {
     take(shelves, id, key, row);
+}
+
+/// Takes out the id, which is filed by `old`, where it is filed at all. Takes no memory.
+pub(crate) fn unfile_if_any<'a, K: Key, T, S: Shelf<T>>(
+    shelves: &mut BTreeMap<K, S>,
+    id: u64,
+    old: Option<(&'a K, &'a T)>,
+)
+    ensures { RefilesBy K.cmp S.has shelves.old shelves.new id (place old.entry) None }
+{
+    if let Some((key, row)) = old {
+        unfile(shelves, id, key, row);
+    }
 }
 
 // Takes the id from the shelf under the key, and that shelf away where it is empty then.

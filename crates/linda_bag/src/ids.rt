@@ -10,12 +10,13 @@ use crate::filing::Shelf;
 use std::alloc::{AllocError, Global};
 use std::collections::BTreeSet;
 
-/// A set of ids.
+/// A set of ids. It is as small as it can be, since one stands under each key: so several are behind a
+/// box.
 #[derive(Drop)]
 pub(crate) enum Ids {
     Nothing,
     One(u64),
-    Many(BTreeSet<u64>),
+    Many(Box<BTreeSet<u64>>),
 }
 
 impl<T> Shelf<T> for Ids {
@@ -78,11 +79,11 @@ impl<T> Shelf<T> for Ids {
 }
 
 // The set of both ids.
-fn pair(alloc: Global, one: u64, other: u64) -> Result<BTreeSet<u64>, AllocError>
-    ensures { IfOk result (HasPair one other) }
+fn pair(alloc: Global, one: u64, other: u64) -> Result<Box<BTreeSet<u64>>, AllocError>
+    ensures { IfOk result (λ both. HasPair one other both.value) }
 {
     let mut both = BTreeSet::new(alloc);
     both.insert(one)?;
     both.insert(other)?;
-    Ok(both)
+    Ok(Box::new(alloc, both)?)
 }

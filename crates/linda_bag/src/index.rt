@@ -3,16 +3,17 @@
 
 ghost use Rattle.std.specs.Prelude.{◌≡◌, Some};
 ghost use Rattle.std.specs.Option.{option_copied};
-ghost use Rattle.linda_bag.specs.Filing.{FindsShelf, IsShelved, IsFiled, place, placed};
+ghost use Rattle.linda_bag.specs.Filing.{FindsShelf, IsShelved};
 ghost use Rattle.linda_bag.specs.Ids.{IsOf};
-ghost use Rattle.linda_bag.specs.Candidates.{first_of, first_value, with_first, candidates};
+ghost use Rattle.linda_bag.specs.Candidates.{first_value, with_first, candidates};
+ghost use Rattle.linda_bag.specs.Firsts.{HasFirsts};
 
-use crate::filing::{Shelf, refile, unfile};
+use crate::filing::Shelf;
+use crate::firsts::Firsts;
 use crate::heads::{Heads, alike};
 use crate::ids::Ids;
 use linda_tuple::{Atom, Pattern, Template, Tuple};
 use std::alloc::{AllocError, Global};
-use std::collections::BTreeMap;
 
 /// The ids of the tuples of a bag, by head.
 pub(crate) type Index = Heads<Group>;
@@ -22,7 +23,7 @@ pub(crate) type Index = Heads<Group>;
 #[derive(Drop)]
 pub(crate) struct Group {
     ids: Ids,
-    by_first: BTreeMap<Atom, Ids>,
+    firsts: Firsts,
 }
 
 /// The ids of the tuples that have the template's tag, as many fields as it has patterns and, where
@@ -43,20 +44,19 @@ impl Group {
             (with_first (option_copied first.entry)) (option_copied result) }
     {
         match first {
-            Some(first) => self.by_first.get(first),
+            Some(first) => self.firsts.get(first),
             None => Some(&self.ids),
         }
     }
 }
 
 impl Shelf<Tuple> for Group {
-    ghost has = { λ g rows. IsOf g.ids rows
-        × IsFiled (⟦<Atom as Ord>⟧.cmp) IsOf first_of g.by_first rows };
+    ghost has = { λ g rows. IsOf g.ids rows × HasFirsts g.firsts rows };
 
     fn empty(alloc: Global) -> Group {
         Group {
             ids: Shelf::<Tuple>::empty(alloc),
-            by_first: BTreeMap::new(alloc),
+            firsts: Firsts::empty(alloc),
         }
     }
 
@@ -68,13 +68,7 @@ impl Shelf<Tuple> for Group {
         new: &'a Tuple,
     ) -> Result<(), AllocError> {
         self.ids.put(alloc, id, old, new)?;
-        match refile(
-            &mut self.by_first,
-            alloc,
-            id,
-            first_place(old),
-            first_place(Some(new)),
-        ) {
+        match self.firsts.put(alloc, id, old, new) {
             Ok(()) => Ok(()),
             Err(error) => {
                 if old.is_none() {
@@ -87,22 +81,12 @@ impl Shelf<Tuple> for Group {
 
     fn remove(&mut self, id: u64, tuple: &Tuple) {
         self.ids.remove(id, tuple);
-        if let Some(first) = tuple.fields().first() {
-            unfile(&mut self.by_first, id, first, tuple);
-        }
+        self.firsts.remove(id, tuple);
     }
 
     fn is_empty(&self) -> bool {
         Shelf::<Tuple>::is_empty(&self.ids)
     }
-}
-
-// The first field of the tuple, if it has one, with the tuple.
-fn first_place(tuple: Option<&Tuple>) -> Option<(&Atom, &Tuple)>
-    ensures { place result ≡ placed first_of (option_copied tuple.entry) }
-{
-    let tuple = tuple?;
-    Some((tuple.fields().first()?, tuple))
 }
 
 // The value that the first pattern asks for, if it asks for one.

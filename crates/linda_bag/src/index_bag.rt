@@ -5,16 +5,17 @@ ghost use Rattle.std.specs.Prelude.{◌≡◌, ◌<◌, ◌↔◌, ℕ, true, Is
 ghost use Rattle.std.specs.Ordering.{nat_cmp};
 ghost use Rattle.std.specs.BTreeSet.{contains};
 ghost use Rattle.std.specs.FinMap as map;
-ghost use Rattle.linda_bag.specs.FreeMatch.{IsFreeMatch, rows_of};
+ghost use Rattle.linda_bag.specs.FreeMatch.{IsFreeMatch};
 
 use crate::bags::Bag;
-use crate::by_id::{is_free_match, next_id};
+use crate::by_id::is_free_match;
 use crate::filing::Shelf;
 use crate::ids::Ids;
 use crate::index::{Index, candidates};
+use crate::tuples::Tuples;
 use linda_tuple::{Template, Tuple};
 use std::alloc::{AllocError, Global};
-use std::collections::{BTreeMap, BTreeSet};
+use std::collections::BTreeSet;
 use std::marker::Model;
 
 /// A bag that keeps, beside its tuples in the order of their ids, an index of the ids by tag, number
@@ -22,7 +23,7 @@ use std::marker::Model;
 #[derive(Drop)]
 pub struct IndexBag {
     alloc: Global,
-    tuples: BTreeMap<u64, Tuple>,
+    tuples: Tuples,
     index: Index,
 }
 
@@ -30,7 +31,6 @@ impl Model for IndexBag {
     ghost use Rattle.std.specs.Coded.{coded_ℕ};
     ghost use Rattle.std.specs.Ordering.{nat_cmp};
     ghost use Rattle.std.specs.FinMap as map;
-    ghost use Rattle.std.specs.BTreeMap as tree;
     ghost use Rattle.linda_tuple.specs.Tuple.{Tuple};
     ghost use Rattle.linda_tuple.specs.Codes.{tuple_code};
 
@@ -38,9 +38,9 @@ impl Model for IndexBag {
 
     ghost coded = { map.code coded_ℕ tuple_code };
 
-    ghost view = { λ b. map.from_entries b.tuples.entries };
+    ghost view = { λ b. b.tuples };
 
-    ghost invariant = { λ b. ⟦<Index as Shelf<Tuple>>⟧.has b.index (tree.get nat_cmp b.tuples) };
+    ghost invariant = { λ b. ⟦<Index as Shelf<Tuple>>⟧.has b.index (map.get b.tuples) };
 }
 
 impl IndexBag {
@@ -50,7 +50,7 @@ impl IndexBag {
     {
         IndexBag {
             alloc,
-            tuples: BTreeMap::new(alloc),
+            tuples: Tuples::new(alloc),
             index: Shelf::<Tuple>::empty(alloc),
         }
     }
@@ -64,27 +64,27 @@ impl Bag for IndexBag {
     }
 
     fn insert(&mut self, id: u64, tuple: Tuple) -> Result<(), AllocError> {
+        let tuple = Box::new(self.alloc, tuple)?;
         self.index
-            .put(self.alloc, id, self.tuples.get(&id), &tuple)?;
+            .put(self.alloc, id, self.tuples.get(id), &*tuple)?;
         match self.tuples.insert(id, tuple) {
-            Ok(_) => Ok(()),
+            Ok(()) => Ok(()),
             Err(refused) => {
                 // Only a new id can be refused: it was in the index under no other tuple.
-                self.index.remove(id, &refused.value.1);
+                self.index.remove(id, &*refused);
                 Err(AllocError)
             }
         }
     }
 
     fn remove(&mut self, id: u64) -> Option<Tuple> {
-        let tuple = self.tuples.remove(&id)?;
+        let tuple = self.tuples.remove(id)?;
         self.index.remove(id, &tuple);
         Some(tuple)
     }
 
-    #[tactic(auto, using(crate::proofs::Viewed::viewed))]
     fn get(&self, id: u64) -> Option<&Tuple> {
-        self.tuples.get(&id)
+        self.tuples.get(id)
     }
 
     fn least_match(&self, template: &Template, passed: &BTreeSet<u64>) -> Option<u64> {
@@ -106,23 +106,23 @@ impl Bag for IndexBag {
     }
 
     fn next_from(&self, id: u64) -> Option<u64> {
-        next_id(&self.tuples, id)
+        self.tuples.next_from(id)
     }
 }
 
 // The least of the ids whose tuple may answer the template.
 fn least_free(
-    tuples: &BTreeMap<u64, Tuple>,
+    tuples: &Tuples,
     template: &Template,
     passed: &BTreeSet<u64>,
     ids: &BTreeSet<u64>,
 ) -> Option<u64>
     ensures found { IfSome result
-        (IsFreeMatch (rows_of tuples.now) template.now (contains nat_cmp passed.now)) }
+        (IsFreeMatch tuples.now template.now (contains nat_cmp passed.now)) }
     ensures least { IfSome result (λ id. (k : ℕ) → k < id → contains nat_cmp ids.now k ≡ true
-        → IsFreeMatch (rows_of tuples.now) template.now (contains nat_cmp passed.now) k → ⊥) }
+        → IsFreeMatch tuples.now template.now (contains nat_cmp passed.now) k → ⊥) }
     ensures none { IfNone result ((k : ℕ) → contains nat_cmp ids.now k ≡ true
-        → IsFreeMatch (rows_of tuples.now) template.now (contains nat_cmp passed.now) k → ⊥) }
+        → IsFreeMatch tuples.now template.now (contains nat_cmp passed.now) k → ⊥) }
 {
     for id in ids {
         if is_free(tuples, template, passed, *id) {
@@ -133,16 +133,11 @@ fn least_free(
 }
 
 // Whether there is a tuple under the id that may answer the template.
-fn is_free(
-    tuples: &BTreeMap<u64, Tuple>,
-    template: &Template,
-    passed: &BTreeSet<u64>,
-    id: u64,
-) -> bool
+fn is_free(tuples: &Tuples, template: &Template, passed: &BTreeSet<u64>, id: u64) -> bool
     ensures { IsTrue result
-        ↔ IsFreeMatch (rows_of tuples.now) template.now (contains nat_cmp passed.now) id }
+        ↔ IsFreeMatch tuples.now template.now (contains nat_cmp passed.now) id }
 {
-    match tuples.get(&id) {
+    match tuples.get(id) {
         Some(tuple) => is_free_match(template, passed, id, tuple),
         None => false,
     }

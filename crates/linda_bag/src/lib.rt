@@ -14,11 +14,13 @@
 mod bags;
 mod by_id;
 mod filing;
+mod firsts;
 mod heads;
 mod ids;
 mod index;
 mod index_bag;
 mod lists;
+mod tuples;
 
 pub use bags::Bag;
 pub use filing::{Key, Shelf, refile, unfile};

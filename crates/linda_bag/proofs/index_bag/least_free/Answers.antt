@@ -1,13 +1,13 @@
 use Rattle.std.proofs.Common.{nat_cmp, sym, subst, ◌∙◌, true, ◌≡◌, true≢false}
 use Rattle.std.specs.BTreeSet.{contains}
-use Rattle.linda_bag.specs.FreeMatch.{IsFreeMatch, rows_of}
+use Rattle.linda_bag.specs.FreeMatch.{IsFreeMatch}
 use Rattle.linda_bag.proofs.Ahead.{IsAhead, found_key, fewer_ahead, none_before, none_ahead}
 use Rattle.linda_bag.proofs.index_bag.least_free.Goals as goal
 
 pub loop-id-init : goal.loop-id-init
 loop-id-init c =
     let begun = c.into_iter-id-iterator.ensures.into_iter_gives in
-    subst (IsAhead (λ k. (contains nat_cmp c.args.ids.now k ≡ true) × IsFreeMatch (rows_of c.args.tuples.now) c.args.template.now (contains nat_cmp c.args.passed.now) k)) (sym begun.0) record {
+    subst (IsAhead (λ k. (contains nat_cmp c.args.ids.now k ≡ true) × IsFreeMatch c.args.tuples.now c.args.template.now (contains nat_cmp c.args.passed.now) k)) (sym begun.0) record {
       sorted = begun.4;
       each = λ k wanted. found_key k _ wanted.0;
     }

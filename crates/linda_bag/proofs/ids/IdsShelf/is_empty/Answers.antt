@@ -11,5 +11,5 @@ returns-in-One g c = rw c.in-One.is (λ rows same. (
 
 pub returns-in-Many : goal.returns-in-Many
 returns-in-Many g c = rw c.in-Many.is (λ rows same.
-    let bare = set_bare c.in-Many.ids.keys rows same in
+    let bare = set_bare c.deref.result.now.keys rows (rw c.deref.ensures same) in
     ((λ yes. bare.0 (c.is_empty.ensures.0 yes)), (λ none. c.is_empty.ensures.1 (bare.1 none))))

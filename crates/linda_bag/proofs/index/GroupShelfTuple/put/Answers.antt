@@ -1,14 +1,12 @@
 use Rattle.std.proofs.Common.{◌≡◌, Option, None, Some, is_some, Result, Ok, Err, Bor, refl, sym, ap, subst, ◌∙◌}
 use Rattle.std.specs.Result.{OnErr}
 use Rattle.std.specs.Option.{option_copied}
-use Rattle.linda_tuple.specs.contracts.atom.AtomOrd.TheImpl as atom_ord
-use Rattle.linda_bag.specs.Filing.{IsFiled}
-use Rattle.linda_bag.specs.Candidates.{first_of}
 use Rattle.linda_bag.specs.Ids.{has_id, IsOf}
+use Rattle.linda_bag.specs.Firsts.{HasFirsts}
 use Rattle.linda_bag.proofs.Noted.{any_row}
 use Rattle.linda_bag.proofs.Bare.{no_such}
 use Rattle.linda_bag.proofs.Kept.{undone}
-use Rattle.linda_bag.proofs.Refiling.{refiled_as, same_rows}
+use Rattle.linda_bag.proofs.Refiling.{same_rows}
 use Rattle.linda_bag.proofs.index.GroupShelfTuple.put.Goals as goal
 
 copied : {T : Type 0} (o : Option (Bor T)) → is_some (option_copied o) ≡ is_some o
@@ -22,13 +20,13 @@ on_err_there (Err e) p = p
 pub returns-in_err-put-clause-err : goal.returns-in_err-put-clause-err
 returns-in_err-put-clause-err c = on_err_there c.from_residual.result (λ rows there known. (
   c.in_err-put.ensures.err rows there known.0,
-  subst (IsFiled atom_ord.ghosts.cmp IsOf first_of c.args.self.now.by_first) (sym (same_rows rows c.args.id _ there)) known.1,
+  subst (HasFirsts c.args.self.now.firsts) (sym (same_rows rows c.args.id _ there)) known.1,
 ))
 
 pub returns-in-Ok-clause-ok : goal.returns-in-Ok-clause-ok
 returns-in-Ok-clause-ok c = λ rows there known. (
   c.in_ok-put.ensures.ok rows there known.0,
-  refiled_as _ _ first_of c.args.self.now.by_first c.refile.new.shelves _ _ _ _ _ c.first_place.ensures c.first_place-2.ensures c.in-Ok.ensures.ok rows there known.1,
+  c.in-Ok.ensures.ok rows there known.1,
 )
 
 pub returns-then-is_none-clause-err : goal.returns-then-is_none-clause-err
@@ -37,11 +35,11 @@ returns-then-is_none-clause-err c = λ rows there known.
       subst (IsOf c.remove.new.self) (sym (same_rows rows c.args.id _ there))
           (undone (IsOf c.args.self.now.ids) (IsOf c.remove.new.self) rows c.args.id (IsOf c.put.new.self) c.args.new.now c.args.new.now _
           there (there ∙ ap option_copied none) refl c.in_ok-put.ensures.ok c.remove.ensures known.0),
-      refiled_as _ _ first_of c.args.self.now.by_first c.refile.new.shelves _ _ _ _ _ c.first_place.ensures c.first_place.ensures c.in-Err.ensures.err rows there known.1,
+      c.in-Err.ensures.err rows there known.1,
     )
 
 pub returns-else-is_none-clause-err : goal.returns-else-is_none-clause-err
 returns-else-is_none-clause-err c = λ rows there known. (
   any_row (has_id c.put.new.self) rows c.args.id (option_copied c.args.old) (Some c.args.new.now) (sym (copied c.args.old ∙ c.if-is_none.ensures)) (c.in_ok-put.ensures.ok rows there known.0),
-  refiled_as _ _ first_of c.args.self.now.by_first c.refile.new.shelves _ _ _ _ _ c.first_place.ensures c.first_place.ensures c.in-Err.ensures.err rows there known.1,
+  c.in-Err.ensures.err rows there known.1,
 )

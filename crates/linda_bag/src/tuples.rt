@@ -1,0 +1,96 @@
+//! Tuples by their ids, each behind a box: so the map's nodes are small, and a removal moves little.
+
+ghost use Rattle.std.specs.Prelude.{◌≡◌, ◌≤◌, ◌<◌, ℕ, None, IfErr, IfNone, IfSome, IsSome, OnOk, OnErr};
+ghost use Rattle.std.specs.Option.{option_copied};
+ghost use Rattle.std.specs.FinMap as map;
+
+use crate::by_id::next_id;
+use linda_tuple::Tuple;
+use std::alloc::Global;
+use std::collections::BTreeMap;
+use std::marker::Model;
+
+/// The tuples of a bag. Contracts see the finite map from their ids.
+#[derive(Drop)]
+pub(crate) struct Tuples {
+    by_id: BTreeMap<u64, Box<Tuple>>,
+}
+
+impl Model for Tuples {
+    ghost use Rattle.std.specs.Coded.{coded_ℕ};
+    ghost use Rattle.std.specs.Ordering.{nat_cmp};
+    ghost use Rattle.std.specs.FinMap as map;
+    ghost use Rattle.linda_tuple.specs.Tuple.{Tuple};
+    ghost use Rattle.linda_tuple.specs.Codes.{tuple_code};
+    ghost use Rattle.linda_bag.specs.Tuples.{unboxed};
+
+    ghost Value = { map.FinMap nat_cmp Tuple };
+
+    ghost coded = { map.code coded_ℕ tuple_code };
+
+    ghost view = { λ t. map.from_entries (unboxed t.by_id.entries) };
+}
+
+impl Tuples {
+    /// No tuples. Takes no memory until one is inserted.
+    pub(crate) fn new(alloc: Global) -> Tuples
+        ensures { result ≡ map.empty }
+    {
+        Tuples {
+            by_id: BTreeMap::new(alloc),
+        }
+    }
+
+    /// Puts the tuple under the id, in place of one that was there, which is dropped.
+    ///
+    /// # Errors
+    ///
+    /// The tuple where memory runs out, and then all is as before. It comes only for a new id.
+    pub(crate) fn insert(&mut self, id: u64, tuple: Box<Tuple>) -> Result<(), Box<Tuple>>
+        ensures ok { OnOk result (self.new ≡ map.insert self.old id tuple.value) }
+        ensures err { OnErr result (self.new ≡ self.old) }
+        ensures refused { IfErr result (λ refused. refused.value ≡ tuple.value) }
+        ensures absent { OnErr result (map.get self.old id ≡ None) }
+    {
+        match self.by_id.insert(id, tuple) {
+            Ok(_) => Ok(()),
+            Err(refused) => Err(refused.value.1),
+        }
+    }
+
+    /// Takes out the tuple under the id and gives it; where there is none, nothing changes. Takes no
+    /// memory.
+    pub(crate) fn remove(&mut self, id: u64) -> Option<Tuple>
+        ensures value { result ≡ map.get self.old id }
+        ensures removed { self.new ≡ map.remove self.old id }
+    {
+        let tuple = self.by_id.remove(&id)?;
+        Some(Box::into_inner(tuple))
+    }
+
+    /// The tuple under the id, if there is one. Takes no memory.
+    pub(crate) fn get(&self, id: u64) -> Option<&Tuple>
+        ensures { option_copied result ≡ map.get self.now id }
+    {
+        let tuple = self.by_id.get(&id)?;
+        Some(&**tuple)
+    }
+
+    /// How many tuples there are. Takes no memory.
+    pub(crate) fn len(&self) -> usize
+        ensures { result ≡ map.len self.now }
+    {
+        self.by_id.len()
+    }
+
+    /// The least id that is not below `id`; nothing only where there is none. Takes no memory.
+    pub(crate) fn next_from(&self, id: u64) -> Option<u64>
+        ensures found { IfSome result (λ next. IsSome (map.get self.now next)) }
+        ensures above { IfSome result (λ next. id ≤ next) }
+        ensures least { IfSome result (λ next. (k : ℕ) → id ≤ k → k < next
+            → map.get self.now k ≡ None) }
+        ensures none { IfNone result ((k : ℕ) → id ≤ k → map.get self.now k ≡ None) }
+    {
+        next_id(&self.by_id, id)
+    }
+}
