@@ -75,7 +75,7 @@ pub(crate) fn read_fields<F: Field>(
 ) -> Result<(Vec<F>, &[u8]), ReadFault>
     ensures { Gives (λ x. (x.0.items, x.1.now)) result (many_at F.format.read count bytes.now) }
 {
-    let mut fields = Vec::new(alloc);
+    let mut fields = Vec::with_capacity(alloc, usize::from(count))?;
     let mut rest = bytes;
     for _ in 0..count {
         let (field, after) = F::read(alloc, rest)?;

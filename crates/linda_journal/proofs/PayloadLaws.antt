@@ -1,14 +1,16 @@
 -- Reading a payload deed after deed.
-use Rattle.std.proofs.Common.{◌≡◌, ℕ, ◌+◌, ◌<◌, ◌≤◌, List, [], ◌∷◌, ◌++◌, All, length, drop, take, get_or, Ok, Err, refl, sym, ap, subst, ◌∙◌, append_assoc, append-nil, length-append, arith}
+use Rattle.std.proofs.Common.{◌≡◌, ℕ, ◌+◌, ◌<◌, ◌≤◌, List, [], ◌∷◌, ◌++◌, All, length, drop, take, get_or, Result, Ok, Err, refl, sym, ap, subst, ◌∙◌, append_assoc, append-nil, length-append, arith}
 use Rattle.std.specs.List.{AllByRecursion}
-use Rattle.std.proofs.lemmas.List.Elements.{recursion_from_All, All-append, All-nil, All-cons}
-use Rattle.std.proofs.lemmas.List.{flat_map_more, drop_at, take_more}
+use Rattle.std.proofs.lemmas.List.Elements.{recursion_from_All, All-append, All-nil, All-cons, All-get_or}
+use Rattle.std.proofs.lemmas.List.{flat_map_more, drop_at, drop_more, take_all, take_more}
 use Rattle.linda_codec.specs.declared.fault.ReadFault.{ReadFault}
 use Rattle.linda_codec.specs.Lawful.{IsBytes}
+use Rattle.linda_codec.specs.Steps.{Read, left_by}
+use Rattle.linda_codec.proofs.SkipLaws.{is_fault}
 use Rattle.linda_codec.proofs.Takes.{IsBytes-drop}
 use Rattle.linda_state.specs.declared.deed.Deed.{Deed}
 use Rattle.linda_journal.specs.declared.limits.TheConstants.{MAX_DEEDS}
-use Rattle.linda_journal.specs.Records.{deed, spell_deed, FitsDeed, payload, IsRecord}
+use Rattle.linda_journal.specs.Records.{deed, spell_deed, FitsDeed, payload, IsRecord, IsPayloadOf, IsNoPayload}
 use Rattle.linda_journal.proofs.Apart.{IsApart, format_apart, first_ones}
 use Rattle.linda_journal.proofs.DeedLaws.{deed_is}
 use Rattle.linda_journal.proofs.SizeLaws.{deed_some}
@@ -35,18 +37,24 @@ payload_up_to ds i d start so_far lt is before =
     ∙ ap (λ l. start ++ l) (flat_map_more spell_deed [] (take i ds) d)
     ∙ ap (λ l. start ++ payload l) (sym front)
 
--- ---- while deeds are read
+-- ---- while deeds are counted
 
--- These deeds were read from the front of the bytes, and that is left.
+-- These deeds stand at the front of the bytes, and that is left.
 pub record IsReadTo (bytes : List ℕ) (ds : List Deed) (rest : List ℕ) : Type 0 where
   pub parts : bytes ≡ payload ds ++ rest
   pub fits : All FitsDeed ds
   pub few : length ds ≤ MAX_DEEDS
 
-pub nothing_read : (bytes : List ℕ) (ds : List Deed) → ds ≡ [] → IsReadTo bytes ds bytes
-nothing_read bytes ds none = subst (λ l. IsReadTo bytes l bytes) (sym none) record { parts = refl; fits = All-nil FitsDeed; few = omega arith }
+-- So many deeds do.
+pub record IsCountedTo (bytes : List ℕ) (count : ℕ) (rest : List ℕ) : Type 0 where
+  pub deeds : List Deed
+  pub read : IsReadTo bytes deeds rest
+  pub count_is : length deeds ≡ count
 
-pub one_deed_more : (bytes : List ℕ) (ds : List Deed) (rest : List ℕ) (d : Deed) (after : List ℕ) → IsReadTo bytes ds rest → IsBytes bytes → length ds < MAX_DEEDS → deed.read rest ≡ Ok (d, after) → IsReadTo bytes (ds ++ d ∷ []) after
+pub none_counted : (bytes : List ℕ) → IsCountedTo bytes 0 bytes
+none_counted bytes = record { deeds = []; read = record { parts = refl; fits = All-nil FitsDeed; few = omega arith }; count_is = refl }
+
+one_deed_more : (bytes : List ℕ) (ds : List Deed) (rest : List ℕ) (d : Deed) (after : List ℕ) → IsReadTo bytes ds rest → IsBytes bytes → length ds < MAX_DEEDS → deed.read rest ≡ Ok (d, after) → IsReadTo bytes (ds ++ d ∷ []) after
 one_deed_more bytes ds rest d after so_far fits lt e =
     let left : drop (length (payload ds)) bytes ≡ rest = ap (drop (length (payload ds))) so_far.parts ∙ drop_at (payload ds) rest (length (payload ds)) refl in
     let t = deed_is.takes rest (d, after) (subst IsBytes left (IsBytes-drop (length (payload ds)) bytes fits)) e in
@@ -56,16 +64,34 @@ one_deed_more bytes ds rest d after so_far fits lt e =
       few = omega (arith, lt, length-append ds (d ∷ []));
     }
 
--- ---- when the reading ends
+same_bytes : (xs ys : List ℕ) → (let a : Result (List ℕ) ReadFault = Ok xs in a) ≡ Ok ys → xs ≡ ys
+same_bytes xs ys e = cc
 
--- All of it was read.
-pub is_whole : (bytes : List ℕ) (ds : List Deed) (rest : List ℕ) → IsReadTo bytes ds rest → length rest ≡ 0 → 1 ≤ length ds → IsRecord ds × (bytes ≡ payload ds)
-is_whole bytes ds [] so_far none some = (record { some = some; few = so_far.few; fits = so_far.fits }, so_far.parts ∙ append-nil (payload ds))
-is_whole bytes ds (b ∷ rest) so_far none some = absurd (omega (arith, none))
+-- What was read where these bytes are left.
+read_before : {A : Type 0} (read : Read A) (after : List ℕ) → left_by read ≡ Ok after → (a : A) × (read ≡ Ok (a, after))
+read_before {A = A} (Ok x) after e = (x.0, ap (λ (r : List ℕ). let a : Read A = Ok (x.0, r) in a) (same_bytes x.1 after e))
+read_before (Err fault) after e = absurd cc
 
--- The bytes spell no record's deeds.
-abbrev pub IsNoPayload : List ℕ → Type 0
-IsNoPayload bytes = (ds : List Deed) → IsRecord ds → bytes ≡ payload ds → ⊥
+pub one_more_counted : (bytes : List ℕ) (count : ℕ) (rest after : List ℕ) → IsCountedTo bytes count rest → IsBytes bytes → count < MAX_DEEDS → left_by (deed.read rest) ≡ Ok after → IsCountedTo bytes (count + 1) after
+one_more_counted bytes count rest after so_far fits lt e =
+    let d = read_before (deed.read rest) after e in
+    record {
+      deeds = so_far.deeds ++ d.0 ∷ [];
+      read = one_deed_more bytes so_far.deeds rest d.0 after so_far.read fits (omega (arith, lt, so_far.count_is)) d.1;
+      count_is = omega (arith, so_far.count_is, length-append so_far.deeds (d.0 ∷ []));
+    }
+
+-- ---- when the counting ends
+
+-- All of it was counted.
+pub is_whole : (bytes : List ℕ) (count : ℕ) (rest : List ℕ) → IsCountedTo bytes count rest → length rest ≡ 0 → 1 ≤ count → IsPayloadOf bytes count
+is_whole bytes count [] so_far none some = record {
+  deeds = so_far.deeds;
+  good = record { some = omega (arith, some, so_far.count_is); few = so_far.read.few; fits = so_far.read.fits };
+  parts = so_far.read.parts ∙ append-nil (payload so_far.deeds);
+  count_is = so_far.count_is;
+}
+is_whole bytes count (b ∷ rest) so_far none some = absurd (omega (arith, none))
 
 -- What is to be read yet of a record, whose first deeds were read.
 left_of : (bytes : List ℕ) (ds : List Deed) (rest : List ℕ) (es : List Deed) → IsReadTo bytes ds rest → IsRecord es → bytes ≡ payload es → (tail : List Deed) × (es ≡ ds ++ tail) × (rest ≡ payload tail)
@@ -83,30 +109,54 @@ reads_on (d ∷ tail) rest fault fits e some bad =
     absurd cc
 
 -- No deed stands at the front of what is left.
-pub no_deed_there : (bytes : List ℕ) (ds : List Deed) (rest : List ℕ) (fault : ReadFault) → IsReadTo bytes ds rest → 0 < length rest → deed.read rest ≡ Err fault → IsNoPayload bytes
-no_deed_there bytes ds rest fault so_far some bad es is e =
-    let t = left_of bytes ds rest es so_far is e in
-    reads_on t.0 rest fault (fits_behind ds t.0 (subst (AllByRecursion FitsDeed) t.1 (recursion_from_All FitsDeed es is.fits))) t.2 some bad
+pub no_deed_there : (bytes : List ℕ) (count : ℕ) (rest : List ℕ) (fault : ReadFault) → IsCountedTo bytes count rest → 0 < length rest → left_by (deed.read rest) ≡ Err fault → IsNoPayload bytes
+no_deed_there bytes count rest fault so_far some bad es is e =
+    let t = left_of bytes so_far.deeds rest es so_far.read is e in
+    reads_on t.0 rest fault (fits_behind so_far.deeds t.0 (subst (AllByRecursion FitsDeed) t.1 (recursion_from_All FitsDeed es is.fits))) t.2 some (is_fault (deed.read rest) fault bad)
 
 some_deeds : (tail : List Deed) (rest : List ℕ) → rest ≡ payload tail → 0 < length rest → 0 < length tail
 some_deeds [] rest e some = absurd (let n : length rest ≡ 0 = ap length e in omega (arith, n, some))
 some_deeds (d ∷ tail) rest e some = omega arith
 
 -- Behind as many deeds as a record may have there is more.
-pub too_many : (bytes : List ℕ) (ds : List Deed) (rest : List ℕ) → IsReadTo bytes ds rest → 0 < length rest → MAX_DEEDS ≤ length ds → IsNoPayload bytes
-too_many bytes ds rest so_far some many es is e =
-    let t = left_of bytes ds rest es so_far is e in
-    let n : length es ≡ length ds + length t.0 = ap length t.1 ∙ length-append ds t.0 in
-    omega (arith, n, many, is.few, some_deeds t.0 rest t.2 some)
+pub too_many : (bytes : List ℕ) (count : ℕ) (rest : List ℕ) → IsCountedTo bytes count rest → 0 < length rest → MAX_DEEDS ≤ count → IsNoPayload bytes
+too_many bytes count rest so_far some many es is e =
+    let t = left_of bytes so_far.deeds rest es so_far.read is e in
+    let n : length es ≡ length so_far.deeds + length t.0 = ap length t.1 ∙ length-append so_far.deeds t.0 in
+    omega (arith, n, many, so_far.count_is, is.few, some_deeds t.0 rest t.2 some)
 
 -- There is no deed at all.
-pub no_deeds : (bytes : List ℕ) (ds : List Deed) (rest : List ℕ) → IsReadTo bytes ds rest → length rest ≡ 0 → length ds ≡ 0 → IsNoPayload bytes
-no_deeds bytes ds rest so_far none no_ds es is e =
-    let t = left_of bytes ds rest es so_far is e in
+pub no_deeds : (bytes : List ℕ) (count : ℕ) (rest : List ℕ) → IsCountedTo bytes count rest → length rest ≡ 0 → count ≡ 0 → IsNoPayload bytes
+no_deeds bytes count rest so_far none no_count es is e =
+    let t = left_of bytes so_far.deeds rest es so_far.read is e in
     by t.0 t.1 t.2
   where
-    by : (tail : List Deed) → es ≡ ds ++ tail → rest ≡ payload tail → ⊥
-    by [] es_is rest_is = let n : length es ≡ length ds + 0 = ap length es_is ∙ length-append ds [] in omega (arith, n, no_ds, is.some)
+    by : (tail : List Deed) → es ≡ so_far.deeds ++ tail → rest ≡ payload tail → ⊥
+    by [] es_is rest_is = let n : length es ≡ length so_far.deeds + 0 = ap length es_is ∙ length-append so_far.deeds [] in omega (arith, n, no_count, so_far.count_is, is.some)
     by (d ∷ tail) es_is rest_is =
         let n : length rest ≡ length (spell_deed d) + length (payload tail) = ap length rest_is ∙ length-append (spell_deed d) (payload tail) in
         omega (arith, n, none, deed_some d)
+
+-- ---- while deeds are read
+
+-- The first of these deeds were read, and the others stand there.
+pub record IsReadOf (ds : List Deed) (i : ℕ) (front : List Deed) (rest : List ℕ) : Type 0 where
+  pub front_is : front ≡ take i ds
+  pub rest_is : rest ≡ payload (drop i ds)
+
+pub none_read : (ds front : List Deed) (bytes : List ℕ) → front ≡ [] → bytes ≡ payload ds → IsReadOf ds 0 front bytes
+none_read ds front bytes none is = record { front_is = none; rest_is = is }
+
+same_pair : (x y : Deed × List ℕ) → (let a : Read Deed = Ok x in a) ≡ Ok y → x ≡ y
+same_pair x y e = cc
+
+pub one_more_read : (ds : List Deed) (i : ℕ) (front : List Deed) (rest : List ℕ) (d : Deed) (after : List ℕ) → IsRecord ds → i < length ds → IsReadOf ds i front rest → deed.read rest ≡ Ok (d, after) → IsReadOf ds (i + 1) (front ++ d ∷ []) after
+one_more_read ds i front rest d after is lt so_far e =
+    let next = get_or ds i d in
+    let there : rest ≡ spell_deed next ++ payload (drop (i + 1) ds) = so_far.rest_is ∙ ap payload (drop_more ds i d lt) in
+    let again : deed.read rest ≡ Ok (next, payload (drop (i + 1) ds)) = ap deed.read there ∙ deed_is.again next (payload (drop (i + 1) ds)) (All-get_or FitsDeed ds i d lt is.fits) in
+    let same = same_pair (d, after) (next, payload (drop (i + 1) ds)) (sym e ∙ again) in
+    record { front_is = ap (λ l. l ++ d ∷ []) so_far.front_is ∙ ap (λ (x : Deed × List ℕ). take i ds ++ x.0 ∷ []) same ∙ sym (take_more ds i d lt); rest_is = ap (λ (x : Deed × List ℕ). x.1) same }
+
+pub all_read : (ds : List Deed) (i : ℕ) (front : List Deed) (rest : List ℕ) → IsReadOf ds i front rest → length ds ≤ i → front ≡ ds
+all_read ds i front rest so_far le = so_far.front_is ∙ take_all i ds le

@@ -1,5 +1,5 @@
 -- The sizes of deeds: none is empty, and those of one record fit the length before them.
-use Rattle.std.proofs.Common.{◌≡◌, ℕ, ◌*◌, ◌^◌, ◌<◌, ◌≤◌, List, [], ◌∷◌, ◌++◌, length, ap, ◌∙◌, arith, length-append}
+use Rattle.std.proofs.Common.{ℕ, ◌*◌, ◌^◌, ◌<◌, ◌≤◌, List, [], ◌∷◌, length, arith, length-append}
 use Rattle.std.specs.List.{AllByRecursion}
 use Rattle.std.proofs.lemmas.List.Elements.{recursion_from_All}
 use Rattle.linda_wire.specs.FrameLaws.{message_size}
@@ -29,8 +29,3 @@ deeds_short (d ∷ ds) fits = omega (arith, deed_short d fits.0, deeds_short ds 
 -- The length of a record's payload is a number of four bytes.
 pub payload_short : (ds : List Deed) → IsRecord ds → length (payload ds) < 2 ^ 32
 payload_short ds is = omega (arith, deeds_short ds (recursion_from_All FitsDeed ds is.fits), is.few)
-
-pub length_fits : (ds : List Deed) (items start : List ℕ) (n : ℕ) → IsRecord ds → items ≡ start ++ payload ds → start ≡ [] → n ≡ length items → n < 2 ^ 32
-length_fits ds items start n is appended empty n_is =
-    let same : items ≡ payload ds = appended ∙ ap (λ l. l ++ payload ds) empty in
-    omega (arith, n_is, ap length same, payload_short ds is)

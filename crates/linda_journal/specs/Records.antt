@@ -1,5 +1,5 @@
 -- The records that deeds stand in.
-use Rattle.std.specs.Prelude.{ℕ, ◌≤◌, List, ◌∷◌, ◌++◌, All, length}
+use Rattle.std.specs.Prelude.{◌≡◌, ℕ, ◌≤◌, List, ◌∷◌, ◌++◌, All, length}
 use Rattle.std.specs.List.{flat_map}
 use Rattle.linda_codec.specs.Formats.{short_number}
 use Rattle.linda_state.specs.declared.deed.Deed.{Deed}
@@ -12,6 +12,17 @@ pub record IsRecord (ds : List Deed) : Type 0 where
   pub some : 1 ≤ length ds
   pub few : length ds ≤ MAX_DEEDS
   pub fits : All FitsDeed ds
+
+-- The bytes are the deeds of a record, so many.
+pub record IsPayloadOf (bytes : List ℕ) (count : ℕ) : Type 0 where
+  pub deeds : List Deed
+  pub good : IsRecord deeds
+  pub parts : bytes ≡ payload deeds
+  pub count_is : length deeds ≡ count
+
+-- The bytes spell no record's deeds.
+abbrev pub IsNoPayload : List ℕ → Type 0
+IsNoPayload bytes = (ds : List Deed) → IsRecord ds → bytes ≡ payload ds → ⊥
 
 -- What stands behind a record's gate: the length of the payload, and the payload.
 abbrev pub record_body : List Deed → List ℕ

@@ -248,7 +248,7 @@ impl<D: Disk> Bank<D> {
         if !has_room(self.limit, self.end, len) {
             return Err(BankFault::Full);
         }
-        let bytes = spell_body(alloc, deeds)?;
+        let bytes = spell_body(alloc, deeds, len)?;
         self.is_spent = true;
         stage(&mut self.disk, self.end, &bytes)?;
         open_gate(&mut self.disk, self.end)?;

@@ -1,12 +1,12 @@
 //! A deed as bytes: a kind byte, the client, the number, and a tuple or its id.
 
 ghost use Rattle.std.specs.Prelude.{◌≡◌, ◌∷◌, ◌++◌, ◌<◌, ◌^◌, OnOk};
-ghost use Rattle.linda_codec.specs.Steps.{Gives, GivesAlways};
+ghost use Rattle.linda_codec.specs.Steps.{Gives, GivesAlways, left_by};
 ghost use Rattle.linda_codec.specs.Formats.{made_at, short_number, number};
 ghost use Rattle.linda_state.specs.declared.deed.Deed.TheVariants.{Out, Take, Pass};
 ghost use Rattle.linda_state.specs.DeedFormat as format;
 
-use linda_codec::{ReadFault, put_tuple, read_tuple, read_u32, read_u64};
+use linda_codec::{ReadFault, put_tuple, read_tuple, read_u32, read_u64, skip_tuple};
 use linda_state::{Deed, OUT, PASS, TAKE};
 use std::alloc::{AllocError, Global};
 
@@ -55,6 +55,38 @@ fn pass_from(body: &[u8]) -> Result<(Deed, &[u8]), ReadFault>
     let (n, rest) = read_u64(rest)?;
     let (id, rest) = read_u64(rest)?;
     Ok((Deed::Pass { client, n, id }, rest))
+}
+
+/// The bytes after the deed at the front. Takes no memory.
+///
+/// # Errors
+///
+/// The first fault from the left, told by the count of bytes left; never `Memory`.
+pub(crate) fn skip_deed(bytes: &[u8]) -> Result<&[u8], ReadFault>
+    ensures { GivesAlways (λ rest. rest.now) result (left_by (format.deed.read bytes.now)) }
+{
+    match bytes {
+        [] => Err(ReadFault::Short),
+        [OUT, body @ ..] => skip_out(body),
+        [TAKE, body @ ..] => {
+            let (_deed, rest) = take_from(body)?;
+            Ok(rest)
+        }
+        [PASS, body @ ..] => {
+            let (_deed, rest) = pass_from(body)?;
+            Ok(rest)
+        }
+        [_, ..] => Err(ReadFault::BadKind(bytes.len())),
+    }
+}
+
+fn skip_out(body: &[u8]) -> Result<&[u8], ReadFault>
+    ensures { GivesAlways (λ rest. rest.now) result
+        (left_by (made_at (λ p. Out p.0 p.1.0 p.1.1) format.out body.now)) }
+{
+    let (_client, rest) = read_u32(body)?;
+    let (_n, rest) = read_u64(rest)?;
+    skip_tuple(rest)
 }
 
 /// Appends the spelling of the deed. Where memory runs out, a part of it may stand behind the old bytes.

@@ -1,6 +1,6 @@
 //! A bank read from its disk.
 
-ghost use Rattle.std.specs.Prelude.{◌≡◌, ◌≢◌, ◌<◌, ◌≤◌, ◌+◌, ◌↔◌, length, IfOk, IfErr, OnOk};
+ghost use Rattle.std.specs.Prelude.{◌≡◌, ◌≢◌, ◌<◌, ◌≤◌, ◌+◌, ◌-◌, ◌↔◌, take, drop, length, IfOk, IfErr, OnOk};
 ghost use Rattle.std.specs.Prelude.{IsErrOf};
 ghost use Rattle.linda_disk.specs.View.{IsDurable};
 ghost use Rattle.linda_disk.specs.Run.{LeavesOnly};
@@ -47,12 +47,24 @@ pub(crate) fn load<D: Disk>(alloc: Global, disk: &mut D) -> Result<Contents, Ban
 {
     let bytes = read_all(alloc, disk)?;
     let image = read_image(alloc, &bytes)?;
-    let body = Vec::from_slice(alloc, &bytes[MIN_BYTES..image.at])?;
     Ok(Contents {
         generation: image.generation,
-        body,
+        body: body_of(bytes, image.at),
         journal: image.journal,
     })
+}
+
+// The body of a bank of these bytes, whose journal begins at this offset. It is left in their memory, and the room of
+// the others is given back.
+fn body_of(bytes: Vec<u8>, at: usize) -> Vec<u8>
+    requires { (MIN_BYTES ≤ at) × (at ≤ length bytes.items) }
+    ensures { result.items ≡ take (at - MIN_BYTES) (drop MIN_BYTES bytes.items) }
+{
+    let mut body = bytes;
+    body.copy_within(MIN_BYTES..at, 0);
+    body.truncate(at - MIN_BYTES);
+    body.shrink_to_fit();
+    body
 }
 
 // Syncs the disk and reads all of it.

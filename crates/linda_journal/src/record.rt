@@ -5,11 +5,12 @@ ghost use Rattle.std.specs.Prelude.{IfSome, IfNone, OnOk};
 ghost use Rattle.linda_state.specs.declared.deed.Deed as deed;
 ghost use Rattle.linda_journal.specs.declared.kinds.TheConstants.{CLOSED};
 ghost use Rattle.linda_journal.specs.declared.limits.TheConstants.{MAX_DEEDS};
-ghost use Rattle.linda_journal.specs.Records.{IsRecord, record_body};
+ghost use Rattle.linda_journal.specs.Records.{IsRecord, record_body, spell_record};
 ghost use Rattle.linda_journal.specs.Journal.{IsNoRecord};
 
 use crate::kinds::CLOSED;
 use crate::payload::{push_payload, read_payload};
+use crate::size::RECORD_HEAD;
 use linda_codec::read_u32;
 use linda_state::Deed;
 use std::alloc::{AllocError, Global};
@@ -49,19 +50,19 @@ pub(crate) fn read_record(
     }
 }
 
-/// What is to stand behind the gate of the record of these deeds, with a closed gate at its end.
-pub(crate) fn spell_body(alloc: Global, deeds: &[Deed]) -> Result<Vec<u8>, AllocError>
+/// What is to stand behind the gate of the record of these deeds, with a closed gate at its end: as many bytes as the
+/// record has, which are these.
+pub(crate) fn spell_body(alloc: Global, deeds: &[Deed], len: usize) -> Result<Vec<u8>, AllocError>
     requires some { 1 ≤ length deeds.now }
     requires few { length deeds.now ≤ MAX_DEEDS }
+    requires long { len ≡ length (spell_record deeds.now) }
+    requires short { len < 2 ^ 32 }
     ensures bytes { IfOk result (λ v. v.items ≡ record_body deeds.now ++ CLOSED ∷ []) }
     ensures good { OnOk result (IsRecord deeds.now) }
 {
-    let mut payload = Vec::new(alloc);
-    push_payload(&mut payload, deeds)?;
-    let len = as_length(payload.len());
-    let mut out = Vec::new(alloc);
-    out.extend_from_slice(&len.to_be_bytes())?;
-    out.extend_from_slice(&payload)?;
+    let mut out = Vec::with_capacity(alloc, len)?;
+    out.extend_from_slice(&as_length(len - RECORD_HEAD).to_be_bytes())?;
+    push_payload(&mut out, deeds)?;
     out.push(CLOSED)?;
     Ok(out)
 }

@@ -28,7 +28,7 @@ pub(crate) fn serve_one(
         ((client, message.now) ∷ []) served store.new.state store.new.soft) }
     ensures unspent { OnOk result (store.new.is_spent ≡ false) }
 {
-    let mut served = none(alloc);
+    let mut served = none(alloc, 1)?;
     add(&mut served, store, alloc, client, message)?;
     Ok(served)
 }
@@ -48,24 +48,24 @@ pub(crate) fn serve_each(
         served store.new.state store.new.soft) }
     ensures unspent { OnOk result (store.new.is_spent ≡ false) }
 {
-    let mut served = none(alloc);
+    let mut served = none(alloc, messages.len())?;
     for message in messages {
         add(&mut served, store, alloc, message.0, &message.1)?;
     }
     Ok(served)
 }
 
-// Nothing was served yet.
-fn none(alloc: Global) -> Served
-    ensures deeds { result.deeds.items ≡ [] }
-    ensures sends { result.sends.items ≡ [] }
-    ensures shares { result.shares.items ≡ [] }
+// Nothing was served yet; there is room for what so many messages mostly lead to.
+fn none(alloc: Global, messages: usize) -> Result<Served, AllocError>
+    ensures deeds { IfOk result (λ served. served.deeds.items ≡ []) }
+    ensures sends { IfOk result (λ served. served.sends.items ≡ []) }
+    ensures shares { IfOk result (λ served. served.shares.items ≡ []) }
 {
-    Served {
-        deeds: Vec::new(alloc),
-        sends: Vec::new(alloc),
-        shares: Vec::new(alloc),
-    }
+    Ok(Served {
+        deeds: Vec::with_capacity(alloc, messages)?,
+        sends: Vec::with_capacity(alloc, messages)?,
+        shares: Vec::with_capacity(alloc, messages)?,
+    })
 }
 
 // Serves one message more.

@@ -247,7 +247,7 @@ fn open_file<B: Bag, D: Disk>(
 {
     match Bank::open(alloc, disk, limit) {
         Err((fault, disk)) => Err((fault, disk)),
-        Ok((bank, body, records)) => match recover(alloc, &body, &records) {
+        Ok((bank, body, records)) => match recover(alloc, body, records) {
             Ok(state) => Ok((state, bank)),
             Err(fault) => Err((fault, bank.into_disk())),
         },
@@ -305,13 +305,19 @@ fn choose(left: Heading, right: Heading) -> Result<bool, ChoiceFault>
     }
 }
 
-// The state that a body and the records behind it come to.
-fn recover<B: Bag>(alloc: Global, body: &[u8], records: &[Record]) -> Result<State<B>, BankFault>
-    ensures found { IfOk result (λ st. IsRecovered body.now records.now st) }
+// The state that a body and the records behind it come to. The memory of the body is given back before they are done.
+fn recover<B: Bag>(
+    alloc: Global,
+    body: Vec<u8>,
+    records: Vec<Record>,
+) -> Result<State<B>, BankFault>
+    ensures found { IfOk result (λ st. IsRecovered body.items records.items st) }
     ensures ranges { IfOk result IsState }
-    ensures fault { IfErr result (IsUnrecovered body.now records.now) }
+    ensures fault { IfErr result (IsUnrecovered body.items records.items) }
 {
-    match get_state(alloc, body) {
+    let read = get_state(alloc, &body);
+    drop(body);
+    match read {
         Err(SnapshotFault::NoSnapshot) => Err(BankFault::Damaged(MIN_BYTES)),
         Err(SnapshotFault::Memory) => Err(BankFault::Memory),
         Ok(opening) => {

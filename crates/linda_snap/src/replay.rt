@@ -28,7 +28,8 @@ impl From<AllocError> for ReplayFault {
     }
 }
 
-/// Does the deeds of the records, one after the other. After an error the state may be any.
+/// Does the deeds of the records, one after the other, and gives back the memory of each record behind it. After an
+/// error the state may be any.
 ///
 /// # Errors
 ///
@@ -36,26 +37,31 @@ impl From<AllocError> for ReplayFault {
 pub(crate) fn replay<B: Bag>(
     alloc: Global,
     state: &mut State<B>,
-    records: &[Record],
+    records: Vec<Record>,
 ) -> Result<(), ReplayFault>
     requires { IsState state.old }
-    ensures done { OnOk result (AreDone state.old (joined records.now) state.new) }
+    ensures done { OnOk result (AreDone state.old (joined records.items) state.new) }
     ensures ranges { OnOk result (IsState state.new) }
-    ensures fault { IfErr result (IsReplayFault state.old records.now) }
+    ensures fault { IfErr result (IsReplayFault state.old records.items) }
 {
     for record in records {
-        if !redo_all(alloc, state, &record.deeds)? {
-            return Err(ReplayFault::Improper(record.gate));
+        let Record { gate, deeds } = record;
+        if !redo_all(alloc, state, deeds)? {
+            return Err(ReplayFault::Improper(gate));
         }
     }
     Ok(())
 }
 
 // Does the deeds one after the other, and tells whether each was allowed where it came.
-fn redo_all<B: Bag>(alloc: Global, state: &mut State<B>, deeds: &[Deed]) -> Result<bool, AllocError>
+fn redo_all<B: Bag>(
+    alloc: Global,
+    state: &mut State<B>,
+    deeds: Vec<Deed>,
+) -> Result<bool, AllocError>
     requires { IsState state.old }
-    ensures done { IfOk result (λ done. done ≡ true → GoesOn state.old deeds.now state.new) }
-    ensures refused { IfOk result (λ done. done ≡ false → Stops state.old deeds.now) }
+    ensures done { IfOk result (λ done. done ≡ true → GoesOn state.old deeds.items state.new) }
+    ensures refused { IfOk result (λ done. done ≡ false → Stops state.old deeds.items) }
     ensures ranges { OnOk result (IsState state.new) }
 {
     for deed in deeds {

@@ -117,23 +117,24 @@ impl<B: Bag> State<B> {
     }
 
     /// Does the deed, where it is allowed in this state, and tells whether it is. Where it is not, the
-    /// state is as before. So a list of deeds is done again by one call for each.
+    /// state is as before. So a list of deeds is done again by one call for each. A tuple that is put is
+    /// the deed's own.
     ///
     /// # Errors
     ///
     /// `AllocError` where memory runs out, and then the state is as before. It comes only for a deed
     /// that is allowed.
     #[tactic(auto, using(crate::proofs::DoneLaws::one_state))]
-    pub fn redo(&mut self, alloc: Global, deed: &Deed) -> Result<bool, AllocError>
+    pub fn redo(&mut self, alloc: Global, deed: Deed) -> Result<bool, AllocError>
         requires { IsState self.old }
         ensures done { IfOk result (λ done. done ≡ true
-            → IsAllowed self.old deed.now × IsAfter self.old (deed.now ∷ []) self.new) }
+            → IsAllowed self.old deed × IsAfter self.old (deed ∷ []) self.new) }
         ensures refused { IfOk result (λ done. done ≡ false
-            → (IsAllowed self.old deed.now → ⊥) × (self.new ≡ self.old)) }
+            → (IsAllowed self.old deed → ⊥) × (self.new ≡ self.old)) }
         ensures ranges { OnOk result (IsState self.new) }
-        ensures err { OnErr result (IsAllowed self.old deed.now × (self.new ≡ self.old)) }
+        ensures err { OnErr result (IsAllowed self.old deed × (self.new ≡ self.old)) }
     {
-        if !self.is_allowed(deed) {
+        if !self.is_allowed(&deed) {
             return Ok(false);
         }
         self.do_again(alloc, deed)?;
@@ -141,22 +142,19 @@ impl<B: Bag> State<B> {
     }
 
     // Does a deed that is allowed.
-    fn do_again(&mut self, alloc: Global, deed: &Deed) -> Result<(), AllocError>
+    fn do_again(&mut self, alloc: Global, deed: Deed) -> Result<(), AllocError>
         requires state { IsState self.old }
-        requires allowed { IsAllowed self.old deed.now }
-        ensures after { OnOk result (IsAfter self.old (deed.now ∷ []) self.new) }
+        requires allowed { IsAllowed self.old deed }
+        ensures after { OnOk result (IsAfter self.old (deed ∷ []) self.new) }
         ensures err { OnErr result (self.new ≡ self.old) }
     {
         match deed {
-            Deed::Out { client, n, tuple } => {
-                let stored = tuple.try_clone(alloc)?;
-                self.put(*client, *n, stored)
-            }
+            Deed::Out { client, n, tuple } => self.put(client, n, tuple),
             Deed::Take { client, n, id } => {
-                let _taken = self.take(alloc, *client, *n, *id)?;
+                let _taken = self.take(alloc, client, n, id)?;
                 Ok(())
             }
-            Deed::Pass { client, n, .. } => self.pass(*client, *n),
+            Deed::Pass { client, n, .. } => self.pass(client, n),
         }
     }
 

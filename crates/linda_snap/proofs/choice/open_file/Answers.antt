@@ -1,20 +1,17 @@
 use Rattle.std.proofs.Common.{subst}
 use Rattle.linda_journal.specs.Journal.{deeds_of}
 use Rattle.linda_journal.specs.Bank.{IsBank}
-use Rattle.linda_snap.specs.Choice.{IsRecovered, IsUnrecovered}
 use Rattle.linda_snap.proofs.ChoiceLaws.{stored_there, fault_there, fault_of_bank}
 use Rattle.linda_snap.proofs.choice.open_file.Goals as goal
 
 pub returns-in-Ok-recover-clause-found : goal.returns-in-Ok-recover-clause-found
 returns-in-Ok-recover-clause-found g c honest =
-    stored_there c.in-Ok.bank.generation c.in-Ok.bank.end c.in-Ok.body.items c.in-Ok.records.items (g.D.Disk.view c.in-Ok.bank.disk) c.in-Ok-recover.state (c.in-Ok.ensures.found honest)
-    (subst (λ b. IsRecovered b c.in-Ok.records.items c.in-Ok-recover.state) c.deref.ensures.value (subst (λ rs. IsRecovered c.deref.result.now rs c.in-Ok-recover.state) c.deref-in-Ok.ensures.value c.in-Ok-recover.ensures.found))
+    stored_there c.in-Ok.bank.generation c.in-Ok.bank.end c.in-Ok.body.items c.in-Ok.records.items (g.D.Disk.view c.in-Ok.bank.disk) c.in-Ok-recover.state (c.in-Ok.ensures.found honest) c.in-Ok-recover.ensures.found
 
 pub returns-in-Err-clause-fault : goal.returns-in-Err-clause-fault
 returns-in-Err-clause-fault g c honest other = fault_of_bank (g.D.Disk.view c.args.disk).seen c.in-Err.fault (c.in-Err.ensures.fault honest other)
 
-pub returns-clause-fault : goal.returns-clause-fault
-returns-clause-fault g c honest other =
+pub returns-in-Err-recover-clause-fault : goal.returns-in-Err-recover-clause-fault
+returns-in-Err-recover-clause-fault g c honest other =
     fault_there (g.D.Disk.view c.args.disk).seen c.in-Ok.bank.generation c.in-Ok.body.items c.in-Ok.records.items c.in-Err-recover.fault
-    (subst (λ file. IsBank file c.in-Ok.bank.generation c.in-Ok.body.items (deeds_of c.in-Ok.records.items)) (c.in-Ok.ensures.seen honest) (c.in-Ok.ensures.found honest).file)
-    (subst (λ b. IsUnrecovered b c.in-Ok.records.items c.in-Err-recover.fault) c.deref.ensures.value (subst (λ rs. IsUnrecovered c.deref.result.now rs c.in-Err-recover.fault) c.deref-in-Ok.ensures.value c.in-Err-recover.ensures.fault))
+    (subst (λ file. IsBank file c.in-Ok.bank.generation c.in-Ok.body.items (deeds_of c.in-Ok.records.items)) (c.in-Ok.ensures.seen honest) (c.in-Ok.ensures.found honest).file) c.in-Err-recover.ensures.fault

@@ -44,4 +44,4 @@ returns-clause-done g c body records honest settled =
     let ready = c.in_ok-stage.ensures.ready front (record_body c.args.deeds.now) (c.deref.ensures.value ∙ c.in_ok-bytes.ensures.bytes) honest shut in
     let opened = c.in_ok-open_gate.ensures.opened front (record_body c.args.deeds.now) (c.stage.ensures.honest.0 honest) ready in
     settled_with bank.generation body records c.args.deeds.now bank.end old settled c.in_ok-bytes.ensures.good (g.D.Disk.view c.open_gate.new.disk) _
-    (ap (λ n. bank.end + n) c.record_len-len.ensures) opened
+    (ap (λ n. bank.end + n) c.record_len-len.ensures.exact) opened
