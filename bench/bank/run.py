@@ -2,11 +2,12 @@
 """Times a bank on a file: appends of records of 64 deeds, and opening it, beside a plain copy of the same bytes.
 
 It proves and builds `main.rt.txt` (so named since the gate reads each `.rt` file) over the crates of this repository, in a folder of its own,
-and runs it at some 1,000, 100,000 and 1,000,000 deeds (whole records of 64) `("job", i)` of 28 bytes. The files lie in memory where
-/dev/shm is there, so that a sync costs little and the work of the program is seen. A time is the least of five runs. It prints a
-line for each size with the time of a deed, the growth of that time from the first size to the last, and the greatest memory in use
-of a process that opens the bank, for each byte of the bank and beyond that of a process that opens the smallest one. It fails where
-the time of a deed in an append or an opening grows more than twice.
+and runs it at some 1,000, 100,000 and 1,000,000 deeds (whole records of 64) `("job", i)` of 28 bytes, and at 1,000,000 records of one.
+The files lie in memory where /dev/shm is there, so that a sync costs little and the work of the program is seen. A time is the least of
+five runs. It prints a line for each size with the time of a deed, the growth of that time from the first size to the last with records
+of 64, and the greatest memory in use of a process that opens the bank, also for each byte of the bank; the program itself is among it. Of the
+smallest bank none is told: it is that of this script, which the process is when it starts. It fails where the time of a deed in an append or
+an opening grows more than twice.
 
 `run.py PROGRAM [FOLDER]` runs a program that is built already; the files are made in FOLDER.
 """
@@ -17,8 +18,8 @@ import subprocess
 import sys
 import tempfile
 
-RECORDS = [16, 1_563, 15_625]
-DEEDS = 64
+# how many records, and the deeds of each; the first is the smallest, the last but one is as large as the last
+SIZES = [(16, 64), (1_563, 64), (15_625, 64), (1_000_000, 1)]
 RUNS = 5
 MOST_GROWTH = 2.0
 HERE = os.path.dirname(os.path.abspath(__file__))
@@ -59,14 +60,14 @@ def empty(path):
     return path
 
 
-def times_of(program, folder, records):
+def times_of(program, folder, records, each):
     """The least microseconds of an append of all, of an opening and of a copy, the bytes of the bank, and the least of the greatest
     memory in use of an opening."""
     bank, other = os.path.join(folder, "bank"), os.path.join(folder, "other")
-    deeds = str(records * DEEDS)
+    deeds = str(records * each)
     times = [
         [
-            run(program, "append", empty(bank), deeds),
+            run(program, "append", empty(bank), deeds, str(each)),
             run(program, "open", bank, deeds),
             run(program, "copy", bank, empty(other)),
         ]
@@ -81,16 +82,17 @@ def main():
         program = sys.argv[1] if len(sys.argv) > 1 else build(built)
         place = sys.argv[2] if len(sys.argv) > 2 else "/dev/shm" if os.path.isdir("/dev/shm") else None
         with tempfile.TemporaryDirectory(dir=place) as folder:
-            rows = [(records * DEEDS, *times_of(program, folder, records)) for records in RECORDS]
-    print("| deeds | bytes | append, a deed | open, a deed | copy, a deed | append / copy | open / copy |")
-    print("|---|---|---|---|---|---|---|")
-    for deeds, (append, opening, copy), size, _ in rows:
+            rows = [(records, records * each, *times_of(program, folder, records, each)) for records, each in SIZES]
+    print("| deeds | records | bytes | append, a deed | open, a deed | copy, a deed | append / copy | open / copy |")
+    print("|---|---|---|---|---|---|---|---|")
+    for records, deeds, (append, opening, copy), size, _ in rows:
         each = " | ".join(f"{time / deeds:.3f} us" for time in (append, opening, copy))
-        print(f"| {deeds:,} | {size:,} | {each} | {append / copy:.1f} | {opening / copy:.1f} |")
-    (few, first, small, low), (many, last, large, high) = rows[0], rows[-1]
+        print(f"| {deeds:,} | {records:,} | {size:,} | {each} | {append / copy:.1f} | {opening / copy:.1f} |")
+    (_, few, first, *_), (_, many, last, *_) = rows[0], rows[2]
     growths = [(after / many) / (before / few) for before, after in zip(first, last)]
     print("growth of the time of a deed: " + ", ".join(f"{name} {growth:.2f}" for name, growth in zip(("append", "open", "copy"), growths)))
-    print(f"opening {many:,} deeds: at most {high / 2**20:.1f} MiB in use, {low / 2**20:.1f} MiB for {few:,}: {(high - low) / (large - small):.1f} bytes a byte")
+    for records, deeds, _, size, memory in rows[1:]:
+        print(f"opening {deeds:,} deeds in {records:,} records: at most {memory / 2**20:.1f} MiB in use, {memory / size:.1f} bytes a byte")
     if max(growths[:2]) > MOST_GROWTH:
         sys.exit(f"more than {MOST_GROWTH}")
 
