@@ -1,7 +1,7 @@
 //! Limits of texts and fields, on texts that are made for it.
 
 use super::{long_string, many_fields};
-use crate::{TextFault, read_tuple};
+use linda_text::{TextFault, read_tuple};
 use std::test::*;
 
 #[test]

@@ -1,8 +1,8 @@
 //! Each kind of frame, both ways.
 
 use super::samples::*;
-use crate::{Feed, Message, Reply, ReplyFeed};
 use linda_tuple::{Atom, Pattern, Template};
+use linda_wire::{Feed, Message, Reply, ReplyFeed};
 use std::alloc::{AllocError, Global};
 use std::test::*;
 

@@ -1,7 +1,7 @@
 //! Reading in the middle of a text.
 
 use super::text;
-use crate::{TextFault, read_atom_at, read_template_at};
+use linda_text::{TextFault, read_atom_at, read_template_at};
 use linda_tuple::{Atom, Pattern};
 use std::test::*;
 

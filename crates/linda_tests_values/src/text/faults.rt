@@ -1,7 +1,7 @@
 //! Each fault at its offset. Nothing here takes memory but the readers, so that each row holds also
 //! with any one growth of memory refused.
 
-use crate::{TextFault, read_template, read_tuple};
+use linda_text::{TextFault, read_template, read_tuple};
 use std::alloc::Global;
 use std::test::*;
 

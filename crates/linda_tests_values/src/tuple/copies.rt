@@ -1,7 +1,7 @@
 //! A copy is the same value.
 
 use super::samples::text;
-use crate::{Atom, Pattern, Template, Text, Tuple};
+use linda_tuple::{Atom, Pattern, Template, Text, Tuple};
 use std::test::Fail;
 
 #[test]

@@ -1,7 +1,7 @@
 //! What a template matches, and what it binds.
 
 use super::samples::text;
-use crate::{Atom, Pattern, Template, Tuple, bindings, matches};
+use linda_tuple::{Atom, Pattern, Template, Tuple, bindings, matches};
 use std::alloc::Global;
 use std::test::Fail;
 

@@ -1,6 +1,6 @@
 //! What a server sends and keeps, as lines.
 
-use crate::{read_reply, tell_replies, tell_tuple, tidied};
+use linda_script::{read_reply, tell_replies, tell_tuple, tidied};
 use linda_text::read_tuple;
 use std::alloc::Global;
 use std::test::Fail;

@@ -1,7 +1,7 @@
 //! Streams of frames, in pieces of any size.
 
 use super::samples::*;
-use crate::{Feed, ReplyFeed};
+use linda_wire::{Feed, ReplyFeed};
 use std::alloc::Global;
 use std::test::*;
 

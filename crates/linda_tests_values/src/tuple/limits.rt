@@ -1,7 +1,7 @@
 //! The limits of tuples and templates at their edges.
 
 use super::samples::{long_text, numbers};
-use crate::{Atom, Pattern, Template, Tuple, ValueFault};
+use linda_tuple::{Atom, Pattern, Template, Tuple, ValueFault};
 use std::alloc::{AllocError, Global};
 use std::test::Fail;
 

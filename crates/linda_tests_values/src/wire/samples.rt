@@ -1,7 +1,7 @@
 //! A frame of each kind, by hand, and whether a message or a reply is spelled as one.
 
-use crate::{Message, Reply, encode_message, encode_reply};
 use linda_tuple::{Atom, Text, Tuple};
+use linda_wire::{Message, Reply, encode_message, encode_reply};
 use std::alloc::{AllocError, Global};
 use std::test::*;
 

@@ -1,6 +1,6 @@
 //! Messages and replies in words, each with its frame, worked by hand from the table of frames.
 
-use crate::{WordsFault, said_frames, told_frames};
+use linda_script::{WordsFault, said_frames, told_frames};
 use std::alloc::Global;
 use std::test::Fail;
 

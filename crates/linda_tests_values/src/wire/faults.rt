@@ -1,6 +1,6 @@
 //! Frames that spell nothing, of each kind and with each fault that it can have; the offsets are counted by hand.
 
-use crate::{Feed, FrameFault, ReplyFeed};
+use linda_wire::{Feed, FrameFault, ReplyFeed};
 use std::alloc::Global;
 use std::test::*;
 

@@ -1,7 +1,7 @@
 //! The order of atoms, and when tuples and templates are equal.
 
 use super::samples::{numbers, text};
-use crate::{Atom, Pattern, Template, Text, Tuple};
+use linda_tuple::{Atom, Pattern, Template, Text, Tuple};
 use std::alloc::{AllocError, Global};
 use std::cmp::Ordering;
 use std::test::Fail;

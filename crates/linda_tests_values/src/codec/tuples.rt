@@ -1,7 +1,7 @@
 //! Atoms and tuples, both ways.
 
 use super::text;
-use crate::{
+use linda_codec::{
     ReadFault, get_atom, get_tuple, put_atom, put_tuple, read_atom, read_bool, read_tuple, read_u8,
     read_u32, read_u64,
 };

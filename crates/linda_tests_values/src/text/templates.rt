@@ -1,7 +1,7 @@
 //! Templates that are read.
 
 use super::text;
-use crate::read_template;
+use linda_text::read_template;
 use linda_tuple::{Atom, Pattern};
 use std::test::*;
 

@@ -1,6 +1,6 @@
 //! Each fault at its offset.
 
-use crate::{ReadFault, get_template, get_tuple, skip_template, skip_tuple};
+use linda_codec::{ReadFault, get_template, get_tuple, skip_template, skip_tuple};
 use std::test::*;
 
 #[test]

@@ -1,6 +1,6 @@
 //! Texts and faults, worked by hand from the grammar.
 
-use crate::{TextFault, read_tuple, write_tuple};
+use linda_text::{TextFault, read_tuple, write_tuple};
 use linda_tuple::{Atom, Text};
 use std::alloc::{AllocError, Global};
 

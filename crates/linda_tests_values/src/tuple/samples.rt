@@ -1,6 +1,6 @@
 //! Atoms that the tests are made of.
 
-use crate::{Atom, Text};
+use linda_tuple::{Atom, Text};
 use std::alloc::{AllocError, Global};
 
 /// The atom of the text.

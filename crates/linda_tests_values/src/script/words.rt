@@ -1,6 +1,6 @@
 //! Words that say nothing, and words that are not as they are written.
 
-use crate::{WordsFault, read_message, read_numbered, read_reply};
+use linda_script::{WordsFault, read_message, read_numbered, read_reply};
 use std::alloc::Global;
 
 /// The first of the texts that is read as a message, or for which memory is short.

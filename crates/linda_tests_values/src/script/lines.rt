@@ -1,6 +1,6 @@
 //! The lines of a script.
 
-use crate::{said, tidied, told};
+use linda_script::{said, tidied, told};
 use std::alloc::{AllocError, Global};
 use std::test::Fail;
 

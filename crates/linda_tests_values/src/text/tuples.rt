@@ -1,7 +1,7 @@
 //! Tuples that are read, and the texts that are written of them.
 
 use super::{long_string, many_fields, rewritten, text};
-use crate::{read_tuple, write_atom, write_tuple};
+use linda_text::{read_tuple, write_atom, write_tuple};
 use linda_tuple::{Atom, Tuple};
 use std::alloc::{AllocError, Global};
 use std::test::*;

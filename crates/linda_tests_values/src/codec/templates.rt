@@ -1,7 +1,7 @@
 //! Templates, both ways.
 
 use super::text;
-use crate::{ReadFault, get_template, put_template, read_template};
+use linda_codec::{ReadFault, get_template, put_template, read_template};
 use linda_tuple::{Atom, Pattern, Template};
 use std::alloc::Global;
 use std::test::*;
