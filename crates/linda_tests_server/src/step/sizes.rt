@@ -1,9 +1,8 @@
 //! How many bytes deeds will spell, counted before they are done; worked by hand from the format of deeds.
 
-use crate::size::MAX_BATCH;
-use crate::store::Store;
 use linda_bag::ListBag;
 use linda_script::read_messages;
+use linda_step::{MAX_BATCH, Store};
 use std::alloc::Global;
 use std::test::Fail;
 

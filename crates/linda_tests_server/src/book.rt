@@ -1,8 +1,6 @@
 //! Each class at its borders, and each public call once; what is expected was worked by hand.
 
-use crate::books::Book;
-use crate::classes::Class;
-use crate::kept::KeptReply;
+use linda_book::{Book, Class, KeptReply};
 use linda_tuple::{Atom, Tuple};
 use std::alloc::{AllocError, Global};
 use std::test::Fail;

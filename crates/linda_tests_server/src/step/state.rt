@@ -4,11 +4,11 @@ ghost use Rattle.std.specs.Prelude.{◌<◌, ◌≤◌, IfOk};
 ghost use Rattle.linda_wire.specs.declared.limits.TheConstants.{NUMBER_LIMIT};
 ghost use Rattle.linda_state.specs.State.{IsState};
 
-use crate::store::Store;
 use linda_bag::ListBag;
 use linda_book::{Book, KeptReply};
 use linda_script::split_word;
 use linda_state::State;
+use linda_step::Store;
 use linda_text::read_tuple;
 use linda_wire::NUMBER_LIMIT;
 use std::alloc::{AllocError, Global};

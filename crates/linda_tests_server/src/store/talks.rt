@@ -4,10 +4,8 @@
 
 use super::pipe::{Pieces, Room};
 use super::script::{HELD_BY_7, plays};
-use crate::conversation::converse;
-use crate::end::{ConverseFault, End};
-use crate::volatile::Volatile;
 use linda_script::{said_frames, told_frames};
+use linda_store::{ConverseFault, End, Volatile, converse};
 use std::alloc::Global;
 use std::process::Abort;
 use std::test::Fail;

@@ -1,9 +1,7 @@
 //! A stream that spells nothing is told so where memory is short for what it holds.
 
 use super::pipe::Room;
-use crate::conversation::converse;
-use crate::end::End;
-use crate::volatile::Volatile;
+use linda_store::{End, Volatile, converse};
 
 /// Refused, as malformed at 17.
 const REFUSED: [u8; 14] = [0, 0, 0, 0xa, 0x17, 9, 0, 0, 0, 0, 0, 0, 0, 17];

@@ -2,9 +2,7 @@
 
 ghost use Rattle.std.specs.Prelude.{◌<◌};
 
-use crate::bags::Bag;
-use crate::index_bag::IndexBag;
-use crate::lists::ListBag;
+use linda_bag::{Bag, IndexBag, ListBag};
 use linda_tuple::{Atom, Pattern, Template, Tuple};
 use std::alloc::Global;
 use std::collections::BTreeSet;

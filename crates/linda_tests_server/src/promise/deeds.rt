@@ -1,6 +1,6 @@
 //! What is told of deeds.
 
-use crate::deed::{last_number, reported_deed, taker_of};
+use linda_promise::{last_number, reported_deed, taker_of};
 use linda_state::Deed;
 use linda_wire::{Message, Reply};
 use std::test::Fail;

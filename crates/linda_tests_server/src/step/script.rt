@@ -10,13 +10,12 @@
 //! ask by the tickets from 1 on, below this one, for the tuple 5, to take it by an odd ticket, else to read it;
 //! `passes 1000 2023` lets each client from the first on, below the second, accept what nobody offered it.
 
-use crate::step::Step;
-use crate::store::Store;
 use linda_bag::{Bag, IndexBag, ListBag};
 use linda_script::{
     read_message, read_numbered, said, split_word, tell_replies, tell_tuple, tidied,
 };
 use linda_state::Deed;
+use linda_step::{Step, Store};
 use linda_text::write_tuple;
 use std::alloc::{AllocError, Global};
 use std::process::Abort;

@@ -3,12 +3,11 @@
 //! A line says a message behind its client, as `7 out 1 ("a", 3)`, or `close 7`; it is told what is sent, behind the
 //! client that it goes to. `next` is told the next id, and `tuple 1` the tuple of that id, as `linda run` shows them.
 
-use crate::node::Node;
-use crate::volatile::Volatile;
 use linda_bag::Bag;
 use linda_script::{
     read_message, read_numbered, said, split_word, tell_replies, tell_tuple, tidied,
 };
+use linda_store::{Node, Volatile};
 use std::alloc::Global;
 use std::process::Abort;
 use std::test::Fail;

@@ -1,6 +1,6 @@
 //! Each public call once, in the orders that the server's rules ask for.
 
-use crate::{Asked, Holds, Request, Waits};
+use linda_hold::{Asked, Holds, Request, Waits};
 use linda_tuple::{Atom, Pattern, Template, Tuple};
 use std::alloc::Global;
 use std::process::Abort;

@@ -1,8 +1,7 @@
 //! A tuple that takes the place of another is found by its own tag, number of fields and first field, and the other by
 //! none of them.
 
-use crate::bags::Bag;
-use crate::index_bag::IndexBag;
+use linda_bag::{Bag, IndexBag};
 use linda_tuple::{Atom, Pattern, Template, Tuple};
 use std::alloc::Global;
 use std::collections::BTreeSet;

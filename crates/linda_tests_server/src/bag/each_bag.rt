@@ -1,8 +1,6 @@
 //! Each method of a bag, at both bags: what is expected was worked by hand.
 
-use crate::bags::Bag;
-use crate::index_bag::IndexBag;
-use crate::lists::ListBag;
+use linda_bag::{Bag, IndexBag, ListBag};
 use linda_tuple::{Atom, Pattern, Template, Text, Tuple};
 use std::alloc::Global;
 use std::collections::BTreeSet;

@@ -1,9 +1,7 @@
 //! A session, piece by piece.
 
-use crate::session::Session;
-use crate::stage::Stage;
-use crate::volatile::Volatile;
 use linda_script::{said_frames, told_frames};
+use linda_store::{Session, Stage, Volatile};
 use linda_wire::encode_reply;
 use std::alloc::Global;
 use std::process::Abort;

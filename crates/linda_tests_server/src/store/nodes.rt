@@ -4,12 +4,10 @@ ghost use Rattle.std.specs.Prelude.{◌≤◌, length, IfOk};
 ghost use Rattle.linda_step.specs.declared.size.TheConstants.{MAX_BATCH};
 
 use super::script::plays;
-use crate::node::Node;
-use crate::volatile::Volatile;
-use crate::work::Work;
 use linda_disk::Torn;
 use linda_script::{read_messages, tell_replies, tidied};
 use linda_step::MAX_BATCH;
+use linda_store::{Node, Volatile, Work};
 use linda_wire::Message;
 use std::alloc::Global;
 use std::process::Abort;

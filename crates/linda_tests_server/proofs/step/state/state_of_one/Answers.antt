@@ -9,7 +9,7 @@ use Rattle.linda_tuple.specs.Tuple.{Tuple}
 use Rattle.linda_bag.proofs.Maps.{get_empty, get_same, get_other, len_new}
 use Rattle.linda_book.specs.Entries.{Entry}
 use Rattle.linda_state.specs.State.{State, IsState}
-use Rattle.linda_step.proofs.tests.state.state_of_one.Goals as goal
+use Rattle.linda_tests_server.proofs.step.state.state_of_one.Goals as goal
 
 no_tuples : (bag : FinMap nat_cmp Tuple) (next id : ℕ) → bag ≡ map.empty → IfSome (get bag id) (λ _. (1 ≤ id) × (id < next))
 no_tuples bag next id empty = subst (λ o. IfSome o (λ (_ : Tuple). (1 ≤ id) × (id < next))) (sym (ap (λ m. get m id) empty ∙ get_empty id)) tt
