@@ -1,6 +1,6 @@
 //! What comes of a call, as lines of a script tell it.
 
-use crate::{ClientFault, Got, Outcome, Reaction};
+use linda_client::{ClientFault, Got, Outcome, Reaction};
 use linda_script::write_message;
 use linda_text::{push_atom, write_tuple};
 use linda_tuple::{Atom, Tuple};

@@ -1,7 +1,7 @@
 //! Each fault at its offset. Nothing here takes memory but the reader, so that each row holds also
 //! with any one growth of memory refused.
 
-use crate::{EventTextFault, read_event};
+use linda_shell::{EventTextFault, read_event};
 use linda_text::TextFault;
 use std::alloc::Global;
 use std::test::*;

@@ -9,7 +9,7 @@
 
 use super::call::{answer, call_of};
 use super::told::push_told;
-use crate::Client;
+use linda_client::Client;
 use linda_script::{said, tidied};
 use std::alloc::Global;
 use std::process::Abort;

@@ -6,7 +6,6 @@ ghost use Rattle.linda_run.specs.Reached.{IsUnused};
 
 use super::step::{Do, event_of};
 use super::words::{push_end, push_packets, push_told};
-use crate::script::{LIMIT, unused_node, unused_node_on};
 use linda_disk::MemDisk;
 use linda_server::Durable;
 use linda_store::{Node, Volatile};
@@ -14,6 +13,9 @@ use linda_world::World;
 use std::alloc::{AllocError, Global};
 use std::process::Abort;
 use std::test::Fail;
+
+/// The most bytes that a bank of a server may have where its disks have room.
+pub(super) const LIMIT: usize = 1_048_576;
 
 /// What happens, each with what comes of it.
 pub(super) type Steps<'a> = &'a [(Do, &'a str)];
@@ -124,6 +126,21 @@ pub(super) fn on_these(
     with_clients(alloc, durable_nodes(alloc, left, right, limit, false)?)
 }
 
+/// A server on these disks that was never used, with this limit.
+fn unused_node(
+    alloc: Global,
+    left: MemDisk,
+    right: MemDisk,
+    limit: usize,
+) -> Result<Durable<MemDisk>, AllocError>
+    ensures { IfOk result (λ n. IsUnused (⟦<Durable<MemDisk> as linda_store::Node>⟧.shown n)) }
+{
+    match Durable::create(alloc, left, right, limit) {
+        Ok(node) => Ok(node),
+        Err(_) => Err(AllocError),
+    }
+}
+
 /// A server on these disks, and where there are two, another one on new disks.
 fn durable_nodes(
     alloc: Global,
@@ -138,9 +155,10 @@ fn durable_nodes(
         All IsUnused (map (λ n. ⟦<Durable<MemDisk> as linda_store::Node>⟧.shown n) v.items)) }
 {
     let mut nodes = Vec::new(alloc);
-    nodes.push(unused_node_on(alloc, left, right, limit)?)?;
+    nodes.push(unused_node(alloc, left, right, limit)?)?;
     if two {
-        nodes.push(unused_node(alloc)?)?;
+        let node = unused_node(alloc, MemDisk::new(alloc), MemDisk::new(alloc), LIMIT)?;
+        nodes.push(node)?;
     }
     Ok(nodes)
 }

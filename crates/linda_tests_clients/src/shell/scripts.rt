@@ -1,7 +1,7 @@
 //! Scripts and what they print, worked by hand from the rules of commands, events and servers.
 
-use crate::{LineFault, ScriptFault, run_script};
 use linda_client::MAX_SERVERS;
+use linda_shell::{LineFault, ScriptFault, run_script};
 use std::alloc::{AllocError, Global};
 use std::process::Abort;
 

@@ -1,7 +1,7 @@
 //! The limits of events at their edges.
 
 use super::events::{choice, wrapped};
-use crate::{Event, EventFault, ask_count, base_count, check, is_any_ready, labels_of};
+use linda_event::{Event, EventFault, ask_count, base_count, check, is_any_ready, labels_of};
 use std::test::Fail;
 
 #[test]

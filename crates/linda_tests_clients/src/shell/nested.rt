@@ -1,7 +1,7 @@
 //! How many nodes may be nested.
 
-use crate::{EventTextFault, read_event};
 use linda_event::base_count;
+use linda_shell::{EventTextFault, read_event};
 use linda_text::TextFault;
 use std::alloc::{AllocError, Global};
 use std::test::*;

@@ -1,7 +1,7 @@
 //! Outs, what is sent again, and calls that are refused.
 
 use super::script::{ACCEPTING, NEW, Row, run_rows};
-use crate::{Client, ClientFault};
+use linda_client::{Client, ClientFault};
 use std::test::Fail;
 
 const ROWS: &[Row] = &[

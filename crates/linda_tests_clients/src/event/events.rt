@@ -1,6 +1,6 @@
 //! Events for tests.
 
-use crate::Event;
+use linda_event::Event;
 use linda_tuple::{Atom, Pattern, Template, Text};
 use std::alloc::Global;
 use std::test::Fail;
@@ -58,24 +58,25 @@ pub(super) fn choice(
 
 /// `choose [nack 1 wrap 5 in ("a", ?i), nack 2 rd ("b"), alarm 3]`.
 pub(super) fn worked(alloc: Global) -> Result<Event, Fail> {
-    let fields = vec![in alloc; Pattern::IntFormal]?;
+    let mut fields = Vec::new(alloc);
+    fields.push(Pattern::IntFormal)?;
     let first = wrap(alloc, 5, Event::Input(template(alloc, "a", fields)?))?;
-    let members = vec![in alloc;
-        nack(alloc, 1, first)?,
-        nack(alloc, 2, read(alloc, "b")?)?,
-        Event::Alarm(3),
-    ]?;
+    let mut members = Vec::new(alloc);
+    members.push(nack(alloc, 1, first)?)?;
+    members.push(nack(alloc, 2, read(alloc, "b")?)?)?;
+    members.push(Event::Alarm(3))?;
     Ok(Event::Choose(members))
 }
 
 /// `choose [nack 1 choose [nack 2 never, wrap 9 nack 3 always 0], nack 1 wrap 4 nack 2 alarm 6]`.
 pub(super) fn nested(alloc: Global) -> Result<Event, Fail> {
     let third = nack(alloc, 3, Event::Always(Atom::Int(0)))?;
-    let inner = vec![in alloc; nack(alloc, 2, Event::Never)?, wrap(alloc, 9, third)?]?;
+    let mut inner = Vec::new(alloc);
+    inner.push(nack(alloc, 2, Event::Never)?)?;
+    inner.push(wrap(alloc, 9, third)?)?;
     let last = wrap(alloc, 4, nack(alloc, 2, Event::Alarm(6))?)?;
-    let outer = vec![in alloc;
-        nack(alloc, 1, Event::Choose(inner))?,
-        nack(alloc, 1, last)?,
-    ]?;
+    let mut outer = Vec::new(alloc);
+    outer.push(nack(alloc, 1, Event::Choose(inner))?)?;
+    outer.push(nack(alloc, 1, last)?)?;
     Ok(Event::Choose(outer))
 }

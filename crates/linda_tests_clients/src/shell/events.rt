@@ -1,6 +1,6 @@
 //! Events that are read, told by the one text that is written of each.
 
-use crate::{read_event, write_event};
+use linda_shell::{read_event, write_event};
 use std::alloc::Global;
 use std::process::Abort;
 use std::test::Fail;

@@ -38,11 +38,14 @@ fn tag(alloc: Global) -> Result<Atom, Fail> {
 }
 
 fn tuple(alloc: Global) -> Result<Tuple, Fail> {
-    Ok(Tuple::new(tag(alloc)?, vec![in alloc; Atom::Int(3)]?)?)
+    let mut fields = Vec::new(alloc);
+    fields.push(Atom::Int(3))?;
+    Ok(Tuple::new(tag(alloc)?, fields)?)
 }
 
 fn template(alloc: Global) -> Result<Template, Fail> {
-    let fields = vec![in alloc; Pattern::IntFormal]?;
+    let mut fields = Vec::new(alloc);
+    fields.push(Pattern::IntFormal)?;
     Ok(Template::new(tag(alloc)?, fields)?)
 }
 

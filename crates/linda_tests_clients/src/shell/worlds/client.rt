@@ -3,8 +3,8 @@
 //! where the growth is one of the test's own, the test fails and says that memory ran out.
 
 use super::words::push_message;
-use crate::{read_event, write_outcome};
 use linda_client::{Client, ClientFault, Reaction};
+use linda_shell::{read_event, write_outcome};
 use linda_text::read_tuple;
 use linda_tuple::Tuple;
 use linda_wire::Reply;

@@ -1,7 +1,7 @@
 //! The calls of a client, as lines of a script say them.
 
 use super::event::event_of;
-use crate::{Client, ClientFault, Reaction};
+use linda_client::{Client, ClientFault, Reaction};
 use linda_event::Event;
 use linda_script::{read_numbered, read_reply, split_word};
 use linda_text::read_tuple;

@@ -1,7 +1,7 @@
 //! Bases in tree order, and which are ready.
 
 use super::events::{nested, worked};
-use crate::{Base, Event, bases, check, is_any_ready};
+use linda_event::{Base, Event, bases, check, is_any_ready};
 use std::test::Fail;
 
 #[test]

@@ -1,9 +1,8 @@
 //! A server on disks that has no room, and servers whose device fails once.
 
 use super::lists::ends_so;
-use super::play::{Row, on_these, played};
+use super::play::{LIMIT, Row, on_these, played};
 use super::step::Do;
-use crate::script::LIMIT;
 use linda_disk::{MemDisk, Torn};
 use linda_world::WorldFault;
 use std::alloc::Global;

@@ -1,7 +1,7 @@
 //! Labels and nack numbers of events worked out by hand.
 
 use super::events::{input, nested, worked, wrap};
-use crate::{all_nacks, labels_of, nacks_of};
+use linda_event::{all_nacks, labels_of, nacks_of};
 use std::test::Fail;
 
 #[test]
