@@ -2,7 +2,7 @@
 
 use super::script::{Do, Side, Told, played, played_between};
 use super::words::{BOTH, EMPTY, NEW, ONE, SHUT, TWO, WITH_ONE};
-use crate::OpenFault;
+use linda_server::OpenFault;
 use std::test::Fail;
 
 const PUT: (Do, Told) = (Do::Put(7, 1, 3), Told::Replies(1));

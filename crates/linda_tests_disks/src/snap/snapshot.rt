@@ -1,7 +1,7 @@
 //! Snapshots as bytes: what is read, and what is refused.
 
-use crate::{SnapshotFault, get_state, put_state};
 use linda_bag::{Bag, ListBag};
+use linda_snap::{SnapshotFault, get_state, put_state};
 use linda_state::State;
 use std::alloc::Global;
 use std::test::Fail;

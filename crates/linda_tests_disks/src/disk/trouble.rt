@@ -2,7 +2,7 @@
 
 use super::script::Call::{self, Cut, Len, Read, Sync, Write};
 use super::script::{FAILED, OK, disk_of, make};
-use crate::{Disk, DiskFault, MemDisk, Torn};
+use linda_disk::{Disk, DiskFault, MemDisk, Torn};
 use std::process::Abort;
 use std::test::Fail;
 

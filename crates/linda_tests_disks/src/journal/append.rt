@@ -1,8 +1,8 @@
 //! Appending, with and without a stop, and making a bank.
 
 use super::script::{NEW, ONE, appended, created, stopped};
-use crate::BankFault;
 use linda_disk::Torn;
+use linda_journal::BankFault;
 use std::test::Fail;
 
 #[test]

@@ -1,8 +1,8 @@
 //! Banks worked by hand, and what is done with two of them in one go.
 
-use crate::{ChoiceFault, Chosen, SwitchFault, choose_bank, switch};
 use linda_bag::{Bag, ListBag};
 use linda_disk::{MemDisk, Torn};
+use linda_snap::{ChoiceFault, Chosen, SwitchFault, choose_bank, switch};
 use std::alloc::Global;
 use std::test::Fail;
 

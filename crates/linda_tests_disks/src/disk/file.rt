@@ -3,7 +3,7 @@
 
 ghost use Rattle.std.specs.Prelude.{length, ◌≡◌};
 
-use crate::{Disk, DiskFault, FileDisk, MemDisk};
+use linda_disk::{Disk, DiskFault, FileDisk, MemDisk};
 use std::alloc::Global;
 use std::fs::{self, OpenOptions};
 use std::process::Abort;

@@ -1,7 +1,7 @@
 //! Which of two banks is chosen, and what is told where none is.
 
 use super::script::{NEW, ONE, SHUT, TWO, chosen};
-use crate::ChoiceFault;
+use linda_snap::ChoiceFault;
 use std::test::Fail;
 
 #[test]

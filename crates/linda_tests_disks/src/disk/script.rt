@@ -1,6 +1,6 @@
 //! Scripts for tests: calls of a disk in memory, one after another.
 
-use crate::{Disk, DiskFault, MemDisk, Torn};
+use linda_disk::{Disk, DiskFault, MemDisk, Torn};
 use std::alloc::Global;
 use std::test::Fail;
 

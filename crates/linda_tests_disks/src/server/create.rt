@@ -2,7 +2,7 @@
 
 use super::script::{Do, Side, Told, played};
 use super::words::{EMPTY, NEW, SHUT, TORN};
-use crate::OpenFault;
+use linda_server::OpenFault;
 use std::test::Fail;
 
 /// The left bank of a new server with its gate closed, or with a byte there that does not open it.

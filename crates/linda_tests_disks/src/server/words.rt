@@ -63,7 +63,8 @@ fn put_of(n: u64, tag: Atom, fields: Vec<Atom>) -> Result<Message, AllocError> {
 /// Message `n` of a client, which puts ("a", number).
 pub(super) fn put(alloc: Global, n: u64, number: i64) -> Result<Message, AllocError> {
     let tag = Atom::Text(letters(alloc, 1)?);
-    let fields = vec![in alloc; Atom::Int(number)]?;
+    let mut fields = Vec::new(alloc);
+    fields.push(Atom::Int(number))?;
     put_of(n, tag, fields)
 }
 
@@ -102,7 +103,8 @@ pub(super) fn put_long(
 /// An Ask with ticket 1 for any tuple of tag "a" and one field, which is to be held.
 pub(super) fn take_any(alloc: Global) -> Result<Message, AllocError> {
     let tag = Atom::Text(letters(alloc, 1)?);
-    let fields = vec![in alloc; Pattern::Any]?;
+    let mut fields = Vec::new(alloc);
+    fields.push(Pattern::Any)?;
     match Template::new(tag, fields) {
         Ok(template) => Ok(Message::Ask {
             ticket: 1,

@@ -2,7 +2,7 @@
 
 use super::script::{Do, Side, Told, played};
 use super::words::{EMPTY, NEW, ONE, SHUT, TORN, TWO, WITH_ONE};
-use crate::OpenFault;
+use linda_server::OpenFault;
 use std::test::Fail;
 
 /// A put whose last sync failed: what the left disk reads has the tuple, and its gate was not synced. The left

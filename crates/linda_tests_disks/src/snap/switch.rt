@@ -1,8 +1,8 @@
 //! Switching to the other disk, with and without a stop.
 
 use super::script::{NEW, ONE, SHUT, TWO, renewed, stopped};
-use crate::SwitchFault;
 use linda_disk::Torn;
+use linda_snap::SwitchFault;
 use std::test::Fail;
 
 #[test]

@@ -5,10 +5,10 @@ ghost use Rattle.linda_store.specs.Node.{IsBatch};
 ghost use Rattle.linda_step.specs.declared.size.TheConstants.{MAX_BATCH};
 
 use super::words::{put, put_both, put_long, take_any};
-use crate::{Durable, OpenFault};
 use linda_bag::Bag;
 use linda_book::KeptReply;
 use linda_disk::{MemDisk, Torn};
+use linda_server::{Durable, OpenFault};
 use linda_state::Deed;
 use linda_step::MAX_BATCH;
 use linda_store::{Node, NodeFault, Work, converse};

@@ -4,7 +4,7 @@
 ghost use Rattle.std.specs.Prelude.{◌<◌};
 
 use super::model::Model;
-use crate::{Disk, DiskFault, MemDisk, Torn};
+use linda_disk::{Disk, DiskFault, MemDisk, Torn};
 use std::alloc::Global;
 use std::process::Abort;
 use std::test::Fail;

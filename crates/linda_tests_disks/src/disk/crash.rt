@@ -2,7 +2,7 @@
 
 use super::script::Call::{self, Cut, Sync, Write};
 use super::script::crashed;
-use crate::Torn;
+use linda_disk::Torn;
 use std::alloc::Global;
 use std::process::Abort;
 use std::test::Fail;

@@ -2,7 +2,7 @@
 //! left to right and makes no value of them.
 
 use super::script::opened;
-use crate::BankFault;
+use linda_journal::BankFault;
 use std::alloc::Global;
 use std::test::Fail;
 

@@ -5,8 +5,8 @@
 
 use super::script::{Do, Stand, Told, stand_on, step};
 use super::words::{EMPTY, WITH_ONE};
-use crate::OpenFault;
 use linda_disk::Torn;
+use linda_server::OpenFault;
 use std::alloc::{AllocError, Global};
 use std::process::Abort;
 use std::test::Fail;

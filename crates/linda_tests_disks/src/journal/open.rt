@@ -1,7 +1,7 @@
 //! Banks that open, and those that do not.
 
 use super::script::{NEW, ONE, opened};
-use crate::BankFault;
+use linda_journal::BankFault;
 use std::test::Fail;
 
 #[test]

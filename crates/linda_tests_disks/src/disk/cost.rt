@@ -1,6 +1,6 @@
 //! What a call of a disk in memory costs.
 
-use crate::{Disk, DiskFault, MemDisk};
+use linda_disk::{Disk, DiskFault, MemDisk};
 use std::alloc::Global;
 use std::test::Fail;
 use std::time::{Duration, Instant};

@@ -3,7 +3,7 @@
 
 use super::script::{Do, Side, Told, played, played_between};
 use super::words::{EMPTY, NEW, ONE, SHUT, TWO, WITH_ONE};
-use crate::OpenFault;
+use linda_server::OpenFault;
 use std::test::Fail;
 
 /// What both disks hold; whose device calls these are, the number of the first one, and how many they are; the steps,

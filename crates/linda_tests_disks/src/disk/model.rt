@@ -1,7 +1,7 @@
 //! A second model of a disk: the bytes at the last sync, and a list of the ranges that were written
 //! since.
 
-use crate::Torn;
+use linda_disk::Torn;
 use std::alloc::{AllocError, Global};
 
 /// A disk as ranges that are not synced.

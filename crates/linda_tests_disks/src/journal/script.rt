@@ -1,7 +1,7 @@
 //! Banks worked by hand, and what is done with them in one go.
 
-use crate::{Bank, BankFault};
 use linda_disk::{MemDisk, Torn};
+use linda_journal::{Bank, BankFault};
 use linda_state::Deed;
 use linda_tuple::{Atom, Text, Tuple};
 use std::alloc::{AllocError, Global};
@@ -18,7 +18,8 @@ pub(super) const ONE: &[u8] =
 /// That deed.
 fn put_a(alloc: Global) -> Result<Deed, AllocError> {
     let tag = Atom::Text(Text::new(String::from_str(alloc, "a")?));
-    let fields = vec![in alloc; Atom::Int(3)]?;
+    let mut fields = Vec::new(alloc);
+    fields.push(Atom::Int(3))?;
     match Tuple::new(tag, fields) {
         Ok(tuple) => Ok(Deed::Out {
             client: 7,
@@ -54,13 +55,14 @@ fn put_onto(alloc: Global, disk: MemDisk, limit: usize) -> (Result<(), BankFault
         Err((fault, disk)) => (Err(fault), disk),
         Ok((mut bank, _, _)) => {
             let told = put(alloc, &mut bank);
-            (told, bank.disk)
+            (told, bank.into_disk())
         }
     }
 }
 
 fn put(alloc: Global, bank: &mut Bank<MemDisk>) -> Result<(), BankFault> {
-    let deeds = vec![in alloc; put_a(alloc)?]?;
+    let mut deeds = Vec::new(alloc);
+    deeds.push(put_a(alloc)?)?;
     bank.append(alloc, &deeds)
 }
 
@@ -92,6 +94,9 @@ pub(super) fn created(alloc: Global, limit: usize) -> Result<Vec<u8>, BankFault>
     let body = [0, 0, 0, 0, 0, 0, 0, 1, 0, 0, 0, 0, 0, 0, 0, 0];
     match Bank::create(alloc, MemDisk::new(alloc), 1, &body, limit) {
         Err((fault, _)) => Err(fault),
-        Ok(bank) => Ok(Vec::from_slice(alloc, bank.disk.bytes())?),
+        Ok(bank) => {
+            let disk = bank.into_disk();
+            Ok(Vec::from_slice(alloc, disk.bytes())?)
+        }
     }
 }
