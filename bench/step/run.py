@@ -23,8 +23,7 @@ RUNS = 4
 MOST_GROWTH = 2.0
 HERE = os.path.dirname(os.path.abspath(__file__))
 TOP = os.path.join(HERE, "..", "..")
-NEEDED = ["linda_tuple", "linda_text", "linda_codec", "linda_wire", "linda_script", "linda_bag", "linda_hold", "linda_book", "linda_state",
-          "linda_step"]
+NEEDED = ["linda_tuple", "linda_codec", "linda_wire", "linda_bag", "linda_hold", "linda_book", "linda_state", "linda_step"]
 
 
 def build(folder):

@@ -27,6 +27,3 @@ pub use filing::{Key, Shelf, refile, unfile};
 pub use heads::{Headed, Heads, alike};
 pub use index_bag::IndexBag;
 pub use lists::ListBag;
-
-#[cfg(test)]
-mod tests;

@@ -13,6 +13,3 @@ mod kept;
 pub use books::Book;
 pub use classes::Class;
 pub use kept::KeptReply;
-
-#[cfg(test)]
-mod tests;

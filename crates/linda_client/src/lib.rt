@@ -33,6 +33,3 @@ pub use laws::{
 pub use limits::MAX_SERVERS;
 pub use outcome::{Bindings, Got, Numbers, Outcome};
 pub use reaction::Reaction;
-
-#[cfg(test)]
-mod tests;

@@ -28,6 +28,3 @@ pub use offset::{get_atom, get_template, get_tuple};
 pub use reading::{read_atom, read_template, read_tuple};
 pub use skipping::{skip_template, skip_tuple};
 pub use writing::{put_atom, put_template, put_tuple};
-
-#[cfg(test)]
-mod tests;

@@ -24,6 +24,3 @@ pub use fault::DiskFault;
 pub use file_disk::FileDisk;
 pub use mem_disk::MemDisk;
 pub use torn::Torn;
-
-#[cfg(test)]
-mod tests;

@@ -23,6 +23,3 @@ pub use limit::{EventFault, ask_count, base_count, check};
 pub use limits::{MAX_ASKS, MAX_BASES, MAX_DEPTH};
 pub use path::{all_nacks, labels_of, nacks_of};
 pub use ready::is_any_ready;
-
-#[cfg(test)]
-mod tests;

@@ -22,6 +22,3 @@ pub use asks::Asked;
 pub use holding::Holds;
 pub use request::Request;
 pub use waiting::Waits;
-
-#[cfg(test)]
-mod tests;

@@ -28,6 +28,3 @@ pub use limits::{MAX_DEEDS, MIN_BYTES, PIECE};
 pub use making::spell_front;
 pub use record::Record;
 pub use whole::{Whole, fill};
-
-#[cfg(test)]
-mod tests;

@@ -10,6 +10,3 @@ pub use laws::{
     steps_do_as_they_are_asked, steps_offer_only_what_is_sought, takes_hand_over_what_was_put,
     two_takes_of_a_tuple_are_one, what_is_reported_is_kept,
 };
-
-#[cfg(test)]
-mod tests;

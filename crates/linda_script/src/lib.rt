@@ -21,6 +21,3 @@ pub use lines::{said, tidied, told};
 pub use message::{read_message, read_messages, write_message};
 pub use number::{read_numbered, split_word};
 pub use reply::{read_reply, write_reply};
-
-#[cfg(test)]
-mod tests;

@@ -16,6 +16,3 @@ pub use durable::Durable;
 pub use fault::{OpenFault, ServeFault};
 pub use limits::{MAX_LIMIT, MIN_LIMIT, SNAPSHOT_RECORDS};
 pub use served::{Served, Share};
-
-#[cfg(test)]
-mod tests;

@@ -23,6 +23,3 @@ pub use laws::{a_text_stands_for_one_event, what_is_written_is_read_again};
 pub use limits::MAX_NESTED;
 pub use script::{LineFault, ScriptFault, run_script, write_outcome};
 pub use written::write_event;
-
-#[cfg(test)]
-mod tests;

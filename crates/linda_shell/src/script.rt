@@ -27,7 +27,7 @@ use std::alloc::{AllocError, Global};
 const MAX_CLIENTS: usize = 64;
 
 /// The most bytes that a bank of a script's server may have.
-pub(crate) const LIMIT: usize = 1_048_576;
+const LIMIT: usize = 1_048_576;
 
 /// The most packets that are delivered for one command, beside those that it repeats.
 const MAX_DELIVERIES: usize = 1_000_000;
@@ -269,31 +269,11 @@ fn unused_nodes(alloc: Global, count: u32) -> Result<Vec<Durable<MemDisk>>, Allo
     Ok(nodes)
 }
 
-/// A server on disks in memory that was never used.
-///
-/// # Errors
-///
-/// `AllocError` where memory runs out.
-pub(crate) fn unused_node(alloc: Global) -> Result<Durable<MemDisk>, AllocError>
+// A server on disks in memory that was never used.
+fn unused_node(alloc: Global) -> Result<Durable<MemDisk>, AllocError>
     ensures { IfOk result (λ n. IsUnused (⟦<Durable<MemDisk> as Node>⟧.shown n)) }
 {
-    unused_node_on(alloc, MemDisk::new(alloc), MemDisk::new(alloc), LIMIT)
-}
-
-/// The same on these disks, with this limit.
-///
-/// # Errors
-///
-/// `AllocError` where memory runs out, or where the server cannot be made on them.
-pub(crate) fn unused_node_on(
-    alloc: Global,
-    left: MemDisk,
-    right: MemDisk,
-    limit: usize,
-) -> Result<Durable<MemDisk>, AllocError>
-    ensures { IfOk result (λ n. IsUnused (⟦<Durable<MemDisk> as Node>⟧.shown n)) }
-{
-    match Durable::create(alloc, left, right, limit) {
+    match Durable::create(alloc, MemDisk::new(alloc), MemDisk::new(alloc), LIMIT) {
         Ok(node) => Ok(node),
         Err(_) => Err(AllocError),
     }

@@ -24,6 +24,3 @@ pub use linda_journal::{Closed, Whole, fill, shut, unlock};
 pub use putting::put_state;
 pub use reading::{SnapshotFault, get_state};
 pub use renewal::{SwitchFault, switch};
-
-#[cfg(test)]
-mod tests;

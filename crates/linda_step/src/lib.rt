@@ -24,6 +24,3 @@ pub use laws::{
 pub use size::MAX_BATCH;
 pub use step::{Step, Steps};
 pub use store::Store;
-
-#[cfg(test)]
-mod tests;

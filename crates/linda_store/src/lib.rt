@@ -45,6 +45,3 @@ pub use session::Session;
 pub use stage::{Stage, Taken};
 pub use volatile::Volatile;
 pub use work::Work;
-
-#[cfg(test)]
-mod tests;

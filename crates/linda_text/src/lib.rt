@@ -34,6 +34,3 @@ pub use row::{skip_spaced_atom, skip_template, split_spaced_atom, split_template
 pub use whole::{check_end, read_template, read_tuple};
 pub use word::skip_word;
 pub use written::{push_atom, push_template, write_atom, write_tuple};
-
-#[cfg(test)]
-mod tests;

@@ -26,6 +26,3 @@ pub use pattern::Pattern;
 pub use template::Template;
 pub use text::Text;
 pub use tuple::Tuple;
-
-#[cfg(test)]
-mod tests;

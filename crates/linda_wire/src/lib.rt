@@ -30,6 +30,3 @@ pub use limits::{LENGTH_BYTES, MAX_ASKS, MAX_CLIENTS, MAX_PAYLOAD, NUMBER_LIMIT,
 pub use message::{Message, encode_message};
 pub use refusal::Refusal;
 pub use reply::{Reply, encode_reply};
-
-#[cfg(test)]
-mod tests;

@@ -1,0 +1,160 @@
+//! A client's run in which a growth of memory may be refused: a call that finds none leaves the client as it was, so it
+//! is made again, and then gives what it gives else. It is made to be run with each growth refused, one after another;
+//! where the growth is one of the test's own, the test fails and says that memory ran out.
+
+use super::words::push_message;
+use linda_client::{Client, ClientFault, Reaction};
+use linda_shell::{read_event, write_outcome};
+use linda_text::read_tuple;
+use linda_tuple::Tuple;
+use linda_wire::Reply;
+use std::alloc::Global;
+use std::process::Abort;
+use std::test::Fail;
+
+const EVENT: &str = "choose [nack 1 wrap 5 in (\"a\", ?i), nack 2 rd (\"b\"), alarm 3]";
+
+/// What is asked of the client.
+#[derive(Clone, Copy)]
+enum Call {
+    /// It waits for the event.
+    Sync,
+    /// The server, the ticket and the id.
+    Offer(u32, u64, u64),
+    /// The server, the number and the id.
+    Taken(u32, u64, u64),
+    /// The server, and the number.
+    Gone(u32, u64),
+    Tick(u64),
+    Resend,
+    Reconnected(u32),
+    Abandon,
+}
+
+fn tuple(alloc: Global) -> Result<Tuple, Fail> {
+    Ok(read_tuple(alloc, "(\"a\", 3)")?)
+}
+
+fn offer(alloc: Global, ticket: u64, id: u64) -> Result<Reply, Fail> {
+    let tuple = tuple(alloc)?;
+    Ok(Reply::Offer { ticket, id, tuple })
+}
+
+fn taken(alloc: Global, n: u64, id: u64) -> Result<Reply, Fail> {
+    let tuple = tuple(alloc)?;
+    Ok(Reply::Taken { n, id, tuple })
+}
+
+/// What the client makes of a call; the fault of the test's own is without.
+type Made = Result<Result<Reaction, ClientFault>, Fail>;
+
+fn waits(alloc: Global, client: &mut Client) -> Made {
+    Ok(client.sync(alloc, read_event(alloc, EVENT)?))
+}
+
+fn hears(alloc: Global, client: &mut Client, server: u32, reply: Result<Reply, Fail>) -> Made {
+    Ok(client.receive(alloc, server, &reply?))
+}
+
+/// What the client makes of it.
+fn made_of(alloc: Global, client: &mut Client, call: Call) -> Made {
+    match call {
+        Call::Sync => waits(alloc, client),
+        Call::Offer(server, ticket, id) => hears(alloc, client, server, offer(alloc, ticket, id)),
+        Call::Taken(server, n, id) => hears(alloc, client, server, taken(alloc, n, id)),
+        Call::Gone(server, n) => hears(alloc, client, server, Ok(Reply::Gone { n })),
+        Call::Tick(now) => Ok(client.tick(alloc, now)),
+        Call::Resend => Ok(client.resend(alloc)),
+        Call::Reconnected(server) => Ok(client.reconnected(alloc, server)),
+        Call::Abandon => Ok(client.abandon(alloc)),
+    }
+}
+
+/// The same, where a call that finds no memory is made again.
+fn made_at_last(alloc: Global, client: &mut Client, call: Call) -> Result<Reaction, Fail> {
+    match made_of(alloc, client, call)? {
+        Err(ClientFault::Memory) => Ok(made_of(alloc, client, call)??),
+        told => Ok(told?),
+    }
+}
+
+/// The packets, each with its server, and the line of the outcome.
+fn in_words(alloc: Global, reaction: &Reaction) -> Result<String, Fail> {
+    let mut words = String::new(alloc);
+    for (server, message) in &reaction.packets {
+        write!(words, "{server} ")?;
+        push_message(&mut words, message)?;
+        words.push_str("; ")?;
+    }
+    if let Some(outcome) = &reaction.outcome {
+        words.push_str(&write_outcome(alloc, 7, outcome)?)?;
+    }
+    Ok(words)
+}
+
+/// Client 7 over two servers makes this of the calls.
+fn makes(rt: &impl Abort, alloc: Global, calls: &[(Call, &str)]) -> Result<(), Fail> {
+    let mut client = Client::new(alloc, 7, 2)?;
+    for (call, want) in calls {
+        let reaction = made_at_last(alloc, &mut client, *call)?;
+        let words = in_words(alloc, &reaction)?;
+        assert_eq!(rt; words.as_str(), *want);
+    }
+    Ok(())
+}
+
+/// The first offer is accepted and taken, and a second one saved.
+const TAKES: [(Call, &str); 7] = [
+    (Call::Sync, "0 ask 1; 1 ask 1; 0 ask 2; 1 ask 2; "),
+    (Call::Offer(1, 1, 4), "1 accept 1 1 4; "),
+    (Call::Offer(0, 1, 2), ""),
+    (
+        Call::Resend,
+        "1 accept 1 1 4; 0 ask 1; 1 ask 1; 0 ask 2; 1 ask 2; ",
+    ),
+    (Call::Reconnected(1), "1 accept 1 1 4; 1 ask 1; 1 ask 2; "),
+    (Call::Tick(3), ""),
+    (
+        Call::Taken(1, 1, 4),
+        "0 cancel 1; 0 cancel 2; 1 cancel 2; \
+            7 took 1 4 (\"a\", 3) binds [3] labels [5] raised [2]\n",
+    ),
+];
+
+#[test]
+fn a_client_that_had_no_memory_takes_as_it_would_have(rt: HostRuntime) -> Result<(), Fail> {
+    makes(&rt, rt.alloc(), &TAKES)
+}
+
+/// What was accepted is gone; then the client gives up.
+const TAKES_NOTHING: [(Call, &str); 6] = [
+    (Call::Sync, "0 ask 1; 1 ask 1; 0 ask 2; 1 ask 2; "),
+    (Call::Offer(1, 1, 4), "1 accept 1 1 4; "),
+    (Call::Tick(2), ""),
+    (Call::Gone(1, 1), ""),
+    (
+        Call::Abandon,
+        "0 cancel 1; 1 cancel 1; 0 cancel 2; 1 cancel 2; 7 dropped raised [1, 2]\n",
+    ),
+    (Call::Tick(3), ""),
+];
+
+#[test]
+fn a_client_that_had_no_memory_gives_up_as_it_would_have(rt: HostRuntime) -> Result<(), Fail> {
+    makes(&rt, rt.alloc(), &TAKES_NOTHING)
+}
+
+/// The time comes while nothing is accepted.
+const WAITS: [(Call, &str); 3] = [
+    (Call::Sync, "0 ask 1; 1 ask 1; 0 ask 2; 1 ask 2; "),
+    (
+        Call::Tick(3),
+        "0 cancel 1; 1 cancel 1; 0 cancel 2; 1 cancel 2; 7 alarm labels [] raised [1, 2]\n",
+    ),
+    (Call::Sync, "7 alarm labels [] raised [1, 2]\n"),
+];
+
+#[test]
+fn a_client_that_had_no_memory_wakes_as_it_would_have(rt: HostRuntime) -> Result<(), Fail> {
+    makes(&rt, rt.alloc(), &WAITS)
+}

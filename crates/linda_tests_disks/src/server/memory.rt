@@ -1,0 +1,118 @@
+//! A server for which memory is short: it is down, and opened again it has the state of before the call or after it.
+//!
+//! The tests are made to be run with each growth of memory refused, one after another, and pass whichever it is. Where
+//! the growth is one of the script's own, the step is done again.
+
+use super::script::{Do, Stand, Told, stand_on, step};
+use super::words::{EMPTY, WITH_ONE};
+use linda_disk::Torn;
+use linda_server::OpenFault;
+use std::alloc::{AllocError, Global};
+use std::process::Abort;
+use std::test::Fail;
+
+/// Does the step, and once more where there was no memory for the script.
+fn surely(alloc: Global, stand: &mut Stand, what: Do) -> Result<Told, AllocError> {
+    match step(alloc, stand, what) {
+        Ok(told) => Ok(told),
+        Err(_) => step(alloc, stand, what),
+    }
+}
+
+/// Two empty disks.
+fn empty_stand(alloc: Global) -> Result<Stand, AllocError> {
+    match stand_on(alloc, b"", b"") {
+        Ok(stand) => Ok(stand),
+        Err(_) => stand_on(alloc, b"", b""),
+    }
+}
+
+/// Makes the server; where there is no memory for that, what is opened on the disks is new, or nothing is.
+fn made(rt: &impl Abort, alloc: Global, stand: &mut Stand) -> Result<bool, Fail> {
+    let told = surely(alloc, stand, Do::Create(200))?;
+    if told == EMPTY {
+        return Ok(true);
+    }
+    assert_eq!(rt; told, Told::Refused(OpenFault::Memory));
+    let told = surely(alloc, stand, Do::Open(200))?;
+    assert!(rt;
+        told == EMPTY || told == Told::Refused(OpenFault::NoStore),
+        "{told:?}"
+    );
+    Ok(false)
+}
+
+/// Opens the server; where there is no memory for that, once more.
+fn opened(rt: &impl Abort, alloc: Global, stand: &mut Stand) -> Result<Told, Fail> {
+    let told = surely(alloc, stand, Do::Open(200))?;
+    if told != Told::Refused(OpenFault::Memory) {
+        return Ok(told);
+    }
+    let told = surely(alloc, stand, Do::Open(200))?;
+    assert!(rt; told != Told::Refused(OpenFault::Memory));
+    Ok(told)
+}
+
+/// A step, what it tells, and what the server keeps behind it.
+type Row = (Do, Told, Told);
+
+const ROWS: &[Row] = &[
+    (Do::Put(7, 1, 3), Told::Replies(1), WITH_ONE),
+    (Do::PutBoth, Told::Replies(2), Told::State(3, 2, 1, 0)),
+    (Do::Ask, Told::Replies(1), Told::State(3, 2, 1, 0)),
+    (Do::Close(8), Told::Replies(0), Told::State(3, 2, 1, 0)),
+    (Do::Snapshot, Told::Done, Told::State(3, 2, 1, 0)),
+    (Do::Put(9, 1, 5), Told::Replies(1), Told::State(4, 3, 2, 0)),
+    (Do::Trim, Told::Done, Told::State(4, 3, 2, 0)),
+    (
+        Do::StopSnapshot(9, Torn::Lost),
+        Told::Deeds(0),
+        Told::State(4, 3, 2, 0),
+    ),
+];
+
+/// Does a step. Where there is no memory for it, the server is down, and opened again it keeps what it kept before, or
+/// what it keeps behind the step; done again, the step tells what it does else.
+fn borne(
+    rt: &impl Abort,
+    alloc: Global,
+    stand: &mut Stand,
+    before: Told,
+    row: Row,
+) -> Result<(), Fail> {
+    let (what, want, after) = row;
+    let told = surely(alloc, stand, what)?;
+    if told == want {
+        return Ok(());
+    }
+    assert_eq!(rt; told, Told::Down, "{what:?}");
+    assert_eq!(rt; surely(alloc, stand, Do::Snapshot)?, Told::Down);
+    assert_eq!(rt; surely(alloc, stand, Do::Shut)?, Told::Done);
+    let kept = opened(rt, alloc, stand)?;
+    assert!(rt; kept == before || kept == after, "{what:?} {kept:?}");
+    assert_eq!(rt; surely(alloc, stand, what)?, want, "{what:?}");
+    Ok(())
+}
+
+/// Does all steps, and opens the server once more at the end.
+fn all_borne(rt: &impl Abort, alloc: Global, stand: &mut Stand) -> Result<(), Fail> {
+    let mut before = EMPTY;
+    for row in ROWS {
+        borne(rt, alloc, stand, before, *row)?;
+        let (_, _, after) = *row;
+        before = after;
+    }
+    assert_eq!(rt; surely(alloc, stand, Do::Shut)?, Told::Done);
+    let kept = opened(rt, alloc, stand)?;
+    assert_eq!(rt; kept, before);
+    Ok(())
+}
+
+#[test]
+fn want_of_memory_loses_nothing(rt: HostRuntime) -> Result<(), Fail> {
+    let mut stand = empty_stand(rt.alloc())?;
+    if made(&rt, rt.alloc(), &mut stand)? {
+        all_borne(&rt, rt.alloc(), &mut stand)?;
+    }
+    Ok(())
+}
