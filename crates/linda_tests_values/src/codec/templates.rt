@@ -1,7 +1,7 @@
 //! Templates, both ways.
 
-use super::text;
 use linda_codec::{ReadFault, get_template, put_template, read_template};
+use linda_text::read_template as typed;
 use linda_tuple::{Atom, Pattern, Template};
 use std::alloc::Global;
 use std::test::*;
@@ -15,30 +15,26 @@ fn is_template_read_as(
     Ok(next == bytes.len() && read.tag() == template.tag() && read.fields() == template.fields())
 }
 
+/// Whether the template of this text is spelled as these bytes, and is what is read of them.
+fn goes_both_ways(alloc: Global, text: &str, bytes: &[u8]) -> Result<bool, Fail> {
+    let template = typed(alloc, text)?;
+    let mut out = Vec::new(alloc);
+    put_template(&mut out, &template)?;
+    Ok(out.as_slice() == bytes && is_template_read_as(alloc, bytes, &template)?)
+}
+
 #[test]
 fn templates_both_ways(rt: HostRuntime) -> Result<(), Fail> {
-    let alloc = rt.alloc();
-    let number = Template::new(
-        text(alloc, "a")?,
-        vec![in alloc; Pattern::IntFormal, Pattern::Any]?,
-    )?;
-    let number_bytes = b"\x02\x01a\x02\x04\x07";
-    let mut out = Vec::new(alloc);
-    put_template(&mut out, &number)?;
-    assert_eq!(rt; out.as_slice(), number_bytes.as_slice());
-    assert!(rt; is_template_read_as(alloc, number_bytes, &number)?);
-
-    let others = vec![in alloc;
-        Pattern::TextFormal,
-        Pattern::BoolFormal,
-        Pattern::Value(Atom::Int(3)),
-    ]?;
-    let mixed = Template::new(Atom::Bool(true), others)?;
-    let mixed_bytes = b"\x03\x01\x03\x05\x06\x01\0\0\0\0\0\0\0\x03";
-    out.clear();
-    put_template(&mut out, &mixed)?;
-    assert_eq!(rt; out.as_slice(), mixed_bytes.as_slice());
-    assert!(rt; is_template_read_as(alloc, mixed_bytes, &mixed)?);
+    let rows: [(&str, &[u8]); 2] = [
+        (r#"("a", ?i, _)"#, b"\x02\x01a\x02\x04\x07"),
+        (
+            "(true, ?s, ?b, 3)",
+            b"\x03\x01\x03\x05\x06\x01\0\0\0\0\0\0\0\x03",
+        ),
+    ];
+    for (text, bytes) in rows {
+        assert!(rt; goes_both_ways(rt.alloc(), text, bytes)?, "{text}");
+    }
     Ok(())
 }
 

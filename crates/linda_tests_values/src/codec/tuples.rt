@@ -1,10 +1,10 @@
 //! Atoms and tuples, both ways.
 
-use super::text;
 use linda_codec::{
     ReadFault, get_atom, get_tuple, put_atom, put_tuple, read_atom, read_bool, read_tuple, read_u8,
     read_u32, read_u64,
 };
+use linda_text::{read_atom_at, read_tuple as typed};
 use linda_tuple::{Atom, Tuple};
 use std::alloc::{AllocError, Global};
 use std::test::*;
@@ -20,41 +20,31 @@ fn is_read_as(alloc: Global, bytes: &[u8], tuple: &Tuple) -> Result<bool, ReadFa
     Ok(next == bytes.len() && read.tag() == tuple.tag() && read.fields() == tuple.fields())
 }
 
+/// Whether the tuple of this text is spelled as these bytes, and is what is read of them.
+fn goes_both_ways(alloc: Global, text: &str, bytes: &[u8]) -> Result<bool, Fail> {
+    let tuple = typed(alloc, text)?;
+    Ok(spelled(alloc, &tuple)?.as_slice() == bytes && is_read_as(alloc, bytes, &tuple)?)
+}
+
 #[test]
 fn tuples_both_ways(rt: HostRuntime) -> Result<(), Fail> {
-    let alloc = rt.alloc();
-    let tagged = Tuple::new(text(alloc, "a")?, Vec::from_array(alloc, [Atom::Int(3)])?)?;
-    let tagged_bytes = b"\x02\x01a\x01\x01\0\0\0\0\0\0\0\x03";
-    assert_eq!(rt;
-        spelled(alloc, &tagged)?.as_slice(),
-        tagged_bytes.as_slice()
-    );
-    assert!(rt; is_read_as(alloc, tagged_bytes, &tagged)?);
-
-    let bare = Tuple::new(text(alloc, "go")?, Vec::new(alloc))?;
-    let bare_bytes = b"\x02\x02go\0";
-    assert_eq!(rt; spelled(alloc, &bare)?.as_slice(), bare_bytes.as_slice());
-    assert!(rt; is_read_as(alloc, bare_bytes, &bare)?);
-
-    let accented = Tuple::new(text(alloc, "é")?, Vec::new(alloc))?;
-    let accented_bytes = b"\x02\x02\xc3\xa9\0";
-    assert_eq!(rt;
-        spelled(alloc, &accented)?.as_slice(),
-        accented_bytes.as_slice()
-    );
-    assert!(rt; is_read_as(alloc, accented_bytes, &accented)?);
-
-    let least = Tuple::new(Atom::Int(-9223372036854775808), Vec::new(alloc))?;
-    let least_bytes = b"\x01\x80\0\0\0\0\0\0\0\0";
-    assert_eq!(rt; spelled(alloc, &least)?.as_slice(), least_bytes.as_slice());
-    assert!(rt; is_read_as(alloc, least_bytes, &least)?);
+    let rows: [(&str, &[u8]); 4] = [
+        (r#"("a", 3)"#, b"\x02\x01a\x01\x01\0\0\0\0\0\0\0\x03"),
+        (r#"("go")"#, b"\x02\x02go\0"),
+        (r#"("é")"#, b"\x02\x02\xc3\xa9\0"),
+        ("(-9223372036854775808)", b"\x01\x80\0\0\0\0\0\0\0\0"),
+    ];
+    for (text, bytes) in rows {
+        assert!(rt; goes_both_ways(rt.alloc(), text, bytes)?, "{text}");
+    }
     Ok(())
 }
 
 #[test]
 fn atoms_behind_other_bytes(rt: HostRuntime) -> Result<(), Fail> {
     let alloc = rt.alloc();
-    let mut out = Vec::from_array(alloc, [9])?;
+    let mut out = Vec::new(alloc);
+    out.push(9)?;
     put_atom(&mut out, &Atom::Bool(true))?;
     put_atom(&mut out, &Atom::Int(-2))?;
     let bytes = b"\x09\x03\x01\x01\xff\xff\xff\xff\xff\xff\xff\xfe";
@@ -68,15 +58,24 @@ fn atoms_behind_other_bytes(rt: HostRuntime) -> Result<(), Fail> {
     Ok(())
 }
 
+/// Whether the tuple of this text is read of the bytes, and these are left.
+fn leaves_behind_tuple(alloc: Global, bytes: &[u8], text: &str, left: &[u8]) -> Result<bool, Fail> {
+    let (tuple, rest) = read_tuple(alloc, bytes)?;
+    Ok(tuple == typed(alloc, text)? && rest == left)
+}
+
+/// Whether the atom of this text is read of the bytes, and these are left.
+fn leaves_behind_atom(alloc: Global, bytes: &[u8], text: &str, left: &[u8]) -> Result<bool, Fail> {
+    let (atom, rest) = read_atom(alloc, bytes)?;
+    let (want, _) = read_atom_at(alloc, text, 0)?;
+    Ok(atom == want && rest == left)
+}
+
 #[test]
 fn readers_hand_back_the_rest(rt: HostRuntime) -> Result<(), Fail> {
     let alloc = rt.alloc();
-    let (tuple, rest) = read_tuple(alloc, b"\x03\0\0rest")?;
-    assert_eq!(rt; *tuple.tag(), Atom::Bool(false));
-    assert_eq!(rt; rest, b"rest".as_slice());
-    let (atom, rest) = read_atom(alloc, b"\x02\x02go!")?;
-    assert_eq!(rt; atom, text(alloc, "go")?);
-    assert_eq!(rt; rest, b"!".as_slice());
+    assert!(rt; leaves_behind_tuple(alloc, b"\x03\0\0rest", "(false)", b"rest")?);
+    assert!(rt; leaves_behind_atom(alloc, b"\x02\x02go!", r#""go""#, b"!")?);
     assert_eq!(rt;
         read_tuple(alloc, b"\x03\0\x01\x03\x02rest").err(),
         Some(ReadFault::BadBool(5))

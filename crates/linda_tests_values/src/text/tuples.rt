@@ -94,7 +94,9 @@ fn atom(alloc: Global, number: usize) -> Result<Atom, AllocError> {
 }
 
 fn comes_back(alloc: Global, tag: usize, first: usize, second: usize) -> Result<bool, Fail> {
-    let fields = vec![in alloc; atom(alloc, first)?, atom(alloc, second)?]?;
+    let mut fields = Vec::new(alloc);
+    fields.push(atom(alloc, first)?)?;
+    fields.push(atom(alloc, second)?)?;
     let tuple = Tuple::new(atom(alloc, tag)?, fields)?;
     let written = write_tuple(alloc, &tuple)?;
     Ok(read_tuple(alloc, written.as_str())? == tuple)

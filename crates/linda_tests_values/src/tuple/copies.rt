@@ -1,18 +1,20 @@
-//! A copy is the same value.
+//! A copy is the same value: it is read, copied and written.
 
-use super::samples::text;
-use linda_tuple::{Atom, Pattern, Template, Text, Tuple};
+use linda_text::{push_template, read_template, read_tuple, write_tuple};
+use linda_tuple::Text;
+use std::alloc::Global;
 use std::test::Fail;
+
+/// The text that is written of a copy of the tuple.
+fn copied(alloc: Global, tuple: &str) -> Result<String, Fail> {
+    let tuple = read_tuple(alloc, tuple)?;
+    Ok(write_tuple(alloc, &tuple.try_clone(alloc)?)?)
+}
 
 #[test]
 fn a_copy_has_the_same_values(rt: HostRuntime) -> Result<(), Fail> {
-    let fields = vec![in rt.alloc(); Atom::Int(-3), text(rt.alloc(), "é")?, Atom::Bool(false)]?;
-    let copy = Tuple::new(text(rt.alloc(), "a")?, fields)?.try_clone(rt.alloc())?;
-    assert!(rt; *copy.tag() == text(rt.alloc(), "a")?);
-    assert_eq!(rt; copy.fields().len(), 3);
-    assert!(rt; copy.fields()[0] == Atom::Int(-3));
-    assert!(rt; copy.fields()[1] == text(rt.alloc(), "é")?);
-    assert!(rt; copy.fields()[2] == Atom::Bool(false));
+    let tuple = r#"("a", -3, "é", false)"#;
+    assert_eq!(rt; copied(rt.alloc(), tuple)?.as_str(), tuple);
     Ok(())
 }
 
@@ -28,22 +30,17 @@ fn a_text_gives_its_string_back(rt: HostRuntime) -> Result<(), Fail> {
     Ok(())
 }
 
+/// The text that is written of a copy of the template.
+fn copied_template(alloc: Global, template: &str) -> Result<String, Fail> {
+    let template = read_template(alloc, template)?;
+    let mut out = String::new(alloc);
+    push_template(&mut out, &template.try_clone(alloc)?)?;
+    Ok(out)
+}
+
 #[test]
 fn a_copy_of_a_template_has_the_same_patterns(rt: HostRuntime) -> Result<(), Fail> {
-    let fields = vec![in rt.alloc();
-        Pattern::Value(text(rt.alloc(), "é")?),
-        Pattern::IntFormal,
-        Pattern::TextFormal,
-        Pattern::BoolFormal,
-        Pattern::Any,
-    ]?;
-    let copy = Template::new(Atom::Int(-3), fields)?.try_clone(rt.alloc())?;
-    assert!(rt; *copy.tag() == Atom::Int(-3));
-    assert_eq!(rt; copy.fields().len(), 5);
-    assert!(rt; copy.fields()[0] == Pattern::Value(text(rt.alloc(), "é")?));
-    assert!(rt; copy.fields()[1] == Pattern::IntFormal);
-    assert!(rt; copy.fields()[2] == Pattern::TextFormal);
-    assert!(rt; copy.fields()[3] == Pattern::BoolFormal);
-    assert!(rt; copy.fields()[4] == Pattern::Any);
+    let template = r#"(-3, "é", ?i, ?s, ?b, _)"#;
+    assert_eq!(rt; copied_template(rt.alloc(), template)?.as_str(), template);
     Ok(())
 }

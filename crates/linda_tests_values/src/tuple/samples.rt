@@ -3,11 +3,6 @@
 use linda_tuple::{Atom, Text};
 use std::alloc::{AllocError, Global};
 
-/// The atom of the text.
-pub(super) fn text(alloc: Global, of: &str) -> Result<Atom, AllocError> {
-    Ok(Atom::Text(Text::new(String::from_str(alloc, of)?)))
-}
-
 /// The atom of the text `aa..a` of that many bytes.
 pub(super) fn long_text(alloc: Global, len: usize) -> Result<Atom, AllocError> {
     let mut string = String::new(alloc);

@@ -126,8 +126,15 @@ pub(super) fn on_these(
     with_clients(alloc, durable_nodes(alloc, left, right, limit, false)?)
 }
 
-/// A server on these disks that was never used, with this limit.
-fn unused_node(
+/// A server on new disks that was never used.
+fn unused_node(alloc: Global) -> Result<Durable<MemDisk>, AllocError>
+    ensures { IfOk result (λ n. IsUnused (⟦<Durable<MemDisk> as linda_store::Node>⟧.shown n)) }
+{
+    unused_node_on(alloc, MemDisk::new(alloc), MemDisk::new(alloc), LIMIT)
+}
+
+/// The same on these disks, with this limit.
+fn unused_node_on(
     alloc: Global,
     left: MemDisk,
     right: MemDisk,
@@ -155,10 +162,9 @@ fn durable_nodes(
         All IsUnused (map (λ n. ⟦<Durable<MemDisk> as linda_store::Node>⟧.shown n) v.items)) }
 {
     let mut nodes = Vec::new(alloc);
-    nodes.push(unused_node(alloc, left, right, limit)?)?;
+    nodes.push(unused_node_on(alloc, left, right, limit)?)?;
     if two {
-        let node = unused_node(alloc, MemDisk::new(alloc), MemDisk::new(alloc), LIMIT)?;
-        nodes.push(node)?;
+        nodes.push(unused_node(alloc)?)?;
     }
     Ok(nodes)
 }
