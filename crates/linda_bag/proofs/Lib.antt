@@ -10,3 +10,4 @@ pub mod Kept
 pub mod Ahead
 pub mod Free
 pub mod Left
+pub mod Sums

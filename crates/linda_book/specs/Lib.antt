@@ -1,3 +1,4 @@
 pub mod Entries
 pub mod Codes
 pub mod Classes
+pub mod Sameness

@@ -1,6 +1,6 @@
 //! The reply to a client's last numbered message, kept so that a repeated message gets it again.
 
-ghost use Rattle.std.specs.Prelude.{◌≡◌, IfOk, OnErr};
+ghost use Rattle.std.specs.Prelude.{◌≡◌, ◌↔◌, true, IfOk, OnErr};
 ghost use Rattle.linda_book.specs.Entries.{HasTuple};
 
 use linda_tuple::Tuple;
@@ -33,4 +33,34 @@ impl KeptReply {
             KeptReply::Gone => Ok(KeptReply::Gone),
         }
     }
+}
+
+impl PartialEq for KeptReply {
+    ghost use Rattle.std.specs.Cmp.{partial_equiv_from_equiv};
+    ghost use Rattle.linda_book.specs.Sameness.{same_kept, same_kept-equiv};
+
+    ghost eq = { same_kept };
+
+    ghost laws = { partial_equiv_from_equiv same_kept-equiv };
+
+    // Kept replies compare equal exactly where they are.
+    fn eq(&self, other: &KeptReply) -> bool
+        ensures test { result ≡ same_kept self.now other.now }
+        ensures exact { (result ≡ true) ↔ (self.now ≡ other.now) }
+    {
+        match (self, other) {
+            (KeptReply::Stored(id), KeptReply::Stored(stored)) => *id == *stored,
+            (KeptReply::Taken(id, tuple), KeptReply::Taken(taken, row)) => {
+                *id == *taken && *tuple == *row
+            }
+            (KeptReply::Gone, KeptReply::Gone) => true,
+            _ => false,
+        }
+    }
+}
+
+impl Eq for KeptReply {
+    ghost use Rattle.linda_book.specs.Sameness.{same_kept-equiv};
+
+    ghost laws = { same_kept-equiv };
 }

@@ -4,3 +4,5 @@ pub mod ReplyLaws
 pub mod NumberLaws
 pub mod TakeLaws
 pub mod StepLaws
+pub mod AskedLaws
+pub mod CoveredLaws

@@ -36,6 +36,14 @@ pub record DoesAsAsked (c : ℕ) (m : Message) (soft : Soft) (d : Deed) : Type 0
   pub number : number_of_message m ≡ Some (number_of d)
   pub let_go : LetsGo c m soft
 
+-- The deed is one that the client's message asks for: the client's, by the message's number; an Out puts its tuple, an
+-- Accept takes the tuple of its id or passes it.
+abbrev pub IsDeedOf : ℕ → Message → Deed → Type 0
+IsDeedOf c (messages.Out n tuple) (deeds.Out client m put) = (client ≡ c) × (m ≡ n) × (put ≡ tuple)
+IsDeedOf c (messages.Accept n ticket id) (deeds.Take client m taken) = (client ≡ c) × (m ≡ n) × (taken ≡ id)
+IsDeedOf c (messages.Accept n ticket id) (deeds.Pass client m passed) = (client ≡ c) × (m ≡ n) × (passed ≡ id)
+IsDeedOf c _ _ = ⊥
+
 -- All that is held is in the bag.
 abbrev pub HoldsWhatIsThere : State → Soft → Type 0
 HoldsWhatIsThere st soft = (id : ℕ) → IsSome (map.get soft.holds id) → IsSome (map.get st.bag id)

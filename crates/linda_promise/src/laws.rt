@@ -1,10 +1,11 @@
 //! What follows from the definitions of states, deeds and steps, each told by the contract of a function that does
 //! nothing.
 
-ghost use Rattle.std.specs.Prelude.{◌≡◌, ℕ, List, ◌-◌, Some, Contains};
+ghost use Rattle.std.specs.Prelude.{◌≡◌, ℕ, List, ◌-◌, Some, Contains, All};
 ghost use Rattle.std.specs.List.{slice_get};
 ghost use Rattle.linda_tuple.specs.Tuple.{Tuple};
 ghost use Rattle.linda_wire.specs.declared.message.Message.{Message};
+ghost use Rattle.linda_wire.specs.declared.reply.Reply.{Reply};
 ghost use Rattle.linda_wire.specs.declared.reply.Reply.TheVariants as replies;
 ghost use Rattle.linda_state.specs.declared.deed.Deed.{Deed};
 ghost use Rattle.linda_state.specs.declared.deed.Deed.TheVariants.{Take};
@@ -15,11 +16,12 @@ ghost use Rattle.linda_state.specs.State.{State, IsState, empty_state};
 ghost use Rattle.linda_step.specs.Soft.{Soft, Bagged};
 ghost use Rattle.linda_step.specs.Dispatch.{on_close};
 ghost use Rattle.linda_step.specs.Answer.{Answer, IsStep, last_number};
-ghost use Rattle.linda_step.specs.History.{Coming, says};
+ghost use Rattle.linda_step.specs.History.{Coming, says, History, Happens};
+ghost use Rattle.linda_promise.specs.Covered.{IsCovered};
 ghost use Rattle.linda_promise.specs.Offers.{OffersWhatIsSought};
 ghost use Rattle.linda_promise.specs.Deeds.{HandsOver, NumbersEachOnce, PassesOn};
 ghost use Rattle.linda_promise.specs.Replies.{KeepsReports, ReportsOne};
-ghost use Rattle.linda_promise.specs.Steps.{DoesAsAsked, HoldsWhatIsThere, reported_deed};
+ghost use Rattle.linda_promise.specs.Steps.{DoesAsAsked, HoldsWhatIsThere, IsDeedOf, reported_deed};
 
 /// What a step sends of a deed is what the book has for that client once the step is over.
 pub fn what_is_reported_is_kept()
@@ -77,4 +79,19 @@ pub fn replies_tell_the_deed()
     ensures { (st new : State) (c : ℕ) (old : Soft) (m : Message) (answered : Answer)
         → IsState st → IsStep st old c m answered new
         → answered.deed ≡ reported_deed c m (last_number st c) answered.sends }
+{}
+
+/// The deed of a step is one that its client's message asks for, whatever the server held before.
+pub fn deeds_are_those_asked_for()
+    ensures { (st new : State) (c : ℕ) (old : Soft) (m : Message) (answered : Answer) (d : Deed)
+        → IsStep st old c m answered new → answered.deed ≡ Some d → IsDeedOf c m d }
+{}
+
+/// Whatever comes to a server, what was covered before stays so, and all that is sent is covered then: of each deed
+/// that a reply reports, the book has this reply until its client has done a later one.
+pub fn what_is_covered_stays_so()
+    ensures stays { (st : State) (soft : Soft) (xs : List Coming) (all : History) (send : ℕ × Reply)
+        → IsState st → Happens st soft xs all → IsCovered st send → IsCovered all.state send }
+    ensures sent { (st : State) (soft : Soft) (xs : List Coming) (all : History)
+        → IsState st → Happens st soft xs all → All (IsCovered all.state) all.sends }
 {}

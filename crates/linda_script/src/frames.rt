@@ -41,15 +41,19 @@ pub fn told_frames(alloc: Global, script: &str) -> Result<Vec<u8>, WordsFault> {
 // Appends the frame of the message that is said, or the bytes whose digits stand behind the word `bytes`.
 fn push_said(alloc: Global, frames: &mut Vec<u8>, words: &str) -> Result<(), WordsFault> {
     match words.strip_prefix("bytes ") {
-        Some(digits) => push_bytes(alloc, frames, digits),
+        Some(digits) => Ok(frames.extend_from_slice(&read_hex(alloc, digits)?)?),
         None => Ok(encode_message(frames, &read_message(alloc, words)?)?),
     }
 }
 
-// Appends the bytes of these hexadecimal digits.
-fn push_bytes(alloc: Global, frames: &mut Vec<u8>, digits: &str) -> Result<(), WordsFault> {
+/// The bytes of these hexadecimal digits.
+///
+/// # Errors
+///
+/// `Unknown` where they are none, or of an odd number; `Memory` where memory runs out.
+pub fn read_hex(alloc: Global, digits: &str) -> Result<Vec<u8>, WordsFault> {
     match hex::decode(alloc, digits.as_bytes()) {
-        Ok(bytes) => Ok(frames.extend_from_slice(bytes.as_slice())?),
+        Ok(bytes) => Ok(bytes),
         Err(FromHexError::OutOfMemory) => Err(WordsFault::Memory),
         Err(_) => Err(WordsFault::Unknown),
     }

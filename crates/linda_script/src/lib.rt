@@ -3,7 +3,8 @@
 //! A line says what goes in, as `7 out 1 ("a", 3)`; the lines behind it that begin with `> ` say what comes of it, as
 //! `> 7 stored 1 1`. Messages and replies have each one text, in the words of `specs/Words`; tuples and templates are
 //! written as people type them. What is read says exactly the text that it was read from. A test plays what its
-//! script says and compares what came with the whole script, which `tidied` gives.
+//! script says and compares what came with the whole script, which `tidied` gives; a program plays the rows on its
+//! standard input, and writes them with what came.
 #![tactic(auto)]
 
 mod fault;
@@ -13,11 +14,13 @@ mod lines;
 mod message;
 mod number;
 mod reply;
+mod rows;
 
 pub use fault::WordsFault;
-pub use frames::{said_frames, told_frames};
+pub use frames::{read_hex, said_frames, told_frames};
 pub use kept::{tell_replies, tell_tuple};
 pub use lines::{said, tidied, told};
-pub use message::{read_message, read_messages, write_message};
+pub use message::{read_batch, read_message, read_messages, write_message};
 pub use number::{read_numbered, split_word};
 pub use reply::{read_reply, write_reply};
+pub use rows::{Played, Player, Sweeps, play_rows, run_rows};

@@ -81,6 +81,22 @@ pub fn read_messages(alloc: Global, script: &str) -> Result<Vec<(u32, Message)>,
     Ok(messages)
 }
 
+/// The messages that the words say, with `; ` between them, each behind the number of its client; of no words none.
+///
+/// # Errors
+///
+/// `Unknown` where they say other than that; `Memory` where memory runs out.
+pub fn read_batch(alloc: Global, words: &str) -> Result<Vec<(u32, Message)>, WordsFault> {
+    let mut messages = Vec::new(alloc);
+    if !words.is_empty() {
+        for words in words.split("; ") {
+            let (client, words) = read_numbered(words)?;
+            messages.push((client, read_message(alloc, words)?))?;
+        }
+    }
+    Ok(messages)
+}
+
 // The message that the words may say.
 fn message_in(alloc: Global, text: &str) -> Result<Message, WordsFault> {
     let (word, rest) = split_word(text);

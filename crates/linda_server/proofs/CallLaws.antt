@@ -1,8 +1,10 @@
 -- What crashes leave within a call of a server, where only that some bank is in use is known.
-use Rattle.std.proofs.Common.{◌≡◌, ℕ, Bool, true, false, sym, subst, ◌<◌, ◌≤◌, ◌⊎◌, inl, inr, List, [], ◌∷◌, length, Option, Some, None, option_to_list, ap, length-append, append-nil, refl, ◌++◌, ◌∙◌, true≢false, Result, Ok, Err, OnOk, OnErr, arith}
+use Rattle.std.proofs.Common.{◌≡◌, ℕ, Bool, true, false, sym, subst, ◌<◌, ◌≤◌, ◌⊎◌, inl, inr, List, [], ◌∷◌, length, Option, Some, None, option_to_list, ap, length-append, append-nil, refl, ◌++◌, ◌∙◌, true≢false, Result, Ok, Err, IfOk, OnOk, OnErr, arith}
 use Rattle.std.proofs.Math.Logic.{∥∥₁_map}
 use Rattle.std.proofs.lemmas.Grind.{not_there}
+use Rattle.std.proofs.lemmas.List.{length-map}
 use Rattle.std.proofs.lemmas.Bool.{cases_lt}
+use Rattle.std.specs.Vec.{vec_len}
 use Rattle.linda_wire.specs.declared.message.Message.{Message}
 use Rattle.linda_state.specs.declared.deed.Deed.{Deed}
 use Rattle.linda_state.specs.State.{State, IsState}
@@ -20,10 +22,11 @@ use Rattle.linda_journal.proofs.SizeLaws.{deed_some}
 use Rattle.linda_snap.specs.Stands.{Stands}
 use Rattle.linda_server.specs.declared.disks.Disks.{Disks}
 use Rattle.linda_server.specs.declared.disks.Disks.TheVariants.{InUse, Shut, Away}
+use Rattle.linda_server.specs.declared.fault.ServeFault.{ServeFault}
 use Rattle.linda_server.specs.declared.served.Served.{Served}
 use Rattle.linda_server.specs.Pairs.{Both, PairsSince, PairsNow}
 use Rattle.linda_server.specs.Disks.{sides, both, AreHonest, IsUpOn, IsKeptOn}
-use Rattle.linda_server.specs.Served.{AreAnswered, deeds_of, IsServed}
+use Rattle.linda_server.specs.Served.{AreAnswered, deeds_of, share_of, IsServed}
 use Rattle.linda_server.specs.Calls.{LeadTo, IsOldOrNew, IsEither, IsWithOrWithout, StandsAfter, IsBeforeOrAfter, StandsFor, HasHandled}
 use Rattle.linda_server.specs.Node.{shown}
 use Rattle.linda_server.proofs.ServedLaws.{served_happens}
@@ -48,6 +51,19 @@ each_answered st soft (m ∷ ms) answers new then are =
     let rest = each_answered are.1.0 first.soft ms are.1.1.0 new then are.1.1.1.1.0 in
     let same : length answers ≡ length (first ∷ are.1.1.0) = ap length are.1.1.1.1.1 in
     omega (arith, same, rest)
+
+-- So it has one share of what was served.
+pub each_share : (st : State) (soft : Soft) (ms : List (ℕ × Message)) (told : Served) (new : State) (then : Soft) → IsServed st soft ms told new then
+    → vec_len told.shares ≡ length ms
+each_share st soft ms told new then served =
+    let all = ap length served.tells.shares ∙ (length-map served.answers share_of ∙ each_answered st soft ms served.answers new then served.answered) in
+    let counted = told.shares.ok.0 in
+    omega (arith, all, counted)
+
+-- What is so of what was served is so of what is told in the end, where that is the same.
+pub told_so : (r : Result Served ServeFault) (served : Served) (P : Served → Type 0) → IfOk r (λ s. s ≡ served) → P served → IfOk r P
+told_so (Ok s) served P same p = subst P (sym same) p
+told_so (Err fault) served P same p = tt
 
 one_at_most : (o : Option Deed) → length (option_to_list o) ≤ 1
 one_at_most None = omega arith

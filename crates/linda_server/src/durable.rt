@@ -23,9 +23,9 @@ use linda_bag::IndexBag;
 use linda_disk::Disk;
 use linda_hold::{Holds, Waits};
 use linda_journal::Bank;
+use linda_moment::Moment;
 use linda_state::{Deed, State};
 use linda_step::Store;
-use std::snapshot::Snapshot;
 
 /// A server on two disks, of which one holds the bank in use. What it answers for is on that bank
 /// before it answers.
@@ -40,7 +40,7 @@ pub struct Durable<D: Disk> {
     limit: usize,
     down: bool,
     // The state before the call in which it went down, which contracts alone see.
-    before: Snapshot<State<IndexBag>>,
+    before: Moment<State<IndexBag>>,
     // The deeds of that call, which may be on the disks.
     lost: Vec<Deed>,
     ghost there: { is_there disks ≡ true },

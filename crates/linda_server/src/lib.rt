@@ -3,6 +3,7 @@
 
 mod clearing;
 mod commit;
+mod crossing;
 mod disks;
 mod durable;
 mod empty;

@@ -4,3 +4,6 @@ pub mod AfterLaws
 pub mod DoneLaws
 pub mod ProperLaws
 pub mod OnceLaws
+pub mod JoinLaws
+pub mod SumLaws
+pub mod ReplyLaws

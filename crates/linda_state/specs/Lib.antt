@@ -5,3 +5,5 @@ pub mod Proper
 pub mod Once
 pub mod Codes
 pub mod DeedFormat
+pub mod Sameness
+pub mod Numbers

@@ -1,6 +1,6 @@
 //! Deeds: what a server did, and what it keeps on a disk.
 
-ghost use Rattle.std.specs.Prelude.{◌≡◌, IfOk, OnErr};
+ghost use Rattle.std.specs.Prelude.{◌≡◌, ◌↔◌, true, IfOk, OnErr};
 ghost use Rattle.linda_state.specs.Deed.{client_of, number_of, PutsTuple};
 
 use linda_tuple::Tuple;
@@ -67,4 +67,53 @@ impl Deed {
             }),
         }
     }
+}
+
+impl PartialEq for Deed {
+    ghost use Rattle.std.specs.Cmp.{partial_equiv_from_equiv};
+    ghost use Rattle.linda_state.specs.Sameness.{same_deed, same_deed-equiv};
+
+    ghost eq = { same_deed };
+
+    ghost laws = { partial_equiv_from_equiv same_deed-equiv };
+
+    // Deeds compare equal exactly where they are.
+    fn eq(&self, other: &Deed) -> bool
+        ensures test { result ≡ same_deed self.now other.now }
+        ensures exact { (result ≡ true) ↔ (self.now ≡ other.now) }
+    {
+        match (self, other) {
+            (
+                Deed::Out { client, n, tuple },
+                Deed::Out {
+                    client: c,
+                    n: m,
+                    tuple: row,
+                },
+            ) => { *client == *c && *n == *m && *tuple == *row }
+            (
+                Deed::Take { client, n, id },
+                Deed::Take {
+                    client: c,
+                    n: m,
+                    id: taken,
+                },
+            ) => { *client == *c && *n == *m && *id == *taken }
+            (
+                Deed::Pass { client, n, id },
+                Deed::Pass {
+                    client: c,
+                    n: m,
+                    id: passed,
+                },
+            ) => { *client == *c && *n == *m && *id == *passed }
+            _ => false,
+        }
+    }
+}
+
+impl Eq for Deed {
+    ghost use Rattle.linda_state.specs.Sameness.{same_deed-equiv};
+
+    ghost laws = { same_deed-equiv };
 }

@@ -1,9 +1,12 @@
 //! What the definitions of states and deeds come to, each told by the contract of a function that does nothing.
 
-ghost use Rattle.std.specs.Prelude.{◌∷◌, ◌++◌, [], List};
+ghost use Rattle.std.specs.Prelude.{◌≡◌, ◌+◌, ◌∷◌, ◌++◌, [], List, length, Some};
+ghost use Rattle.std.specs.FinMap as map;
 ghost use Rattle.linda_state.specs.declared.deed.Deed.{Deed};
+ghost use Rattle.linda_state.specs.Deed.{client_of, number_of};
 ghost use Rattle.linda_state.specs.State.{State, IsState};
-ghost use Rattle.linda_state.specs.After.{IsAfter};
+ghost use Rattle.linda_state.specs.After.{IsAfter, reply_of_deed};
+ghost use Rattle.linda_state.specs.Numbers.{kept_sum};
 ghost use Rattle.linda_state.specs.Proper.{IsAllowed, IsProper, AreDone};
 ghost use Rattle.linda_state.specs.Once.{IsTakenOnce};
 
@@ -27,4 +30,27 @@ pub fn deeds_are_done_one_by_one()
         → AreDone st (ds ++ d ∷ []) new }
     ensures refused { (st mid : State) (ds later : List Deed) (d : Deed)
         → AreDone st ds mid → (IsAllowed mid d → ⊥) → IsProper st (ds ++ d ∷ later) → ⊥ }
+{}
+
+/// Two proper lists of deeds, the second from where the first leads to, are one proper list, and lead to where the
+/// second does.
+pub fn lists_are_done_one_after_another()
+    ensures { (st mid new : State) (ds es : List Deed)
+        → IsState st → AreDone st ds mid → AreDone mid es new → AreDone st (ds ++ es) new }
+{}
+
+/// A proper list of so many deeds raises the sum of all kept numbers by as many.
+pub fn kept_numbers_count_deeds()
+    ensures { (st new : State) (ds : List Deed)
+        → IsState st → AreDone st ds new → kept_sum new ≡ kept_sum st + length ds }
+{}
+
+/// The reply to a deed behind others: in the state that these led to it is the reply behind them, and the book has it
+/// once the deed is done.
+pub fn replies_look_back()
+    ensures behind { (st mid : State) (ds : List Deed) (d : Deed)
+        → IsState mid → IsAfter st ds mid → reply_of_deed mid [] d ≡ reply_of_deed st ds d }
+    ensures kept { (st new : State) (d : Deed)
+        → IsAfter st (d ∷ []) new
+        → map.get new.book (client_of d) ≡ Some (number_of d, reply_of_deed st [] d) }
 {}

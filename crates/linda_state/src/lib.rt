@@ -18,7 +18,10 @@ mod state;
 
 pub use deed::Deed;
 pub use kinds::{OUT, PASS, TAKE};
-pub use laws::{deeds_are_done_one_by_one, no_tuple_is_taken_twice, proper_lists_keep_the_ranges};
+pub use laws::{
+    deeds_are_done_one_by_one, kept_numbers_count_deeds, lists_are_done_one_after_another,
+    no_tuple_is_taken_twice, proper_lists_keep_the_ranges, replies_look_back,
+};
 pub use limits::{HEAD_BYTES, ID_BYTES, MAX_DEED_BYTES, MAX_TUPLE_BYTES};
 pub use linda_book::{Book, Class, KeptReply};
 pub use linda_wire::NUMBER_LIMIT;

@@ -1,11 +1,7 @@
-//! Tests of clients, events and whole worlds, by public calls alone.
+//! Tests with which every growth of memory may be refused, by public calls alone: of a client and of worlds.
 //!
-//! Each module has the name of the crate that it tests; why they stand here: the README of linda_tests_values.
+//! The rows that need none of that are those of the program linda_rows_clients.
 #![tactic(auto)]
 
-#[cfg(test)]
-mod client;
-#[cfg(test)]
-mod event;
 #[cfg(test)]
 mod shell;

@@ -1,7 +1,3 @@
-//! Texts and faults, worked by hand from the grammar.
+//! Runs of a client and of worlds, worked by hand from the rules of clients and servers.
 
-mod events;
-mod faults;
-mod nested;
-mod scripts;
 mod worlds;

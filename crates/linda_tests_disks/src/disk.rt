@@ -1,10 +1,6 @@
-//! What no clause says: bytes worked by hand, when a fuse stops, a second model, real files, and what a
-//! call costs.
+//! What no clause and no row says: a second model, real files, and what a call costs.
 
 mod cost;
-mod crash;
 mod file;
 mod model;
 mod random;
-mod script;
-mod trouble;

@@ -1,13 +1,12 @@
-//! Tests of disks and of what stands on them, by public calls alone.
+//! Tests of servers and of disks that no row can be: where memory is refused, on real files, beside a second model, and
+//! of what a call costs.
 //!
-//! Each module has the name of the crate that it tests; why they stand here: the README of linda_tests_values.
+//! Each module has the name of the crate that it tests; why they stand here: docs/DECISIONS.md.
 #![tactic(auto)]
 
 #[cfg(test)]
 mod disk;
 #[cfg(test)]
-mod journal;
-#[cfg(test)]
 mod server;
 #[cfg(test)]
-mod snap;
+mod store;

@@ -1,12 +1,3 @@
-mod converse;
-mod crash;
-mod create;
-mod long;
 mod memory;
-mod open;
-mod rows;
 mod script;
-mod stop;
-mod switch;
-mod unsynced;
 mod words;

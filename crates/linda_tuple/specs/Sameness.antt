@@ -2,13 +2,13 @@
 use Rattle.std.specs.Prelude.{◌≡◌, Bool, true, false, refl}
 use Rattle.std.specs.Bool.{Decides}
 use Rattle.std.specs.Cmp.{IsEquivalence, booleans_Decides, decided, and_equiv, on_equiv}
-use Rattle.std.specs.Cmp.Lexicographic.{pointwise, lists_equiv}
+use Rattle.std.specs.Cmp.Lexicographic.{pointwise, pointwise_decides, lists_equiv}
 use Rattle.std.specs.Ordering.{int_eq, on, eq_of_both}
 use Rattle.std.specs.Str.{bytes_eq}
 use Rattle.std.proofs.Common.{ap}
 use Rattle.std.proofs.Math.Bool.{beq}
 use Rattle.std.proofs.lemmas.Bool.{false≢true}
-use Rattle.std.proofs.lemmas.Bool.Decides.{Decides-int_eq, Decides-like}
+use Rattle.std.proofs.lemmas.Bool.Decides.{Decides-and, Decides-int_eq, Decides-like}
 use Rattle.std.proofs.lemmas.Slice.Eq.{bytes_eq-Decides}
 use Rattle.linda_tuple.specs.declared.atom.Atom.{Atom}
 use Rattle.linda_tuple.specs.declared.atom.Atom.TheVariants as atoms
@@ -108,6 +108,14 @@ same_pattern-decides patterns.Any patterns.IntFormal = never (λ e. cc)
 same_pattern-decides patterns.Any patterns.TextFormal = never (λ e. cc)
 same_pattern-decides patterns.Any patterns.BoolFormal = never (λ e. cc)
 same_pattern-decides patterns.Any patterns.Any = ((λ e. refl), (λ p. refl))
+
+-- Tuples are equal where their tags and their fields are.
+pub same_tuple-decides : (a b : Tuple) → Decides (same_tuple a b) (a ≡ b)
+same_tuple-decides a b =
+    Decides-like (same_tuple a b) (λ both i. record { tag = both.0 i; fields = both.1 i })
+    (λ same. (ap (λ (t : Tuple). t.tag) same, ap (λ (t : Tuple). t.fields) same))
+    (Decides-and (same_atom a.tag b.tag) (pointwise same_atom a.fields b.fields)
+    (same_atom-decides a.tag b.tag) (pointwise_decides same_atom-decides a.fields b.fields))
 
 pub same_tuple-equiv : IsEquivalence same_tuple
 same_tuple-equiv =

@@ -1,6 +1,6 @@
 //! Tuples, which keep their limits.
 
-ghost use Rattle.std.specs.Prelude.{◌≡◌, ◌↔◌, ◌<◌, length, IfOk, IsOk, IsErrOf};
+ghost use Rattle.std.specs.Prelude.{◌≡◌, ◌↔◌, ◌<◌, true, length, IfOk, IsOk, IsErrOf};
 ghost use Rattle.linda_tuple.specs.declared.limits.TheConstants.{MAX_FIELDS};
 ghost use Rattle.linda_tuple.specs.Tuple.{IsWithin};
 
@@ -92,7 +92,11 @@ impl PartialEq for Tuple {
 
     ghost laws = { partial_equiv_from_equiv same_tuple-equiv };
 
-    fn eq(&self, other: &Tuple) -> bool {
+    // Tuples compare equal exactly where they are.
+    fn eq(&self, other: &Tuple) -> bool
+        ensures test { result ≡ same_tuple self.now other.now }
+        ensures exact { (result ≡ true) ↔ (self.now ≡ other.now) }
+    {
         self.tag == other.tag && self.fields == other.fields
     }
 }

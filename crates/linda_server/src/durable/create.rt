@@ -8,9 +8,9 @@ use crate::empty::{expect_empty, of_device, spell_empty};
 use crate::fault::OpenFault;
 use linda_disk::Disk;
 use linda_journal::{Bank, BankFault, lay_gate};
+use linda_moment::Moment;
 use linda_step::Store;
 use std::alloc::Global;
-use std::snapshot::Snapshot;
 
 impl<D: Disk> Durable<D> {
     ghost use Rattle.std.specs.Prelude.{◌<◌, ◌↔◌, [], false, length, IfOk, IfErr};
@@ -74,7 +74,7 @@ impl<D: Disk> Durable<D> {
             Err((fault, left)) => Err((of_bank(fault), left, right)),
             Ok(bank) => {
                 let store = Store::new(alloc);
-                let before = Snapshot::of(store.state());
+                let before = Moment::of(store.state());
                 Ok(Durable {
                     store,
                     disks: Disks::InUse(Pair {

@@ -1,6 +1,6 @@
 //! A call that is cut off, and the server coming back on what its disks read.
 
-ghost use Rattle.std.specs.Prelude.{◌≡◌, [], true, false, IfOk, OnOk, OnErr, IsErrOf};
+ghost use Rattle.std.specs.Prelude.{◌≡◌, ◌↔◌, [], true, false, IfOk, OnOk, OnErr, IsErrOf};
 ghost use Rattle.linda_server.specs.Server.{BothHonest};
 ghost use Rattle.linda_server.specs.Reopening.{has_done, IsReopened};
 
@@ -44,12 +44,18 @@ impl<D: Disk> Durable<D> {
         }
     }
 
-    // Counts as down from now on. Where it was up, nothing was done since.
-    fn give_up(&mut self)
+    /// Counts as down from now on. It is for a caller that has no memory to pass on what a call told it, and so
+    /// may not go on. A server that was up goes down in the state that it has, and none of its deeds is in doubt:
+    /// opened again on its disks it has that state. One that was down is as before. Makes no device call, and
+    /// takes no memory.
+    pub fn give_up(&mut self)
         ensures down { self.new.down ≡ true }
         ensures up { self.old.down ≡ false
             → (self.new.before.value ≡ self.old.store.state) × (self.new.lost.items ≡ []) }
         ensures was_down { self.old.down ≡ true → self.new ≡ self.old }
+        ensures same { (self.new.store ≡ self.old.store) × (self.new.disks ≡ self.old.disks)
+            × (self.new.limit ≡ self.old.limit) }
+        ensures honest { BothHonest self.old.disks ↔ BothHonest self.new.disks }
     {
         if !self.down {
             self.begin();

@@ -8,10 +8,10 @@ use crate::disks::{Disks, Pair};
 use crate::empty::is_limit;
 use crate::fault::OpenFault;
 use linda_disk::Disk;
+use linda_moment::Moment;
 use linda_snap::{ChoiceFault, Chosen, choose_bank};
 use linda_step::Store;
 use std::alloc::Global;
-use std::snapshot::Snapshot;
 
 impl<D: Disk> Durable<D> {
     ghost use Rattle.std.specs.Prelude.{◌<◌, ◌⊎◌, ◌↔◌, false, IfOk, IfErr};
@@ -78,7 +78,7 @@ impl<D: Disk> Durable<D> {
                     is_right,
                 } = chosen;
                 let store = Store::from_state(alloc, state);
-                let before = Snapshot::of(store.state());
+                let before = Moment::of(store.state());
                 Ok(Durable {
                     store,
                     disks: Disks::InUse(Pair {

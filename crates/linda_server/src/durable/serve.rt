@@ -1,7 +1,7 @@
 //! Serving messages: judged, done, and put onto the bank in use before anything is answered.
 
 ghost use Rattle.std.specs.Prelude.{◌≡◌, ◌∷◌, [], ◌<◌, ◌≤◌, ◌+◌, ◌^◌, ◌⊎◌, ◌↔◌};
-ghost use Rattle.std.specs.Prelude.{true, false, length, IfOk, OnOk, OnErr, IsErrOf};
+ghost use Rattle.std.specs.Prelude.{true, false, length, vec_len, IfOk, OnOk, OnErr, IsErrOf};
 ghost use Rattle.linda_server.specs.declared.limits.TheConstants.{RECORD_BYTES};
 ghost use Rattle.linda_server.specs.Server.{BothHonest, failures_of, IsKeptFor, AlwaysLeave, StandNow};
 ghost use Rattle.linda_server.specs.Disks.{is_ready, number_of};
@@ -13,15 +13,16 @@ use crate::limits::RECORD_BYTES;
 use crate::served::Served;
 use crate::serving::{serve_each, serve_one};
 use linda_disk::Disk;
+use linda_moment::Moment;
 use linda_wire::Message;
 use std::alloc::Global;
-use std::snapshot::Snapshot;
 
 impl<D: Disk> Durable<D> {
     ghost use Rattle.linda_state.specs.State.{IsState};
     ghost use Rattle.linda_state.specs.DeedFormat.{payload};
     ghost use Rattle.linda_step.specs.declared.size.TheConstants.{MAX_BATCH};
     ghost use Rattle.linda_step.specs.History.{says, comings};
+    ghost use Rattle.linda_step.specs.Store.{IsOrderly};
     ghost use Rattle.linda_store.specs.Node.{MayRemain};
     ghost use Rattle.linda_server.specs.Served.{IsServed};
     ghost use Rattle.linda_server.specs.Calls.{LeadTo, IsEither};
@@ -42,6 +43,8 @@ impl<D: Disk> Durable<D> {
         messages: &[(u32, Message)],
     ) -> Result<Served, ServeFault>
         requires { length messages.now ≤ MAX_BATCH }
+        // The server was in order, as each is.
+        ensures orderly { IsOrderly self.old.store.state self.old.store.soft }
         // At no moment crashes leave anything but the state of before, or the one after all deeds;
         ensures any_moment { self.old.down ≡ false
             → AlwaysLeave self.old.disks self.new.disks
@@ -49,6 +52,7 @@ impl<D: Disk> Durable<D> {
         // at Ok it did what they ask, and crashes now leave the state after that.
         ensures done { IfOk result (λ served. IsServed self.old.store.state self.old.store.soft
             messages.now served self.new.store.state self.new.store.soft) }
+        ensures each { IfOk result (λ served. vec_len served.shares ≡ length messages.now) }
         ensures now { OnOk result (StandNow self.new.disks self.new.store.state) }
         ensures up { OnOk result ((self.old.down ≡ false) × (self.new.down ≡ false)) }
         // It is Full exactly where the record of the deeds, and the gate behind it, would pass the
@@ -95,11 +99,13 @@ impl<D: Disk> Durable<D> {
         client: u32,
         message: &Message,
     ) -> Result<Served, ServeFault>
+        ensures orderly { IsOrderly self.old.store.state self.old.store.soft }
         ensures any_moment { self.old.down ≡ false
             → AlwaysLeave self.old.disks self.new.disks
             (IsBeforeOrAfter self.old.store (says client message.now ∷ [])) }
         ensures done { IfOk result (λ served. IsServed self.old.store.state self.old.store.soft
             ((client, message.now) ∷ []) served self.new.store.state self.new.store.soft) }
+        ensures each { IfOk result (λ served. vec_len served.shares ≡ 1) }
         ensures now { OnOk result (StandNow self.new.disks self.new.store.state) }
         ensures up { OnOk result ((self.old.down ≡ false) × (self.new.down ≡ false)) }
         ensures full { IsErrOf result ServeFault.Full → (self.new ≡ self.old)
@@ -164,7 +170,7 @@ impl<D: Disk> Durable<D> {
         ensures limited { number_of (λ b. b.limit) self.new.disks ≡ self.new.limit }
         ensures kept { ∥ IsKeptFor self.new.disks self.old.store.state ∥₁ }
     {
-        self.before = Snapshot::of(self.store.state());
+        self.before = Moment::of(self.store.state());
         self.down = true;
     }
 

@@ -8,9 +8,9 @@ use super::Durable;
 use crate::fault::{ServeFault, node_fault};
 use crate::renewal::renew;
 use linda_disk::Disk;
+use linda_moment::Moment;
 use linda_store::NodeFault;
 use std::alloc::Global;
-use std::snapshot::Snapshot;
 
 impl<D: Disk> Durable<D> {
     ghost use Rattle.linda_server.specs.Calls.{StandsFor};
@@ -62,7 +62,7 @@ impl<D: Disk> Durable<D> {
                 if fault == ServeFault::Full {
                     return Err(fault);
                 }
-                self.before = Snapshot::of(self.store.state());
+                self.before = Moment::of(self.store.state());
                 self.down = true;
                 Err(fault)
             }

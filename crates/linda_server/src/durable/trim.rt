@@ -7,8 +7,8 @@ use super::Durable;
 use crate::clearing::clear;
 use crate::fault::{ServeFault, node_fault, of_disk};
 use linda_disk::Disk;
+use linda_moment::Moment;
 use linda_store::NodeFault;
-use std::snapshot::Snapshot;
 
 impl<D: Disk> Durable<D> {
     ghost use Rattle.linda_server.specs.Calls.{StandsFor};
@@ -50,7 +50,7 @@ impl<D: Disk> Durable<D> {
         match clear(&mut self.disks) {
             Ok(()) => Ok(()),
             Err(fault) => {
-                self.before = Snapshot::of(self.store.state());
+                self.before = Moment::of(self.store.state());
                 self.down = true;
                 Err(of_disk(fault))
             }

@@ -1,13 +1,7 @@
-//! Worlds over servers in memory and over servers on disks, and a client alone: rows of what happens, each with what
-//! comes of it, worked by hand.
+//! A client alone, and worlds over servers in memory and over servers on disks: rows of what happens, where memory may
+//! run out.
 
 mod client;
-mod faults;
-mod lists;
+mod made;
 mod memory;
-mod play;
-mod refusals;
-mod runs;
 mod step;
-mod stops;
-mod words;

@@ -3,7 +3,7 @@
 //! The tests are made to be run with each growth of memory refused, one after another, and pass whichever it is. Where
 //! the growth is one of the script's own, the step is done again.
 
-use super::script::{Do, Stand, Told, stand_on, step};
+use super::script::{Do, Stand, Told, empty_stand, step};
 use super::words::{EMPTY, WITH_ONE};
 use linda_disk::Torn;
 use linda_server::OpenFault;
@@ -16,14 +16,6 @@ fn surely(alloc: Global, stand: &mut Stand, what: Do) -> Result<Told, AllocError
     match step(alloc, stand, what) {
         Ok(told) => Ok(told),
         Err(_) => step(alloc, stand, what),
-    }
-}
-
-/// Two empty disks.
-fn empty_stand(alloc: Global) -> Result<Stand, AllocError> {
-    match stand_on(alloc, b"", b"") {
-        Ok(stand) => Ok(stand),
-        Err(_) => stand_on(alloc, b"", b""),
     }
 }
 
@@ -110,7 +102,7 @@ fn all_borne(rt: &impl Abort, alloc: Global, stand: &mut Stand) -> Result<(), Fa
 
 #[test]
 fn want_of_memory_loses_nothing(rt: HostRuntime) -> Result<(), Fail> {
-    let mut stand = empty_stand(rt.alloc())?;
+    let mut stand = empty_stand(rt.alloc());
     if made(&rt, rt.alloc(), &mut stand)? {
         all_borne(&rt, rt.alloc(), &mut stand)?;
     }

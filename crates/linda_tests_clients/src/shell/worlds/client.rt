@@ -2,8 +2,8 @@
 //! is made again, and then gives what it gives else. It is made to be run with each growth refused, one after another;
 //! where the growth is one of the test's own, the test fails and says that memory ran out.
 
-use super::words::push_message;
 use linda_client::{Client, ClientFault, Reaction};
+use linda_script::write_message;
 use linda_shell::{read_event, write_outcome};
 use linda_text::read_tuple;
 use linda_tuple::Tuple;
@@ -82,9 +82,8 @@ fn made_at_last(alloc: Global, client: &mut Client, call: Call) -> Result<Reacti
 fn in_words(alloc: Global, reaction: &Reaction) -> Result<String, Fail> {
     let mut words = String::new(alloc);
     for (server, message) in &reaction.packets {
-        write!(words, "{server} ")?;
-        push_message(&mut words, message)?;
-        words.push_str("; ")?;
+        let message = write_message(alloc, message)?;
+        write!(words, "{server} {message}; ")?;
     }
     if let Some(outcome) = &reaction.outcome {
         words.push_str(&write_outcome(alloc, 7, outcome)?)?;
@@ -103,16 +102,22 @@ fn makes(rt: &impl Abort, alloc: Global, calls: &[(Call, &str)]) -> Result<(), F
     Ok(())
 }
 
+/// What is asked of both servers: the input under ticket 1, the read under ticket 2.
+const ASKS: &str = "0 in 1 (\"a\", ?i); 1 in 1 (\"a\", ?i); 0 rd 2 (\"b\"); 1 rd 2 (\"b\"); ";
+
 /// The first offer is accepted and taken, and a second one saved.
 const TAKES: [(Call, &str); 7] = [
-    (Call::Sync, "0 ask 1; 1 ask 1; 0 ask 2; 1 ask 2; "),
+    (Call::Sync, ASKS),
     (Call::Offer(1, 1, 4), "1 accept 1 1 4; "),
     (Call::Offer(0, 1, 2), ""),
     (
         Call::Resend,
-        "1 accept 1 1 4; 0 ask 1; 1 ask 1; 0 ask 2; 1 ask 2; ",
+        "1 accept 1 1 4; 0 in 1 (\"a\", ?i); 1 in 1 (\"a\", ?i); 0 rd 2 (\"b\"); 1 rd 2 (\"b\"); ",
     ),
-    (Call::Reconnected(1), "1 accept 1 1 4; 1 ask 1; 1 ask 2; "),
+    (
+        Call::Reconnected(1),
+        "1 accept 1 1 4; 1 in 1 (\"a\", ?i); 1 rd 2 (\"b\"); ",
+    ),
     (Call::Tick(3), ""),
     (
         Call::Taken(1, 1, 4),
@@ -128,7 +133,7 @@ fn a_client_that_had_no_memory_takes_as_it_would_have(rt: HostRuntime) -> Result
 
 /// What was accepted is gone; then the client gives up.
 const TAKES_NOTHING: [(Call, &str); 6] = [
-    (Call::Sync, "0 ask 1; 1 ask 1; 0 ask 2; 1 ask 2; "),
+    (Call::Sync, ASKS),
     (Call::Offer(1, 1, 4), "1 accept 1 1 4; "),
     (Call::Tick(2), ""),
     (Call::Gone(1, 1), ""),
@@ -146,7 +151,7 @@ fn a_client_that_had_no_memory_gives_up_as_it_would_have(rt: HostRuntime) -> Res
 
 /// The time comes while nothing is accepted.
 const WAITS: [(Call, &str); 3] = [
-    (Call::Sync, "0 ask 1; 1 ask 1; 0 ask 2; 1 ask 2; "),
+    (Call::Sync, ASKS),
     (
         Call::Tick(3),
         "0 cancel 1; 1 cancel 1; 0 cancel 2; 1 cancel 2; 7 alarm labels [] raised [1, 2]\n",

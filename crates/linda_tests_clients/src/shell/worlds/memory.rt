@@ -3,7 +3,7 @@
 //! run with each growth refused, one after another; where the growth is one of the test's own, the test fails and says
 //! that memory ran out.
 
-use super::play::{in_memory, on_disks};
+use super::made::{in_memory, on_disks};
 use super::step::{Do, event_of};
 use linda_store::Node;
 use linda_world::{World, WorldEvent, WorldFault};
@@ -83,10 +83,10 @@ fn is_opened<N: Node>(rt: &impl Abort, alloc: Global, world: &mut World<N>) -> R
 
 #[test]
 fn a_run_that_has_no_memory_shows_what_it_showed(rt: HostRuntime) -> Result<(), Fail> {
-    goes_on(&rt, rt.alloc(), in_memory(rt.alloc(), false)?, false)
+    goes_on(&rt, rt.alloc(), in_memory(rt.alloc())?, false)
 }
 
 #[test]
 fn a_server_on_disks_that_had_no_memory_is_opened_again(rt: HostRuntime) -> Result<(), Fail> {
-    goes_on(&rt, rt.alloc(), on_disks(rt.alloc(), false)?, true)
+    goes_on(&rt, rt.alloc(), on_disks(rt.alloc())?, true)
 }

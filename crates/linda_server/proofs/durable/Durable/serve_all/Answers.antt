@@ -1,16 +1,18 @@
 -- What was served is put onto the bank in use, or nothing is touched.
-use Rattle.std.proofs.Common.{◌≡◌, sym, subst, ap, arith}
+use Rattle.std.proofs.Common.{◌≡◌, length, sym, subst, ap, arith}
+use Rattle.std.specs.Vec.{vec_len}
 use Rattle.linda_state.proofs.DoneLaws.{on_ok}
 use Rattle.linda_step.specs.declared.size.TheConstants.{MAX_BATCH}
 use Rattle.linda_step.specs.Store.{Store}
 use Rattle.linda_step.specs.History.{comings, history_of}
+use Rattle.linda_server.specs.declared.served.Served.{Served}
 use Rattle.linda_server.specs.Served.{IsServed}
 use Rattle.linda_server.specs.Pairs.{PairsSince}
 use Rattle.linda_server.specs.Disks.{both, number_of}
 use Rattle.linda_server.specs.Calls.{LeadTo, IsBeforeOrAfter}
 use Rattle.linda_server.specs.Node.{shown}
 use Rattle.linda_server.proofs.ServedLaws.{served_happens}
-use Rattle.linda_server.proofs.CallLaws.{leads_to, few, some_bytes, still_before, served_since, stands_so, none_remains, all_remains_up, at_fault}
+use Rattle.linda_server.proofs.CallLaws.{leads_to, few, some_bytes, still_before, served_since, stands_so, none_remains, all_remains_up, at_fault, each_share, told_so}
 use Rattle.linda_server.proofs.durable.Durable.serve_all.Goals as goal
 
 pub returns-in_err-admit-clause-any_moment : goal.returns-in_err-admit-clause-any_moment
@@ -64,6 +66,13 @@ returns-clause-any_moment g c is_up are =
     served_since (λ b. b.generation) (λ b. b.end) (λ b. g.D.Disk.view b.disk) g.D.Disk.view (λ b. g.D.Disk.honest b.disk) g.D.Disk.honest
     (λ b h. g.met.D.Disk.timed b.disk h) (λ d h. g.met.D.Disk.timed d h) s.disks c.begin.new.self.disks c.settle.new.self.disks s.store c.serve_each.new.store (c.args.messages.now) c.in-Ok.served c.begin.new.self.before.value
     c.begin.ensures.same.1 c.begin.ensures.before (subst (λ (st : Store). IsServed st.state st.soft (c.args.messages.now) c.in-Ok.served c.serve_each.new.store.state c.serve_each.new.store.soft) c.begin.ensures.same.0 c.in-Ok.ensures.ok) are c.settle.ensures.any_moment
+
+pub returns-clause-each : goal.returns-clause-each
+returns-clause-each g c =
+    let before = c.begin.new.self.store in
+    let after = c.serve_each.new.store in
+    told_so c.settle.result c.in-Ok.served (λ (s : Served). vec_len s.shares ≡ length (c.args.messages.now)) c.settle.ensures.done
+    (each_share before.state before.soft (c.args.messages.now) c.in-Ok.served after.state after.soft c.in-Ok.ensures.ok)
 
 pub returns-clause-now : goal.returns-clause-now
 returns-clause-now g c =

@@ -1,0 +1,74 @@
+-- A Hello changes nothing, and its answer is the greeting.
+use Rattle.std.proofs.Common.{◌≡◌, ◌≢◌, ℕ, Bool, true, false, not, cond, ◌==◌, ◌&&◌, nat_lt, List, [], ◌∷◌, Option, Some, None, All, IfSome, option_to_list, sym, ap, ◌∙◌, subst, append-nil, inl, inr}
+use Rattle.std.proofs.lemmas.Bool.{cases_eq}
+use Rattle.std.proofs.lemmas.List.Elements.{All-nil}
+use Rattle.linda_wire.specs.declared.message.Message.TheVariants as messages
+use Rattle.linda_wire.specs.declared.limits.TheConstants.{VERSION}
+use Rattle.linda_wire.specs.declared.refusal.Refusal.TheVariants as refusals
+use Rattle.linda_wire.specs.Refusal.{refused}
+use Rattle.linda_wire.specs.declared.reply.Reply.{Reply}
+use Rattle.linda_wire.specs.declared.reply.Reply.TheVariants as replies
+use Rattle.linda_state.specs.State.{State, IsState}
+use Rattle.linda_state.specs.After.{IsAfter}
+use Rattle.linda_state.proofs.AfterLaws.{none_after, one_after}
+use Rattle.linda_step.specs.Soft.{Soft}
+use Rattle.linda_step.specs.Answer.{Answer, only_reply, greeting, is_one_too_many, last_number, IsStep}
+use Rattle.linda_server.specs.declared.served.Served.{Served}
+use Rattle.linda_server.specs.Served.{sends_of, IsServed}
+use Rattle.linda_promise.specs.Covered.{IsCovered}
+use Rattle.linda_desk.specs.Covered.{BoxesCovered}
+use Rattle.linda_outbox.specs.Replies.{opened}
+use Rattle.linda_desk.specs.Greeting.{IsGreetingReply}
+
+pub record IsGreeting (st : State) (soft : Soft) (c version : ℕ) (fresh : Bool) (sends : List (ℕ × Reply)) (new : State) (behind : Soft) : Type 0 where
+  pub sends_are : sends ≡ (c, greeting st c version fresh) ∷ []
+  pub state_is : new ≡ st
+  pub soft_is : behind ≡ soft
+
+pub hello_served : (st : State) (soft : Soft) (c client version : ℕ) (fresh : Bool) (served : Served) (new : State) (behind : Soft) → IsState st
+    → IsServed st soft ((c, messages.Hello version client fresh) ∷ []) served new behind → IsGreeting st soft c version fresh served.sends.items new behind
+hello_served st soft c client version fresh served new behind is has =
+    let a : Answer = has.answered.0 in
+    let mid : State = has.answered.1.0 in
+    let step : IsStep st soft c (messages.Hello version client fresh) a mid = has.answered.1.1.1.0 in
+    let rest = has.answered.1.1.1.1.0 in
+    let said : a ≡ only_reply c (greeting st c version fresh) soft = step.answer in
+    let all : has.answers ≡ a ∷ [] = has.answered.1.1.1.1.1 ∙ ap (λ (l : List Answer). a ∷ l) rest.0 in
+    let after : IsAfter st [] mid = subst (λ (x : Answer). IsAfter st (option_to_list x.deed) mid) said step.state_is in
+    record {
+      sends_are = has.tells.sends ∙ (ap sends_of all ∙ (append-nil a.sends ∙ ap (λ (x : Answer). x.sends) said));
+      state_is = rest.1.0 ∙ one_after st [] mid st after (none_after st is);
+      soft_is = rest.1.1 ∙ ap (λ (x : Answer). x.soft) said;
+    }
+
+-- One outbox is opened, where there was none.
+pub boxes_opened : (st : State) (client : ℕ) (waits0 waits1 : ℕ → Option (List Reply)) → waits1 client ≡ opened (waits0 client)
+    → ((c : ℕ) → c ≢ client → waits1 c ≡ waits0 c) → BoxesCovered st waits0 → BoxesCovered st waits1
+boxes_opened st client waits0 waits1 at others covered c =
+    elim (cases_eq c client) [
+      | inl here ↦ subst (λ c. IfSome (waits1 c) (All (λ (r : Reply). IsCovered st (c, r)))) (sym here) (subst (λ o. IfSome o (All (λ (r : Reply). IsCovered st (client, r)))) (sym at) (there (waits0 client) (covered client)))
+      | inr apart ↦ subst (λ o. IfSome o (All (λ (r : Reply). IsCovered st (c, r)))) (sym (others c apart)) (covered c)
+    ]
+  where
+    there : (o : Option (List Reply)) → IfSome o (All (λ (r : Reply). IsCovered st (client, r))) → IfSome (opened o) (All (λ (r : Reply). IsCovered st (client, r)))
+    there None none = All-nil (λ (r : Reply). IsCovered st (client, r))
+    there (Some rs) some = some
+
+-- One outbox is shut.
+pub boxes_shut : (st : State) (client : ℕ) (waits0 waits1 : ℕ → Option (List Reply)) → waits1 client ≡ None
+    → ((c : ℕ) → c ≢ client → waits1 c ≡ waits0 c) → BoxesCovered st waits0 → BoxesCovered st waits1
+boxes_shut st client waits0 waits1 at others covered c =
+    elim (cases_eq c client) [
+      | inl here ↦ subst (λ c. IfSome (waits1 c) (All (λ (r : Reply). IsCovered st (c, r)))) (sym here) (subst (λ o. IfSome o (All (λ (r : Reply). IsCovered st (client, r)))) (sym at) tt)
+      | inr apart ↦ subst (λ o. IfSome o (All (λ (r : Reply). IsCovered st (c, r)))) (sym (others c apart)) (covered c)
+    ]
+
+-- A greeting welcomes or refuses.
+pub greets : (st : State) (c version : ℕ) (fresh : Bool) → IsGreetingReply (greeting st c version fresh)
+greets st c version fresh = by (not (version == VERSION)) (fresh && nat_lt 0 (last_number st c)) (is_one_too_many st c)
+  where
+    by : (a b d : Bool) → IsGreetingReply (cond a (refused refusals.Version) (cond b (refused (refusals.Known (last_number st c))) (cond d (refused refusals.TooManyClients) (replies.Welcome (last_number st c)))))
+    by true b d = tt
+    by false true d = tt
+    by false false true = tt
+    by false false false = tt

@@ -1,0 +1,9 @@
+pub mod ReceiptLaws
+pub mod OrderLaws
+pub mod FaultLaws
+pub mod Told
+pub mod BaseLaws
+pub mod CoveredLaws
+pub mod AloneLaws
+pub mod GreetLaws
+pub mod TillLaws

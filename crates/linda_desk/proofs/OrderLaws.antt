@@ -1,0 +1,175 @@
+-- What is always so stays so.
+use Rattle.std.proofs.Common.{◌≡◌, ℕ, ◌+◌, Bool, true, false, true≢false, List, [], ◌∷◌, ◌++◌, map, length, Option, refl, sym, ap, ◌∙◌, subst, append-nil, append_assoc, length-append, arith}
+use Rattle.std.proofs.lemmas.List.{map-append, length-map}
+use Rattle.linda_wire.specs.declared.message.Message.{Message}
+use Rattle.linda_wire.specs.declared.reply.Reply.{Reply}
+use Rattle.linda_state.specs.declared.deed.Deed.{Deed}
+use Rattle.linda_state.specs.State.{State, IsState}
+use Rattle.linda_state.specs.Proper.{AreDone}
+use Rattle.linda_state.proofs.ProperLaws.{none_done, proper_state}
+use Rattle.linda_step.specs.Soft.{Soft}
+use Rattle.linda_step.specs.Answer.{Answer}
+use Rattle.linda_server.specs.declared.served.Served.{Served}
+use Rattle.linda_server.specs.Served.{deeds_of, share_of, IsServed}
+use Rattle.linda_receipt.specs.declared.receipt.Receipt.{Receipt}
+use Rattle.linda_receipt.specs.Receipts.{deeds_in, AreTrue}
+use Rattle.linda_receipt.specs.Telling.{receipt_of, receipts_in, told_by, HasTold}
+use Rattle.linda_step.specs.Store.{Store}
+use Rattle.linda_server.specs.Served.{AreAnswered}
+use Rattle.linda_desk.specs.Order.{known, IsInOrder}
+use Rattle.linda_desk.proofs.ReceiptLaws.{IsGood, all_good}
+
+-- At the start.
+pub first_order : (st : State) → IsState st → (is_down : Bool) → IsInOrder st st [] 0 is_down st
+first_order st is is_down = record {
+  ranges = is;
+  earlier = [];
+  to_base = none_done st is;
+  untold = [];
+  to_state = none_done st is;
+  none_untold = λ _. refl;
+  replies = tt;
+  counted = refl;
+}
+
+-- The base is in its ranges.
+pub base_is : (opening base : State) (rs : List Receipt) (count : ℕ) (is_down : Bool) (st : State) → IsInOrder opening base rs count is_down st → IsState base
+base_is opening base rs count is_down st so = proper_state opening base so.earlier so.ranges so.to_base.proper so.to_base.after
+
+-- While the server is up the receipts lead to its state.
+pub told_all : (opening base : State) (rs : List Receipt) (count : ℕ) (st : State) → IsInOrder opening base rs count false st → AreDone base (deeds_in rs) st
+told_all opening base rs count st so =
+    subst (λ l. AreDone base l st) (ap (λ l. deeds_in rs ++ l) (so.none_untold refl) ∙ append-nil (deeds_in rs)) so.to_state
+
+-- The state is in its ranges.
+pub state_is : (opening base : State) (rs : List Receipt) (count : ℕ) (st : State) → IsInOrder opening base rs count false st → IsState st
+state_is opening base rs count st so =
+    let told = told_all opening base rs count st so in
+    proper_state base st (deeds_in rs) (base_is opening base rs count false st so) told.proper told.after
+
+more_true : (st : State) (ds : List Deed) (rs qs : List Receipt) → AreTrue st ds rs → AreTrue st (ds ++ deeds_in rs) qs → AreTrue st ds (rs ++ qs)
+more_true st ds [] qs first later = subst (λ l. AreTrue st l qs) (append-nil ds) later
+more_true st ds (r ∷ rs) qs first later =
+    (first.0, more_true st (ds ++ r.deed ∷ []) rs qs first.1 (subst (λ l. AreTrue st l qs) (sym (append_assoc ds (r.deed ∷ []) (deeds_in rs))) later))
+
+-- Messages were answered, and those who asked are told.
+pub told_more : (opening base : State) (rs : List Receipt) (count : ℕ) (st : State) (soft : Soft) (ms : List (ℕ × Message)) (told : List (Option Receipt)) (sends : List (ℕ × Reply)) (new : State) (then : Soft)
+    → IsInOrder opening base rs count false st → HasTold st soft ms told sends new then
+    → IsInOrder opening base (rs ++ receipts_in told) (count + length (receipts_in told)) false new
+told_more opening base rs count st soft ms told sends new then so has =
+    let is = base_is opening base rs count false st so in
+    let good : IsGood base (deeds_in rs) has.answers new = all_good base is ms st new soft then (deeds_in rs) has.answers (told_all opening base rs count st so) has.answered in
+    let same : receipts_in told ≡ receipts_in (map receipt_of has.answers) = ap receipts_in has.told_is in
+    let deeds : deeds_in (rs ++ receipts_in told) ≡ deeds_in rs ++ deeds_of has.answers =
+    map-append (λ (r : Receipt). r.deed) rs (receipts_in told) ∙ ap (λ l. deeds_in rs ++ l) (ap deeds_in same ∙ good.deeds) in
+    let counted = so.counted in
+    let long = length-append rs (receipts_in told) in
+    record {
+      ranges = so.ranges;
+      earlier = so.earlier;
+      to_base = so.to_base;
+      untold = [];
+      to_state = subst (λ l. AreDone base l new) (sym (append-nil (deeds_in (rs ++ receipts_in told)) ∙ deeds)) good.done;
+      none_untold = λ _. refl;
+      replies = more_true base [] rs (receipts_in told) so.replies (subst (AreTrue base (deeds_in rs)) (sym same) good.replies);
+      counted = omega (arith, counted, long);
+    }
+
+-- Messages were answered, and nobody is told: the server is down.
+pub told_nobody : (opening base : State) (rs : List Receipt) (count : ℕ) (st : State) (soft : Soft) (ms : List (ℕ × Message)) (served : Served) (new : State) (then : Soft)
+    → IsInOrder opening base rs count false st → IsServed st soft ms served new then
+    → IsInOrder opening base rs count true new
+told_nobody opening base rs count st soft ms served new then so has =
+    let is = base_is opening base rs count false st so in
+    let good : IsGood base (deeds_in rs) has.answers new = all_good base is ms st new soft then (deeds_in rs) has.answers (told_all opening base rs count st so) has.answered in
+    record {
+      ranges = so.ranges;
+      earlier = so.earlier;
+      to_base = so.to_base;
+      untold = deeds_of has.answers;
+      to_state = good.done;
+      none_untold = λ up. absurd (true≢false up);
+      replies = so.replies;
+      counted = so.counted;
+    }
+
+-- The server did nothing, whether it went down or not.
+pub stays_so : (opening base : State) (rs : List Receipt) (count : ℕ) (was_down is_down : Bool) (st new : State) → new ≡ st → (is_down ≡ false → was_down ≡ false)
+    → IsInOrder opening base rs count was_down st → IsInOrder opening base rs count is_down new
+stays_so opening base rs count was_down is_down st new same up so = record {
+  ranges = so.ranges;
+  earlier = so.earlier;
+  to_base = so.to_base;
+  untold = so.untold;
+  to_state = subst (AreDone base (deeds_in rs ++ so.untold)) (sym same) so.to_state;
+  none_untold = λ e. so.none_untold (up e);
+  replies = so.replies;
+  counted = so.counted;
+}
+
+-- What is told of what was served is what its answers come to.
+pub has_told : (st : State) (soft : Soft) (ms : List (ℕ × Message)) (served : Served) (new : State) (then : Soft) (told : List (Option Receipt)) → IsState st → IsServed st soft ms served new then
+    → told ≡ told_by served.shares.items served.deeds.items served.sends.items → HasTold st soft ms told served.sends.items new then
+has_told st soft ms served new then told is has told_is =
+    let good : IsGood st [] has.answers new = all_good st is ms st new soft then [] has.answers (none_done st is) has.answered in
+    let tells = has.tells in
+    record {
+      answers = has.answers;
+      answered = has.answered;
+      told_is =
+          told_is
+          ∙ (ap (λ l. told_by l served.deeds.items served.sends.items) tells.shares
+          ∙ (ap (λ l. told_by (map share_of has.answers) l served.sends.items) tells.deeds
+          ∙ (ap (λ l. told_by (map share_of has.answers) (deeds_of has.answers) l) tells.sends ∙ good.told)));
+      sends_is = tells.sends;
+    }
+
+-- ---- the same, of a server as its fields are
+
+-- Those who asked are told.
+pub goes_on : (opening base : State) (rs0 rs1 rs2 : List Receipt) (count : ℕ) (was_down is_down : Bool) (before0 before1 : State) (store0 store1 : Store) (ms : List (ℕ × Message)) (served : Served) (told mine : List (Option Receipt))
+    → rs1 ≡ rs0 → rs2 ≡ rs1 ++ receipts_in mine → was_down ≡ false → is_down ≡ false
+    → told ≡ told_by served.shares.items served.deeds.items served.sends.items → mine ≡ told_by served.shares.items served.deeds.items served.sends.items
+    → IsServed store0.state store0.soft ms served store1.state store1.soft → IsInOrder opening base rs0 count was_down (known before0 store0 was_down)
+    → IsInOrder opening base rs2 (count + length (receipts_in told)) is_down (known before1 store1 is_down)
+goes_on opening base rs0 rs1 rs2 count true is_down before0 before1 store0 store1 ms served told mine rs1_is rs2_is was is told_is mine_is done so = absurd (true≢false was)
+goes_on opening base rs0 rs1 rs2 count false true before0 before1 store0 store1 ms served told mine rs1_is rs2_is was is told_is mine_is done so = absurd (true≢false is)
+goes_on opening base rs0 rs1 rs2 count false false before0 before1 store0 store1 ms served told mine rs1_is rs2_is was is told_is mine_is done so =
+    let st_is : IsState store0.state = state_is opening base rs0 count store0.state so in
+    let has = has_told store0.state store0.soft ms served store1.state store1.soft told st_is done told_is in
+    let all : rs2 ≡ rs0 ++ receipts_in told = rs2_is ∙ (ap (λ l. l ++ receipts_in mine) rs1_is ∙ ap (λ l. rs0 ++ receipts_in l) (mine_is ∙ sym told_is)) in
+    subst (λ l. IsInOrder opening base l (count + length (receipts_in told)) false store1.state) (sym all)
+    (told_more opening base rs0 count store0.state store0.soft ms told served.sends.items store1.state store1.soft so has)
+
+-- Nobody is told, and the server is taken down.
+pub gives_up : (opening base : State) (rs0 rs1 : List Receipt) (count : ℕ) (was_down is_down : Bool) (before0 before2 : State) (store0 store1 store2 : Store) (ms : List (ℕ × Message)) (served : Served)
+    → rs1 ≡ rs0 → was_down ≡ false → is_down ≡ true → before2 ≡ store1.state
+    → IsServed store0.state store0.soft ms served store1.state store1.soft → IsInOrder opening base rs0 count was_down (known before0 store0 was_down)
+    → IsInOrder opening base rs1 count is_down (known before2 store2 is_down)
+gives_up opening base rs0 rs1 count true is_down before0 before2 store0 store1 store2 ms served rs_is was is before_is done so = absurd (true≢false was)
+gives_up opening base rs0 rs1 count false false before0 before2 store0 store1 store2 ms served rs_is was is before_is done so = absurd (true≢false (sym is))
+gives_up opening base rs0 rs1 count false true before0 before2 store0 store1 store2 ms served rs_is was is before_is done so =
+    subst (λ l. IsInOrder opening base l count true before2) (sym rs_is)
+    (subst (IsInOrder opening base rs0 count true) (sym before_is)
+    (told_nobody opening base rs0 count store0.state store0.soft ms served store1.state store1.soft so done))
+
+-- It begins.
+pub begins : (opening base : State) (rs : List Receipt) (is_down : Bool) (before : State) (store : Store) → is_down ≡ false → opening ≡ store.state → base ≡ store.state → rs ≡ [] → IsState store.state
+    → IsInOrder opening base rs 0 is_down (known before store is_down)
+begins opening base rs true before store is opening_is base_is none st_is = absurd (true≢false is)
+begins opening base rs false before store is opening_is base_is none st_is =
+    subst (λ s. IsInOrder s base rs 0 false store.state) (sym opening_is)
+    (subst (λ s. IsInOrder store.state s rs 0 false store.state) (sym base_is)
+    (subst (λ l. IsInOrder store.state store.state l 0 false store.state) (sym none) (first_order store.state st_is false)))
+
+-- Each message is told of once.
+each_answered : (st : State) (soft : Soft) (ms : List (ℕ × Message)) (answers : List Answer) (new : State) (behind : Soft) → AreAnswered st soft ms answers new behind → length answers ≡ length ms
+each_answered st soft [] answers new behind are = ap length are.0
+each_answered st soft (m ∷ ms) answers new behind are =
+    let rest = each_answered are.1.0 are.0.soft ms are.1.1.0 new behind are.1.1.1.1.0 in
+    let same : length answers ≡ length (are.0 ∷ are.1.1.0) = ap length are.1.1.1.1.1 in
+    omega (arith, same, rest)
+
+pub each_told : (st : State) (soft : Soft) (ms : List (ℕ × Message)) (told : List (Option Receipt)) (sends : List (ℕ × Reply)) (new : State) (behind : Soft) → HasTold st soft ms told sends new behind → length told ≡ length ms
+each_told st soft ms told sends new behind has =
+    ap length has.told_is ∙ (length-map has.answers receipt_of ∙ each_answered st soft ms has.answers new behind has.answered)

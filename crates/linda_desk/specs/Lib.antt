@@ -1,0 +1,4 @@
+pub mod Posted
+pub mod Order
+pub mod Covered
+pub mod Greeting

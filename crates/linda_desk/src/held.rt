@@ -1,0 +1,130 @@
+//! What stands under the server's lock, and the group commit of several sessions.
+
+mod alone;
+mod base;
+mod drain;
+mod finish;
+mod greet;
+mod leave;
+mod serve;
+mod take;
+mod tell;
+
+ghost use Rattle.std.specs.Prelude.{◌≡◌, ℕ, ◌+◌, ◌≤◌, ◌++◌, [], false, length, map, reverse, replicate};
+ghost use Rattle.std.specs.Prelude.{vec_len, vec_capacity, None, IfErr, OnOk, OnErr};
+ghost use Rattle.linda_step.specs.declared.size.TheConstants.{MAX_BATCH};
+ghost use Rattle.linda_desk.specs.Order.{known, IsInOrder};
+ghost use Rattle.linda_desk.specs.Covered.{BoxesCovered};
+ghost use Rattle.linda_desk.specs.Posted.{IsHandled, WentSome};
+ghost use Rattle.linda_outbox.specs.Waiting.{waits_for};
+ghost use Rattle.linda_receipt.specs.Till.{till_of};
+ghost use Rattle.linda_receipt.specs.declared.limits.TheConstants.{PARTS};
+ghost use Rattle.std.specs.FinMap as fin;
+
+pub use finish::Report;
+use linda_bag::IndexBag;
+use linda_disk::Disk;
+use linda_moment::Moment;
+use linda_outbox::Outboxes;
+use linda_receipt::{Answered, Asked, Receipt, SharedFault, Till, Told};
+use linda_server::Durable;
+use linda_state::State;
+use linda_wire::Message;
+use std::alloc::Global;
+use std::sync::ledger::{Blank, Ledger};
+use take::take;
+use tell::{fail_all, settle_all};
+
+/// The server, the receipts of its deeds since the base, and the ledger of who was told of how many.
+#[derive(Drop)]
+pub struct Held<D: Disk, L: Ledger> {
+    server: Durable<D>,
+    // The state when it was made, which contracts alone see.
+    opening: Moment<State<IndexBag>>,
+    // The state at the last snapshot, or when it was made.
+    base: Moment<State<IndexBag>>,
+    receipts: Vec<Receipt>,
+    count: u64,
+    till: Till<L>,
+    ghost in_order: { ∥ IsInOrder opening.value base.value receipts.items count server.down
+        (known server.before.value server.store server.down) ∥₁ },
+    // For each client that has an outbox the replies that wait there, in order.
+    boxes: Outboxes,
+    ghost counted: { till.total ≡ count },
+    ghost covered: { ∥ BoxesCovered (known server.before.value server.store server.down) (waits_for boxes) ∥₁ },
+}
+
+impl<D: Disk, L: Ledger> Held<D, L> {
+    /// A server of which nobody was told anything yet.
+    pub fn new(alloc: Global, server: Durable<D>, blank: Blank) -> Held<D, L>
+        requires up { server.down ≡ false }
+        requires blank { (blank.name ≡ L.name) × (blank.parts ≡ L.parts) × (L.parts ≡ PARTS) }
+        ensures server { result.server ≡ server }
+        ensures base { (result.base.value ≡ server.store.state) × (result.opening.value ≡ server.store.state) }
+        ensures none { (result.receipts.items ≡ []) × (result.count ≡ 0) × ((c : ℕ) → waits_for result.boxes c ≡ None) }
+        ensures till { result.till ≡ till_of 0 fin.empty }
+    {
+        let opening = Moment::of(server.state());
+        let base = Moment::of(server.state());
+        Held {
+            server,
+            opening,
+            base,
+            receipts: Vec::new(alloc),
+            count: 0,
+            till: Till::new(alloc, blank),
+            boxes: Outboxes::new(alloc),
+        }
+    }
+
+    /// Does what was asked, all in one call of the server, and writes into the ledger what each is told.
+    pub fn handle_all<A: Drop>(
+        &mut self,
+        alloc: Global,
+        messages: &[(u32, Message)],
+        asked: &mut Vec<Asked<A, L>>,
+        answered: &mut Vec<Answered<A, L>>,
+    ) -> Result<(), SharedFault>
+        requires few { length messages.now ≤ MAX_BATCH }
+        requires one_each { length messages.now ≡ vec_len asked.old }
+        requires room { vec_len answered.old + vec_len asked.old ≤ vec_capacity answered.old }
+        ensures asked { (vec_len asked.new ≡ 0) × (vec_capacity asked.new ≡ vec_capacity asked.old) }
+        ensures answered { (vec_len answered.new ≡ vec_len answered.old + vec_len asked.old)
+            × (vec_capacity answered.new ≡ vec_capacity answered.old) }
+        // At Ok each was answered as the server's step says, and each deed has its receipt;
+        ensures done { OnOk result (IsHandled self.old.server.store.state self.old.server.store.soft messages.now
+            self.old.receipts.items (waits_for self.old.boxes) (map (λ a. a.told) answered.old.items)
+            self.new.receipts.items (waits_for self.new.boxes) (map (λ a. a.told) answered.new.items)
+            self.new.server.store.state self.new.server.store.soft) }
+        ensures addresses { map (λ a. a.address) answered.new.items
+            ≡ map (λ a. a.address) answered.old.items ++ reverse (map (λ a. a.address) asked.old.items) }
+        // else nobody was told anything; what is posted was sent by some first messages that went one by one.
+        ensures err { OnErr result ((self.new.receipts.items ≡ self.old.receipts.items)
+            × (self.new.count ≡ self.old.count)) }
+        ensures some { OnErr result (WentSome self.old.server.store.state self.old.server.store.soft messages.now
+            (waits_for self.old.boxes) (waits_for self.new.boxes)) }
+        ensures failed { IfErr result (λ fault. map (λ a. a.told) answered.new.items
+            ≡ map (λ a. a.told) answered.old.items ++ replicate (vec_len asked.old) (Told.Failed fault)) }
+        ensures base { (self.new.base.value ≡ self.old.base.value) × (self.new.opening.value ≡ self.old.opening.value) }
+    {
+        let _ = self.is_down();
+        let Held {
+            server,
+            receipts,
+            count,
+            till,
+            boxes,
+            ..
+        } = self;
+        match take(server, receipts, boxes, alloc, *count, messages) {
+            Ok(mut told) => {
+                settle_all(till, count, asked, answered, &mut told);
+                Ok(())
+            }
+            Err(fault) => {
+                fail_all(till, asked, answered, fault);
+                Err(fault)
+            }
+        }
+    }
+}

@@ -1,0 +1,98 @@
+//! What is always so, and the base, which a snapshot moves.
+
+ghost use Rattle.std.specs.Prelude.{◌≡◌, ◌+◌, nat_le, [], false, true, OnOk, OnErr};
+ghost use Rattle.linda_step.specs.Store.{IsOrderly};
+ghost use Rattle.linda_server.specs.declared.limits.TheConstants.{SNAPSHOT_RECORDS};
+ghost use Rattle.linda_server.specs.Disks.{number_of};
+ghost use Rattle.linda_server.specs.Pairs.{PairsNow};
+ghost use Rattle.linda_server.specs.Server.{both_of, BothHonest, StandNow};
+ghost use Rattle.linda_desk.specs.Order.{known, IsReplayed, CountsDeeds, StandsBehind};
+ghost use Rattle.linda_state.specs.State.{State};
+ghost use Rattle.linda_outbox.specs.Waiting.{waits_for};
+ghost use Rattle.linda_state.specs.Numbers.{kept_sum};
+ghost use Rattle.linda_desk.specs.Covered.{BoxesCovered};
+
+use super::Held;
+use linda_disk::Disk;
+use linda_moment::Moment;
+use linda_receipt::SharedFault;
+use linda_server::Durable;
+use linda_store::NodeFault;
+use std::alloc::Global;
+use std::sync::ledger::Ledger;
+
+impl<D: Disk, L: Ledger> Held<D, L> {
+    /// Whether the server is down. Here stands what is always so.
+    pub fn is_down(&self) -> bool
+        ensures is { result ≡ self.now.server.down }
+        // Up: the receipts lead from the base to the state, on which the disks stand and in which nobody waits in vain.
+        ensures replayed { result ≡ false
+            → ∥ IsReplayed self.now.base.value self.now.receipts.items self.now.server.store.state ∥₁ }
+        ensures orderly { IsOrderly self.now.server.store.state self.now.server.store.soft }
+        ensures stands { result ≡ false → StandNow self.now.server.disks self.now.server.store.state }
+        // Down: all that crashes leave stands for the receipts' deeds, and maybe others behind them.
+        ensures down { result ≡ true → BothHonest self.now.server.disks
+            → PairsNow (both_of self.now.server.disks)
+            (λ left right. ∥ StandsBehind self.now.base.value self.now.receipts.items left right ∥₁) }
+        // The count is that of the deeds since it was made, and the total of the ledger.
+        ensures counted { result ≡ false
+            → ∥ CountsDeeds self.now.opening.value self.now.count self.now.server.store.state ∥₁ }
+        ensures kept { result ≡ false → ∥ kept_sum self.now.server.store.state
+            ≡ kept_sum self.now.opening.value + self.now.count ∥₁ }
+        ensures total { self.now.till.total ≡ self.now.count }
+        // What is posted is kept, until the client's next number is.
+        ensures covered { ∥ BoxesCovered (known self.now.server.before.value self.now.server.store self.now.server.down)
+            (waits_for self.now.boxes) ∥₁ }
+    {
+        self.server.is_down()
+    }
+
+    /// Whether a snapshot is due.
+    pub fn needs_snapshot(&self) -> bool
+        ensures { result ≡ nat_le SNAPSHOT_RECORDS (number_of (λ b. b.records) self.now.server.disks) }
+    {
+        self.server.needs_snapshot()
+    }
+
+    /// Takes a snapshot, from which on the receipts begin anew. It alone moves the base.
+    ///
+    /// # Errors
+    ///
+    /// `Full`: nothing changed. `Down`: the server is down.
+    pub fn snapshot(&mut self, alloc: Global) -> Result<(), SharedFault>
+        ensures base { OnOk result ((self.new.base.value ≡ self.new.server.store.state)
+            × (self.new.receipts.items ≡ [])) }
+        ensures kept { OnErr result ((self.new.base.value ≡ self.old.base.value)
+            × (self.new.receipts.items ≡ self.old.receipts.items)) }
+        ensures store { self.new.server.store ≡ self.old.server.store }
+        ensures same { (self.new.opening.value ≡ self.old.opening.value) × (self.new.count ≡ self.old.count)
+            × (self.new.till ≡ self.old.till) }
+    {
+        take_snapshot(&mut self.server, alloc)?;
+        self.base = Moment::of(self.server.state());
+        self.receipts.clear();
+        Ok(())
+    }
+}
+
+// Takes a snapshot. What is known of a server that did not is as before.
+fn take_snapshot<D: Disk>(server: &mut Durable<D>, alloc: Global) -> Result<(), SharedFault>
+    ensures up { OnOk result ((server.old.down ≡ false) × (server.new.down ≡ false)) }
+    ensures store { server.new.store ≡ server.old.store }
+    ensures known { OnErr result
+        ((known server.new.before.value server.new.store server.new.down
+        ≡ known server.old.before.value server.old.store server.old.down)
+        × (server.new.down ≡ false → server.old.down ≡ false)) }
+{
+    match server.snapshot(alloc) {
+        Ok(()) => Ok(()),
+        Err(fault) => Err(fault_of(fault)),
+    }
+}
+
+pub(super) fn fault_of(fault: NodeFault) -> SharedFault {
+    match fault {
+        NodeFault::Full => SharedFault::Full,
+        NodeFault::Down => SharedFault::Down,
+    }
+}

@@ -1,0 +1,77 @@
+//! The end: all seats are back, and what they were told is what was stored.
+
+ghost use Rattle.std.specs.Prelude.{◌≡◌, ◌+◌, ◌<◌, ◌⊎◌, ℕ, All, OnOk, IfOk, IfErr, IsErrOf};
+ghost use Rattle.std.specs.FinMap as map;
+ghost use Rattle.linda_receipt.specs.Till.{deeds_back, seats_out, receipts_at};
+ghost use Rattle.linda_receipt.specs.Compare.{IsToldSo, LastIsKept, Names};
+
+use super::Held;
+use super::leave::put_back;
+use linda_disk::Disk;
+use linda_receipt::{Account, SharedFault, Till};
+use std::sync::ledger::Ledger;
+
+/// What all seats were told.
+#[derive(Clone, Copy, Debug, PartialEq, Eq)]
+pub struct Report {
+    /// Of how many deeds.
+    pub deeds: u64,
+    /// How many ids were given.
+    pub ids: u64,
+}
+
+impl<D: Disk, L: Ledger> Held<D, L> {
+    /// Parks the given seats for good and tells, once all seats are back, what they were told. That is compared
+    /// with what was stored: each receipt that the lock has with the one that its client was told by that number,
+    /// if it still has that, and the last that each client was told with the reply that is kept for it.
+    ///
+    /// # Errors
+    ///
+    /// `Down`, then `SeatMissing` where one is out, then `Receipt` where that one differs. The given seats stay parked.
+    pub fn finish(&mut self, accounts: Vec<Account<L>>) -> Result<Report, SharedFault>
+        ensures deeds { IfOk result (λ r. (r.deeds ≡ deeds_back self.new.till.places) × (r.deeds ≡ self.old.count)) }
+        ensures back { OnOk result (seats_out self.new.till.places ≡ 0) }
+        ensures ids { IfOk result (λ r. r.ids + 1 ≡ self.old.server.store.state.next) }
+        ensures told { OnOk result (All (IsToldSo self.new.till.places) self.old.receipts.items) }
+        ensures kept { OnOk result ((c : ℕ)
+            → LastIsKept self.old.server.store.state (receipts_at (map.get self.new.till.places c))) }
+        ensures missing { IsErrOf result SharedFault.SeatMissing → 0 < seats_out self.new.till.places }
+        ensures fault { IfErr result (λ fault. (fault ≡ SharedFault.Down) ⊎ ((fault ≡ SharedFault.SeatMissing)
+            ⊎ Names self.new.till.places self.old.server.store.state self.old.receipts.items fault)) }
+        ensures same { (self.new.opening.value ≡ self.old.opening.value) × (self.new.base.value ≡ self.old.base.value)
+            × (self.new.receipts.items ≡ self.old.receipts.items) × (self.new.count ≡ self.old.count)
+            × (self.new.server ≡ self.old.server) × (self.new.boxes ≡ self.old.boxes) }
+    {
+        self.park_all(accounts);
+        if self.is_down() {
+            return Err(SharedFault::Down);
+        }
+        if !self.till.audit() {
+            return Err(SharedFault::SeatMissing);
+        }
+        self.till.compare(self.server.state(), &self.receipts)?;
+        let ids = self.server.state().next - 1;
+        Ok(Report {
+            deeds: self.count,
+            ids,
+        })
+    }
+
+    // These seats come back for good.
+    fn park_all(&mut self, accounts: Vec<Account<L>>)
+        ensures same { (self.new.opening.value ≡ self.old.opening.value) × (self.new.base.value ≡ self.old.base.value)
+            × (self.new.receipts.items ≡ self.old.receipts.items) × (self.new.count ≡ self.old.count)
+            × (self.new.server ≡ self.old.server) × (self.new.boxes ≡ self.old.boxes) }
+    {
+        put_all_back(&mut self.till, accounts);
+    }
+}
+
+// These come back for good.
+fn put_all_back<L: Ledger>(till: &mut Till<L>, accounts: Vec<Account<L>>)
+    ensures { till.new.total ≡ till.old.total }
+{
+    for account in accounts {
+        put_back(till, account, true);
+    }
+}

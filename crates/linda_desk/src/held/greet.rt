@@ -1,0 +1,213 @@
+//! Greeting: who may have a seat.
+
+ghost use Rattle.std.specs.Prelude.{◌≡◌, ◌∷◌, ◌+◌, ◌*◌, ◌<◌, [], ℕ, false, vec_len, IfOk, IfErr, OnOk, IfSome, IfNone};
+ghost use Rattle.std.specs.FinMap as map;
+ghost use Rattle.linda_wire.specs.declared.reply.Reply as wire;
+ghost use Rattle.linda_state.specs.State as states;
+ghost use Rattle.linda_step.specs.Answer.{greeting};
+ghost use Rattle.linda_outbox.specs.Waiting.{waits_for};
+ghost use Rattle.linda_receipt.specs.declared.limits.TheConstants.{ACCOUNT_PARTS, PARTS};
+ghost use Rattle.linda_receipt.specs.Till.{is_away, account_at, seats_out};
+ghost use Rattle.linda_desk.specs.Order.{known};
+ghost use Rattle.linda_desk.specs.Greeting as spec;
+ghost use Rattle.linda_desk.specs.Greeting.{IsGreeted, IsAdmitted, IsGreetingReply};
+ghost use Rattle.linda_desk.specs.Covered.{BoxesCovered};
+
+use super::Held;
+use super::leave::put_back;
+use super::serve::fault_of;
+use linda_disk::Disk;
+use linda_outbox::Outboxes;
+use linda_receipt::{Account, SharedFault, Till};
+use linda_server::Durable;
+use linda_wire::{Message, Refusal, Reply, VERSION};
+use std::alloc::Global;
+use std::sync::ledger::Ledger;
+
+impl<D: Disk, L: Ledger> Held<D, L> {
+    /// Gives the client of a Hello its seat, with the number of its last request that is kept; or refuses it with
+    /// a code and a detail. Nothing is posted. The server is asked first: a Hello changes nothing there, so where
+    /// there is no memory for the seat nothing has changed.
+    ///
+    /// # Errors
+    ///
+    /// `Down`, before all; `Memory`.
+    pub fn greet(
+        &mut self,
+        alloc: Global,
+        message: &Message,
+    ) -> Result<Result<(Account<L>, u64), (u8, u64)>, SharedFault>
+        ensures greeted { IfOk result (IsGreeted self.old.server.store.state self.old.till.places message.now) }
+        ensures server { OnOk result ((self.new.server.store.state ≡ self.old.server.store.state)
+            × (self.new.server.store.soft ≡ self.old.server.store.soft)) }
+        ensures same { (self.new.opening.value ≡ self.old.opening.value) × (self.new.base.value ≡ self.old.base.value)
+            × (self.new.receipts.items ≡ self.old.receipts.items) × (self.new.count ≡ self.old.count) }
+    {
+        if self.server.is_down() {
+            return Err(SharedFault::Down);
+        }
+        let Message::Hello {
+            version,
+            client,
+            fresh,
+        } = message
+        else {
+            return Ok(Err(told_why(Refusal::NoHello)));
+        };
+        if *version != VERSION {
+            return Ok(Err(told_why(Refusal::Version)));
+        }
+        if self.till.is_out(*client) {
+            return Ok(Err(told_why(Refusal::Busy)));
+        }
+        admit(
+            &mut self.server,
+            &mut self.boxes,
+            &mut self.till,
+            alloc,
+            *client,
+            *fresh,
+        )
+    }
+}
+
+// The code and the detail of a refusal.
+fn told_why(refusal: Refusal) -> (u8, u64)
+    ensures { result ≡ spec.told_why refusal }
+{
+    (refusal.code(), refusal.detail())
+}
+
+// Greets a client whose seat is not out.
+fn admit<D: Disk, L: Ledger>(
+    server: &mut Durable<D>,
+    boxes: &mut Outboxes,
+    till: &mut Till<L>,
+    alloc: Global,
+    client: u32,
+    fresh: bool,
+) -> Result<Result<(Account<L>, u64), (u8, u64)>, SharedFault>
+    requires { is_away (map.get till.old.places client) ≡ false }
+    ensures admitted { IfOk result (IsAdmitted server.old.store.state till.old.places client fresh) }
+    ensures total { till.new.total ≡ till.old.total }
+    ensures server { OnOk result ((server.new.store.state ≡ server.old.store.state)
+        × (server.new.store.soft ≡ server.old.store.soft)) }
+    ensures known { (known server.new.before.value server.new.store server.new.down
+        ≡ known server.old.before.value server.old.store server.old.down)
+        × (server.new.down ≡ false → server.old.down ≡ false) }
+    ensures covered { (st : states.State) → BoxesCovered st (waits_for boxes.old)
+        → BoxesCovered st (waits_for boxes.new) }
+{
+    match hello(server, alloc, client, fresh)? {
+        Err(why) => Ok(Err(why)),
+        Ok(last) => match seat(boxes, till, alloc, client)? {
+            Some(account) => Ok(Ok((account, last))),
+            None => Ok(Err(told_why(Refusal::TooManyClients))),
+        },
+    }
+}
+
+// The seat of a client goes out, and it has an outbox.
+fn seat<L: Ledger>(
+    boxes: &mut Outboxes,
+    till: &mut Till<L>,
+    alloc: Global,
+    client: u32,
+) -> Result<Option<Account<L>>, SharedFault>
+    requires { is_away (map.get till.old.places client) ≡ false }
+    ensures account { IfOk result (λ found. IfSome found (λ a.
+        a ≡ account_at client (map.get till.old.places client))) }
+    ensures none { IfOk result (λ found. IfNone found (PARTS < ACCOUNT_PARTS * (seats_out till.old.places + 1))) }
+    ensures total { till.new.total ≡ till.old.total }
+    ensures covered { (st : states.State) → BoxesCovered st (waits_for boxes.old)
+        → BoxesCovered st (waits_for boxes.new) }
+{
+    let Ok(found) = till.go_out(alloc, client) else {
+        return Err(SharedFault::Memory);
+    };
+    let Some(account) = found else {
+        return Ok(None);
+    };
+    if !open(boxes, alloc, client) {
+        put_back(till, account, false);
+        return Err(SharedFault::Memory);
+    }
+    Ok(Some(account))
+}
+
+// Whether the client has an outbox now. What waits stays covered.
+fn open(boxes: &mut Outboxes, alloc: Global, client: u32) -> bool
+    ensures { (st : states.State) → BoxesCovered st (waits_for boxes.old) → BoxesCovered st (waits_for boxes.new) }
+{
+    match boxes.open(alloc, client) {
+        Ok(()) => true,
+        Err(_) => false,
+    }
+}
+
+// What the server answers to a Hello: the number of the last request that is kept, or a code and a detail.
+fn hello<D: Disk>(
+    server: &mut Durable<D>,
+    alloc: Global,
+    client: u32,
+    fresh: bool,
+) -> Result<Result<u64, (u8, u64)>, SharedFault>
+    ensures welcome { IfOk result (λ answer. IfOk answer (λ last.
+        greeting server.old.store.state client VERSION fresh ≡ Reply.Welcome last)) }
+    ensures refused { IfOk result (λ answer. IfErr answer (λ why.
+        greeting server.old.store.state client VERSION fresh ≡ Reply.Refused why.0 why.1)) }
+    ensures server { OnOk result ((server.new.store.state ≡ server.old.store.state)
+        × (server.new.store.soft ≡ server.old.store.soft)) }
+    ensures known { (known server.new.before.value server.new.store server.new.down
+        ≡ known server.old.before.value server.old.store server.old.down)
+        × (server.new.down ≡ false → server.old.down ≡ false) }
+{
+    match ask(server, alloc, client, fresh)? {
+        Reply::Welcome { last } => Ok(Ok(last)),
+        Reply::Refused { code, detail } => Ok(Err((code, detail))),
+        Reply::Stored { .. } => unreachable!(),
+        Reply::Offer { .. } => unreachable!(),
+        Reply::Read { .. } => unreachable!(),
+        Reply::Taken { .. } => unreachable!(),
+        Reply::Gone { .. } => unreachable!(),
+    }
+}
+
+// The reply to a Hello.
+fn ask<D: Disk>(
+    server: &mut Durable<D>,
+    alloc: Global,
+    client: u32,
+    fresh: bool,
+) -> Result<Reply, SharedFault>
+    ensures reply { IfOk result (λ r. r ≡ greeting server.old.store.state client VERSION fresh) }
+    ensures kind { IfOk result IsGreetingReply }
+    ensures server { OnOk result ((server.new.store.state ≡ server.old.store.state)
+        × (server.new.store.soft ≡ server.old.store.soft)) }
+    ensures known { (known server.new.before.value server.new.store server.new.down
+        ≡ known server.old.before.value server.old.store server.old.down)
+        × (server.new.down ≡ false → server.old.down ≡ false) }
+{
+    let _ = server.is_down();
+    let message = Message::Hello {
+        version: VERSION,
+        client,
+        fresh,
+    };
+    match server.serve(alloc, client, &message) {
+        Ok(served) => Ok(first_of(served.into_sends())),
+        Err(fault) => Err(fault_of(fault)),
+    }
+}
+
+// The first reply.
+fn first_of(sends: Vec<(u32, Reply)>) -> Reply
+    requires { vec_len sends ≡ 1 }
+    ensures { (c : ℕ) (r : wire.Reply) → sends.items ≡ (c, r) ∷ [] → result ≡ r }
+{
+    let mut sends = sends;
+    let Some(send) = sends.pop() else {
+        unreachable!()
+    };
+    send.1
+}

@@ -1,0 +1,158 @@
+//! A client leaves: what it asked is given up, and its seat is parked.
+
+ghost use Rattle.std.specs.Prelude.{◌≡◌, ◌≢◌, ℕ, ◌+◌, false, true, None, IfOk, OnOk, OnErr};
+ghost use Rattle.linda_step.specs.Dispatch.{on_close};
+ghost use Rattle.linda_outbox.specs.Waiting.{waits_for};
+ghost use Rattle.linda_receipt.specs.Till.{till_of, with_place, place_for, ComesBack};
+ghost use Rattle.linda_desk.specs.Order.{known};
+ghost use Rattle.linda_desk.specs.Posted.{HasClosed};
+ghost use Rattle.linda_desk.specs.Covered.{BoxesCovered};
+ghost use Rattle.linda_state.specs.State.{State};
+
+use super::Held;
+use super::base::fault_of;
+use linda_disk::Disk;
+use linda_outbox::Outboxes;
+use linda_receipt::{Account, SharedFault, Till};
+use linda_server::Durable;
+use linda_wire::Reply;
+use std::alloc::Global;
+use std::sync::ledger::Ledger;
+
+impl<D: Disk, L: Ledger> Held<D, L> {
+    /// Gives up all that the client asked.
+    ///
+    /// # Errors
+    ///
+    /// `Down`: the server is down.
+    pub fn close(&mut self, alloc: Global, client: u32) -> Result<(), SharedFault>
+        ensures done { OnOk result (HasClosed self.old.server.store.state.bag client self.old.server.store.soft
+            (waits_for self.old.boxes) (waits_for self.new.boxes) self.new.server.store.soft) }
+        ensures state { OnOk result (self.new.server.store.state ≡ self.old.server.store.state) }
+        ensures err { OnErr result ((c : ℕ) → waits_for self.new.boxes c ≡ waits_for self.old.boxes c) }
+        ensures same { (self.new.opening.value ≡ self.old.opening.value) × (self.new.base.value ≡ self.old.base.value)
+            × (self.new.receipts.items ≡ self.old.receipts.items) × (self.new.count ≡ self.old.count)
+            × (self.new.till ≡ self.old.till) }
+    {
+        close_and_post(&mut self.server, &mut self.boxes, alloc, client)
+    }
+
+    /// The client's seat comes back, for its next session. Takes no memory.
+    pub fn park(&mut self, account: Account<L>)
+        ensures parked { ComesBack self.old.till.places account → self.new.till
+            ≡ till_of self.old.till.total (with_place self.old.till.places account.client (place_for account false)) }
+        ensures lost { (ComesBack self.old.till.places account → ⊥) → self.new.till ≡ self.old.till }
+        ensures same { (self.new.opening.value ≡ self.old.opening.value) × (self.new.base.value ≡ self.old.base.value)
+            × (self.new.receipts.items ≡ self.old.receipts.items) × (self.new.count ≡ self.old.count)
+            × (self.new.server ≡ self.old.server) × (self.new.boxes ≡ self.old.boxes) }
+    {
+        put_back(&mut self.till, account, false);
+    }
+
+    /// The client leaves: it is closed and, whatever that answers, its outbox is shut and its seat comes back.
+    ///
+    /// # Errors
+    ///
+    /// `Down`: the server is down.
+    pub fn leave(&mut self, alloc: Global, account: Account<L>) -> Result<(), SharedFault>
+        ensures soft { OnOk result (self.new.server.store.soft
+            ≡ (on_close self.old.server.store.state.bag account.client self.old.server.store.soft).soft) }
+        ensures state { OnOk result (self.new.server.store.state ≡ self.old.server.store.state) }
+        ensures parked { ComesBack self.old.till.places account → self.new.till
+            ≡ till_of self.old.till.total (with_place self.old.till.places account.client (place_for account false)) }
+        ensures shut { waits_for self.new.boxes account.client ≡ None }
+        ensures same { (self.new.opening.value ≡ self.old.opening.value) × (self.new.base.value ≡ self.old.base.value)
+            × (self.new.receipts.items ≡ self.old.receipts.items) × (self.new.count ≡ self.old.count) }
+    {
+        depart(
+            &mut self.server,
+            &mut self.boxes,
+            &mut self.till,
+            alloc,
+            account,
+        )
+    }
+}
+
+// Closes the account's client, shuts its outbox, and puts the account back.
+fn depart<D: Disk, L: Ledger>(
+    server: &mut Durable<D>,
+    boxes: &mut Outboxes,
+    till: &mut Till<L>,
+    alloc: Global,
+    account: Account<L>,
+) -> Result<(), SharedFault>
+    ensures soft { OnOk result (server.new.store.soft
+        ≡ (on_close server.old.store.state.bag account.client server.old.store.soft).soft) }
+    ensures state { OnOk result (server.new.store.state ≡ server.old.store.state) }
+    ensures parked { ComesBack till.old.places account → till.new
+        ≡ till_of till.old.total (with_place till.old.places account.client (place_for account false)) }
+    ensures shut { waits_for boxes.new account.client ≡ None }
+    ensures total { till.new.total ≡ till.old.total }
+    ensures known { (known server.new.before.value server.new.store server.new.down
+        ≡ known server.old.before.value server.old.store server.old.down)
+        × (server.new.down ≡ false → server.old.down ≡ false) }
+    ensures covered { (st : State) → BoxesCovered st (waits_for boxes.old) → BoxesCovered st (waits_for boxes.new) }
+{
+    let client = account.client();
+    let answer = close_and_post(server, boxes, alloc, client);
+    boxes.shut(client);
+    put_back(till, account, false);
+    answer
+}
+
+/// The account comes back to its client's place. In all as much was told as before.
+pub(super) fn put_back<L: Ledger>(till: &mut Till<L>, account: Account<L>, for_good: bool)
+    ensures parked { ComesBack till.old.places account → till.new
+        ≡ till_of till.old.total (with_place till.old.places account.client (place_for account for_good)) }
+    ensures lost { (ComesBack till.old.places account → ⊥) → till.new ≡ till.old }
+    ensures total { till.new.total ≡ till.old.total }
+{
+    till.park(account, for_good);
+}
+
+// Closes the client and posts what is sent. What is known of the server is as before.
+fn close_and_post<D: Disk>(
+    server: &mut Durable<D>,
+    boxes: &mut Outboxes,
+    alloc: Global,
+    client: u32,
+) -> Result<(), SharedFault>
+    ensures done { OnOk result (HasClosed server.old.store.state.bag client server.old.store.soft
+        (waits_for boxes.old) (waits_for boxes.new) server.new.store.soft) }
+    ensures state { OnOk result (server.new.store.state ≡ server.old.store.state) }
+    ensures err { OnErr result ((c : ℕ) → waits_for boxes.new c ≡ waits_for boxes.old c) }
+    ensures known { (known server.new.before.value server.new.store server.new.down
+        ≡ known server.old.before.value server.old.store server.old.down)
+        × (server.new.down ≡ false → server.old.down ≡ false) }
+    // What is covered stays so, whatever the state: what is sent reports no deed that is not kept.
+    ensures covered { (st : State) → BoxesCovered st (waits_for boxes.old) → BoxesCovered st (waits_for boxes.new) }
+{
+    let sends = close_client(server, alloc, client)?;
+    let Ok(()) = boxes.make_places(&sends) else {
+        server.give_up();
+        return Err(SharedFault::Down);
+    };
+    boxes.post_all(sends);
+    Ok(())
+}
+
+// Closes the client. What is known of the server is as before.
+fn close_client<D: Disk>(
+    server: &mut Durable<D>,
+    alloc: Global,
+    client: u32,
+) -> Result<Vec<(u32, Reply)>, SharedFault>
+    ensures done { IfOk result (λ sends. record { sends = sends.items; soft = server.new.store.soft }
+        ≡ on_close server.old.store.state.bag client server.old.store.soft) }
+    ensures state { server.new.store.state ≡ server.old.store.state }
+    ensures up { OnOk result ((server.old.down ≡ false) × (server.new.down ≡ false)) }
+    ensures known { (known server.new.before.value server.new.store server.new.down
+        ≡ known server.old.before.value server.old.store server.old.down)
+        × (server.new.down ≡ false → server.old.down ≡ false) }
+{
+    match server.close(alloc, client) {
+        Ok(sends) => Ok(sends),
+        Err(fault) => Err(fault_of(fault)),
+    }
+}

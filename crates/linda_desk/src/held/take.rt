@@ -1,0 +1,78 @@
+//! Messages of several clients: in one step where that may be, else one by one.
+
+ghost use Rattle.std.specs.Prelude.{◌≡◌, false, ◌+◌, ◌≤◌, ◌<◌, ◌^◌, ◌++◌, ℕ, length, vec_len, IfOk, OnOk, OnErr};
+ghost use Rattle.linda_state.specs.State as states;
+ghost use Rattle.linda_step.specs.declared.size.TheConstants.{MAX_BATCH};
+ghost use Rattle.linda_outbox.specs.Waiting.{waits_for};
+ghost use Rattle.linda_server.specs.Calls.{HasNoRoom};
+ghost use Rattle.linda_server.specs.Disks.{number_of};
+ghost use Rattle.linda_desk.specs.Order.{known, IsInOrder};
+ghost use Rattle.linda_receipt.specs.Telling.{receipts_in};
+ghost use Rattle.linda_desk.specs.Posted.{HasPosted, WereTaken, WentSome};
+ghost use Rattle.linda_desk.specs.Covered.{BoxesCovered};
+
+use super::alone::serve_each;
+use super::serve::serve;
+use linda_disk::Disk;
+use linda_outbox::Outboxes;
+use linda_receipt::{Receipt, SharedFault};
+use linda_server::Durable;
+use linda_wire::Message;
+use std::alloc::Global;
+
+/// Takes the messages: all in one step of the server, or one by one where it is full or the count of deeds could pass
+/// its last value.
+///
+/// # Errors
+///
+/// `Memory`: nothing changed. `Down`: the server is down, and nobody is told anything.
+pub(super) fn take<D: Disk>(
+    server: &mut Durable<D>,
+    receipts: &mut Vec<Receipt>,
+    boxes: &mut Outboxes,
+    alloc: Global,
+    count: u64,
+    messages: &[(u32, Message)],
+) -> Result<Vec<Option<Receipt>>, SharedFault>
+    requires few { length messages.now ≤ MAX_BATCH }
+    ensures done { IfOk result (λ told. WereTaken server.old.store.state server.old.store.soft messages.now
+        told.items (waits_for boxes.old) (waits_for boxes.new) server.new.store.state server.new.store.soft) }
+    ensures receipts { IfOk result (λ told. receipts.new.items ≡ receipts.old.items ++ receipts_in told.items) }
+    ensures one_each { IfOk result (λ told. vec_len told ≡ length messages.now) }
+    ensures countable { IfOk result (λ told. count + length (receipts_in told.items) < 2 ^ 64) }
+    ensures err { OnErr result (receipts.new.items ≡ receipts.old.items) }
+    ensures some { OnErr result (WentSome server.old.store.state server.old.store.soft messages.now
+        (waits_for boxes.old) (waits_for boxes.new)) }
+    ensures ok_order { (opening base : states.State) (count : ℕ)
+        → IsInOrder opening base receipts.old.items count server.old.down
+        (known server.old.before.value server.old.store server.old.down)
+        → IfOk result (λ told. IsInOrder opening base receipts.new.items
+        (count + length (receipts_in told.items)) server.new.down
+        (known server.new.before.value server.new.store server.new.down)) }
+    ensures err_order { (opening base : states.State) (count : ℕ)
+        → IsInOrder opening base receipts.old.items count server.old.down
+        (known server.old.before.value server.old.store server.old.down)
+        → OnErr result (IsInOrder opening base receipts.new.items count server.new.down
+        (known server.new.before.value server.new.store server.new.down)) }
+    ensures covered { (opening base : states.State) (count : ℕ)
+        → IsInOrder opening base receipts.old.items count server.old.down
+        (known server.old.before.value server.old.store server.old.down)
+        → BoxesCovered (known server.old.before.value server.old.store server.old.down) (waits_for boxes.old)
+        → BoxesCovered (known server.new.before.value server.new.store server.new.down) (waits_for boxes.new) }
+{
+    if could_pass(count, messages.len()) {
+        return serve_each(server, receipts, boxes, alloc, count, messages);
+    }
+    match serve(server, receipts, boxes, alloc, messages) {
+        Ok(told) => Ok(told),
+        Err(SharedFault::Full) => serve_each(server, receipts, boxes, alloc, count, messages),
+        Err(fault) => Err(fault),
+    }
+}
+
+// Whether so many more could pass the last value of the count.
+fn could_pass(count: u64, more: usize) -> bool
+    ensures { result ≡ false → count + more < 2 ^ 64 }
+{
+    more as u64 > u64::MAX - count
+}

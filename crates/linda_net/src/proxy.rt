@@ -1,0 +1,132 @@
+//! A connection of a client to one server.
+
+use linda_wire::{FrameFault, Message, Reply, ReplyFeed, VERSION, encode_message};
+use std::alloc::{AllocError, Global};
+use std::io::{Read, Write};
+use std::net::{Ipv4Addr, Net, Shutdown, SocketAddr, TcpStream};
+use thiserror::Error;
+
+/// The most bytes that are read at once.
+const PIECE: usize = 4096;
+
+/// The most reads for one reply. Each that does not end the connection gives a byte at least.
+const MAX_READS: u32 = 4_294_967_295;
+
+/// Why a connection does not go on.
+#[derive(Clone, Copy, Debug, PartialEq, Eq, Error)]
+pub enum ProxyFault {
+    /// There is no connection: none could be had, it ended, or what came is no reply.
+    #[error("no connection")]
+    Lost,
+    /// The server refused the greeting, with this code and this detail.
+    #[error("refused {0} {1}")]
+    Refused(u8, u64),
+    /// Memory ran out.
+    #[error("out of memory")]
+    Memory,
+}
+
+impl From<AllocError> for ProxyFault {
+    fn from(_error: AllocError) -> ProxyFault {
+        ProxyFault::Memory
+    }
+}
+
+/// A connection that a server has welcomed.
+#[derive(Drop)]
+pub struct Proxy {
+    stream: TcpStream,
+    feed: ReplyFeed,
+}
+
+impl Proxy {
+    /// Connects to the server that listens on this port of this machine and greets it: with `fresh` as a client that
+    /// was never used, which a server refuses that keeps a reply for it. Gives the last number that the server keeps
+    /// too.
+    ///
+    /// # Errors
+    ///
+    /// `Refused`, as the server told; `Lost`; `Memory`. The connection is closed then.
+    pub fn greet<R: Net<Stream = TcpStream>>(
+        rt: &R,
+        alloc: Global,
+        port: u16,
+        client: u32,
+        fresh: bool,
+    ) -> Result<(Proxy, u64), ProxyFault> {
+        let address = SocketAddr::from((Ipv4Addr::LOCALHOST, port));
+        let Ok(stream) = TcpStream::connect(rt, address) else {
+            return Err(ProxyFault::Lost);
+        };
+        let _ = stream.set_nodelay(true);
+        let feed = ReplyFeed::new(alloc);
+        let mut proxy = Proxy { stream, feed };
+        let hello = Message::Hello {
+            version: VERSION,
+            client,
+            fresh,
+        };
+        send(&mut proxy.stream, alloc, &hello)?;
+        match proxy.receive(alloc)? {
+            Reply::Welcome { last } => Ok((proxy, last)),
+            Reply::Refused { code, detail } => Err(ProxyFault::Refused(code, detail)),
+            _ => Err(ProxyFault::Lost),
+        }
+    }
+
+    /// Another hand on the same connection, for whoever sends while somebody else receives.
+    ///
+    /// # Errors
+    ///
+    /// `Lost`. The connection is as before.
+    pub fn sender(&self) -> Result<TcpStream, ProxyFault> {
+        match self.stream.try_clone() {
+            Ok(stream) => Ok(stream),
+            Err(_) => Err(ProxyFault::Lost),
+        }
+    }
+
+    /// The next reply. It waits until there is one.
+    ///
+    /// # Errors
+    ///
+    /// `Lost` where the connection ended, or what came is no reply; `Memory`, after which it may be called again.
+    pub fn receive(&mut self, alloc: Global) -> Result<Reply, ProxyFault> {
+        let mut buffer = [0; PIECE];
+        for _ in 0..MAX_READS {
+            match self.feed.next(alloc) {
+                Ok(Some(reply)) => return Ok(reply),
+                Ok(None) => {}
+                Err(FrameFault::Memory) => return Err(ProxyFault::Memory),
+                Err(_) => return Err(ProxyFault::Lost),
+            }
+            let Ok(len) = self.stream.read(&mut buffer) else {
+                return Err(ProxyFault::Lost);
+            };
+            if len == 0 {
+                return Err(ProxyFault::Lost);
+            }
+            self.feed.feed(&buffer[..len])?;
+        }
+        Err(ProxyFault::Lost)
+    }
+}
+
+/// Sends a message.
+///
+/// # Errors
+///
+/// `Lost`: a part of it may have gone out. `Memory`: nothing has.
+pub fn send(stream: &mut TcpStream, alloc: Global, message: &Message) -> Result<(), ProxyFault> {
+    let mut bytes = Vec::new(alloc);
+    encode_message(&mut bytes, message)?;
+    match stream.write_all(&bytes) {
+        Ok(()) => Ok(()),
+        Err(_) => Err(ProxyFault::Lost),
+    }
+}
+
+/// Ends a connection from both sides.
+pub fn end(stream: &TcpStream) {
+    let _ = stream.shutdown(Shutdown::Both);
+}

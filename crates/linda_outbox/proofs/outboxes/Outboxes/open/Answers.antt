@@ -1,0 +1,36 @@
+-- The new key is that of an empty box which was free.
+use Rattle.std.proofs.Common.{◌≡◌, refl, sym, ap, ◌∙◌, nat_cmp}
+use Rattle.std.specs.BTreeMap as tree
+use Rattle.slab.specs.Slab as slab
+use Rattle.linda_outbox.specs.Boxes.{shown, is_heard, is_none_left}
+use Rattle.linda_outbox.proofs.BoxLaws.{apart_with, heard_with, is_other}
+use Rattle.linda_outbox.proofs.outboxes.Outboxes.open.Goals as goal
+
+pub invariant_of-self-2-clause-apart : goal.invariant_of-self-2-clause-apart
+invariant_of-self-2-clause-apart c =
+    let s = c.args.self.now in
+    let client = c.args.client in
+    let key = c.vacant_key-key.result in
+    let now = c.insert.new.self in
+    let updates = c.in_ok-insert.ensures.updates in
+    let kept : c.reserve.new.self ≡ record s.boxes { capacity = c.reserve.new.self.capacity } = c.reserve.ensures.rest_kept in
+    apart_with (λ q. tree.get nat_cmp s.keys q) (λ q. tree.get nat_cmp now q) (λ k. slab.get s.boxes k) (λ k. slab.get s.boxes k) client key updates.1
+    (λ q differs. updates.2 q (is_other client q differs)) (ap (λ b. slab.get b key) (sym kept) ∙ c.vacant_key-key.ensures.vacant) (λ k differs. refl)
+    s.taken s.apart
+
+pub invariant_of-self-2-clause-heard : goal.invariant_of-self-2-clause-heard
+invariant_of-self-2-clause-heard c =
+    let s = c.args.self.now in
+    let client = c.args.client in
+    let key = c.vacant_key-key.result in
+    let now = c.insert.new.self in
+    let boxes = c.insert_reserved.new.self in
+    let updates = c.in_ok-insert.ensures.updates in
+    let kept : c.reserve.new.self ≡ record s.boxes { capacity = c.reserve.new.self.capacity } = c.reserve.ensures.rest_kept in
+    let same : c.insert_reserved.result ≡ key = c.insert_reserved.ensures.key ∙ sym c.vacant_key-key.ensures.value in
+    heard_with (λ q. tree.get nat_cmp s.keys q) (λ q. tree.get nat_cmp now q) (λ k. slab.get s.boxes k) (λ k. slab.get boxes k) client key updates.1
+    (λ q differs. updates.2 q (is_other client q differs)) (ap (λ b. slab.get b key) (sym kept) ∙ c.vacant_key-key.ensures.vacant)
+    (λ k differs. c.insert_reserved.ensures.updates.others k (λ e. differs (e ∙ same)) ∙ ap (λ b. slab.get b k) kept)
+    s.waiting.items
+    (ap (λ o. is_heard s.waiting.items client (shown o)) (ap (slab.get boxes) (sym same) ∙ c.insert_reserved.ensures.updates.changed) ∙ ap is_none_left c.new.ensures.items)
+    s.taken s.heard

@@ -1,0 +1,24 @@
+-- Replies that were sent, and what is known of them while more is done: they are kept until the client goes on.
+use Rattle.std.specs.Prelude.{◌≡◌, ℕ, ◌<◌, ◌⊎◌, true}
+use Rattle.linda_wire.specs.declared.reply.Reply.{Reply}
+use Rattle.linda_wire.specs.declared.reply.Reply.TheVariants as replies
+use Rattle.linda_state.specs.State.{State}
+use Rattle.linda_step.specs.Answer.{last_number}
+use Rattle.linda_promise.specs.Replies.{reports_deed, KeepsReply}
+
+-- the number of the deed that a reply reports, 0 where it reports none
+abbrev pub number_in_reply : Reply → ℕ
+number_in_reply (replies.Welcome last) = 0
+number_in_reply (replies.Stored n id) = n
+number_in_reply (replies.Taken n id tuple) = n
+number_in_reply (replies.Gone n) = n
+number_in_reply (replies.Offer ticket id tuple) = 0
+number_in_reply (replies.Read ticket id tuple) = 0
+number_in_reply (replies.Refused code detail) = 0
+
+-- What is sent to a client is covered: where it reports a deed, the client's last number is a later one, or the book
+-- has that very reply for it.
+abbrev pub IsCovered : State → ℕ × Reply → Type 0
+IsCovered st send =
+    reports_deed send.1 ≡ true
+    → (number_in_reply send.1 < last_number st send.0) ⊎ KeepsReply st send.0 send.1

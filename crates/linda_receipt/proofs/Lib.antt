@@ -1,0 +1,6 @@
+mod TillLaws
+mod RingLaws
+mod PlaceViews
+mod LastLaws
+mod TellingLaws
+mod WeightLaws

@@ -1,0 +1,60 @@
+-- How receipts, rings and accounts are stored where a model's value holds them.
+use Rattle.std.specs.Prelude.{◌≡◌, ℕ, ◌⊎◌, List, refl}
+use Rattle.std.specs.Coded.{Coded, code_by, coded×, coded⊎, coded_ℕ, coded_list}
+use Rattle.std.proofs.Common.{inl, inr}
+use Rattle.linda_tuple.specs.Tuple.{Tuple}
+use Rattle.linda_tuple.specs.Codes.{tuple_code}
+use Rattle.linda_book.specs.declared.kept.KeptReply.{KeptReply}
+use Rattle.linda_book.specs.Codes.{kept_code}
+use Rattle.linda_state.specs.declared.deed.Deed.{Deed}
+use Rattle.linda_state.specs.declared.deed.Deed.TheVariants as deeds
+use Rattle.linda_receipt.specs.declared.receipt.Receipt.{Receipt}
+use Rattle.linda_receipt.specs.Ring.{Ring, ring_of}
+use Rattle.linda_receipt.specs.Account.{Account, account_of}
+
+-- a deed in parts, and its code
+abbrev pub DeedParts : Type 0
+DeedParts = (ℕ × (ℕ × Tuple)) ⊎ ((ℕ × (ℕ × ℕ)) ⊎ (ℕ × (ℕ × ℕ)))
+
+abbrev pub deed_parts : Deed → DeedParts
+deed_parts (deeds.Out c n tuple) = inl (c, (n, tuple))
+deed_parts (deeds.Take c n id) = inr (inl (c, (n, id)))
+deed_parts (deeds.Pass c n id) = inr (inr (c, (n, id)))
+
+abbrev pub deed_of_parts : DeedParts → Deed
+deed_of_parts (inl p) = deeds.Out p.0 p.1.0 p.1.1
+deed_of_parts (inr (inl p)) = deeds.Take p.0 p.1.0 p.1.1
+deed_of_parts (inr (inr p)) = deeds.Pass p.0 p.1.0 p.1.1
+
+abbrev pub deed_again : (d : Deed) → deed_of_parts (deed_parts d) ≡ d
+deed_again (deeds.Out c n tuple) = refl
+deed_again (deeds.Take c n id) = refl
+deed_again (deeds.Pass c n id) = refl
+
+abbrev pub numbers_code : Coded (ℕ × (ℕ × ℕ))
+numbers_code = coded× coded_ℕ (coded× coded_ℕ coded_ℕ)
+
+abbrev pub deed_code : Coded Deed
+deed_code =
+    code_by DeedParts (coded⊎ (coded× coded_ℕ (coded× coded_ℕ tuple_code)) (coded⊎ numbers_code numbers_code))
+    deed_parts deed_of_parts deed_again
+
+-- the code of a receipt, of some, and of a ring
+abbrev pub receipt_code : Coded Receipt
+receipt_code =
+    code_by (Deed × KeptReply) (coded× deed_code kept_code) (λ r. (r.deed, r.reply))
+    (λ p. record { deed = p.0; reply = p.1 }) (λ _. refl)
+
+abbrev pub receipts_code : Coded (List Receipt)
+receipts_code = coded_list receipt_code
+
+abbrev pub ring_code : Coded Ring
+ring_code =
+    code_by (ℕ × List Receipt) (coded× coded_ℕ receipts_code) (λ r. (r.client, r.receipts))
+    (λ p. ring_of p.0 p.1) (λ _. refl)
+
+-- the code of an account
+abbrev pub account_code : Coded Account
+account_code =
+    code_by (ℕ × (ℕ × (ℕ × List Receipt))) (coded× coded_ℕ (coded× coded_ℕ (coded× coded_ℕ receipts_code)))
+    (λ a. (a.client, (a.deeds, (a.asked, a.ring)))) (λ p. account_of p.0 p.1.0 p.1.1.0 p.1.1.1) (λ _. refl)

@@ -1,0 +1,11 @@
+pub mod Receipts
+pub mod Told
+pub mod Ring
+pub mod Account
+pub mod Pool
+pub mod Till
+pub mod Agreement
+pub mod Compare
+pub mod Telling
+pub mod Codes
+pub mod TillCodes

@@ -1,0 +1,92 @@
+//! A message on its way to the server and back, with a part of the ledger.
+
+ghost use Rattle.std.specs.Prelude.{◌≡◌, ◌≢◌, ◌+◌, ◌<◌, ◌^◌};
+ghost use Rattle.linda_receipt.specs.Till.{till_of};
+ghost use Rattle.linda_receipt.specs.Told.{weight};
+
+use crate::till::Till;
+use crate::told::Told;
+use std::sync::ledger::{Ledger, Share};
+
+/// A message on its way to the server: nothing is told yet. The address says where the answer is to go.
+#[derive(Drop)]
+pub struct Asked<A: Drop, L: Ledger> {
+    pub(crate) address: A,
+    pub(crate) part: Share<L>,
+    ghost one: { part.parts ≡ 1 },
+    ghost nothing: { part.amount ≡ 0 },
+}
+
+/// An answer on its way back: what is told stands in the ledger.
+#[derive(Drop)]
+pub struct Answered<A: Drop, L: Ledger> {
+    pub(crate) address: A,
+    pub(crate) told: Told,
+    pub(crate) part: Share<L>,
+    ghost one: { part.parts ≡ 1 },
+    ghost counted: { part.amount ≡ weight told },
+}
+
+impl<A: Drop, L: Ledger> Asked<A, L> {
+    /// Where the answer is to go.
+    pub fn address(&self) -> &A
+        ensures { result.now ≡ self.now.address }
+    {
+        &self.address
+    }
+
+    /// Writes what is told into the ledger. There is no other way back.
+    pub fn answered(self, till: &mut Till<L>, told: Told) -> Answered<A, L>
+        requires { till.old.total + weight told < 2 ^ 64 }
+        ensures till { till.new ≡ till_of (till.old.total + weight told) till.old.places }
+        ensures told { (result.told ≡ told) × (result.address ≡ self.address) }
+    {
+        let Asked {
+            address,
+            mut part,
+            ..
+        } = self;
+        if let Told::Deed(_) = &told {
+            till.add(&mut part);
+        }
+        Answered {
+            address,
+            told,
+            part,
+        }
+    }
+}
+
+impl<A: Drop, L: Ledger> Answered<A, L> {
+    /// Where it is to go.
+    pub fn address(&self) -> &A
+        ensures { result.now ≡ self.now.address }
+    {
+        &self.address
+    }
+
+    /// What is told.
+    pub fn told(&self) -> &Told
+        ensures { result.now ≡ self.now.told }
+    {
+        &self.told
+    }
+
+    /// The address by itself, and the answer without one: so it can lie where the address leads to.
+    pub fn detach(self) -> (A, Answered<(), L>)
+        ensures { (result.0 ≡ self.address) × (result.1.told ≡ self.told) }
+    {
+        let Answered {
+            address,
+            told,
+            part,
+            ..
+        } = self;
+        let bare = Answered {
+            address: (),
+            told,
+            part,
+        };
+        (address, bare)
+    }
+}

@@ -1,0 +1,74 @@
+//! A client alone: what is done with it, and what comes of it.
+//!
+//! A row begins with client 7 over two servers. A line is a call: `out TUPLE`, `sync EVENT`, `tick NOW`, `resend`,
+//! `reconnected SERVER`, `abandon`, or a reply behind the server that it comes from, as `1 offer 1 4 ("a", 3)`. The
+//! lines behind it tell all that comes of the call: packets, behind the servers that they go to; then the outcome, as
+//! `linda run` prints it, that of an event behind its base; a server's fault; or why the call is refused. By
+//! `client C over S` a row goes on with a new client C over S servers, and is told how many it has.
+
+mod call;
+mod told;
+
+use crate::number::small_number;
+use call::{answer, call_of};
+use linda_client::{Client, ClientFault};
+use linda_script::{WordsFault, read_numbered};
+use std::alloc::Global;
+use told::push_told;
+
+/// The player of rows of clients.
+#[derive(Drop)]
+pub struct Clients {
+    client: Option<Client>,
+}
+
+impl Clients {
+    /// No client, before a row begins.
+    pub fn new() -> Clients {
+        Clients { client: None }
+    }
+
+    /// Begins a row.
+    pub fn begin(&mut self, alloc: Global) -> Result<(), WordsFault> {
+        match Client::new(alloc, 7, 2) {
+            Ok(client) => self.client = Some(client),
+            Err(_) => return Err(WordsFault::Memory),
+        }
+        Ok(())
+    }
+
+    /// Plays a line.
+    pub fn play(
+        &mut self,
+        alloc: Global,
+        words: &str,
+        came: &mut String,
+    ) -> Result<(), WordsFault> {
+        if let Some(words) = words.strip_prefix("client ") {
+            return self.renew(alloc, words, came);
+        }
+        let call = call_of(alloc, words)?;
+        let Some(client) = &mut self.client else {
+            return Err(WordsFault::Unknown);
+        };
+        let number = client.number();
+        push_told(alloc, came, number, answer(alloc, client, call))
+    }
+
+    // Goes on with a new client, where there can be one.
+    fn renew(&mut self, alloc: Global, words: &str, came: &mut String) -> Result<(), WordsFault> {
+        let (number, rest) = read_numbered(words)?;
+        let Some(servers) = rest.strip_prefix("over ") else {
+            return Err(WordsFault::Unknown);
+        };
+        match Client::new(alloc, number, small_number(servers)?) {
+            Ok(client) => {
+                let servers = client.servers();
+                self.client = Some(client);
+                Ok(writeln!(came, "> servers {servers}")?)
+            }
+            Err(ClientFault::Memory) => Err(WordsFault::Memory),
+            Err(fault) => Ok(writeln!(came, "> refused {fault}")?),
+        }
+    }
+}

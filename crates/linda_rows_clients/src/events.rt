@@ -1,0 +1,149 @@
+//! Events: their limits, bases, labels and nack numbers.
+//!
+//! | line | what comes of it |
+//! |---|---|
+//! | `event EVENT` | nothing; the lines behind it are about this event |
+//! | `check` | `fits`, or why it is refused |
+//! | `count` | how many bases there are, and how many of them ask |
+//! | `bases` | each base behind its number, a line each |
+//! | `at TIME` | `ready` where a base is ready then without a server, else `not ready` |
+//! | `base K` | the labels above the base of this number, and what a commitment to it raises |
+//! | `nothing` | what is raised where no base is chosen |
+//! | `labels K` | how many labels are above the base |
+
+mod made;
+
+use crate::number::{number, place};
+use crate::words::push_numbers;
+use linda_event::{
+    Base, Event, all_nacks, ask_count, base_count, bases, check, is_any_ready, labels_of, nacks_of,
+};
+use linda_script::{WordsFault, split_word};
+use linda_text::{push_atom, push_template};
+pub use made::event_of;
+use std::alloc::{AllocError, Global};
+
+/// The player of rows of events.
+#[derive(Drop)]
+pub struct Events {
+    event: Event,
+}
+
+impl Events {
+    /// The event `never`, before a row says another one.
+    pub fn new() -> Events {
+        Events {
+            event: Event::Never,
+        }
+    }
+
+    /// Plays a line.
+    pub fn play(
+        &mut self,
+        alloc: Global,
+        words: &str,
+        came: &mut String,
+    ) -> Result<(), WordsFault> {
+        let (verb, rest) = split_word(words);
+        if verb == "event" {
+            self.event = event_of(alloc, rest)?;
+            Ok(())
+        } else if verb == "check" {
+            Ok(tell_check(&self.event, came)?)
+        } else if verb == "count" {
+            Ok(tell_count(&self.event, came)?)
+        } else if verb == "bases" {
+            Ok(tell_bases(alloc, &self.event, came)?)
+        } else if verb == "at" {
+            Ok(tell_ready(&self.event, number(rest)?, came)?)
+        } else if verb == "base" {
+            Ok(tell_base(alloc, &self.event, place(rest)?, came)?)
+        } else if verb == "nothing" {
+            Ok(tell_nothing(alloc, &self.event, came)?)
+        } else if verb == "labels" {
+            Ok(tell_labels(alloc, &self.event, place(rest)?, came)?)
+        } else {
+            Err(WordsFault::Unknown)
+        }
+    }
+}
+
+fn tell_check(event: &Event, came: &mut String) -> Result<(), AllocError> {
+    match check(event) {
+        Ok(()) => came.push_str("> fits\n"),
+        Err(fault) => writeln!(came, "> {fault}"),
+    }
+}
+
+fn tell_count(event: &Event, came: &mut String) -> Result<(), AllocError> {
+    let (bases, asks) = (base_count(event), ask_count(event));
+    writeln!(came, "> bases {bases} asks {asks}")
+}
+
+fn tell_bases(alloc: Global, event: &Event, came: &mut String) -> Result<(), AllocError> {
+    let found = bases(alloc, event)?;
+    for (place, base) in found.iter().enumerate() {
+        write!(came, "> {place} ")?;
+        push_base(came, base)?;
+        came.push('\n')?;
+    }
+    Ok(())
+}
+
+fn push_base(came: &mut String, base: &Base) -> Result<(), AllocError> {
+    match base {
+        Base::Input(template) => {
+            came.push_str("in ")?;
+            push_template(came, template)
+        }
+        Base::Read(template) => {
+            came.push_str("rd ")?;
+            push_template(came, template)
+        }
+        Base::Alarm(time) => write!(came, "alarm {time}"),
+        Base::Always(value) => {
+            came.push_str("always ")?;
+            push_atom(came, value)
+        }
+        Base::Never => came.push_str("never"),
+    }
+}
+
+fn tell_ready(event: &Event, clock: u64, came: &mut String) -> Result<(), AllocError> {
+    came.push_str(if is_any_ready(event, clock) {
+        "> ready\n"
+    } else {
+        "> not ready\n"
+    })
+}
+
+fn tell_base(
+    alloc: Global,
+    event: &Event,
+    base: usize,
+    came: &mut String,
+) -> Result<(), AllocError> {
+    let labels = labels_of(alloc, event, base)?;
+    let raised = nacks_of(alloc, event, base)?;
+    came.push('>')?;
+    push_numbers(came, "labels", labels.as_slice())?;
+    push_numbers(came, "raised", raised.as_slice())?;
+    came.push('\n')
+}
+
+fn tell_nothing(alloc: Global, event: &Event, came: &mut String) -> Result<(), AllocError> {
+    let raised = all_nacks(alloc, event)?;
+    came.push('>')?;
+    push_numbers(came, "raised", raised.as_slice())?;
+    came.push('\n')
+}
+
+fn tell_labels(
+    alloc: Global,
+    event: &Event,
+    base: usize,
+    came: &mut String,
+) -> Result<(), AllocError> {
+    let count = labels_of(alloc, event, base)?.len();
+    writeln!(came, "> labels {count}")
+}

@@ -1,0 +1,58 @@
+//! Events as rows say them: as people type them, or made of so many alike.
+
+use crate::number::place;
+use crate::words::typed_event;
+use linda_event::Event;
+use linda_script::{WordsFault, split_word};
+use std::alloc::{AllocError, Global};
+
+/// The event that the words say: typed; a choice of so many bases alike, as `40 inputs, 24 reads, 192 alarms`; or one
+/// of these under so many labels, as `64 labels over never`.
+pub fn event_of(alloc: Global, words: &str) -> Result<Event, WordsFault> {
+    match words.split_once(" labels over ") {
+        Some((count, below)) => Ok(labelled(alloc, place(count)?, unlabelled(alloc, below)?)?),
+        None => unlabelled(alloc, words),
+    }
+}
+
+fn unlabelled(alloc: Global, words: &str) -> Result<Event, WordsFault> {
+    match typed_event(alloc, words) {
+        Err(WordsFault::Unknown) => choice_of(alloc, words),
+        read => read,
+    }
+}
+
+// The event under so many labels, of which the innermost is 0.
+fn labelled(alloc: Global, count: usize, below: Event) -> Result<Event, AllocError> {
+    let mut event = below;
+    let mut label: u64 = 0;
+    for _ in 0..count {
+        event = Event::Wrap(label, Box::new(alloc, event)?);
+        label = label.saturating_add(1);
+    }
+    Ok(event)
+}
+
+// A choice of so many inputs, reads and alarms.
+fn choice_of(alloc: Global, words: &str) -> Result<Event, WordsFault> {
+    let mut members = Vec::new(alloc);
+    for part in words.split(',') {
+        let (count, kind) = split_word(part.trim());
+        for _ in 0..place(count)? {
+            members.push(member_of(alloc, kind)?)?;
+        }
+    }
+    Ok(Event::Choose(members))
+}
+
+fn member_of(alloc: Global, kind: &str) -> Result<Event, WordsFault> {
+    if kind == "inputs" {
+        typed_event(alloc, r#"in ("a", ?i)"#)
+    } else if kind == "reads" {
+        typed_event(alloc, r#"rd ("a", ?i)"#)
+    } else if kind == "alarms" {
+        Ok(Event::Alarm(3))
+    } else {
+        Err(WordsFault::Unknown)
+    }
+}

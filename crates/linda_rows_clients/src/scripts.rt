@@ -1,0 +1,104 @@
+//! Scripts of `linda run`, and what they print.
+//!
+//! A line is a line of the script, and what it prints is told behind it: each time the script is run from its
+//! beginning, and what it printed before has to come again. Its fault, if it has one, is told behind that. `servers N`
+//! begins a script over that many servers; where a row does not say so, it is over one. `script TEXT` runs a script
+//! that stands there as a string, since its blanks and line ends matter, and tells all that it prints.
+
+use crate::number::small_number;
+use crate::words::string_at;
+use linda_client::MAX_SERVERS;
+use linda_script::{WordsFault, split_word};
+use linda_shell::{LineFault, ScriptFault, run_script};
+use std::alloc::{AllocError, Global};
+
+/// The player of rows of scripts.
+#[derive(Drop)]
+pub struct Scripts {
+    servers: u32,
+    /// The lines so far, and what they printed.
+    script: String,
+    printed: String,
+}
+
+impl Scripts {
+    /// An empty script over one server.
+    pub fn new(alloc: Global) -> Scripts {
+        Scripts {
+            servers: 1,
+            script: String::new(alloc),
+            printed: String::new(alloc),
+        }
+    }
+
+    /// Plays a line.
+    pub fn play(
+        &mut self,
+        alloc: Global,
+        words: &str,
+        came: &mut String,
+    ) -> Result<(), WordsFault> {
+        let (verb, rest) = split_word(words);
+        if verb == "servers" {
+            *self = Scripts::new(alloc);
+            self.servers = small_number(rest)?;
+            return Ok(());
+        }
+        if verb == "script" {
+            let (script, _behind) = string_at(alloc, rest, 0)?;
+            self.script = script;
+            self.printed = String::new(alloc);
+        } else {
+            writeln!(self.script, "{words}")?;
+        }
+        self.run(alloc, came)
+    }
+
+    // Runs the script, and tells what it printed that it had not printed before.
+    fn run(&mut self, alloc: Global, came: &mut String) -> Result<(), WordsFault> {
+        let (printed, end) = printed_by(alloc, self.script.as_str(), self.servers)?;
+        let Some(more) = printed.as_str().strip_prefix(self.printed.as_str()) else {
+            return Ok(came.push_str("> ? what was printed before does not come again\n")?);
+        };
+        tell_lines(more, came)?;
+        self.printed = printed;
+        match end {
+            Ok(()) => Ok(()),
+            Err(ScriptFault::Memory) => Err(WordsFault::Memory),
+            Err(ScriptFault::Line(_, LineFault::Memory)) => Err(WordsFault::Memory),
+            Err(fault) => Ok(writeln!(came, "> {fault}")?),
+        }
+    }
+}
+
+// Tells what was printed, line by line.
+fn tell_lines(printed: &str, came: &mut String) -> Result<(), AllocError> {
+    match printed.strip_suffix("\n") {
+        Some(lines) => {
+            for line in lines.split('\n') {
+                writeln!(came, "> {line}")?;
+            }
+            Ok(())
+        }
+        None if printed.is_empty() => Ok(()),
+        None => writeln!(came, "> ? no line feed behind {printed}"),
+    }
+}
+
+// What the script prints over so many servers, and how it ends.
+fn printed_by(
+    alloc: Global,
+    script: &str,
+    servers: u32,
+) -> Result<(String, Result<(), ScriptFault>), WordsFault> {
+    if servers < 1 || servers > MAX_SERVERS {
+        return Err(WordsFault::Unknown);
+    }
+    let mut reader = script.as_bytes();
+    let mut printed = Vec::new(alloc);
+    let end = run_script(alloc, &mut reader, &mut printed, servers);
+    match std::str::from_utf8(printed.as_slice()) {
+        Ok(text) => Ok((String::from_str(alloc, text)?, end)),
+        Err(_) => Err(WordsFault::Unknown),
+    }
+}

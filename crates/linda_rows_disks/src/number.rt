@@ -1,0 +1,43 @@
+//! Numbers and ways to crash at the front of a text.
+
+use linda_disk::Torn;
+use linda_script::{WordsFault, split_word};
+
+/// The number that the text is.
+pub(crate) fn read_number(text: &str) -> Result<u64, WordsFault> {
+    match text.parse::<u64>() {
+        Ok(number) => Ok(number),
+        Err(_) => Err(WordsFault::Unknown),
+    }
+}
+
+/// The length or the offset that the text is.
+pub(crate) fn read_size(text: &str) -> Result<usize, WordsFault> {
+    match text.parse::<usize>() {
+        Ok(size) => Ok(size),
+        Err(_) => Err(WordsFault::Unknown),
+    }
+}
+
+/// The way to crash that begins the text, as `kept`, `lost` or `filled ff`, and what stands behind it.
+pub(crate) fn split_torn(text: &str) -> Result<(Torn, &str), WordsFault> {
+    let (word, rest) = split_word(text);
+    if word == "kept" {
+        Ok((Torn::Kept, rest))
+    } else if word == "lost" {
+        Ok((Torn::Lost, rest))
+    } else if word == "filled" {
+        let (digits, rest) = split_word(rest);
+        Ok((Torn::Filled(read_byte(digits)?), rest))
+    } else {
+        Err(WordsFault::Unknown)
+    }
+}
+
+/// The byte of these two hexadecimal digits.
+pub(crate) fn read_byte(digits: &str) -> Result<u8, WordsFault> {
+    match u8::from_str_radix(digits, 16) {
+        Ok(byte) => Ok(byte),
+        Err(_) => Err(WordsFault::Unknown),
+    }
+}

@@ -1,0 +1,33 @@
+//! Numbers in a text.
+
+use linda_script::{WordsFault, split_word};
+
+/// The number that the text is.
+pub(crate) fn read_number(text: &str) -> Result<u64, WordsFault> {
+    match text.parse::<u64>() {
+        Ok(number) => Ok(number),
+        Err(_) => Err(WordsFault::Unknown),
+    }
+}
+
+/// The number of a client that the text is.
+pub(crate) fn read_client(text: &str) -> Result<u32, WordsFault> {
+    match text.parse::<u32>() {
+        Ok(client) => Ok(client),
+        Err(_) => Err(WordsFault::Unknown),
+    }
+}
+
+/// The length that the text is.
+pub(crate) fn read_size(text: &str) -> Result<usize, WordsFault> {
+    match text.parse::<usize>() {
+        Ok(size) => Ok(size),
+        Err(_) => Err(WordsFault::Unknown),
+    }
+}
+
+/// The number that is the first word of a text, and what stands behind it.
+pub(crate) fn split_number(text: &str) -> Result<(u64, &str), WordsFault> {
+    let (word, rest) = split_word(text);
+    Ok((read_number(word)?, rest))
+}

@@ -1,0 +1,53 @@
+//! Rows in rows.
+//!
+//! `rows TEXT` plays the text as rows, by a player that knows the subject `echo` and the line `say WORDS`, and is told
+//! how many rows there are, what came, and what came otherwise.
+
+use crate::notation::tell;
+use linda_script::{Player, WordsFault, play_rows, split_word};
+use std::alloc::Global;
+
+/// Says what it is told to say.
+#[derive(Drop)]
+struct Echo;
+
+impl Player for Echo {
+    fn begin(&mut self, _alloc: Global, subject: &str) -> Result<(), WordsFault> {
+        if subject == "echo" {
+            Ok(())
+        } else {
+            Err(WordsFault::Unknown)
+        }
+    }
+
+    fn play(&mut self, _alloc: Global, words: &str, came: &mut String) -> Result<(), WordsFault> {
+        match words.strip_prefix("say ") {
+            Some(words) => Ok(writeln!(came, "> {words}")?),
+            None => Err(WordsFault::Unknown),
+        }
+    }
+}
+
+/// Plays a line of a row about rows.
+///
+/// # Errors
+///
+/// `Unknown` where it says nothing of the kind; `Memory` where memory runs out.
+pub(crate) fn play_rows_in_text(
+    alloc: Global,
+    words: &str,
+    came: &mut String,
+) -> Result<(), WordsFault> {
+    let (verb, rows) = split_word(words);
+    if verb != "rows" {
+        return Err(WordsFault::Unknown);
+    }
+    let played = play_rows(alloc, &mut Echo, rows)?;
+    writeln!(came, "> {} rows", played.rows)?;
+    tell(came, played.came.as_str())?;
+    if played.others.is_empty() {
+        Ok(came.push_str("> all as they say\n")?)
+    } else {
+        Ok(tell(came, played.others.as_str())?)
+    }
+}

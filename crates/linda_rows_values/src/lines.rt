@@ -1,0 +1,88 @@
+//! The lines of scripts.
+//!
+//! `line LINE` is told what the line says, and what it tells. `tidied SCRIPT` is told the script without its blanks.
+//! `kept ID TUPLE` and `kept ID none`, both also with ` | CLIENT TICKET` behind, are told what is told of a tuple that
+//! is kept, or of none, and held for that request; `sent CLIENT REPLY | CLIENT REPLY` what is told of two replies.
+
+use crate::notation::{push_written, tell};
+use crate::words::split_pair;
+use linda_script::{
+    WordsFault, read_numbered, read_reply, said, split_word, tell_replies, tell_tuple, tidied, told,
+};
+use linda_text::read_tuple;
+use linda_tuple::Tuple;
+use std::alloc::{AllocError, Global};
+
+/// Plays a line of a row about lines.
+///
+/// # Errors
+///
+/// `Unknown` where it says nothing of the kind; `Memory` where memory runs out.
+pub(crate) fn play_lines(alloc: Global, words: &str, came: &mut String) -> Result<(), WordsFault> {
+    let (verb, rest) = split_word(words);
+    match verb {
+        "line" => Ok(tell_line(came, rest)?),
+        "tidied" => Ok(tell(came, tidied(alloc, rest)?.as_str())?),
+        "kept" => keep(alloc, came, rest),
+        "sent" => send(alloc, came, rest),
+        _ => Err(WordsFault::Unknown),
+    }
+}
+
+fn tell_line(came: &mut String, line: &str) -> Result<(), AllocError> {
+    tell_part(came, "says", said(line))?;
+    tell_part(came, "tells", told(line))
+}
+
+fn tell_part(came: &mut String, verb: &str, part: Option<&str>) -> Result<(), AllocError> {
+    match part {
+        Some(part) => {
+            write!(came, "> {verb} \"")?;
+            push_written(came, part)?;
+            came.push_str("\"\n")
+        }
+        None => writeln!(came, "> {verb} nothing"),
+    }
+}
+
+fn keep(alloc: Global, came: &mut String, words: &str) -> Result<(), WordsFault> {
+    let (id, rest) = read_numbered(words)?;
+    match rest.split_once(" | ") {
+        Some((tuple, request)) => {
+            let tuple = kept_tuple(alloc, tuple)?;
+            let held = request_of(request)?;
+            Ok(tell_tuple(alloc, came, u64::from(id), tuple.as_ref(), Some(held))?)
+        }
+        None => {
+            let tuple = kept_tuple(alloc, rest)?;
+            Ok(tell_tuple(alloc, came, u64::from(id), tuple.as_ref(), None)?)
+        }
+    }
+}
+
+fn kept_tuple(alloc: Global, text: &str) -> Result<Option<Tuple>, WordsFault> {
+    if text == "none" {
+        Ok(None)
+    } else {
+        Ok(Some(read_tuple(alloc, text)?))
+    }
+}
+
+// The client and the ticket.
+fn request_of(words: &str) -> Result<(u32, u64), WordsFault> {
+    let (client, ticket) = read_numbered(words)?;
+    match ticket.parse::<u64>() {
+        Ok(ticket) => Ok((client, ticket)),
+        Err(_) => Err(WordsFault::Unknown),
+    }
+}
+
+fn send(alloc: Global, came: &mut String, words: &str) -> Result<(), WordsFault> {
+    let (one, other) = split_pair(words)?;
+    let mut replies = Vec::new(alloc);
+    for words in [one, other] {
+        let (client, words) = read_numbered(words)?;
+        replies.push((client, read_reply(alloc, words)?))?;
+    }
+    Ok(tell_replies(alloc, came, &replies)?)
+}

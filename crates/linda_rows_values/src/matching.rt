@@ -1,0 +1,65 @@
+//! What a template matches, and what it binds.
+//!
+//! `match TEMPLATE | TUPLE` is told what the template binds in the tuple. `fits TEMPLATE | TUPLE` is told of each field
+//! of the tuple whether the template's first pattern fits it.
+
+use crate::words::split_pair;
+use linda_script::{WordsFault, split_word};
+use linda_text::{push_atom, read_template, read_tuple};
+use linda_tuple::{Atom, Template, Tuple, bindings, matches};
+use std::alloc::{AllocError, Global};
+
+/// Plays a line of a row about matching.
+///
+/// # Errors
+///
+/// `Unknown` where it says nothing of the kind; `Memory` where memory runs out.
+pub(crate) fn play_matching(
+    alloc: Global,
+    words: &str,
+    came: &mut String,
+) -> Result<(), WordsFault> {
+    let (verb, rest) = split_word(words);
+    let (template, tuple) = split_pair(rest)?;
+    let template = read_template(alloc, template)?;
+    let tuple = read_tuple(alloc, tuple)?;
+    match verb {
+        "match" => Ok(tell_bindings(alloc, came, &template, &tuple)?),
+        "fits" => tell_fits(came, &template, &tuple),
+        _ => Err(WordsFault::Unknown),
+    }
+}
+
+fn tell_bindings(
+    alloc: Global,
+    came: &mut String,
+    template: &Template,
+    tuple: &Tuple,
+) -> Result<(), AllocError> {
+    if !matches(template, tuple) {
+        return came.push_str("> no match\n");
+    }
+    came.push_str("> binds")?;
+    push_atoms(came, bindings(alloc, template, tuple)?.as_slice())?;
+    came.push('\n')
+}
+
+// Appends the atoms, each behind a blank.
+fn push_atoms(came: &mut String, atoms: &[Atom]) -> Result<(), AllocError> {
+    for atom in atoms {
+        came.push(' ')?;
+        push_atom(came, atom)?;
+    }
+    Ok(())
+}
+
+fn tell_fits(came: &mut String, template: &Template, tuple: &Tuple) -> Result<(), WordsFault> {
+    let Some(pattern) = template.fields().first() else {
+        return Err(WordsFault::Unknown);
+    };
+    came.push('>')?;
+    for atom in tuple.fields() {
+        came.push_str(if pattern.fits(atom) { " yes" } else { " no" })?;
+    }
+    Ok(came.push('\n')?)
+}

@@ -1,0 +1,12 @@
+//! That a durable server may go to another thread, where its disks may: this is checked here, and used above.
+
+use crate::durable::Durable;
+use linda_disk::Disk;
+
+// Takes what may go to another thread.
+fn wants<T: Send>(_x: &T) {}
+
+/// Checks by its bounds alone that a server over disks that may cross threads may, too.
+pub fn server_crosses<D: Disk + Send>(server: &Durable<D>) {
+    wants(server);
+}

@@ -1,4 +1,0 @@
-mod choose;
-mod script;
-mod snapshot;
-mod switch;

@@ -1,3 +1,0 @@
-//! Tests, with values worked by hand.
-
-mod deeds;

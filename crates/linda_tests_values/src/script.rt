@@ -1,6 +1,0 @@
-//! Words, lines and frames, worked by hand.
-
-mod frames;
-mod kept;
-mod lines;
-mod words;

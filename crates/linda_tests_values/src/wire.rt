@@ -1,6 +1,0 @@
-//! Frames, worked by hand from the tables of formats.
-
-mod faults;
-mod frames;
-mod samples;
-mod streams;
