@@ -59,16 +59,21 @@ impl Stand {
     fn renew(&mut self, alloc: Global, subject: Subject) {
         self.subject = subject;
         match subject {
-            Subject::Bag => self.bags = Bags::new(alloc),
-            Subject::Waits => self.waits = WaitsRow::new(alloc),
-            Subject::Holds => self.holds = HoldsRow::new(alloc),
-            Subject::Book => self.book = BookRow::new(alloc),
-            Subject::Step => self.step = StepRow::new(alloc),
-            Subject::Promise => self.deeds = Deeds::new(alloc),
-            Subject::Store => self.node = Volatile::new(alloc),
-            Subject::Session => self.talks = Talks::new(alloc),
+            Subject::Bag => put(&mut self.bags, Bags::new(alloc)),
+            Subject::Waits => put(&mut self.waits, WaitsRow::new(alloc)),
+            Subject::Holds => put(&mut self.holds, HoldsRow::new(alloc)),
+            Subject::Book => put(&mut self.book, BookRow::new(alloc)),
+            Subject::Step => put(&mut self.step, StepRow::new(alloc)),
+            Subject::Promise => put(&mut self.deeds, Deeds::new(alloc)),
+            Subject::Store => put(&mut self.node, Volatile::new(alloc)),
+            Subject::Session => put(&mut self.talks, Talks::new(alloc)),
         }
     }
+}
+
+// Puts a new value into its place.
+fn put<T: Drop>(place: &mut T, new: T) {
+    *place = new;
 }
 
 // The subject of this name.
