@@ -2,4 +2,3 @@ pub mod Posted
 pub mod Order
 pub mod Covered
 pub mod Greeting
-pub mod Pace

@@ -8,6 +8,5 @@
 
 mod crossing;
 mod held;
-mod pace;
 
 pub use held::{Held, Report};
