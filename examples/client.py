@@ -2,12 +2,14 @@
 """A small client of a tuple space, over the frames of docs/FORMATS.md, with nothing but Python's own library.
 
     examples/client.py demo                 starts ./linda pipe, puts, reads, takes and waits, and prints what came back
+    examples/client.py demo PORT CLIENT     the same with a server that listens on this port of this machine, as a client that was never used
     examples/client.py decode < lines       tells lines of hexadecimal digits, each a whole frame, in words
 
-As a module: `Client(send, receive)` speaks over any pair of functions; a value is an int, a str or a bool; a pattern is a value, or one
+As a module: `Client(send, receive, number)` speaks over any pair of functions, `connect(port)` gives those of a socket; a value is an int, a str or a bool; a pattern is a value, or one
 of INT, TEXT, BOOL (a formal of that kind) or ANY.
 """
 
+import socket
 import subprocess
 import sys
 from pathlib import Path
@@ -144,13 +146,36 @@ def words_of(name, parts):
     return name + " " + ", ".join(f"{key} {text_of(value)}" for key, value in parts.items())
 
 
+# ---- connections
+
+def connect(port):
+    """Functions that send bytes, and receive a frame, over a new connection to the server on this port of this machine."""
+    stream = socket.create_connection(("127.0.0.1", port))
+    stream.setsockopt(socket.IPPROTO_TCP, socket.TCP_NODELAY, 1)
+
+    def take(size):
+        data = b""
+        while len(data) < size:
+            piece = stream.recv(size - len(data))
+            if not piece:
+                raise ConnectionError("the server ended the connection")
+            data += piece
+        return data
+
+    def receive():
+        length = take(4)
+        return read_frame(length + take(int.from_bytes(length, "big")))
+
+    return stream.sendall, receive
+
+
 # ---- a client
 
 class Client:
     """Greets, and keeps the numbers of Outs and Accepts (one sequence) and the tickets, none of which is used twice."""
 
-    def __init__(self, send, receive, client, fresh=True):
-        self.send, self.receive, self.ticket = send, receive, 0
+    def __init__(self, send, receive, client, fresh=True, ticket=0):
+        self.send, self.receive, self.ticket = send, receive, ticket
         self.send(hello(client, fresh))
         name, parts = self.receive()
         if name != "Welcome":
@@ -172,6 +197,17 @@ class Client:
     def read(self, tag, *patterns):
         return self.wait_for(tag, *patterns, remove=False)["tuple"]
 
+    def look(self, tag, *patterns):
+        """A matching tuple that is there now, or None. An Out with number 0 is always refused, behind what the Ask led to."""
+        self.ticket += 1
+        self.send(ask(self.ticket, False, tag, *patterns) + out(0, tag))
+        name, parts = self.receive()
+        if name == "Read":
+            self.answer("Refused")
+            return parts["tuple"]
+        self.send(cancel(self.ticket))
+        return None
+
     def take(self, tag, *patterns):
         """Takes a matching tuple: asks, accepts the offer, and asks again where it was gone."""
         while True:
@@ -192,26 +228,34 @@ class Client:
         return parts
 
 
-def demo():
-    program = Path(__file__).resolve().parent.parent / "linda"
-    pipe = subprocess.Popen([program, "pipe"], stdin=subprocess.PIPE, stdout=subprocess.PIPE, text=True)
-
-    def send(data):
+def show(send, receive, number):
+    """Puts two jobs, reads one, takes both, and prints all that is sent and what comes back."""
+    def send_shown(data):
         print("sent", words_of(*read_frame(data)))
-        pipe.stdin.write(data.hex() + "\n")
-        pipe.stdin.flush()
+        send(data)
 
-    def receive():
-        reply = read_frame(bytes.fromhex(pipe.stdout.readline()))
+    def receive_shown():
+        reply = receive()
         print("     came", words_of(*reply))
         return reply
 
-    client = Client(send, receive, 7)
+    client = Client(send_shown, receive_shown, number)
     client.put("job", 1)
     client.put("job", 2)
     print("read", text_of(client.read("job", INT)))
     print("took", text_of(client.take("job", 2)))
     print("took", text_of(client.take("job", ANY)))
+
+
+def demo():
+    program = Path(__file__).resolve().parent.parent / "linda"
+    pipe = subprocess.Popen([program, "pipe"], stdin=subprocess.PIPE, stdout=subprocess.PIPE, text=True)
+
+    def send(data):
+        pipe.stdin.write(data.hex() + "\n")
+        pipe.stdin.flush()
+
+    show(send, lambda: read_frame(bytes.fromhex(pipe.stdout.readline())), 7)
     pipe.stdin.close()
     sys.exit(pipe.wait())
 
@@ -228,6 +272,8 @@ def decode():
 if __name__ == "__main__":
     if sys.argv[1:] == ["demo"]:
         demo()
+    elif sys.argv[1:2] == ["demo"] and len(sys.argv) == 4 and all(word.isdigit() for word in sys.argv[2:]):
+        show(*connect(int(sys.argv[2])), int(sys.argv[3]))
     elif sys.argv[1:] == ["decode"]:
         decode()
     else:
