@@ -1,5 +1,5 @@
 -- A seat is of the Hello's client.
-use Rattle.std.proofs.Common.{◌≡◌, ℕ, Bool, true, false, Option, Some, None, Result, Ok, Err, IfOk, refl, sym, ap, ◌∙◌, subst, inl, inr}
+use Rattle.std.proofs.Common.{◌≡◌, ℕ, Option, Some, None, Result, Ok, Err, IfOk, refl, ap, ◌∙◌, subst, inl, inr}
 use Rattle.std.specs.FinMap as map
 use Rattle.linda_wire.specs.declared.message.Message.{Message}
 use Rattle.linda_wire.specs.declared.message.Message.TheVariants as messages
@@ -31,9 +31,9 @@ account_asked c (Some (places.Parked ring deeds for_good)) = refl
 seat_is : (st : State) (ps : Places) (m : Message) (answer : Result (Account × ℕ) (ℕ × ℕ)) → IsGreeted st ps m answer → IsSeatOf m answer
 seat_is st ps (messages.Hello version client fresh) (Err why) is = tt
 seat_is st ps (messages.Hello version client fresh) (Ok got) (inl other) = absurd (not_both got _ other.1)
-seat_is st ps (messages.Hello version client fresh) (Ok got) (inr (inl away)) = absurd (not_both got _ away.1.1)
+seat_is st ps (messages.Hello version client fresh) (Ok got) (inr (inl away)) = absurd (not_both got _ away.2)
 seat_is st ps (messages.Hello version client fresh) (Ok got) (inr (inr is)) =
-    let a = is.1.1.1 in
+    let a = is.2.1 in
     (ap (λ (x : Account). x.client) a ∙ account_client client (map.get ps client), ap (λ (x : Account). x.asked) a ∙ account_asked client (map.get ps client))
 seat_is st ps (messages.Out n tuple) (Ok got) is = absurd (not_both got _ is)
 seat_is st ps (messages.Out n tuple) (Err why) is = tt

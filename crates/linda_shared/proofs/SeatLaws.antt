@@ -1,10 +1,10 @@
 -- What an account was told, one message more.
-use Rattle.std.proofs.Common.{◌≡◌, ℕ, ◌+◌, ◌-◌, ◌<◌, ◌≤◌, ◌^◌, min, List, [], ◌∷◌, ◌++◌, Option, Some, None, IfSome, IsSome, refl, ap, ◌∙◌, arith}
+use Rattle.std.proofs.Common.{◌≡◌, ℕ, ◌+◌, ◌-◌, ◌≤◌, ◌^◌, min, List, [], ◌∷◌, ◌++◌, Option, Some, None, IfSome, IsSome, true≢false, refl, sym, ap, ◌∙◌, arith}
 use Rattle.std.proofs.lemmas.List.Sums.{sum_by-cons}
 use Rattle.linda_wire.specs.declared.message.Message.{Message}
 use Rattle.linda_receipt.specs.declared.receipt.Receipt.{Receipt}
 use Rattle.linda_receipt.specs.Account.{Account}
-use Rattle.linda_shared.specs.Seat.{with_asked, back, with_deed, with_told, with_all, IsToldOf, AreToldOf, deeds_told}
+use Rattle.linda_shared.specs.Seat.{with_asked, back, with_told, with_all, IsToldOf, AreToldOf, deeds_told}
 
 pub all_snoc : (a : Account) (ts : List (Option Receipt)) (t : Option Receipt) → with_all a (ts ++ t ∷ []) ≡ with_told (with_all a ts) t
 all_snoc a [] t = refl
@@ -43,7 +43,7 @@ back_told a (Some r) = refl
 pub more_told : (told next : Option ℕ) (more all : ℕ) (a : Account) (before rest : List Account) → IfSome told (λ t. t + deeds_told before ≡ all) → before ≡ a ∷ rest
     → more ≡ min a.deeds (2 ^ 64 - 1) → IfSome next (λ sum. IfSome told (λ one. sum ≡ one + more) × IsSome told) → IfSome next (λ sum. sum + deeds_told rest ≡ all)
 more_told told None more all a before rest so is counts step = tt
-more_told None (Some sum) more all a before rest so is counts step = absurd step.1
+more_told None (Some sum) more all a before rest so is counts step = absurd (true≢false (sym step.1))
 more_told (Some t) (Some sum) more all a before rest so is counts step =
     let cut = ap deeds_told is ∙ sum_by-cons (λ (x : Account). min x.deeds (2 ^ 64 - 1)) a rest in
     let now = step.0 in

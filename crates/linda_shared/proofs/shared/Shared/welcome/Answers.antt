@@ -1,8 +1,7 @@
 -- A greeting is the server's.
-use Rattle.std.proofs.Common.{◌≡◌, ℕ, Result, Ok, Err, sym, subst}
+use Rattle.std.proofs.Common.{Ok, sym, subst}
 use Rattle.linda_desk.specs.Greeting.{IsGreeted}
-use Rattle.linda_receipt.specs.Account.{Account}
-use Rattle.linda_shared.specs.Greeting.{WasGreeted, greeting_of}
+use Rattle.linda_shared.specs.Greeting.{WasGreeted}
 use Rattle.linda_shared.proofs.GreetLaws.{ok_so}
 use Rattle.linda_shared.proofs.shared.Shared.welcome.Goals as goal
 
