@@ -5,23 +5,9 @@ use Rattle.linda_receipt.specs.declared.receipt.Receipt.{Receipt}
 use Rattle.linda_receipt.specs.declared.fault.SharedFault.{SharedFault}
 use Rattle.linda_receipt.specs.declared.fault.SharedFault.TheVariants as faults
 use Rattle.linda_receipt.specs.Account.{Account}
-use Rattle.linda_shared.specs.Seat.{with_asked, back, with_deed, with_told, IsToldOf, IsLeft, IsLostBy, IsLeftBy}
-use Rattle.linda_shared.specs.Heard.{is_severe, first_fault, told_fault, IsFaultOf, IsToldAll, HasHeard}
+use Rattle.linda_shared.specs.Seat.{with_asked, back, with_deed, with_told, IsToldOf, IsLeft}
+use Rattle.linda_shared.specs.Heard.{is_severe, first_fault, IsFaultOf, IsToldAll, HasHeard}
 use Rattle.linda_shared.proofs.SeatLaws.{all_snoc, told_snoc, back_client, back_asked, back_more, back_few, back_told}
-
--- ---- nothing so far
-
-pub none_heard : (a : Account) → HasHeard a [] a [] None true
-none_heard a = record {
-  client = refl;
-  asked = omega arith;
-  more = omega arith;
-  few = omega arith;
-  each = refl;
-  told_all = record { account = refl; deeds = tt; each = refl };
-  its = tt;
-  same = λ _. refl;
-}
 
 -- ---- a message that led to this
 
@@ -138,32 +124,3 @@ heard_fault before a new ms ts old fault same next_same m some left as_before h 
       its = first_its before.client old fault h.its (subst (λ c. IsFaultOf c fault) h.client so.its);
       same = λ yes_it_is. ap (λ (x : Account). with_asked x 0) (so.mild (as_before yes_it_is).1) ∙ h.same (as_before yes_it_is).0;
     }
-
--- ---- the end
-
-pub all_told : (before a : Account) (ms : List Message) (ts : List (Option Receipt)) (same : Bool) → HasHeard before ms a ts None same → IsToldAll before ms a ts
-all_told before a ms ts same h = h.told_all
-
-lost_by : (before a : Account) (ms : List Message) (ts : List (Option Receipt)) (fault : Option SharedFault) (same : Bool) → HasHeard before ms a ts fault same → IsLostBy (length ms) (with_asked before a.asked) a
-lost_by before a ms ts fault same h = record { client = h.client; asked = refl; more = h.more; few = h.few }
-
--- Where nothing changed, it is as it was.
-still_same : (before a : Account) → with_asked a 0 ≡ with_asked before 0 → a ≡ with_asked before a.asked
-still_same before a is = ap (λ (x : Account). with_asked x a.asked) is
-
-pub left_by : (before a : Account) (ms : List Message) (ts : List (Option Receipt)) (fault first : SharedFault) (same : Bool) → HasHeard before ms a ts (Some first) same
-    → fault ≡ told_fault first same → IsLeftBy (length ms) (with_asked before a.asked) fault a
-left_by before a ms ts fault faults.Down true h is = subst (λ f. IsLeftBy (length ms) (with_asked before a.asked) f a) (sym is) (lost_by before a ms ts (Some faults.Down) true h)
-left_by before a ms ts fault faults.Down false h is = subst (λ f. IsLeftBy (length ms) (with_asked before a.asked) f a) (sym is) (lost_by before a ms ts (Some faults.Down) false h)
-left_by before a ms ts fault (faults.Receipt client number) true h is = subst (λ f. IsLeftBy (length ms) (with_asked before a.asked) f a) (sym is) (lost_by before a ms ts (Some (faults.Receipt client number)) true h, h.its)
-left_by before a ms ts fault (faults.Receipt client number) false h is = subst (λ f. IsLeftBy (length ms) (with_asked before a.asked) f a) (sym is) (lost_by before a ms ts (Some (faults.Receipt client number)) false h, h.its)
-left_by before a ms ts fault faults.Full true h is = subst (λ f. IsLeftBy (length ms) (with_asked before a.asked) f a) (sym is) (still_same before a (h.same refl))
-left_by before a ms ts fault faults.Full false h is = subst (λ f. IsLeftBy (length ms) (with_asked before a.asked) f a) (sym is) (lost_by before a ms ts (Some faults.Full) false h)
-left_by before a ms ts fault faults.SeatMissing true h is = subst (λ f. IsLeftBy (length ms) (with_asked before a.asked) f a) (sym is) (still_same before a (h.same refl))
-left_by before a ms ts fault faults.SeatMissing false h is = subst (λ f. IsLeftBy (length ms) (with_asked before a.asked) f a) (sym is) (lost_by before a ms ts (Some faults.SeatMissing) false h)
-left_by before a ms ts fault (faults.Stuck client) true h is = subst (λ f. IsLeftBy (length ms) (with_asked before a.asked) f a) (sym is) (still_same before a (h.same refl))
-left_by before a ms ts fault (faults.Stuck client) false h is = subst (λ f. IsLeftBy (length ms) (with_asked before a.asked) f a) (sym is) (lost_by before a ms ts (Some (faults.Stuck client)) false h)
-left_by before a ms ts fault faults.NoThread true h is = subst (λ f. IsLeftBy (length ms) (with_asked before a.asked) f a) (sym is) (still_same before a (h.same refl))
-left_by before a ms ts fault faults.NoThread false h is = subst (λ f. IsLeftBy (length ms) (with_asked before a.asked) f a) (sym is) (lost_by before a ms ts (Some faults.NoThread) false h)
-left_by before a ms ts fault faults.Memory true h is = subst (λ f. IsLeftBy (length ms) (with_asked before a.asked) f a) (sym is) (still_same before a (h.same refl))
-left_by before a ms ts fault faults.Memory false h is = subst (λ f. IsLeftBy (length ms) (with_asked before a.asked) f a) (sym is) (lost_by before a ms ts (Some faults.Memory) false h)

@@ -1,3 +1,3 @@
 mod SeatLaws
 mod HeardLaws
-mod GreetLaws
+mod OkLaws

@@ -2,7 +2,7 @@
 use Rattle.std.proofs.Common.{Ok, sym, subst}
 use Rattle.linda_desk.specs.Greeting.{IsGreeted}
 use Rattle.linda_shared.specs.Greeting.{WasGreeted}
-use Rattle.linda_shared.proofs.GreetLaws.{ok_so}
+use Rattle.linda_shared.proofs.OkLaws.{ok_so}
 use Rattle.linda_shared.proofs.shared.Shared.welcome.Goals as goal
 
 pub returns-in-Err : goal.returns-in-Err
