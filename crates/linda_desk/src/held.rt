@@ -4,6 +4,7 @@ mod alone;
 mod base;
 mod drain;
 mod finish;
+mod give_up;
 mod greet;
 mod leave;
 mod serve;

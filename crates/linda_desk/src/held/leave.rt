@@ -49,6 +49,18 @@ impl<D: Disk, L: Ledger> Held<D, L> {
         put_back(&mut self.till, account, false);
     }
 
+    /// The client's seat comes back for good: it goes out no more. Takes no memory.
+    pub fn park_for_good(&mut self, account: Account<L>)
+        ensures parked { ComesBack self.old.till.places account → self.new.till
+            ≡ till_of self.old.till.total (with_place self.old.till.places account.client (place_for account true)) }
+        ensures lost { (ComesBack self.old.till.places account → ⊥) → self.new.till ≡ self.old.till }
+        ensures same { (self.new.opening.value ≡ self.old.opening.value) × (self.new.base.value ≡ self.old.base.value)
+            × (self.new.receipts.items ≡ self.old.receipts.items) × (self.new.count ≡ self.old.count)
+            × (self.new.server ≡ self.old.server) × (self.new.boxes ≡ self.old.boxes) }
+    {
+        put_back(&mut self.till, account, true);
+    }
+
     /// The client leaves: it is closed and, whatever that answers, its outbox is shut and its seat comes back.
     ///
     /// # Errors

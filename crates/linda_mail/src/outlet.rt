@@ -1,0 +1,53 @@
+//! Where the replies of a session come out.
+
+use crate::mailbox::Mailbox;
+use linda_wire::Reply;
+use std::alloc::{AllocError, Global};
+use std::sync::ledger::Ledger;
+use std::sync::{Arc, Wait};
+
+/// Where the replies of a session come out. Whoever reads here never asks for the server.
+#[derive(Drop)]
+pub struct Outlet<L: Ledger> {
+    mailbox: Arc<Mailbox<L>, Global>,
+}
+
+impl<L: Ledger> Outlet<L> {
+    /// What comes out of this mailbox.
+    pub fn new(mailbox: Arc<Mailbox<L>, Global>) -> Outlet<L> {
+        Outlet { mailbox }
+    }
+
+    /// A second outlet of the same session, for another thread. Each reply comes out of one of them.
+    ///
+    /// # Errors
+    ///
+    /// `AllocError`: nothing was made.
+    pub fn another(&self) -> Result<Outlet<L>, AllocError> {
+        let mailbox = Arc::try_clone(&self.mailbox)?;
+        Ok(Outlet { mailbox })
+    }
+
+    /// The replies that are there now, in order. Takes no memory.
+    pub fn drain<R: Wait>(&mut self, rt: &R, alloc: Global) -> Vec<Reply> {
+        self.mailbox.drain(rt, alloc)
+    }
+
+    /// Waits until there is a reply, the server is down or the seat was hung up; then takes what is there. So nothing
+    /// where no reply comes any more.
+    pub fn drain_wait<R: Wait>(&mut self, rt: &R, alloc: Global) -> Vec<Reply> {
+        self.mailbox.drain_wait(rt, alloc)
+    }
+
+    /// Waits until there is a reply that others' messages led to, the server is down or the seat was hung up, and takes
+    /// nothing. Says whether a reply may come. It is for whoever writes beside a thread that submits, and that writes
+    /// what its own messages led to.
+    pub fn wait_news<R: Wait>(&self, rt: &R) -> bool {
+        self.mailbox.wait_news(rt)
+    }
+
+    /// No reply comes any more, as after a connection was lost.
+    pub fn end<R: Wait>(&self, rt: &R) {
+        self.mailbox.end(rt);
+    }
+}

@@ -1,0 +1,27 @@
+-- What a greeting comes to, as contracts see it.
+use Rattle.std.specs.Prelude.{◌≡◌, ℕ, Result, Ok, Err}
+use Rattle.linda_wire.specs.declared.message.Message.{Message}
+use Rattle.linda_wire.specs.declared.message.Message.TheVariants as messages
+use Rattle.linda_state.specs.State.{State}
+use Rattle.linda_receipt.specs.Account.{Account}
+use Rattle.linda_receipt.specs.Till.{Places}
+use Rattle.linda_desk.specs.Greeting.{IsGreeted}
+use Rattle.linda_shared.specs.declared.greeted.Greeted.{Greeted}
+use Rattle.linda_shared.specs.declared.greeted.Greeted.TheVariants.{Welcome, Refused}
+
+-- The seat and the kept number, or the code and detail.
+abbrev pub greeting_of : {L : Type 0} → Greeted L → Result (Account × ℕ) (ℕ × ℕ)
+greeting_of (Welcome seat outlet last) = Ok (seat, last)
+greeting_of (Refused code detail) = Err (code, detail)
+
+-- It is the answer of a server in some state, of which some seats are out or parked.
+pub record WasGreeted (message : Message) (answer : Result (Account × ℕ) (ℕ × ℕ)) : Type 0 where
+  pub state : State
+  pub places : Places
+  pub greeted : IsGreeted state places message answer
+
+-- A seat is of the Hello's client, and none of its messages is on its way.
+abbrev pub IsSeatOf : Message → Result (Account × ℕ) (ℕ × ℕ) → Type 0
+IsSeatOf (messages.Hello version client fresh) (Ok got) = (got.0.client ≡ client) × (got.0.asked ≡ 0)
+IsSeatOf _ (Ok got) = ⊥
+IsSeatOf _ (Err why) = Unit {0}

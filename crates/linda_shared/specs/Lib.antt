@@ -1,0 +1,4 @@
+pub mod Tray
+pub mod Seat
+pub mod Heard
+pub mod Greeting

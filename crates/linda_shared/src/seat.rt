@@ -1,0 +1,83 @@
+//! What a session carries.
+
+ghost use Rattle.std.specs.Prelude.{◌≡◌, ◌-◌, ◌^◌, min, IfOk};
+ghost use Rattle.linda_receipt.specs.Account as seen;
+ghost use Rattle.linda_receipt.specs.Ring.{last_number};
+
+use linda_mail::{Address, Mailbox};
+use linda_receipt::Account;
+use std::alloc::{AllocError, Global};
+use std::marker::Model;
+use std::sync::Arc;
+use std::sync::ledger::Ledger;
+
+/// What a session carries: what its client was told, and the mailbox that its answers come to. Contracts see the
+/// account. Between two calls nothing is on its way.
+#[derive(Drop)]
+pub struct Seat<L: Ledger> {
+    pub(crate) account: Account<L>,
+    pub(crate) mailbox: Arc<Mailbox<L>, Global>,
+}
+
+impl<L: Ledger> Model for Seat<L> {
+    ghost use Rattle.std.specs.Prelude.{◌≡◌};
+    ghost use Rattle.linda_receipt.specs.Account as seen;
+    ghost use Rattle.linda_receipt.specs.Codes.{account_code};
+
+    ghost Value = { seen.Account };
+
+    ghost coded = { account_code };
+
+    ghost view = { λ s. s.account };
+
+    ghost invariant = { λ s. s.account.asked ≡ 0 };
+}
+
+impl<L: Ledger> Seat<L> {
+    pub(crate) fn new(account: Account<L>, mailbox: Arc<Mailbox<L>, Global>) -> Seat<L>
+        requires { account.asked ≡ 0 }
+        ensures { result ≡ account }
+    {
+        Seat { account, mailbox }
+    }
+
+    /// The client that has it.
+    pub fn client(&self) -> u32
+        ensures { result ≡ self.now.client }
+    {
+        self.account.client()
+    }
+
+    /// Of how many deeds it was told.
+    pub fn deeds(&self) -> u64
+        ensures { result ≡ min self.now.deeds (2 ^ 64 - 1) }
+    {
+        self.account.deeds()
+    }
+
+    /// The number of the last receipt that it was given, 0 where there is none.
+    pub fn last_number(&self) -> u64
+        ensures { result ≡ last_number self.now.ring }
+    {
+        self.account.last_number()
+    }
+
+    // What was told to it.
+    pub(crate) fn into_account(self) -> Account<L>
+        ensures { result ≡ self }
+    {
+        self.account
+    }
+}
+
+/// The address of this place in a client's mailbox.
+pub(crate) fn address_at<L: Ledger>(
+    client: u32,
+    mailbox: &Arc<Mailbox<L>, Global>,
+    place: usize,
+) -> Result<Address<L>, AllocError>
+    ensures { IfOk result (λ a. a.client ≡ client) }
+{
+    let mailbox = Arc::try_clone(mailbox)?;
+    Ok(Address::new(client, place, mailbox))
+}

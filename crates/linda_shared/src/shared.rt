@@ -1,0 +1,100 @@
+//! A server that threads share.
+
+mod batch;
+mod greet;
+mod lead;
+mod leave;
+mod submit;
+
+ghost use Rattle.std.specs.Prelude.{◌≡◌, false};
+ghost use Rattle.linda_receipt.specs.declared.limits.TheConstants.{PARTS};
+
+use crate::desk::Desk;
+use crate::tray::Tray;
+use linda_desk::Held;
+use linda_disk::Disk;
+use linda_mail::{Office, Outlet, Queue};
+use linda_receipt::SharedFault;
+use linda_server::Durable;
+use linda_wire::Reply;
+use std::alloc::{AllocError, Global};
+use std::sync::ledger::{Blank, Ledger};
+use std::sync::{Mutex, Wait};
+
+/// A server that threads share. Order of locks: the desk, the office, the queue, a mailbox. The desk is held while a
+/// group is written to the disks; the office while what a group came to is given out, beside the next group.
+#[derive(Drop)]
+pub struct Shared<D: Disk, L: Ledger> {
+    desk: Mutex<Desk<D, L>>,
+    office: Mutex<Office<L>>,
+    queue: Mutex<Queue<L>>,
+    alloc: Global,
+}
+
+impl<D: Disk, L: Ledger> Shared<D, L> {
+    /// Shares a server that is up, of which nobody was told anything yet.
+    ///
+    /// # Errors
+    ///
+    /// `AllocError`: nothing was made, and the server is dropped.
+    pub fn new(alloc: Global, server: Durable<D>, blank: Blank) -> Result<Shared<D, L>, AllocError>
+        requires up { server.down ≡ false }
+        requires blank { (blank.name ≡ L.name) × (blank.parts ≡ L.parts) × (L.parts ≡ PARTS) }
+    {
+        let tray = Tray::new(alloc)?;
+        let office = Office::new(alloc)?;
+        let held = Held::new(alloc, server, blank);
+        Ok(Shared {
+            desk: Mutex::new(Desk {
+                held,
+                tray,
+                is_given_up: false,
+            }),
+            office: Mutex::new(office),
+            queue: Mutex::new(Queue::new(alloc)),
+            alloc,
+        })
+    }
+
+    /// The replies that are there now, in order. Never asks for the server.
+    pub fn drain<R: Wait>(&self, rt: &R, outlet: &mut Outlet<L>) -> Vec<Reply> {
+        outlet.drain(rt, self.alloc)
+    }
+
+    /// Waits until there is a reply, the server is down or the seat was hung up, and takes what is there: so nothing
+    /// where no reply comes any more. Never asks for the server.
+    pub fn drain_wait<R: Wait>(&self, rt: &R, outlet: &mut Outlet<L>) -> Vec<Reply> {
+        outlet.drain_wait(rt, self.alloc)
+    }
+
+    /// Whether the server is down.
+    pub fn is_down<R: Wait>(&self, rt: &R) -> bool {
+        self.desk.lock(rt).held.is_down()
+    }
+
+    /// Whether a snapshot is due.
+    pub fn needs_snapshot<R: Wait>(&self, rt: &R) -> bool {
+        self.desk.lock(rt).held.needs_snapshot()
+    }
+
+    /// Takes a snapshot.
+    ///
+    /// # Errors
+    ///
+    /// `Down`: the server is down. `Full`: nothing changed.
+    pub fn snapshot<R: Wait>(&self, rt: &R) -> Result<(), SharedFault> {
+        let mut guard = self.desk.lock(rt);
+        let answer = guard.held.snapshot(self.alloc);
+        let is_down = guard.held.is_down();
+        drop(guard);
+        self.end_where(rt, is_down);
+        answer
+    }
+
+    // Where the server is down no reply comes any more.
+    fn end_where<R: Wait>(&self, rt: &R, is_down: bool) {
+        if is_down {
+            self.office.lock(rt).end_all(rt);
+        }
+    }
+}

@@ -1,0 +1,123 @@
+//! Several messages of a session at once.
+
+ghost use Rattle.std.specs.Prelude.{◌≡◌, ◌+◌, ◌<◌, ◌≤◌, [], length, All, IfOk, IfErr};
+ghost use Rattle.std.specs.Prelude.{vec_len, vec_capacity, OnOk, OnErr};
+ghost use Rattle.linda_step.specs.declared.size.TheConstants.{MAX_BATCH};
+ghost use Rattle.linda_receipt.specs.Account.{account_of};
+ghost use Rattle.linda_receipt.specs.declared.limits.TheConstants.{MOST_ASKED};
+ghost use Rattle.linda_shared.specs.Seat.{with_all, with_asked, AreToldOf, IsLeftBy, IsRequest};
+
+use super::Shared;
+use crate::heard::Heard;
+use crate::seat::{Seat, address_at};
+use linda_disk::Disk;
+use linda_mail::{Address, Mailbox};
+use linda_receipt::{Account, Receipt, SharedFault};
+use linda_wire::Message;
+use std::alloc::{AllocError, Global};
+use std::sync::ledger::Ledger;
+use std::sync::{Arc, Wait};
+
+impl<D: Disk, L: Ledger> Shared<D, L> {
+    /// Submits some messages, which are served in one group, one behind the other. Gives for each the receipt of its
+    /// deed, if it made one. Their replies come out of the outlet.
+    ///
+    /// # Errors
+    ///
+    /// `Down`: the server is down; `Receipt`: the seat was told of a deed that its message does not ask for; `Memory`:
+    /// nothing changed.
+    pub fn submit_all<R: Wait>(
+        &self,
+        rt: &R,
+        seat: &mut Seat<L>,
+        messages: &[Message],
+    ) -> Result<Vec<Option<Receipt>>, SharedFault>
+        requires some { 0 < length messages.now }
+        requires few { length messages.now ≤ MAX_BATCH }
+        requires requests { All IsRequest messages.now }
+        // The seat was told of a deed for each receipt, and these join the ring, in order;
+        ensures seat { IfOk result (λ told. seat.new ≡ with_all seat.old told.items) }
+        // there is an answer for each message, and a deed is one that its own message asks for.
+        ensures deeds { IfOk result (λ told. AreToldOf seat.old.client messages.now told.items) }
+        ensures each { IfOk result (λ told. vec_len told ≡ length messages.now) }
+        // Else the seat is as before, but for `Receipt`, and for `Down` where answers were lost.
+        ensures err { IfErr result (λ fault. IsLeftBy (length messages.now) seat.old fault seat.new) }
+    {
+        let Ok(told) = Vec::with_capacity(self.alloc, messages.len()) else {
+            return Err(self.no_memory(rt));
+        };
+        let Ok(leads) = self.ask_all(rt, &mut seat.account, &seat.mailbox, messages) else {
+            return Err(self.no_memory(rt));
+        };
+        self.hear_all(rt, &seat.mailbox, &mut seat.account, messages, leads, told)
+    }
+
+    // Puts messages of the account into the queue. Says whether the session is to lead.
+    fn ask_all<R: Wait>(
+        &self,
+        rt: &R,
+        account: &mut Account<L>,
+        mailbox: &Arc<Mailbox<L>, Global>,
+        messages: &[Message],
+    ) -> Result<bool, AllocError>
+        requires some { 0 < length messages.now }
+        requires few { account.old.asked + length messages.now ≤ MOST_ASKED }
+        ensures ok { OnOk result (account.new ≡ account_of account.old.client account.old.deeds
+            (account.old.asked + length messages.now) account.old.ring) }
+        ensures err { OnErr result (account.new ≡ account.old) }
+    {
+        let addressed = address_all(self.alloc, account.client(), mailbox, messages)?;
+        mailbox.open(rt, messages.len())?;
+        self.queue.lock(rt).ask_all(account, addressed)
+    }
+
+    // Waits for the answers to these messages.
+    fn hear_all<R: Wait>(
+        &self,
+        rt: &R,
+        mailbox: &Mailbox<L>,
+        account: &mut Account<L>,
+        messages: &[Message],
+        leads: bool,
+        told: Vec<Option<Receipt>>,
+    ) -> Result<Vec<Option<Receipt>>, SharedFault>
+        requires asked { account.old.asked ≡ length messages.now }
+        requires none { told.items ≡ [] }
+        requires room { length messages.now ≤ vec_capacity told }
+        ensures asked { account.new.asked ≡ 0 }
+        ensures ok { IfOk result (λ told. account.new ≡ with_all (with_asked account.old 0) told.items) }
+        ensures deeds { IfOk result (λ told. AreToldOf account.old.client messages.now told.items) }
+        ensures each { IfOk result (λ told. vec_len told ≡ length messages.now) }
+        ensures err { IfErr result (λ fault.
+            IsLeftBy (length messages.now) (with_asked account.old 0) fault account.new) }
+    {
+        let mut heard = Heard::new(told);
+        let mut leads = leads;
+        let mut place: usize = 0;
+        for message in messages {
+            let answer = self.answer(rt, mailbox, place, leads);
+            leads = false;
+            heard.add(account, message, answer);
+            place += 1;
+        }
+        heard.end()
+    }
+}
+
+// A copy of each message, with the address of its place in the client's mailbox.
+fn address_all<L: Ledger>(
+    alloc: Global,
+    client: u32,
+    mailbox: &Arc<Mailbox<L>, Global>,
+    messages: &[Message],
+) -> Result<Vec<(Message, Address<L>)>, AllocError>
+    ensures { IfOk result (λ all. vec_len all ≡ length messages.now) }
+{
+    let mut all = Vec::with_capacity(alloc, messages.len())?;
+    for place in 0..messages.len() {
+        let message = messages[place].try_clone(alloc)?;
+        let address = address_at(client, mailbox, place)?;
+        all.push_reserved((message, address));
+    }
+    Ok(all)
+}

@@ -1,0 +1,90 @@
+//! A client goes, and the end.
+
+ghost use Rattle.std.specs.Prelude.{◌≡◌, ◌+◌, ◌≤◌, IfOk, IfSome, IsSome};
+ghost use Rattle.linda_shared.specs.Seat.{deeds_told};
+
+use super::Shared;
+use crate::seat::Seat;
+use linda_desk::{Held, Report};
+use linda_disk::Disk;
+use linda_mail::Outlet;
+use linda_receipt::SharedFault;
+use std::sync::Wait;
+use std::sync::ledger::Ledger;
+
+impl<D: Disk, L: Ledger> Shared<D, L> {
+    /// Tells the seat's outlet that no more is submitted.
+    pub fn hang_up<R: Wait>(&self, rt: &R, seat: &mut Seat<L>)
+        ensures { seat.new ≡ seat.old }
+    {
+        seat.mailbox.end(rt);
+    }
+
+    /// The client leaves: what it asked is given up, and its seat is parked for its next connection, whatever is
+    /// answered. What its leaving sends to others is given out.
+    ///
+    /// # Errors
+    ///
+    /// `Down`: the server is down.
+    pub fn leave<R: Wait>(
+        &self,
+        rt: &R,
+        seat: Seat<L>,
+        outlet: Outlet<L>,
+    ) -> Result<(), SharedFault> {
+        let client = seat.client();
+        let mut desk = self.desk.lock(rt);
+        let answer = desk.held.leave(self.alloc, seat.into_account());
+        let is_down = desk.held.is_down();
+        let mut office = self.office.lock(rt);
+        desk.take_posted(rt, self.alloc, &mut office);
+        drop(desk);
+        office.shut(rt, client);
+        office.deliver(rt, self.alloc);
+        if is_down {
+            office.end_all(rt);
+        }
+        drop(office);
+        drop(outlet);
+        answer
+    }
+
+    /// Parks the given seats for good and tells, once all seats are back, what they were told, where that is what was
+    /// stored.
+    ///
+    /// # Errors
+    ///
+    /// `Down`, then `SeatMissing` where a seat is out, then `Receipt` where what a client was told of that number
+    /// differs from what was stored. The given seats stay parked.
+    pub fn finish<R: Wait>(&self, rt: &R, seats: Vec<Seat<L>>) -> Result<Report, SharedFault>
+        // All that the given seats were told is counted.
+        ensures { IfOk result (λ r. deeds_told seats.items ≤ r.deeds) }
+    {
+        let mut guard = self.desk.lock(rt);
+        let told = park_all(&mut guard.held, seats);
+        let report = guard.held.finish(Vec::new(self.alloc))?;
+        match told {
+            Some(told) if told <= report.deeds => Ok(report),
+            _ => Err(SharedFault::SeatMissing),
+        }
+    }
+}
+
+// Parks the seats for good. Tells of how many deeds they were told in all, as far as that can be counted.
+fn park_all<D: Disk, L: Ledger>(held: &mut Held<D, L>, seats: Vec<Seat<L>>) -> Option<u64>
+    ensures { IfSome result (λ told. told ≡ deeds_told seats.items) }
+{
+    let mut told: Option<u64> = Some(0);
+    for seat in seats {
+        told = with_more(told, seat.deeds());
+        held.park_for_good(seat.into_account());
+    }
+    told
+}
+
+// The sum, as far as it can be counted.
+fn with_more(told: Option<u64>, more: u64) -> Option<u64>
+    ensures { IfSome result (λ sum. IfSome told (λ one. sum ≡ one + more) × IsSome told) }
+{
+    told?.checked_add(more)
+}

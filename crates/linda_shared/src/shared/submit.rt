@@ -1,0 +1,100 @@
+//! One message of a session.
+
+ghost use Rattle.std.specs.Prelude.{◌≡◌, ◌⊎◌, ◌+◌, ◌<◌, IfOk, IfErr, OnOk, OnErr, IfSome};
+ghost use Rattle.linda_receipt.specs.Account.{account_of};
+ghost use Rattle.linda_receipt.specs.declared.limits.TheConstants.{MOST_ASKED};
+ghost use Rattle.linda_receipt.specs.Ring.{IsNext};
+ghost use Rattle.linda_shared.specs.Seat.{with_told, IsLeft, IsToldOf};
+
+use super::Shared;
+use crate::hearing::hear;
+use crate::seat::{Seat, address_at};
+use linda_disk::Disk;
+use linda_mail::Mailbox;
+use linda_receipt::{Account, Receipt, SharedFault};
+use linda_wire::{Message, Refusal, Reply};
+use std::alloc::{AllocError, Global};
+use std::sync::ledger::Ledger;
+use std::sync::{Arc, Wait};
+
+impl<D: Disk, L: Ledger> Shared<D, L> {
+    /// Submits one message, which is served with all that wait beside it. Gives the receipt of its deed, if it made
+    /// one. Its replies come out of the outlet. A Hello is refused there, as its client has a seat.
+    ///
+    /// # Errors
+    ///
+    /// `Down`: the server is down; `Receipt`: the seat was told of a deed that the message does not ask for; `Memory`:
+    /// nothing changed.
+    pub fn submit<R: Wait>(
+        &self,
+        rt: &R,
+        seat: &mut Seat<L>,
+        message: &Message,
+    ) -> Result<Option<Receipt>, SharedFault>
+        // There is a receipt exactly where the seat was told of one deed more, and it joins the ring behind the others;
+        ensures seat { IfOk result (λ r. seat.new ≡ with_told seat.old r) }
+        ensures next { IfOk result (λ o. IfSome o (IsNext seat.old.client seat.old.ring)) }
+        // its deed is one that the message asks for.
+        ensures deed { IfOk result (IsToldOf seat.old.client message.now) }
+        // Else the seat is as before, but for `Receipt`, and for `Down` where the answer was lost.
+        ensures err { IfErr result (λ fault. IsLeft seat.old fault seat.new) }
+    {
+        if let Message::Hello { .. } = message {
+            self.refuse_hello(rt, seat)?;
+            return Ok(None);
+        }
+        let Ok(leads) = self.ask(rt, &mut seat.account, &seat.mailbox, message) else {
+            return Err(self.no_memory(rt));
+        };
+        let answer = self.answer(rt, &seat.mailbox, 0, leads);
+        hear(&mut seat.account, message, answer)
+    }
+
+    // Puts the refusal of a Hello into the seat's mailbox.
+    fn refuse_hello<R: Wait>(&self, rt: &R, seat: &Seat<L>) -> Result<(), SharedFault>
+        ensures { IfErr result (λ fault. (fault ≡ SharedFault.Down) ⊎ (fault ≡ SharedFault.Memory)) }
+    {
+        if self.is_down(rt) {
+            return Err(SharedFault::Down);
+        }
+        let refusal = Refusal::Busy;
+        let reply = Reply::Refused {
+            code: refusal.code(),
+            detail: refusal.detail(),
+        };
+        match seat.mailbox.post_one(rt, reply) {
+            Ok(()) => Ok(()),
+            Err(_) => Err(SharedFault::Memory),
+        }
+    }
+
+    // Puts a message of the account into the queue. Says whether the session is to lead.
+    fn ask<R: Wait>(
+        &self,
+        rt: &R,
+        account: &mut Account<L>,
+        mailbox: &Arc<Mailbox<L>, Global>,
+        message: &Message,
+    ) -> Result<bool, AllocError>
+        requires { account.old.asked < MOST_ASKED }
+        ensures ok { OnOk result (account.new ≡ account_of account.old.client account.old.deeds
+            (account.old.asked + 1) account.old.ring) }
+        ensures err { OnErr result (account.new ≡ account.old) }
+    {
+        let message = message.try_clone(self.alloc)?;
+        let address = address_at(account.client(), mailbox, 0)?;
+        mailbox.open(rt, 1)?;
+        self.queue.lock(rt).ask(account, message, address)
+    }
+
+    // Why a call that found no memory did nothing.
+    pub(super) fn no_memory<R: Wait>(&self, rt: &R) -> SharedFault
+        ensures { (result ≡ SharedFault.Down) ⊎ (result ≡ SharedFault.Memory) }
+    {
+        if self.is_down(rt) {
+            SharedFault::Down
+        } else {
+            SharedFault::Memory
+        }
+    }
+}
