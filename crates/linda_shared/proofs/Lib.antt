@@ -1,1 +1,4 @@
 mod WorkingLaws
+mod SeatLaws
+mod HeardLaws
+mod GreetLaws

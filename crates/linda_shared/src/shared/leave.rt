@@ -1,6 +1,6 @@
 //! A client goes, and the end.
 
-ghost use Rattle.std.specs.Prelude.{◌≡◌, ◌+◌, ◌≤◌, IfOk};
+ghost use Rattle.std.specs.Prelude.{◌≡◌, ◌+◌, ◌≤◌, IfOk, IfSome, IsSome};
 ghost use Rattle.linda_shared.specs.Seat.{deeds_told};
 
 use super::Shared;

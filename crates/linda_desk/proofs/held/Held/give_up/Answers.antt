@@ -1,4 +1,4 @@
-use Rattle.std.proofs.Common.{sym, subst, absurd, true≢false, ◌∙◌}
+use Rattle.std.proofs.Common.{sym, subst, true≢false, ◌∙◌}
 use Rattle.std.proofs.Math.Logic.{∥∥₁_map}
 use Rattle.linda_desk.specs.Order.{known}
 use Rattle.linda_desk.proofs.OrderLaws.{stays_so}

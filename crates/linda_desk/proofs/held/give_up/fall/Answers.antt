@@ -1,5 +1,4 @@
 use Rattle.std.proofs.Common.{ap}
-use Rattle.linda_server.specs.declared.durable.Durable.{Durable}
 use Rattle.linda_desk.proofs.FaultLaws.{still_known}
 use Rattle.linda_desk.proofs.held.give_up.fall.Goals as goal
 
@@ -8,4 +7,4 @@ returns-clause-known g c =
     let old = c.args.server.now in
     let new = c.give_up.new.self in
     still_known old.before.value new.before.value old.store new.store old.down new.down c.give_up.ensures.down
-    (λ down. ap (λ (s : Durable g.D). s.before.value) (c.give_up.ensures.was_down down)) (λ up. (c.give_up.ensures.up up).0)
+    (λ down. ap (λ s. s.before.value) (c.give_up.ensures.was_down down)) (λ up. (c.give_up.ensures.up up).0)
