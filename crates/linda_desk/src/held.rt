@@ -3,6 +3,7 @@
 mod alone;
 mod base;
 mod drain;
+mod end;
 mod finish;
 mod give_up;
 mod greet;

@@ -1,3 +1,4 @@
+mod WorkingLaws
 mod SeatLaws
 mod HeardLaws
 mod OkLaws

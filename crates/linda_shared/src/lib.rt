@@ -7,17 +7,23 @@
 
 mod crossing;
 mod desk;
+mod gate;
 mod greeted;
 mod heard;
 mod hearing;
 mod seat;
 mod shared;
 mod tray;
+mod worker;
+mod workers;
 
 pub use crossing::{outlet_crosses, seat_crosses, shared_may_be_lent};
+pub use gate::Gate;
 pub use greeted::Greeted;
 pub use linda_desk::Report;
 pub use linda_mail::Outlet;
 pub use linda_receipt::{Receipt, SharedFault};
 pub use seat::Seat;
 pub use shared::Shared;
+pub use worker::{MOST_TURNS, Next, Worker};
+pub use workers::{Worked, run_workers};

@@ -1,6 +1,7 @@
 //! A server that threads share.
 
 mod batch;
+mod end;
 mod greet;
 mod lead;
 mod leave;

@@ -1,0 +1,117 @@
+//! What a session does, step by step.
+
+ghost use Rattle.linda_shared.specs.Working.{HasWorked};
+
+use crate::gate::Gate;
+use crate::seat::Seat;
+use crate::shared::Shared;
+use linda_disk::Disk;
+use linda_mail::Outlet;
+use linda_receipt::SharedFault;
+use linda_wire::{Message, Reply};
+use std::alloc::Global;
+use std::sync::Wait;
+use std::sync::ledger::Ledger;
+use std::thread;
+use std::time::{Clock, Duration};
+
+/// How often a closed gate is asked, with a millisecond in between.
+pub const MOST_TURNS: u32 = 10_000;
+
+/// What a worker does next.
+#[derive(Debug, Drop)]
+pub enum Next {
+    /// It sends this, and goes on with the replies that are there then.
+    Send(Message),
+    /// It goes on once there is a reply.
+    Wait,
+    /// It ends.
+    Done,
+}
+
+/// What a session does, step by step.
+pub trait Worker: Drop {
+    /// What it does next, given the replies that came since its last step, in order.
+    fn next<R: Wait + Clock>(&mut self, rt: &R, replies: &[Reply]) -> Next;
+}
+
+/// Lets the worker do its steps until it ends. The seat stays its client's, and loses nothing that it was told.
+///
+/// # Errors
+///
+/// What `submit` refuses; `Stuck` where the gate stays closed; and where the worker waits and no reply comes any more
+/// `Down`, or `Memory` if the server is up.
+pub(crate) fn work<D: Disk, L: Ledger, W: Worker, G: Gate, R: Wait + Clock>(
+    rt: &R,
+    alloc: Global,
+    shared: &Shared<D, L>,
+    gate: &G,
+    seat: &mut Seat<L>,
+    outlet: &mut Outlet<L>,
+    worker: &mut W,
+) -> Result<(), SharedFault>
+    ensures { HasWorked seat.old seat.new }
+{
+    let mut call: u64 = 0;
+    let mut replies = Vec::new(alloc);
+    for _ in rt.forever() {
+        match worker.next(rt, &replies) {
+            Next::Done => return Ok(()),
+            Next::Wait => {
+                replies = shared.drain_wait(rt, outlet);
+                if replies.is_empty() {
+                    return Err(why_silent(rt, shared));
+                }
+            }
+            Next::Send(message) => {
+                call = call.saturating_add(1);
+                send(rt, shared, gate, seat, &message, call)?;
+                replies = shared.drain(rt, outlet);
+            }
+        }
+    }
+    unreachable!()
+}
+
+// Sends the message once the gate lets it go.
+fn send<D: Disk, L: Ledger, G: Gate, R: Wait + Clock>(
+    rt: &R,
+    shared: &Shared<D, L>,
+    gate: &G,
+    seat: &mut Seat<L>,
+    message: &Message,
+    call: u64,
+) -> Result<(), SharedFault>
+    ensures { HasWorked seat.old seat.new }
+{
+    let client = seat.client();
+    if !is_open(rt, gate, client, call) {
+        return Err(SharedFault::Stuck(client));
+    }
+    let answer = shared.submit(rt, seat, message);
+    gate.answered(rt, client, call);
+    match answer {
+        Ok(_) => Ok(()),
+        Err(fault) => Err(fault),
+    }
+}
+
+// Asks the gate until it lets the message go, or was asked too often.
+fn is_open<G: Gate, R: Wait + Clock>(rt: &R, gate: &G, client: u32, call: u64) -> bool {
+    for _ in 0..MOST_TURNS {
+        if gate.may(rt, client, call) {
+            return true;
+        }
+        thread::sleep(rt, Duration::from_millis(1));
+    }
+    false
+}
+
+// Why no reply comes any more.
+fn why_silent<D: Disk, L: Ledger, R: Wait>(rt: &R, shared: &Shared<D, L>) -> SharedFault {
+    if shared.is_down(rt) {
+        SharedFault::Down
+    } else {
+        SharedFault::Memory
+    }
+}

@@ -1,0 +1,138 @@
+//! Many sessions that come and go.
+
+use super::stand::{ROOMY, Scene, kept, play};
+use super::words::{ask, hello, put};
+use linda_disk::MemDisk;
+use linda_shared::{Greeted, Outlet, Seat, Shared};
+use linda_tuple::{Atom, Pattern};
+use linda_wire::{Message, Reply};
+use std::alloc::{AllocError, Global};
+use std::process::Abort;
+use std::sync::Wait;
+use std::sync::ledger::Ledger;
+use std::test::Fail;
+use std::thread;
+use std::thread::Threads;
+use std::time::Clock;
+
+const CLIENTS: usize = 64;
+
+const VISITS: u64 = 16;
+
+/// Each client comes as often, puts a tuple of its own, takes it, and goes.
+struct Visitors;
+
+// Comes, puts and takes, and goes; whether all of it went as it should. The client was there so often before.
+fn visits<L: Ledger, R: Wait>(
+    rt: &R,
+    alloc: Global,
+    shared: &Shared<MemDisk, L>,
+    client: u32,
+    before: u64,
+) -> Result<bool, AllocError> {
+    let greeted = shared.greet(rt, &hello(client, before == 0));
+    let Ok(Greeted::Welcome(seat, outlet, last)) = greeted else {
+        return Ok(false);
+    };
+    let mut seat = seat;
+    let mut outlet = outlet;
+    let is_well = last == before.saturating_mul(2)
+        && trades(
+            rt,
+            alloc,
+            shared,
+            &mut seat,
+            &mut outlet,
+            before.saturating_add(1),
+            last,
+        )?;
+    Ok(shared.leave(rt, seat, outlet).is_ok() && is_well)
+}
+
+// Puts a tuple of the client's own, and takes it.
+fn trades<L: Ledger, R: Wait>(
+    rt: &R,
+    alloc: Global,
+    shared: &Shared<MemDisk, L>,
+    seat: &mut Seat<L>,
+    outlet: &mut Outlet<L>,
+    ticket: u64,
+    last: u64,
+) -> Result<bool, AllocError> {
+    let own = i64::from(seat.client());
+    let message = put(alloc, last.saturating_add(1), "own", own)?;
+    let did_put = did(rt, shared, seat, &message);
+    let message = ask(alloc, ticket, "own", Pattern::Value(Atom::Int(own)))?;
+    let did_ask = shared.submit(rt, seat, &message).is_ok();
+    let replies = shared.drain(rt, outlet);
+    let [Reply::Stored { id, .. }, Reply::Offer { id: offered, .. }] = replies.as_slice() else {
+        return Ok(false);
+    };
+    let message = Message::Accept {
+        n: last.saturating_add(2),
+        ticket,
+        id: *offered,
+    };
+    Ok(did_put && did_ask && id == offered && did(rt, shared, seat, &message))
+}
+
+// Whether a message makes a deed.
+fn did<L: Ledger, R: Wait>(
+    rt: &R,
+    shared: &Shared<MemDisk, L>,
+    seat: &mut Seat<L>,
+    message: &Message,
+) -> bool {
+    match shared.submit(rt, seat, message) {
+        Ok(receipt) => receipt.is_some(),
+        Err(_) => false,
+    }
+}
+
+// All visits of a client: how many went as they should.
+fn visits_of<L: Ledger, R: Wait>(
+    rt: &R,
+    alloc: Global,
+    shared: &Shared<MemDisk, L>,
+    client: u32,
+) -> u64 {
+    let mut well: u64 = 0;
+    for before in 0..VISITS {
+        if let Ok(true) = visits(rt, alloc, shared, client, before) {
+            well = well.saturating_add(1);
+        }
+    }
+    well
+}
+
+impl Scene for Visitors {
+    fn play<L: Ledger + Send + Sync, R: Threads + Wait + Clock + Abort + Sync>(
+        &self,
+        rt: &R,
+        alloc: Global,
+        shared: Shared<MemDisk, L>,
+    ) -> Result<(), Fail> {
+        let well = thread::map_indices(
+            rt,
+            alloc,
+            CLIENTS,
+            &|i| { visits_of(rt, alloc, &shared, i as u32) },
+        )?;
+        for one in &well {
+            assert_eq!(rt; *one, VISITS);
+        }
+        assert_eq!(rt; well.len(), CLIENTS);
+        let report = shared.finish(rt, Vec::new(alloc));
+        assert!(rt; report.is_ok());
+        if let Ok(report) = report {
+            assert_eq!(rt; (report.deeds, report.ids), (2_048, 1_024));
+        }
+        assert_eq!(rt; kept(&shared.into_server()), (1_025, 0, CLIENTS));
+        Ok(())
+    }
+}
+
+#[test]
+fn a_crowd_comes_and_goes_a_thousand_times(rt: HostRuntime) -> Result<(), Fail> {
+    play(&rt, rt.alloc(), ROOMY, &Visitors)
+}

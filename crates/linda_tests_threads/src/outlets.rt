@@ -1,0 +1,185 @@
+//! Where replies come out, beside the threads that lead to them.
+
+use super::stand::{ROOMY, Scene, play};
+use super::words::{ask, hello, put};
+use linda_disk::MemDisk;
+use linda_shared::{Greeted, Outlet, Seat, Shared};
+use linda_tuple::Pattern;
+use linda_wire::{Message, Reply};
+use std::alloc::{AllocError, Global};
+use std::process::Abort;
+use std::sync::Wait;
+use std::sync::ledger::Ledger;
+use std::test::Fail;
+use std::thread;
+use std::thread::Threads;
+use std::time::{Clock, Duration};
+
+// A seat and an outlet for a client that was not there before.
+fn seated<L: Ledger, R: Wait>(
+    rt: &R,
+    shared: &Shared<MemDisk, L>,
+    client: u32,
+) -> Result<(Seat<L>, Outlet<L>), AllocError> {
+    match shared.greet(rt, &hello(client, true)) {
+        Ok(Greeted::Welcome(seat, outlet, _)) => Ok((seat, outlet)),
+        _ => Err(AllocError),
+    }
+}
+
+// Submits what has to be done.
+fn done<L: Ledger, R: Wait + Abort>(
+    rt: &R,
+    shared: &Shared<MemDisk, L>,
+    seat: &mut Seat<L>,
+    message: &Message,
+) {
+    let told = shared.submit(rt, seat, message);
+    assert!(rt; told.is_ok());
+}
+
+/// One thread of a session reads its replies, and another submits and hangs up.
+struct ReadsBeside;
+
+// The ids under which something was stored, until no reply comes any more, as a sum in which the last stands first; none
+// where another reply came.
+fn ids_read<L: Ledger, R: Wait>(
+    rt: &R,
+    shared: &Shared<MemDisk, L>,
+    outlet: &mut Outlet<L>,
+) -> Option<u64> {
+    let mut ids: u64 = 0;
+    for _ in rt.forever() {
+        let replies = shared.drain_wait(rt, outlet);
+        if replies.is_empty() {
+            return Some(ids);
+        }
+        for reply in &replies {
+            match reply {
+                Reply::Stored { id, .. } => ids = ids.saturating_mul(10).saturating_add(*id),
+                _ => return None,
+            }
+        }
+    }
+    unreachable!()
+}
+
+// Puts three tuples, with some time in between, and hangs up.
+fn puts<L: Ledger, R: Wait + Clock + Abort>(
+    rt: &R,
+    alloc: Global,
+    shared: &Shared<MemDisk, L>,
+    seat: &mut Seat<L>,
+) -> Result<(), AllocError> {
+    for n in 1..4u64 {
+        thread::sleep(rt, Duration::from_millis(5));
+        let message = put(alloc, n, "a", 3)?;
+        done(rt, shared, seat, &message);
+    }
+    shared.hang_up(rt, seat);
+    Ok(())
+}
+
+impl Scene for ReadsBeside {
+    fn play<L: Ledger + Send + Sync, R: Threads + Wait + Clock + Abort + Sync>(
+        &self,
+        rt: &R,
+        alloc: Global,
+        shared: Shared<MemDisk, L>,
+    ) -> Result<(), Fail> {
+        let (mut seat, mut outlet) = seated(rt, &shared, 7)?;
+        let (read, put) = thread::join(
+            rt,
+            || ids_read(rt, &shared, &mut outlet),
+            || puts(rt, alloc, &shared, &mut seat),
+        );
+        put?;
+        assert_eq!(rt; read, Some(123));
+        assert!(rt; shared.leave(rt, seat, outlet).is_ok());
+        Ok(())
+    }
+}
+
+#[test]
+fn a_thread_reads_the_replies_to_what_another_submits(rt: HostRuntime) -> Result<(), Fail> {
+    play(&rt, rt.alloc(), ROOMY, &ReadsBeside)
+}
+
+/// One session leaves with what others wait for.
+struct LeavesOffers;
+
+/// What a thread does.
+#[derive(Drop)]
+enum Part<L: Ledger> {
+    /// The client leaves.
+    Leaves(Seat<L>, Outlet<L>),
+    /// It waits for an offer.
+    Waits(Outlet<L>),
+}
+
+// Plays a part: 0 for whoever leaves, the id of the one offer for whoever waits, and none where something else came.
+fn played<L: Ledger, R: Wait + Clock>(
+    rt: &R,
+    shared: &Shared<MemDisk, L>,
+    part: Part<L>,
+) -> Option<u64> {
+    match part {
+        Part::Leaves(seat, outlet) => {
+            thread::sleep(rt, Duration::from_millis(20));
+            match shared.leave(rt, seat, outlet) {
+                Ok(()) => Some(0),
+                Err(_) => None,
+            }
+        }
+        Part::Waits(outlet) => {
+            let mut outlet = outlet;
+            let replies = shared.drain_wait(rt, &mut outlet);
+            match replies.as_slice() {
+                [Reply::Offer { ticket: 1, id, .. }] => Some(*id),
+                _ => None,
+            }
+        }
+    }
+}
+
+impl Scene for LeavesOffers {
+    fn play<L: Ledger + Send + Sync, R: Threads + Wait + Clock + Abort + Sync>(
+        &self,
+        rt: &R,
+        alloc: Global,
+        shared: Shared<MemDisk, L>,
+    ) -> Result<(), Fail> {
+        let (mut seat, mut outlet) = seated(rt, &shared, 7)?;
+        for n in 1..5u64 {
+            done(rt, &shared, &mut seat, &put(alloc, n, "a", 3)?);
+            done(
+                rt,
+                &shared,
+                &mut seat,
+                &ask(alloc, n, "a", Pattern::IntFormal)?,
+            );
+        }
+        assert_eq!(rt; shared.drain(rt, &mut outlet).len(), 8);
+        let mut parts = Vec::new(alloc);
+        parts.push(Part::Leaves(seat, outlet))?;
+        for client in 8..12u32 {
+            let (mut seat, outlet) = seated(rt, &shared, client)?;
+            done(
+                rt,
+                &shared,
+                &mut seat,
+                &ask(alloc, 1, "a", Pattern::IntFormal)?,
+            );
+            parts.push(Part::Waits(outlet))?;
+        }
+        let got = thread::map_vec(rt, parts, &|part| played(rt, &shared, part))?;
+        let all = [Some(0), Some(1), Some(2), Some(3), Some(4)];
+        assert_eq!(rt; got.as_slice(), &all[..]);
+        Ok(())
+    }
+}
+
+#[test]
+fn whoever_waits_is_offered_what_is_left(rt: HostRuntime) -> Result<(), Fail> {
+    play(&rt, rt.alloc(), ROOMY, &LeavesOffers)
+}

@@ -1,0 +1,113 @@
+//! A server that a test's sessions share.
+
+ghost use Rattle.std.specs.Prelude.{◌≡◌};
+ghost use Rattle.linda_receipt.specs.declared.limits.TheConstants.{PARTS};
+
+use linda_bag::Bag;
+use linda_disk::{MemDisk, Torn};
+use linda_receipt::PARTS;
+use linda_server::Durable;
+use linda_shared::Shared;
+use std::alloc::{AllocError, Global};
+use std::marker::Brand;
+use std::process::Abort;
+use std::sync::Wait;
+use std::sync::ledger::{Blank, Ledger};
+use std::test::Fail;
+use std::thread::Threads;
+use std::time::Clock;
+
+/// How many device calls the making of a server takes on its left disk.
+const CALLS_TO_CREATE: u64 = 6;
+
+/// What a server keeps: its next id, how many tuples there are, and how many clients it knows.
+pub(super) type Kept = (u64, usize, usize);
+
+/// The server on which a scene is played: its limit, and the device call behind its making, from 0, inside which its left
+/// disk stops, if it does.
+#[derive(Clone, Copy)]
+pub(super) struct Stand {
+    pub(super) limit: usize,
+    pub(super) stops_in: Option<u64>,
+}
+
+/// One that has room for all, and goes on.
+pub(super) const ROOMY: Stand = Stand {
+    limit: 1_048_576,
+    stops_in: None,
+};
+
+/// What is played over a shared server.
+pub(super) trait Scene {
+    /// Plays it. The server is new, and nobody has a seat.
+    fn play<L: Ledger + Send + Sync, R: Threads + Wait + Clock + Abort + Sync>(
+        &self,
+        rt: &R,
+        alloc: Global,
+        shared: Shared<MemDisk, L>,
+    ) -> Result<(), Fail>;
+}
+
+/// Plays the scene over a new server.
+pub(super) fn play<S: Scene, R: Threads + Wait + Clock + Abort + Sync>(
+    rt: &R,
+    alloc: Global,
+    stand: Stand,
+    scene: &S,
+) -> Result<(), Fail> {
+    play_under::<Brand, S, R>(rt, alloc, Blank::new(PARTS), stand, scene)
+}
+
+// Plays it with this ledger.
+fn play_under<L: Ledger + Send + Sync, S: Scene, R: Threads + Wait + Clock + Abort + Sync>(
+    rt: &R,
+    alloc: Global,
+    blank: Blank,
+    stand: Stand,
+    scene: &S,
+) -> Result<(), Fail>
+    requires { (blank.name ≡ L.name) × (blank.parts ≡ L.parts) × (L.parts ≡ PARTS) }
+{
+    let Some(server) = made(alloc, stand) else {
+        return Err(AllocError.into());
+    };
+    let shared: Shared<MemDisk, L> = Shared::new(alloc, server, blank)?;
+    scene.play(rt, alloc, shared)
+}
+
+// A new server. None where there is no memory for it.
+fn made(alloc: Global, stand: Stand) -> Option<Durable<MemDisk>>
+    ensures { IfSome result (λ s. s.down ≡ false) }
+{
+    let mut left = MemDisk::new(alloc);
+    if let Some(calls) = stand.stops_in {
+        left.fuse(calls.saturating_add(CALLS_TO_CREATE));
+    }
+    match Durable::create(alloc, left, MemDisk::new(alloc), stand.limit) {
+        Ok(server) => Some(server),
+        Err(_) => None,
+    }
+}
+
+/// What the server keeps.
+pub(super) fn kept(server: &Durable<MemDisk>) -> Kept {
+    let state = server.state();
+    (state.next, state.bag.len(), state.book.len())
+}
+
+/// What the server keeps that stands on the disks of this one after a crash that leaves so much.
+pub(super) fn kept_on_disks(
+    rt: &impl Abort,
+    alloc: Global,
+    server: Durable<MemDisk>,
+    limit: usize,
+    torn: Torn,
+) -> Result<Kept, Fail> {
+    let (mut left, right) = server.into_disks();
+    let crashed = left.crash(torn);
+    assert!(rt; crashed.is_ok());
+    match Durable::open(alloc, left, right, limit) {
+        Ok(server) => Ok(kept(&server)),
+        Err((fault, _, _)) => { panic!(rt; "{fault}") }
+    }
+}

@@ -1,0 +1,129 @@
+//! Steps of sessions in one thread, with what each is to tell.
+
+use super::script::Sessions;
+use super::stand::{Kept, ROOMY, Scene, kept, kept_on_disks};
+use linda_disk::{MemDisk, Torn};
+use linda_script::WordsFault;
+use linda_shared::Shared;
+use std::alloc::{AllocError, Global};
+use std::process::Abort;
+use std::sync::Wait;
+use std::sync::ledger::Ledger;
+use std::test::Fail;
+use std::thread::Threads;
+use std::time::Clock;
+
+/// What is done, all that is told of it, and what the server keeps behind it.
+pub(super) type Step = (&'static str, &'static str, Kept);
+
+/// All is told as the steps say.
+#[derive(Clone, Copy)]
+pub(super) struct Strictly {
+    pub(super) steps: &'static [Step],
+}
+
+/// All is told as the steps say, until a growth of memory is refused. Then a call says that there was no memory, and done
+/// again it tells what it does else; or the server is down, and what it keeps on its disks is what it kept before the
+/// step, or behind it.
+#[derive(Clone, Copy)]
+pub(super) struct AsFarAsMemoryGoes {
+    pub(super) steps: &'static [Step],
+}
+
+impl Scene for Strictly {
+    fn play<L: Ledger + Send + Sync, R: Threads + Wait + Clock + Abort + Sync>(
+        &self,
+        rt: &R,
+        alloc: Global,
+        shared: Shared<MemDisk, L>,
+    ) -> Result<(), Fail> {
+        let mut sessions = Sessions::new(alloc, shared);
+        let last = done_as_said(rt, alloc, &mut sessions, self.steps)?;
+        assert_eq!(rt; kept(&sessions.into_server()), last);
+        Ok(())
+    }
+}
+
+/// Does the steps; all is told as they say. Gives what the server is to keep behind them.
+pub(super) fn done_as_said<L: Ledger, R: Wait + Abort>(
+    rt: &R,
+    alloc: Global,
+    sessions: &mut Sessions<L>,
+    steps: &[Step],
+) -> Result<Kept, AllocError> {
+    let mut last = (1, 0, 0);
+    for step in steps {
+        let (said, told, after) = *step;
+        let came = done(rt, alloc, sessions, said)?;
+        assert_eq!(rt; came.as_str(), told, "{said}");
+        last = after;
+    }
+    Ok(last)
+}
+
+impl Scene for AsFarAsMemoryGoes {
+    fn play<L: Ledger + Send + Sync, R: Threads + Wait + Clock + Abort + Sync>(
+        &self,
+        rt: &R,
+        alloc: Global,
+        shared: Shared<MemDisk, L>,
+    ) -> Result<(), Fail> {
+        let mut sessions = Sessions::new(alloc, shared);
+        let mut before = (1, 0, 0);
+        for step in self.steps {
+            let (_, _, after) = *step;
+            if !is_borne(rt, alloc, &mut sessions, *step)? {
+                let now = kept_on_disks(
+                    rt,
+                    alloc,
+                    sessions.into_server(),
+                    ROOMY.limit,
+                    Torn::Kept,
+                )?;
+                assert!(rt; now == before || now == after, "{now:?}");
+                return Ok(());
+            }
+            before = after;
+        }
+        assert_eq!(rt; kept(&sessions.into_server()), before);
+        Ok(())
+    }
+}
+
+// Does a step, once more where there was no memory for it. False where the server is down.
+fn is_borne<L: Ledger, R: Wait + Abort>(
+    rt: &R,
+    alloc: Global,
+    sessions: &mut Sessions<L>,
+    step: Step,
+) -> Result<bool, AllocError> {
+    let (said, told, _) = step;
+    let came = done(rt, alloc, sessions, said)?;
+    if came.as_str() == told {
+        return Ok(true);
+    }
+    if came.as_str() == "> memory\n" {
+        let came = done(rt, alloc, sessions, said)?;
+        assert_eq!(rt; came.as_str(), told, "{said}");
+        return Ok(true);
+    }
+    assert_eq!(rt; came.as_str(), "> down\n", "{said}");
+    let later = done(rt, alloc, sessions, "snapshot")?;
+    assert_eq!(rt; later.as_str(), "> down\n", "{said}");
+    Ok(false)
+}
+
+// Does what is said, and gives what is told of it.
+fn done<L: Ledger, R: Wait + Abort>(
+    rt: &R,
+    alloc: Global,
+    sessions: &mut Sessions<L>,
+    said: &str,
+) -> Result<String, AllocError> {
+    let mut came = String::new(alloc);
+    match sessions.play(rt, alloc, said, &mut came) {
+        Ok(()) => Ok(came),
+        Err(WordsFault::Memory) => Err(AllocError),
+        Err(WordsFault::Unknown) => panic!(rt; "{said}"),
+    }
+}

@@ -1,0 +1,55 @@
+//! Messages about tuples of a word and a number.
+
+use linda_tuple::{Atom, Pattern, Template, Text, Tuple};
+use linda_wire::{Message, VERSION};
+use std::alloc::{AllocError, Global};
+
+fn text(alloc: Global, word: &str) -> Result<Atom, AllocError> {
+    Ok(Atom::Text(Text::new(String::from_str(alloc, word)?)))
+}
+
+/// The greeting of a client, which knows of none before where it is fresh.
+pub(super) fn hello(client: u32, fresh: bool) -> Message {
+    Message::Hello {
+        version: VERSION,
+        client,
+        fresh,
+    }
+}
+
+/// Puts (word, number).
+pub(super) fn put(alloc: Global, n: u64, word: &str, number: i64) -> Result<Message, AllocError> {
+    let mut fields = Vec::new(alloc);
+    fields.push(Atom::Int(number))?;
+    match Tuple::new(text(alloc, word)?, fields) {
+        Ok(tuple) => Ok(Message::Out { n, tuple }),
+        Err(_) => Err(AllocError),
+    }
+}
+
+/// Asks to take what matches (word, pattern).
+pub(super) fn ask(
+    alloc: Global,
+    ticket: u64,
+    word: &str,
+    pattern: Pattern,
+) -> Result<Message, AllocError> {
+    let mut fields = Vec::new(alloc);
+    fields.push(pattern)?;
+    match Template::new(text(alloc, word)?, fields) {
+        Ok(template) => Ok(Message::Ask {
+            ticket,
+            remove: true,
+            template,
+        }),
+        Err(_) => Err(AllocError),
+    }
+}
+
+/// The number of a tuple of a word and a number.
+pub(super) fn number_in(tuple: &Tuple) -> Option<i64> {
+    match tuple.fields() {
+        [Atom::Int(number)] => Some(*number),
+        _ => None,
+    }
+}
