@@ -2,3 +2,4 @@ pub mod Posted
 pub mod Order
 pub mod Covered
 pub mod Greeting
+pub mod Pace

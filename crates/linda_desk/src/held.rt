@@ -23,6 +23,7 @@ ghost use Rattle.linda_receipt.specs.Till.{till_of};
 ghost use Rattle.linda_receipt.specs.declared.limits.TheConstants.{PARTS};
 ghost use Rattle.std.specs.FinMap as fin;
 
+use crate::pace::Pace;
 pub use finish::Report;
 use linda_bag::IndexBag;
 use linda_disk::Disk;
@@ -52,6 +53,7 @@ pub struct Held<D: Disk, L: Ledger> {
         (known server.before.value server.store server.down) ∥₁ },
     // For each client that has an outbox the replies that wait there, in order.
     boxes: Outboxes,
+    pace: Pace,
     ghost counted: { till.total ≡ count },
     ghost covered: { ∥ BoxesCovered (known server.before.value server.store server.down) (waits_for boxes) ∥₁ },
 }
@@ -76,6 +78,7 @@ impl<D: Disk, L: Ledger> Held<D, L> {
             count: 0,
             till: Till::new(alloc, blank),
             boxes: Outboxes::new(alloc),
+            pace: Pace::new(0),
         }
     }
 

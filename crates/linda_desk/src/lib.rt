@@ -8,5 +8,6 @@
 
 mod crossing;
 mod held;
+mod pace;
 
 pub use held::{Held, Report};

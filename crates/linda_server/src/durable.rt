@@ -99,6 +99,27 @@ impl<D: Disk> Durable<D> {
         self.disks.records() >= SNAPSHOT_RECORDS
     }
 
+    /// How many records the bank in use has: those since the last snapshot.
+    pub fn records(&self) -> usize
+        ensures { result ≡ number_of (λ b. b.records) self.now.disks }
+    {
+        self.disks.records()
+    }
+
+    /// How many bytes of the bank in use are taken.
+    pub fn used(&self) -> usize
+        ensures { result ≡ number_of (λ b. b.end) self.now.disks }
+    {
+        self.disks.end()
+    }
+
+    /// The most bytes that a bank may take.
+    pub fn limit(&self) -> usize
+        ensures { result ≡ self.now.limit }
+    {
+        self.limit
+    }
+
     /// The left disk and the right one.
     pub fn into_disks(self) -> (D, D)
         ensures { Some result ≡ disks_of (λ b. b.disk) self.disks }

@@ -9,10 +9,12 @@ ghost use Rattle.linda_server.specs.Server.{both_of, BothHonest, StandNow};
 ghost use Rattle.linda_desk.specs.Order.{known, IsReplayed, CountsDeeds, StandsBehind};
 ghost use Rattle.linda_state.specs.State.{State};
 ghost use Rattle.linda_outbox.specs.Waiting.{waits_for};
+ghost use Rattle.linda_desk.specs.Pace.{is_due};
 ghost use Rattle.linda_state.specs.Numbers.{kept_sum};
 ghost use Rattle.linda_desk.specs.Covered.{BoxesCovered};
 
 use super::Held;
+use crate::pace::Pace;
 use linda_disk::Disk;
 use linda_moment::Moment;
 use linda_receipt::SharedFault;
@@ -54,6 +56,19 @@ impl<D: Disk, L: Ledger> Held<D, L> {
         self.server.needs_snapshot()
     }
 
+    /// Whether a snapshot pays for itself: it is due, and the records since the last one have at least as many bytes
+    /// as that one left in the bank, or half of the limit is taken; after one that was refused, once there are as many
+    /// records more as make one due. A server that was opened counts from an empty bank on.
+    pub fn pays(&self) -> bool
+        ensures is { result ≡ is_due self.now.pace.base self.now.pace.not_before
+            (number_of (λ b. b.records) self.now.server.disks) (number_of (λ b. b.end) self.now.server.disks)
+            self.now.server.limit }
+    {
+        let server = &self.server;
+        self.pace
+            .is_due(server.records(), server.used(), server.limit())
+    }
+
     /// Takes a snapshot, from which on the receipts begin anew. It alone moves the base.
     ///
     /// # Errors
@@ -68,9 +83,11 @@ impl<D: Disk, L: Ledger> Held<D, L> {
         ensures same { (self.new.opening.value ≡ self.old.opening.value) × (self.new.count ≡ self.old.count)
             × (self.new.till ≡ self.old.till) }
     {
+        self.pace.tries(self.server.records());
         take_snapshot(&mut self.server, alloc)?;
         self.base = Moment::of(self.server.state());
         self.receipts.clear();
+        self.pace = Pace::new(self.server.used());
         Ok(())
     }
 }
