@@ -118,9 +118,9 @@ impl<'t> Jobs<'t> {
     // What it sends next; none where it waits for an offer.
     fn message(&mut self) -> Result<Option<Message>, AllocError> {
         if self.number < self.all {
-            let job = self.number;
+            let job = i64::try_from(self.number).unwrap_or(0);
             self.number = self.number.saturating_add(1);
-            return Ok(Some(put(self.alloc, self.number, "job", job as i64)?));
+            return Ok(Some(put(self.alloc, self.number, "job", job)?));
         }
         if let Some(id) = self.offered.take() {
             self.number = self.number.saturating_add(1);
