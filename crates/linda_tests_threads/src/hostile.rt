@@ -1,5 +1,5 @@
-//! What sessions are told that leave with an offer, come again, and greet where they are known; and what all were told at
-//! the end.
+//! What sessions are told that leave with an offer, come again, and greet where they are known; and what all were told
+//! at the end.
 
 use super::stand::{Kept, ROOMY, play};
 use super::steps::{AsFarAsMemoryGoes, Step, Strictly};

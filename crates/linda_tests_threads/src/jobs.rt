@@ -9,8 +9,8 @@ use std::sync::Wait;
 use std::sync::atomic::{AtomicU64, Ordering};
 use std::time::Clock;
 
-/// By id, what was put and what was taken: the job's number and one; 0 where nothing was. And how often an id came twice,
-/// or a tuple that is no job.
+/// By id, what was put and what was taken: the job's number and one; 0 where nothing was. And how often an id came
+/// twice, or a tuple that is no job.
 #[derive(Drop)]
 pub(super) struct Tally {
     put: Vec<AtomicU64>,

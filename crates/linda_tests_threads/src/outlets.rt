@@ -31,8 +31,8 @@ fn done<L: Ledger, R: Wait + Abort>(
     assert!(rt; told.is_ok());
 }
 
-// The ids under which something was stored, until no reply comes any more, as a sum in which the last stands first; none
-// where another reply came.
+// The ids under which something was stored, until no reply comes any more, as the digits of a number; none where
+// another reply came.
 fn ids_read<L: Ledger, R: Wait>(
     rt: &R,
     shared: &Shared<MemDisk, L>,

@@ -20,9 +20,9 @@ pub(super) struct Strictly {
     pub(super) steps: &'static [Step],
 }
 
-/// All is told as the steps say, until a growth of memory is refused. Then a call says that there was no memory, and done
-/// again it tells what it does else; or the server is down, and what it keeps on its disks is what it kept before the
-/// step, or behind it.
+/// All is told as the steps say, until a growth of memory is refused. Then a call says that there was no memory, and
+/// done again it tells what it does else; or the server is down, and what it keeps on its disks is what it kept before
+/// the step, or behind it.
 #[derive(Clone, Copy)]
 pub(super) struct AsFarAsMemoryGoes {
     pub(super) limit: usize,
