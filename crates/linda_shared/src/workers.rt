@@ -30,9 +30,9 @@ pub struct Worked<L: Ledger> {
     pub end: Result<(), SharedFault>,
 }
 
-/// Lets each worker do its steps in a thread of its own, with a seat and an outlet. The seats come back in order, beside
-/// a fault too, each its client's and with all that it was told. Where no thread can be started for a worker that is
-/// `NoThread`, and the others go on to their ends.
+/// Lets each worker do its steps in a thread of its own, with a seat and an outlet. The seats come back in order,
+/// beside a fault too, each its client's and with all that it was told. Where no thread can be started for a worker
+/// that is `NoThread`, and the others go on to their ends.
 ///
 /// # Errors
 ///

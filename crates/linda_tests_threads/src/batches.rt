@@ -2,7 +2,7 @@
 
 use super::script::Sessions;
 use super::stand::{Kept, Scene, Stand, play};
-use super::steps::{Step, done_as_said};
+use super::steps::{AsFarAsMemoryGoes, Step, done_as_said};
 use linda_disk::MemDisk;
 use linda_shared::Shared;
 use std::alloc::Global;
@@ -10,22 +10,65 @@ use std::process::Abort;
 use std::sync::Wait;
 use std::sync::ledger::Ledger;
 use std::test::Fail;
-use std::thread::Threads;
-use std::time::Clock;
 
 const NEW: Kept = (1, 0, 0);
 
-/// What is done, and how the left disk ends: its length, the byte that opens its first record, the length of that record,
-/// and its last byte.
-#[derive(Drop)]
+/// With just room enough for both in one record.
+const ENOUGH: Stand = Stand {
+    limit: 91,
+    stops_in: None,
+};
+
+/// With room for the first alone, and for nothing behind it.
+const TOO_LITTLE: Stand = Stand {
+    limit: 90,
+    stops_in: None,
+};
+
+const AT_ONCE: &[Step] = &[
+    ("greet hello 1 7 fresh", "> 7 welcome 0\n", NEW),
+    (
+        "all 7 out 1 (\"a\", 3); 7 out 2 (\"a\", 4)",
+        "> 7 did 1\n> 7 did 2\n> 7 stored 1 1\n> 7 stored 2 2\n",
+        (3, 2, 1),
+    ),
+];
+
+const ONE_BY_ONE: &[Step] = &[
+    ("greet hello 1 7 fresh", "> 7 welcome 0\n", NEW),
+    (
+        "all 7 out 1 (\"a\", 3); 7 out 2 (\"a\", 4)",
+        "> 7 did 1\n> 7 stored 1 1\n> 7 refused 6 0\n",
+        (2, 1, 1),
+    ),
+];
+
+/// What is done, and how the left disk ends: its length, and that of its first record.
+#[derive(Clone, Copy)]
 struct Bank {
     steps: &'static [Step],
     len: usize,
-    head: [u8; 5],
+    record: u8,
+}
+
+fn is_at(bytes: &[u8], at: usize, wanted: u8) -> bool {
+    match bytes.get(at) {
+        Some(byte) => *byte == wanted,
+        None => false,
+    }
+}
+
+// Whether the record behind the snapshot of the empty state is open and so long.
+fn has_record(bytes: &[u8], len: u8) -> bool {
+    is_at(bytes, 33, 1)
+        && is_at(bytes, 34, 0)
+        && is_at(bytes, 35, 0)
+        && is_at(bytes, 36, 0)
+        && is_at(bytes, 37, len)
 }
 
 impl Scene for Bank {
-    fn play<L: Ledger + Send + Sync, R: Threads + Wait + Clock + Abort + Sync>(
+    fn play<L: Ledger, R: Wait + Abort>(
         &self,
         rt: &R,
         alloc: Global,
@@ -36,50 +79,46 @@ impl Scene for Bank {
         let (left, _) = sessions.into_server().into_disks();
         let bytes = left.bytes();
         assert_eq!(rt; bytes.len(), self.len);
-        assert_eq!(rt; bytes.get(33..38), Some(&self.head[..]));
-        assert_eq!(rt; bytes.last(), Some(&0));
+        assert!(rt; has_record(bytes, self.record));
+        assert!(rt; is_at(bytes, self.len.saturating_sub(1), 0));
         Ok(())
     }
 }
 
 #[test]
 fn messages_that_go_at_once_are_one_record(rt: HostRuntime) -> Result<(), Fail> {
-    let stand = Stand {
-        limit: 91,
-        stops_in: None,
-    };
     let bank = Bank {
-        steps: &[
-            ("greet hello 1 7 fresh", "> 7 welcome 0\n", NEW),
-            (
-                "all 7 out 1 (\"a\", 3); 7 out 2 (\"a\", 4)",
-                "> 7 did 1\n> 7 did 2\n> 7 stored 1 1\n> 7 stored 2 2\n",
-                (3, 2, 1),
-            ),
-        ],
+        steps: AT_ONCE,
         len: 91,
-        head: [1, 0, 0, 0, 0x34],
+        record: 0x34,
     };
-    play(&rt, rt.alloc(), stand, &bank)
+    play(&rt, rt.alloc(), ENOUGH, &bank)
 }
 
 #[test]
 fn messages_that_do_not_fit_at_once_go_one_by_one(rt: HostRuntime) -> Result<(), Fail> {
-    let stand = Stand {
-        limit: 90,
-        stops_in: None,
-    };
     let bank = Bank {
-        steps: &[
-            ("greet hello 1 7 fresh", "> 7 welcome 0\n", NEW),
-            (
-                "all 7 out 1 (\"a\", 3); 7 out 2 (\"a\", 4)",
-                "> 7 did 1\n> 7 stored 1 1\n> 7 refused 6 0\n",
-                (2, 1, 1),
-            ),
-        ],
+        steps: ONE_BY_ONE,
         len: 65,
-        head: [1, 0, 0, 0, 0x1a],
+        record: 0x1a,
     };
-    play(&rt, rt.alloc(), stand, &bank)
+    play(&rt, rt.alloc(), TOO_LITTLE, &bank)
+}
+
+#[test]
+fn without_memory_all_go_at_once_or_none(rt: HostRuntime) -> Result<(), Fail> {
+    let scene = AsFarAsMemoryGoes {
+        limit: 91,
+        steps: AT_ONCE,
+    };
+    play(&rt, rt.alloc(), ENOUGH, &scene)
+}
+
+#[test]
+fn without_memory_some_go_one_by_one(rt: HostRuntime) -> Result<(), Fail> {
+    let scene = AsFarAsMemoryGoes {
+        limit: 90,
+        steps: ONE_BY_ONE,
+    };
+    play(&rt, rt.alloc(), TOO_LITTLE, &scene)
 }

@@ -1,26 +1,27 @@
 //! Many sessions that come and go.
 
-use super::stand::{ROOMY, Scene, kept, play};
+ghost use Rattle.std.specs.Prelude.{◌≡◌};
+ghost use Rattle.linda_receipt.specs.declared.limits.TheConstants.{PARTS};
+
+use super::stand::{ROOMY, kept, shared_on};
 use super::words::{ask, hello, put};
 use linda_disk::MemDisk;
+use linda_receipt::PARTS;
 use linda_shared::{Greeted, Outlet, Seat, Shared};
 use linda_tuple::{Atom, Pattern};
 use linda_wire::{Message, Reply};
 use std::alloc::{AllocError, Global};
+use std::marker::Brand;
 use std::process::Abort;
 use std::sync::Wait;
-use std::sync::ledger::Ledger;
+use std::sync::ledger::{Blank, Ledger};
 use std::test::Fail;
 use std::thread;
 use std::thread::Threads;
-use std::time::Clock;
 
 const CLIENTS: usize = 64;
 
 const VISITS: u64 = 16;
-
-/// Each client comes as often, puts a tuple of its own, takes it, and goes.
-struct Visitors;
 
 // Comes, puts and takes, and goes; whether all of it went as it should. The client was there so often before.
 fn visits<L: Ledger, R: Wait>(
@@ -105,34 +106,46 @@ fn visits_of<L: Ledger, R: Wait>(
     well
 }
 
-impl Scene for Visitors {
-    fn play<L: Ledger + Send + Sync, R: Threads + Wait + Clock + Abort + Sync>(
-        &self,
-        rt: &R,
-        alloc: Global,
-        shared: Shared<MemDisk, L>,
-    ) -> Result<(), Fail> {
-        let well = thread::map_indices(
-            rt,
-            alloc,
-            CLIENTS,
-            &|i| { visits_of(rt, alloc, &shared, i as u32) },
-        )?;
-        for one in &well {
-            assert_eq!(rt; *one, VISITS);
+// Each client, in a thread of its own, comes as often, puts a tuple of its own, takes it, and goes.
+fn play_crowd<L: Ledger + Send + Sync, R: Threads + Wait + Abort + Sync>(
+    rt: &R,
+    alloc: Global,
+    blank: Blank,
+) -> Result<(), Fail>
+    requires { (blank.name ≡ L.name) × (blank.parts ≡ L.parts) × (L.parts ≡ PARTS) }
+{
+    let shared: Shared<MemDisk, L> = shared_on(alloc, blank, ROOMY)?;
+    let well = thread::map_indices(
+        rt,
+        alloc,
+        CLIENTS,
+        &|i| {
+            let client = u32::try_from(i).unwrap_or(0);
+            visits_of(rt, alloc, &shared, client)
+        },
+    )?;
+    assert_eq!(rt; well.len(), CLIENTS);
+    assert!(rt; are_all(&well, VISITS));
+    let report = shared.finish(rt, Vec::new(alloc));
+    let (deeds, ids) = match report {
+        Ok(report) => (report.deeds, report.ids),
+        Err(_) => (0, 0),
+    };
+    assert_eq!(rt; (deeds, ids), (2_048, 1_024));
+    assert_eq!(rt; kept(&shared.into_server()), (1_025, 0, CLIENTS));
+    Ok(())
+}
+
+fn are_all(counts: &[u64], wanted: u64) -> bool {
+    for count in counts {
+        if *count != wanted {
+            return false;
         }
-        assert_eq!(rt; well.len(), CLIENTS);
-        let report = shared.finish(rt, Vec::new(alloc));
-        assert!(rt; report.is_ok());
-        if let Ok(report) = report {
-            assert_eq!(rt; (report.deeds, report.ids), (2_048, 1_024));
-        }
-        assert_eq!(rt; kept(&shared.into_server()), (1_025, 0, CLIENTS));
-        Ok(())
     }
+    true
 }
 
 #[test]
 fn a_crowd_comes_and_goes_a_thousand_times(rt: HostRuntime) -> Result<(), Fail> {
-    play(&rt, rt.alloc(), ROOMY, &Visitors)
+    play_crowd::<Brand, HostRuntime>(&rt, rt.alloc(), Blank::new(PARTS))
 }

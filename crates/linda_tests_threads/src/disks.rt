@@ -10,8 +10,6 @@ use std::process::Abort;
 use std::sync::Wait;
 use std::sync::ledger::Ledger;
 use std::test::Fail;
-use std::thread::Threads;
-use std::time::Clock;
 
 const LIMIT: usize = 1_000;
 
@@ -46,7 +44,7 @@ struct Stopped {
 }
 
 impl Scene for Stopped {
-    fn play<L: Ledger + Send + Sync, R: Threads + Wait + Clock + Abort + Sync>(
+    fn play<L: Ledger, R: Wait + Abort>(
         &self,
         rt: &R,
         alloc: Global,

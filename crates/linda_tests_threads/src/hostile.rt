@@ -1,5 +1,5 @@
-//! What sessions are told that leave with an offer, come again, and greet where they are known; and what all were told at
-//! the end.
+//! What sessions are told that leave with an offer, come again, and greet where they are known; and what all were told
+//! at the end.
 
 use super::stand::{Kept, ROOMY, play};
 use super::steps::{AsFarAsMemoryGoes, Step, Strictly};
@@ -43,5 +43,9 @@ fn a_waiting_session_is_offered_what_another_leaves(rt: HostRuntime) -> Result<(
 
 #[test]
 fn without_memory_a_session_is_told_so_or_the_server_is_down(rt: HostRuntime) -> Result<(), Fail> {
-    play(&rt, rt.alloc(), ROOMY, &AsFarAsMemoryGoes { steps: STEPS })
+    let scene = AsFarAsMemoryGoes {
+        limit: ROOMY.limit,
+        steps: STEPS,
+    };
+    play(&rt, rt.alloc(), ROOMY, &scene)
 }

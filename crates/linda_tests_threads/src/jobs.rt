@@ -9,8 +9,8 @@ use std::sync::Wait;
 use std::sync::atomic::{AtomicU64, Ordering};
 use std::time::Clock;
 
-/// By id, what was put and what was taken: the job's number and one; 0 where nothing was. And how often an id came twice,
-/// or a tuple that is no job.
+/// By id, what was put and what was taken: the job's number and one; 0 where nothing was. And how often an id came
+/// twice, or a tuple that is no job.
 #[derive(Drop)]
 pub(super) struct Tally {
     put: Vec<AtomicU64>,
@@ -118,9 +118,9 @@ impl<'t> Jobs<'t> {
     // What it sends next; none where it waits for an offer.
     fn message(&mut self) -> Result<Option<Message>, AllocError> {
         if self.number < self.all {
-            let job = self.number;
+            let job = i64::try_from(self.number).unwrap_or(0);
             self.number = self.number.saturating_add(1);
-            return Ok(Some(put(self.alloc, self.number, "job", job as i64)?));
+            return Ok(Some(put(self.alloc, self.number, "job", job)?));
         }
         if let Some(id) = self.offered.take() {
             self.number = self.number.saturating_add(1);

@@ -1,31 +1,24 @@
 //! Where replies come out, beside the threads that lead to them.
 
-use super::stand::{ROOMY, Scene, play};
-use super::words::{ask, hello, put};
+ghost use Rattle.std.specs.Prelude.{◌≡◌};
+ghost use Rattle.linda_receipt.specs.declared.limits.TheConstants.{PARTS};
+
+use super::stand::{ROOMY, shared_on};
+use super::words::{ask, put, seated};
 use linda_disk::MemDisk;
-use linda_shared::{Greeted, Outlet, Seat, Shared};
+use linda_receipt::PARTS;
+use linda_shared::{Outlet, Seat, Shared};
 use linda_tuple::Pattern;
 use linda_wire::{Message, Reply};
 use std::alloc::{AllocError, Global};
+use std::marker::Brand;
 use std::process::Abort;
 use std::sync::Wait;
-use std::sync::ledger::Ledger;
+use std::sync::ledger::{Blank, Ledger};
 use std::test::Fail;
 use std::thread;
 use std::thread::Threads;
 use std::time::{Clock, Duration};
-
-// A seat and an outlet for a client that was not there before.
-fn seated<L: Ledger, R: Wait>(
-    rt: &R,
-    shared: &Shared<MemDisk, L>,
-    client: u32,
-) -> Result<(Seat<L>, Outlet<L>), AllocError> {
-    match shared.greet(rt, &hello(client, true)) {
-        Ok(Greeted::Welcome(seat, outlet, _)) => Ok((seat, outlet)),
-        _ => Err(AllocError),
-    }
-}
 
 // Submits what has to be done.
 fn done<L: Ledger, R: Wait + Abort>(
@@ -38,11 +31,8 @@ fn done<L: Ledger, R: Wait + Abort>(
     assert!(rt; told.is_ok());
 }
 
-/// One thread of a session reads its replies, and another submits and hangs up.
-struct ReadsBeside;
-
-// The ids under which something was stored, until no reply comes any more, as a sum in which the last stands first; none
-// where another reply came.
+// The ids under which something was stored, until no reply comes any more, as the digits of a number; none where
+// another reply came.
 fn ids_read<L: Ledger, R: Wait>(
     rt: &R,
     shared: &Shared<MemDisk, L>,
@@ -80,33 +70,31 @@ fn puts<L: Ledger, R: Wait + Clock + Abort>(
     Ok(())
 }
 
-impl Scene for ReadsBeside {
-    fn play<L: Ledger + Send + Sync, R: Threads + Wait + Clock + Abort + Sync>(
-        &self,
-        rt: &R,
-        alloc: Global,
-        shared: Shared<MemDisk, L>,
-    ) -> Result<(), Fail> {
-        let (mut seat, mut outlet) = seated(rt, &shared, 7)?;
-        let (read, put) = thread::join(
-            rt,
-            || ids_read(rt, &shared, &mut outlet),
-            || puts(rt, alloc, &shared, &mut seat),
-        );
-        put?;
-        assert_eq!(rt; read, Some(123));
-        assert!(rt; shared.leave(rt, seat, outlet).is_ok());
-        Ok(())
-    }
+// One thread of a session reads its replies, and another submits and hangs up.
+fn play_beside<L: Ledger + Send + Sync, R: Threads + Wait + Clock + Abort + Sync>(
+    rt: &R,
+    alloc: Global,
+    blank: Blank,
+) -> Result<(), Fail>
+    requires { (blank.name ≡ L.name) × (blank.parts ≡ L.parts) × (L.parts ≡ PARTS) }
+{
+    let shared: Shared<MemDisk, L> = shared_on(alloc, blank, ROOMY)?;
+    let (mut seat, mut outlet) = seated(rt, &shared, 7)?;
+    let (read, put) = thread::join(
+        rt,
+        || ids_read(rt, &shared, &mut outlet),
+        || puts(rt, alloc, &shared, &mut seat),
+    );
+    put?;
+    assert_eq!(rt; read, Some(123));
+    assert!(rt; shared.leave(rt, seat, outlet).is_ok());
+    Ok(())
 }
 
 #[test]
 fn a_thread_reads_the_replies_to_what_another_submits(rt: HostRuntime) -> Result<(), Fail> {
-    play(&rt, rt.alloc(), ROOMY, &ReadsBeside)
+    play_beside::<Brand, HostRuntime>(&rt, rt.alloc(), Blank::new(PARTS))
 }
-
-/// One session leaves with what others wait for.
-struct LeavesOffers;
 
 /// What a thread does.
 #[derive(Drop)]
@@ -142,44 +130,55 @@ fn played<L: Ledger, R: Wait + Clock>(
     }
 }
 
-impl Scene for LeavesOffers {
-    fn play<L: Ledger + Send + Sync, R: Threads + Wait + Clock + Abort + Sync>(
-        &self,
-        rt: &R,
-        alloc: Global,
-        shared: Shared<MemDisk, L>,
-    ) -> Result<(), Fail> {
-        let (mut seat, mut outlet) = seated(rt, &shared, 7)?;
-        for n in 1..5u64 {
-            done(rt, &shared, &mut seat, &put(alloc, n, "a", 3)?);
-            done(
-                rt,
-                &shared,
-                &mut seat,
-                &ask(alloc, n, "a", Pattern::IntFormal)?,
-            );
-        }
-        assert_eq!(rt; shared.drain(rt, &mut outlet).len(), 8);
-        let mut parts = Vec::new(alloc);
-        parts.push(Part::Leaves(seat, outlet))?;
-        for client in 8..12u32 {
-            let (mut seat, outlet) = seated(rt, &shared, client)?;
-            done(
-                rt,
-                &shared,
-                &mut seat,
-                &ask(alloc, 1, "a", Pattern::IntFormal)?,
-            );
-            parts.push(Part::Waits(outlet))?;
-        }
-        let got = thread::map_vec(rt, parts, &|part| played(rt, &shared, part))?;
-        let all = [Some(0), Some(1), Some(2), Some(3), Some(4)];
-        assert_eq!(rt; got.as_slice(), &all[..]);
-        Ok(())
+// Four sessions wait, and a fifth leaves with what they wait for.
+fn play_leaving<L: Ledger + Send + Sync, R: Threads + Wait + Clock + Abort + Sync>(
+    rt: &R,
+    alloc: Global,
+    blank: Blank,
+) -> Result<(), Fail>
+    requires { (blank.name ≡ L.name) × (blank.parts ≡ L.parts) × (L.parts ≡ PARTS) }
+{
+    let shared: Shared<MemDisk, L> = shared_on(alloc, blank, ROOMY)?;
+    let parts = parts_of(rt, alloc, &shared)?;
+    let got = thread::map_vec(rt, parts, &|part| played(rt, &shared, part))?;
+    let all = [Some(0), Some(1), Some(2), Some(3), Some(4)];
+    assert_eq!(rt; got.as_slice(), &all[..]);
+    Ok(())
+}
+
+// Client 7 has four tuples that it was offered, and 8 to 11 asked for one each.
+fn parts_of<L: Ledger, R: Wait + Abort>(
+    rt: &R,
+    alloc: Global,
+    shared: &Shared<MemDisk, L>,
+) -> Result<Vec<Part<L>>, AllocError> {
+    let mut parts = Vec::new(alloc);
+    let (mut seat, mut outlet) = seated(rt, shared, 7)?;
+    for n in 1..5u64 {
+        done(rt, shared, &mut seat, &put(alloc, n, "a", 3)?);
+        done(
+            rt,
+            shared,
+            &mut seat,
+            &ask(alloc, n, "a", Pattern::IntFormal)?,
+        );
     }
+    assert_eq!(rt; shared.drain(rt, &mut outlet).len(), 8);
+    parts.push(Part::Leaves(seat, outlet))?;
+    for client in 8..12u32 {
+        let (mut seat, outlet) = seated(rt, shared, client)?;
+        done(
+            rt,
+            shared,
+            &mut seat,
+            &ask(alloc, 1, "a", Pattern::IntFormal)?,
+        );
+        parts.push(Part::Waits(outlet))?;
+    }
+    Ok(parts)
 }
 
 #[test]
 fn whoever_waits_is_offered_what_is_left(rt: HostRuntime) -> Result<(), Fail> {
-    play(&rt, rt.alloc(), ROOMY, &LeavesOffers)
+    play_leaving::<Brand, HostRuntime>(&rt, rt.alloc(), Blank::new(PARTS))
 }

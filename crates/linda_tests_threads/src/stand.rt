@@ -1,6 +1,6 @@
 //! A server that a test's sessions share.
 
-ghost use Rattle.std.specs.Prelude.{◌≡◌};
+ghost use Rattle.std.specs.Prelude.{◌≡◌, false, IfSome};
 ghost use Rattle.linda_receipt.specs.declared.limits.TheConstants.{PARTS};
 
 use linda_bag::Bag;
@@ -14,8 +14,6 @@ use std::process::Abort;
 use std::sync::Wait;
 use std::sync::ledger::{Blank, Ledger};
 use std::test::Fail;
-use std::thread::Threads;
-use std::time::Clock;
 
 /// How many device calls the making of a server takes on its left disk.
 const CALLS_TO_CREATE: u64 = 6;
@@ -23,8 +21,8 @@ const CALLS_TO_CREATE: u64 = 6;
 /// What a server keeps: its next id, how many tuples there are, and how many clients it knows.
 pub(super) type Kept = (u64, usize, usize);
 
-/// The server on which a scene is played: its limit, and the device call behind its making, from 0, inside which its left
-/// disk stops, if it does.
+/// The server on which a scene is played: its limit, and the device call behind its making, from 0, inside which its
+/// left disk stops, if it does.
 #[derive(Clone, Copy)]
 pub(super) struct Stand {
     pub(super) limit: usize,
@@ -37,10 +35,10 @@ pub(super) const ROOMY: Stand = Stand {
     stops_in: None,
 };
 
-/// What is played over a shared server.
+/// What is played in one thread.
 pub(super) trait Scene {
     /// Plays it. The server is new, and nobody has a seat.
-    fn play<L: Ledger + Send + Sync, R: Threads + Wait + Clock + Abort + Sync>(
+    fn play<L: Ledger, R: Wait + Abort>(
         &self,
         rt: &R,
         alloc: Global,
@@ -49,7 +47,7 @@ pub(super) trait Scene {
 }
 
 /// Plays the scene over a new server.
-pub(super) fn play<S: Scene, R: Threads + Wait + Clock + Abort + Sync>(
+pub(super) fn play<S: Scene, R: Wait + Abort>(
     rt: &R,
     alloc: Global,
     stand: Stand,
@@ -59,7 +57,7 @@ pub(super) fn play<S: Scene, R: Threads + Wait + Clock + Abort + Sync>(
 }
 
 // Plays it with this ledger.
-fn play_under<L: Ledger + Send + Sync, S: Scene, R: Threads + Wait + Clock + Abort + Sync>(
+fn play_under<L: Ledger, S: Scene, R: Wait + Abort>(
     rt: &R,
     alloc: Global,
     blank: Blank,
@@ -68,11 +66,22 @@ fn play_under<L: Ledger + Send + Sync, S: Scene, R: Threads + Wait + Clock + Abo
 ) -> Result<(), Fail>
     requires { (blank.name ≡ L.name) × (blank.parts ≡ L.parts) × (L.parts ≡ PARTS) }
 {
-    let Some(server) = made(alloc, stand) else {
-        return Err(AllocError.into());
-    };
-    let shared: Shared<MemDisk, L> = Shared::new(alloc, server, blank)?;
+    let shared: Shared<MemDisk, L> = shared_on(alloc, blank, stand)?;
     scene.play(rt, alloc, shared)
+}
+
+/// A new server that nobody shares yet.
+pub(super) fn shared_on<L: Ledger>(
+    alloc: Global,
+    blank: Blank,
+    stand: Stand,
+) -> Result<Shared<MemDisk, L>, AllocError>
+    requires { (blank.name ≡ L.name) × (blank.parts ≡ L.parts) × (L.parts ≡ PARTS) }
+{
+    match made(alloc, stand) {
+        Some(server) => Shared::new(alloc, server, blank),
+        None => Err(AllocError),
+    }
 }
 
 // A new server. None where there is no memory for it.

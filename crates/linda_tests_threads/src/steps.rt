@@ -1,7 +1,7 @@
 //! Steps of sessions in one thread, with what each is to tell.
 
 use super::script::Sessions;
-use super::stand::{Kept, ROOMY, Scene, kept, kept_on_disks};
+use super::stand::{Kept, Scene, kept, kept_on_disks};
 use linda_disk::{MemDisk, Torn};
 use linda_script::WordsFault;
 use linda_shared::Shared;
@@ -10,8 +10,6 @@ use std::process::Abort;
 use std::sync::Wait;
 use std::sync::ledger::Ledger;
 use std::test::Fail;
-use std::thread::Threads;
-use std::time::Clock;
 
 /// What is done, all that is told of it, and what the server keeps behind it.
 pub(super) type Step = (&'static str, &'static str, Kept);
@@ -22,16 +20,17 @@ pub(super) struct Strictly {
     pub(super) steps: &'static [Step],
 }
 
-/// All is told as the steps say, until a growth of memory is refused. Then a call says that there was no memory, and done
-/// again it tells what it does else; or the server is down, and what it keeps on its disks is what it kept before the
-/// step, or behind it.
+/// All is told as the steps say, until a growth of memory is refused. Then a call says that there was no memory, and
+/// done again it tells what it does else; or the server is down, and what it keeps on its disks is what it kept before
+/// the step, or behind it.
 #[derive(Clone, Copy)]
 pub(super) struct AsFarAsMemoryGoes {
+    pub(super) limit: usize,
     pub(super) steps: &'static [Step],
 }
 
 impl Scene for Strictly {
-    fn play<L: Ledger + Send + Sync, R: Threads + Wait + Clock + Abort + Sync>(
+    fn play<L: Ledger, R: Wait + Abort>(
         &self,
         rt: &R,
         alloc: Global,
@@ -55,14 +54,14 @@ pub(super) fn done_as_said<L: Ledger, R: Wait + Abort>(
     for step in steps {
         let (said, told, after) = *step;
         let came = done(rt, alloc, sessions, said)?;
-        assert_eq!(rt; came.as_str(), told, "{said}");
+        assert!(rt; is(&came, told), "{said}: {came}");
         last = after;
     }
     Ok(last)
 }
 
 impl Scene for AsFarAsMemoryGoes {
-    fn play<L: Ledger + Send + Sync, R: Threads + Wait + Clock + Abort + Sync>(
+    fn play<L: Ledger, R: Wait + Abort>(
         &self,
         rt: &R,
         alloc: Global,
@@ -73,13 +72,7 @@ impl Scene for AsFarAsMemoryGoes {
         for step in self.steps {
             let (_, _, after) = *step;
             if !is_borne(rt, alloc, &mut sessions, *step)? {
-                let now = kept_on_disks(
-                    rt,
-                    alloc,
-                    sessions.into_server(),
-                    ROOMY.limit,
-                    Torn::Kept,
-                )?;
+                let now = kept_on_disks(rt, alloc, sessions.into_server(), self.limit, Torn::Kept)?;
                 assert!(rt; now == before || now == after, "{now:?}");
                 return Ok(());
             }
@@ -99,18 +92,22 @@ fn is_borne<L: Ledger, R: Wait + Abort>(
 ) -> Result<bool, AllocError> {
     let (said, told, _) = step;
     let came = done(rt, alloc, sessions, said)?;
-    if came.as_str() == told {
+    if is(&came, told) {
         return Ok(true);
     }
-    if came.as_str() == "> memory\n" {
-        let came = done(rt, alloc, sessions, said)?;
-        assert_eq!(rt; came.as_str(), told, "{said}");
+    if is(&came, "> memory\n") {
+        let again = done(rt, alloc, sessions, said)?;
+        assert!(rt; is(&again, told), "{said}: {again}");
         return Ok(true);
     }
-    assert_eq!(rt; came.as_str(), "> down\n", "{said}");
+    assert!(rt; is(&came, "> down\n"), "{said}: {came}");
     let later = done(rt, alloc, sessions, "snapshot")?;
-    assert_eq!(rt; later.as_str(), "> down\n", "{said}");
+    assert!(rt; is(&later, "> down\n"), "{said}: {later}");
     Ok(false)
+}
+
+fn is(came: &String, told: &str) -> bool {
+    came.as_str() == told
 }
 
 // Does what is said, and gives what is told of it.

@@ -1,8 +1,12 @@
-//! Messages about tuples of a word and a number.
+//! Messages about tuples of a word and a number, and the first one of a session.
 
+use linda_disk::MemDisk;
+use linda_shared::{Greeted, Outlet, Seat, Shared};
 use linda_tuple::{Atom, Pattern, Template, Text, Tuple};
 use linda_wire::{Message, VERSION};
 use std::alloc::{AllocError, Global};
+use std::sync::Wait;
+use std::sync::ledger::Ledger;
 
 fn text(alloc: Global, word: &str) -> Result<Atom, AllocError> {
     Ok(Atom::Text(Text::new(String::from_str(alloc, word)?)))
@@ -51,5 +55,17 @@ pub(super) fn number_in(tuple: &Tuple) -> Option<i64> {
     match tuple.fields() {
         [Atom::Int(number)] => Some(*number),
         _ => None,
+    }
+}
+
+/// A seat and an outlet for a client that was not there before.
+pub(super) fn seated<L: Ledger, R: Wait>(
+    rt: &R,
+    shared: &Shared<MemDisk, L>,
+    client: u32,
+) -> Result<(Seat<L>, Outlet<L>), AllocError> {
+    match shared.greet(rt, &hello(client, true)) {
+        Ok(Greeted::Welcome(seat, outlet, _)) => Ok((seat, outlet)),
+        _ => Err(AllocError),
     }
 }

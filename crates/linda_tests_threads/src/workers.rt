@@ -1,85 +1,64 @@
 //! Workers in threads of their own.
 
+ghost use Rattle.std.specs.Prelude.{◌≡◌};
+ghost use Rattle.linda_receipt.specs.declared.limits.TheConstants.{PARTS};
+
 use super::jobs::{Jobs, Tally};
-use super::stand::{ROOMY, Scene, Stand, kept, kept_on_disks, play};
-use super::words::hello;
+use super::stand::{Kept, ROOMY, Stand, kept, kept_on_disks, shared_on};
+use super::words::seated;
 use linda_disk::{MemDisk, Torn};
-use linda_shared::{Gate, Greeted, Outlet, Seat, Shared, SharedFault, Worked, run_workers};
+use linda_receipt::PARTS;
+use linda_shared::{Gate, Report, Seat, Shared, SharedFault, Worked, run_workers};
 use std::alloc::{AllocError, Global};
+use std::marker::Brand;
 use std::process::Abort;
 use std::sync::Wait;
 use std::sync::atomic::{AtomicU64, Ordering};
-use std::sync::ledger::Ledger;
+use std::sync::ledger::{Blank, Ledger};
 use std::test::Fail;
 use std::thread;
 use std::thread::Threads;
 use std::time::{Clock, Duration};
 
-/// A gate that lets all through.
-struct Open;
-
-impl Gate for Open {
-    fn may<R: Wait + Clock>(&self, rt: &R, client: u32, call: u64) -> bool {
-        let _ = (rt, client, call);
-        true
-    }
-
-    fn answered<R: Wait + Clock>(&self, rt: &R, client: u32, call: u64) {
-        let _ = (rt, client, call);
-    }
-}
-
-/// A gate that lets nothing through.
-struct Shut;
-
-impl Gate for Shut {
-    fn may<R: Wait + Clock>(&self, rt: &R, client: u32, call: u64) -> bool {
-        let _ = (rt, client, call);
-        false
-    }
-
-    fn answered<R: Wait + Clock>(&self, rt: &R, client: u32, call: u64) {
-        let _ = (rt, client, call);
-    }
-}
-
-/// A gate that holds the first message of client 1 until that of client 2 was answered.
+/// The gates of tests.
 #[derive(Drop)]
-struct Behind {
-    second: AtomicU64,
+enum Gates {
+    /// Lets all through.
+    Open,
+    /// Lets nothing through.
+    Shut,
+    /// Holds the first message of client 1 until that of client 2 was answered.
+    Behind(AtomicU64),
+    /// Lets the first message of each of two clients through once it was asked for the other's too. After ten thousand
+    /// turns of a millisecond it says no for good.
+    Together(Entered),
 }
 
-impl Gate for Behind {
-    fn may<R: Wait + Clock>(&self, rt: &R, client: u32, call: u64) -> bool {
-        let _ = rt;
-        client != 1 || call != 1 || self.second.load(Ordering::SeqCst) == 1
-    }
-
-    fn answered<R: Wait + Clock>(&self, rt: &R, client: u32, call: u64) {
-        let _ = rt;
-        if client == 2 && call == 1 {
-            self.second.store(1, Ordering::SeqCst);
-        }
-    }
-}
-
-/// A gate that lets the first message of each of two clients through once it was asked for the other's too. After ten
-/// thousand turns of a millisecond it says no for good.
+/// Of which clients' first messages the gate was asked, and whether it waited in vain.
 #[derive(Drop)]
-struct Together {
+struct Entered {
     first: AtomicU64,
     second: AtomicU64,
     is_over: AtomicU64,
 }
 
-impl Together {
-    fn both<R: Wait + Clock>(&self, rt: &R) -> bool {
+fn is_set(flag: &AtomicU64) -> bool {
+    flag.load(Ordering::SeqCst) == 1
+}
+
+impl Entered {
+    fn enter<R: Clock>(&self, rt: &R, client: u32) -> bool {
+        if client == 1 {
+            self.first.store(1, Ordering::SeqCst);
+        } else {
+            self.second.store(1, Ordering::SeqCst);
+        }
         for _ in 0..10_000 {
-            if self.first.load(Ordering::SeqCst) == 1 && self.second.load(Ordering::SeqCst) == 1 {
-                return true;
-            }
-            if self.is_over.load(Ordering::SeqCst) == 1 {
+            if is_set(&self.is_over) {
                 return false;
+            }
+            if is_set(&self.first) && is_set(&self.second) {
+                return true;
             }
             thread::sleep(rt, Duration::from_millis(1));
         }
@@ -88,97 +67,109 @@ impl Together {
     }
 }
 
-impl Gate for Together {
+impl Gate for Gates {
     fn may<R: Wait + Clock>(&self, rt: &R, client: u32, call: u64) -> bool {
-        if call != 1 {
-            return true;
+        match self {
+            Gates::Open => true,
+            Gates::Shut => false,
+            Gates::Behind(second) => client != 1 || call != 1 || is_set(second),
+            Gates::Together(entered) => call != 1 || entered.enter(rt, client),
         }
-        if client == 1 {
-            self.first.store(1, Ordering::SeqCst);
-        } else {
-            self.second.store(1, Ordering::SeqCst);
-        }
-        self.both(rt)
     }
 
-    fn answered<R: Wait + Clock>(&self, rt: &R, client: u32, call: u64) {
-        let _ = (rt, client, call);
+    fn answered<R: Wait + Clock>(&self, _rt: &R, client: u32, call: u64) {
+        if let Gates::Behind(second) = self {
+            if client == 2 && call == 1 {
+                second.store(1, Ordering::SeqCst);
+            }
+        }
     }
 }
 
 /// Clients from 1 on, each with as many jobs to put and take; what all of them end with, and the gate before them.
 #[derive(Drop)]
-struct Crew<'g, G: Gate> {
+struct Crew {
     clients: u32,
     jobs: u64,
     end: Result<(), SharedFault>,
-    gate: &'g G,
+    gate: Gates,
 }
 
-// A seat and an outlet for a client that was not there before.
-fn seated<L: Ledger, R: Wait>(
+// All work, and their seats come back.
+fn work<L: Ledger + Send + Sync, R: Threads + Wait + Clock + Abort + Sync>(
     rt: &R,
+    alloc: Global,
     shared: &Shared<MemDisk, L>,
-    client: u32,
-) -> Result<(Seat<L>, Outlet<L>), AllocError> {
-    match shared.greet(rt, &hello(client, true)) {
-        Ok(Greeted::Welcome(seat, outlet, _)) => Ok((seat, outlet)),
-        _ => Err(AllocError),
+    crew: &Crew,
+    tally: &Tally,
+) -> Result<Vec<Seat<L>>, AllocError> {
+    let mut workers = Vec::new(alloc);
+    for client in 1..crew.clients.saturating_add(1) {
+        let (seat, outlet) = seated(rt, shared, client)?;
+        workers.push((seat, outlet, Jobs::new(alloc, tally, crew.jobs)))?;
+    }
+    let Ok(Worked { seats, end }) = run_workers(rt, alloc, shared, workers, &crew.gate) else {
+        return Err(AllocError);
+    };
+    assert_eq!(rt; end, crew.end);
+    assert!(rt; are_of_all(&seats, crew.clients));
+    Ok(seats)
+}
+
+// Whether these are the seats of the clients from 1 on, in order, as many.
+fn are_of_all<L: Ledger>(seats: &[Seat<L>], clients: u32) -> bool {
+    let mut client: u32 = 0;
+    for seat in seats {
+        client = client.saturating_add(1);
+        if seat.client() != client {
+            return false;
+        }
+    }
+    client == clients
+}
+
+// A crew works over a new server; where all end well each job was taken once.
+fn play_crew<L: Ledger + Send + Sync, R: Threads + Wait + Clock + Abort + Sync>(
+    rt: &R,
+    alloc: Global,
+    blank: Blank,
+    crew: &Crew,
+) -> Result<(), Fail>
+    requires { (blank.name ≡ L.name) × (blank.parts ≡ L.parts) × (L.parts ≡ PARTS) }
+{
+    let shared: Shared<MemDisk, L> = shared_on(alloc, blank, ROOMY)?;
+    let all = u64::from(crew.clients).saturating_mul(crew.jobs);
+    let ids = usize::try_from(all).unwrap_or(0);
+    let tally = Tally::new(alloc, ids.saturating_add(1))?;
+    let seats = work(rt, alloc, &shared, crew, &tally)?;
+    if crew.end.is_err() {
+        return Ok(());
+    }
+    assert_eq!(rt;
+        told_by(shared.finish(rt, seats)),
+        (all.saturating_mul(2), all)
+    );
+    assert!(rt; tally.is_even());
+    let (next, tuples, _) = kept(&shared.into_server());
+    assert_eq!(rt; (next, tuples), (all.saturating_add(1), 0));
+    Ok(())
+}
+
+// The deeds and the ids of a report, 0 of none.
+fn told_by(report: Result<Report, SharedFault>) -> (u64, u64) {
+    match report {
+        Ok(report) => (report.deeds, report.ids),
+        Err(_) => (0, 0),
     }
 }
 
-impl<'g, G: Gate + Sync> Crew<'g, G> {
-    // All work, and their seats come back.
-    fn work<L: Ledger + Send + Sync, R: Threads + Wait + Clock + Abort + Sync>(
-        &self,
-        rt: &R,
-        alloc: Global,
-        shared: &Shared<MemDisk, L>,
-        tally: &Tally,
-    ) -> Result<Vec<Seat<L>>, AllocError> {
-        let mut workers = Vec::new(alloc);
-        for client in 1..self.clients.saturating_add(1) {
-            let (seat, outlet) = seated(rt, shared, client)?;
-            workers.push((seat, outlet, Jobs::new(alloc, tally, self.jobs)))?;
-        }
-        let Ok(Worked { seats, end }) = run_workers(rt, alloc, shared, workers, self.gate) else {
-            return Err(AllocError);
-        };
-        assert_eq!(rt; end, self.end);
-        for (seat, client) in seats.iter().zip(1..self.clients.saturating_add(1)) {
-            assert_eq!(rt; seat.client(), client);
-        }
-        assert_eq!(rt; seats.len(), self.clients as usize);
-        Ok(seats)
-    }
-}
-
-impl<'g, G: Gate + Sync> Scene for Crew<'g, G> {
-    fn play<L: Ledger + Send + Sync, R: Threads + Wait + Clock + Abort + Sync>(
-        &self,
-        rt: &R,
-        alloc: Global,
-        shared: Shared<MemDisk, L>,
-    ) -> Result<(), Fail> {
-        let all = u64::from(self.clients).saturating_mul(self.jobs);
-        let tally = Tally::new(alloc, (all as usize).saturating_add(1))?;
-        let seats = self.work(rt, alloc, &shared, &tally)?;
-        if self.end.is_err() {
-            return Ok(());
-        }
-        let report = shared.finish(rt, seats);
-        assert!(rt; report.is_ok());
-        if let Ok(report) = report {
-            assert_eq!(rt; (report.deeds, report.ids), (all.saturating_mul(2), all));
-        }
-        assert!(rt; tally.is_even());
-        let clients = self.clients as usize;
-        assert_eq!(rt;
-            kept(&shared.into_server()),
-            (all.saturating_add(1), 0, clients)
-        );
-        Ok(())
-    }
+// The same, with a ledger of its own.
+fn crew_works<R: Threads + Wait + Clock + Abort + Sync>(
+    rt: &R,
+    alloc: Global,
+    crew: &Crew,
+) -> Result<(), Fail> {
+    play_crew::<Brand, R>(rt, alloc, Blank::new(PARTS), crew)
 }
 
 #[test]
@@ -187,28 +178,25 @@ fn four_workers_take_each_job_once(rt: HostRuntime) -> Result<(), Fail> {
         clients: 4,
         jobs: 100,
         end: Ok(()),
-        gate: &Open,
+        gate: Gates::Open,
     };
-    play(&rt, rt.alloc(), ROOMY, &crew)
+    crew_works(&rt, rt.alloc(), &crew)
 }
 
 #[test]
 fn one_worker_waits_until_another_was_answered(rt: HostRuntime) -> Result<(), Fail> {
-    let gate = Behind {
-        second: AtomicU64::new(0),
-    };
     let crew = Crew {
         clients: 2,
         jobs: 3,
         end: Ok(()),
-        gate: &gate,
+        gate: Gates::Behind(AtomicU64::new(0)),
     };
-    play(&rt, rt.alloc(), ROOMY, &crew)
+    crew_works(&rt, rt.alloc(), &crew)
 }
 
 #[test]
 fn two_workers_stand_at_their_gate_at_once(rt: HostRuntime) -> Result<(), Fail> {
-    let gate = Together {
+    let entered = Entered {
         first: AtomicU64::new(0),
         second: AtomicU64::new(0),
         is_over: AtomicU64::new(0),
@@ -217,9 +205,9 @@ fn two_workers_stand_at_their_gate_at_once(rt: HostRuntime) -> Result<(), Fail> 
         clients: 2,
         jobs: 3,
         end: Ok(()),
-        gate: &gate,
+        gate: Gates::Together(entered),
     };
-    play(&rt, rt.alloc(), ROOMY, &crew)
+    crew_works(&rt, rt.alloc(), &crew)
 }
 
 #[test]
@@ -228,64 +216,77 @@ fn a_worker_at_a_shut_gate_is_stuck(rt: HostRuntime) -> Result<(), Fail> {
         clients: 1,
         jobs: 1,
         end: Err(SharedFault::Stuck(1)),
-        gate: &Shut,
+        gate: Gates::Shut,
     };
-    play(&rt, rt.alloc(), ROOMY, &crew)
+    crew_works(&rt, rt.alloc(), &crew)
 }
 
-/// Workers over a disk that stops: all of them end, and what they were told of is kept, with what was on its way to them
-/// or without.
-struct Cut;
+// Four workers over a disk that stops inside this device call: all of them end, and what they were told of is kept,
+// with what was on its way to them or without.
+fn play_cut<L: Ledger + Send + Sync, R: Threads + Wait + Clock + Abort + Sync>(
+    rt: &R,
+    alloc: Global,
+    blank: Blank,
+    call: u64,
+) -> Result<(), Fail>
+    requires { (blank.name ≡ L.name) × (blank.parts ≡ L.parts) × (L.parts ≡ PARTS) }
+{
+    let stand = Stand {
+        limit: ROOMY.limit,
+        stops_in: Some(call),
+    };
+    let shared: Shared<MemDisk, L> = shared_on(alloc, blank, stand)?;
+    let crew = Crew {
+        clients: 4,
+        jobs: 100,
+        end: Err(SharedFault::Down),
+        gate: Gates::Open,
+    };
+    let tally = Tally::new(alloc, 401)?;
+    let seats = work(rt, alloc, &shared, &crew, &tally)?;
+    let told = deeds_told(&seats);
+    assert!(rt; shared.is_down(rt));
+    let end = shared.finish(rt, seats).err();
+    assert_eq!(rt; end, Some(SharedFault::Down));
+    let kept = kept_on_disks(rt, alloc, shared.into_server(), ROOMY.limit, Torn::Kept)?;
+    let done = deeds_of(kept);
+    assert!(rt;
+        told <= done && done <= told.saturating_add(4),
+        "{told} {done}"
+    );
+    Ok(())
+}
 
-const CUT_LIMIT: usize = 1_048_576;
-
-impl Scene for Cut {
-    fn play<L: Ledger + Send + Sync, R: Threads + Wait + Clock + Abort + Sync>(
-        &self,
-        rt: &R,
-        alloc: Global,
-        shared: Shared<MemDisk, L>,
-    ) -> Result<(), Fail> {
-        let crew = Crew {
-            clients: 4,
-            jobs: 100,
-            end: Err(SharedFault::Down),
-            gate: &Open,
-        };
-        let tally = Tally::new(alloc, 401)?;
-        let seats = crew.work(rt, alloc, &shared, &tally)?;
-        let mut told: u64 = 0;
-        for seat in &seats {
-            told = told.saturating_add(seat.deeds());
-        }
-        assert!(rt; shared.is_down(rt));
-        assert_eq!(rt; shared.finish(rt, seats).err(), Some(SharedFault::Down));
-        let (next, tuples, _) = kept_on_disks(
-            rt,
-            alloc,
-            shared.into_server(),
-            CUT_LIMIT,
-            Torn::Kept,
-        )?;
-        let puts = next.saturating_sub(1);
-        let takes = puts.saturating_sub(tuples as u64);
-        let done = puts.saturating_add(takes);
-        assert!(rt;
-            told <= done && done <= told.saturating_add(4),
-            "{told} {done}"
-        );
-        Ok(())
+// Of how many deeds all of them were told.
+fn deeds_told<L: Ledger>(seats: &[Seat<L>]) -> u64 {
+    let mut told: u64 = 0;
+    for seat in seats {
+        told = told.saturating_add(seat.deeds());
     }
+    told
+}
+
+// How many deeds led to what is kept, where each was a put or a take.
+fn deeds_of(kept: Kept) -> u64 {
+    let (next, tuples, _) = kept;
+    let puts = next.saturating_sub(1);
+    let takes = puts.saturating_sub(u64::try_from(tuples).unwrap_or(u64::MAX));
+    puts.saturating_add(takes)
+}
+
+// The same, with a ledger of its own.
+fn crew_is_cut<R: Threads + Wait + Clock + Abort + Sync>(
+    rt: &R,
+    alloc: Global,
+    call: u64,
+) -> Result<(), Fail> {
+    play_cut::<Brand, R>(rt, alloc, Blank::new(PARTS), call)
 }
 
 #[test]
 fn a_disk_that_stops_ends_all_workers(rt: HostRuntime) -> Result<(), Fail> {
     for call in [10, 100, 501, 502, 503, 504] {
-        let stand = Stand {
-            limit: CUT_LIMIT,
-            stops_in: Some(call),
-        };
-        play(&rt, rt.alloc(), stand, &Cut)?;
+        crew_is_cut(&rt, rt.alloc(), call)?;
     }
     Ok(())
 }
