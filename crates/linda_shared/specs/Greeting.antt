@@ -10,7 +10,7 @@ use Rattle.linda_shared.specs.declared.greeted.Greeted.{Greeted}
 use Rattle.linda_shared.specs.declared.greeted.Greeted.TheVariants.{Welcome, Refused}
 
 -- The seat and the kept number, or the code and detail.
-abbrev pub greeting_of : {O : Type 0} → Greeted Account O → Result (Account × ℕ) (ℕ × ℕ)
+abbrev pub greeting_of : {L : Type 0} → Greeted L → Result (Account × ℕ) (ℕ × ℕ)
 greeting_of (Welcome seat outlet last) = Ok (seat, last)
 greeting_of (Refused code detail) = Err (code, detail)
 

@@ -60,8 +60,8 @@ AreToldOf c (m ∷ ms) (t ∷ ts) = IsToldOf c m t × AreToldOf c ms ts
 abbrev pub IsLost : Account → Account → Type 0
 IsLost a new = (new ≡ a) ⊎ (new ≡ with_deed a)
 
--- A refused message leaves the account so: it is as before, but for a receipt that was no answer to the message, and for
--- an answer that was lost.
+-- A refused message leaves the account so: it is as before, but for a receipt that was no answer to the message, and
+-- for an answer that was lost.
 abbrev pub IsLeft : Account → SharedFault → Account → Type 0
 IsLeft a faults.Down new = IsLost a new
 IsLeft a faults.Full new = new ≡ a

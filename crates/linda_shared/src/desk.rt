@@ -8,24 +8,33 @@ use std::alloc::Global;
 use std::sync::Wait;
 use std::sync::ledger::Ledger;
 
-/// The server, and the batch in hand.
+/// The server, and the batch in hand. Once the answers of a group were lost the server is given up, and nothing that waits
+/// in its outboxes is given out any more.
 #[derive(Drop)]
 pub(crate) struct Desk<D: Disk, L: Ledger> {
     pub(crate) held: Held<D, L>,
     pub(crate) tray: Tray<L>,
+    pub(crate) is_given_up: bool,
 }
 
-/// Takes what is posted out of the server's outboxes.
-pub(crate) fn take_posted<D: Disk, L: Ledger, R: Wait>(
-    rt: &R,
-    alloc: Global,
-    held: &mut Held<D, L>,
-    office: &mut Office<L>,
-) {
-    for _ in rt.forever() {
-        let Some((client, replies)) = held.drain_next(alloc) else {
+impl<D: Disk, L: Ledger> Desk<D, L> {
+    /// Serves what is in hand.
+    pub(crate) fn serve(&mut self, alloc: Global) {
+        if !self.tray.serve(alloc, &mut self.held) {
+            self.is_given_up = true;
+        }
+    }
+
+    /// Takes what is posted out of the server's outboxes.
+    pub(crate) fn take_posted<R: Wait>(&mut self, rt: &R, alloc: Global, office: &mut Office<L>) {
+        if self.is_given_up {
             return;
-        };
-        office.take_replies(rt, client, replies);
+        }
+        for _ in rt.forever() {
+            let Some((client, replies)) = self.held.drain_next(alloc) else {
+                return;
+            };
+            office.take_replies(rt, client, replies);
+        }
     }
 }

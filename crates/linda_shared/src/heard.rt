@@ -78,7 +78,8 @@ impl Heard {
         ensures len { (vec_len self.new.told ≡ vec_len self.old.told + 1)
             × (vec_capacity self.new.told ≡ vec_capacity self.old.told) }
         ensures fault { self.new.fault ≡ Some (first_fault self.old.fault fault) }
-        ensures as_before { self.new.is_as_before ≡ true → (self.old.is_as_before ≡ true) × (spec.is_severe fault ≡ false) }
+        ensures as_before { self.new.is_as_before ≡ true
+            → (self.old.is_as_before ≡ true) × (spec.is_severe fault ≡ false) }
     {
         if is_severe(fault) {
             self.is_as_before = false;

@@ -45,7 +45,11 @@ impl<D: Disk, L: Ledger> Shared<D, L> {
         let office = Office::new(alloc)?;
         let held = Held::new(alloc, server, blank);
         Ok(Shared {
-            desk: Mutex::new(Desk { held, tray }),
+            desk: Mutex::new(Desk {
+                held,
+                tray,
+                is_given_up: false,
+            }),
             office: Mutex::new(office),
             queue: Mutex::new(Queue::new(alloc)),
             alloc,

@@ -93,10 +93,12 @@ impl<D: Disk, L: Ledger> Shared<D, L> {
     {
         let mut heard = Heard::new(told);
         let mut leads = leads;
-        for place in 0..messages.len() {
+        let mut place: usize = 0;
+        for message in messages {
             let answer = self.answer(rt, mailbox, place, leads);
             leads = false;
-            heard.add(account, &messages[place], answer);
+            heard.add(account, message, answer);
+            place += 1;
         }
         heard.end()
     }

@@ -16,8 +16,8 @@ use std::sync::ledger::Ledger;
 use std::sync::{Arc, Wait};
 
 impl<D: Disk, L: Ledger> Shared<D, L> {
-    /// Gives the client of a Hello its seat and its outlet, with the number of its last request that is kept; or refuses
-    /// it with a code and a detail.
+    /// Gives the client of a Hello its seat and its outlet, with the number of its last request that is kept; or
+    /// refuses it with a code and a detail.
     ///
     /// # Errors
     ///

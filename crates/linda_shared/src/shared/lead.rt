@@ -1,7 +1,6 @@
 //! Groups: one session serves what waits, and the next one leads while the answers are given out.
 
 use super::Shared;
-use crate::desk::{Desk, take_posted};
 use linda_disk::Disk;
 use linda_mail::{Answer, Mailbox, Turn};
 use std::sync::Wait;
@@ -30,20 +29,16 @@ impl<D: Disk, L: Ledger> Shared<D, L> {
         unreachable!()
     }
 
-    // Serves a group, lets the desk go to the next leader, and then gives out what the group came to. Where the answers
-    // of a group are lost, none of what the server sent is given out.
+    // Serves a group, lets the desk go to the next leader, and then gives out what the group came to.
     fn lead<R: Wait>(&self, rt: &R) {
-        let mut guard = self.desk.lock(rt);
-        let Desk { held, tray } = &mut *guard;
-        tray.fill(&mut self.queue.lock(rt));
-        let is_whole = tray.serve(self.alloc, held);
-        let is_down = held.is_down();
+        let mut desk = self.desk.lock(rt);
+        desk.tray.fill(&mut self.queue.lock(rt));
+        desk.serve(self.alloc);
+        let is_down = desk.held.is_down();
         let mut office = self.office.lock(rt);
-        tray.hand_over(rt, self.alloc, &mut office);
-        if is_whole {
-            take_posted(rt, self.alloc, held, &mut office);
-        }
-        drop(guard);
+        desk.tray.hand_over(rt, self.alloc, &mut office);
+        desk.take_posted(rt, self.alloc, &mut office);
+        drop(desk);
         self.queue.lock(rt).pass_on(rt);
         office.deliver(rt, self.alloc);
         if is_down {

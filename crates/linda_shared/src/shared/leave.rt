@@ -1,10 +1,9 @@
 //! A client goes, and the end.
 
-ghost use Rattle.std.specs.Prelude.{◌≡◌, ◌+◌, ◌≤◌, IfOk};
+ghost use Rattle.std.specs.Prelude.{◌≡◌, ◌+◌, ◌≤◌, IfOk, IfSome, IsSome};
 ghost use Rattle.linda_shared.specs.Seat.{deeds_told};
 
 use super::Shared;
-use crate::desk::{Desk, take_posted};
 use crate::seat::Seat;
 use linda_desk::{Held, Report};
 use linda_disk::Disk;
@@ -34,13 +33,12 @@ impl<D: Disk, L: Ledger> Shared<D, L> {
         outlet: Outlet<L>,
     ) -> Result<(), SharedFault> {
         let client = seat.client();
-        let mut guard = self.desk.lock(rt);
-        let Desk { held, .. } = &mut *guard;
-        let answer = held.leave(self.alloc, seat.into_account());
-        let is_down = held.is_down();
+        let mut desk = self.desk.lock(rt);
+        let answer = desk.held.leave(self.alloc, seat.into_account());
+        let is_down = desk.held.is_down();
         let mut office = self.office.lock(rt);
-        take_posted(rt, self.alloc, held, &mut office);
-        drop(guard);
+        desk.take_posted(rt, self.alloc, &mut office);
+        drop(desk);
         office.shut(rt, client);
         office.deliver(rt, self.alloc);
         if is_down {

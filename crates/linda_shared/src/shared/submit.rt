@@ -18,8 +18,8 @@ use std::sync::ledger::Ledger;
 use std::sync::{Arc, Wait};
 
 impl<D: Disk, L: Ledger> Shared<D, L> {
-    /// Submits one message, which is served with all that wait beside it. Gives the receipt of its deed, if it made one.
-    /// Its replies come out of the outlet. A Hello is refused there, as its client has a seat.
+    /// Submits one message, which is served with all that wait beside it. Gives the receipt of its deed, if it made
+    /// one. Its replies come out of the outlet. A Hello is refused there, as its client has a seat.
     ///
     /// # Errors
     ///
@@ -31,7 +31,7 @@ impl<D: Disk, L: Ledger> Shared<D, L> {
         seat: &mut Seat<L>,
         message: &Message,
     ) -> Result<Option<Receipt>, SharedFault>
-        // There is a receipt exactly where the seat was told of one deed more, and it joins the ring, behind the others;
+        // There is a receipt exactly where the seat was told of one deed more, and it joins the ring behind the others;
         ensures seat { IfOk result (λ r. seat.new ≡ with_told seat.old r) }
         ensures next { IfOk result (λ o. IfSome o (IsNext seat.old.client seat.old.ring)) }
         // its deed is one that the message asks for.

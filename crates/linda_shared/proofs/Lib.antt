@@ -1,0 +1,3 @@
+mod SeatLaws
+mod HeardLaws
+mod OkLaws

@@ -1,0 +1,50 @@
+-- What an account was told, one message more.
+use Rattle.std.proofs.Common.{◌≡◌, ℕ, ◌+◌, ◌-◌, ◌≤◌, ◌^◌, min, List, [], ◌∷◌, ◌++◌, Option, Some, None, IfSome, IsSome, true≢false, refl, sym, ap, ◌∙◌, arith}
+use Rattle.std.proofs.lemmas.List.Sums.{sum_by-cons}
+use Rattle.linda_wire.specs.declared.message.Message.{Message}
+use Rattle.linda_receipt.specs.declared.receipt.Receipt.{Receipt}
+use Rattle.linda_receipt.specs.Account.{Account}
+use Rattle.linda_shared.specs.Seat.{with_asked, back, with_told, with_all, IsToldOf, AreToldOf, deeds_told}
+
+pub all_snoc : (a : Account) (ts : List (Option Receipt)) (t : Option Receipt) → with_all a (ts ++ t ∷ []) ≡ with_told (with_all a ts) t
+all_snoc a [] t = refl
+all_snoc a (s ∷ ts) t = all_snoc (with_told a s) ts t
+
+pub told_snoc : (c : ℕ) (ms : List Message) (ts : List (Option Receipt)) (m : Message) (t : Option Receipt) → AreToldOf c ms ts → IsToldOf c m t → AreToldOf c (ms ++ m ∷ []) (ts ++ t ∷ [])
+told_snoc c [] [] m t all one = (one, all)
+told_snoc c [] (s ∷ ts) m t all one = absurd all
+told_snoc c (n ∷ ms) [] m t all one = absurd all
+told_snoc c (n ∷ ms) (s ∷ ts) m t all one = (all.0, told_snoc c ms ts m t all.1 one)
+
+-- What comes back changes the client, the count of messages and that of deeds so.
+pub back_client : (a : Account) (t : Option Receipt) → (with_told (back a) t).client ≡ a.client
+back_client a None = refl
+back_client a (Some r) = refl
+
+pub back_asked : (a : Account) (t : Option Receipt) → (with_told (back a) t).asked ≡ a.asked - 1
+back_asked a None = refl
+back_asked a (Some r) = refl
+
+pub back_more : (a : Account) (t : Option Receipt) → a.deeds ≤ (with_told (back a) t).deeds
+back_more a None = omega arith
+back_more a (Some r) = omega arith
+
+pub back_few : (a : Account) (t : Option Receipt) → (with_told (back a) t).deeds ≤ a.deeds + 1
+back_few a None = omega arith
+back_few a (Some r) = omega arith
+
+pub back_told : (a : Account) (t : Option Receipt) → with_asked (with_told (back a) t) 0 ≡ with_told (with_asked a 0) t
+back_told a None = refl
+back_told a (Some r) = refl
+
+-- ---- what seats say that they were told
+
+-- One more is counted.
+pub more_told : (told next : Option ℕ) (more all : ℕ) (a : Account) (before rest : List Account) → IfSome told (λ t. t + deeds_told before ≡ all) → before ≡ a ∷ rest
+    → more ≡ min a.deeds (2 ^ 64 - 1) → IfSome next (λ sum. IfSome told (λ one. sum ≡ one + more) × IsSome told) → IfSome next (λ sum. sum + deeds_told rest ≡ all)
+more_told told None more all a before rest so is counts step = tt
+more_told None (Some sum) more all a before rest so is counts step = absurd (true≢false (sym step.1))
+more_told (Some t) (Some sum) more all a before rest so is counts step =
+    let cut = ap deeds_told is ∙ sum_by-cons (λ (x : Account). min x.deeds (2 ^ 64 - 1)) a rest in
+    let now = step.0 in
+    omega (arith, so, cut, counts, now)
