@@ -9,39 +9,57 @@ use Rattle.clap.specs.Kinds.{Kinds, HasKind}
 use Rattle.clap.specs.Values.{kind_of}
 use Rattle.clap.specs.declared.error.Error.{Error}
 use Rattle.clap.specs.declared.error.kind.ErrorKind.TheVariants as kind
-use Rattle.std.specs.Prelude.{MatchResult, Result, Ok, Err, IsErrAnd}
+use Rattle.std.specs.Prelude.{MatchResult, Result, Ok, Err, IfOk, IfSome, IsErrAnd, None}
 use Rattle.clap.specs.declared.parser.matches.ArgMatches.{ArgMatches}
 use Rattle.clap.specs.declared.parser.matches.Found.{Found}
 use Rattle.clap.proofs.OnLiterals.{clap_on_literals}
 use Rattle.clap.proofs.WalkLemmas.{one_text-rows}
-use Rattle.linda.specs.Commands.{IsRefusedAs, AsksFor, AsksForPipe, AsksForRun, HasServers, linda}
+use Rattle.linda.specs.Commands.{IsCall, IsRefusedAs, AsksFor, AsksExactlyFor, AsksForPipe, AsksForRun, HasServers, Spells, linda}
 use Rattle.linda.specs.declared.command.Task.{Task}
 use Rattle.linda.specs.declared.command.Task.TheVariants as tasks
-use Rattle.linda.proofs.Parsing.{many_kinds, missing_kinds, unknown_kinds, AsksToRun, asked, name_of_rows, named}
+use Rattle.linda.proofs.Parsing.{many_kinds, missing_kinds, unknown_kinds, AsksToCall, AsksToRun, asked, name_of_rows, named, named_call}
 use Rattle.linda.proofs.RunWords.{run_kinds, run_refused_some, number_of_row, run_is_found, run_is_free, runs}
 
--- the command of a task
-abbrev pub command_of : Task → Text
-command_of tasks.Pipe = codes "pipe"
-command_of (tasks.Run n) = codes "run"
+-- the parser's command is that of the words
+pub pipe_found : (m : ArgMatches) (words : List Text) → AsksForPipe words → subcommand_rows_of m ≡ subcommand_of linda words → subcommand_name_of m ≡ Some (codes "pipe")
+pipe_found m words asks rows = name_of_rows m ∙ ap (λ o. option_map (λ p. p.0) o) rows ∙ named words asks
 
--- the parser's command is the task's
-pub command_found : (m : ArgMatches) (words : List Text) (task : Task) → AsksFor words task → subcommand_rows_of m ≡ subcommand_of linda words
-    → subcommand_name_of m ≡ Some (command_of task)
-command_found m words tasks.Pipe asks rows = name_of_rows m ∙ ap (λ o. option_map (λ p. p.0) o) rows ∙ named words asks
-command_found m words (tasks.Run n) asks rows = name_of_rows m ∙ ap (λ o. option_map (λ p. p.0) o) (rows ∙ run_is_found words n asks)
+pub run_found : (m : ArgMatches) (words : List Text) (n : ℕ) → AsksForRun words n → subcommand_rows_of m ≡ subcommand_of linda words → subcommand_name_of m ≡ Some (codes "run")
+run_found m words n asks rows = name_of_rows m ∙ ap (λ o. option_map (λ p. p.0) o) (rows ∙ run_is_found words n asks)
 
-pub only_pipe : (task : Task) → Some (command_of task) ≡ Some (codes "pipe") → tasks.Pipe ≡ task
-only_pipe tasks.Pipe e = refl
-only_pipe (tasks.Run n) e =
-    let bad : ◌≡◌ {A = ℕ} (slice_index (codes "run") 0) (slice_index (codes "pipe") 0) = ap (λ (o : Option Text). slice_index (unwrap_or o []) 0) e in
+pub call_found : (m : ArgMatches) (words : List Text) → AsksToCall words → subcommand_rows_of m ≡ subcommand_of linda words → subcommand_name_of m ≡ Some (codes "call")
+call_found m words asks rows = name_of_rows m ∙ ap (λ o. option_map (λ p. p.0) o) rows ∙ named_call words asks
+
+abbrev initial : Option Text → ℕ
+initial o = slice_index (unwrap_or o []) 0
+
+pub no_run_pipe : (o : Option Text) → o ≡ Some (codes "run") → o ≡ Some (codes "pipe") → ⊥
+no_run_pipe o is as_other =
+    let bad : ◌≡◌ {A = ℕ} (slice_index (codes "run") 0) (slice_index (codes "pipe") 0) = ap initial (sym is ∙ as_other) in
     absurd (omega (arith, bad))
 
--- where the parser's command is not `pipe`, the task is a run
-pub only_run : (m : ArgMatches) (words : List Text) (task : Task) (result : Option Task) → AsksFor words task → subcommand_rows_of m ≡ subcommand_of linda words
-    → (subcommand_name_of m ≡ Some (codes "pipe") → ⊥) → ((n : ℕ) → AsksForRun words n → result ≡ Some (tasks.Run n)) → result ≡ Some task
-only_run m words tasks.Pipe result asks rows no_pipe runs = absurd (no_pipe (command_found m words tasks.Pipe asks rows))
-only_run m words (tasks.Run n) result asks rows no_pipe runs = runs n asks
+pub no_call_pipe : (o : Option Text) → o ≡ Some (codes "call") → o ≡ Some (codes "pipe") → ⊥
+no_call_pipe o is as_other =
+    let bad : ◌≡◌ {A = ℕ} (slice_index (codes "call") 0) (slice_index (codes "pipe") 0) = ap initial (sym is ∙ as_other) in
+    absurd (omega (arith, bad))
+
+pub no_call_run : (o : Option Text) → o ≡ Some (codes "call") → o ≡ Some (codes "run") → ⊥
+no_call_run o is as_other =
+    let bad : ◌≡◌ {A = ℕ} (slice_index (codes "call") 0) (slice_index (codes "run") 0) = ap initial (sym is ∙ as_other) in
+    absurd (omega (arith, bad))
+
+-- what the words ask for, where no fault may come
+pub data Asked (words : List Text) : Type 0 where
+  to_pipe : AsksForPipe words → Asked words
+  to_run : (n : ℕ) → AsksForRun words n → Asked words
+  to_call : AsksToCall words → Asked words
+
+pub asked_for : (words : List Text) → fault_of linda words ≡ [] → Asked words
+asked_for words free = elim (asked words free) [
+  | inl h ↦ to_pipe h
+  | inr (inl h) ↦ (let r = runs words h in to_run r.0 r.1)
+  | inr (inr h) ↦ to_call h
+]
 
 -- the text of the number that the parser found below `run`
 pub text_found : (m : ArgMatches) (f : Found) (words : List Text) (n : ℕ) (a : AsksForRun words n) → subcommand_rows_of m ≡ subcommand_of linda words
@@ -50,13 +68,77 @@ text_found m f words n a rows below =
     one_text-rows f (codes "servers") ∙ ap (λ o. one_of (codes "servers") (unwrap_or o [])) (sym below ∙ ap (λ o. option_map (λ p. p.1) o) (rows ∙ run_is_found words n a))
     ∙ number_of_row a.number
 
--- where no fault may come, the words ask for a task
-pub task_asked : (words : List Text) → fault_of linda words ≡ [] → (task : Task) × AsksFor words task
-task_asked words e = go (asked words e)
+-- ---- what the parser finds, by the command that it met
+
+pub exactly_pipe : (m : ArgMatches) (words : List Text) (task : Task) → AsksExactlyFor words task → subcommand_rows_of m ≡ subcommand_of linda words
+    → subcommand_name_of m ≡ Some (codes "pipe") → tasks.Pipe ≡ task
+exactly_pipe m words tasks.Pipe asks rows is = refl
+exactly_pipe m words (tasks.Run n) asks rows is = absurd (no_run_pipe (subcommand_name_of m) (run_found m words n asks rows) is)
+exactly_pipe m words (tasks.Call client ports) asks rows is = absurd asks
+
+-- the parser reads the number of a run off this text
+abbrev pub Reads : Found → Option Task → Type 0
+Reads f result = (text : Text) (n : ℕ) → one_text f (codes "servers") ≡ Some (without_minus text) → Spells text n → result ≡ Some (tasks.Run n)
+
+pub exactly_run : (m : ArgMatches) (f : Found) (words : List Text) (task : Task) (result : Option Task) → AsksExactlyFor words task
+    → subcommand_rows_of m ≡ subcommand_of linda words → subcommand_name_of m ≡ Some (codes "run")
+    → option_map (λ p. p.1) (subcommand_rows_of m) ≡ Some (rows_of f) → Reads f result → result ≡ Some task
+exactly_run m f words tasks.Pipe result asks rows is below reads = absurd (no_run_pipe (subcommand_name_of m) is (pipe_found m words asks rows))
+exactly_run m f words (tasks.Run n) result asks rows is below reads = reads asks.number n (text_found m f words n asks rows below) asks.spells
+exactly_run m f words (tasks.Call client ports) result asks rows is below reads = absurd asks
+
+pub never_call : (m : ArgMatches) (words : List Text) (task : Task) → AsksExactlyFor words task → subcommand_rows_of m ≡ subcommand_of linda words
+    → subcommand_name_of m ≡ Some (codes "call") → ⊥
+never_call m words tasks.Pipe asks rows is = no_call_pipe (subcommand_name_of m) is (pipe_found m words asks rows)
+never_call m words (tasks.Run n) asks rows is = no_call_run (subcommand_name_of m) is (run_found m words n asks rows)
+never_call m words (tasks.Call client ports) asks rows is = asks
+
+pub never_other : (m : ArgMatches) (words : List Text) (task : Task) → AsksExactlyFor words task → subcommand_rows_of m ≡ subcommand_of linda words
+    → (subcommand_name_of m ≡ Some (codes "pipe") → ⊥) → (subcommand_name_of m ≡ Some (codes "run") → ⊥) → ⊥
+never_other m words tasks.Pipe asks rows no_pipe no_run = no_pipe (pipe_found m words asks rows)
+never_other m words (tasks.Run n) asks rows no_pipe no_run = no_run (run_found m words n asks rows)
+never_other m words (tasks.Call client ports) asks rows no_pipe no_run = asks
+
+pub pipe_asked : (m : ArgMatches) (words : List Text) → fault_of linda words ≡ [] → subcommand_rows_of m ≡ subcommand_of linda words
+    → subcommand_name_of m ≡ Some (codes "pipe") → AsksForPipe words
+pipe_asked m words free rows is = go (asked_for words free)
   where
-    go : AsksForPipe words ⊎ AsksToRun words → (task : Task) × AsksFor words task
-    go (inl pipe) = (tasks.Pipe, pipe)
-    go (inr run) = let r = runs words run in (tasks.Run r.0, r.1)
+    go : Asked words → AsksForPipe words
+    go (to_pipe h) = h
+    go (to_run n a) = absurd (no_run_pipe (subcommand_name_of m) (run_found m words n a rows) is)
+    go (to_call a) = absurd (no_call_pipe (subcommand_name_of m) (call_found m words a rows) is)
+
+pub run_asked : (m : ArgMatches) (f : Found) (words : List Text) (result : Option Task) → fault_of linda words ≡ []
+    → subcommand_rows_of m ≡ subcommand_of linda words → subcommand_name_of m ≡ Some (codes "run")
+    → option_map (λ p. p.1) (subcommand_rows_of m) ≡ Some (rows_of f) → Reads f result → IfSome result (AsksFor words)
+run_asked m f words result free rows is below reads = go (asked_for words free)
+  where
+    go : Asked words → IfSome result (AsksFor words)
+    go (to_pipe h) = absurd (no_run_pipe (subcommand_name_of m) is (pipe_found m words h rows))
+    go (to_run n a) = subst (λ (o : Option Task). IfSome o (AsksFor words)) (sym (reads a.number n (text_found m f words n a rows below) a.spells)) a
+    go (to_call a) = absurd (no_call_run (subcommand_name_of m) (call_found m words a rows) is)
+
+call_asks : (words : List Text) (task : Task) → AsksToCall words → IsCall task → AsksFor words task
+call_asks words tasks.Pipe a h = absurd h
+call_asks words (tasks.Run n) a h = absurd h
+call_asks words (tasks.Call client ports) a h = record { name = a.name; later = a.later; spelled = a.spelled; is_client = h.0; are_ports = h.1 }
+
+call_is_asked : (words : List Text) (found : Option Task) → AsksToCall words → IfSome found IsCall → IfSome found (AsksFor words)
+call_is_asked words None a h = tt
+call_is_asked words (Some task) a h = call_asks words task a h
+
+pub call_asked : {E : Type 0} (m : ArgMatches) (words : List Text) (result : Result (Option Task) E) → fault_of linda words ≡ []
+    → subcommand_rows_of m ≡ subcommand_of linda words → subcommand_name_of m ≡ Some (codes "call")
+    → IfOk result (λ found. IfSome found IsCall) → IfOk result (λ found. IfSome found (AsksFor words))
+call_asked m words (Err e) free rows is h = tt
+call_asked m words (Ok found) free rows is h = go (asked_for words free)
+  where
+    go : Asked words → IfSome found (AsksFor words)
+    go (to_pipe p) = absurd (no_call_pipe (subcommand_name_of m) is (pipe_found m words p rows))
+    go (to_run n a) = absurd (no_call_run (subcommand_name_of m) is (run_found m words n a rows))
+    go (to_call a) = call_is_asked words found a h
+
+-- ---- faults
 
 pipe_alone : (name : Text) → fault_of linda (name ∷ codes "pipe" ∷ []) ≡ []
 unfolding clap_on_literals
@@ -66,15 +148,17 @@ pipe_ended : (name : Text) → fault_of linda (name ∷ codes "pipe" ∷ codes "
 unfolding clap_on_literals
 pipe_ended name = refl
 
--- and no fault comes of words that ask for one
-pub task_is_free : (words : List Text) (task : Task) → AsksFor words task → fault_of linda words ≡ []
+-- no fault comes of words that ask for a task
+pub task_is_free : (words : List Text) (task : Task) → AsksExactlyFor words task → fault_of linda words ≡ []
 task_is_free words tasks.Pipe (name, inl h) = ap (fault_of linda) h ∙ pipe_alone name
 task_is_free words tasks.Pipe (name, inr h) = ap (fault_of linda) h ∙ pipe_ended name
 task_is_free words (tasks.Run n) asks = run_is_free words n asks
+task_is_free words (tasks.Call client ports) asks = absurd asks
 
 pub has_servers : (words : List Text) (task : Task) → AsksFor words task → HasServers task
 has_servers words tasks.Pipe asks = tt
 has_servers words (tasks.Run n) asks = (asks.spells.some, asks.spells.most)
+has_servers words (tasks.Call client ports) asks = (asks.are_ports.0, asks.are_ports.1.0)
 
 abbrev second : List Text → ℕ
 second words = slice_index (unwrap_or (slice_get words 1) []) 0
@@ -83,13 +167,6 @@ second words = slice_index (unwrap_or (slice_get words 1) []) 0
 pub apart : (words : List Text) (n : ℕ) → AsksForPipe words → AsksForRun words n → ⊥
 apart words n (name, inl h) run = let bad : ◌≡◌ {A = ℕ} (slice_index (codes "pipe") 0) (slice_index (codes "run") 0) = ap second (sym h) ∙ ap second run.spelled in absurd (omega (arith, bad))
 apart words n (name, inr h) run = let bad : ◌≡◌ {A = ℕ} (slice_index (codes "pipe") 0) (slice_index (codes "run") 0) = ap second (sym h) ∙ ap second run.spelled in absurd (omega (arith, bad))
-
--- what was found is what the words ask for
-pub found_asked : (words : List Text) (task : Task) (result : Option Task) → fault_of linda words ≡ [] → result ≡ Some task
-    → ((t : Task) → AsksFor words t → result ≡ Some t) → AsksFor words task
-found_asked words task result free is tell =
-    let t = task_asked words free in
-    subst (AsksFor words) (ap (λ o. unwrap_or o task) (sym (tell t.0 t.1) ∙ is)) t.1
 
 -- only want of memory is told where no fault may come
 pub memory_alone : (kinds : Kinds) (e : Error) → kinds ≡ [] → HasKind kinds e → kind_of e ≡ kind.OutOfMemory
@@ -104,7 +181,7 @@ matched_on (Err y) e Q P is p = subst P (sym is) p
 
 pub refused_kinds : (words : List Text) (kinds : Kinds) → IsRefusedAs words kinds → fault_of linda words ≡ kinds
 refused_kinds words kinds (inl h) = missing_kinds words h.0 ∙ sym h.1
-refused_kinds words kinds (inr (inl h)) = ap (fault_of linda) h.0.spelled ∙ unknown_kinds h.0.name h.0.word h.0.later h.0.no_option h.0.no_pipe h.0.no_run h.0.no_help ∙ sym h.1
+refused_kinds words kinds (inr (inl h)) = ap (fault_of linda) h.0.spelled ∙ unknown_kinds h.0.name h.0.word h.0.later h.0.no_option h.0.no_pipe h.0.no_run h.0.no_call h.0.no_help ∙ sym h.1
 refused_kinds words kinds (inr (inr (inl h))) = ap (fault_of linda) h.0.spelled ∙ many_kinds h.0.name h.0.word h.0.later h.0.no_option ∙ sym h.1
 refused_kinds words kinds (inr (inr (inr h))) = run_kinds words kinds h
 

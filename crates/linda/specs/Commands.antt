@@ -1,5 +1,5 @@
 -- What the command line asks for, and how words that ask for nothing are refused.
-use Rattle.std.specs.Prelude.{◌≡◌, ◌≢◌, ◌≤◌, ◌⊎◌, ◌==◌, ⊤, ℕ, Bool, true, false}
+use Rattle.std.specs.Prelude.{◌≡◌, ◌≢◌, ◌<◌, ◌≤◌, ◌⊎◌, ◌==◌, ◌^◌, ⊤, ℕ, Bool, true, false}
 use Rattle.std.specs.Prelude.{List, [], ◌∷◌, ◌++◌, length, Some, pos}
 use Rattle.std.specs.Prelude.{codes, Result, IsErrAnd}
 use Rattle.std.specs.Str.Parse.{IsNumeral, digits_value, without_leading_plus}
@@ -10,6 +10,7 @@ use Rattle.clap.specs.declared.builder.value_parser.ValueParser.TheVariants as p
 use Rattle.clap.specs.declared.error.Error.{Error}
 use Rattle.clap.specs.declared.error.kind.ErrorKind.TheVariants as kinds
 use Rattle.linda.specs.Marks.{hyphen}
+use Rattle.linda.specs.Ports.{ArePorts}
 use Rattle.linda.specs.declared.command.Task.{Task}
 use Rattle.linda.specs.declared.command.Task.TheVariants as tasks
 use Rattle.linda_client.specs.declared.limits.TheConstants.{MAX_SERVERS}
@@ -24,11 +25,32 @@ servers_rule = record (new_rule (codes "servers")) {
   parser = Some (parsers.Signed (pos 1) (pos MAX_SERVERS));
 }
 
--- The program's command as the parser has it: it wants a command below it, `pipe` or `run`.
+-- the option `--client`, which must be there, with a number of 32 bits
+abbrev pub client_rule : Rule
+client_rule = record (new_rule (codes "client")) {
+  long = Some (codes "client");
+  value_names = 1;
+  required = true;
+  action = Some Set;
+  parser = Some (parsers.Signed (pos 0) (pos 4294967295));
+}
+
+-- the words that name ports, of which there must be as many as servers there may be, and one at least
+abbrev pub ports_rule : Rule
+ports_rule = record (new_rule (codes "ports")) {
+  value_names = 1;
+  required = true;
+  action = Some Set;
+  range = Some (record { start_inclusive = 1; end_inclusive = MAX_SERVERS });
+  parser = Some (parsers.Signed (pos 1) (pos 65535));
+}
+
+-- The program's command as the parser has it: it wants a command below it, `pipe`, `run` or `call`.
 abbrev pub linda : App
-linda = with_subcommand (with_subcommand (on_top (λ s. record s { subcommand_required = true })
+linda = with_subcommand (with_subcommand (with_subcommand (on_top (λ s. record s { subcommand_required = true })
     (new_app (codes "linda"))) (new_app (codes "pipe")).top)
-    (with_rule (new_app (codes "run")) servers_rule).top
+    (with_rule (new_app (codes "run")) servers_rule).top)
+    (with_rule (with_rule (new_app (codes "call")) client_rule) ports_rule).top
 
 -- no word, or the `--` that ends options
 abbrev pub IsEnd : List (List ℕ) → Type 0
@@ -64,22 +86,44 @@ pub record AsksForRun (words : List (List ℕ)) (n : ℕ) : Type 0 where
   pub is_end : IsEnd end
   pub spells : Spells number n
 
+-- The words are a program's name and `call`, and the numbers are such as may stand behind it.
+pub record AsksForCall (words : List (List ℕ)) (client : ℕ) (ports : List ℕ) : Type 0 where
+  pub name : List ℕ
+  pub later : List (List ℕ)
+  pub spelled : words ≡ name ∷ codes "call" ∷ later
+  pub is_client : client < 2 ^ 32
+  pub are_ports : ArePorts ports
+
 -- what the words ask for
 abbrev pub AsksFor : List (List ℕ) → Task → Type 0
 AsksFor words tasks.Pipe = AsksForPipe words
 AsksFor words (tasks.Run n) = AsksForRun words n
+AsksFor words (tasks.Call client ports) = AsksForCall words client ports
 
--- a run has at least one server, and not more than there may be
+-- it is a call, by such numbers
+abbrev pub IsCall : Task → Type 0
+IsCall tasks.Pipe = ⊥
+IsCall (tasks.Run n) = ⊥
+IsCall (tasks.Call client ports) = (client < 2 ^ 32) × ArePorts ports
+
+-- what words ask for that are written out above to the letter: the pipe, or a run
+abbrev pub AsksExactlyFor : List (List ℕ) → Task → Type 0
+AsksExactlyFor words tasks.Pipe = AsksForPipe words
+AsksExactlyFor words (tasks.Run n) = AsksForRun words n
+AsksExactlyFor words (tasks.Call client ports) = ⊥
+
+-- a run and a call have at least one server, and not more than there may be
 abbrev pub HasServers : Task → Type 0
 HasServers tasks.Pipe = ⊤
 HasServers (tasks.Run n) = (1 ≤ n) × (n ≤ MAX_SERVERS)
+HasServers (tasks.Call client ports) = (1 ≤ length ports) × (length ports ≤ MAX_SERVERS)
 
 -- whether a word begins with a hyphen
 abbrev pub has_hyphen : List ℕ → Bool
 has_hyphen [] = false
 has_hyphen (b ∷ bs) = b == hyphen
 
--- The words are a program's name and then a word that is no option, and none of `pipe`, `run`, `help`.
+-- The words are a program's name and then a word that is no option, and none of `pipe`, `run`, `call`, `help`.
 pub record HasUnknown (words : List (List ℕ)) : Type 0 where
   pub name : List ℕ
   pub word : List ℕ
@@ -88,6 +132,7 @@ pub record HasUnknown (words : List (List ℕ)) : Type 0 where
   pub no_option : has_hyphen word ≡ false
   pub no_pipe : word ≢ codes "pipe"
   pub no_run : word ≢ codes "run"
+  pub no_call : word ≢ codes "call"
   pub no_help : word ≢ codes "help"
 
 -- The words are a program's name, `pipe`, and then a word that is no option.

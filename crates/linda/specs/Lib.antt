@@ -4,4 +4,5 @@ pub mod Hex
 pub mod Lines
 pub mod Marks
 pub mod Piping
+pub mod Ports
 pub mod Statuses

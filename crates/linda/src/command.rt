@@ -1,24 +1,32 @@
 //! The command line.
 
-ghost use Rattle.std.specs.Prelude.{◌≡◌, ℕ, List, Some, false, map, IfOk, MatchResult};
+mod ports;
+
+ghost use Rattle.std.specs.Prelude.{◌≡◌, ℕ, List, [], Some, false, map, codes, IfOk, IfSome, MatchResult};
 ghost use Rattle.std.specs.String.{string_bytes};
-ghost use Rattle.clap.specs.Words.{Kinds, app_of, kind_of, rule_of};
+ghost use Rattle.clap.specs.Lexer.{without_minus};
+ghost use Rattle.clap.specs.Matches.{one_text};
+ghost use Rattle.clap.specs.Words.{Kinds, app_of, fault_of, found_of, kind_of, rule_of};
 ghost use Rattle.clap.specs.Words.{subcommand_of, subcommand_rows_of};
-ghost use Rattle.linda.specs.Commands.{AsksFor, AsksForPipe, AsksForRun, HasServers};
-ghost use Rattle.linda.specs.Commands.{IsRefusedAs, Refuses, linda, servers_rule};
+ghost use Rattle.linda.specs.Commands.{AsksExactlyFor, AsksFor, AsksForPipe, AsksForRun, HasServers, Spells};
+ghost use Rattle.linda.specs.Commands.{IsCall, IsRefusedAs, Refuses, client_rule, linda, ports_rule, servers_rule};
+ghost use Rattle.linda.specs.declared.command.Task.TheVariants as tasks;
 
 use clap::error::ErrorKind;
 use clap::{Arg, ArgAction, ArgMatches, Command, Error, value_parser};
 use linda_client::MAX_SERVERS;
+pub use ports::Ports;
 use std::alloc::{AllocError, Global};
 
 /// What the command line asks for.
-#[derive(Clone, Copy, Debug, PartialEq, Eq)]
+#[derive(Debug, Drop)]
 pub enum Task {
     /// One volatile server and one connection, over standard input and output.
     Pipe,
     /// A script from standard input, played with this many servers: from 1 to `MAX_SERVERS`.
     Run { servers: u32 },
+    /// Lines of a client from standard input, over servers that listen on ports of this machine.
+    Call { client: u32, ports: Ports },
 }
 
 /// Reads the words of the command line, of which the first names the program.
@@ -30,7 +38,7 @@ pub enum Task {
 #[tactic(auto, using(crate::proofs::Tasks::apart))]
 pub fn read_task(alloc: Global, words: &[String]) -> Result<Task, Error>
     ensures asked { IfOk result (λ task. AsksFor (map string_bytes words.now) task) }
-    ensures taken { (task : Task) → AsksFor (map string_bytes words.now) task
+    ensures taken { (task : Task) → AsksExactlyFor (map string_bytes words.now) task
         → MatchResult result (λ found. found ≡ task) (λ e. kind_of e ≡ ErrorKind.OutOfMemory) }
     ensures servers { IfOk result HasServers }
     ensures apart { (n : ℕ) → AsksForPipe (map string_bytes words.now)
@@ -40,22 +48,53 @@ pub fn read_task(alloc: Global, words: &[String]) -> Result<Task, Error>
 {
     let mut linda = command(alloc)?;
     let matches = linda.try_get_matches_from_mut(words)?;
-    if let Some(task) = task_of(&matches) {
+    let found = task_of(alloc, &matches)?;
+    if let Some(task) = found {
         return Ok(task);
     }
     Err(linda.error(ErrorKind::MissingSubcommand, "a command is required")?)
 }
 
 // What the parser found that the words ask for.
-fn task_of(matches: &ArgMatches) -> Option<Task>
-    ensures { (words : List (List ℕ)) (task : Task) → AsksFor words task
-        → subcommand_rows_of matches.now ≡ subcommand_of linda words → result ≡ Some task }
+fn task_of(alloc: Global, matches: &ArgMatches) -> Result<Option<Task>, AllocError>
+    ensures exact { (words : List (List ℕ)) (task : Task) → AsksExactlyFor words task
+        → subcommand_rows_of matches.now ≡ subcommand_of linda words → IfOk result (λ found. found ≡ Some task) }
+    ensures found { (words : List (List ℕ)) → fault_of linda words ≡ []
+        → subcommand_rows_of matches.now ≡ subcommand_of linda words
+        → IfOk result (λ found. IfSome found (AsksFor words)) }
 {
     if matches.subcommand_matches(PIPE).is_some() {
-        return Some(Task::Pipe);
+        return Ok(Some(Task::Pipe));
     }
-    let servers = matches.subcommand_matches(RUN)?.get_one::<u32>(SERVERS)?;
+    match matches.subcommand_matches(RUN) {
+        Some(below) => Ok(run_of(below)),
+        None => match matches.subcommand_matches(CALL) {
+            Some(below) => call_of(alloc, below),
+            None => Ok(None),
+        },
+    }
+}
+
+// What is found below `run`.
+fn run_of(below: &ArgMatches) -> Option<Task>
+    ensures { (text : List ℕ) (n : ℕ) → one_text (found_of below.now) (codes "servers") ≡ Some (without_minus text)
+        → Spells text n → result ≡ Some (tasks.Run n) }
+{
+    let servers = below.get_one::<u32>(SERVERS)?;
     Some(Task::Run { servers })
+}
+
+// What is found below `call`.
+fn call_of(alloc: Global, below: &ArgMatches) -> Result<Option<Task>, AllocError>
+    ensures { IfOk result (λ found. IfSome found IsCall) }
+{
+    let Some(client) = below.get_one::<u32>(CLIENT) else {
+        return Ok(None);
+    };
+    let Some(ports) = Ports::found(alloc, below, PORTS)? else {
+        return Ok(None);
+    };
+    Ok(Some(Task::Call { client, ports }))
 }
 
 // The program's command.
@@ -67,13 +106,19 @@ fn command<'a>(alloc: Global) -> Result<Command<'a>, AllocError>
     );
     let run = Command::new(alloc, RUN)
         .about("Play a script from standard input with servers in memory")
-        .after_help(EXAMPLE)
+        .after_help(SCRIPT)
         .arg(servers(alloc))?;
+    let call = Command::new(alloc, CALL)
+        .about("Put and take tuples at servers that listen on ports of this machine")
+        .after_help(LINES)
+        .arg(client(alloc))?
+        .arg(port_words(alloc))?;
     Command::new(alloc, "linda")
         .about("A tuple space")
         .subcommand_required(true)
         .subcommand(pipe)?
-        .subcommand(run)
+        .subcommand(run)?
+        .subcommand(call)
 }
 
 // The option that says how many servers there are.
@@ -90,13 +135,51 @@ fn servers<'a>(alloc: Global) -> Arg<'a>
         .value_parser(value_parser!(u32).range(1..=i64::from(MAX_SERVERS)))
 }
 
+// The option that says which client it is.
+fn client<'a>(alloc: Global) -> Arg<'a>
+    ensures rule { rule_of result ≡ client_rule }
+    ensures own { result.global ≡ false }
+{
+    Arg::new(alloc, CLIENT)
+        .long(CLIENT)
+        .value_name("C")
+        .help("Which client it is, a number that no other client has")
+        .required(true)
+        .action(ArgAction::Set)
+        .value_parser(value_parser!(u32))
+}
+
+// The words that say where the servers listen.
+fn port_words<'a>(alloc: Global) -> Arg<'a>
+    ensures rule { rule_of result ≡ ports_rule }
+    ensures own { result.global ≡ false }
+{
+    Arg::new(alloc, PORTS)
+        .value_name("PORT")
+        .help("Where servers 0, 1, .. listen, from 1 to 16 of them")
+        .required(true)
+        .action(ArgAction::Set)
+        .num_args(1..=MAX_SERVERS as usize)
+        .value_parser(value_parser!(u16).range(1..))
+}
+
 const PIPE: &str = "pipe";
 
 const RUN: &str = "run";
 
 const SERVERS: &str = "servers";
 
-const EXAMPLE: &str = "Example of a script:\n  \
+const CALL: &str = "call";
+
+const CLIENT: &str = "client";
+
+const PORTS: &str = "ports";
+
+const SCRIPT: &str = "Example of a script:\n  \
     7 out (\"a\", 3)\n  \
     8 sync in (\"a\", ?i)\n  \
     state 1";
+
+const LINES: &str = "Example of lines:\n  \
+    out (\"a\", 3)\n  \
+    sync in (\"a\", ?i)";

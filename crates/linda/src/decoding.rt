@@ -18,7 +18,7 @@ pub fn decode_line(alloc: Global, line: &[u8]) -> Result<Option<Vec<u8>>, AllocE
     // Memory runs out only where the line is hexadecimal.
     ensures memory { IsErr result → IsSome (piece_of line.now) }
 {
-    let text = digits(line);
+    let text = without_return(line);
     match hex::decode(alloc, text) {
         Ok(piece) => Ok(Some(piece)),
         Err(FromHexError::OutOfMemory) => {
@@ -35,7 +35,7 @@ pub fn decode_line(alloc: Global, line: &[u8]) -> Result<Option<Vec<u8>>, AllocE
 pub fn is_hexadecimal_line(line: &[u8]) -> bool
     ensures { IsTrue result ↔ IsSome (piece_of line.now) }
 {
-    is_hexadecimal(digits(line))
+    is_hexadecimal(without_return(line))
 }
 
 // Whether the text is pairs of digits; takes no memory.
@@ -59,8 +59,8 @@ fn is_digit(byte: u8) -> bool
     byte.is_ascii_hexdigit()
 }
 
-// The line without the carriage return at its end, where there is one.
-fn digits(line: &[u8]) -> &[u8]
+/// The line without the carriage return at its end, where there is one.
+pub(crate) fn without_return(line: &[u8]) -> &[u8]
     ensures { result.now ≡ digits_of line.now }
 {
     match line {

@@ -5,18 +5,23 @@
 //!
 //! `linda run --servers N` plays a script from standard input with N servers on disks in memory, 1 to 16.
 //!
+//! `linda call --client C PORT..` plays lines from standard input as client C, over the servers that listen on these
+//! ports of this machine.
+//!
 //! The exit status is 0 at the end; 2 for a fault of the command line, with the parser's text on standard
-//! error; 3 with one line there, `io` or `memory`, where standard input or output fails or memory runs out;
-//! 4 with one line there for a fault of a line of the input.
+//! error; 3 with one line there, `io` or `memory`, where standard input or output fails or memory runs out, or
+//! `server S: no connection` and `server S: refused CODE DETAIL`; 4 with one line there for a fault of a line of the
+//! input.
 #![tactic(auto)]
 
 ghost use Rattle.std.specs.Prelude.{◌≡◌, ◌≢◌, ◌≤◌, ◌⊎◌};
 ghost use Rattle.linda_client.specs.declared.limits.TheConstants.{MAX_SERVERS};
 ghost use Rattle.std.specs.Process.{exit_status};
 ghost use Rattle.clap.specs.Words.{kind_of};
-ghost use Rattle.linda.specs.Statuses.{status_after, status_after_script};
+ghost use Rattle.linda.specs.Statuses.{status_after, status_after_call, status_after_script};
 ghost use Rattle.clap.specs.declared.error.kind.ErrorKind.TheVariants as kinds;
 
+mod calling;
 mod command;
 mod decoding;
 mod exchanges;
@@ -28,14 +33,19 @@ mod spelling;
 #[cfg(test)]
 mod tests;
 
-use crate::command::{Task, read_task};
+use crate::calling::{CallFault, call};
+use crate::command::{Ports, Task, read_task};
 use crate::faults::{PipeFault, REFUSED};
 use crate::piping::pipe;
 use crate::running::status_of_script;
 use linda_shell::{ScriptFault, run_script};
 use std::fmt::Display;
 use std::io::ErrorKind;
+use std::net::{Net, TcpListener, TcpStream};
 use std::process::ExitCode;
+use std::sync::Wait;
+use std::thread::Threads;
+use std::time::Clock;
 use std::{env, io};
 
 // The exit status for a fault of the command line.
@@ -54,6 +64,7 @@ fn main(rt: HostRuntime) -> ExitCode {
     match read_task(rt.alloc(), &words) {
         Ok(Task::Pipe) => run_pipe(&rt),
         Ok(Task::Run { servers }) => run_servers(&rt, servers),
+        Ok(Task::Call { client, ports }) => run_call(&rt, &rt, client, &ports),
         Err(error) => show(&rt, &error),
     }
 }
@@ -102,6 +113,39 @@ fn end_of_script(rt: &HostRuntime, ended: Result<(), ScriptFault>) -> ExitCode
     match ended {
         Ok(()) => ExitCode::SUCCESS,
         Err(fault) => end(rt, fault, status_of_script(fault)),
+    }
+}
+
+// Plays the lines on standard input as a client, over the servers that listen on these ports.
+fn run_call<S: Net<Listener = TcpListener, Stream = TcpStream> + Threads + Wait + Clock + Sync>(
+    rt: &HostRuntime,
+    threads: &S,
+    client: u32,
+    ports: &Ports,
+) -> ExitCode
+    ensures { (exit_status result ≡ 0) ⊎ ((exit_status result ≡ 3) ⊎ (exit_status result ≡ 4)) }
+{
+    end_of_call(
+        rt,
+        call(
+            threads,
+            rt.alloc(),
+            &mut rt.stdin(),
+            &mut rt.stdout(),
+            client,
+            ports.as_slice(),
+        ),
+    )
+}
+
+// Ends as the call ended: well, or with its fault's line on standard error.
+fn end_of_call(rt: &HostRuntime, ended: Result<(), CallFault>) -> ExitCode
+    ensures status { exit_status result ≡ status_after_call ended }
+    ensures range { (exit_status result ≡ 0) ⊎ ((exit_status result ≡ 3) ⊎ (exit_status result ≡ 4)) }
+{
+    match ended {
+        Ok(()) => ExitCode::SUCCESS,
+        Err(cause) => end(rt, cause, cause.status()),
     }
 }
 

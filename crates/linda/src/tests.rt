@@ -1,6 +1,7 @@
 //! Conversations over readers and writers in memory, with replies worked by hand from the formats of frames; and the
 //! command line.
 
+mod calls;
 mod cuts;
 mod flush;
 mod peer;

@@ -19,8 +19,16 @@ pub struct Link {
     server: u32,
     port: u16,
     client: u32,
-    // To send by, while there is a connection.
-    stream: Mutex<Option<TcpStream>>,
+    // The connection that there is.
+    line: Mutex<Option<Line>>,
+}
+
+// A connection, for whoever sends or ends it.
+#[derive(Drop)]
+struct Line {
+    stream: TcpStream,
+    // The server has welcomed the client on it.
+    is_greeted: bool,
 }
 
 impl Link {
@@ -30,37 +38,46 @@ impl Link {
             server,
             port,
             client,
-            stream: Mutex::new(None),
+            line: Mutex::new(None),
         }
     }
 
-    /// Sends where there is a connection. Where there is none, what counts is sent again after the next greeting.
+    /// Sends where there is a greeted connection. Where there is none, or it is lost, what counts is sent again after
+    /// the next greeting.
     ///
     /// # Errors
     ///
     /// `AllocError`: nothing was sent.
     pub fn send(&self, rt: &impl Wait, alloc: Global, message: &Message) -> Result<(), AllocError> {
-        let mut stream = self.stream.lock(rt);
-        let Some(stream) = &mut *stream else {
+        let mut line = self.line.lock(rt);
+        let Some(line) = &mut *line else {
             return Ok(());
         };
-        match send(stream, alloc, message) {
+        if !line.is_greeted {
+            return Ok(());
+        }
+        match send(&mut line.stream, alloc, message) {
             Ok(()) => Ok(()),
             Err(ProxyFault::Memory) => Err(AllocError),
-            Err(ProxyFault::Lost | ProxyFault::Refused(..)) => Ok(()),
+            Err(_) => {
+                end(&line.stream);
+                Ok(())
+            }
         }
     }
 
     /// Ends the connection from both sides, so that the thread that keeps it sees its end.
     pub fn end(&self, rt: &impl Wait) {
-        let stream = self.stream.lock(rt);
-        if let Some(stream) = &*stream {
-            end(stream);
+        let line = self.line.lock(rt);
+        if let Some(line) = &*line {
+            end(&line.stream);
         }
     }
 
-    /// Keeps the connection up and brings what comes into the inbox, until that is over or the server is given up. The
-    /// first greeting is that of a client that was never used, and is tried once.
+    /// Keeps the connection up and brings what comes into the inbox, until that is over or the server is given up.
+    ///
+    /// The first greeting is that of a client that was never used; where no connection can be had for it, or the server
+    /// refuses it, the server is given up at once. A connection that is lost behind a greeting is greeted again.
     pub fn keep<R: Net<Stream = TcpStream> + Wait + Clock>(
         &self,
         rt: &R,
@@ -75,7 +92,7 @@ impl Link {
             fresh = false;
             inbox.bring(rt, self.server, Arrival::Greeted);
             self.listen(rt, alloc, inbox, &mut proxy);
-            *self.stream.lock(rt) = None;
+            self.let_go(rt);
         }
     }
 
@@ -88,7 +105,7 @@ impl Link {
                     inbox.bring(rt, self.server, Arrival::Memory);
                     return;
                 }
-                Err(ProxyFault::Lost | ProxyFault::Refused(..)) => return,
+                Err(_) => return,
             }
         }
     }
@@ -101,37 +118,62 @@ impl Link {
         inbox: &Inbox,
         fresh: bool,
     ) -> Option<Proxy> {
-        let tries = if fresh { 1 } else { MAX_TRIES };
-        for _ in 0..tries {
+        let mut fresh = fresh;
+        for _ in 0..MAX_TRIES {
             if inbox.is_over(rt) {
                 return None;
             }
-            match self.greet(rt, alloc, fresh) {
+            match self.greet(rt, alloc, inbox, fresh) {
                 Ok(proxy) => return Some(proxy),
                 Err(fault) => {
+                    self.let_go(rt);
                     if let Some(arrival) = given_up(fault, fresh) {
                         inbox.bring(rt, self.server, arrival);
                         return None;
                     }
                 }
             }
+            fresh = false;
             thread::sleep(rt, Duration::from_millis(1));
         }
         inbox.bring(rt, self.server, Arrival::NoConnection);
         None
     }
 
-    // One greeting.
+    // One greeting. The connection can be ended from outside before it is waited for: whoever ends all says so in the
+    // inbox first.
     fn greet<R: Net<Stream = TcpStream> + Wait>(
         &self,
         rt: &R,
         alloc: Global,
+        inbox: &Inbox,
         fresh: bool,
     ) -> Result<Proxy, ProxyFault> {
-        let (proxy, _) = Proxy::greet(rt, alloc, self.port, self.client, fresh)?;
-        let sender = proxy.sender()?;
-        *self.stream.lock(rt) = Some(sender);
+        let mut proxy = Proxy::connect(rt, alloc, self.port)?;
+        let stream = proxy.sender()?;
+        *self.line.lock(rt) = Some(Line {
+            stream,
+            is_greeted: false,
+        });
+        if inbox.is_over(rt) {
+            return Err(ProxyFault::Lost);
+        }
+        proxy.greet(alloc, self.client, fresh)?;
+        self.welcome(rt);
         Ok(proxy)
+    }
+
+    // What is sent goes out from now on.
+    fn welcome(&self, rt: &impl Wait) {
+        let mut line = self.line.lock(rt);
+        if let Some(line) = &mut *line {
+            line.is_greeted = true;
+        }
+    }
+
+    // There is no connection any more.
+    fn let_go(&self, rt: &impl Wait) {
+        *self.line.lock(rt) = None;
     }
 }
 
@@ -146,6 +188,13 @@ fn given_up(fault: ProxyFault, fresh: bool) -> Option<Arrival> {
             }
         }
         ProxyFault::Memory => Some(Arrival::Memory),
+        ProxyFault::Unreachable => {
+            if fresh {
+                Some(Arrival::NoConnection)
+            } else {
+                None
+            }
+        }
         ProxyFault::Lost => None,
     }
 }

@@ -15,8 +15,11 @@ const MAX_READS: u32 = 4_294_967_295;
 /// Why a connection does not go on.
 #[derive(Clone, Copy, Debug, PartialEq, Eq, Error)]
 pub enum ProxyFault {
-    /// There is no connection: none could be had, it ended, or what came is no reply.
+    /// No connection could be had.
     #[error("no connection")]
+    Unreachable,
+    /// The connection ended, or what came is no reply.
+    #[error("connection lost")]
     Lost,
     /// The server refused the greeting, with this code and this detail.
     #[error("refused {0} {1}")]
@@ -32,7 +35,7 @@ impl From<AllocError> for ProxyFault {
     }
 }
 
-/// A connection that a server has welcomed.
+/// A connection to a server. It is of use once the server has welcomed its client.
 #[derive(Drop)]
 pub struct Proxy {
     stream: TcpStream,
@@ -40,49 +43,54 @@ pub struct Proxy {
 }
 
 impl Proxy {
-    /// Connects to the server that listens on this port of this machine and greets it: with `fresh` as a client that
-    /// was never used, which a server refuses that keeps a reply for it. Gives the last number that the server keeps
-    /// too.
+    /// Connects to the server that listens on this port of this machine. Nothing is said to it yet.
     ///
     /// # Errors
     ///
-    /// `Refused`, as the server told; `Lost`; `Memory`. The connection is closed then.
-    pub fn greet<R: Net<Stream = TcpStream>>(
+    /// `Unreachable`.
+    pub fn connect<R: Net<Stream = TcpStream>>(
         rt: &R,
         alloc: Global,
         port: u16,
-        client: u32,
-        fresh: bool,
-    ) -> Result<(Proxy, u64), ProxyFault> {
+    ) -> Result<Proxy, ProxyFault> {
         let address = SocketAddr::from((Ipv4Addr::LOCALHOST, port));
         let Ok(stream) = TcpStream::connect(rt, address) else {
-            return Err(ProxyFault::Lost);
+            return Err(ProxyFault::Unreachable);
         };
         let _ = stream.set_nodelay(true);
         let feed = ReplyFeed::new(alloc);
-        let mut proxy = Proxy { stream, feed };
+        Ok(Proxy { stream, feed })
+    }
+
+    /// Greets the server: with `fresh` as a client that was never used, which a server refuses that keeps a reply for
+    /// it. Gives the last number that the server keeps. It waits for the answer.
+    ///
+    /// # Errors
+    ///
+    /// `Refused`, as the server told; `Lost`; `Memory`. The server may have welcomed the client at the last two.
+    pub fn greet(&mut self, alloc: Global, client: u32, fresh: bool) -> Result<u64, ProxyFault> {
         let hello = Message::Hello {
             version: VERSION,
             client,
             fresh,
         };
-        send(&mut proxy.stream, alloc, &hello)?;
-        match proxy.receive(alloc)? {
-            Reply::Welcome { last } => Ok((proxy, last)),
+        send(&mut self.stream, alloc, &hello)?;
+        match self.receive(alloc)? {
+            Reply::Welcome { last } => Ok(last),
             Reply::Refused { code, detail } => Err(ProxyFault::Refused(code, detail)),
             _ => Err(ProxyFault::Lost),
         }
     }
 
-    /// Another hand on the same connection, for whoever sends while somebody else receives.
+    /// Another hand on the same connection, for whoever sends or ends it while somebody else receives.
     ///
     /// # Errors
     ///
-    /// `Lost`. The connection is as before.
+    /// `Unreachable`. The connection is as before.
     pub fn sender(&self) -> Result<TcpStream, ProxyFault> {
         match self.stream.try_clone() {
             Ok(stream) => Ok(stream),
-            Err(_) => Err(ProxyFault::Lost),
+            Err(_) => Err(ProxyFault::Unreachable),
         }
     }
 

@@ -11,6 +11,7 @@ ghost use Rattle.linda_client.specs.declared.limits.TheConstants.{MAX_SERVERS};
 ghost use Rattle.linda_run.specs.Reached.{IsUnused};
 
 use command::{Command, read_command};
+pub use command::{Request, read_request};
 pub use fault::{LineFault, ScriptFault};
 use linda_client::ClientFault;
 use linda_disk::{MemDisk, Torn};
@@ -18,8 +19,8 @@ use linda_server::Durable;
 use linda_store::Node;
 use linda_world::{Seen, World, WorldEvent, WorldFault};
 use listing::list_state;
-pub use outcome::write_outcome;
-use outcome::{write_fault, write_refusal};
+use outcome::write_fault;
+pub use outcome::{write_outcome, write_refusal};
 pub use run::run_script;
 use std::alloc::{AllocError, Global};
 

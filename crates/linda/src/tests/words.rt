@@ -1,6 +1,6 @@
 //! What is read of the command line, and what is told of faults.
 
-use crate::command::{Task, read_task};
+use crate::command::read_task;
 use crate::faults::PipeFault;
 use std::alloc::AllocError;
 
@@ -20,62 +20,109 @@ fn tells_faults_and_statuses(rt: HostRuntime) -> Result<(), AllocError> {
     Ok(())
 }
 
-/// Reads words of a command line; the exit status where the parser tells a fault, or the help.
-fn task(rt: &HostRuntime, words: &[&str]) -> Result<Result<Task, i32>, AllocError> {
+/// Words of a command line, and the task that they ask for.
+type Asked<'a> = (&'a [&'a str], &'a str);
+
+/// Reads words of a command line and tells what they ask for, or the exit status where the parser tells a fault, or the
+/// help.
+fn told(rt: &HostRuntime, words: &[&str]) -> Result<String, AllocError> {
     let mut all = Vec::new(rt.alloc());
     for word in words {
         all.push(String::from_str(rt.alloc(), word)?)?;
     }
-    Ok(read_task(rt.alloc(), &all).map_err(|error| error.exit_code()))
+    match read_task(rt.alloc(), &all) {
+        Ok(task) => format!(in rt.alloc(); "{task:?}"),
+        Err(error) => format!(in rt.alloc(); "{}", error.exit_code()),
+    }
 }
 
 #[test]
 fn reads_the_command_line(rt: HostRuntime) -> Result<(), AllocError> {
-    assert_eq!(rt; task(&rt, &["linda", "pipe"])?, Ok(Task::Pipe));
-    assert_eq!(rt; task(&rt, &["linda", "pipe", "--"])?, Ok(Task::Pipe));
-    Ok(())
-}
-
-#[test]
-fn reads_how_many_servers_to_run(rt: HostRuntime) -> Result<(), AllocError> {
-    let runs: [(&[&str], u32); 6] = [
-        (&["linda", "run", "--servers", "2"], 2),
-        (&["linda", "run", "--servers", "1"], 1),
-        (&["linda", "run", "--servers", "16"], 16),
-        (&["linda", "run", "--servers", "+003"], 3),
-        (&["linda", "run", "--servers=7"], 7),
-        (&["linda", "run", "--servers", "9", "--"], 9),
+    let asked: [Asked<'_>; 12] = [
+        (&["linda", "pipe"], "Pipe"),
+        (&["linda", "pipe", "--"], "Pipe"),
+        (&["linda", "run", "--servers", "2"], "Run { servers: 2 }"),
+        (&["linda", "run", "--servers", "1"], "Run { servers: 1 }"),
+        (&["linda", "run", "--servers", "16"], "Run { servers: 16 }"),
+        (&["linda", "run", "--servers", "+003"], "Run { servers: 3 }"),
+        (&["linda", "run", "--servers=7"], "Run { servers: 7 }"),
+        (
+            &["linda", "run", "--servers", "9", "--"],
+            "Run { servers: 9 }",
+        ),
+        (
+            &["linda", "call", "--client", "7", "7001"],
+            "Call { client: 7, ports: Ports { items: [7001] } }",
+        ),
+        (
+            &["linda", "call", "--client=4294967295", "1", "65535", "--"],
+            "Call { client: 4294967295, ports: Ports { items: [1, 65535] } }",
+        ),
+        (
+            &["linda", "call", "7001", "7002", "7001", "--client", "+07"],
+            "Call { client: 7, ports: Ports { items: [7001, 7002, 7001] } }",
+        ),
+        (
+            &["linda", "call", "--client", "0", "--", "7001"],
+            "Call { client: 0, ports: Ports { items: [7001] } }",
+        ),
     ];
-    for (words, servers) in &runs {
-        let servers = *servers;
-        assert_eq!(rt; task(&rt, words)?, Ok(Task::Run { servers }));
+    for (words, task) in &asked {
+        assert_eq!(rt; told(&rt, words)?.as_str(), *task);
     }
     Ok(())
 }
 
 #[test]
 fn tells_a_fault_of_the_command_line(rt: HostRuntime) -> Result<(), AllocError> {
-    let told: [(&[&str], i32); 17] = [
-        (&["linda"], 2),
-        (&["linda", "pip"], 2),
-        (&["linda", "--", "pipe"], 2),
-        (&["linda", "pipe", "more"], 2),
-        (&["linda", "pipe", "--servers", "2"], 2),
-        (&["linda", "run"], 2),
-        (&["linda", "run", "2"], 2),
-        (&["linda", "run", "--servers"], 2),
-        (&["linda", "run", "--servers", "0"], 2),
-        (&["linda", "run", "--servers", "17"], 2),
-        (&["linda", "run", "--servers", "x"], 2),
-        (&["linda", "run", "--servers", ""], 2),
-        (&["linda", "run", "--servers=-1"], 2),
-        (&["linda", "run", "--servers", "2", "more"], 2),
-        (&["linda", "run", "--servers=2", "--servers=2"], 2),
-        (&["linda", "--help"], 0),
-        (&["linda", "run", "--help"], 0),
+    let faults: [&[&str]; 28] = [
+        &["linda"],
+        &["linda", "pip"],
+        &["linda", "--", "pipe"],
+        &["linda", "pipe", "more"],
+        &["linda", "pipe", "--servers", "2"],
+        &["linda", "run"],
+        &["linda", "run", "2"],
+        &["linda", "run", "--servers"],
+        &["linda", "run", "--servers", "0"],
+        &["linda", "run", "--servers", "17"],
+        &["linda", "run", "--servers", "x"],
+        &["linda", "run", "--servers", ""],
+        &["linda", "run", "--servers=-1"],
+        &["linda", "run", "--servers", "2", "more"],
+        &["linda", "run", "--servers=2", "--servers=2"],
+        &["linda", "call"],
+        &["linda", "call", "--client", "7"],
+        &["linda", "call", "7001"],
+        &["linda", "call", "--client", "7001"],
+        &["linda", "call", "--client", "7", "0"],
+        &["linda", "call", "--client", "7", "65536"],
+        &["linda", "call", "--client", "7", "x"],
+        &["linda", "call", "--client", "7", "-1"],
+        &["linda", "call", "--client", "4294967296", "7001"],
+        &["linda", "call", "--client", "7", "--client", "7", "7001"],
+        &["linda", "call", "--client", "7", "--servers", "2", "7001"],
+        &["linda", "call", "7001", "--client", "7", "7002"],
+        &[
+            "linda", "call", "--client", "7", "1", "2", "3", "4", "5", "6", "7", "8", "9", "10",
+            "11", "12", "13", "14", "15", "16", "17",
+        ],
     ];
-    for (words, status) in &told {
-        assert_eq!(rt; task(&rt, words)?, Err(*status));
+    for words in &faults {
+        assert_eq!(rt; told(&rt, words)?.as_str(), "2");
+    }
+    Ok(())
+}
+
+#[test]
+fn helps(rt: HostRuntime) -> Result<(), AllocError> {
+    let helps: [&[&str]; 3] = [
+        &["linda", "--help"],
+        &["linda", "run", "--help"],
+        &["linda", "call", "--help"],
+    ];
+    for words in &helps {
+        assert_eq!(rt; told(&rt, words)?.as_str(), "0");
     }
     Ok(())
 }

@@ -32,6 +32,29 @@ pub(crate) enum Command {
     State(u64),
 }
 
+/// What a client asks for and waits for.
+#[derive(Debug, Drop)]
+pub enum Request {
+    /// To put a tuple.
+    Out(Tuple),
+    /// To synchronize on an event.
+    Sync(Event),
+}
+
+/// What a line of one client asks for, `out TUPLE` or `sync EVENT`: nothing, where it is empty or begins with `#`;
+/// `None` inside where it is no such line. A line has no line feed and no carriage return at its end.
+///
+/// # Errors
+///
+/// `AllocError` where memory runs out.
+pub fn read_request(alloc: Global, line: &[u8]) -> Result<Option<Option<Request>>, AllocError> {
+    match line {
+        [] => Ok(None),
+        [b'#', ..] => Ok(None),
+        [_, ..] => Ok(Some(request_in(alloc, skip_blanks(line))?)),
+    }
+}
+
 /// What a line asks for: nothing, where it is empty or begins with `#`; `None` inside where it is no command.
 ///
 /// # Errors
@@ -64,15 +87,24 @@ fn command_in(alloc: Global, text: &[u8]) -> Result<Option<Command>, AllocError>
 
 // What a client is to do, behind its number.
 fn client_command(alloc: Global, client: u32, text: &[u8]) -> Result<Option<Command>, AllocError> {
+    if let Some([]) = behind_word(text, b"abandon") {
+        return Ok(Some(Command::Abandon(client)));
+    }
+    match request_in(alloc, text)? {
+        Some(Request::Out(tuple)) => Ok(Some(Command::Out { client, tuple })),
+        Some(Request::Sync(event)) => Ok(Some(Command::Sync { client, event })),
+        None => Ok(None),
+    }
+}
+
+// What a client asks for, in a text without blanks before it.
+fn request_in(alloc: Global, text: &[u8]) -> Result<Option<Request>, AllocError> {
     if let Some(rest) = behind_word(text, b"out") {
-        return Ok(tuple_in(alloc, rest)?.map(|tuple| Command::Out { client, tuple }));
+        return Ok(tuple_in(alloc, rest)?.map(|tuple| Request::Out(tuple)));
     }
-    if let Some(rest) = behind_word(text, b"sync") {
-        return Ok(event_in(alloc, rest)?.map(|event| Command::Sync { client, event }));
-    }
-    match behind_word(text, b"abandon") {
-        Some([]) => Ok(Some(Command::Abandon(client))),
-        _ => Ok(None),
+    match behind_word(text, b"sync") {
+        Some(rest) => Ok(event_in(alloc, rest)?.map(|event| Request::Sync(event))),
+        None => Ok(None),
     }
 }
 

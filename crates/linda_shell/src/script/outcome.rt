@@ -39,7 +39,7 @@ pub fn write_outcome(alloc: Global, client: u32, outcome: &Outcome) -> Result<St
 /// # Errors
 ///
 /// `AllocError` where memory runs out.
-pub(crate) fn write_refusal(
+pub fn write_refusal(
     alloc: Global,
     client: u32,
     fault: ClientFault,

@@ -1,9 +1,11 @@
 use Rattle.std.proofs.Common.{◌≡◌, ◌∙◌, ap, sym, subst, map, []}
 use Rattle.std.specs.String.{string_bytes}
 use Rattle.clap.specs.Words.{App, HasKind, fault_of, is_simple, is_simple_and_free, subcommand_of, subcommand_rows_of}
-use Rattle.linda.specs.Commands.{linda}
+use Rattle.std.specs.Prelude.{Option, IfSome}
+use Rattle.linda.specs.declared.command.Task.{Task}
+use Rattle.linda.specs.Commands.{AsksFor, linda}
 use Rattle.linda.proofs.Parsing.{is_free, is_simple_command, passed_on}
-use Rattle.linda.proofs.Tasks.{found_asked, has_servers, matched_on, memory_alone, refused_kinds, refused_some, task_is_free}
+use Rattle.linda.proofs.Tasks.{has_servers, matched_on, memory_alone, refused_kinds, refused_some, task_is_free}
 use Rattle.linda.proofs.command.read_task.Goals as goal
 
 pub returns-in_err-matches-clause-taken : goal.returns-in_err-matches-clause-taken
@@ -26,7 +28,7 @@ returns-in-Some-clause-asked c =
     let free : fault_of linda words ≡ [] = ap (λ (a : App). fault_of a words) (sym c.in_ok-linda.ensures) ∙ c.in_ok-matches.ensures.kinds (ap is_simple_and_free c.in_ok-linda.ensures ∙ is_free) in
     let rows : subcommand_rows_of c.in_ok-matches.matches ≡ subcommand_of linda words =
     (c.in_ok-matches.ensures.ok.2 (ap is_simple c.in_ok-linda.ensures ∙ is_simple_command)).1 ∙ ap (λ (a : App). subcommand_of a words) c.in_ok-linda.ensures in
-    found_asked words c.in-Some.task c.task_of.result free c.in-Some.is (λ t asks. c.task_of.ensures words t asks rows)
+    subst (λ (o : Option Task). IfSome o (AsksFor words)) c.in-Some.is (c.in_ok-found.ensures.found words free rows)
 
 pub returns-in-Some-clause-servers : goal.returns-in-Some-clause-servers
 returns-in-Some-clause-servers c = has_servers (map string_bytes c.args.words.now) c.in-Some.task (returns-in-Some-clause-asked c)
