@@ -132,10 +132,12 @@ fn fault_of(fault: SharedFault) -> ConverseFault
 fn has_hello(messages: &[Message]) -> bool
     ensures { result ≡ false → All IsRequest messages.now }
 {
-    for message in messages {
-        if is_hello(message) {
+    let mut rest = messages;
+    while let [first, others @ ..] = rest {
+        if is_hello(first) {
             return true;
         }
+        rest = others;
     }
     false
 }

@@ -3,7 +3,8 @@
 ghost use Rattle.std.specs.Prelude.{IfErr};
 ghost use Rattle.linda_net.specs.Pumping.{IsOfIntake};
 
-use linda_shared::Outlet;
+use linda_disk::Disk;
+use linda_shared::{Outlet, Shared};
 use linda_store::ConverseFault;
 use linda_wire::{Reply, encode_reply};
 use std::alloc::{AllocError, Global};
@@ -155,15 +156,13 @@ fn write_all(stream: &TcpStream, bytes: &[u8]) -> Result<(), ConverseFault>
 }
 
 /// Writes what others' messages send to the client of this connection, until no more comes or it cannot be written. A
-/// connection that is not greeted yet is looked at once a second: `is_down` says whether the server is down, and then
-/// nothing more is read.
-pub(crate) fn write_news<L: Ledger, R: Wait + Clock, F: FnMut() -> bool>(
+/// connection that is not greeted yet is looked at once a second: where the server is down, nothing more is read.
+pub(crate) fn write_news<D: Disk, L: Ledger, R: Wait + Clock>(
     rt: &R,
     alloc: Global,
+    shared: &Shared<D, L>,
     line: &Line<L>,
-    is_down: F,
 ) {
-    let mut is_down = is_down;
     for _ in rt.forever() {
         match line.wait_outlet(rt) {
             (_, Some(outlet)) => {
@@ -172,7 +171,7 @@ pub(crate) fn write_news<L: Ledger, R: Wait + Clock, F: FnMut() -> bool>(
             }
             (false, None) => return,
             (true, None) => {
-                if is_down() {
+                if shared.is_down(rt) {
                     line.end_reading();
                     return;
                 }

@@ -9,7 +9,7 @@ use std::net::{TcpListener, TcpStream};
 use std::sync::ledger::Ledger;
 use std::sync::{Mutex, Wait};
 use std::thread;
-use std::thread::Threads;
+use std::thread::{Scope, Threads};
 use std::time::{Clock, Duration};
 
 /// How often it is looked whether a snapshot pays for itself, in milliseconds.
@@ -34,26 +34,56 @@ pub fn serve<D: Disk + Send, L: Ledger + Send + Sync, R: Threads + Wait + Clock 
     let is_over = Mutex::new(false);
     let over = &is_over;
     thread::scope(thread::scope_env(), rt, |scope| {
-        let _ = scope.spawn(move || take_snapshots(rt, shared, over)).is_err();
-        let mut left = sessions;
-        for stream in listener.incoming() {
-            if left == Some(0) || shared.is_down(rt) {
-                break;
-            }
-            if let Ok(stream) = stream {
-                let _ = scope.spawn(move || converse(rt, alloc, shared, stream)).is_err();
-                left = one_less(left);
-            }
-            if left == Some(0) {
-                break;
-            }
-        }
+        let _ = scope
+            .spawn(move || take_snapshots(rt, shared, over))
+            .is_err();
+        accept_all(scope, rt, alloc, listener, shared, sessions);
         *over.lock(rt) = true;
     });
     if shared.is_down(rt) {
         return Err(SharedFault::Down);
     }
     Ok(())
+}
+
+// Begins to serve each connection that comes, so many where a number is given, while the server is up.
+fn accept_all<'s, E, D: Disk + Send, L: Ledger + Send + Sync, R: Threads + Wait + Clock + Sync>(
+    scope: &'s Scope<'s, E>,
+    rt: &'s R,
+    alloc: Global,
+    listener: &TcpListener,
+    shared: &'s Shared<D, L>,
+    sessions: Option<u32>,
+) {
+    let mut left = sessions;
+    if left == Some(0) {
+        return;
+    }
+    for stream in listener.incoming() {
+        if shared.is_down(rt) {
+            return;
+        }
+        if let Ok(stream) = stream {
+            begin(scope, rt, alloc, shared, stream);
+            left = one_less(left);
+        }
+        if left == Some(0) {
+            return;
+        }
+    }
+}
+
+// Begins to serve a connection. Where no thread can be had it is closed.
+fn begin<'s, E, D: Disk + Send, L: Ledger + Send + Sync, R: Threads + Wait + Clock + Sync>(
+    scope: &'s Scope<'s, E>,
+    rt: &'s R,
+    alloc: Global,
+    shared: &'s Shared<D, L>,
+    stream: TcpStream,
+) {
+    let _ = scope
+        .spawn(move || converse(rt, alloc, shared, stream))
+        .is_err();
 }
 
 // One connection fewer, where they are counted.
@@ -75,7 +105,7 @@ fn converse<D: Disk + Send, L: Ledger + Send + Sync, R: Threads + Wait + Clock +
     let line = Line::new(alloc, stream);
     let lent = &line;
     thread::scope(thread::scope_env(), rt, |scope| {
-        let writer = move || write_news(rt, alloc, lent, || shared.is_down(rt));
+        let writer = move || write_news(rt, alloc, shared, lent);
         if scope.spawn(writer).is_ok() {
             read_messages(rt, alloc, shared, lent);
         }
