@@ -1,0 +1,196 @@
+//! The writing side of a connection.
+
+ghost use Rattle.std.specs.Prelude.{IfErr};
+ghost use Rattle.linda_net.specs.Pumping.{IsOfIntake};
+
+use linda_disk::Disk;
+use linda_shared::{Outlet, Shared};
+use linda_store::ConverseFault;
+use linda_wire::{Reply, encode_reply};
+use std::alloc::{AllocError, Global};
+use std::io::Write;
+use std::net::{Shutdown, TcpStream};
+use std::sync::ledger::Ledger;
+use std::sync::{Condvar, CondvarTimeouts, Mutex, Wait};
+use std::time::{Clock, Duration};
+
+/// What is written next: the replies that come out of the outlet, once the connection is greeted.
+#[derive(Drop)]
+struct Pen<L: Ledger> {
+    outlet: Option<Outlet<L>>,
+    bytes: Vec<u8>,
+}
+
+/// A second outlet, for whoever waits for news.
+#[derive(Drop)]
+struct Slot<L: Ledger> {
+    outlet: Option<Outlet<L>>,
+    is_over: bool,
+}
+
+/// The writing side of a connection. Two threads write: the one that submits, what its own messages led to, and another
+/// one, what others' messages sent.
+#[derive(Drop)]
+pub(crate) struct Line<L: Ledger> {
+    stream: TcpStream,
+    // Whoever has it writes. It is locked before a mailbox is emptied, so replies go out in their order.
+    pen: Mutex<Pen<L>>,
+    slot: Mutex<Slot<L>>,
+    filled: Condvar,
+}
+
+impl<L: Ledger> Line<L> {
+    /// Nobody was greeted yet.
+    pub(crate) fn new(alloc: Global, stream: TcpStream) -> Line<L> {
+        Line {
+            stream,
+            pen: Mutex::new(Pen {
+                outlet: None,
+                bytes: Vec::new(alloc),
+            }),
+            slot: Mutex::new(Slot {
+                outlet: None,
+                is_over: false,
+            }),
+            filled: Condvar::new(),
+        }
+    }
+
+    /// Where the messages come from.
+    pub(crate) fn stream(&self) -> &TcpStream {
+        &self.stream
+    }
+
+    /// The connection is greeted: replies come out of this outlet.
+    ///
+    /// # Errors
+    ///
+    /// `AllocError`: nothing changes, and the outlet is dropped.
+    pub(crate) fn open<R: Wait>(&self, rt: &R, outlet: Outlet<L>) -> Result<(), AllocError> {
+        let second = outlet.another()?;
+        self.pen.lock(rt).outlet = Some(outlet);
+        self.slot.lock(rt).outlet = Some(second);
+        self.filled.notify_all();
+        Ok(())
+    }
+
+    /// The outlet, which nothing is written from any more. Whoever waits for one waits no more.
+    pub(crate) fn close<R: Wait>(&self, rt: &R) -> Option<Outlet<L>> {
+        self.slot.lock(rt).is_over = true;
+        self.filled.notify_all();
+        self.pen.lock(rt).outlet.take()
+    }
+
+    /// Waits a second at most for the outlet. Says whether it has to be waited for still, with the outlet if it is there.
+    pub(crate) fn wait_outlet<R: Wait + Clock>(&self, rt: &R) -> (bool, Option<Outlet<L>>) {
+        let (mut slot, _) = self.filled.wait_timeout_while(
+            rt,
+            self.slot.lock(rt),
+            Duration::from_millis(1000),
+            |slot| slot.outlet.is_none() && !slot.is_over,
+        );
+        (!slot.is_over, slot.outlet.take())
+    }
+
+    /// Writes the replies that are there now, and then this one, if there is one.
+    ///
+    /// # Errors
+    ///
+    /// `Write`: a part may have gone out; `Memory`: some replies are lost. The connection cannot go on.
+    pub(crate) fn flush<R: Wait>(
+        &self,
+        rt: &R,
+        alloc: Global,
+        last: Option<Reply>,
+    ) -> Result<(), ConverseFault>
+        ensures { IfErr result IsOfIntake }
+    {
+        let mut guard = self.pen.lock(rt);
+        let pen = &mut *guard;
+        if let Some(outlet) = &mut pen.outlet {
+            let replies = outlet.drain(rt, alloc);
+            for reply in replies.iter() {
+                spell(&mut pen.bytes, reply)?;
+            }
+        }
+        if let Some(reply) = &last {
+            spell(&mut pen.bytes, reply)?;
+        }
+        let written = write_all(&self.stream, &pen.bytes);
+        pen.bytes.clear();
+        written
+    }
+
+    /// Nothing more is read.
+    pub(crate) fn end_reading(&self) {
+        let _ = self.stream.shutdown(Shutdown::Read);
+    }
+
+    /// The connection ends.
+    pub(crate) fn shut(&self) {
+        let _ = self.stream.shutdown(Shutdown::Both);
+    }
+}
+
+// Puts a reply behind the bytes.
+fn spell(bytes: &mut Vec<u8>, reply: &Reply) -> Result<(), ConverseFault>
+    ensures { IfErr result IsOfIntake }
+{
+    match encode_reply(bytes, reply) {
+        Ok(()) => Ok(()),
+        Err(_) => Err(ConverseFault::Memory),
+    }
+}
+
+// Writes the bytes, if there are any.
+fn write_all(stream: &TcpStream, bytes: &[u8]) -> Result<(), ConverseFault>
+    ensures { IfErr result IsOfIntake }
+{
+    if bytes.is_empty() {
+        return Ok(());
+    }
+    match (&mut &*stream).write_all(bytes) {
+        Ok(()) => Ok(()),
+        Err(_) => Err(ConverseFault::Write),
+    }
+}
+
+/// Writes what others' messages send to the client of this connection, until no more comes or it cannot be written. A
+/// connection that is not greeted yet is looked at once a second: where the server is down, nothing more is read.
+pub(crate) fn write_news<D: Disk, L: Ledger, R: Wait + Clock>(
+    rt: &R,
+    alloc: Global,
+    shared: &Shared<D, L>,
+    line: &Line<L>,
+) {
+    for _ in rt.forever() {
+        match line.wait_outlet(rt) {
+            (_, Some(outlet)) => {
+                follow(rt, alloc, line, &outlet);
+                return;
+            }
+            (false, None) => return,
+            (true, None) => {
+                if shared.is_down(rt) {
+                    line.end_reading();
+                    return;
+                }
+            }
+        }
+    }
+}
+
+// Writes the news of this outlet.
+fn follow<L: Ledger, R: Wait>(rt: &R, alloc: Global, line: &Line<L>, outlet: &Outlet<L>) {
+    for _ in rt.forever() {
+        let goes_on = outlet.wait_news(rt);
+        if line.flush(rt, alloc, None).is_err() {
+            line.shut();
+            return;
+        }
+        if !goes_on {
+            line.end_reading();
+            return;
+        }
+    }
+}
