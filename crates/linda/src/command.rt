@@ -33,7 +33,7 @@ pub enum Task {
         client: u32,
         ports: Ports,
     },
-    /// The store in this folder, for clients that connect to this port, or to any where it is 0; and so many connections
+    /// The store in this folder, for clients that connect to this port, or to any where it is 0; so many connections
     /// where a number is given.
     Serve {
         port: u16,

@@ -13,8 +13,8 @@
 //!
 //! The exit status is 0 at the end; 2 for a fault of the command line, with the parser's text on standard
 //! error; 3 with one line there, `io` or `memory`, where standard input or output fails or memory runs out, or
-//! `server S: no connection`, `server S: refused CODE DETAIL`, or what is told of a store; 4 with one line there for a fault of a line of the
-//! input.
+//! `server S: no connection`, `server S: refused CODE DETAIL`, or what is told of a store; 4 with one line there for a
+//! fault of a line of the input.
 #![tactic(auto)]
 
 ghost use Rattle.std.specs.Prelude.{◌≡◌, ◌≢◌, ◌≤◌, ◌⊎◌};

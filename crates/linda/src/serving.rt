@@ -28,8 +28,8 @@ pub(crate) use store::open_store;
 ///
 /// # Errors
 ///
-/// As `open_store` tells them, and then `Io` where the port cannot be listened on, or the output fails. `Down` where the
-/// server went down, at the next connection or at the end. `Memory`.
+/// As `open_store` tells them, and then `Io` where the port cannot be listened on, or the output fails. `Down` where
+/// the server went down, at the next connection or at the end. `Memory`.
 pub fn serve_folder<
     S: Files<File = File>
         + Net<Listener = TcpListener, Stream = TcpStream>
