@@ -1,6 +1,6 @@
 -- What the command line asks for, and how words that ask for nothing are refused.
 use Rattle.std.specs.Prelude.{◌≡◌, ◌≢◌, ◌<◌, ◌≤◌, ◌⊎◌, ◌==◌, ◌^◌, ⊤, ℕ, Bool, true, false}
-use Rattle.std.specs.Prelude.{List, [], ◌∷◌, ◌++◌, length, Some, pos}
+use Rattle.std.specs.Prelude.{List, [], ◌∷◌, ◌++◌, length, Option, Some, IfSome, pos}
 use Rattle.std.specs.Prelude.{codes, Result, IsErrAnd}
 use Rattle.std.specs.Str.Parse.{IsNumeral, digits_value, without_leading_plus}
 use Rattle.clap.specs.Words.{App, Kinds, Rule, HasKind, new_app, new_rule, with_rule, with_subcommand}
@@ -45,12 +45,41 @@ ports_rule = record (new_rule (codes "ports")) {
   parser = Some (parsers.Signed (pos 1) (pos 65535));
 }
 
--- The program's command as the parser has it: it wants a command below it, `pipe`, `run` or `call`.
+-- the option `--port`, which must be there, with a number of 16 bits
+abbrev pub port_rule : Rule
+port_rule = record (new_rule (codes "port")) {
+  long = Some (codes "port");
+  value_names = 1;
+  required = true;
+  action = Some Set;
+  parser = Some (parsers.Signed (pos 0) (pos 65535));
+}
+
+-- the option `--dir`, which must be there, with a text
+abbrev pub dir_rule : Rule
+dir_rule = record (new_rule (codes "dir")) {
+  long = Some (codes "dir");
+  value_names = 1;
+  required = true;
+  action = Some Set;
+}
+
+-- the option `--sessions`, which may be there, with a number of 32 bits
+abbrev pub sessions_rule : Rule
+sessions_rule = record (new_rule (codes "sessions")) {
+  long = Some (codes "sessions");
+  value_names = 1;
+  action = Some Set;
+  parser = Some (parsers.Signed (pos 0) (pos 4294967295));
+}
+
+-- The program's command as the parser has it: it wants a command below it, `pipe`, `run`, `call` or `serve`.
 abbrev pub linda : App
-linda = with_subcommand (with_subcommand (with_subcommand (on_top (λ s. record s { subcommand_required = true })
-    (new_app (codes "linda"))) (new_app (codes "pipe")).top)
+linda = with_subcommand (with_subcommand (with_subcommand (with_subcommand
+    (on_top (λ s. record s { subcommand_required = true }) (new_app (codes "linda"))) (new_app (codes "pipe")).top)
     (with_rule (new_app (codes "run")) servers_rule).top)
-    (with_rule (with_rule (new_app (codes "call")) client_rule) ports_rule).top
+    (with_rule (with_rule (new_app (codes "call")) client_rule) ports_rule).top)
+    (with_rule (with_rule (with_rule (new_app (codes "serve")) port_rule) dir_rule) sessions_rule).top
 
 -- no word, or the `--` that ends options
 abbrev pub IsEnd : List (List ℕ) → Type 0
@@ -94,36 +123,56 @@ pub record AsksForCall (words : List (List ℕ)) (client : ℕ) (ports : List �
   pub is_client : client < 2 ^ 32
   pub are_ports : ArePorts ports
 
+-- The words are a program's name and `serve`, and the numbers are such as may stand behind it.
+pub record AsksForServe (words : List (List ℕ)) (port : ℕ) (sessions : Option ℕ) : Type 0 where
+  pub name : List ℕ
+  pub later : List (List ℕ)
+  pub spelled : words ≡ name ∷ codes "serve" ∷ later
+  pub is_port : port < 2 ^ 16
+  pub are_sessions : IfSome sessions (λ k. k < 2 ^ 32)
+
 -- what the words ask for
 abbrev pub AsksFor : List (List ℕ) → Task → Type 0
 AsksFor words tasks.Pipe = AsksForPipe words
 AsksFor words (tasks.Run n) = AsksForRun words n
 AsksFor words (tasks.Call client ports) = AsksForCall words client ports
+AsksFor words (tasks.Serve port dir sessions) = AsksForServe words port sessions
 
 -- it is a call, by such numbers
 abbrev pub IsCall : Task → Type 0
 IsCall tasks.Pipe = ⊥
 IsCall (tasks.Run n) = ⊥
 IsCall (tasks.Call client ports) = (client < 2 ^ 32) × ArePorts ports
+IsCall (tasks.Serve port dir sessions) = ⊥
+
+-- it serves, by such numbers
+abbrev pub IsServe : Task → Type 0
+IsServe tasks.Pipe = ⊥
+IsServe (tasks.Run n) = ⊥
+IsServe (tasks.Call client ports) = ⊥
+IsServe (tasks.Serve port dir sessions) = (port < 2 ^ 16) × IfSome sessions (λ k. k < 2 ^ 32)
 
 -- what words ask for that are written out above to the letter: the pipe, or a run
 abbrev pub AsksExactlyFor : List (List ℕ) → Task → Type 0
 AsksExactlyFor words tasks.Pipe = AsksForPipe words
 AsksExactlyFor words (tasks.Run n) = AsksForRun words n
 AsksExactlyFor words (tasks.Call client ports) = ⊥
+AsksExactlyFor words (tasks.Serve port dir sessions) = ⊥
 
 -- a run and a call have at least one server, and not more than there may be
 abbrev pub HasServers : Task → Type 0
 HasServers tasks.Pipe = ⊤
 HasServers (tasks.Run n) = (1 ≤ n) × (n ≤ MAX_SERVERS)
 HasServers (tasks.Call client ports) = (1 ≤ length ports) × (length ports ≤ MAX_SERVERS)
+HasServers (tasks.Serve port dir sessions) = ⊤
 
 -- whether a word begins with a hyphen
 abbrev pub has_hyphen : List ℕ → Bool
 has_hyphen [] = false
 has_hyphen (b ∷ bs) = b == hyphen
 
--- The words are a program's name and then a word that is no option, and none of `pipe`, `run`, `call`, `help`.
+-- The words are a program's name and then a word that is no option, and none of `pipe`, `run`, `call`,
+-- `serve`, `help`.
 pub record HasUnknown (words : List (List ℕ)) : Type 0 where
   pub name : List ℕ
   pub word : List ℕ
@@ -133,6 +182,7 @@ pub record HasUnknown (words : List (List ℕ)) : Type 0 where
   pub no_pipe : word ≢ codes "pipe"
   pub no_run : word ≢ codes "run"
   pub no_call : word ≢ codes "call"
+  pub no_serve : word ≢ codes "serve"
   pub no_help : word ≢ codes "help"
 
 -- The words are a program's name, `pipe`, and then a word that is no option.

@@ -33,8 +33,8 @@ abbrev pub status_after_script : Result Unit ScriptFault → ℕ
 status_after_script (Ok done) = 0
 status_after_script (Err fault) = status_of_script fault
 
--- 4 for a fault of a line of a client, 3 for one of a server, of the input, the output or the clock, or where memory runs
--- out outside of a line
+-- 4 for a fault of a line of a client, 3 for one of a server, of the input, the output or the clock, or where memory
+-- runs out outside of a line
 abbrev pub status_of_call : CallFault → ℕ
 status_of_call (calls.Line n fault) = 4
 status_of_call (calls.NoConnection server) = 3

@@ -5,11 +5,12 @@ mod ports;
 ghost use Rattle.std.specs.Prelude.{◌≡◌, ℕ, List, [], Some, false, map, codes, IfOk, IfSome, MatchResult};
 ghost use Rattle.std.specs.String.{string_bytes};
 ghost use Rattle.clap.specs.Lexer.{without_minus};
-ghost use Rattle.clap.specs.Matches.{one_text};
+ghost use Rattle.clap.specs.Matches.{one_text, subcommand_name_of};
 ghost use Rattle.clap.specs.Words.{Kinds, app_of, fault_of, found_of, kind_of, rule_of};
 ghost use Rattle.clap.specs.Words.{subcommand_of, subcommand_rows_of};
 ghost use Rattle.linda.specs.Commands.{AsksExactlyFor, AsksFor, AsksForPipe, AsksForRun, HasServers, Spells};
-ghost use Rattle.linda.specs.Commands.{IsCall, IsRefusedAs, Refuses, client_rule, linda, ports_rule, servers_rule};
+ghost use Rattle.linda.specs.Commands.{IsCall, IsRefusedAs, IsServe, Refuses, client_rule, dir_rule, linda, port_rule};
+ghost use Rattle.linda.specs.Commands.{ports_rule, servers_rule, sessions_rule};
 ghost use Rattle.linda.specs.declared.command.Task.TheVariants as tasks;
 
 use clap::error::ErrorKind;
@@ -24,9 +25,21 @@ pub enum Task {
     /// One volatile server and one connection, over standard input and output.
     Pipe,
     /// A script from standard input, played with this many servers: from 1 to `MAX_SERVERS`.
-    Run { servers: u32 },
+    Run {
+        servers: u32,
+    },
     /// Lines of a client from standard input, over servers that listen on ports of this machine.
-    Call { client: u32, ports: Ports },
+    Call {
+        client: u32,
+        ports: Ports,
+    },
+    /// The store in this folder, for clients that connect to this port, or to any where it is 0; so many connections
+    /// where a number is given.
+    Serve {
+        port: u16,
+        dir: String,
+        sessions: Option<u32>,
+    },
 }
 
 /// Reads the words of the command line, of which the first names the program.
@@ -68,8 +81,24 @@ fn task_of(alloc: Global, matches: &ArgMatches) -> Result<Option<Task>, AllocErr
     }
     match matches.subcommand_matches(RUN) {
         Some(below) => Ok(run_of(below)),
-        None => match matches.subcommand_matches(CALL) {
-            Some(below) => call_of(alloc, below),
+        None => other_of(alloc, matches),
+    }
+}
+
+// The same, where it is neither the pipe nor a run.
+fn other_of(alloc: Global, matches: &ArgMatches) -> Result<Option<Task>, AllocError>
+    ensures exact { (words : List (List ℕ)) (task : Task) → AsksExactlyFor words task
+        → subcommand_rows_of matches.now ≡ subcommand_of linda words
+        → (subcommand_name_of matches.now ≡ Some (codes "pipe") → ⊥)
+        → (subcommand_name_of matches.now ≡ Some (codes "run") → ⊥) → IfOk result (λ found. found ≡ Some task) }
+    ensures found { (words : List (List ℕ)) → fault_of linda words ≡ []
+        → subcommand_rows_of matches.now ≡ subcommand_of linda words
+        → IfOk result (λ found. IfSome found (AsksFor words)) }
+{
+    match matches.subcommand_matches(CALL) {
+        Some(below) => call_of(alloc, below),
+        None => match matches.subcommand_matches(SERVE) {
+            Some(below) => serve_of(alloc, below),
             None => Ok(None),
         },
     }
@@ -97,6 +126,25 @@ fn call_of(alloc: Global, below: &ArgMatches) -> Result<Option<Task>, AllocError
     Ok(Some(Task::Call { client, ports }))
 }
 
+// What is found below `serve`.
+fn serve_of(alloc: Global, below: &ArgMatches) -> Result<Option<Task>, AllocError>
+    ensures { IfOk result (λ found. IfSome found IsServe) }
+{
+    let Some(port) = below.get_one::<u16>(PORT) else {
+        return Ok(None);
+    };
+    let Some(text) = below.get_str(DIR) else {
+        return Ok(None);
+    };
+    let dir = String::from_str(alloc, text)?;
+    let sessions = below.get_one::<u32>(SESSIONS);
+    Ok(Some(Task::Serve {
+        port,
+        dir,
+        sessions,
+    }))
+}
+
 // The program's command.
 fn command<'a>(alloc: Global) -> Result<Command<'a>, AllocError>
     ensures { IfOk result (λ c. app_of c ≡ linda) }
@@ -113,12 +161,19 @@ fn command<'a>(alloc: Global) -> Result<Command<'a>, AllocError>
         .after_help(LINES)
         .arg(client(alloc))?
         .arg(port_words(alloc))?;
+    let serve = Command::new(alloc, SERVE)
+        .about("Serve the store in a folder on a port of this machine")
+        .after_help(SERVING)
+        .arg(port_option(alloc))?
+        .arg(dir_option(alloc))?
+        .arg(sessions_option(alloc))?;
     Command::new(alloc, "linda")
         .about("A tuple space")
         .subcommand_required(true)
         .subcommand(pipe)?
         .subcommand(run)?
-        .subcommand(call)
+        .subcommand(call)?
+        .subcommand(serve)
 }
 
 // The option that says how many servers there are.
@@ -163,6 +218,46 @@ fn port_words<'a>(alloc: Global) -> Arg<'a>
         .value_parser(value_parser!(u16).range(1..))
 }
 
+// The option that says where the server listens.
+fn port_option<'a>(alloc: Global) -> Arg<'a>
+    ensures rule { rule_of result ≡ port_rule }
+    ensures own { result.global ≡ false }
+{
+    Arg::new(alloc, PORT)
+        .long(PORT)
+        .value_name("P")
+        .help("Where the server listens; 0 for any free port")
+        .required(true)
+        .action(ArgAction::Set)
+        .value_parser(value_parser!(u16))
+}
+
+// The option that names the folder.
+fn dir_option<'a>(alloc: Global) -> Arg<'a>
+    ensures rule { rule_of result ≡ dir_rule }
+    ensures own { result.global ≡ false }
+{
+    Arg::new(alloc, DIR)
+        .long(DIR)
+        .value_name("D")
+        .help("The folder of the store, which is created in it where there is none")
+        .required(true)
+        .action(ArgAction::Set)
+}
+
+// The option that says after how many connections the server ends.
+fn sessions_option<'a>(alloc: Global) -> Arg<'a>
+    ensures rule { rule_of result ≡ sessions_rule }
+    ensures own { result.global ≡ false }
+{
+    Arg::new(alloc, SESSIONS)
+        .long(SESSIONS)
+        .value_name("K")
+        .help("End after so many connections")
+        .action(ArgAction::Set)
+        .value_parser(value_parser!(u32))
+}
+
 const PIPE: &str = "pipe";
 
 const RUN: &str = "run";
@@ -170,6 +265,14 @@ const RUN: &str = "run";
 const SERVERS: &str = "servers";
 
 const CALL: &str = "call";
+
+const SERVE: &str = "serve";
+
+const PORT: &str = "port";
+
+const DIR: &str = "dir";
+
+const SESSIONS: &str = "sessions";
 
 const CLIENT: &str = "client";
 
@@ -180,6 +283,10 @@ const SCRIPT: &str = "Example of a script:\n  \
     8 sync in (\"a\", ?i)\n  \
     state 1";
 
-const LINES: &str = "Example of lines:\n  \
-    out (\"a\", 3)\n  \
-    sync in (\"a\", ?i)";
+const LINES: &str = "Example, beside a server on port 7707:\n  \
+    echo 'out (\"job\", 1)' | linda call --client 1 7707\n  \
+    echo 'sync in (\"job\", ?i)' | linda call --client 2 7707";
+
+const SERVING: &str = "Example:\n  \
+    mkdir store\n  \
+    linda serve --port 7707 --dir store";

@@ -8,10 +8,13 @@
 //! `linda call --client C PORT..` plays lines from standard input as client C, over the servers that listen on these
 //! ports of this machine.
 //!
+//! `linda serve --port P --dir D [--sessions K]` serves the store in a folder to clients that connect to a port of this
+//! machine.
+//!
 //! The exit status is 0 at the end; 2 for a fault of the command line, with the parser's text on standard
 //! error; 3 with one line there, `io` or `memory`, where standard input or output fails or memory runs out, or
-//! `server S: no connection` and `server S: refused CODE DETAIL`; 4 with one line there for a fault of a line of the
-//! input.
+//! `server S: no connection`, `server S: refused CODE DETAIL`, or what is told of a store; 4 with one line there for a
+//! fault of a line of the input.
 #![tactic(auto)]
 
 ghost use Rattle.std.specs.Prelude.{◌≡◌, ◌≢◌, ◌≤◌, ◌⊎◌};
@@ -29,6 +32,7 @@ mod faults;
 mod lines;
 mod piping;
 mod running;
+mod serving;
 mod spelling;
 #[cfg(test)]
 mod tests;
@@ -38,8 +42,10 @@ use crate::command::{Ports, Task, read_task};
 use crate::faults::{PipeFault, REFUSED};
 use crate::piping::pipe;
 use crate::running::status_of_script;
+use crate::serving::serve_folder;
 use linda_shell::{ScriptFault, run_script};
 use std::fmt::Display;
+use std::fs::{File, Files};
 use std::io::ErrorKind;
 use std::net::{Net, TcpListener, TcpStream};
 use std::process::ExitCode;
@@ -65,6 +71,13 @@ fn main(rt: HostRuntime) -> ExitCode {
         Ok(Task::Pipe) => run_pipe(&rt),
         Ok(Task::Run { servers }) => run_servers(&rt, servers),
         Ok(Task::Call { client, ports }) => run_call(&rt, &rt, client, &ports),
+        Ok(
+            Task::Serve {
+                port,
+                dir,
+                sessions,
+            },
+        ) => run_serve(&rt, &rt, port, &dir, sessions),
         Err(error) => show(&rt, &error),
     }
 }
@@ -146,6 +159,24 @@ fn end_of_call(rt: &HostRuntime, ended: Result<(), CallFault>) -> ExitCode
     match ended {
         Ok(()) => ExitCode::SUCCESS,
         Err(cause) => end(rt, cause, cause.status()),
+    }
+}
+
+// Serves the store in a folder on a port.
+fn run_serve<
+    S: Files<File = File>
+        + Net<Listener = TcpListener, Stream = TcpStream>
+        + Threads
+        + Wait
+        + Clock
+        + Sync,
+>(rt: &HostRuntime, threads: &S, port: u16, dir: &str, sessions: Option<u32>) -> ExitCode
+    ensures { (exit_status result ≡ 0) ⊎ (exit_status result ≡ 3) }
+{
+    let ended = serve_folder(threads, rt.alloc(), &mut rt.stdout(), port, dir, sessions);
+    match ended {
+        Ok(()) => ExitCode::SUCCESS,
+        Err(cause) => end(rt, cause, REFUSED),
     }
 }
 

@@ -38,7 +38,7 @@ fn told(rt: &HostRuntime, words: &[&str]) -> Result<String, AllocError> {
 
 #[test]
 fn reads_the_command_line(rt: HostRuntime) -> Result<(), AllocError> {
-    let asked: [Asked<'_>; 12] = [
+    let asked: [Asked<'_>; 15] = [
         (&["linda", "pipe"], "Pipe"),
         (&["linda", "pipe", "--"], "Pipe"),
         (&["linda", "run", "--servers", "2"], "Run { servers: 2 }"),
@@ -66,6 +66,34 @@ fn reads_the_command_line(rt: HostRuntime) -> Result<(), AllocError> {
             &["linda", "call", "--client", "0", "--", "7001"],
             "Call { client: 0, ports: Ports { items: [7001] } }",
         ),
+        (
+            &["linda", "serve", "--port", "0", "--dir", "d"],
+            "Serve { port: 0, dir: \"d\", sessions: None }",
+        ),
+        (
+            &[
+                "linda",
+                "serve",
+                "--sessions",
+                "0",
+                "--dir=a b",
+                "--port=65535",
+                "--",
+            ],
+            "Serve { port: 65535, dir: \"a b\", sessions: Some(0) }",
+        ),
+        (
+            &[
+                "linda",
+                "serve",
+                "--dir",
+                "d",
+                "--port",
+                "1",
+                "--sessions=4294967295",
+            ],
+            "Serve { port: 1, dir: \"d\", sessions: Some(4294967295) }",
+        ),
     ];
     for (words, task) in &asked {
         assert_eq!(rt; told(&rt, words)?.as_str(), *task);
@@ -75,7 +103,7 @@ fn reads_the_command_line(rt: HostRuntime) -> Result<(), AllocError> {
 
 #[test]
 fn tells_a_fault_of_the_command_line(rt: HostRuntime) -> Result<(), AllocError> {
-    let faults: [&[&str]; 28] = [
+    let faults: [&[&str]; 35] = [
         &["linda"],
         &["linda", "pip"],
         &["linda", "--", "pipe"],
@@ -91,6 +119,22 @@ fn tells_a_fault_of_the_command_line(rt: HostRuntime) -> Result<(), AllocError> 
         &["linda", "run", "--servers=-1"],
         &["linda", "run", "--servers", "2", "more"],
         &["linda", "run", "--servers=2", "--servers=2"],
+        &["linda", "serve"],
+        &["linda", "serve", "--port", "0"],
+        &["linda", "serve", "--dir", "d"],
+        &["linda", "serve", "--port", "65536", "--dir", "d"],
+        &[
+            "linda",
+            "serve",
+            "--port",
+            "0",
+            "--dir",
+            "d",
+            "--sessions",
+            "x",
+        ],
+        &["linda", "serve", "--port", "0", "--dir", "d", "more"],
+        &["linda", "serve", "--port", "0", "--dir", "d", "--dir", "e"],
         &["linda", "call"],
         &["linda", "call", "--client", "7"],
         &["linda", "call", "7001"],
@@ -116,10 +160,11 @@ fn tells_a_fault_of_the_command_line(rt: HostRuntime) -> Result<(), AllocError> 
 
 #[test]
 fn helps(rt: HostRuntime) -> Result<(), AllocError> {
-    let helps: [&[&str]; 3] = [
+    let helps: [&[&str]; 4] = [
         &["linda", "--help"],
         &["linda", "run", "--help"],
         &["linda", "call", "--help"],
+        &["linda", "serve", "--help"],
     ];
     for words in &helps {
         assert_eq!(rt; told(&rt, words)?.as_str(), "0");

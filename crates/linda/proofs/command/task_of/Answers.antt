@@ -1,6 +1,6 @@
 use Rattle.std.proofs.Common.{◌≡◌, ◌∙◌, ap, refl, sym, true, false, Some}
 use Rattle.clap.specs.Words.{found_of}
-use Rattle.linda.proofs.Tasks.{call_asked, exactly_pipe, exactly_run, never_call, never_other, pipe_asked, run_asked}
+use Rattle.linda.proofs.Tasks.{exactly_pipe, exactly_run, pipe_asked, run_asked}
 use Rattle.linda.proofs.command.task_of.Goals as goal
 
 pub returns-then-is_some-clause-exact : goal.returns-then-is_some-clause-exact
@@ -19,16 +19,11 @@ pub returns-in-Some-clause-found : goal.returns-in-Some-clause-found
 returns-in-Some-clause-found c = λ words free rows.
     run_asked c.args.matches.now (found_of c.in-Some.below.now) words c.run_of.result free rows (c.in-Some.ensures.found.0 refl) c.in-Some.ensures.rows c.run_of.ensures
 
-pub returns-in-Some-subcommand_matches-clause-exact : goal.returns-in-Some-subcommand_matches-clause-exact
-returns-in-Some-subcommand_matches-clause-exact c = λ words task asks rows.
-    absurd (never_call c.args.matches.now words task asks rows (c.in-Some-subcommand_matches.ensures.found.0 refl))
-
-pub returns-in-Some-subcommand_matches-clause-found : goal.returns-in-Some-subcommand_matches-clause-found
-returns-in-Some-subcommand_matches-clause-found c = λ words free rows.
-    call_asked c.args.matches.now words c.call_of.result free rows (c.in-Some-subcommand_matches.ensures.found.0 refl) c.call_of.ensures
-
-pub returns-in-None-subcommand_matches-clause-exact : goal.returns-in-None-subcommand_matches-clause-exact
-returns-in-None-subcommand_matches-clause-exact c = λ words task asks rows.
-    absurd (never_other c.args.matches.now words task asks rows
+pub returns-in-None-clause-exact : goal.returns-in-None-clause-exact
+returns-in-None-clause-exact c = λ words task asks rows.
+    c.other_of.ensures.exact words task asks rows
     (λ pipe. let bad : false ≡ true = c.if-is_some.ensures ∙ c.subcommand_matches.ensures.found.1 pipe in cc)
-    (λ run. let bad : false ≡ true = c.in-None.ensures.found.1 run in cc))
+    (λ run. let bad : false ≡ true = c.in-None.ensures.found.1 run in cc)
+
+pub returns-in-None-clause-found : goal.returns-in-None-clause-found
+returns-in-None-clause-found c = λ words free rows. c.other_of.ensures.found words free rows
