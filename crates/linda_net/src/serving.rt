@@ -122,7 +122,7 @@ fn take_snapshots<D: Disk, L: Ledger, R: Wait + Clock>(
         if *is_over.lock(rt) {
             return;
         }
-        if shared.needs_snapshot(rt) {
+        if shared.pays(rt) {
             let _ = shared.snapshot(rt);
         }
         thread::sleep(rt, Duration::from_millis(LOOK));
