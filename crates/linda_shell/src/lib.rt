@@ -21,5 +21,7 @@ pub use event::read_event;
 pub use fault::EventTextFault;
 pub use laws::{a_text_stands_for_one_event, what_is_written_is_read_again};
 pub use limits::MAX_NESTED;
-pub use script::{LineFault, Request, ScriptFault, read_request, run_script, write_outcome, write_refusal};
+pub use script::{
+    LineFault, Request, ScriptFault, read_request, run_script, write_outcome, write_refusal,
+};
 pub use written::write_event;
