@@ -3,7 +3,7 @@
 ghost use Rattle.std.specs.Prelude.{◌≡◌};
 ghost use Rattle.linda_receipt.specs.declared.limits.TheConstants.{PARTS};
 
-use super::stand::{ROOMY, kept, shared_on};
+use super::stand::{ROOMY, kept_after, shared_on};
 use super::words::{ask, hello, put};
 use linda_disk::MemDisk;
 use linda_receipt::PARTS;
@@ -132,7 +132,7 @@ fn play_crowd<L: Ledger + Send + Sync, R: Threads + Wait + Abort + Sync>(
         Err(_) => (0, 0),
     };
     assert_eq!(rt; (deeds, ids), (2_048, 1_024));
-    assert_eq!(rt; kept(&shared.into_server()), (1_025, 0, CLIENTS));
+    assert_eq!(rt; kept_after(shared), (1_025, 0, CLIENTS));
     Ok(())
 }
 

@@ -241,15 +241,27 @@ fn requests_in(alloc: Global, words: &str) -> Result<(u32, Vec<Message>), WordsF
     let (client, _) = read_numbered(words)?;
     let mut messages = Vec::new(alloc);
     for (_, message) in read_batch(alloc, words)? {
-        if !is_request(&message) {
-            return Err(WordsFault::Unknown);
-        }
         messages.push(message)?;
     }
-    if messages.is_empty() || messages.len() > MAX_BATCH {
+    let all: &[Message] = &messages;
+    if all.is_empty() || all.len() > MAX_BATCH || !are_requests(all) {
         return Err(WordsFault::Unknown);
     }
     Ok((client, messages))
+}
+
+// Whether none is a Hello.
+fn are_requests(messages: &[Message]) -> bool
+    ensures { result ≡ true → All IsRequest messages.now }
+{
+    let mut rest = messages;
+    while let [first, others @ ..] = rest {
+        if !is_request(first) {
+            return false;
+        }
+        rest = others;
+    }
+    true
 }
 
 fn is_request(message: &Message) -> bool

@@ -104,6 +104,12 @@ pub(super) fn kept(server: &Durable<MemDisk>) -> Kept {
     (state.next, state.bag.len(), state.book.len())
 }
 
+/// What the server keeps that threads shared, and share no more.
+pub(super) fn kept_after<L: Ledger>(shared: Shared<MemDisk, L>) -> Kept {
+    let server = shared.into_server();
+    kept(&server)
+}
+
 /// What the server keeps that stands on the disks of this one after a crash that leaves so much.
 pub(super) fn kept_on_disks(
     rt: &impl Abort,

@@ -4,7 +4,7 @@ ghost use Rattle.std.specs.Prelude.{◌≡◌};
 ghost use Rattle.linda_receipt.specs.declared.limits.TheConstants.{PARTS};
 
 use super::jobs::{Jobs, Tally};
-use super::stand::{Kept, ROOMY, Stand, kept, kept_on_disks, shared_on};
+use super::stand::{Kept, ROOMY, Stand, kept_after, kept_on_disks, shared_on};
 use super::words::seated;
 use linda_disk::{MemDisk, Torn};
 use linda_receipt::PARTS;
@@ -150,7 +150,7 @@ fn play_crew<L: Ledger + Send + Sync, R: Threads + Wait + Clock + Abort + Sync>(
         (all.saturating_mul(2), all)
     );
     assert!(rt; tally.is_even());
-    let (next, tuples, _) = kept(&shared.into_server());
+    let (next, tuples, _) = kept_after(shared);
     assert_eq!(rt; (next, tuples), (all.saturating_add(1), 0));
     Ok(())
 }
