@@ -38,7 +38,7 @@ impl Scene for Strictly {
     ) -> Result<(), Fail> {
         let mut sessions = Sessions::new(alloc, shared);
         let last = done_as_said(rt, alloc, &mut sessions, self.steps)?;
-        assert_eq!(rt; kept(&sessions.into_server()), last);
+        assert_eq!(rt; kept_by(sessions), last);
         Ok(())
     }
 }
@@ -78,9 +78,15 @@ impl Scene for AsFarAsMemoryGoes {
             }
             before = after;
         }
-        assert_eq!(rt; kept(&sessions.into_server()), before);
+        assert_eq!(rt; kept_by(sessions), before);
         Ok(())
     }
+}
+
+// What the server of these sessions keeps.
+fn kept_by<L: Ledger>(sessions: Sessions<L>) -> Kept {
+    let server = sessions.into_server();
+    kept(&server)
 }
 
 // Does a step, once more where there was no memory for it. False where the server is down.
