@@ -6,5 +6,4 @@ mod cuts;
 mod flush;
 mod peer;
 mod rows;
-mod serves;
 mod words;
