@@ -81,7 +81,8 @@ impl<L: Ledger> Line<L> {
         self.pen.lock(rt).outlet.take()
     }
 
-    /// Waits a second at most for the outlet. Says whether it has to be waited for still, with the outlet if it is there.
+    /// Waits a second at most for the outlet. Says whether it has to be waited for still, with the outlet if it is
+    /// there.
     pub(crate) fn wait_outlet<R: Wait + Clock>(&self, rt: &R) -> (bool, Option<Outlet<L>>) {
         let (mut slot, _) = self.filled.wait_timeout_while(
             rt,

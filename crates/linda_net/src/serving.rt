@@ -15,11 +15,12 @@ use std::time::{Clock, Duration};
 /// How often it is looked whether a snapshot pays for itself, in milliseconds.
 const LOOK: u64 = 100;
 
-/// Serves the connections that come, each in two threads of its own: one reads, submits what came, 64 messages at most at
-/// once, and writes what that led to; the other writes what others' messages send. Where a number is given, so many
-/// connections are served, and it ends when the last of them has. A connection for which no thread can be had is closed.
-/// One that stops reading, or sends half of a frame and waits, holds up nobody else. Another thread takes a snapshot
-/// whenever one pays for itself, and goes on where it is refused.
+/// Serves the connections that come, each in two threads of its own: one reads, submits what came, 64 messages at most
+/// at once, and writes what that led to; the other writes what others' messages send. Where a number is given, so many
+/// connections are served, and it ends when the last of them has. A connection for which no thread can be had is
+/// closed. One that stops reading, or sends half of a frame and waits, holds up nobody else. Another thread takes a
+/// snapshot whenever one pays for itself, and goes on where it is refused; where no thread can be had for that, none is
+/// taken.
 ///
 /// # Errors
 ///

@@ -78,8 +78,8 @@ impl<D: Disk, L: Ledger> Shared<D, L> {
         self.desk.lock(rt).held.needs_snapshot()
     }
 
-    /// Whether a snapshot pays for itself: one is due, and the records since the last one have at least as many bytes as
-    /// that one left in the bank, or half of the limit is taken; after one that was refused, once there are as many
+    /// Whether a snapshot pays for itself: one is due, and the records since the last one have at least as many bytes
+    /// as that one left in the bank, or half of the limit is taken; after one that was refused, once there are as many
     /// records more as make one due. For whoever serves, and takes them.
     pub fn pays<R: Wait>(&self, rt: &R) -> bool {
         self.desk.lock(rt).held.pays()

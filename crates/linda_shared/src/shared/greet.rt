@@ -21,7 +21,8 @@ impl<D: Disk, L: Ledger> Shared<D, L> {
     ///
     /// # Errors
     ///
-    /// `Down`, before all; `Memory`: the client has no seat, and nothing is left of it.
+    /// `Down`, before all; `Memory`: the client has no seat. An empty outbox may be left of it, until it
+    /// comes again.
     pub fn greet<R: Wait>(&self, rt: &R, message: &Message) -> Result<Greeted<L>, SharedFault>
         // It was answered as a server says that is in some state, and has given out some seats;
         ensures greeted { IfOk result (λ g. WasGreeted message.now (greeting_of g)) }
