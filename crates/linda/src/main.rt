@@ -45,7 +45,6 @@ use crate::running::status_of_script;
 use crate::serving::serve_folder;
 use linda_shell::{ScriptFault, run_script};
 use std::fmt::Display;
-use std::fs::{File, Files};
 use std::io::ErrorKind;
 use std::net::{Net, TcpListener, TcpStream};
 use std::process::ExitCode;
@@ -163,17 +162,24 @@ fn end_of_call(rt: &HostRuntime, ended: Result<(), CallFault>) -> ExitCode
 }
 
 // Serves the store in a folder on a port.
-fn run_serve<
-    S: Files<File = File>
-        + Net<Listener = TcpListener, Stream = TcpStream>
-        + Threads
-        + Wait
-        + Clock
-        + Sync,
->(rt: &HostRuntime, threads: &S, port: u16, dir: &str, sessions: Option<u32>) -> ExitCode
+fn run_serve<S: Net<Listener = TcpListener, Stream = TcpStream> + Threads + Wait + Clock + Sync>(
+    rt: &HostRuntime,
+    threads: &S,
+    port: u16,
+    dir: &str,
+    sessions: Option<u32>,
+) -> ExitCode
     ensures { (exit_status result ≡ 0) ⊎ (exit_status result ≡ 3) }
 {
-    let ended = serve_folder(threads, rt.alloc(), &mut rt.stdout(), port, dir, sessions);
+    let ended = serve_folder(
+        rt,
+        threads,
+        rt.alloc(),
+        &mut rt.stdout(),
+        port,
+        dir,
+        sessions,
+    );
     match ended {
         Ok(()) => ExitCode::SUCCESS,
         Err(cause) => end(rt, cause, REFUSED),

@@ -31,14 +31,11 @@ pub(crate) use store::open_store;
 /// As `open_store` tells them, and then `Io` where the port cannot be listened on, or the output fails. `Down` where
 /// the server went down, at the next connection or at the end. `Memory`.
 pub fn serve_folder<
-    S: Files<File = File>
-        + Net<Listener = TcpListener, Stream = TcpStream>
-        + Threads
-        + Wait
-        + Clock
-        + Sync,
+    F: Files<File = File>,
+    S: Net<Listener = TcpListener, Stream = TcpStream> + Threads + Wait + Clock + Sync,
     W: Write,
 >(
+    files: &F,
     rt: &S,
     alloc: Global,
     writer: &mut W,
@@ -46,7 +43,7 @@ pub fn serve_folder<
     folder: &str,
     sessions: Option<u32>,
 ) -> Result<(), ServingFault> {
-    let server = open_store(rt, alloc, folder)?;
+    let server = open_store(files, alloc, folder)?;
     share::<Brand, S, W>(rt, alloc, writer, server, Blank::new(PARTS), port, sessions)
 }
 

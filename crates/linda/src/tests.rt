@@ -6,4 +6,5 @@ mod cuts;
 mod flush;
 mod peer;
 mod rows;
+mod serves;
 mod words;

@@ -3,13 +3,18 @@
 //! A line is a line of the script, and what it prints is told behind it: each time the script is run from its
 //! beginning, and what it printed before has to come again. Its fault, if it has one, is told behind that. `servers N`
 //! begins a script over that many servers; where a row does not say so, it is over one. `script TEXT` runs a script
-//! that stands there as a string, since its blanks and line ends matter, and tells all that it prints.
+//! that stands there as a string, since its blanks and line ends matter, and tells all that it prints. `times N LINE`
+//! is a line that stands there N times: how many lines that prints is told, and the last of them. A tilde in a line
+//! stands for a string of 255 letters.
+
+mod lines;
 
 use crate::number::small_number;
 use crate::words::string_at;
 use linda_client::MAX_SERVERS;
 use linda_script::{WordsFault, split_word};
 use linda_shell::{LineFault, ScriptFault, run_script};
+use lines::{push_line, push_lines, tell_last};
 use std::alloc::{AllocError, Global};
 
 /// The player of rows of scripts.
@@ -48,19 +53,27 @@ impl Scripts {
             let (script, _behind) = string_at(alloc, rest, 0)?;
             self.script = script;
             self.printed = String::new(alloc);
+        } else if verb == "times" {
+            push_lines(&mut self.script, rest)?;
+            return self.run(alloc, came, true);
         } else {
-            writeln!(self.script, "{words}")?;
+            push_line(&mut self.script, words)?;
         }
-        self.run(alloc, came)
+        self.run(alloc, came, false)
     }
 
-    // Runs the script, and tells what it printed that it had not printed before.
-    fn run(&mut self, alloc: Global, came: &mut String) -> Result<(), WordsFault> {
+    // Runs the script, and tells what it printed that it had not printed before: all of it, or only the last line where
+    // there are many.
+    fn run(&mut self, alloc: Global, came: &mut String, are_many: bool) -> Result<(), WordsFault> {
         let (printed, end) = printed_by(alloc, self.script.as_str(), self.servers)?;
         let Some(more) = printed.as_str().strip_prefix(self.printed.as_str()) else {
             return Ok(came.push_str("> ? what was printed before does not come again\n")?);
         };
-        tell_lines(more, came)?;
+        if are_many {
+            tell_last(more, came)?;
+        } else {
+            tell_lines(more, came)?;
+        }
         self.printed = printed;
         match end {
             Ok(()) => Ok(()),

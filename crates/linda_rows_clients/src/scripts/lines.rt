@@ -1,0 +1,48 @@
+//! Lines of a script that are long, or come many times.
+
+use crate::number::place;
+use linda_script::{WordsFault, split_word};
+use std::alloc::{AllocError, Global};
+
+/// How long the string is that a tilde stands for: as long as one may be.
+const LONG: usize = 255;
+
+/// Appends a line of a script. A tilde in it stands for a string of 255 letters, in its quotation marks.
+pub fn push_line(script: &mut String, words: &str) -> Result<(), AllocError> {
+    for (place, piece) in words.split('~').enumerate() {
+        if place > 0 {
+            push_long(script)?;
+        }
+        script.push_str(piece)?;
+    }
+    script.push('\n')
+}
+
+/// Appends a line as often as the number in front of it says.
+pub fn push_lines(script: &mut String, words: &str) -> Result<(), WordsFault> {
+    let (times, line) = split_word(words);
+    for _ in 0..place(times)? {
+        push_line(script, line)?;
+    }
+    Ok(())
+}
+
+/// Tells of many lines how many they are, and the last one.
+pub fn tell_last(printed: &str, came: &mut String) -> Result<(), AllocError> {
+    let lines = printed.strip_suffix("\n").unwrap_or(printed);
+    let (mut count, mut last) = (0u64, lines);
+    for line in lines.split('\n') {
+        count = count.saturating_add(1);
+        last = line;
+    }
+    writeln!(came, "> {count} lines, the last {last}")
+}
+
+// Appends a string of 255 letters in its quotation marks.
+fn push_long(script: &mut String) -> Result<(), AllocError> {
+    script.push('"')?;
+    for _ in 0..LONG {
+        script.push('x')?;
+    }
+    script.push('"')
+}
