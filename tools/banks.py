@@ -1,0 +1,217 @@
+"""Reads the two banks of a folder into the state that stands there, or into what is wrong and where: docs/FORMATS.md, "Banks", in Python.
+
+It is written from the documents alone and shares nothing with the program, so that the two can be compared. It is no tool by itself.
+"""
+
+from dataclasses import dataclass, field, replace
+from pathlib import Path
+
+NUMBERS = 2**63
+CLIENTS = 1_024
+SIDES = ("left", "right")
+
+
+class Bad(Exception):
+    """Bytes that spell nothing here."""
+
+
+@dataclass(frozen=True)
+class State:
+    """What a server keeps: the next id, the tuples by id, and for each client its last number with the reply."""
+
+    next: int = 1
+    bag: dict[int, bytes] = field(default_factory=dict)
+    book: dict[int, tuple[int, tuple]] = field(default_factory=dict)
+
+
+@dataclass(frozen=True)
+class Verdict:
+    """What a server says of two banks: the state that it opens with, or the line with which it refuses them."""
+
+    state: State | None
+    refusal: str = ""
+    side: str = ""
+    generation: int = 0
+    records: tuple[int, ...] = ()
+    ends: tuple[int, ...] = ()
+
+
+class Bytes:
+    """Bytes that are read from the front."""
+
+    def __init__(self, data: bytes) -> None:
+        self.data, self.at = data, 0
+
+    def take(self, size: int) -> bytes:
+        if self.at + size > len(self.data):
+            raise Bad
+        self.at += size
+        return self.data[self.at - size:self.at]
+
+    def number(self, size: int = 8) -> int:
+        return int.from_bytes(self.take(size), "big")
+
+    def atom(self) -> None:
+        kind = self.number(1)
+        if kind == 1:
+            self.take(8)
+        elif kind == 2:
+            try:
+                self.take(self.number(1)).decode()
+            except UnicodeDecodeError:
+                raise Bad from None
+        elif kind != 3 or self.number(1) > 1:
+            raise Bad
+
+    def tuple(self) -> bytes:
+        """A tuple, as its bytes, of which each tuple has one spelling."""
+        start = self.at
+        self.atom()
+        count = self.number(1)
+        if count > 16:
+            raise Bad
+        for _ in range(count):
+            self.atom()
+        return self.data[start:self.at]
+
+    def reply(self) -> tuple:
+        kind = self.number(1)
+        if kind == 1:
+            return "Stored", self.number()
+        if kind == 2:
+            return "Taken", self.number(), self.tuple()
+        if kind == 3:
+            return ("Gone",)
+        raise Bad
+
+    def deed(self) -> tuple:
+        kind = self.number(1)
+        if kind not in (1, 2, 3):
+            raise Bad
+        client, number = self.number(4), self.number()
+        return kind, client, number, self.tuple() if kind == 1 else self.number()
+
+    def is_done(self) -> bool:
+        return self.at == len(self.data)
+
+
+def read_snapshot(data: bytes) -> State:
+    it = Bytes(data)
+    following = it.number()
+    bag: dict[int, bytes] = {}
+    last = 0
+    for _ in range(it.number(4)):
+        tuple_id = it.number()
+        if not last < tuple_id < following:
+            raise Bad
+        bag[tuple_id] = it.tuple()
+        last = tuple_id
+    book: dict[int, tuple[int, tuple]] = {}
+    count, last = it.number(4), -1
+    for _ in range(count):
+        client, number = it.number(4), it.number()
+        if client <= last or not 1 <= number < NUMBERS:
+            raise Bad
+        book[client] = number, it.reply()
+        last = client
+    if not it.is_done() or not 1 <= following <= NUMBERS or count > CLIENTS:
+        raise Bad
+    return State(following, bag, book)
+
+
+def read_journal(data: bytes, at: int) -> tuple[list[tuple[int, list[tuple]]], int]:
+    """The records, each as the offset of its gate and its deeds, and the offset of the closed gate; Bad with the offset of the first bad one."""
+    records = []
+    while True:
+        if at >= len(data):
+            raise Bad(at)
+        if data[at] != 1:
+            return records, at
+        try:
+            it = Bytes(data[at + 1:at + 5])
+            size = it.number(4)
+            body = Bytes(data[at + 5:at + 5 + size])
+            if len(body.data) != size or at + 5 + size >= len(data):
+                raise Bad
+            deeds = []
+            while not body.is_done():
+                deeds.append(body.deed())
+            if not 1 <= len(deeds) <= 64:
+                raise Bad
+        except Bad:
+            raise Bad(at) from None
+        records.append((at, deeds))
+        at += 5 + size
+
+
+def do(state: State, deed: tuple) -> State:
+    """The state after a deed, which changes the maps that it is given."""
+    kind, client, number, what = deed
+    last = state.book.get(client, (0, ()))[0]
+    if number != last + 1 or number >= NUMBERS or (last == 0 and len(state.book) >= CLIENTS):
+        raise Bad
+    if kind == 1:
+        if state.next >= NUMBERS:
+            raise Bad
+        state.bag[state.next] = what
+        state.book[client] = number, ("Stored", state.next)
+        return replace(state, next=state.next + 1)
+    if kind == 2:
+        if what not in state.bag:
+            raise Bad
+        state.book[client] = number, ("Taken", what, state.bag.pop(what))
+    else:
+        state.book[client] = number, ("Gone",)
+    return state
+
+
+def heading(data: bytes) -> int | None:
+    """The generation of a bank, 0 where it is a foreign one, None where there is none."""
+    if len(data) < 17 or data[0] != 1:
+        return None
+    return int.from_bytes(data[5:13], "big") if data[1:5] == b"LND1" else 0
+
+
+def verdict(left: bytes, right: bytes) -> Verdict:
+    """What stands on two banks."""
+    if not left and not right:
+        return Verdict(State())
+    generations = heading(left), heading(right)
+    for side, generation in zip(SIDES, generations):
+        if generation == 0:
+            return Verdict(None, f"store: damaged {side} 1")
+    if generations == (None, None):
+        return Verdict(None, "store: no store")
+    if generations[0] == generations[1]:
+        return Verdict(None, "store: damaged left 5")
+    is_right = (generations[1] or 0) > (generations[0] or 0)
+    side, data, generation = SIDES[is_right], (left, right)[is_right], generations[is_right] or 0
+
+    def damaged(offset: int) -> Verdict:
+        return Verdict(None, f"store: damaged {side} {offset}")
+
+    size = int.from_bytes(data[13:17], "big")
+    if 17 + size >= len(data):
+        return damaged(17)
+    try:
+        records, end = read_journal(data, 17 + size)
+    except Bad as fault:
+        return damaged(fault.args[0])
+    try:
+        state = read_snapshot(data[17:17 + size])
+    except Bad:
+        return damaged(17)
+    for gate, deeds in records:
+        try:
+            for deed in deeds:
+                state = do(state, deed)
+        except Bad:
+            return damaged(gate)
+    gates = tuple(gate for gate, _ in records)
+    return Verdict(state, "", side, generation, gates, gates[1:] + (end,))
+
+
+def folder_bytes(folder: Path) -> tuple[bytes, bytes]:
+    """The bytes of both banks of a folder; a missing file is an empty one."""
+    left, right = (folder / f"{side}.bank" for side in SIDES)
+    return left.read_bytes() if left.exists() else b"", right.read_bytes() if right.exists() else b""

@@ -1,0 +1,163 @@
+"""What the tools that play with `linda serve` share: a server as a process, a connection that speaks frames, and what a process uses.
+
+It is no tool by itself. Frames are those of examples/client.py, which is written from docs/FORMATS.md alone.
+"""
+
+import os
+import selectors
+import socket
+import subprocess
+import sys
+from pathlib import Path
+
+TOP = Path(__file__).resolve().parent.parent
+sys.path.insert(0, str(TOP / "examples"))
+import client as frames  # noqa: E402, F401
+
+PROGRAM = TOP / "linda"
+PATIENCE = 60
+PIECE = 65_536
+
+
+class Server:
+    """A server on a folder, which is ready once this is made. `refusal` is what a start led to that did not become ready."""
+
+    def __init__(self, folder: Path, port: int = 0, program: Path = PROGRAM, words: tuple[str, ...] = ()) -> None:
+        self.process = begin(folder, port, program, words)
+        assert self.process.stdout and self.process.stderr
+        line = self.process.stdout.readline()
+        if not line.startswith("ready "):
+            said = self.process.stderr.read()
+            raise ConnectionError(f"the server did not start: {said!r}, status {self.process.wait()}")
+        self.port = int(line.split()[1])
+
+    def __enter__(self) -> "Server":
+        return self
+
+    def __exit__(self, *_: object) -> None:
+        self.kill()
+
+    def kill(self) -> None:
+        """kill -9."""
+        self.process.kill()
+        self.process.wait()
+        for stream in (self.process.stdout, self.process.stderr):
+            if stream:
+                stream.close()
+
+    def lives(self) -> bool:
+        return self.process.poll() is None
+
+    def use(self) -> "Use":
+        return use_of(self.process.pid)
+
+
+class Use:
+    """What a process uses: memory in KiB, threads, open files, and processor time in seconds."""
+
+    def __init__(self, memory: int, most: int, threads: int, files: int, processor: float) -> None:
+        self.memory, self.most, self.threads, self.files, self.processor = memory, most, threads, files, processor
+
+    def __str__(self) -> str:
+        return f"{self.memory / 1024:.1f} MB (at most {self.most / 1024:.1f}), {self.threads} threads, {self.files} open files"
+
+
+def use_of(pid: int) -> Use:
+    words = dict(line.split(":", 1) for line in Path(f"/proc/{pid}/status").read_text().splitlines() if ":" in line)
+    times = Path(f"/proc/{pid}/stat").read_text().rsplit(")", 1)[1].split()
+    return Use(int(words["VmRSS"].split()[0]), int(words["VmHWM"].split()[0]), int(words["Threads"]), len(os.listdir(f"/proc/{pid}/fd")),
+               (int(times[11]) + int(times[12])) / os.sysconf("SC_CLK_TCK"))
+
+
+def begin(folder: Path, port: int, program: Path = PROGRAM, words: tuple[str, ...] = ()) -> "subprocess.Popen[str]":
+    return subprocess.Popen([program, "serve", "--port", str(port), "--dir", str(folder), *words], stdin=subprocess.DEVNULL,
+                            stdout=subprocess.PIPE, stderr=subprocess.PIPE, text=True)
+
+
+Frame = tuple[str, dict]
+
+
+class Peer:
+    """A connection that sends bytes and takes frames out of what came, as (name, parts) of examples/client.py."""
+
+    def __init__(self, port: int, patience: float | None = PATIENCE) -> None:
+        self.stream = socket.create_connection(("127.0.0.1", port), timeout=patience)
+        self.stream.setsockopt(socket.IPPROTO_TCP, socket.TCP_NODELAY, 1)
+        self.came = bytearray()
+
+    def send(self, data: bytes) -> None:
+        self.stream.sendall(data)
+
+    def whole(self) -> bytes | None:
+        """The next frame that came whole."""
+        if len(self.came) < 4:
+            return None
+        end = 4 + int.from_bytes(self.came[:4], "big")
+        if len(self.came) < end:
+            return None
+        data = bytes(self.came[:end])
+        del self.came[:end]
+        return data
+
+    def raw(self) -> bytes:
+        """The next frame, in bytes."""
+        while (data := self.whole()) is None:
+            piece = self.stream.recv(PIECE)
+            if not piece:
+                raise ConnectionError("the server ended the connection")
+            self.came += piece
+        return data
+
+    def receive(self) -> Frame:
+        return frames.read_frame(self.raw())
+
+    def ask(self, data: bytes) -> Frame:
+        self.send(data)
+        return self.receive()
+
+    def greet(self, client: int, fresh: bool = False) -> int:
+        """Greets, and again while the server says Busy; answers the last number."""
+        while True:
+            name, parts = self.ask(frames.hello(client, fresh))
+            if name == "Welcome":
+                return parts["last"]
+            if (name, parts.get("code")) != ("Refused", 3):
+                raise ValueError(frames.words_of(name, parts))
+
+    def close(self) -> None:
+        self.stream.close()
+
+
+def listing(port: int, template: bytes, first_client: int) -> dict[int, tuple]:
+    """All tuples that the template (as it stands in an Ask) matches and that nobody holds, with their ids: each is asked for under a ticket of its own
+    and offered, 64 to each client, from this number on; the connections are closed at the end, which gives all of them free again."""
+    found: dict[int, tuple] = {}
+    peers = []
+    while True:
+        peer = Peer(port)
+        peers.append(peer)
+        peer.greet(first_client + len(peers) - 1)
+        asks = b"".join(frames.frame(b"\x03" + frames.spell_number(ticket) + b"\x01" + template) for ticket in range(1, 65))
+        peer.send(asks + frames.out(0, "end"))
+        count = 0
+        while True:
+            name, parts = peer.receive()
+            if name == "Refused":
+                break
+            if name != "Offer" or parts["id"] in found or parts["ticket"] != count + 1:
+                raise ValueError(f"offered as number {count + 1}: {frames.words_of(name, parts)}")
+            count += 1
+            found[parts["id"]] = parts["tuple"]
+        if count < 64:
+            break
+    for peer in peers:
+        peer.close()
+    return found
+
+
+def when_readable(peers: list[Peer], seconds: float) -> list[Peer]:
+    """Those of the connections at which something came within this time."""
+    with selectors.DefaultSelector() as select:
+        for peer in peers:
+            select.register(peer.stream, selectors.EVENT_READ, peer)
+        return [key.data for key, _ in select.select(seconds)]
