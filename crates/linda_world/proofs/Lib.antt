@@ -1,3 +1,4 @@
+pub mod NotedLaws
 pub mod ServedLaws
 pub mod MemberLaws
 pub mod MessageLaws

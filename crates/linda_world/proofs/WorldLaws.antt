@@ -1,6 +1,6 @@
 -- A world goes on by a step, or shows what it showed.
 use Rattle.std.proofs.Common.{◌≡◌, ℕ, Bool, true, false, true≢false, List, [], ◌∷◌, ◌++◌, refl, sym, ◌∙◌, subst}
-use Rattle.std.specs.Prelude.{Ok, Err, ◌≤◌, All, length, map}
+use Rattle.std.specs.Prelude.{None, Ok, Err, ◌≤◌, All, length, map}
 use Rattle.std.proofs.Common.{arith}
 use Rattle.std.proofs.lemmas.List.{length-map}
 use Rattle.std.proofs.lemmas.List.Elements.{All-map, All-weaker}
@@ -14,6 +14,7 @@ use Rattle.linda_run.specs.World as run
 use Rattle.linda_run.specs.Steps as steps
 use Rattle.linda_run.specs.Steps.{Told, HasJoined}
 use Rattle.linda_run.specs.Reached.{IsUnused, IsNew, IsStart, IsReached, joins, goes}
+use Rattle.linda_world.specs.Refusal.{refusal}
 use Rattle.linda_world.specs.Scene.{IsShownAs, AddsOrNot, new_server, world_of}
 use Rattle.linda_world.specs.World.{World, IsRun, Steps, Runs, StopsAt}
 
@@ -28,8 +29,8 @@ is_run w spent reached = record { now = w; reached = reached; shown = same_shown
 pub reached_now : (w : World) → IsRun w → w.is_spent ≡ false → IsReached w.world
 reached_now w is unspent = subst IsReached (sym (is.whole unspent)) is.reached
 
-pub goes_on : (w new : run.World) (was spent : Bool) (event : WorldEvent) (told : Told) → IsRun (record { world = w; is_spent = was }) → was ≡ false → steps.Steps w event told new → IsRun (record { world = new; is_spent = spent })
-goes_on w new was spent event told is unspent step = is_run new spent (goes w new event told (reached_now (record { world = w; is_spent = was }) is unspent) step)
+pub goes_on : (w new : run.World) (was spent : Bool) (event : WorldEvent) (told : Told) → IsRun (record { world = w; is_spent = was }) → was ≡ false → (refusal w event ≡ None) × steps.Steps w event told new → IsRun (record { world = new; is_spent = spent })
+goes_on w new was spent event told is unspent step = is_run new spent (goes w new event told (reached_now (record { world = w; is_spent = was }) is unspent) step.1)
 
 pub joins_on : (w new : run.World) (was spent : Bool) (c : ℕ) → IsRun (record { world = w; is_spent = was }) → was ≡ false → HasJoined c w new → IsRun (record { world = new; is_spent = spent })
 joins_on w new was spent c is unspent joined = is_run new spent (joins w new c (reached_now (record { world = w; is_spent = was }) is unspent) joined)
@@ -62,7 +63,7 @@ start_of nodes some few unused =
 -- Where no client is added nothing changes.
 pub unchanged : (old : run.World) (c : ℕ) (fault : WorldFault) (new : run.World) → AddsOrNot old c (Err fault) new → new ≡ old
 unchanged old c faults.ClientKnown new known = known.1
-unchanged old c faults.Memory new same = same
+unchanged old c faults.Memory new short = short.1
 unchanged old c faults.NoClient new never = absurd never
 unchanged old c faults.NoServer new never = absurd never
 unchanged old c faults.NoPacket new never = absurd never

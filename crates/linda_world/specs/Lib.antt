@@ -2,6 +2,7 @@ pub mod MessageCode
 pub mod Code
 pub mod Answer
 pub mod Call
+pub mod Noted
 pub mod Member
 pub mod Refusal
 pub mod Scene

@@ -11,7 +11,7 @@ use Rattle.linda_run.specs.declared.event.WorldEvent.TheVariants as events
 use Rattle.linda_run.specs.declared.packet.Body.{Body}
 use Rattle.linda_run.specs.declared.packet.Body.TheVariants as bodies
 use Rattle.linda_run.specs.declared.packet.Packet.{Packet}
-use Rattle.linda_run.specs.World.{World}
+use Rattle.linda_run.specs.World.{Member, World}
 use Rattle.linda_world.specs.declared.fault.WorldFault.{WorldFault}
 use Rattle.linda_world.specs.declared.fault.WorldFault.TheVariants as faults
 use Rattle.linda_world.specs.Member.{refusal_to}
@@ -64,3 +64,26 @@ refusal w (events.Close s c) = refusal_at w s
 refusal w (events.Snapshot s) = refusal_at w s
 refusal w (events.Stop s packets at torn) = refusal_of_stop w s packets.items
 refusal w (events.StopSnapshot s at torn) = refusal_at w s
+
+-- why a packet is refused before it is copied, if it is: there is no such server; of a reply nothing is asked before
+abbrev pub early_refusal_by : World → Packet → Body → Option WorldFault
+early_refusal_by w p (bodies.Message m) = refusal_at w p.server
+early_refusal_by w p (bodies.Reply r) = None
+
+abbrev pub early_refusal_of_packet : World → Option Packet → Option WorldFault
+early_refusal_of_packet w None = Some faults.NoPacket
+early_refusal_of_packet w (Some p) = early_refusal_by w p p.body
+
+-- Why the event is refused before memory may run out, if it is: that is why it is refused, but a reply that is
+-- delivered is copied before its client is asked.
+abbrev pub early_refusal : World → WorldEvent → Option WorldFault
+early_refusal w (events.Deliver k) = early_refusal_of_packet w (slice_get w.packets k)
+early_refusal w event = refusal w event
+
+-- why a client cannot join, if it cannot: its number is known
+abbrev pub refusal_of_known : Option Member → Option WorldFault
+refusal_of_known None = None
+refusal_of_known (Some member) = Some faults.ClientKnown
+
+abbrev pub refusal_of_join : World → ℕ → Option WorldFault
+refusal_of_join w c = refusal_of_known (map.get w.members c)

@@ -1,5 +1,5 @@
 -- What an event of a world comes to: a step, a refusal, or want of memory.
-use Rattle.std.specs.Prelude.{◌≡◌, ℕ, List, [], Option, Some, IsSome, Result, Ok, Err, map}
+use Rattle.std.specs.Prelude.{◌≡◌, ℕ, List, [], Option, Some, None, IsSome, Result, Ok, Err, map}
 use Rattle.std.specs.FinMap as maps
 use Rattle.linda_store.specs.Node.{Node}
 use Rattle.linda_run.specs.declared.event.WorldEvent.{WorldEvent}
@@ -10,7 +10,7 @@ use Rattle.linda_world.specs.declared.fault.WorldFault.{WorldFault}
 use Rattle.linda_world.specs.declared.fault.WorldFault.TheVariants as faults
 use Rattle.linda_world.specs.Answer.{Tells}
 use Rattle.linda_world.specs.Member.{SameGot}
-use Rattle.linda_world.specs.Refusal.{refusal}
+use Rattle.linda_world.specs.Refusal.{early_refusal, refusal, refusal_of_join}
 
 -- It shows the same: what each server did, what each client was given, and all packets.
 pub record IsShownAs (old new : World) : Type 0 where
@@ -27,15 +27,23 @@ abbrev pub seen_of : {E : Type 0} → Result Told E → Result Seen WorldFault
 seen_of (Ok told) = answer_of told
 seen_of (Err short) = Err faults.Memory
 
--- This came of it; or it is refused so, and nothing changed; or memory ran out, and what is shown is as before.
+-- It is not refused, and this came of it; or it is refused so, and nothing changed; or memory ran out, where it was not
+-- refused early, and what is shown is as before.
+abbrev pub TriesOrNot : (World → Told → World → Type 0) → Option WorldFault → Option WorldFault → World
+    → Result Seen WorldFault → World → Type 0
+TriesOrNot Comes refused early old result new =
+    Tells (λ told. (refused ≡ None) × Comes old told new) (λ fault. (refused ≡ Some fault) × (new ≡ old))
+    ((early ≡ None) × IsShownAs old new) result
+
+-- The same, where memory runs out only if it is not refused.
 abbrev pub AsksOrNot : (World → Told → World → Type 0) → Option WorldFault → World
     → Result Seen WorldFault → World → Type 0
-AsksOrNot Comes refused old result new =
-    Tells (λ told. Comes old told new) (λ fault. (refused ≡ Some fault) × (new ≡ old)) (IsShownAs old new) result
+AsksOrNot Comes refused old result new = TriesOrNot Comes refused refused old result new
 
 -- What an event comes to.
 abbrev pub Answers : World → WorldEvent → Result Seen WorldFault → World → Type 0
-Answers old event result new = AsksOrNot (λ w told then. Steps w event told then) (refusal old event) old result new
+Answers old event result new =
+    TriesOrNot (λ w told then. Steps w event told then) (refusal old event) (early_refusal old event) old result new
 
 -- a server that has done nothing
 abbrev pub new_server : Node → Server
@@ -45,9 +53,9 @@ new_server node = record { deeds = []; node = node }
 abbrev pub world_of : List Node → World
 world_of nodes = record { servers = map new_server nodes; members = maps.empty; packets = [] }
 
--- A client joined; or its number is known, or memory ran out, and nothing changed.
+-- A client joined; or its number is known, or memory ran out where it is not, and nothing changed.
 abbrev pub AddsOrNot : World → ℕ → Result (Unit {0}) WorldFault → World → Type 0
 AddsOrNot old c (Ok done) new = HasJoined c old new
 AddsOrNot old c (Err faults.ClientKnown) new = IsSome (maps.get old.members c) × (new ≡ old)
-AddsOrNot old c (Err faults.Memory) new = new ≡ old
+AddsOrNot old c (Err faults.Memory) new = (refusal_of_join old c ≡ None) × (new ≡ old)
 AddsOrNot old c (Err fault) new = ⊥

@@ -12,7 +12,7 @@ use Rattle.linda_run.specs.Reached.{IsReached}
 use Rattle.linda_world.specs.declared.fault.WorldFault.{WorldFault}
 use Rattle.linda_world.specs.declared.fault.WorldFault.TheVariants as faults
 use Rattle.linda_world.specs.Answer.{Tells}
-use Rattle.linda_world.specs.Refusal.{refusal}
+use Rattle.linda_world.specs.Refusal.{early_refusal, refusal, refusal_of_join}
 use Rattle.linda_world.specs.Scene.{IsShownAs}
 
 pub record World : Type 0 where
@@ -27,15 +27,18 @@ pub record IsRun (w : World) : Type 0 where
   pub shown : IsShownAs now w.world
   pub whole : w.is_spent ≡ false → w.world ≡ now
 
--- Memory ran out, now or before: it is spent, and shows what it showed; and where it was spent before, nothing changed.
-pub record IsShort (old new : World) : Type 0 where
+-- Memory ran out, before, or now where nothing was refused: it is spent, and shows what it showed; and where it was
+-- spent before, nothing changed.
+pub record IsShort (refused : Option WorldFault) (old new : World) : Type 0 where
+  pub allowed : old.is_spent ≡ false → refused ≡ None
   pub spent : new.is_spent ≡ true
   pub shown : IsShownAs old.world new.world
   pub same : old.is_spent ≡ true → new ≡ old
 
--- It was not spent, and a step took place; it is not spent then.
+-- It was not spent, the event is not refused, and a step took place; it is not spent then.
 pub record IsStep (old : World) (event : WorldEvent) (new : World) (told : Told) : Type 0 where
   pub was : old.is_spent ≡ false
+  pub allowed : refusal old.world event ≡ None
   pub now : new.is_spent ≡ false
   pub step : steps.Steps old.world event told new.world
 
@@ -48,7 +51,7 @@ pub record Refuses (refused : Option WorldFault) (old new : World) (fault : Worl
 -- What an event comes to: a step, where a server that is down is told as a fault; a refusal; or want of memory.
 abbrev pub Steps : World → WorldEvent → Result Seen WorldFault → World → Type 0
 Steps old event result new = Tells (IsStep old event new)
-    (Refuses (refusal old.world event) old new) (IsShort old new) result
+    (Refuses (refusal old.world event) old new) (IsShort (early_refusal old.world event) old new) result
 
 -- These events, one after another, none of them refused and no server down, lead from one to the other.
 abbrev pub Runs : World → List WorldEvent → World → Type 0
@@ -86,7 +89,7 @@ abbrev pub Joins : World → ℕ → Result (Unit {0}) WorldFault → World → 
 Joins old c (Ok done) new = IsJoin c old new
 Joins old c (Err faults.ClientKnown) new =
     IsSome (maps.get old.world.members c) × ((old.is_spent ≡ false) × (new ≡ old))
-Joins old c (Err faults.Memory) new = IsShort old new
+Joins old c (Err faults.Memory) new = IsShort (refusal_of_join old.world c) old new
 Joins old c (Err fault) new = ⊥
 
 -- what a client was given; nothing, if there is none of this number

@@ -7,6 +7,7 @@
 #![tactic(auto)]
 
 mod call;
+mod deeds;
 mod fault;
 mod member;
 mod message;

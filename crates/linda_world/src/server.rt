@@ -8,9 +8,10 @@ ghost use Rattle.linda_store.specs.Node.{IsBatch, in_hand};
 ghost use Rattle.linda_run.specs.Steps.{Takes, Leaves, Saves, Halts};
 ghost use Rattle.linda_world.specs.Answer.{ServesOrNot};
 
+use crate::deeds::Deeds;
 use linda_disk::Torn;
-use linda_promise::{last_number, reported_deed};
-use linda_run::{Packet, Seen, append_both, deeds_are_learned, packets_from};
+use linda_promise::reported_deed;
+use linda_run::{Packet, Seen, deeds_are_learned, packets_from};
 use linda_store::{Deed, Node, NodeFault, Work};
 use linda_wire::{Message, Refusal, Reply};
 use std::alloc::{AllocError, Global};
@@ -23,7 +24,7 @@ pub(crate) type Told = Result<Seen, u32>;
 #[derive(Drop)]
 pub(crate) struct Server<N: Node> {
     node: N,
-    deeds: Vec<Deed>,
+    deeds: Deeds,
 }
 
 impl<N: Node> Model for Server<N> {
@@ -34,7 +35,7 @@ impl<N: Node> Model for Server<N> {
 
     ghost coded = { server_code };
 
-    ghost view = { λ s. record { deeds = s.deeds.items; node = N.shown s.node } };
+    ghost view = { λ s. record { deeds = s.deeds; node = N.shown s.node } };
 }
 
 /// A server did what it was asked, or had no room.
@@ -65,7 +66,7 @@ impl<N: Node> Server<N> {
     {
         Server {
             node,
-            deeds: Vec::new(alloc),
+            deeds: Deeds::new(alloc),
         }
     }
 
@@ -73,7 +74,7 @@ impl<N: Node> Server<N> {
     pub(crate) fn deeds(&self) -> &[Deed]
         ensures { result.now ≡ self.now.deeds }
     {
-        &self.deeds
+        self.deeds.all()
     }
 
     /// Its node.
@@ -97,12 +98,12 @@ impl<N: Node> Server<N> {
             self.new packets.new.items }
     {
         deeds_are_learned();
-        let last = last_number(&self.deeds, client);
+        let last = self.deeds.last_number(client)?;
         match self.node.handle(alloc, client, &message) {
             Ok(sends) => {
                 let deed = reported_deed(client, message, last, &sends);
                 let more = packets_from(alloc, server, sends)?;
-                append_both(packets, more, &mut self.deeds, deed)?;
+                self.deeds.append_with(deed, packets, more)?;
                 return Ok(Ok(served(false)));
             }
             Err(NodeFault::Full) => {

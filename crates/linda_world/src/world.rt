@@ -65,7 +65,7 @@ impl<N: Node> World<N> {
     ///
     /// # Errors
     ///
-    /// `ClientKnown` where there is one; nothing changes. `Memory` where memory ran out, as in `step`.
+    /// `ClientKnown` where there is one; nothing changes. `Memory` where there is none and memory ran out, as in `step`.
     pub fn add_client(&mut self, alloc: Global, number: u32) -> Result<(), WorldFault>
         ensures { Joins self.old number result self.new }
     {
@@ -157,7 +157,8 @@ impl<N: Node> World<N> {
     ///
     /// A refusal changes nothing: `NoClient`, `NoServer`, `NoPacket` or `TooManyPackets` where the event names
     /// what is not there, or too much; `Client` where the client refuses. `Down` where the event took place and
-    /// the server is down. `Memory` where memory ran out: what the world shows is as before the event, and it
+    /// the server is down. `Memory` where memory ran out for an event that is not refused (only a reply that is
+    /// delivered is copied before its client is asked): what the world shows is as before the event, and it
     /// answers `Memory` from then on.
     pub fn step(&mut self, alloc: Global, event: WorldEvent) -> Result<Seen, WorldFault>
         ensures { Steps self.old event result self.new }

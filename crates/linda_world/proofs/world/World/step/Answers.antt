@@ -11,7 +11,7 @@ invariant_of-self g c = goes_on c.self.inside.scene c.step.new.self c.self.insid
 pub invariant_of-self-in-Err-Memory : goal.invariant_of-self-in-Err-Memory
 invariant_of-self-in-Err-Memory g c =
     falls_short c.self.inside.scene c.step.new.self c.self.inside.spent c.self.invariant
-    (subst (λ (f : WorldFault). Answers c.self.inside.scene c.args.event (Err f) c.step.new.self) c.in-Err-Memory.field-0-is c.in-Err-Memory.ensures)
+    (subst (λ (f : WorldFault). Answers c.self.inside.scene c.args.event (Err f) c.step.new.self) c.in-Err-Memory.field-0-is c.in-Err-Memory.ensures).1
 
 pub invariant_of-self-in-Err-Down : goal.invariant_of-self-in-Err-Down
 invariant_of-self-in-Err-Down g c =
