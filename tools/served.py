@@ -4,7 +4,6 @@ It is no tool by itself. Frames are those of examples/client.py, which is writte
 """
 
 import os
-import selectors
 import socket
 import subprocess
 import sys
@@ -20,7 +19,7 @@ PIECE = 65_536
 
 
 class Server:
-    """A server on a folder, which is ready once this is made. `refusal` is what a start led to that did not become ready."""
+    """A server on a folder, which is ready once this is made."""
 
     def __init__(self, folder: Path, port: int = 0, program: Path = PROGRAM, words: tuple[str, ...] = ()) -> None:
         self.process = begin(folder, port, program, words)
@@ -154,10 +153,3 @@ def listing(port: int, template: bytes, first_client: int) -> dict[int, tuple]:
         peer.close()
     return found
 
-
-def when_readable(peers: list[Peer], seconds: float) -> list[Peer]:
-    """Those of the connections at which something came within this time."""
-    with selectors.DefaultSelector() as select:
-        for peer in peers:
-            select.register(peer.stream, selectors.EVENT_READ, peer)
-        return [key.data for key, _ in select.select(seconds)]

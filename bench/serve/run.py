@@ -5,8 +5,8 @@
 
 The driver, drive.c, is built with cc; it speaks frames over sockets as docs/FORMATS.md has them, from one thread. The store lies in a new folder below this
 repository, so on its disk, and each cell has a new server. Before and behind each cell the plain loop appends 64 bytes and syncs them, on the same disk. What is
-told of a cell: acknowledged puts and takes a second (of 50 ms slices the 80th percentile, and the mean) over those of the loop, the mean of both times; the median, the least
-and the greatest of the rounds. A deed needs two syncs, so one client alone can have 0.5 at most. `wake` tells times: from the moment that a put is sent until
+told of a cell: acknowledged puts and takes a second (of 50 ms slices the 80th percentile, and the mean) over those of the loop, the mean of both times; the
+median, the least and the greatest of the rounds. A deed needs two syncs, so one client alone can have 0.5 at most. `wake` tells times: from the moment that a put is sent until
 a waiting client has the offer, and until it has the tuple, the median of all; and how many appends and syncs of the loop fit in.
 
 With --realtime server, driver and loop run in a real-time class (which takes root), ahead of all else on the machine: where others use the processors,
