@@ -72,7 +72,8 @@ impl Tally {
     }
 }
 
-/// Puts so many jobs, numbered from 0 on, and then takes as many.
+/// Puts so many jobs, numbered from 0 on, and then takes as many. Where a request of it came to nothing, neither a
+/// `Stored` nor a `Taken`, it ends and waits for nothing more.
 #[derive(Drop)]
 pub(super) struct Jobs<'t> {
     alloc: Global,
@@ -149,7 +150,13 @@ impl<'t> Worker for Jobs<'t> {
         }
         match self.message() {
             Ok(Some(message)) => Next::Send(message),
-            Ok(None) => Next::Wait,
+            Ok(None) => {
+                if self.number == self.stored.saturating_add(self.taken) {
+                    Next::Wait
+                } else {
+                    Next::Done
+                }
+            }
             Err(_) => Next::Done,
         }
     }

@@ -173,7 +173,7 @@ fn crew_works<R: Threads + Wait + Clock + Abort + Sync>(
 }
 
 #[test]
-fn four_workers_take_each_job_once(rt: HostRuntime) -> Result<(), Fail> {
+fn a_day_of_work(rt: HostRuntime) -> Result<(), Fail> {
     let crew = Crew {
         clients: 4,
         jobs: 100,
@@ -195,7 +195,7 @@ fn one_worker_waits_until_another_was_answered(rt: HostRuntime) -> Result<(), Fa
 }
 
 #[test]
-fn two_workers_stand_at_their_gate_at_once(rt: HostRuntime) -> Result<(), Fail> {
+fn workers_run_side_by_side(rt: HostRuntime) -> Result<(), Fail> {
     let entered = Entered {
         first: AtomicU64::new(0),
         second: AtomicU64::new(0),
