@@ -15,10 +15,14 @@ use std::time::{Clock, Duration};
 /// How often it is looked whether a snapshot pays for itself, in milliseconds.
 const LOOK: u64 = 100;
 
+/// How long nobody is let in where a connection could not be had, as where no file is left for it, in milliseconds.
+const REST: u64 = 10;
+
 /// Serves the connections that come, each in two threads of its own: one reads, submits what came, 64 messages at most
 /// at once, and writes what that led to; the other writes what others' messages send. Where a number is given, so many
 /// connections are served, and it ends when the last of them has. A connection for which no thread can be had is
-/// closed. One that stops reading, or sends half of a frame and waits, holds up nobody else. Another thread takes a
+/// closed, and where a connection cannot be had the next is waited for. One that stops reading, or sends half of a frame
+/// and waits, holds up nobody else. Another thread takes a
 /// snapshot whenever one pays for itself, and goes on where it is refused; where no thread can be had for that, none is
 /// taken.
 ///
@@ -64,9 +68,12 @@ fn accept_all<'s, E, D: Disk + Send, L: Ledger + Send + Sync, R: Threads + Wait 
         if shared.is_down(rt) {
             return;
         }
-        if let Ok(stream) = stream {
-            begin(scope, rt, alloc, shared, stream);
-            left = one_less(left);
+        match stream {
+            Ok(stream) => {
+                begin(scope, rt, alloc, shared, stream);
+                left = one_less(left);
+            }
+            Err(_) => thread::sleep(rt, Duration::from_millis(REST)),
         }
         if left == Some(0) {
             return;
