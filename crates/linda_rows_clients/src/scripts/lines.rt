@@ -29,13 +29,17 @@ pub fn push_lines(script: &mut String, words: &str) -> Result<(), WordsFault> {
 
 /// Tells of many lines how many they are, and the last one.
 pub fn tell_last(printed: &str, came: &mut String) -> Result<(), AllocError> {
-    let lines = printed.strip_suffix("\n").unwrap_or(printed);
-    let (mut count, mut last) = (0u64, lines);
-    for line in lines.split('\n') {
+    let Some(lines) = printed.strip_suffix("\n") else {
+        return writeln!(came, "> ? no line feed behind {printed}");
+    };
+    let mut count = 0u64;
+    for _line in lines.split('\n') {
         count = count.saturating_add(1);
-        last = line;
     }
-    writeln!(came, "> {count} lines, the last {last}")
+    match lines.rsplit_once('\n') {
+        Some((_, last)) => writeln!(came, "> {count} lines, the last {last}"),
+        None => writeln!(came, "> {count} lines, the last {lines}"),
+    }
 }
 
 // Appends a string of 255 letters in its quotation marks.
