@@ -21,10 +21,9 @@ const REST: u64 = 10;
 /// Serves the connections that come, each in two threads of its own: one reads, submits what came, 64 messages at most
 /// at once, and writes what that led to; the other writes what others' messages send. Where a number is given, so many
 /// connections are served, and it ends when the last of them has. A connection for which no thread can be had is
-/// closed, and where a connection cannot be had the next is waited for. One that stops reading, or sends half of a frame
-/// and waits, holds up nobody else. Another thread takes a
-/// snapshot whenever one pays for itself, and goes on where it is refused; where no thread can be had for that, none is
-/// taken.
+/// closed, and where a connection cannot be had the next is waited for. One that stops reading, or sends half of a
+/// frame and waits, holds up nobody else. Another thread takes a snapshot whenever one pays for itself, and goes on
+/// where it is refused; where no thread can be had for that, none is taken.
 ///
 /// # Errors
 ///

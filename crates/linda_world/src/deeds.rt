@@ -73,8 +73,8 @@ fn note_all(all: &[Deed], noted: &mut usize, lasts: &mut Lasts) -> Result<(), Al
     Ok(())
 }
 
-/// All deeds of a server, in order. The last number of each client is noted, so that each deed is looked at once, however
-/// many messages come.
+/// All deeds of a server, in order. The last number of each client is noted, so that each deed is looked at once,
+/// however many messages come.
 #[derive(Drop)]
 pub(crate) struct Deeds {
     all: Vec<Deed>,

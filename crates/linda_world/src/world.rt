@@ -65,7 +65,8 @@ impl<N: Node> World<N> {
     ///
     /// # Errors
     ///
-    /// `ClientKnown` where there is one; nothing changes. `Memory` where there is none and memory ran out, as in `step`.
+    /// `ClientKnown` where there is one; nothing changes. `Memory` where there is none and memory ran out, as in
+    /// `step`.
     pub fn add_client(&mut self, alloc: Global, number: u32) -> Result<(), WorldFault>
         ensures { Joins self.old number result self.new }
     {
