@@ -32,6 +32,7 @@ use Rattle.linda_client.specs.React as spec
 use Rattle.linda_client.specs.React.{Call, Out, Sync, Receive, Tick, Resend, Reconnected, Abandon, ask_servers, next_accept, out_server, put, react, used_at}
 use Rattle.linda_client.specs.Ending.{BaseGets, GotBy, spared_for}
 use Rattle.linda_client.specs.Progress.{IsGone}
+use Rattle.linda_client.specs.Uses.{is_repeat}
 use Rattle.linda_client.proofs.BaseLaws.{alarm_gets, input_gets, match_found, read_gets}
 use Rattle.linda_client.proofs.AskLaws.{limits_kept}
 use Rattle.linda_client.proofs.ListLaws.{kept_there}
@@ -56,7 +57,7 @@ pub data Course (c : Client) (call : Call) : Reaction → Type 0 where
   rests : (clock : ℕ) → IsNotGone c call → Course c call (no_reaction (record c { clock = clock }))
   hands_on : (server code detail : ℕ) → IsNotGone c call → Course c call (hand_on c server code detail)
   rejects : (a : Arrival) → a.server < servers c → IsNotGone c call → Course c call (send ((a.server, messages.Cancel a.ticket) ∷ []) c)
-  repeats : (packets : List Packet) → ((p : Packet) → Contains packets p → Contains (sent_again c) p) → IsNotGone c call → Course c call (send packets c)
+  repeats : (packets : List Packet) → is_repeat call ≡ true → ((p : Packet) → Contains packets p → Contains (sent_again c) p) → IsNotGone c call → Course c call (send packets c)
   puts : (row : Tuple) → c.task ≡ Idle → next_at c (out_server c) ≢ NUMBER_LIMIT → c.outs + 1 ≢ NUMBER_LIMIT → Course c call (put c (out_server c) row)
   stores : (server n id : ℕ) (row : Tuple) → c.task ≡ Putting server n row → call ≡ Receive server (replies.Stored n id) → Course c call (finish c [] (outcomes.Stored server id))
   commits_at_once : (event : Tree) (ready : ℕ × Got) → call ≡ Sync event → c.task ≡ Idle → first_ready c.clock event ≡ Some ready → Course c call (commit c event [] ready.0 ready.1)
@@ -297,10 +298,10 @@ module _ (c : Client) (is : IsClient c) where
       (λ few. begun event (idle_task c.task busy) (limits_kept event depth few) (first_ready c.clock event) refl)))
   course_on (Receive server reply) = by_test (CourseOn c (Receive server reply)) (nat_lt server (servers c)) _ _ (λ low. replied server reply (ltb-true server (servers c) low)) (λ _. tt)
   course_on (Tick now) = ticks now (pending_in c.task) refl
-  course_on Resend = repeats (sent_again c) (λ p there. there) (other Resend refl)
+  course_on Resend = repeats (sent_again c) refl (λ p there. there) (other Resend refl)
   course_on (Reconnected server) =
       by_test (CourseOn c (Reconnected server)) (nat_lt server (servers c)) _ _
-      (λ _. repeats (filter (λ p. p.0 == server) (sent_again c)) (λ p there. kept_there (λ (q : Packet). q.0 == server) (sent_again c) p there) (other (Reconnected server) refl)) (λ _. tt)
+      (λ _. repeats (filter (λ p. p.0 == server) (sent_again c)) refl (λ p there. kept_there (λ (q : Packet). q.0 == server) (sent_again c) p there) (other (Reconnected server) refl)) (λ _. tt)
   course_on Abandon = dropped (pending_in c.task) refl
 
   -- Each call that is answered takes a course.

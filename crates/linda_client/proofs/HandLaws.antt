@@ -135,7 +135,7 @@ module _ (P : Accepted → Type 0) (call : Call) (c : Client) (pending : Pending
   becomes_on r (rests clock other) hand = stays r there hand
   becomes_on r (hands_on from code detail other) hand = stays r there hand
   becomes_on r (rejects a low other) hand = stays r there hand
-  becomes_on r (repeats packets again other) hand = stays r there hand
+  becomes_on r (repeats packets repeated again other) hand = stays r there hand
   becomes_on r (puts row idle number outs) hand = idle_not idle
   becomes_on r (stores from n i row task called) hand = putting_not from n row task
   becomes_on r (commits_at_once event ready called idle is_ready) hand = idle_not idle

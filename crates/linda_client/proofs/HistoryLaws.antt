@@ -248,7 +248,7 @@ pub tickets_once : (number count : ℕ) (calls : List Call) → 1 ≤ count → 
 tickets_once number count calls low high = tickets_from calls (new_client number count) (new_is number count low high)
 
 -- one for what is so, none for what is not
-abbrev weight : Bool → ℕ
+abbrev pub weight : Bool → ℕ
 weight b = cond b 1 0
 
 abbrev pends : Client → ℕ

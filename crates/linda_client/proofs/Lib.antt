@@ -13,3 +13,4 @@ pub mod ProgressLaws
 pub mod OfferLaws
 pub mod HandLaws
 pub mod HistoryLaws
+pub mod UseLaws

@@ -1,5 +1,5 @@
 -- Elements of lists.
-use Rattle.std.proofs.Common.{◌≡◌, ◌||◌, ◌⊎◌, inl, inr, arith, Bool, true, false, List, [], ◌∷◌, filter, Contains, refl, sym}
+use Rattle.std.proofs.Common.{◌≡◌, ◌||◌, ◌⊎◌, inl, inr, arith, Bool, true, false, List, [], ◌∷◌, ◌++◌, filter, Contains, refl, sym}
 use Rattle.std.specs.Prelude.{All}
 use Rattle.std.specs.List.{list_any}
 use Rattle.std.proofs.lemmas.Bool.{false≢true}
@@ -53,3 +53,14 @@ only_one x y there = All-contains (λ z. x ≡ z) (x ∷ []) y (All-cons (λ z. 
 -- nothing is in an empty list
 pub nowhere : {X A : Type 0} (x : X) → Contains [] x → A
 nowhere x there = absurd (All-contains (λ _. ⊥) [] x (All-nil (λ _. ⊥)) there)
+
+-- what equal lists have in front, and behind that
+pub same_first : {X : Type 0} (x y : X) (xs ys : List X) → x ∷ xs ≡ y ∷ ys → x ≡ y
+same_first x y xs ys same = cc
+
+pub same_rest : {X : Type 0} (x y : X) (xs ys : List X) → x ∷ xs ≡ y ∷ ys → xs ≡ ys
+same_rest x y xs ys same = cc
+
+pub not_empty : {X : Type 0} (xs : List X) (y : X) (ys : List X) → [] ≡ xs ++ y ∷ ys → ⊥
+not_empty [] y ys same = cc
+not_empty (x ∷ xs) y ys same = cc

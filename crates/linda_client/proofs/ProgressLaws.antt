@@ -50,7 +50,7 @@ module _ (c : Client) (call : Call) where
   goes_on r (rests clock other) = unmoved r refl refl refl other
   goes_on r (hands_on server code detail other) = unmoved r refl refl refl other
   goes_on r (rejects a within other) = unmoved r refl refl refl other
-  goes_on r (repeats packets there other) = unmoved r refl refl refl other
+  goes_on r (repeats packets repeated there other) = unmoved r refl refl refl other
   goes_on r (puts row idle number outs) = from_task Idle r idle (inl (refl, inl (record { after = refl; silent = λ e. e })))
   goes_on r (stores server n id row task called) = from_task (Putting server n row) r task (inl (refl, inl (record { after = refl; silent = λ e. e })))
   goes_on r (commits_at_once event ready called idle is_ready) =

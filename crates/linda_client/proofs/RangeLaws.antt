@@ -136,7 +136,7 @@ kept_on : (c : Client) → IsClient c → (call : Call) (r : Reaction) → Cours
 kept_on c is call r (rests clock other) = same_is c r.client is refl refl refl (task_rises c r.client (rises_same c r.client (omega arith) refl) c.task is.task)
 kept_on c is call r (hands_on server code detail other) = is
 kept_on c is call r (rejects a within other) = is
-kept_on c is call r (repeats packets there other) = is
+kept_on c is call r (repeats packets repeated there other) = is
 kept_on c is call r (puts row idle number outs) =
     let within = out_within c is in
     used_is c r.client (out_server c) is within number refl refl (let low = is.outs in omega (arith, low, outs)) (now_used c r.client (out_server c) is within refl)

@@ -52,7 +52,7 @@ module _ (c : Client) (is : IsClient c) where
 
   sound_on : (call : Call) (r : Reaction) → servers r.client ≡ servers c → Course c call r → All (IsSoundPacket r.client) r.packets
   sound_on call r same (rejects a within other) = one c (a.server, messages.Cancel a.ticket) (within, tt)
-  sound_on call r same (repeats packets there other) = all_there (IsSoundPacket c) packets (sent_again c) there again_sound
+  sound_on call r same (repeats packets repeated there other) = all_there (IsSoundPacket c) packets (sent_again c) there again_sound
   sound_on call r same (puts row idle number outs) = let low = out_within c is in let within : out_server c < servers r.client = omega arith in one r.client _ (within, tt)
   sound_on call r same (begins event called idle within room) = asks_sound r.client (new_pending c event) refl
   sound_on call r same (accepts pending rest a task turn low input more) = let within : a.server < servers r.client = omega arith in one r.client _ (within, tt)

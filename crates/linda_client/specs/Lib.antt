@@ -13,3 +13,4 @@ pub mod Numbers
 pub mod Progress
 pub mod Offers
 pub mod History
+pub mod Uses

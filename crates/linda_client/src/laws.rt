@@ -9,10 +9,11 @@ ghost use Rattle.linda_client.specs.declared.limits.TheConstants.{MAX_SERVERS};
 ghost use Rattle.linda_client.specs.Client.{IsClient, pending_in};
 ghost use Rattle.linda_client.specs.Ending.{TakenBy};
 ghost use Rattle.linda_client.specs.History.{FromNew, NumbersAreOnce, TicketsAreOnce, all_sent, end_count, sync_count};
-ghost use Rattle.linda_client.specs.Numbers.{NumbersGoOn, Rises};
+ghost use Rattle.linda_client.specs.Numbers.{NumbersGoOn, Rises, number_of};
 ghost use Rattle.linda_client.specs.Offers.{KeepsOffers, TreatsOffers};
 ghost use Rattle.linda_client.specs.Progress.{GoesOn, IsSoundPacket};
 ghost use Rattle.linda_client.specs.React.{AtEachCall, new_client};
+ghost use Rattle.linda_client.specs.Uses.{AreUsedOnce, RepeatsAreOld, ticket_of};
 
 /// A new client is as every client is, and so is a client after each call.
 pub fn calls_keep_clients()
@@ -59,15 +60,23 @@ pub fn offers_in_hand_are_kept()
 {}
 
 /// From a new client, whatever is called and whatever comes: two numbered messages to one server under one
-/// number are the same.
+/// number are the same, and over all calls at most one is sent anew.
 pub fn no_number_is_used_twice()
-    ensures { FromNew (λ acts. NumbersAreOnce (all_sent acts)) }
+    ensures same { FromNew (λ acts. NumbersAreOnce (all_sent acts)) }
+    ensures once { FromNew (AreUsedOnce number_of) }
 {}
 
 /// From a new client, whatever is called and whatever comes: two Asks under one ticket ask the same, at
-/// whichever servers.
+/// whichever servers, and over all calls at most one to each server is sent anew.
 pub fn no_ticket_is_used_twice()
-    ensures { FromNew (λ acts. TicketsAreOnce (all_sent acts)) }
+    ensures same { FromNew (λ acts. TicketsAreOnce (all_sent acts)) }
+    ensures once { FromNew (AreUsedOnce ticket_of) }
+{}
+
+/// From a new client, whatever is called and whatever comes: what `resend` and `reconnected` send was sent anew
+/// before.
+pub fn repeats_send_nothing_new()
+    ensures { FromNew RepeatsAreOld }
 {}
 
 /// From a new client, whatever is called and whatever comes: there are never more ends of synchronizations
