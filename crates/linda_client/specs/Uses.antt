@@ -1,6 +1,6 @@
 -- How often a client uses a number or a ticket. To send again what was sent before is no new use.
-use Rattle.std.specs.Prelude.{◌≡◌, ℕ, ◌==◌, ◌≤◌, Bool, true, false, ◌&&◌, if◌then◌else◌, List, [], ◌∷◌, ◌++◌}
-use Rattle.std.specs.Prelude.{Option, Some, None, All, Contains, count_by, flat_map}
+use Rattle.std.specs.Prelude.{◌≡◌, ℕ, ◌==◌, ◌≤◌, Bool, true, false, ◌&&◌, if◌then◌else◌}
+use Rattle.std.specs.Prelude.{List, [], ◌∷◌, ◌++◌, Option, Some, None, All, Contains, count_by, flat_map}
 use Rattle.linda_wire.specs.declared.message.Message.{Message}
 use Rattle.linda_wire.specs.declared.message.Message.TheVariants as messages
 use Rattle.linda_client.specs.Packets.{Packet}

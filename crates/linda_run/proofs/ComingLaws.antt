@@ -38,11 +38,12 @@ use Rattle.linda_client.specs.Numbers as sent
 use Rattle.linda_client.specs.Offers.{InHand}
 use Rattle.linda_run.specs.declared.packet.Packet.{Packet as Sent}
 use Rattle.linda_run.specs.World.{Member, Members}
-use Rattle.linda_run.specs.Promises.{HasCancel, HasOffer}
+use Rattle.linda_run.specs.Promises.{HasCancel, HasOffer, IsPut}
 use Rattle.linda_run.specs.Reasons.{OfMember, OfTicket, Suits, HasSent, IsSaid, IsReplied, IsUsedBy, IsWaitOf, HasInHand, HasReason, IsWaitedFor}
 use Rattle.linda_run.specs.Below.{OfSteps}
 use Rattle.linda_run.proofs.CallLaws.{from_some, accepted_unanswered}
 use Rattle.linda_run.proofs.NumberLaws.{own_last, other_last}
+use Rattle.linda_run.proofs.PutLaws.{put_under}
 
 -- A client that comes with a message did say it.
 abbrev pub IsSpoken : Members → ℕ → Coming → Type 0
@@ -262,8 +263,8 @@ module _ (laws : OfSteps) (ms : Members) (ps : List Sent) (s : ℕ) (ds es : Lis
             done y m d x_is e (laws.step_deed old.state new.state y old.soft m (record { deed = one.deed; sends = sends; soft = new.soft }) d orderly.soft_is.there step e)
 
     -- What is held then has a reason, where packets stay and those that are sent are among them.
-    held_then : (news : List Sent) → ((r : Request) → HasCancel ps s r → HasCancel news s r) → ((r : Request) (id : ℕ) → HasOffer ps s r id → HasOffer news s r id)
-        → ((r : Request) (id : ℕ) (row : Tuple) → Contains sends (r.client, replies.Offer r.ticket id row) → HasOffer news s r id)
+    held_then : (news : List Sent) → ((r : Request) → HasCancel ps s r → HasCancel news s r) → ((r : Request) (id : ℕ) → HasOffer ps s ds r id → HasOffer news s (ds ++ es) r id)
+        → ((r : Request) (id : ℕ) (row : Tuple) → IsPut (ds ++ es) id row → Contains sends (r.client, replies.Offer r.ticket id row) → HasOffer news s (ds ++ es) r id)
         → (id : ℕ) (request : Request) → get new.soft.holds id ≡ Some request → HasReason ms news s (ds ++ es) id request
     held_then news cancels offers offered id request held = by (spreads.holds id request held)
       where
@@ -291,7 +292,7 @@ module _ (laws : OfSteps) (ms : Members) (ps : List Sent) (s : ℕ) (ds es : Lis
                 inr (accepted.0, not_done request.client request.ticket id a is.member is.known awaits held accepted.1)
 
         by : (get old.soft.holds id ≡ Some request) ⊎ MakesOffer new.state.bag old.soft x sends id request → HasReason ms news s (ds ++ es) id request
-        by (inr offer) = inl (offered request id offer.tuple offer.sent)
+        by (inr offer) = inl (offered request id offer.tuple (put_under (ds ++ es) new.state id offer.tuple then.after offer.there) offer.sent)
         by (inl was) = elim (waited.held id request was) [
           | inl offer ↦ inl (offers request id offer)
           | inr other ↦ elim other [
@@ -301,8 +302,8 @@ module _ (laws : OfSteps) (ms : Members) (ps : List Sent) (s : ℕ) (ds es : Lis
         ]
 
     -- So the server is as it should be.
-    pub waited_then : (news : List Sent) → ((r : Request) → HasCancel ps s r → HasCancel news s r) → ((r : Request) (id : ℕ) → HasOffer ps s r id → HasOffer news s r id)
-        → ((r : Request) (id : ℕ) (row : Tuple) → Contains sends (r.client, replies.Offer r.ticket id row) → HasOffer news s r id)
+    pub waited_then : (news : List Sent) → ((r : Request) → HasCancel ps s r → HasCancel news s r) → ((r : Request) (id : ℕ) → HasOffer ps s ds r id → HasOffer news s (ds ++ es) r id)
+        → ((r : Request) (id : ℕ) (row : Tuple) → IsPut (ds ++ es) id row → Contains sends (r.client, replies.Offer r.ticket id row) → HasOffer news s (ds ++ es) r id)
         → IsWaitedFor ms news s (record { deeds = ds ++ es; node = new })
     waited_then news cancels offers offered = record {
       waits = All-weaker (Contains new.soft.waits) (IsWaitOf ms) (λ v there. asks_so v (spreads.waits v there)) new.soft.waits (All-contains_itself new.soft.waits);

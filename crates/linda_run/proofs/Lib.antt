@@ -1,6 +1,7 @@
 pub mod PlaceLaws
 pub mod DeliverLaws
 pub mod MarkLaws
+pub mod PutLaws
 pub mod CallLaws
 pub mod Course
 pub mod HonestLaws

@@ -179,13 +179,20 @@ module _ (of_deeds : OfDeeds) (of_calls : OfCalls) (call : Call) (c : ℕ) (ks :
         by (inl same) = subst (λ x. HasReason new.members new.packets s server.deeds id (request_of x k)) (sym same)
             (own_hand (own_member (HasInHand s last k id) (subst (λ x. OfMember w.members x (HasInHand s (last_number server.deeds x) k id)) same hand)))
         by (inr apart) = inr (inr (record { member = hand.member; known = others d apart ∙ hand.known; holds = hand.holds }))
-    reason_on d (inl (row, offer)) = by (received_or_same w call c ks called (sent_from s (d, replies.Offer k id row)) (replies.Offer k id row) refl offer)
+    reason_on d (inl offer) = by (received_or_same w call c ks called (sent_from s (d, replies.Offer k id row)) (replies.Offer k id row) refl offer.sent)
       where
+        row : Tuple
+        row = offer.tuple
+
         suits : OfMember w.members d (OfTicket k (Suits row))
-        suits = All-contains (λ (p : Packet). IsSane w.members p.server p.client p.body) w.packets (sent_from s (d, replies.Offer k id row)) reasons.sane offer
+        suits = All-contains (λ (p : Packet). IsSane w.members p.server p.client p.body) w.packets (sent_from s (d, replies.Offer k id row)) reasons.sane offer.sent
 
         by : Contains (delivered ks w.packets) (sent_from s (d, replies.Offer k id row)) ⊎ ((d ≡ c) × (call ≡ Receive s (replies.Offer k id row))) → HasReason new.members new.packets s server.deeds id (request_of d k)
-        by (inl same) = inl (row, kept_there (sent_by c) ks w.packets new.packets reaction.reaction.packets reaction.packets (sent_from s (d, replies.Offer k id row)) same)
+        by (inl same) = inl (record {
+          tuple = row;
+          put = offer.put;
+          sent = kept_there (sent_by c) ks w.packets new.packets reaction.reaction.packets reaction.packets (sent_from s (d, replies.Offer k id row)) same;
+        })
         by (inr comes) = subst (λ x. HasReason new.members new.packets s server.deeds id (request_of x k)) (sym comes.0)
             (offer_comes row comes.1 (own_member (OfTicket k (Suits row)) (subst (λ x. OfMember w.members x (OfTicket k (Suits row))) comes.0 suits)))
 
@@ -260,7 +267,7 @@ module _ (of_sound : OfSound) (of_deeds : OfDeeds) (of_steps : OfSteps) (of_call
   pub reached_right : (w : World) → IsReached w → AreHeldRightly w
   reached_right w reached s server id request there up held = by ((((reached_reasons w reached).servers s server there).up up).held id request held)
     where
-      by : HasReason w.members w.packets s server.deeds id request → IsOpenAt w.members request ⊎ (HasCancel w.packets s request ⊎ HasOffer w.packets s request id)
+      by : HasReason w.members w.packets s server.deeds id request → IsOpenAt w.members request ⊎ (HasCancel w.packets s request ⊎ HasOffer w.packets s server.deeds request id)
       by (inl offer) = inr (inr offer)
       by (inr (inl cancel)) = inr (inl cancel)
       by (inr (inr h)) = inl (record { member = h.member; known = h.known; is_open = ap is_some (ap (λ o. asked_in o request.ticket) h.holds.pending_is ∙ h.holds.is_open) })

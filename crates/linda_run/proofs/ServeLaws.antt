@@ -28,11 +28,12 @@ use Rattle.linda_run.specs.declared.packet.Body.TheVariants as bodies
 use Rattle.linda_run.specs.declared.packet.Packet.{Packet}
 use Rattle.linda_run.specs.World.{Server, Member, Members, World, sent_by, sent_from, delivered}
 use Rattle.linda_run.specs.Steps.{Told, Task, Takes, Leaves, Saves, Halts, silent, Does, without_room, sends_of, HasServed, AreMessagesAt}
-use Rattle.linda_run.specs.Promises.{OfPackets, HasCancel, HasOffer}
+use Rattle.linda_run.specs.Promises.{OfPackets, HasCancel, HasOffer, IsPut}
 use Rattle.linda_run.specs.Honest.{IsHonest}
 use Rattle.linda_run.specs.Reasons.{OfMember, OfTicket, Asks, Suits, IsSaid, IsReplied, IsSane, IsUsedBy, IsWaitOf, HasReason, IsWaitedFor, IsReasoned, HasReasons}
 use Rattle.linda_run.specs.Below.{OfSound, OfSteps}
 use Rattle.linda_run.proofs.PlaceLaws.{each_of_set}
+use Rattle.linda_run.proofs.PutLaws.{put_still}
 use Rattle.linda_run.proofs.DeliverLaws.{mapped_there, of_more, of_one, still_there, same_or_delivered, unmoved}
 use Rattle.linda_run.proofs.CallLaws.{IsLater, same_later, ticket_still, said_still}
 use Rattle.linda_run.proofs.Course.{IsAsked, takes, leaves as closes, saves, halts}
@@ -161,19 +162,20 @@ module _ (of_sound : OfSound) (of_steps : OfSteps) (task : Task) (s : ℕ) (ks :
   cancels : (t : ℕ) (r : Request) → HasCancel w.packets t r → HasCancel new.packets t r
   cancels = cancel_there (sent_from s) ks w.packets new.packets (sends_of task served.answer) served.packets
 
-  offers : (t : ℕ) (r : Request) (id : ℕ) → HasOffer w.packets t r id → HasOffer new.packets t r id
-  offers t r id (row, there) = (
-    row,
-    kept_there (sent_from s) ks w.packets new.packets (sends_of task served.answer) served.packets (sent_from t (r.client, replies.Offer r.ticket id row))
-        (offer_unmoved w task s ks asked (sent_from t (r.client, replies.Offer r.ticket id row)) (λ m e. apart m (replies.Offer r.ticket id row) e) there),
-  )
+  offers : (t : ℕ) (ds later : List Deed) (r : Request) (id : ℕ) → ((row : Tuple) → IsPut ds id row → IsPut later id row) → HasOffer w.packets t ds r id → HasOffer new.packets t later r id
+  offers t ds later r id still offer = record {
+    tuple = offer.tuple;
+    put = still offer.tuple offer.put;
+    sent = kept_there (sent_from s) ks w.packets new.packets (sends_of task served.answer) served.packets (sent_from t (r.client, replies.Offer r.ticket id offer.tuple))
+        (offer_unmoved w task s ks asked (sent_from t (r.client, replies.Offer r.ticket id offer.tuple)) (λ m e. apart m (replies.Offer r.ticket id offer.tuple) e) offer.sent);
+  }
     where
       apart : (m : Message) (r : Reply) → bodies.Reply r ≡ bodies.Message m → ⊥
       apart m r e = cc
 
   -- a reason stays one
   reason_on : (t : ℕ) (ds : List Deed) (id : ℕ) (request : Request) → HasReason ms w.packets t ds id request → HasReason ms new.packets t ds id request
-  reason_on t ds id request (inl offer) = inl (offers t request id offer)
+  reason_on t ds id request (inl offer) = inl (offers t ds ds request id (λ row put. put) offer)
   reason_on t ds id request (inr (inl cancel)) = inr (inl (cancels t request cancel))
   reason_on t ds id request (inr (inr hand)) = inr (inr hand)
 
@@ -234,7 +236,7 @@ module _ (of_sound : OfSound) (of_steps : OfSteps) (task : Task) (s : ℕ) (ks :
     record {
       deeds = All-append (IsUsedBy ms s) served.server.deeds served.deeds was.deeds (deeds_used of_steps ms w.packets s served.server.deeds served.deeds old served.node x sends waited (sound.orderly is.was_up) heard one);
       lost = λ down. absurd (true≢false (sym down ∙ is.is_up));
-      up = λ _. waited_then of_steps ms w.packets s served.server.deeds served.deeds old served.node x sends waited (sound.orderly is.was_up) heard one sound sound_then new.packets (cancels s) (offers s) offered;
+      up = λ _. waited_then of_steps ms w.packets s served.server.deeds served.deeds old served.node x sends waited (sound.orderly is.was_up) heard one sound sound_then new.packets (cancels s) (λ r id. offers s served.server.deeds after.deeds r id (λ row. put_still served.server.deeds served.deeds id row)) offered;
     },
     subst (All (λ (r : ℕ × Reply). IsReplied ms r.0 r.1)) (sym sends_are) (sends_suit of_steps ms w.packets s served.server.deeds served.deeds old served.node x sends waited (sound.orderly is.was_up) heard one),
   )
@@ -245,12 +247,13 @@ module _ (of_sound : OfSound) (of_steps : OfSteps) (task : Task) (s : ℕ) (ks :
       one : Rattle.linda_run.proofs.ComingLaws.IsSingle old x served.deeds sends served.node
       one = single old x served.deeds sends served.node is.happens
 
-      offered : (r : Request) (id : ℕ) (row : Tuple) → Contains sends (r.client, replies.Offer r.ticket id row) → HasOffer new.packets s r id
-      offered r id row there = (
-        row,
-        sent_there (sent_from s) ks w.packets new.packets (sends_of task served.answer) served.packets (r.client, replies.Offer r.ticket id row)
-            (subst (λ l. Contains {X = ℕ × Reply} l (r.client, replies.Offer r.ticket id row)) (sym sends_are) there),
-      )
+      offered : (r : Request) (id : ℕ) (row : Tuple) → IsPut after.deeds id row → Contains sends (r.client, replies.Offer r.ticket id row) → HasOffer new.packets s after.deeds r id
+      offered r id row put there = record {
+        tuple = row;
+        put = put;
+        sent = sent_there (sent_from s) ks w.packets new.packets (sends_of task served.answer) served.packets (r.client, replies.Offer r.ticket id row)
+            (subst (λ l. Contains {X = ℕ × Reply} l (r.client, replies.Offer r.ticket id row)) (sym sends_are) there);
+      }
 
   good : IsGood
   good = by task refl served.done

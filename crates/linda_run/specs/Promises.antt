@@ -1,5 +1,5 @@
 -- What holds in every world that a run leads to, whatever is lost, repeated, delayed or stopped.
-use Rattle.std.specs.Prelude.{◌≡◌, ℕ, Bool, true, false, List, ◌++◌, Option, Some, All, Contains, IfSome, IsSome, ◌⊎◌}
+use Rattle.std.specs.Prelude.{◌≡◌, ℕ, ◌-◌, ◌≤◌, Bool, true, false, List, ◌++◌, Option, Some, All, Contains, IfSome, IsSome, ◌⊎◌}
 use Rattle.std.specs.List.{slice_get}
 use Rattle.std.specs.FinMap as map
 use Rattle.linda_hold.specs.declared.request.Request.{Request}
@@ -7,6 +7,7 @@ use Rattle.linda_wire.specs.declared.message.Message.TheVariants as messages
 use Rattle.linda_wire.specs.declared.reply.Reply.TheVariants as replies
 use Rattle.linda_tuple.specs.Tuple.{Tuple}
 use Rattle.linda_state.specs.declared.deed.Deed.{Deed}
+use Rattle.linda_state.specs.Deed.{outs_of}
 use Rattle.linda_promise.specs.Replies.{reports_deed, ReportsOne}
 use Rattle.linda_promise.specs.Deeds.{HandsOver, PassesOn}
 use Rattle.linda_client.specs.Client.{asked_in, pending_in}
@@ -74,10 +75,16 @@ abbrev pub HasCancel : List Packet → ℕ → Request → Type 0
 HasCancel ps s request = (is_delivered : Bool)
     × Contains ps (record (sent_by request.client (s, messages.Cancel request.ticket)) { delivered = is_delivered })
 
--- An Offer of this tuple for this request was sent, and never delivered.
-abbrev pub HasOffer : List Packet → ℕ → Request → ℕ → Type 0
-HasOffer ps s request id =
-    (row : Tuple) × Contains ps (sent_from s (request.client, replies.Offer request.ticket id row))
+-- These deeds put the tuple under this id.
+pub record IsPut (ds : List Deed) (id : ℕ) (tuple : Tuple) : Type 0 where
+  pub counted : 1 ≤ id
+  pub put : slice_get (outs_of ds) (id - 1) ≡ Some tuple
+
+-- An Offer of the tuple that was put under this id, for this request, was sent, and never delivered.
+pub record HasOffer (ps : List Packet) (s : ℕ) (ds : List Deed) (request : Request) (id : ℕ) : Type 0 where
+  pub tuple : Tuple
+  pub put : IsPut ds id tuple
+  pub sent : Contains ps (sent_from s (request.client, replies.Offer request.ticket id tuple))
 
 -- The ticket of the request is open at its client.
 pub record IsOpenAt (ms : Members) (request : Request) : Type 0 where
@@ -86,9 +93,9 @@ pub record IsOpenAt (ms : Members) (request : Request) : Type 0 where
   pub is_open : IsSome (asked_in (pending_in member.client.task) request.ticket)
 
 -- Each tuple that is held at a server that is up is held for a reason: its ticket is open, or a
--- Cancel of that was sent, or its Offer was never delivered.
+-- Cancel of that was sent, or an Offer of this very tuple was never delivered.
 abbrev pub AreHeldRightly : World → Type 0
 AreHeldRightly w = (s : ℕ) (server : Server) (id : ℕ) (request : Request)
     → slice_get w.servers s ≡ Some server → server.node.is_down ≡ false
     → map.get server.node.soft.holds id ≡ Some request
-    → IsOpenAt w.members request ⊎ (HasCancel w.packets s request ⊎ HasOffer w.packets s request id)
+    → IsOpenAt w.members request ⊎ (HasCancel w.packets s request ⊎ HasOffer w.packets s server.deeds request id)

@@ -90,7 +90,7 @@ pub record HasInHand (s : ℕ) (last k id : ℕ) (c : Client) : Type 0 where
 
 -- Why a tuple is held: its Offer was never delivered, its ticket is cancelled, or the client has it in hand.
 abbrev pub HasReason : Members → List Packet → ℕ → List Deed → ℕ → Request → Type 0
-HasReason ms ps s ds id request = HasOffer ps s request id
+HasReason ms ps s ds id request = HasOffer ps s ds request id
     ⊎ (HasCancel ps s request
     ⊎ OfMember ms request.client (HasInHand s (last_number ds request.client) request.ticket id))
 

@@ -40,7 +40,8 @@ pub fn worlds_are_safe()
 }
 
 /// Each tuple that is held at a server that is up is held for a ticket that is open, or a Cancel of
-/// that ticket was sent, or the Offer was sent and never delivered.
+/// that ticket was sent, or an Offer of the very tuple that was put under its id was sent and never
+/// delivered.
 pub fn holds_have_reasons()
     ensures { (w : World) → IsReached w → AreHeldRightly w }
 {
