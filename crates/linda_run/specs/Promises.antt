@@ -1,5 +1,6 @@
 -- What holds in every world that a run leads to, whatever is lost, repeated, delayed or stopped.
-use Rattle.std.specs.Prelude.{◌≡◌, ℕ, ◌-◌, ◌≤◌, Bool, true, false, List, ◌++◌, Option, Some, All, Contains, IfSome, IsSome, ◌⊎◌}
+use Rattle.std.specs.Prelude.{◌≡◌, ℕ, ◌-◌, ◌≤◌, Bool, true, false, ◌⊎◌, List, ◌++◌, Option, Some}
+use Rattle.std.specs.Prelude.{All, Contains, IfSome, IsSome}
 use Rattle.std.specs.List.{slice_get}
 use Rattle.std.specs.FinMap as map
 use Rattle.linda_hold.specs.declared.request.Request.{Request}
