@@ -64,17 +64,18 @@ both_less true true = omega arith
 both_less true false = omega arith
 both_less false d = omega arith
 
+-- a packet without a number
+abbrev IsPlain : (Message → Option ℕ) → Packet → Type 0
+IsPlain of p = of p.1 ≡ None
+
 -- Packets without a number do not count.
 module _ (of : Message → Option ℕ) (s n : ℕ) where
-  abbrev IsPlain : Packet → Type 0
-  IsPlain p = of p.1 ≡ None
-
-  none_counts : (ps : List Packet) → All IsPlain ps → count_by (is_under of s n) ps ≡ 0
+  none_counts : (ps : List Packet) → All (IsPlain of) ps → count_by (is_under of s n) ps ≡ 0
   none_counts [] all = refl
   none_counts (p ∷ ps) all =
       let cons = sum_by-cons (λ q. cond (is_under of s n q) 1 0) p ps in
-      let here : weight (is_under of s n p) ≡ 0 = ap (λ o. weight (is_number o n && (p.0 == s))) (All-head IsPlain p ps all) in
-      let later = none_counts ps (All-tail IsPlain p ps all) in
+      let here : weight (is_under of s n p) ≡ 0 = ap (λ o. weight (is_number o n && (p.0 == s))) (All-head (IsPlain of) p ps all) in
+      let later = none_counts ps (All-tail (IsPlain of) p ps all) in
       omega (arith, cons, here, later)
 
   -- What a call sends anew takes the place of a number that was not used before it, and is then.
@@ -88,7 +89,7 @@ module _ (of : Message → Option ℕ) (s n : ℕ) where
       by true = omega (arith, all)
       by false = all
 
-  plain : (call : Call) (r : Reaction) (a b : ℕ) → a ≤ b → All IsPlain r.packets → Counts call r a b
+  plain : (call : Call) (r : Reaction) (a b : ℕ) → a ≤ b → All (IsPlain of) r.packets → Counts call r a b
   plain call r a b more all = all_count call r a b (let none = none_counts r.packets all in let low = up n a b more in omega (arith, none, low))
 
   repeated : (call : Call) (r : Reaction) (a b : ℕ) → a ≤ b → is_repeat call ≡ true → Counts call r a b
@@ -124,8 +125,8 @@ cancel_plain (s, messages.Accept n ticket id) is = absurd is
 cancel_plain (s, messages.Cancel ticket) is = (refl, refl)
 
 module _ (of : Message → Option ℕ) (plain_of : (p : Packet) → IsCancel p → of p.1 ≡ None) where
-  cancels_plain : (s n count : ℕ) (own : Option (ℕ × ℕ)) (pending : Pending) → All (IsPlain of s n) (cancels_but count own pending)
-  cancels_plain s n count own pending = All-weaker IsCancel (IsPlain of s n) plain_of (cancels_but count own pending) (only_cancels count own pending)
+  cancels_plain : (count : ℕ) (own : Option (ℕ × ℕ)) (pending : Pending) → All (IsPlain of) (cancels_but count own pending)
+  cancels_plain count own pending = All-weaker IsCancel (IsPlain of) plain_of (cancels_but count own pending) (only_cancels count own pending)
 
 module _ (s n : ℕ) (c : Client) (is : IsClient c) (call : Call) where
   -- A message under the next number counts, and no number else rises.
@@ -156,18 +157,18 @@ module _ (s n : ℕ) (c : Client) (is : IsClient c) (call : Call) where
           nothing false b e = refl
 
   numbers_on : (r : Reaction) → next_at c s ≤ next_at r.client s → Course c call r → Counts number_of s n call r (next_at c s) (next_at r.client s)
-  numbers_on r more (rejects a within other) = plain number_of s n call r (next_at c s) (next_at r.client s) more (All-cons (IsPlain number_of s n) _ [] refl (All-nil (IsPlain number_of s n)))
+  numbers_on r more (rejects a within other) = plain number_of s n call r (next_at c s) (next_at r.client s) more (All-cons (IsPlain number_of) _ [] refl (All-nil (IsPlain number_of)))
   numbers_on r more (repeats packets again there other) = repeated number_of s n call r (next_at c s) (next_at r.client s) more again
   numbers_on r more (puts row idle number outs) = one_counts r (out_server c, messages.Out (next_at c (out_server c)) row) (puts_number c call is row idle)
   numbers_on r more (begins event called idle within room) =
-      plain number_of s n call r (next_at c s) (next_at r.client s) more (all_asks (IsPlain number_of s n) (servers c) (new_pending c event) (λ t k ask low there. refl))
+      plain number_of s n call r (next_at c s) (next_at r.client s) more (all_asks (IsPlain number_of) (servers c) (new_pending c event) (λ t k ask low there. refl))
   numbers_on r more (accepts pending rest a task turn within input room) =
       one_counts r (a.server, messages.Accept (next_at c a.server) a.ticket a.id) (accepts_number c call pending rest a task turn within)
   numbers_on r more (commits pending clock own base got task answered spares gets by) =
-      plain number_of s n call r (next_at c s) (next_at r.client s) more (cancels_plain number_of (λ p cancels. (cancel_plain p cancels).0) s n (servers c) own pending)
+      plain number_of s n call r (next_at c s) (next_at r.client s) more (cancels_plain number_of (λ p cancels. (cancel_plain p cancels).0) (servers c) own pending)
   numbers_on r more (abandons pending task none) =
-      plain number_of s n call r (next_at c s) (next_at r.client s) more (cancels_plain number_of (λ p cancels. (cancel_plain p cancels).0) s n (servers c) None pending)
-  numbers_on r more _ = plain number_of s n call r (next_at c s) (next_at r.client s) more (All-nil (IsPlain number_of s n))
+      plain number_of s n call r (next_at c s) (next_at r.client s) more (cancels_plain number_of (λ p cancels. (cancel_plain p cancels).0) (servers c) None pending)
+  numbers_on r more _ = plain number_of s n call r (next_at c s) (next_at r.client s) more (All-nil (IsPlain number_of))
 
 -- The Asks of one ticket, to each server: one to each, where it is this ticket.
 ask_row : (s k t : ℕ) (x : Ask) (a m : ℕ)
@@ -194,17 +195,17 @@ ask_rows s k count t (x ∷ xs) =
 
 module _ (s k : ℕ) (c : Client) (call : Call) where
   tickets_on : (r : Reaction) → c.ticket ≤ r.client.ticket → Course c call r → Counts ticket_of s k call r c.ticket r.client.ticket
-  tickets_on r more (rejects a within other) = plain ticket_of s k call r c.ticket r.client.ticket more (All-cons (IsPlain ticket_of s k) _ [] refl (All-nil (IsPlain ticket_of s k)))
+  tickets_on r more (rejects a within other) = plain ticket_of s k call r c.ticket r.client.ticket more (All-cons (IsPlain ticket_of) _ [] refl (All-nil (IsPlain ticket_of)))
   tickets_on r more (repeats packets again there other) = repeated ticket_of s k call r c.ticket r.client.ticket more again
-  tickets_on r more (puts row idle number outs) = plain ticket_of s k call r c.ticket r.client.ticket more (All-cons (IsPlain ticket_of s k) _ [] refl (All-nil (IsPlain ticket_of s k)))
+  tickets_on r more (puts row idle number outs) = plain ticket_of s k call r c.ticket r.client.ticket more (All-cons (IsPlain ticket_of) _ [] refl (All-nil (IsPlain ticket_of)))
   tickets_on r more (begins event called idle within room) = all_count ticket_of s k call r c.ticket r.client.ticket (ask_rows s k (servers c) c.ticket (asks event))
   tickets_on r more (accepts pending rest a task turn within input room) =
-      plain ticket_of s k call r c.ticket r.client.ticket more (All-cons (IsPlain ticket_of s k) _ [] refl (All-nil (IsPlain ticket_of s k)))
+      plain ticket_of s k call r c.ticket r.client.ticket more (All-cons (IsPlain ticket_of) _ [] refl (All-nil (IsPlain ticket_of)))
   tickets_on r more (commits pending clock own base got task answered spares gets by) =
-      plain ticket_of s k call r c.ticket r.client.ticket more (cancels_plain ticket_of (λ p cancels. (cancel_plain p cancels).1) s k (servers c) own pending)
+      plain ticket_of s k call r c.ticket r.client.ticket more (cancels_plain ticket_of (λ p cancels. (cancel_plain p cancels).1) (servers c) own pending)
   tickets_on r more (abandons pending task none) =
-      plain ticket_of s k call r c.ticket r.client.ticket more (cancels_plain ticket_of (λ p cancels. (cancel_plain p cancels).1) s k (servers c) None pending)
-  tickets_on r more _ = plain ticket_of s k call r c.ticket r.client.ticket more (All-nil (IsPlain ticket_of s k))
+      plain ticket_of s k call r c.ticket r.client.ticket more (cancels_plain ticket_of (λ p cancels. (cancel_plain p cancels).1) (servers c) None pending)
+  tickets_on r more _ = plain ticket_of s k call r c.ticket r.client.ticket more (All-nil (IsPlain ticket_of))
 
 pub numbers_used_once : (number count : ℕ) (calls : List Call) → 1 ≤ count → count ≤ MAX_SERVERS → AreUsedOnce number_of (history (new_client number count) calls)
 numbers_used_once number count calls low high s n =
