@@ -22,21 +22,22 @@ use Rattle.linda_wire.specs.declared.reply.Reply.{Reply}
 use Rattle.linda_wire.specs.declared.reply.Reply.TheVariants as replies
 use Rattle.linda_book.specs.declared.kept.KeptReply.{KeptReply}
 use Rattle.linda_book.specs.declared.kept.KeptReply.TheVariants as kept
-use Rattle.linda_book.specs.declared.classes.Class.{Class}
-use Rattle.linda_book.specs.declared.classes.Class.TheVariants.{Fresh, Kept, Old, Gap}
-use Rattle.linda_book.specs.Classes.{IsClass}
 use Rattle.linda_book.specs.Entries.{Entry, number_in}
-use Rattle.linda_book.proofs.Meaning.{class_means}
 use Rattle.linda_state.specs.declared.deed.Deed.TheVariants as deeds
 use Rattle.linda_state.specs.State.{State, IsState}
 use Rattle.linda_state.specs.After.{IsAfter}
 use Rattle.linda_state.proofs.AfterLaws.{none_after, one_after, new_id}
+use Rattle.linda_step.specs.declared.judge.Demand.{Demand}
+use Rattle.linda_step.specs.declared.judge.Verdict.{Verdict}
+use Rattle.linda_step.specs.declared.judge.Verdict.TheVariants.{Refused, Repeated, Done}
+use Rattle.linda_step.specs.Judge.{to_put, to_take, judge}
 use Rattle.linda_step.specs.Soft.{Soft, Bagged, open_asks}
 use Rattle.linda_step.specs.Looking.{IsLeast, passed_over}
 use Rattle.linda_step.specs.Dispatch.{Sends, no_sends, sends_then, dispatch, release, release_tuple, release_if, release_all, on_cancel, on_close}
 use Rattle.linda_step.specs.Asking.{offer_of, read_of, only_sent, wait_of, serve, on_ask, AnswersAsk, AnswersCancel}
-use Rattle.linda_step.specs.Answer.{Answer, only_sends, greeting, reply_of_kept, last_number, is_one_too_many, class_in, without_deed, on_out, out_without_deed, on_accept, accept_without_deed, take_or_pass, held_tuple, Tells, IsAnswer, IsStep}
+use Rattle.linda_step.specs.Answer.{Answer, only_sends, greeting, reply_of_kept, last_number, standing_of, is_one_too_many, reply_by, without_deed, on_out, out_without_deed, on_accept, accept_without_deed, take_or_pass, held_tuple, Tells, IsAnswer, IsStep}
 use Rattle.linda_step.specs.History.{Coming, says}
+use Rattle.linda_step.proofs.JudgeLaws.{IsVerdict, verdict_means}
 use Rattle.linda_step.proofs.ApartLaws.{held_before}
 use Rattle.linda_step.proofs.KeptLaws.{IsKeptFor, out_answer_kept, accept_answer_kept}
 use Rattle.linda_promise.specs.Offers.{IsAskOf, is_offer}
@@ -149,28 +150,19 @@ record IsOld (st : State) (c : ℕ) (r : Reply) : Type 0 where
 plain_old : (st : State) (c : ℕ) (r : Reply) → IsPlain r → IsOld st c r
 plain_old st c r plain = record { no_offer = plain.0; known = λ reports. absurd (true≢false (sym reports ∙ plain.1)) }
 
-old_reply : (st : State) (c n : ℕ) (is_spent : Bool) (r : Reply) → without_deed st c n is_spent (class_in st c n) ≡ Some r → IsOld st c r
-old_reply st c n is_spent r = by (class_in st c n) (class_means (last_number st c) n)
+old_reply : (st : State) (c : ℕ) (d : Demand) (r : Reply) → without_deed st c d ≡ Some r → IsOld st c r
+old_reply st c d r = by (judge d (standing_of st c)) (verdict_means d (standing_of st c))
   where
-    same_plain : (s : Reply) → IsPlain s → Some s ≡ Some r → IsOld st c r
-    same_plain s plain e = plain_old st c r (subst IsPlain (same_Some s r e) plain)
-
-    fresh_by : (a b : Bool) (s t : Reply) → IsPlain s → IsPlain t → cond a (Some s) (cond b (Some t) None) ≡ Some r → IsOld st c r
-    fresh_by true b s t h k e = same_plain s h e
-    fresh_by false true s t h k e = same_plain t k e
-    fresh_by false false s t h k e = absurd (none-some r e)
-
-    kept_by : (o : Option Entry) → get st.book c ≡ o → n ≡ number_in o → option_map (λ (e : Entry). reply_of_kept n e.1) o ≡ Some r → IsOld st c r
+    kept_by : (o : Option Entry) → get st.book c ≡ o → d.n ≡ number_in o → option_map (λ (e : Entry). reply_of_kept d.n e.1) o ≡ Some r → IsOld st c r
     kept_by None there same e = absurd (none-some r e)
     kept_by (Some entry) there same e =
-        let r_is : r ≡ reply_of_kept n entry.1 = sym (same_Some _ r e) in
-        record { no_offer = ap is_offer r_is ∙ kept_is_no_offer n entry.1; known = λ _. record { entry = entry; kept = there; reply = r_is ∙ ap (λ m. reply_of_kept m entry.1) same } }
+        let r_is : r ≡ reply_of_kept d.n entry.1 = sym (same_Some _ r e) in
+        record { no_offer = ap is_offer r_is ∙ kept_is_no_offer d.n entry.1; known = λ _. record { entry = entry; kept = there; reply = r_is ∙ ap (λ m. reply_of_kept m entry.1) same } }
 
-    by : (class : Class) → IsClass (last_number st c) n class → without_deed st c n is_spent class ≡ Some r → IsOld st c r
-    by Fresh means e = fresh_by (is_one_too_many st c) is_spent _ _ (refl, refl) (refl, refl) e
-    by Kept means e = kept_by (get st.book c) refl means.0 e
-    by (Old last) means e = same_plain _ (refl, refl) e
-    by (Gap last) means e = same_plain _ (refl, refl) e
+    by : (v : Verdict) → IsVerdict d (standing_of st c) v → reply_by st c d.n v ≡ Some r → IsOld st c r
+    by (Refused refusal) means e = plain_old st c r (subst IsPlain (same_Some (refused refusal) r e) (refl, refl))
+    by Repeated means e = kept_by (get st.book c) refl means.0 e
+    by Done means e = absurd (none-some r e)
 
 -- ---- steps
 
@@ -199,9 +191,9 @@ module _ (st new : State) (c : ℕ) (old : Soft) (is : IsState st) where
     reply = ap (λ (s : ℕ × Reply). s.1) (same_head (c, r) (c, reply_of_kept n k.reply) others k.others k.first);
   }
 
-  undone_move : (m : Message) (n : ℕ) (is_spent : Bool) (r : Reply) → without_deed st c n is_spent (class_in st c n) ≡ Some r → IsAfter st [] new → Move (KnownIn new) new.bag (says c m) old (only_sent ((c, r) ∷ []) old)
-  undone_move m n is_spent r e after =
-      let o = old_reply st c n is_spent r e in
+  undone_move : (m : Message) (d : Demand) (r : Reply) → without_deed st c d ≡ Some r → IsAfter st [] new → Move (KnownIn new) new.bag (says c m) old (only_sent ((c, r) ∷ []) old)
+  undone_move m d r e after =
+      let o = old_reply st c d r e in
       tells old c r o.no_offer (λ reports. subst (λ s. KeepsReply s c r) (same_state after) (o.known reports))
 
   put_there : (n : ℕ) (tuple : Tuple) → IsAfter st (deeds.Out c n tuple ∷ []) new → get new.bag st.next ≡ Some tuple
@@ -211,7 +203,7 @@ module _ (st new : State) (c : ℕ) (old : Soft) (is : IsState st) where
       after.bag st.next ∙ new_id st (deeds.Out c n tuple ∷ []) st.next refl low ∙ ap (slice_get (tuple ∷ [])) none_before
 
   out_move : (n : ℕ) (tuple : Tuple) (o : Option Reply) → out_without_deed st c n ≡ o → IsStep st old c (messages.Out n tuple) (on_out st c n tuple o old) new → MoveOf (messages.Out n tuple) (on_out st c n tuple o old)
-  out_move n tuple (Some r) e step = undone_move (messages.Out n tuple) n _ r e step.state_is
+  out_move n tuple (Some r) e step = undone_move (messages.Out n tuple) (to_put n) r e step.state_is
   out_move n tuple None e step =
       goes_on old (only_sent ((c, replies.Stored n st.next) ∷ []) old) (dispatch st.next tuple old)
       (tells old c (replies.Stored n st.next) refl (first_known n (replies.Stored n st.next) _ (out_answer_kept st new c is n tuple old _ step refl)))
@@ -227,7 +219,7 @@ module _ (st new : State) (c : ℕ) (old : Soft) (is : IsState st) where
       (tells mid c (replies.Taken n id tuple) refl (first_known n (replies.Taken n id tuple) [] (accept_answer_kept st new c is n ticket id old _ step refl)))
 
   accept_move : (n ticket id : ℕ) (o : Option Reply) → accept_without_deed st c n ≡ o → IsStep st old c (messages.Accept n ticket id) (on_accept st c n ticket id o old) new → MoveOf (messages.Accept n ticket id) (on_accept st c n ticket id o old)
-  accept_move n ticket id (Some r) e step = undone_move (messages.Accept n ticket id) n _ r e step.state_is
+  accept_move n ticket id (Some r) e step = undone_move (messages.Accept n ticket id) (to_take n) r e step.state_is
   accept_move n ticket id None e step = taken_move n ticket id (held_tuple st (request_of c ticket) id old) step
 
   -- what is told without a deed is told over the old bag, which is the new one

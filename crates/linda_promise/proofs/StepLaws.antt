@@ -1,5 +1,5 @@
 -- Which deed a step does, and how it is told.
-use Rattle.std.proofs.Common.{◌≡◌, ◌≢◌, ℕ, ◌+◌, ◌<◌, Bool, true, false, true≢false, cond, ◌==◌, List, [], ◌∷◌, Option, Some, None, is_some, ◌⊎◌, inl, inr, refl, sym, ap, ◌∙◌, subst, arith, eq-eqb, eqb-true}
+use Rattle.std.proofs.Common.{◌≡◌, ◌≢◌, ℕ, ◌+◌, Bool, true, false, true≢false, cond, ◌==◌, List, [], ◌∷◌, Option, Some, None, is_some, inl, inr, refl, sym, ap, ◌∙◌, subst, arith, eq-eqb, eqb-true}
 use Rattle.std.proofs.lemmas.Bool.{cond-true, cond-false, cases_Bool}
 use Rattle.std.proofs.lemmas.Option.{none-some, same_Some}
 use Rattle.std.specs.FinMap.{get, remove}
@@ -10,17 +10,20 @@ use Rattle.linda_wire.specs.declared.message.Message.{Message}
 use Rattle.linda_wire.specs.declared.message.Message.TheVariants as messages
 use Rattle.linda_wire.specs.declared.reply.Reply.{Reply}
 use Rattle.linda_wire.specs.declared.reply.Reply.TheVariants as replies
-use Rattle.linda_book.specs.declared.classes.Class.{Class}
-use Rattle.linda_book.specs.declared.classes.Class.TheVariants.{Fresh, Kept, Old, Gap}
-use Rattle.linda_book.specs.Classes.{IsClass}
-use Rattle.linda_book.proofs.Meaning.{class_means}
+use Rattle.linda_wire.specs.declared.refusal.Refusal.{Refusal}
+use Rattle.linda_wire.specs.Refusal.{refused}
 use Rattle.linda_state.specs.declared.deed.Deed.{Deed}
 use Rattle.linda_state.specs.declared.deed.Deed.TheVariants as deeds
 use Rattle.linda_state.specs.Deed.{client_of, number_of}
 use Rattle.linda_state.specs.State.{State, IsState}
+use Rattle.linda_step.specs.declared.judge.Demand.{Demand}
+use Rattle.linda_step.specs.declared.judge.Verdict.{Verdict}
+use Rattle.linda_step.specs.declared.judge.Verdict.TheVariants.{Refused, Repeated, Done}
+use Rattle.linda_step.specs.Judge.{to_put, to_take, judge}
 use Rattle.linda_step.specs.Soft.{Soft}
-use Rattle.linda_step.specs.Answer.{Answer, last_number, is_one_too_many, class_in, without_deed, on_out, out_without_deed, on_accept, accept_without_deed, take_or_pass, held_tuple, is_for, IsStep}
+use Rattle.linda_step.specs.Answer.{Answer, last_number, standing_of, reply_by, without_deed, on_out, out_without_deed, on_accept, accept_without_deed, take_or_pass, held_tuple, is_for, IsStep}
 use Rattle.linda_step.proofs.ApartLaws.{same_request_yes}
+use Rattle.linda_step.proofs.JudgeLaws.{IsVerdict, verdict_means}
 use Rattle.linda_step.proofs.NumberLaws.{allowed_out, allowed_pass}
 use Rattle.linda_promise.specs.Steps.{HoldsWhatIsThere, DoesAsAsked, comes_next, deed_behind, number_of_message, reported_deed}
 
@@ -73,27 +76,16 @@ step_asked st new c old m answered d there step = asked st c old new m answered 
 
 -- A next number that makes no deed is refused.
 record IsRefusal (r : Reply) : Type 0 where
-  code : ℕ
-  detail : ℕ
-  is : r ≡ replies.Refused code detail
+  refusal : Refusal
+  is : r ≡ refused refusal
 
-refused_next : (st : State) (c n : ℕ) (is_spent : Bool) (r : Reply) → n ≡ last_number st c + 1 → without_deed st c n is_spent (class_in st c n) ≡ Some r → IsRefusal r
-refused_next st c n is_spent r next = by (class_in st c n) (class_means (last_number st c) n)
+refused_next : (st : State) (c : ℕ) (d : Demand) (r : Reply) → d.n ≡ last_number st c + 1 → without_deed st c d ≡ Some r → IsRefusal r
+refused_next st c d r next = by (judge d (standing_of st c)) (verdict_means d (standing_of st c))
   where
-    by_limits : (a b : Bool) (i j k l : ℕ) → cond a (Some (replies.Refused i j)) (cond b (Some (replies.Refused k l)) None) ≡ Some r → IsRefusal r
-    by_limits true b i j k l e = record { code = i; detail = j; is = sym (same_Some _ r e) }
-    by_limits false true i j k l e = record { code = k; detail = l; is = sym (same_Some _ r e) }
-    by_limits false false i j k l e = absurd (none-some r e)
-
-    not_old : (last : ℕ) → n ≡ last + 1 → (n ≡ 0) ⊎ (n < last) → ⊥
-    not_old last next (inl none) = omega (arith, next, none)
-    not_old last next (inr low) = omega (arith, next, low)
-
-    by : (class : Class) → IsClass (last_number st c) n class → without_deed st c n is_spent class ≡ Some r → IsRefusal r
-    by Fresh means e = by_limits (is_one_too_many st c) is_spent _ _ _ _ e
-    by Kept means e = let same = means.0 in absurd (omega (arith, next, same))
-    by (Old last) means e = absurd (not_old (last_number st c) next means.1)
-    by (Gap last) means e = let beyond = means.1 in absurd (omega (arith, next, beyond))
+    by : (v : Verdict) → IsVerdict d (standing_of st c) v → reply_by st c d.n v ≡ Some r → IsRefusal r
+    by (Refused refusal) means e = record { refusal = refusal; is = sym (same_Some (refused refusal) r e) }
+    by Repeated means e = let same = means.0 in absurd (omega (arith, next, same))
+    by Done means e = absurd (none-some r e)
 
 module _ (st : State) (c : ℕ) (old : Soft) (is : IsState st) where
   abbrev IsReported : Message → Answer → Type 0
@@ -112,7 +104,7 @@ module _ (st : State) (c : ℕ) (old : Soft) (is : IsState st) where
 
   out_told : (n : ℕ) (tuple : Tuple) (o : Option Reply) → out_without_deed st c n ≡ o → IsReported (messages.Out n tuple) (on_out st c n tuple o old)
   out_told n tuple (Some r) e =
-      untold (messages.Out n tuple) n ((c, r) ∷ []) (λ next. ap (λ s. deed_behind c (messages.Out n tuple) ((c, s) ∷ [])) (refused_next st c n _ r next e).is)
+      untold (messages.Out n tuple) n ((c, r) ∷ []) (λ next. ap (λ s. deed_behind c (messages.Out n tuple) ((c, s) ∷ [])) (refused_next st c (to_put n) r next e).is)
   out_told n tuple None e = told (messages.Out n tuple) n (on_out st c n tuple None old).sends (allowed_out st c n is tuple e).number
 
   taken_told : (n ticket id : ℕ) (o : Option Tuple) → n ≡ last_number st c + 1 → IsReported (messages.Accept n ticket id) (take_or_pass c n id o old)
@@ -121,8 +113,8 @@ module _ (st : State) (c : ℕ) (old : Soft) (is : IsState st) where
 
   accept_told : (n ticket id : ℕ) (o : Option Reply) → accept_without_deed st c n ≡ o → IsReported (messages.Accept n ticket id) (on_accept st c n ticket id o old)
   accept_told n ticket id (Some r) e =
-      untold (messages.Accept n ticket id) n ((c, r) ∷ []) (λ next. ap (λ s. deed_behind c (messages.Accept n ticket id) ((c, s) ∷ [])) (refused_next st c n _ r next e).is)
-  accept_told n ticket id None e = taken_told n ticket id (held_tuple st (request_of c ticket) id old) (allowed_pass st c n is id e).number
+      untold (messages.Accept n ticket id) n ((c, r) ∷ []) (λ next. ap (λ s. deed_behind c (messages.Accept n ticket id) ((c, s) ∷ [])) (refused_next st c (to_take n) r next e).is)
+  accept_told n ticket id None e = taken_told n ticket id (held_tuple st (request_of c ticket) id old) (allowed_pass st c n is e id).number
 
   reported : (new : State) (m : Message) (answered : Answer) → IsStep st old c m answered new → IsReported m answered
   reported new (messages.Hello version client fresh) answered step = ap (λ (a : Answer). a.deed) step.answer

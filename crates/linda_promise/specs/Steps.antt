@@ -2,6 +2,7 @@
 use Rattle.std.specs.Prelude.{◌≡◌, ◌≢◌, ℕ, ◌+◌, ◌==◌, Bool, false, if◌then◌else◌}
 use Rattle.std.specs.Prelude.{List, [], ◌∷◌, Option, Some, None, IsSome}
 use Rattle.std.specs.FinMap as map
+use Rattle.std.specs.Option.{option_map}
 use Rattle.linda_hold.specs.Request.{request_of}
 use Rattle.linda_wire.specs.declared.message.Message.{Message}
 use Rattle.linda_wire.specs.declared.message.Message.TheVariants as messages
@@ -11,23 +12,18 @@ use Rattle.linda_state.specs.declared.deed.Deed.{Deed}
 use Rattle.linda_state.specs.declared.deed.Deed.TheVariants as deeds
 use Rattle.linda_state.specs.Deed.{client_of, number_of}
 use Rattle.linda_state.specs.State.{State}
+use Rattle.linda_step.specs.declared.judge.Demand.{Demand}
+use Rattle.linda_step.specs.Judge.{demand_of}
 use Rattle.linda_step.specs.Soft.{Soft}
 
 -- the number that a message bears, if it bears one
 abbrev pub number_of_message : Message → Option ℕ
-number_of_message (messages.Hello version client fresh) = None
-number_of_message (messages.Out n tuple) = Some n
-number_of_message (messages.Ask ticket remove template) = None
-number_of_message (messages.Accept n ticket id) = Some n
-number_of_message (messages.Cancel ticket) = None
+number_of_message m = option_map (λ (d : Demand). d.n) (demand_of m)
 
 -- What an Accept names is held no longer for its request.
 abbrev pub LetsGo : ℕ → Message → Soft → Type 0
-LetsGo c (messages.Hello version client fresh) soft = Unit {0}
-LetsGo c (messages.Out n tuple) soft = Unit {0}
-LetsGo c (messages.Ask ticket remove template) soft = Unit {0}
 LetsGo c (messages.Accept n ticket id) soft = map.get soft.holds id ≢ Some (request_of c ticket)
-LetsGo c (messages.Cancel ticket) soft = Unit {0}
+LetsGo c _ soft = Unit {0}
 
 -- The deed does what the client's message asks: it is the client's, it bears the message's number, and an offer that
 -- was accepted is let go.

@@ -43,8 +43,8 @@ accept_deed st c n ticket id soft d ranges = by (accept_without_deed st c n) ref
   where
     deed_of : (row : Option Tuple) → held_tuple st (request_of c ticket) id soft ≡ row → accept_without_deed st c n ≡ None → (take_or_pass c n id row soft).deed ≡ Some d → IsAllowed st d
     deed_of (Some row) held none is =
-        subst (IsAllowed st) (same_Some (deeds.Take c n id) d is) (allowed_take st c n ranges id none (ap is_some (held_there st (request_of c ticket) id soft row held)))
-    deed_of None held none is = subst (IsAllowed st) (same_Some (deeds.Pass c n id) d is) (allowed_pass st c n ranges id none)
+        subst (IsAllowed st) (same_Some (deeds.Take c n id) d is) (allowed_take st c n ranges none id (ap is_some (held_there st (request_of c ticket) id soft row held)))
+    deed_of None held none is = subst (IsAllowed st) (same_Some (deeds.Pass c n id) d is) (allowed_pass st c n ranges none id)
 
     by : (reply : Option Reply) → accept_without_deed st c n ≡ reply → (on_accept st c n ticket id reply soft).deed ≡ Some d → IsAllowed st d
     by (Some reply) e is = absurd (none-some d is)

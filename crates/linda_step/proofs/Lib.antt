@@ -24,3 +24,4 @@ pub mod CourseLaws
 pub mod SizeLaws
 pub mod DemandLaws
 pub mod ExistLaws
+pub mod JudgeLaws
