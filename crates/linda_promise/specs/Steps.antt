@@ -2,7 +2,6 @@
 use Rattle.std.specs.Prelude.{◌≡◌, ◌≢◌, ℕ, ◌+◌, ◌==◌, Bool, false, if◌then◌else◌}
 use Rattle.std.specs.Prelude.{List, [], ◌∷◌, Option, Some, None, IsSome}
 use Rattle.std.specs.FinMap as map
-use Rattle.std.specs.Option.{option_map}
 use Rattle.linda_hold.specs.Request.{request_of}
 use Rattle.linda_wire.specs.declared.message.Message.{Message}
 use Rattle.linda_wire.specs.declared.message.Message.TheVariants as messages
@@ -12,13 +11,8 @@ use Rattle.linda_state.specs.declared.deed.Deed.{Deed}
 use Rattle.linda_state.specs.declared.deed.Deed.TheVariants as deeds
 use Rattle.linda_state.specs.Deed.{client_of, number_of}
 use Rattle.linda_state.specs.State.{State}
-use Rattle.linda_step.specs.declared.judge.Demand.{Demand}
-use Rattle.linda_step.specs.Judge.{demand_of}
+pub use Rattle.linda_step.specs.Judge.{number_of_message}
 use Rattle.linda_step.specs.Soft.{Soft}
-
--- the number that a message bears, if it bears one
-abbrev pub number_of_message : Message → Option ℕ
-number_of_message m = option_map (λ (d : Demand). d.n) (demand_of m)
 
 -- What an Accept names is held no longer for its request.
 abbrev pub LetsGo : ℕ → Message → Soft → Type 0

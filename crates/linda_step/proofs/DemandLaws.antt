@@ -5,12 +5,8 @@ use Rattle.std.proofs.Common.{inl, inr}
 use Rattle.std.proofs.lemmas.Option.{none-some}
 use Rattle.std.proofs.lemmas.Grind.{flat_map-append}
 use Rattle.std.specs.FinMap.{get, insert, len}
-use Rattle.linda_tuple.specs.Tuple.{Tuple}
 use Rattle.linda_bag.proofs.Maps.{get_inserted, len_new, len_old}
-use Rattle.linda_hold.specs.Request.{request_of}
 use Rattle.linda_wire.specs.declared.message.Message.{Message}
-use Rattle.linda_wire.specs.declared.message.Message.TheVariants as messages
-use Rattle.linda_wire.specs.declared.reply.Reply.{Reply}
 use Rattle.linda_book.specs.Entries.{Entry, number_in}
 use Rattle.linda_state.specs.declared.deed.Deed.{Deed}
 use Rattle.linda_state.specs.declared.deed.Deed.TheVariants as deeds
@@ -22,30 +18,14 @@ use Rattle.linda_state.specs.After.{IsAfter, reply_of_deed}
 use Rattle.linda_state.proofs.AfterLaws.{none_after, one_after}
 use Rattle.linda_state.proofs.DoneLaws.{done, done_after, next_done}
 use Rattle.linda_step.specs.declared.judge.Demand.{Demand}
-use Rattle.linda_step.specs.declared.judge.Verdict.{Verdict}
-use Rattle.linda_step.specs.declared.judge.Verdict.TheVariants.{Refused, Repeated, Done}
-use Rattle.linda_step.specs.Judge.{to_put, to_take, judge}
+use Rattle.linda_step.specs.Judge.{to_put, to_take}
 use Rattle.linda_step.specs.Soft.{Soft}
-use Rattle.linda_step.specs.Answer.{Answer, last_number, standing_of, reply_by, without_deed, out_without_deed, accept_without_deed, on_out, on_accept, take_or_pass, held_tuple, IsStep}
+use Rattle.linda_step.specs.Answer.{Answer, last_number, standing_of, IsStep}
 use Rattle.linda_step.specs.History.{History, Happens, comings}
-use Rattle.linda_step.specs.Size.{Numbers, numbers_of, deed_bytes, if_done, done_of, numbers_after, bytes_of, bytes_from}
+use Rattle.linda_step.specs.Size.{Numbers, numbers_of, deed_bytes, if_done, done_by, done_of, numbers_after, bytes_of, bytes_from}
+use Rattle.linda_step.proofs.AnswerCourse.{Course, unnumbered, turned_down, told_again, stored, taken, passed, course_of}
 use Rattle.linda_step.proofs.NumberLaws.{none_is_done}
 use Rattle.linda_step.proofs.AnswerLaws.{step_state}
-
--- ---- what is met is done
-
--- Where there is no reply without a deed, what is asked for is done; where there is one, it is not.
-module _ (st : State) (c : ℕ) (d : Demand) where
-  done_where_none : without_deed st c d ≡ None → if_done d (judge d (standing_of st c)) ≡ Some d
-  done_where_none none = ap (if_done d) (none_is_done st c d none)
-
-  not_where_some : (reply : Reply) → without_deed st c d ≡ Some reply → if_done d (judge d (standing_of st c)) ≡ None
-  not_where_some reply = by (judge d (standing_of st c))
-    where
-      by : (v : Verdict) → reply_by st c d.n v ≡ Some reply → if_done d v ≡ None
-      by Done some = absurd (none-some reply some)
-      by Repeated some = refl
-      by (Refused refusal) some = refl
 
 -- ---- the numbers after a deed
 
@@ -78,37 +58,16 @@ data Outcome (st : State) (c : ℕ) (m : Message) (deed : Option Deed) : Type 0 
   nothing : deed ≡ None → done_of (numbers_of st) c m ≡ None → Outcome st c m deed
   one : (d : Deed) (w : Demand) → deed ≡ Some d → done_of (numbers_of st) c m ≡ Some w → IsAsked st c m d w → Outcome st c m deed
 
-module _ (st : State) (c : ℕ) (soft : Soft) where
-  abbrev ns : Numbers
-  ns = numbers_of st
-
-  id_next : st.next ≡ st.next + 0
-  id_next = plus_none st.next
-
-  out_outcome : (n : ℕ) (tuple : Tuple) (reply : Option Reply) → out_without_deed st c n ≡ reply → Outcome st c (messages.Out n tuple) (on_out st c n tuple reply soft).deed
-  out_outcome n tuple (Some reply) is = nothing refl (not_where_some st c (to_put n) reply is)
-  out_outcome n tuple None is =
-      one (deeds.Out c n tuple) _ refl (done_where_none st c (to_put n) is)
-      (record { client = refl; number = refl; next = refl; size = omega arith })
-
-  taken_outcome : (n ticket id : ℕ) (row : Option Tuple) → accept_without_deed st c n ≡ None → Outcome st c (messages.Accept n ticket id) (take_or_pass c n id row soft).deed
-  taken_outcome n ticket id (Some row) is =
-      one (deeds.Take c n id) _ refl (done_where_none st c (to_take n) is) (record { client = refl; number = refl; next = id_next; size = refl })
-  taken_outcome n ticket id None is =
-      one (deeds.Pass c n id) _ refl (done_where_none st c (to_take n) is) (record { client = refl; number = refl; next = id_next; size = refl })
-
-  accept_outcome : (n ticket id : ℕ) (reply : Option Reply) → accept_without_deed st c n ≡ reply → Outcome st c (messages.Accept n ticket id) (on_accept st c n ticket id reply soft).deed
-  accept_outcome n ticket id (Some reply) is = nothing refl (not_where_some st c (to_take n) reply is)
-  accept_outcome n ticket id None is = taken_outcome n ticket id (held_tuple st (request_of c ticket) id soft) is
-
-  outcome_of : (m : Message) (answered : Answer) (new : State) → IsStep st soft c m answered new → Outcome st c m answered.deed
-  outcome_of (messages.Hello version client fresh) answered new step = nothing (ap (λ (a : Answer). a.deed) step.answer) refl
-  outcome_of (messages.Ask ticket remove template) answered new step = nothing (ap (λ (a : Answer). a.deed) step.answer.1.1) refl
-  outcome_of (messages.Cancel ticket) answered new step = nothing (ap (λ (a : Answer). a.deed) step.answer.1.1) refl
-  outcome_of (messages.Out n tuple) answered new step =
-      subst (λ (a : Answer). Outcome st c (messages.Out n tuple) a.deed) (sym step.answer) (out_outcome n tuple (out_without_deed st c n) refl)
-  outcome_of (messages.Accept n ticket id) answered new step =
-      subst (λ (a : Answer). Outcome st c (messages.Accept n ticket id) a.deed) (sym step.answer) (accept_outcome n ticket id (accept_without_deed st c n) refl)
+outcome_of : (st : State) (c : ℕ) (soft : Soft) (m : Message) (answered : Answer) → Course st soft c m answered → Outcome st c m answered.deed
+outcome_of st c soft _ _ (unnumbered m told none answer) = nothing refl (ap (λ o. done_by o (standing_of st c)) none)
+outcome_of st c soft _ _ (turned_down m d why asked verdict) = nothing refl (ap (λ o. done_by o (standing_of st c)) asked ∙ ap (if_done d) verdict)
+outcome_of st c soft _ _ (told_again m d reply asked verdict kept) = nothing refl (ap (λ o. done_by o (standing_of st c)) asked ∙ ap (if_done d) verdict)
+outcome_of st c soft _ _ (stored n tuple none) =
+    one (deeds.Out c n tuple) (to_put n) refl (ap (if_done (to_put n)) (none_is_done st c (to_put n) none)) (record { client = refl; number = refl; next = refl; size = omega arith })
+outcome_of st c soft _ _ (taken n ticket id row none held) =
+    one (deeds.Take c n id) (to_take n) refl (ap (if_done (to_take n)) (none_is_done st c (to_take n) none)) (record { client = refl; number = refl; next = plus_none st.next; size = refl })
+outcome_of st c soft _ _ (passed n ticket id none held) =
+    one (deeds.Pass c n id) (to_take n) refl (ap (if_done (to_take n)) (none_is_done st c (to_take n) none)) (record { client = refl; number = refl; next = plus_none st.next; size = refl })
 
 -- ---- what a step comes to
 
@@ -153,7 +112,7 @@ all_bytes st soft (m ∷ ms) all is happens =
     let mid : State = happens.1.0 in
     let later : History = happens.1.1.0 in
     let step : IsStep st soft m.0 m.1 first mid = happens.1.1.1.0 in
-    let told = told_of st mid m.0 m.1 first.deed is step.state_is (outcome_of st m.0 soft m.1 first mid step) in
+    let told = told_of st mid m.0 m.1 first.deed is step.state_is (outcome_of st m.0 soft m.1 first (course_of st soft m.0 m.1 first step.answer)) in
     let rest = all_bytes mid first.soft ms later (step_state st mid soft m.0 m.1 first is step) happens.1.1.1.1.0 in
     ap (λ (h : History). length (payload h.deeds)) happens.1.1.1.1.1
     ∙ ap length (flat_map-append spell_deed (option_to_list first.deed) later.deeds)

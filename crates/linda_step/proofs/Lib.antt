@@ -25,3 +25,4 @@ pub mod SizeLaws
 pub mod DemandLaws
 pub mod ExistLaws
 pub mod JudgeLaws
+pub mod AnswerCourse

@@ -1,6 +1,7 @@
 -- What is done about a numbered message. That hangs on numbers alone: its own, the last one of its client, how many
 -- clients are kept, and the next id.
 use Rattle.std.specs.Prelude.{ℕ, Bool, true, false, ◌==◌, nat_le, ◌&&◌, ◌||◌, if◌then◌else◌, Option, Some, None}
+use Rattle.std.specs.Option.{option_map}
 use Rattle.linda_wire.specs.declared.limits.TheConstants.{MAX_CLIENTS, NUMBER_LIMIT}
 use Rattle.linda_wire.specs.declared.message.Message.{Message}
 use Rattle.linda_wire.specs.declared.message.Message.TheVariants as messages
@@ -27,6 +28,13 @@ demand_of (messages.Out n tuple) = Some (to_put n)
 demand_of (messages.Ask ticket remove template) = None
 demand_of (messages.Accept n ticket id) = Some (to_take n)
 demand_of (messages.Cancel ticket) = None
+
+-- the number that a message bears, if it bears one
+abbrev pub number_asked : Option Demand → Option ℕ
+number_asked o = option_map (λ (d : Demand). d.n) o
+
+abbrev pub number_of_message : Message → Option ℕ
+number_of_message m = number_asked (demand_of m)
 
 -- whether the client is new and no more clients are kept
 abbrev pub has_no_place : Standing → Bool
