@@ -26,22 +26,22 @@ step_deed st new c old m answered d step = by m answered (course_of st old c m a
 -- So it is the client's, and has the message's number.
 pub deed_client : (c : ℕ) (m : Message) (d : Deed) → IsDeedOf c m d → client_of d ≡ c
 deed_client c (messages.Out n tuple) (deeds.Out client m put) is = is.0
-deed_client c (messages.Out n tuple) (deeds.Take client m taken) is = absurd is
-deed_client c (messages.Out n tuple) (deeds.Pass client m passed) is = absurd is
+deed_client c (messages.Out n tuple) (deeds.Take client m other) is = absurd is
+deed_client c (messages.Out n tuple) (deeds.Pass client m other) is = absurd is
 deed_client c (messages.Accept n ticket id) (deeds.Out client m put) is = absurd is
-deed_client c (messages.Accept n ticket id) (deeds.Take client m taken) is = is.0
-deed_client c (messages.Accept n ticket id) (deeds.Pass client m passed) is = is.0
+deed_client c (messages.Accept n ticket id) (deeds.Take client m other) is = is.0
+deed_client c (messages.Accept n ticket id) (deeds.Pass client m other) is = is.0
 deed_client c (messages.Hello version client fresh) d is = absurd is
 deed_client c (messages.Ask ticket remove shape) d is = absurd is
 deed_client c (messages.Cancel ticket) d is = absurd is
 
 pub deed_number : (c : ℕ) (m : Message) (d : Deed) → IsDeedOf c m d → number_of_message m ≡ Some (number_of d)
 deed_number c (messages.Out n tuple) (deeds.Out client m put) is = ap Some (sym is.1)
-deed_number c (messages.Out n tuple) (deeds.Take client m taken) is = absurd is
-deed_number c (messages.Out n tuple) (deeds.Pass client m passed) is = absurd is
+deed_number c (messages.Out n tuple) (deeds.Take client m other) is = absurd is
+deed_number c (messages.Out n tuple) (deeds.Pass client m other) is = absurd is
 deed_number c (messages.Accept n ticket id) (deeds.Out client m put) is = absurd is
-deed_number c (messages.Accept n ticket id) (deeds.Take client m taken) is = ap Some (sym is.1)
-deed_number c (messages.Accept n ticket id) (deeds.Pass client m passed) is = ap Some (sym is.1)
+deed_number c (messages.Accept n ticket id) (deeds.Take client m other) is = ap Some (sym is.1)
+deed_number c (messages.Accept n ticket id) (deeds.Pass client m other) is = ap Some (sym is.1)
 deed_number c (messages.Hello version client fresh) d is = absurd is
 deed_number c (messages.Ask ticket remove shape) d is = absurd is
 deed_number c (messages.Cancel ticket) d is = absurd is

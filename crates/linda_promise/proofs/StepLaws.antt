@@ -38,8 +38,8 @@ module _ (st : State) (c : ℕ) (old : Soft) where
 
   asked : HoldsWhatIsThere st old → (m : Message) (a : Answer) → Course st old c m a → IsAsked m a
   asked there _ _ (unnumbered m told none answer) d is = absurd (none-some d is)
-  asked there _ _ (turned_down m w why asked verdict) d is = absurd (none-some d is)
-  asked there _ _ (told_again m w reply asked verdict kept) d is = absurd (none-some d is)
+  asked there _ _ (turned_down m w why demand verdict) d is = absurd (none-some d is)
+  asked there _ _ (told_again m w reply demand verdict kept) d is = absurd (none-some d is)
   asked there _ _ (stored n tuple none) d is =
       let same = same_Some (deeds.Out c n tuple) d is in
       record { client = ap client_of (sym same); number = ap (λ x. Some (number_of x)) same; let_go = tt }
