@@ -1,7 +1,7 @@
 -- A step and a closing as moves of a few kinds, so that what holds of each kind holds of all that a server does.
-use Rattle.std.proofs.Common.{◌≡◌, ℕ, ◌-◌, ◌≤◌, Bool, true, false, true≢false, cond, not, ◌&&◌, ◌||◌, ◌==◌, nat_lt, List, [], ◌∷◌, ◌++◌, Option, Some, None, IsSome, option_to_list, option_map, slice_get, All, Contains, refl, sym, ap, ◌∙◌, subst, arith}
+use Rattle.std.proofs.Common.{◌≡◌, ℕ, ◌-◌, ◌≤◌, Bool, true, false, true≢false, cond, not, ◌&&◌, ◌==◌, nat_lt, List, [], ◌∷◌, ◌++◌, Option, Some, None, option_to_list, slice_get, All, Contains, refl, sym, ap, ◌∙◌, subst, arith}
 use Rattle.std.specs.Prelude.{nat_le}
-use Rattle.std.proofs.lemmas.Option.{none-some, same_Some}
+use Rattle.std.proofs.lemmas.Option.{none-some}
 use Rattle.std.proofs.lemmas.List.Elements.{All-contains_itself, All-filter}
 use Rattle.std.specs.FinMap.{get, insert, remove, entries}
 use Rattle.linda_tuple.specs.Tuple.{Tuple}
@@ -11,7 +11,7 @@ use Rattle.linda_tuple.proofs.Deciding.{is_match_decides}
 use Rattle.linda_bag.specs.FreeMatch.{IsFreeMatch}
 use Rattle.linda_hold.specs.declared.request.Request.{Request}
 use Rattle.linda_hold.specs.Request.{request_of}
-use Rattle.linda_hold.specs.Waits.{Wait, is_waiting, without, without_client}
+use Rattle.linda_hold.specs.Waits.{Wait, is_waiting, without_client}
 use Rattle.linda_hold.specs.Holds.{IsHeldAt, held_in}
 use Rattle.linda_wire.specs.declared.limits.TheConstants.{MAX_ASKS, VERSION}
 use Rattle.linda_wire.specs.declared.message.Message.{Message}
@@ -29,9 +29,9 @@ use Rattle.linda_state.proofs.AfterLaws.{none_after, one_after, new_id}
 use Rattle.linda_step.specs.Judge.{to_put, to_take, demand_of}
 use Rattle.linda_step.specs.Soft.{Soft, Bagged, open_asks}
 use Rattle.linda_step.specs.Looking.{IsLeast, passed_over}
-use Rattle.linda_step.specs.Dispatch.{Sends, no_sends, sends_then, dispatch, release, release_tuple, release_if, release_all, on_cancel, on_close}
+use Rattle.linda_step.specs.Dispatch.{Sends, no_sends, dispatch, release, release_tuple, release_if, release_all, on_cancel, on_close}
 use Rattle.linda_step.specs.Asking.{offer_of, read_of, only_sent, wait_of, serve, on_ask, AnswersAsk, AnswersCancel}
-use Rattle.linda_step.specs.Answer.{Answer, only_sends, greeting, reply_of_kept, last_number, is_one_too_many, Tells, IsAnswer, IsStep}
+use Rattle.linda_step.specs.Answer.{Answer, only_sends, greeting, reply_of_kept, last_number, is_one_too_many, IsAnswer, IsStep}
 use Rattle.linda_step.specs.History.{Coming, says}
 use Rattle.linda_step.proofs.AnswerCourse.{Course, unnumbered, turned_down, told_again, stored, taken, passed, course_of}
 use Rattle.linda_step.proofs.AnswerLaws.{held_there}

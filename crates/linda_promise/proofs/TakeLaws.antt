@@ -1,5 +1,5 @@
 -- What a Take of a list takes was put before it, and is taken by it alone; and what a Taken and a Gone report.
-use Rattle.std.proofs.Common.{◌≡◌, ℕ, zero, suc, ◌+◌, ◌-◌, ◌<◌, ◌≤◌, nat_lt, Bool, true, false, true≢false, cond, ◌||◌, ◌==◌, List, [], ◌∷◌, ◌++◌, length, filter, take, drop, Option, Some, None, is_some, IsSome, All, Contains, slice_get, refl, sym, ap, ◌∙◌, subst, arith, eq-eqb, ltb-false, drop-cons, zero-lt-suc, get_or, ◌⊎◌, inl, inr}
+use Rattle.std.proofs.Common.{◌≡◌, ℕ, zero, suc, ◌+◌, ◌-◌, ◌<◌, ◌≤◌, nat_lt, Bool, true, false, true≢false, cond, ◌==◌, List, [], ◌∷◌, ◌++◌, length, filter, take, drop, Option, Some, None, is_some, IsSome, All, Contains, slice_get, refl, sym, ap, ◌∙◌, subst, arith, eq-eqb, ltb-false, drop-cons, zero-lt-suc, get_or, ◌⊎◌, inl, inr}
 use Rattle.std.proofs.lemmas.Bool.{or_left, or_right}
 use Rattle.std.proofs.lemmas.Option.{none-some, slice_get_within}
 use Rattle.std.proofs.lemmas.List.{take-append-drop, take_more}

@@ -1,6 +1,6 @@
 -- Which deed a step does for a message, and how it is told from the reply.
 use Rattle.std.specs.Prelude.{◌≡◌, ◌≢◌, ℕ, ◌+◌, ◌==◌, Bool, false, if◌then◌else◌}
-use Rattle.std.specs.Prelude.{List, [], ◌∷◌, Option, Some, None, IsSome}
+use Rattle.std.specs.Prelude.{List, ◌∷◌, Option, Some, None, IsSome}
 use Rattle.std.specs.FinMap as map
 use Rattle.linda_hold.specs.Request.{request_of}
 use Rattle.linda_wire.specs.declared.message.Message.{Message}

@@ -1,8 +1,5 @@
 -- A message does the deed that it asks for exactly where its demand is met; so the bytes of all deeds can be told.
-use Rattle.std.proofs.Common.{◌≡◌, ℕ, ◌+◌, ◌≤◌, ◌<◌, Bool, true, false, cond, not, ◌&&◌, ◌==◌, List, [], ◌∷◌, length, Option, Some, None, IfSome, is_some, option_to_list, refl, sym, ap, ◌∙◌, subst, eq-eqb, eqb-true, ne_eqb, length-append, append-nil, arith}
-use Rattle.std.proofs.lemmas.Bool.{cond-true, cond-false, and_parts, and_from, not-true, not_from_false, cases_Bool}
-use Rattle.std.proofs.Common.{inl, inr}
-use Rattle.std.proofs.lemmas.Option.{none-some}
+use Rattle.std.proofs.Common.{◌≡◌, ℕ, ◌+◌, ◌≤◌, ◌<◌, Bool, true, false, cond, ◌==◌, List, [], ◌∷◌, length, Option, Some, None, IfSome, is_some, option_to_list, refl, sym, ap, ◌∙◌, subst, ne_eqb, length-append, append-nil, arith}
 use Rattle.std.proofs.lemmas.Grind.{flat_map-append}
 use Rattle.std.specs.FinMap.{get, insert, len}
 use Rattle.linda_bag.proofs.Maps.{get_inserted, len_new, len_old}
@@ -22,7 +19,7 @@ use Rattle.linda_step.specs.Judge.{to_put, to_take}
 use Rattle.linda_step.specs.Soft.{Soft}
 use Rattle.linda_step.specs.Answer.{Answer, last_number, standing_of, IsStep}
 use Rattle.linda_step.specs.History.{History, Happens, comings}
-use Rattle.linda_step.specs.Size.{Numbers, numbers_of, deed_bytes, if_done, done_by, done_of, numbers_after, bytes_of, bytes_from}
+use Rattle.linda_step.specs.Size.{numbers_of, deed_bytes, if_done, done_by, done_of, numbers_after, bytes_of, bytes_from}
 use Rattle.linda_step.proofs.AnswerCourse.{Course, unnumbered, turned_down, told_again, stored, taken, passed, course_of}
 use Rattle.linda_step.proofs.NumberLaws.{none_is_done}
 use Rattle.linda_step.proofs.AnswerLaws.{step_state}

@@ -1,5 +1,5 @@
 -- What the verdict on a numbered message says.
-use Rattle.std.proofs.Common.{◌≡◌, ℕ, ◌+◌, ◌<◌, Bool, true, false, cond, refl}
+use Rattle.std.proofs.Common.{◌≡◌, ◌+◌, ◌<◌, Bool, true, false, cond, refl}
 use Rattle.linda_wire.specs.declared.refusal.Refusal.TheVariants as refusals
 use Rattle.linda_book.specs.declared.classes.Class.{Class}
 use Rattle.linda_book.specs.declared.classes.Class.TheVariants.{Fresh, Kept, Old, Gap}

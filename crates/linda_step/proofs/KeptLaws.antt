@@ -1,5 +1,5 @@
 -- The reply to a deed is the first thing that is sent, and it is the one that the book keeps.
-use Rattle.std.proofs.Common.{◌≡◌, ℕ, ◌+◌, List, [], ◌∷◌, Option, Some, None, IsSome, option_to_list, refl, sym, ap, ◌∙◌, subst, true≢false, arith}
+use Rattle.std.proofs.Common.{◌≡◌, ℕ, ◌+◌, List, [], ◌∷◌, Some, None, IsSome, option_to_list, refl, sym, ap, ◌∙◌, true≢false, arith}
 use Rattle.std.specs.FinMap.{get}
 use Rattle.linda_tuple.specs.Tuple.{Tuple}
 use Rattle.linda_bag.proofs.Maps.{get_same}

@@ -1,5 +1,5 @@
 -- A numbered message for which there is no reply without a deed: its deed is done, and allowed.
-use Rattle.std.proofs.Common.{◌≡◌, ℕ, ◌+◌, ◌<◌, ◌≤◌, Bool, true, false, cond, ◌||◌, ◌==◌, nat_le, Option, Some, None, IfSome, IsSome, option_map, inl, inr, refl, ap, sym, subst, arith, leb-false, le_trans, lt_of_lt_of_le, zero-lt-suc}
+use Rattle.std.proofs.Common.{◌≡◌, ℕ, ◌+◌, ◌<◌, ◌≤◌, false, ◌==◌, nat_le, Option, Some, None, IfSome, IsSome, option_map, inl, inr, refl, ap, sym, subst, arith, leb-false, le_trans, lt_of_lt_of_le, zero-lt-suc}
 use Rattle.std.proofs.lemmas.Option.{none-some}
 use Rattle.std.proofs.lemmas.Bool.{eqb-false, or_parts, and_cases}
 use Rattle.std.specs.FinMap.{get, len}

@@ -1,6 +1,6 @@
 -- The bytes that the deeds of messages spell are those that were counted.
-use Rattle.std.proofs.Common.{◌≡◌, ℕ, ◌+◌, ◌<◌, ◌≤◌, Bool, true, false, cond, not, ◌&&◌, ◌||◌, ◌==◌, nat_le, List, [], ◌∷◌, ◌++◌, Option, Some, None, refl, sym, ap, ◌∙◌, subst, inl, inr, eq-eqb, ne_eqb, leb-false, add_assoc, suc, length, drop, get_or, drop-cons, arith}
-use Rattle.std.proofs.lemmas.Bool.{cond-true, cond-false, cases_eq, eqb-false, and_parts, or_parts, not-true}
+use Rattle.std.proofs.Common.{◌≡◌, ℕ, ◌+◌, ◌<◌, ◌≤◌, Bool, true, false, cond, ◌&&◌, ◌||◌, ◌==◌, nat_le, List, [], ◌∷◌, ◌++◌, Option, Some, None, refl, sym, ap, ◌∙◌, subst, inl, inr, eq-eqb, ne_eqb, leb-false, add_assoc, suc, length, drop, get_or, drop-cons, arith}
+use Rattle.std.proofs.lemmas.Bool.{cond-true, cond-false, cases_eq, eqb-false, or_parts}
 use mir.Val.{bool_byte}
 use Rattle.std.proofs.lemmas.Option.{none-some, same_Some}
 use Rattle.linda_wire.specs.declared.limits.TheConstants.{MAX_CLIENTS}

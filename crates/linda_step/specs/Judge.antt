@@ -29,7 +29,7 @@ demand_of (messages.Ask ticket remove template) = None
 demand_of (messages.Accept n ticket id) = Some (to_take n)
 demand_of (messages.Cancel ticket) = None
 
--- the number that a message bears, if it bears one
+-- the number in what is asked for, and so the number that a message bears, if it bears one
 abbrev pub number_asked : Option Demand → Option ℕ
 number_asked o = option_map (λ (d : Demand). d.n) o
 
