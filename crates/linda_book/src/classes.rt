@@ -18,7 +18,7 @@ pub enum Class {
 
 /// The class of the number after the last one that is kept, 0 if there is none. Any two numbers have
 /// a class.
-pub(crate) fn class_of(last: u64, n: u64) -> Class
+pub fn class_of(last: u64, n: u64) -> Class
     ensures { result ≡ spec.class_of last n }
 {
     if last.checked_add(1) == Some(n) {

@@ -11,5 +11,5 @@ mod classes;
 mod kept;
 
 pub use books::Book;
-pub use classes::Class;
+pub use classes::{Class, class_of};
 pub use kept::KeptReply;

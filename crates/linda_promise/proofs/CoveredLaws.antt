@@ -1,5 +1,5 @@
 -- What is covered stays covered while more is done, and what is sent is covered.
-use Rattle.std.proofs.Common.{◌≡◌, ℕ, ◌+◌, ◌<◌, inl, inr, true, ◌==◌, List, [], ◌∷◌, ◌++◌, Option, Some, None, All, option_to_list, cond, refl, sym, ap, ◌∙◌, subst, eqb-true, arith}
+use Rattle.std.proofs.Common.{◌≡◌, ℕ, ◌+◌, ◌<◌, inl, inr, true, ◌==◌, List, [], ◌∷◌, Option, Some, None, All, option_to_list, cond, refl, sym, ap, ◌∙◌, subst, eqb-true, arith}
 use Rattle.std.proofs.lemmas.Bool.{cases_Bool}
 use Rattle.std.proofs.lemmas.List.Elements.{All-nil, All-append, All-weaker}
 use Rattle.std.specs.FinMap.{get}
@@ -15,7 +15,7 @@ use Rattle.linda_state.specs.After.{IsAfter, entry_after, reply_of_deed}
 use Rattle.linda_state.specs.Proper.{IsAllowed}
 use Rattle.linda_step.specs.Soft.{Soft, Bagged}
 use Rattle.linda_step.specs.Dispatch.{on_close}
-use Rattle.linda_step.specs.Answer.{Answer, only_sends, reply_of_kept, last_number, IsStep}
+use Rattle.linda_step.specs.Answer.{Answer, reply_of_kept, last_number, IsStep}
 use Rattle.linda_step.specs.History.{Coming, says, leaves, Comes, History, Happens, first_then}
 use Rattle.linda_step.proofs.AnswerLaws.{answer_allowed, step_state}
 use Rattle.linda_promise.specs.Replies.{reports_deed, KeepsReply, KeepsReports}

@@ -1,7 +1,7 @@
 -- A step and a closing as moves of a few kinds, so that what holds of each kind holds of all that a server does.
-use Rattle.std.proofs.Common.{◌≡◌, ℕ, ◌-◌, ◌≤◌, Bool, true, false, true≢false, cond, not, ◌&&◌, ◌||◌, ◌==◌, nat_lt, List, [], ◌∷◌, ◌++◌, Option, Some, None, IsSome, option_to_list, option_map, slice_get, All, Contains, refl, sym, ap, ◌∙◌, subst, arith}
+use Rattle.std.proofs.Common.{◌≡◌, ℕ, ◌-◌, ◌≤◌, Bool, true, false, true≢false, cond, not, ◌&&◌, ◌==◌, nat_lt, List, [], ◌∷◌, ◌++◌, Option, Some, None, option_to_list, slice_get, All, Contains, refl, sym, ap, ◌∙◌, subst, arith}
 use Rattle.std.specs.Prelude.{nat_le}
-use Rattle.std.proofs.lemmas.Option.{none-some, same_Some}
+use Rattle.std.proofs.lemmas.Option.{none-some}
 use Rattle.std.proofs.lemmas.List.Elements.{All-contains_itself, All-filter}
 use Rattle.std.specs.FinMap.{get, insert, remove, entries}
 use Rattle.linda_tuple.specs.Tuple.{Tuple}
@@ -11,7 +11,7 @@ use Rattle.linda_tuple.proofs.Deciding.{is_match_decides}
 use Rattle.linda_bag.specs.FreeMatch.{IsFreeMatch}
 use Rattle.linda_hold.specs.declared.request.Request.{Request}
 use Rattle.linda_hold.specs.Request.{request_of}
-use Rattle.linda_hold.specs.Waits.{Wait, is_waiting, without, without_client}
+use Rattle.linda_hold.specs.Waits.{Wait, is_waiting, without_client}
 use Rattle.linda_hold.specs.Holds.{IsHeldAt, held_in}
 use Rattle.linda_wire.specs.declared.limits.TheConstants.{MAX_ASKS, VERSION}
 use Rattle.linda_wire.specs.declared.message.Message.{Message}
@@ -22,23 +22,21 @@ use Rattle.linda_wire.specs.declared.reply.Reply.{Reply}
 use Rattle.linda_wire.specs.declared.reply.Reply.TheVariants as replies
 use Rattle.linda_book.specs.declared.kept.KeptReply.{KeptReply}
 use Rattle.linda_book.specs.declared.kept.KeptReply.TheVariants as kept
-use Rattle.linda_book.specs.declared.classes.Class.{Class}
-use Rattle.linda_book.specs.declared.classes.Class.TheVariants.{Fresh, Kept, Old, Gap}
-use Rattle.linda_book.specs.Classes.{IsClass}
-use Rattle.linda_book.specs.Entries.{Entry, number_in}
-use Rattle.linda_book.proofs.Meaning.{class_means}
 use Rattle.linda_state.specs.declared.deed.Deed.TheVariants as deeds
 use Rattle.linda_state.specs.State.{State, IsState}
 use Rattle.linda_state.specs.After.{IsAfter}
 use Rattle.linda_state.proofs.AfterLaws.{none_after, one_after, new_id}
+use Rattle.linda_step.specs.Judge.{to_put, to_take, demand_of}
 use Rattle.linda_step.specs.Soft.{Soft, Bagged, open_asks}
 use Rattle.linda_step.specs.Looking.{IsLeast, passed_over}
-use Rattle.linda_step.specs.Dispatch.{Sends, no_sends, sends_then, dispatch, release, release_tuple, release_if, release_all, on_cancel, on_close}
+use Rattle.linda_step.specs.Dispatch.{Sends, no_sends, dispatch, release, release_tuple, release_if, release_all, on_cancel, on_close}
 use Rattle.linda_step.specs.Asking.{offer_of, read_of, only_sent, wait_of, serve, on_ask, AnswersAsk, AnswersCancel}
-use Rattle.linda_step.specs.Answer.{Answer, only_sends, greeting, reply_of_kept, last_number, is_one_too_many, class_in, without_deed, on_out, out_without_deed, on_accept, accept_without_deed, take_or_pass, held_tuple, Tells, IsAnswer, IsStep}
+use Rattle.linda_step.specs.Answer.{Answer, only_sends, greeting, reply_of_kept, last_number, is_one_too_many, IsAnswer, IsStep}
 use Rattle.linda_step.specs.History.{Coming, says}
+use Rattle.linda_step.proofs.AnswerCourse.{Course, unnumbered, turned_down, told_again, stored, taken, passed, course_of}
+use Rattle.linda_step.proofs.AnswerLaws.{held_there}
 use Rattle.linda_step.proofs.ApartLaws.{held_before}
-use Rattle.linda_step.proofs.KeptLaws.{IsKeptFor, out_answer_kept, accept_answer_kept}
+use Rattle.linda_step.proofs.KeptLaws.{IsKeptFor, stored_kept, taken_kept, passed_kept}
 use Rattle.linda_promise.specs.Offers.{IsAskOf, is_offer}
 use Rattle.linda_promise.specs.Replies.{reports_deed, KeepsReply}
 
@@ -141,37 +139,6 @@ kept_is_no_offer n (kept.Stored id) = refl
 kept_is_no_offer n (kept.Taken id tuple) = refl
 kept_is_no_offer n kept.Gone = refl
 
--- A reply without a deed is plain, or it is the one that the book has.
-record IsOld (st : State) (c : ℕ) (r : Reply) : Type 0 where
-  no_offer : is_offer r ≡ false
-  known : reports_deed r ≡ true → KeepsReply st c r
-
-plain_old : (st : State) (c : ℕ) (r : Reply) → IsPlain r → IsOld st c r
-plain_old st c r plain = record { no_offer = plain.0; known = λ reports. absurd (true≢false (sym reports ∙ plain.1)) }
-
-old_reply : (st : State) (c n : ℕ) (is_spent : Bool) (r : Reply) → without_deed st c n is_spent (class_in st c n) ≡ Some r → IsOld st c r
-old_reply st c n is_spent r = by (class_in st c n) (class_means (last_number st c) n)
-  where
-    same_plain : (s : Reply) → IsPlain s → Some s ≡ Some r → IsOld st c r
-    same_plain s plain e = plain_old st c r (subst IsPlain (same_Some s r e) plain)
-
-    fresh_by : (a b : Bool) (s t : Reply) → IsPlain s → IsPlain t → cond a (Some s) (cond b (Some t) None) ≡ Some r → IsOld st c r
-    fresh_by true b s t h k e = same_plain s h e
-    fresh_by false true s t h k e = same_plain t k e
-    fresh_by false false s t h k e = absurd (none-some r e)
-
-    kept_by : (o : Option Entry) → get st.book c ≡ o → n ≡ number_in o → option_map (λ (e : Entry). reply_of_kept n e.1) o ≡ Some r → IsOld st c r
-    kept_by None there same e = absurd (none-some r e)
-    kept_by (Some entry) there same e =
-        let r_is : r ≡ reply_of_kept n entry.1 = sym (same_Some _ r e) in
-        record { no_offer = ap is_offer r_is ∙ kept_is_no_offer n entry.1; known = λ _. record { entry = entry; kept = there; reply = r_is ∙ ap (λ m. reply_of_kept m entry.1) same } }
-
-    by : (class : Class) → IsClass (last_number st c) n class → without_deed st c n is_spent class ≡ Some r → IsOld st c r
-    by Fresh means e = fresh_by (is_one_too_many st c) is_spent _ _ (refl, refl) (refl, refl) e
-    by Kept means e = kept_by (get st.book c) refl means.0 e
-    by (Old last) means e = same_plain _ (refl, refl) e
-    by (Gap last) means e = same_plain _ (refl, refl) e
-
 -- ---- steps
 
 -- what is known of the replies of a step: the book of the new state has what they report
@@ -199,61 +166,52 @@ module _ (st new : State) (c : ℕ) (old : Soft) (is : IsState st) where
     reply = ap (λ (s : ℕ × Reply). s.1) (same_head (c, r) (c, reply_of_kept n k.reply) others k.others k.first);
   }
 
-  undone_move : (m : Message) (n : ℕ) (is_spent : Bool) (r : Reply) → without_deed st c n is_spent (class_in st c n) ≡ Some r → IsAfter st [] new → Move (KnownIn new) new.bag (says c m) old (only_sent ((c, r) ∷ []) old)
-  undone_move m n is_spent r e after =
-      let o = old_reply st c n is_spent r e in
-      tells old c r o.no_offer (λ reports. subst (λ s. KeepsReply s c r) (same_state after) (o.known reports))
-
   put_there : (n : ℕ) (tuple : Tuple) → IsAfter st (deeds.Out c n tuple ∷ []) new → get new.bag st.next ≡ Some tuple
   put_there n tuple after =
       let none_before : st.next - st.next ≡ 0 = omega arith in
       let low : st.next ≤ st.next = omega arith in
       after.bag st.next ∙ new_id st (deeds.Out c n tuple ∷ []) st.next refl low ∙ ap (slice_get (tuple ∷ [])) none_before
 
-  out_move : (n : ℕ) (tuple : Tuple) (o : Option Reply) → out_without_deed st c n ≡ o → IsStep st old c (messages.Out n tuple) (on_out st c n tuple o old) new → MoveOf (messages.Out n tuple) (on_out st c n tuple o old)
-  out_move n tuple (Some r) e step = undone_move (messages.Out n tuple) n _ r e step.state_is
-  out_move n tuple None e step =
-      goes_on old (only_sent ((c, replies.Stored n st.next) ∷ []) old) (dispatch st.next tuple old)
-      (tells old c (replies.Stored n st.next) refl (first_known n (replies.Stored n st.next) _ (out_answer_kept st new c is n tuple old _ step refl)))
-      (dispatches old st.next tuple (put_there n tuple step.state_is))
-
-  taken_move : (n ticket id : ℕ) (o : Option Tuple) → IsStep st old c (messages.Accept n ticket id) (take_or_pass c n id o old) new → MoveOf (messages.Accept n ticket id) (take_or_pass c n id o old)
-  taken_move n ticket id None step =
-      tells old c (replies.Gone n) refl (first_known n (replies.Gone n) [] (accept_answer_kept st new c is n ticket id old _ step refl))
-  taken_move n ticket id (Some tuple) step =
-      let mid : Soft = record { holds = remove old.holds id; waits = old.waits } in
-      goes_on old (no_sends mid) (only_sent ((c, replies.Taken n id tuple) ∷ []) mid)
-      (gives_up old mid (record { holds = held_before old.holds id; waits = All-contains_itself old.waits }))
-      (tells mid c (replies.Taken n id tuple) refl (first_known n (replies.Taken n id tuple) [] (accept_answer_kept st new c is n ticket id old _ step refl)))
-
-  accept_move : (n ticket id : ℕ) (o : Option Reply) → accept_without_deed st c n ≡ o → IsStep st old c (messages.Accept n ticket id) (on_accept st c n ticket id o old) new → MoveOf (messages.Accept n ticket id) (on_accept st c n ticket id o old)
-  accept_move n ticket id (Some r) e step = undone_move (messages.Accept n ticket id) n _ r e step.state_is
-  accept_move n ticket id None e step = taken_move n ticket id (held_tuple st (request_of c ticket) id old) step
+  -- what changes nothing is told over the old state, which is the new one
+  same_known : (r : Reply) → KnownIn st c r → IsAfter st [] new → KnownIn new c r
+  same_known r known after reports = subst (λ s. KeepsReply s c r) (same_state after) (known reports)
 
   -- what is told without a deed is told over the old bag, which is the new one
-  told_move : (m : Message) (answered : Answer) (told : Sends) → answered ≡ only_sends told → IsAfter st (option_to_list answered.deed) new
-      → Move (KnownIn new) st.bag (says c m) old told → MoveOf m answered
-  told_move m answered told same after move =
-      let nothing : IsAfter st [] new = subst (λ (a : Answer). IsAfter st (option_to_list a.deed) new) same after in
-      subst (MoveOf m) (sym same) (subst (λ (s : State). Move (KnownIn new) s.bag (says c m) old told) (same_state nothing) move)
+  told_move : (m : Message) (told : Sends) → Move (KnownIn new) st.bag (says c m) old told → IsAfter st [] new → Move (KnownIn new) new.bag (says c m) old told
+  told_move m told move after = subst (λ (s : State). Move (KnownIn new) s.bag (says c m) old told) (same_state after) move
+
+  sent_move : (m : Message) (told : Sends) → demand_of m ≡ None → IsAnswer st old c m (only_sends told) → Move (KnownIn new) st.bag (says c m) old told
+  sent_move (messages.Hello version client fresh) told none answer =
+      let plain = plain_greeting st c version fresh in
+      subst (λ (a : Answer). Move (KnownIn new) st.bag (says c (messages.Hello version client fresh)) old (record { sends = a.sends; soft = a.soft })) (sym answer)
+      (tells old c (greeting st c version fresh) plain.0 (plain_known (greeting st c version fresh) plain))
+  sent_move (messages.Ask ticket remove shape) told none answer =
+      let asked : AnswersAsk st.bag (request_of c ticket) remove shape old answer.0 = answer.1.0 in
+      subst (λ (a : Answer). Move (KnownIn new) st.bag (says c (messages.Ask ticket remove shape)) old (record { sends = a.sends; soft = a.soft })) (sym (answer.1.1 ∙ ap only_sends asked.told_is))
+      (ask_move (KnownIn new) st.bag _ c ticket remove shape refl (plain_known (refused (refusals.TooManyAsks ticket)) (refl, refl)) old asked.held asked.least asked.is_held asked.is_least)
+  sent_move (messages.Cancel ticket) told none answer =
+      let asked : AnswersCancel st.bag (request_of c ticket) old answer.0 = answer.1.0 in
+      subst (λ (a : Answer). Move (KnownIn new) st.bag (says c (messages.Cancel ticket)) old (record { sends = a.sends; soft = a.soft })) (sym (answer.1.1 ∙ ap only_sends asked.told_is))
+      (cancel_move (KnownIn new) st.bag _ (request_of c ticket) asked.held old)
+  sent_move (messages.Out n tuple) told some answer = absurd (none-some (to_put n) (sym some))
+  sent_move (messages.Accept n ticket id) told some answer = absurd (none-some (to_take n) (sym some))
+
+  moved : (m : Message) (a : Answer) → Course st old c m a → IsAfter st (option_to_list a.deed) new → MoveOf m a
+  moved _ _ (unnumbered m told none answer) after = told_move m told (sent_move m told none answer) after
+  moved _ _ (turned_down m d why asked verdict) after = tells old c (refused why) refl (plain_known (refused why) (refl, refl))
+  moved _ _ (told_again m d reply asked verdict kept) after =
+      tells old c (reply_of_kept d.n reply) (kept_is_no_offer d.n reply) (same_known (reply_of_kept d.n reply) (λ reports. record { entry = (d.n, reply); kept = kept; reply = refl }) after)
+  moved _ _ (stored n tuple none) after =
+      goes_on old (only_sent ((c, replies.Stored n st.next) ∷ []) old) (dispatch st.next tuple old)
+      (tells old c (replies.Stored n st.next) refl (first_known n (replies.Stored n st.next) _ (stored_kept st new c is n tuple old after)))
+      (dispatches old st.next tuple (put_there n tuple after))
+  moved _ _ (taken n ticket id row none held) after =
+      let mid : Soft = record { holds = remove old.holds id; waits = old.waits } in
+      goes_on old (no_sends mid) (only_sent ((c, replies.Taken n id row) ∷ []) mid)
+      (gives_up old mid (record { holds = held_before old.holds id; waits = All-contains_itself old.waits }))
+      (tells mid c (replies.Taken n id row) refl (first_known n (replies.Taken n id row) [] (taken_kept st new c is n id row (held_there st (request_of c ticket) id old row held) after)))
+  moved _ _ (passed n ticket id none held) after = tells old c (replies.Gone n) refl (first_known n (replies.Gone n) [] (passed_kept st new c is n id after))
 
   -- Each step is a move.
   pub step_move : (m : Message) (answered : Answer) → IsStep st old c m answered new → MoveOf m answered
-  step_move (messages.Hello version client fresh) answered step =
-      let plain = plain_greeting st c version fresh in
-      subst (MoveOf (messages.Hello version client fresh)) (sym step.answer) (tells old c (greeting st c version fresh) plain.0 (plain_known (greeting st c version fresh) plain))
-  step_move (messages.Out n tuple) answered step =
-      subst (MoveOf (messages.Out n tuple)) (sym step.answer)
-      (out_move n tuple (out_without_deed st c n) refl (subst (λ (a : Answer). IsStep st old c (messages.Out n tuple) a new) step.answer step))
-  step_move (messages.Accept n ticket id) answered step =
-      subst (MoveOf (messages.Accept n ticket id)) (sym step.answer)
-      (accept_move n ticket id (accept_without_deed st c n) refl (subst (λ (a : Answer). IsStep st old c (messages.Accept n ticket id) a new) step.answer step))
-  step_move (messages.Ask ticket remove shape) answered step =
-      let told : AnswersAsk st.bag (request_of c ticket) remove shape old step.answer.0 = step.answer.1.0 in
-      told_move _ answered step.answer.0 step.answer.1.1 step.state_is
-      (subst (Move (KnownIn new) st.bag (says c (messages.Ask ticket remove shape)) old) (sym told.told_is)
-      (ask_move (KnownIn new) st.bag _ c ticket remove shape refl (plain_known (refused (refusals.TooManyAsks ticket)) (refl, refl)) old told.held told.least told.is_held told.is_least))
-  step_move (messages.Cancel ticket) answered step =
-      let told : AnswersCancel st.bag (request_of c ticket) old step.answer.0 = step.answer.1.0 in
-      told_move _ answered step.answer.0 step.answer.1.1 step.state_is
-      (subst (Move (KnownIn new) st.bag (says c (messages.Cancel ticket)) old) (sym told.told_is) (cancel_move (KnownIn new) st.bag _ (request_of c ticket) told.held old))
+  step_move m answered step = moved m answered (course_of st old c m answered step.answer) step.state_is

@@ -1,6 +1,6 @@
 -- What a move offers is sought.
 use Rattle.std.proofs.Common.{◌≡◌, ℕ, Bool, true, false, true≢false, ◌&&◌, not, List, [], ◌∷◌, ◌++◌, map, Option, Some, None, option_to_list, All, Contains, ◌⊎◌, inl, inr, refl, sym, ap, ◌∙◌, subst}
-use Rattle.std.proofs.lemmas.Option.{none-some, same_Some}
+use Rattle.std.proofs.lemmas.Option.{same_Some}
 use Rattle.std.proofs.lemmas.Bool.{and_parts}
 use Rattle.std.proofs.lemmas.List.Elements.{All-nil, All-cons, All-append, All-map, All-push, All-filter, All-weaker, All-contains, All-contains_itself, Contains-append_left, Contains-append_right}
 use Rattle.std.specs.FinMap.{get, insert}
@@ -14,7 +14,7 @@ use Rattle.linda_wire.specs.declared.reply.Reply.{Reply}
 use Rattle.linda_wire.specs.declared.reply.Reply.TheVariants as replies
 use Rattle.linda_state.specs.State.{State, IsState}
 use Rattle.linda_step.specs.Soft.{Soft, Bagged}
-use Rattle.linda_step.specs.Dispatch.{Sends, read_to, offer_to, held_for, dispatch, on_close}
+use Rattle.linda_step.specs.Dispatch.{Sends, read_to, offer_to, held_for, on_close}
 use Rattle.linda_step.specs.Asking.{offer_of}
 use Rattle.linda_step.specs.Answer.{Answer, IsStep}
 use Rattle.linda_step.specs.History.{Coming, says}

@@ -1,26 +1,26 @@
 -- Which deed a step does, and how it is told.
-use Rattle.std.proofs.Common.{◌≡◌, ◌≢◌, ℕ, ◌+◌, ◌<◌, Bool, true, false, true≢false, cond, ◌==◌, List, [], ◌∷◌, Option, Some, None, is_some, ◌⊎◌, inl, inr, refl, sym, ap, ◌∙◌, subst, arith, eq-eqb, eqb-true}
-use Rattle.std.proofs.lemmas.Bool.{cond-true, cond-false, cases_Bool}
+use Rattle.std.proofs.Common.{◌≡◌, ◌≢◌, ℕ, ◌+◌, Bool, true, false, true≢false, cond, ◌==◌, List, [], ◌∷◌, Option, Some, None, is_some, refl, sym, ap, ◌∙◌, arith, eq-eqb, ne_eqb}
+use Rattle.std.proofs.lemmas.Bool.{cond-true, cond-false}
 use Rattle.std.proofs.lemmas.Option.{none-some, same_Some}
 use Rattle.std.specs.FinMap.{get, remove}
 use Rattle.linda_bag.proofs.Maps.{get_removed_same}
-use Rattle.linda_tuple.specs.Tuple.{Tuple}
 use Rattle.linda_hold.specs.Request.{request_of}
 use Rattle.linda_wire.specs.declared.message.Message.{Message}
 use Rattle.linda_wire.specs.declared.message.Message.TheVariants as messages
 use Rattle.linda_wire.specs.declared.reply.Reply.{Reply}
 use Rattle.linda_wire.specs.declared.reply.Reply.TheVariants as replies
-use Rattle.linda_book.specs.declared.classes.Class.{Class}
-use Rattle.linda_book.specs.declared.classes.Class.TheVariants.{Fresh, Kept, Old, Gap}
-use Rattle.linda_book.specs.Classes.{IsClass}
-use Rattle.linda_book.proofs.Meaning.{class_means}
+use Rattle.linda_wire.specs.declared.refusal.Refusal.{Refusal}
+use Rattle.linda_wire.specs.Refusal.{refused}
 use Rattle.linda_state.specs.declared.deed.Deed.{Deed}
 use Rattle.linda_state.specs.declared.deed.Deed.TheVariants as deeds
 use Rattle.linda_state.specs.Deed.{client_of, number_of}
 use Rattle.linda_state.specs.State.{State, IsState}
+use Rattle.linda_book.specs.Entries.{number_in}
+use Rattle.linda_step.specs.Judge.{number_asked}
 use Rattle.linda_step.specs.Soft.{Soft}
-use Rattle.linda_step.specs.Answer.{Answer, last_number, is_one_too_many, class_in, without_deed, on_out, out_without_deed, on_accept, accept_without_deed, take_or_pass, held_tuple, is_for, IsStep}
+use Rattle.linda_step.specs.Answer.{Answer, reply_of_kept, last_number, on_out, held_tuple, is_for, IsStep}
 use Rattle.linda_step.proofs.ApartLaws.{same_request_yes}
+use Rattle.linda_step.proofs.AnswerCourse.{Course, unnumbered, turned_down, told_again, stored, taken, passed, course_of}
 use Rattle.linda_step.proofs.NumberLaws.{allowed_out, allowed_pass}
 use Rattle.linda_promise.specs.Steps.{HoldsWhatIsThere, DoesAsAsked, comes_next, deed_behind, number_of_message, reported_deed}
 
@@ -29,15 +29,6 @@ module _ (st : State) (c : ℕ) (old : Soft) where
   abbrev IsAsked : Message → Answer → Type 0
   IsAsked m a = (d : Deed) → a.deed ≡ Some d → DoesAsAsked c m a.soft d
 
-  not_done : (m : Message) (a other : Answer) → a ≡ other → other.deed ≡ None → IsAsked m a
-  not_done m a other same none d is = absurd (none-some d (sym none ∙ sym (ap (λ (a : Answer). a.deed) same) ∙ is))
-
-  out_asked : (n : ℕ) (tuple : Tuple) (o : Option Reply) → IsAsked (messages.Out n tuple) (on_out st c n tuple o old)
-  out_asked n tuple (Some r) d is = absurd (none-some d is)
-  out_asked n tuple None d is =
-      let same = same_Some (deeds.Out c n tuple) d is in
-      record { client = ap client_of (sym same); number = ap (λ x. Some (number_of x)) same; let_go = tt }
-
   -- what is held and there could be taken
   not_held : (ticket id : ℕ) → HoldsWhatIsThere st old → held_tuple st (request_of c ticket) id old ≡ None → get old.holds id ≢ Some (request_of c ticket)
   not_held ticket id there none held =
@@ -45,96 +36,61 @@ module _ (st : State) (c : ℕ) (old : Soft) where
       let missing : get st.bag id ≡ None = sym (cond-true (is_for (request_of c ticket) (get old.holds id)) (get st.bag id) None own) ∙ none in
       true≢false (sym (there id (ap is_some held)) ∙ ap is_some missing)
 
-  taken_asked : (n ticket id : ℕ) (o : Option Tuple) → HoldsWhatIsThere st old → held_tuple st (request_of c ticket) id old ≡ o → IsAsked (messages.Accept n ticket id) (take_or_pass c n id o old)
-  taken_asked n ticket id (Some tuple) there held d is =
+  asked : HoldsWhatIsThere st old → (m : Message) (a : Answer) → Course st old c m a → IsAsked m a
+  asked there _ _ (unnumbered m told none answer) d is = absurd (none-some d is)
+  asked there _ _ (turned_down m w why demand verdict) d is = absurd (none-some d is)
+  asked there _ _ (told_again m w reply demand verdict kept) d is = absurd (none-some d is)
+  asked there _ _ (stored n tuple none) d is =
+      let same = same_Some (deeds.Out c n tuple) d is in
+      record { client = ap client_of (sym same); number = ap (λ x. Some (number_of x)) same; let_go = tt }
+  asked there _ _ (taken n ticket id row none held) d is =
       let same = same_Some (deeds.Take c n id) d is in
       record { client = ap client_of (sym same); number = ap (λ x. Some (number_of x)) same; let_go = λ h. none-some (request_of c ticket) (sym (get_removed_same old.holds id) ∙ h) }
-  taken_asked n ticket id None there held d is =
+  asked there _ _ (passed n ticket id none held) d is =
       let same = same_Some (deeds.Pass c n id) d is in
       record { client = ap client_of (sym same); number = ap (λ x. Some (number_of x)) same; let_go = not_held ticket id there held }
 
-  accept_asked : (n ticket id : ℕ) (o : Option Reply) → HoldsWhatIsThere st old → IsAsked (messages.Accept n ticket id) (on_accept st c n ticket id o old)
-  accept_asked n ticket id (Some r) there d is = absurd (none-some d is)
-  accept_asked n ticket id None there d is = taken_asked n ticket id (held_tuple st (request_of c ticket) id old) there refl d is
-
-  asked : (new : State) (m : Message) (answered : Answer) → HoldsWhatIsThere st old → IsStep st old c m answered new → IsAsked m answered
-  asked new (messages.Hello version client fresh) answered there step = not_done _ answered _ step.answer refl
-  asked new (messages.Ask ticket remove shape) answered there step = not_done _ answered _ step.answer.1.1 refl
-  asked new (messages.Cancel ticket) answered there step = not_done _ answered _ step.answer.1.1 refl
-  asked new (messages.Out n tuple) answered there step = subst (IsAsked (messages.Out n tuple)) (sym step.answer) (out_asked n tuple (out_without_deed st c n))
-  asked new (messages.Accept n ticket id) answered there step =
-      subst (IsAsked (messages.Accept n ticket id)) (sym step.answer) (accept_asked n ticket id (accept_without_deed st c n) there)
-
 -- A step does no deed but the one that is asked for.
 pub step_asked : (st new : State) (c : ℕ) (old : Soft) (m : Message) (answered : Answer) (d : Deed) → HoldsWhatIsThere st old → IsStep st old c m answered new → answered.deed ≡ Some d → DoesAsAsked c m answered.soft d
-step_asked st new c old m answered d there step = asked st c old new m answered there step d
+step_asked st new c old m answered d there step = asked st c old there m answered (course_of st old c m answered step.answer) d
 
 -- ---- how it is told
 
--- A next number that makes no deed is refused.
-record IsRefusal (r : Reply) : Type 0 where
-  code : ℕ
-  detail : ℕ
-  is : r ≡ replies.Refused code detail
+-- Nothing is reported by a refusal.
+refused_behind : (c : ℕ) (m : Message) (why : Refusal) → deed_behind c m ((c, refused why) ∷ []) ≡ None
+refused_behind c (messages.Hello version client fresh) why = refl
+refused_behind c (messages.Out n tuple) why = refl
+refused_behind c (messages.Ask ticket remove shape) why = refl
+refused_behind c (messages.Accept n ticket id) why = refl
+refused_behind c (messages.Cancel ticket) why = refl
 
-refused_next : (st : State) (c n : ℕ) (is_spent : Bool) (r : Reply) → n ≡ last_number st c + 1 → without_deed st c n is_spent (class_in st c n) ≡ Some r → IsRefusal r
-refused_next st c n is_spent r next = by (class_in st c n) (class_means (last_number st c) n)
-  where
-    by_limits : (a b : Bool) (i j k l : ℕ) → cond a (Some (replies.Refused i j)) (cond b (Some (replies.Refused k l)) None) ≡ Some r → IsRefusal r
-    by_limits true b i j k l e = record { code = i; detail = j; is = sym (same_Some _ r e) }
-    by_limits false true i j k l e = record { code = k; detail = l; is = sym (same_Some _ r e) }
-    by_limits false false i j k l e = absurd (none-some r e)
+either_none : {X : Type 0} (b : Bool) (o : Option X) → o ≡ None → None ≡ cond b o None
+either_none true o none = sym none
+either_none false o none = refl
 
-    not_old : (last : ℕ) → n ≡ last + 1 → (n ≡ 0) ⊎ (n < last) → ⊥
-    not_old last next (inl none) = omega (arith, next, none)
-    not_old last next (inr low) = omega (arith, next, low)
-
-    by : (class : Class) → IsClass (last_number st c) n class → without_deed st c n is_spent class ≡ Some r → IsRefusal r
-    by Fresh means e = by_limits (is_one_too_many st c) is_spent _ _ _ _ e
-    by Kept means e = let same = means.0 in absurd (omega (arith, next, same))
-    by (Old last) means e = absurd (not_old (last_number st c) next means.1)
-    by (Gap last) means e = let beyond = means.1 in absurd (omega (arith, next, beyond))
+not_after_itself : (n last : ℕ) → last ≡ n → (n == last + 1) ≡ false
+not_after_itself n last same = ne_eqb n (last + 1) (λ e. omega (arith, same, e))
 
 module _ (st : State) (c : ℕ) (old : Soft) (is : IsState st) where
   abbrev IsReported : Message → Answer → Type 0
   IsReported m a = a.deed ≡ reported_deed c m (last_number st c) a.sends
 
-  -- no deed is told where nothing is behind the reply
-  untold : (m : Message) (n : ℕ) (sends : List (ℕ × Reply)) → (n ≡ last_number st c + 1 → deed_behind c m sends ≡ None) → None ≡ cond (n == last_number st c + 1) (deed_behind c m sends) None
-  untold m n sends none =
-      elim (cases_Bool (n == last_number st c + 1)) [
-        | inl next ↦ sym (cond-true (n == last_number st c + 1) _ None next ∙ none (eqb-true n (last_number st c + 1) next))
-        | inr other ↦ sym (cond-false (n == last_number st c + 1) (deed_behind c m sends) None other)
-      ]
-
   told : (m : Message) (n : ℕ) (sends : List (ℕ × Reply)) → n ≡ last_number st c + 1 → deed_behind c m sends ≡ cond (n == last_number st c + 1) (deed_behind c m sends) None
   told m n sends next = sym (cond-true (n == last_number st c + 1) (deed_behind c m sends) None (eq-eqb n (last_number st c + 1) next))
 
-  out_told : (n : ℕ) (tuple : Tuple) (o : Option Reply) → out_without_deed st c n ≡ o → IsReported (messages.Out n tuple) (on_out st c n tuple o old)
-  out_told n tuple (Some r) e =
-      untold (messages.Out n tuple) n ((c, r) ∷ []) (λ next. ap (λ s. deed_behind c (messages.Out n tuple) ((c, s) ∷ [])) (refused_next st c n _ r next e).is)
-  out_told n tuple None e = told (messages.Out n tuple) n (on_out st c n tuple None old).sends (allowed_out st c n is tuple e).number
-
-  taken_told : (n ticket id : ℕ) (o : Option Tuple) → n ≡ last_number st c + 1 → IsReported (messages.Accept n ticket id) (take_or_pass c n id o old)
-  taken_told n ticket id (Some tuple) next = told (messages.Accept n ticket id) n (take_or_pass c n id (Some tuple) old).sends next
-  taken_told n ticket id None next = told (messages.Accept n ticket id) n (take_or_pass c n id None old).sends next
-
-  accept_told : (n ticket id : ℕ) (o : Option Reply) → accept_without_deed st c n ≡ o → IsReported (messages.Accept n ticket id) (on_accept st c n ticket id o old)
-  accept_told n ticket id (Some r) e =
-      untold (messages.Accept n ticket id) n ((c, r) ∷ []) (λ next. ap (λ s. deed_behind c (messages.Accept n ticket id) ((c, s) ∷ [])) (refused_next st c n _ r next e).is)
-  accept_told n ticket id None e = taken_told n ticket id (held_tuple st (request_of c ticket) id old) (allowed_pass st c n is id e).number
-
-  reported : (new : State) (m : Message) (answered : Answer) → IsStep st old c m answered new → IsReported m answered
-  reported new (messages.Hello version client fresh) answered step = ap (λ (a : Answer). a.deed) step.answer
-  reported new (messages.Ask ticket remove shape) answered step = ap (λ (a : Answer). a.deed) step.answer.1.1
-  reported new (messages.Cancel ticket) answered step = ap (λ (a : Answer). a.deed) step.answer.1.1
-  reported new (messages.Out n tuple) answered step = subst (IsReported (messages.Out n tuple)) (sym step.answer) (out_told n tuple (out_without_deed st c n) refl)
-  reported new (messages.Accept n ticket id) answered step =
-      subst (IsReported (messages.Accept n ticket id)) (sym step.answer) (accept_told n ticket id (accept_without_deed st c n) refl)
+  reported : (m : Message) (a : Answer) → Course st old c m a → IsReported m a
+  reported _ _ (unnumbered m told none answer) = sym (ap (λ o. cond (comes_next (number_asked o) (last_number st c)) (deed_behind c m told.sends) None) none)
+  reported _ _ (turned_down m d why asked verdict) = either_none (comes_next (number_of_message m) (last_number st c)) (deed_behind c m ((c, refused why) ∷ [])) (refused_behind c m why)
+  reported _ _ (told_again m d reply asked verdict kept) =
+      sym (ap (λ o. cond (comes_next (number_asked o) (last_number st c)) (deed_behind c m ((c, reply_of_kept d.n reply) ∷ [])) None) asked
+      ∙ cond-false (d.n == last_number st c + 1) (deed_behind c m ((c, reply_of_kept d.n reply) ∷ [])) None (not_after_itself d.n (last_number st c) (ap number_in kept)))
+  reported _ _ (stored n tuple none) = told (messages.Out n tuple) n (on_out st c n tuple None old).sends (allowed_out st c n is tuple none).number
+  reported _ _ (taken n ticket id row none held) = told (messages.Accept n ticket id) n ((c, replies.Taken n id row) ∷ []) (allowed_pass st c n is none id).number
+  reported _ _ (passed n ticket id none held) = told (messages.Accept n ticket id) n ((c, replies.Gone n) ∷ []) (allowed_pass st c n is none id).number
 
 -- The deed of a step is the one that is reported.
 pub step_reported : (st new : State) (c : ℕ) (old : Soft) (m : Message) (answered : Answer) → IsState st → IsStep st old c m answered new → answered.deed ≡ reported_deed c m (last_number st c) answered.sends
-step_reported st new c old m answered is step = reported st c old is new m answered step
+step_reported st new c old m answered is step = reported st c old is m answered (course_of st old c m answered step.answer)
 
 -- What is reported by these numbers and sends is the deed of the step that has them.
 pub as_reported : (c : ℕ) (m : Message) (last : ℕ) (sends : List (ℕ × Reply)) (o : Option Deed) → o ≡ reported_deed c m last sends → (st new : State) (old : Soft) (answered : Answer)

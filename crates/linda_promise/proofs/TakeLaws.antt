@@ -1,5 +1,5 @@
 -- What a Take of a list takes was put before it, and is taken by it alone; and what a Taken and a Gone report.
-use Rattle.std.proofs.Common.{◌≡◌, ℕ, zero, suc, ◌+◌, ◌-◌, ◌<◌, ◌≤◌, nat_lt, Bool, true, false, true≢false, cond, ◌||◌, ◌==◌, List, [], ◌∷◌, ◌++◌, length, filter, take, drop, Option, Some, None, is_some, IsSome, All, Contains, slice_get, refl, sym, ap, ◌∙◌, subst, arith, eq-eqb, ltb-false, drop-cons, zero-lt-suc, get_or, ◌⊎◌, inl, inr}
+use Rattle.std.proofs.Common.{◌≡◌, ℕ, zero, suc, ◌+◌, ◌-◌, ◌<◌, ◌≤◌, nat_lt, Bool, true, false, true≢false, cond, ◌==◌, List, [], ◌∷◌, ◌++◌, length, filter, take, drop, Option, Some, None, is_some, IsSome, All, Contains, slice_get, refl, sym, ap, ◌∙◌, subst, arith, eq-eqb, ltb-false, drop-cons, zero-lt-suc, get_or, ◌⊎◌, inl, inr}
 use Rattle.std.proofs.lemmas.Bool.{or_left, or_right}
 use Rattle.std.proofs.lemmas.Option.{none-some, slice_get_within}
 use Rattle.std.proofs.lemmas.List.{take-append-drop, take_more}
@@ -10,11 +10,11 @@ use Rattle.linda_tuple.specs.Tuple.{Tuple}
 use Rattle.linda_wire.specs.declared.reply.Reply.TheVariants as replies
 use Rattle.linda_state.specs.declared.deed.Deed.{Deed}
 use Rattle.linda_state.specs.declared.deed.Deed.TheVariants.{Out, Take, Pass}
-use Rattle.linda_state.specs.Deed.{client_of, number_of, outs_of, is_taken}
+use Rattle.linda_state.specs.Deed.{client_of, number_of, takes, outs_of, is_taken}
 use Rattle.linda_state.specs.State.{empty_state}
 use Rattle.linda_state.specs.After.{bag_after, taken_reply, reply_of_deed}
 use Rattle.linda_state.specs.Proper.{IsProper}
-use Rattle.linda_state.specs.Once.{takes, IsTakenOnce}
+use Rattle.linda_state.specs.Once.{IsTakenOnce}
 use Rattle.linda_state.proofs.StateLaws.{empty_is_state}
 use Rattle.linda_state.proofs.DeedLaws.{outs_of-joined, is_taken-joined, slice_get-front}
 use Rattle.linda_state.proofs.AfterLaws.{taken_id}
@@ -81,7 +81,7 @@ put_before before later id tuple e = by (is_taken id before) (nat_lt id 1) refl 
 take_finds : (before later : List Deed) (c n id : ℕ) → IsProper empty_state (before ++ Take c n id ∷ later) → IsSome (bag_after empty_state before id)
 take_finds before later c n id proper =
     let there = reached empty_state before empty_is_state (front_proper empty_state before (Take c n id ∷ later) proper) in
-    let room : IsSome (get there.new.bag id) = (proper before (Take c n id) later there.new refl there.after).room in
+    let room : IsSome (get there.new.bag id) = (proper before (Take c n id) later there.new refl there.after).room.1 in
     subst (λ o. IsSome o) (there.after.bag id) room
 
 -- What is taken in a list is in no bag behind it.

@@ -1,20 +1,14 @@
 -- Replies that were sent, and what is known of them while more is done: they are kept until the client goes on.
 use Rattle.std.specs.Prelude.{◌≡◌, ℕ, ◌<◌, ◌⊎◌, true}
 use Rattle.linda_wire.specs.declared.reply.Reply.{Reply}
-use Rattle.linda_wire.specs.declared.reply.Reply.TheVariants as replies
+use Rattle.linda_book.specs.Entries.{number_in}
 use Rattle.linda_state.specs.State.{State}
 use Rattle.linda_step.specs.Answer.{last_number}
-use Rattle.linda_promise.specs.Replies.{reports_deed, KeepsReply}
+use Rattle.linda_promise.specs.Replies.{kept_in, reports_deed, KeepsReply}
 
 -- the number of the deed that a reply reports, 0 where it reports none
 abbrev pub number_in_reply : Reply → ℕ
-number_in_reply (replies.Welcome last) = 0
-number_in_reply (replies.Stored n id) = n
-number_in_reply (replies.Taken n id tuple) = n
-number_in_reply (replies.Gone n) = n
-number_in_reply (replies.Offer ticket id tuple) = 0
-number_in_reply (replies.Read ticket id tuple) = 0
-number_in_reply (replies.Refused code detail) = 0
+number_in_reply r = number_in (kept_in r)
 
 -- What is sent to a client is covered: where it reports a deed, the client's last number is a later one, or the book
 -- has that very reply for it.

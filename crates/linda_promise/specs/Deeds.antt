@@ -5,10 +5,9 @@ use Rattle.linda_tuple.specs.Tuple.{Tuple}
 use Rattle.linda_book.specs.Entries.{number_in}
 use Rattle.linda_state.specs.declared.deed.Deed.{Deed}
 use Rattle.linda_state.specs.declared.deed.Deed.TheVariants.{Take, Pass}
-use Rattle.linda_state.specs.Deed.{client_of, number_of, outs_of}
+use Rattle.linda_state.specs.Deed.{client_of, number_of, takes, outs_of}
 use Rattle.linda_state.specs.State.{empty_state}
 use Rattle.linda_state.specs.After.{bag_after, book_after}
-use Rattle.linda_state.specs.Once.{takes}
 
 -- the number of a client's last deed, 0 where it did none
 abbrev pub last_in : List Deed → ℕ → ℕ

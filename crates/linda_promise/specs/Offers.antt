@@ -54,10 +54,5 @@ pub record OffersWhatIsSought (bag : Bagged) (x : Coming) (old : Soft) (sends : 
 
 -- whether the reply is an offer
 abbrev pub is_offer : Reply → Bool
-is_offer (replies.Welcome last) = false
-is_offer (replies.Stored n id) = false
-is_offer (replies.Taken n id tuple) = false
-is_offer (replies.Gone n) = false
 is_offer (replies.Offer ticket id tuple) = true
-is_offer (replies.Read ticket id tuple) = false
-is_offer (replies.Refused code detail) = false
+is_offer _ = false

@@ -1,8 +1,9 @@
 -- Replies that report a deed: Stored, Taken and Gone; where they are kept, and of which deed they tell.
-use Rattle.std.specs.Prelude.{◌≡◌, ℕ, Bool, true, false, List, ◌∷◌, ◌++◌, All, Some}
+use Rattle.std.specs.Prelude.{◌≡◌, ℕ, Bool, true, List, ◌∷◌, ◌++◌, All, Option, Some, None, is_some}
 use Rattle.std.specs.FinMap as map
 use Rattle.linda_wire.specs.declared.reply.Reply.{Reply}
 use Rattle.linda_wire.specs.declared.reply.Reply.TheVariants as replies
+use Rattle.linda_book.specs.declared.kept.KeptReply.TheVariants as kept
 use Rattle.linda_book.specs.Entries.{Entry}
 use Rattle.linda_state.specs.declared.deed.Deed.{Deed}
 use Rattle.linda_state.specs.Deed.{client_of, number_of}
@@ -10,15 +11,16 @@ use Rattle.linda_state.specs.State.{State, empty_state}
 use Rattle.linda_state.specs.After.{reply_of_deed}
 use Rattle.linda_step.specs.Answer.{reply_of_kept}
 
+-- the number and the kept reply that a reply sends, if it reports a deed
+abbrev pub kept_in : Reply → Option Entry
+kept_in (replies.Stored n id) = Some (n, kept.Stored id)
+kept_in (replies.Taken n id tuple) = Some (n, kept.Taken id tuple)
+kept_in (replies.Gone n) = Some (n, kept.Gone)
+kept_in _ = None
+
 -- whether a deed stands behind the reply
 abbrev pub reports_deed : Reply → Bool
-reports_deed (replies.Welcome last) = false
-reports_deed (replies.Stored n id) = true
-reports_deed (replies.Taken n id tuple) = true
-reports_deed (replies.Gone n) = true
-reports_deed (replies.Offer ticket id tuple) = false
-reports_deed (replies.Read ticket id tuple) = false
-reports_deed (replies.Refused code detail) = false
+reports_deed r = is_some (kept_in r)
 
 -- The book of this state has the reply for its client.
 pub record KeepsReply (st : State) (c : ℕ) (r : Reply) : Type 0 where

@@ -1,6 +1,6 @@
 -- Which deed a step does for a message, and how it is told from the reply.
 use Rattle.std.specs.Prelude.{◌≡◌, ◌≢◌, ℕ, ◌+◌, ◌==◌, Bool, false, if◌then◌else◌}
-use Rattle.std.specs.Prelude.{List, [], ◌∷◌, Option, Some, None, IsSome}
+use Rattle.std.specs.Prelude.{List, ◌∷◌, Option, Some, None, IsSome}
 use Rattle.std.specs.FinMap as map
 use Rattle.linda_hold.specs.Request.{request_of}
 use Rattle.linda_wire.specs.declared.message.Message.{Message}
@@ -11,23 +11,13 @@ use Rattle.linda_state.specs.declared.deed.Deed.{Deed}
 use Rattle.linda_state.specs.declared.deed.Deed.TheVariants as deeds
 use Rattle.linda_state.specs.Deed.{client_of, number_of}
 use Rattle.linda_state.specs.State.{State}
+pub use Rattle.linda_step.specs.Judge.{number_of_message}
 use Rattle.linda_step.specs.Soft.{Soft}
-
--- the number that a message bears, if it bears one
-abbrev pub number_of_message : Message → Option ℕ
-number_of_message (messages.Hello version client fresh) = None
-number_of_message (messages.Out n tuple) = Some n
-number_of_message (messages.Ask ticket remove template) = None
-number_of_message (messages.Accept n ticket id) = Some n
-number_of_message (messages.Cancel ticket) = None
 
 -- What an Accept names is held no longer for its request.
 abbrev pub LetsGo : ℕ → Message → Soft → Type 0
-LetsGo c (messages.Hello version client fresh) soft = Unit {0}
-LetsGo c (messages.Out n tuple) soft = Unit {0}
-LetsGo c (messages.Ask ticket remove template) soft = Unit {0}
 LetsGo c (messages.Accept n ticket id) soft = map.get soft.holds id ≢ Some (request_of c ticket)
-LetsGo c (messages.Cancel ticket) soft = Unit {0}
+LetsGo c _ soft = Unit {0}
 
 -- The deed does what the client's message asks: it is the client's, it bears the message's number, and an offer that
 -- was accepted is let go.

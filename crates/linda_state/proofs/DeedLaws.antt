@@ -1,27 +1,23 @@
 -- Lists of deeds, one after the other: what they put and take, and who did the last.
-use Rattle.std.proofs.Common.{◌≡◌, ℕ, zero, suc, ◌+◌, ◌<◌, Bool, true, false, ◌||◌, ◌==◌, List, [], ◌∷◌, ◌++◌, length, Option, Some, None, slice_get, refl, ap, ◌∙◌, arith}
-use Rattle.linda_tuple.specs.Tuple.{Tuple}
+use Rattle.std.proofs.Common.{◌≡◌, ℕ, zero, suc, ◌+◌, ◌<◌, true, ◌||◌, List, [], ◌∷◌, ◌++◌, length, Option, Some, None, slice_get, refl, ap, sym, ◌∙◌, arith, eqb-true}
+use Rattle.std.proofs.lemmas.Bool.{true≢false}
+use Rattle.std.proofs.lemmas.List.Elements.{filter_map-append}
+use Rattle.std.proofs.lemmas.List.Folds.{list_any-append}
 use Rattle.linda_state.specs.declared.deed.Deed.{Deed}
-use Rattle.linda_state.specs.declared.deed.Deed.TheVariants.{Out, Take, Pass}
-use Rattle.linda_state.specs.Deed.{outs_of, is_taken, last_with, last_of}
+use Rattle.linda_state.specs.Deed.{put_by, is_id, takes, outs_of, is_taken, last_with, last_of}
 
 -- Tuples are put by the first list, then by the second.
 pub outs_of-joined : (ds es : List Deed) → outs_of (ds ++ es) ≡ outs_of ds ++ outs_of es
-outs_of-joined [] es = refl
-outs_of-joined (Out c n t ∷ ds) es = ap (λ (l : List Tuple). t ∷ l) (outs_of-joined ds es)
-outs_of-joined (Take c n id ∷ ds) es = outs_of-joined ds es
-outs_of-joined (Pass c n id ∷ ds) es = outs_of-joined ds es
-
-or_assoc : (a b c : Bool) → (a || (b || c)) ≡ ((a || b) || c)
-or_assoc true b c = refl
-or_assoc false b c = refl
+outs_of-joined ds es = filter_map-append put_by ds es
 
 -- A tuple is taken by one of the lists.
 pub is_taken-joined : (id : ℕ) (ds es : List Deed) → is_taken id (ds ++ es) ≡ (is_taken id ds || is_taken id es)
-is_taken-joined id [] es = refl
-is_taken-joined id (Out c n t ∷ ds) es = is_taken-joined id ds es
-is_taken-joined id (Take c n taken ∷ ds) es = ap (λ b. (taken == id) || b) (is_taken-joined id ds es) ∙ or_assoc (taken == id) (is_taken id ds) (is_taken id es)
-is_taken-joined id (Pass c n passed ∷ ds) es = is_taken-joined id ds es
+is_taken-joined id ds es = list_any-append (takes id) ds es
+
+-- What a deed takes is the tuple that it names.
+pub taken_is : (id : ℕ) (o : Option ℕ) → is_id id o ≡ true → o ≡ Some id
+taken_is id None never = absurd (true≢false (sym never))
+taken_is id (Some other) same = ap Some (eqb-true other id same)
 
 -- the last deed of a client in `ds` and then more, given its last deed in what comes later
 abbrev pub last_later : ℕ → List Deed → Option (List Deed × Deed) → Option (List Deed × Deed)

@@ -9,23 +9,29 @@ use Rattle.linda_bag.proofs.Maps.{get_inserted, get_same, get_other, get_removed
 use Rattle.linda_state.specs.declared.deed.Deed.{Deed}
 use Rattle.linda_state.specs.declared.deed.Deed.TheVariants.{Out, Take, Pass}
 use Rattle.linda_book.specs.declared.kept.KeptReply.TheVariants as kept
-use Rattle.linda_state.specs.Deed.{client_of, number_of, outs_of, is_taken}
+use Rattle.linda_state.specs.Deed.{client_of, number_of, put_by, taken_by, outs_of, is_taken}
 use Rattle.linda_book.specs.Entries.{Entry, number_in}
 use Rattle.linda_state.specs.State.{State, IsState}
 use Rattle.linda_state.specs.After.{IsAfter, bag_after, taken_reply, reply_of_deed}
-use Rattle.linda_state.specs.Proper.{HasRoom, IsAllowed}
+use Rattle.linda_state.specs.Proper.{IsAllowed}
 use Rattle.linda_state.proofs.AfterLaws.{none_after, one_after, put_after, none_from_next, old_id, new_id, taken_id, tuple_after_put, entry_after_one}
 
--- The bag and the next id after a deed, as changes of maps and numbers.
+-- The bag and the next id where a tuple is put, or one is taken, or neither, as changes of maps and numbers.
+abbrev bag_by : State → Option Tuple → Option ℕ → FinMap nat_cmp Tuple
+bag_by st (Some tuple) taken = insert st.bag st.next tuple
+bag_by st None (Some id) = remove st.bag id
+bag_by st None None = st.bag
+
+abbrev next_by : State → Option Tuple → ℕ
+next_by st (Some tuple) = st.next + 1
+next_by st None = st.next
+
+-- They after a deed.
 abbrev pub bag_done : State → Deed → FinMap nat_cmp Tuple
-bag_done st (Out c n tuple) = insert st.bag st.next tuple
-bag_done st (Take c n id) = remove st.bag id
-bag_done st (Pass c n id) = st.bag
+bag_done st d = bag_by st (put_by d) (taken_by d)
 
 abbrev pub next_done : State → Deed → ℕ
-next_done st (Out c n tuple) = st.next + 1
-next_done st (Take c n id) = st.next
-next_done st (Pass c n id) = st.next
+next_done st d = next_by st (put_by d)
 
 -- The state that a deed leads to.
 abbrev pub done : State → Deed → State
@@ -73,8 +79,8 @@ if_some None P Q none f = tt
 if_some (Some x) P Q some f = f some
 
 -- Ids stay in range.
-ids_done : (st : State) (d : Deed) → IsState st → (id : ℕ) → IfSome (get (bag_done st d) id) (λ _. (1 ≤ id) × (id < next_done st d))
-ids_done st (Out c n tuple) is id =
+ids_by : (st : State) (put : Option Tuple) (gone : Option ℕ) → IsState st → (id : ℕ) → IfSome (get (bag_by st put gone) id) (λ _. (1 ≤ id) × (id < next_by st put))
+ids_by st (Some tuple) gone is id =
     elim (cases_eq id st.next) [
       | inl here ↦
           let low = is.next_low in
@@ -82,26 +88,24 @@ ids_done st (Out c n tuple) is id =
       | inr apart ↦
           subst (λ o. IfSome o (λ _. (1 ≤ id) × (id < st.next + 1))) (sym (get_other st.bag st.next tuple id apart)) (if_some (get st.bag id) _ _ (is.ids id) (λ p. (p.0, omega (arith, p.1))))
     ]
-ids_done st (Take c n taken) is id =
+ids_by st None (Some taken) is id =
     elim (cases_eq id taken) [
       | inl here ↦ subst (λ o. IfSome o (λ _. (1 ≤ id) × (id < st.next))) (sym (ap (get (remove st.bag taken)) here ∙ get_removed_same st.bag taken)) tt
       | inr apart ↦ subst (λ o. IfSome o (λ _. (1 ≤ id) × (id < st.next))) (sym (get_removed_other st.bag taken id apart)) (is.ids id)
     ]
-ids_done st (Pass c n passed) is id = is.ids id
+ids_by st None None is id = is.ids id
 
 -- The next id stays in range.
 up_to : (a limit : ℕ) → a < limit → a + 1 ≤ limit
 up_to a limit below = omega arith
 
-next_low_done : (st : State) (d : Deed) → 1 ≤ st.next → 1 ≤ next_done st d
-next_low_done st (Out c n tuple) low = omega arith
-next_low_done st (Take c n id) low = low
-next_low_done st (Pass c n id) low = low
+next_low_by : (st : State) (put : Option Tuple) → 1 ≤ st.next → 1 ≤ next_by st put
+next_low_by st (Some tuple) low = omega arith
+next_low_by st None low = low
 
-next_high_done : (st : State) (d : Deed) → st.next ≤ NUMBER_LIMIT → HasRoom st d → next_done st d ≤ NUMBER_LIMIT
-next_high_done st (Out c n tuple) high room = up_to st.next NUMBER_LIMIT room
-next_high_done st (Take c n id) high room = high
-next_high_done st (Pass c n id) high room = high
+next_high_by : (st : State) (put : Option Tuple) → st.next ≤ NUMBER_LIMIT → IfSome put (λ _. st.next < NUMBER_LIMIT) → next_by st put ≤ NUMBER_LIMIT
+next_high_by st (Some tuple) high room = up_to st.next NUMBER_LIMIT room
+next_high_by st None high room = high
 
 -- Kept numbers stay in range, and so does the number of clients.
 number_low : (n before : ℕ) → n ≡ before + 1 → 1 ≤ n
@@ -128,9 +132,9 @@ clients_kept book c e few room = by_entry (get book c) refl
 pub done_state : (st : State) (d : Deed) → IsState st → IsAllowed st d → IsState (done st d)
 done_state st d is allowed =
     record {
-      next_low = next_low_done st d is.next_low;
-      next_high = next_high_done st d is.next_high allowed.room;
-      ids = ids_done st d is;
+      next_low = next_low_by st (put_by d) is.next_low;
+      next_high = next_high_by st (put_by d) is.next_high allowed.room.0;
+      ids = ids_by st (put_by d) (taken_by d) is;
       numbers = numbers_done st d is allowed;
       clients = clients_kept st.book (client_of d) (number_of d, reply_of_deed st [] d) is.clients allowed.client;
     }

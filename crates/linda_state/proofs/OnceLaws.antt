@@ -1,13 +1,13 @@
 -- Over a proper list of deeds no tuple is taken twice.
-use Rattle.std.proofs.Common.{◌≡◌, ℕ, ◌≤◌, Bool, true, false, true≢false, cond, ◌||◌, List, [], ◌∷◌, ◌++◌, length, filter, IsSome, is_some, refl, sym, ap, ◌∙◌, subst, append_assoc, eqb-true, arith}
+use Rattle.std.proofs.Common.{◌≡◌, ℕ, ◌≤◌, Bool, true, false, true≢false, cond, ◌||◌, List, [], ◌∷◌, ◌++◌, length, filter, IfSome, IsSome, is_some, refl, sym, ap, ◌∙◌, subst, append_assoc, arith}
 use Rattle.std.specs.List.{list_any}
 use Rattle.std.specs.FinMap.{get}
 use Rattle.linda_state.specs.declared.deed.Deed.{Deed}
-use Rattle.linda_state.specs.declared.deed.Deed.TheVariants.{Out, Take, Pass}
-use Rattle.linda_state.specs.Deed.{is_taken}
+use Rattle.linda_state.specs.Deed.{taken_by, takes, is_taken}
 use Rattle.linda_state.specs.State.{State, IsState}
 use Rattle.linda_state.specs.Proper.{IsProper}
-use Rattle.linda_state.specs.Once.{takes, IsTakenOnce}
+use Rattle.linda_state.specs.Once.{IsTakenOnce}
+use Rattle.linda_state.proofs.DeedLaws.{taken_is}
 use Rattle.linda_state.proofs.AfterLaws.{taken_id}
 use Rattle.linda_state.proofs.ProperLaws.{Reaches, reached, front_proper}
 
@@ -47,30 +47,20 @@ module _ {X : Type 0} (t : X → Bool) where
         | false ↦ λ e. once xs (λ before y later parts passes. or_false (t x) (list_any t before) (first (x ∷ before) y later (ap (λ l. x ∷ l) parts) passes))
       ] refl
 
--- whether some deed takes it, said twice
-same_taken : (id : ℕ) (ds : List Deed) → list_any (takes id) ds ≡ is_taken id ds
-same_taken id [] = refl
-same_taken id (Out c n tuple ∷ ds) = same_taken id ds
-same_taken id (Take c n taken ∷ ds) = ap (λ b. takes id (Take c n taken) || b) (same_taken id ds)
-same_taken id (Pass c n passed ∷ ds) = same_taken id ds
-
 -- What a deed takes was not taken before.
 not_before : (st : State) (before : List Deed) (d : Deed) (later : List Deed) (id : ℕ) → IsState st → IsProper st (before ++ d ∷ later) → takes id d ≡ true → is_taken id before ≡ false
-not_before st before (Out c n tuple) later id is proper taken = absurd (true≢false (sym taken))
-not_before st before (Pass c n passed) later id is proper taken = absurd (true≢false (sym taken))
-not_before st before (Take c n gone) later id is proper taken = by (is_taken id before) refl
+not_before st before d later id is proper named = by (is_taken id before) refl
   where
     there : Reaches st before
-    there = reached st before is (front_proper st before (Take c n gone ∷ later) proper)
+    there = reached st before is (front_proper st before (d ∷ later) proper)
 
-    room : IsSome (get there.new.bag gone)
-    room = (proper before (Take c n gone) later there.new refl there.after).room
+    room : IsSome (get there.new.bag id)
+    room = subst (λ o. IfSome o (λ i. IsSome (get there.new.bag i))) (taken_is id (taken_by d) named) (proper before d later there.new refl there.after).room.1
 
     by : (b : Bool) → is_taken id before ≡ b → b ≡ false
     by false e = refl
-    by true e =
-        absurd (true≢false (sym room ∙ ap is_some (there.after.bag gone ∙ taken_id st before gone (ap (λ i. is_taken i before) (eqb-true gone id taken) ∙ e))))
+    by true e = absurd (true≢false (sym room ∙ ap is_some (there.after.bag id ∙ taken_id st before id e)))
 
 pub taken_once : (st : State) (ds : List Deed) → IsState st → IsProper st ds → IsTakenOnce ds
 taken_once st ds is proper id =
-    once (takes id) ds (λ before d later parts taken. same_taken id before ∙ not_before st before d later id is (subst (IsProper st) parts proper) taken)
+    once (takes id) ds (λ before d later parts named. not_before st before d later id is (subst (IsProper st) parts proper) named)

@@ -1,14 +1,13 @@
 -- Lists of deeds that a server can do: there is a state after them, and it keeps the ranges of states.
-use Rattle.std.proofs.Common.{◌≡◌, ℕ, ◌+◌, ◌<◌, ◌≤◌, true, false, ◌==◌, List, [], ◌∷◌, ◌++◌, length, Option, Some, None, IfSome, is_some, ◌⊎◌, inl, inr, refl, ap, sym, ◌∙◌, subst, arith, append_assoc, append-nil, length-append, eqb-true}
+use Rattle.std.proofs.Common.{◌≡◌, ℕ, ◌+◌, ◌<◌, ◌≤◌, true, false, List, [], ◌∷◌, ◌++◌, length, Option, Some, None, IfSome, IsSome, is_some, ◌⊎◌, inl, inr, refl, ap, sym, ◌∙◌, subst, arith, append_assoc, append-nil, length-append}
 use Rattle.std.proofs.lemmas.Bool.{or_cases, true≢false}
 use Rattle.std.specs.FinMap.{get}
 use Rattle.linda_state.specs.declared.deed.Deed.{Deed}
-use Rattle.linda_state.specs.declared.deed.Deed.TheVariants.{Out, Take, Pass}
-use Rattle.linda_state.specs.Deed.{outs_of, is_taken}
+use Rattle.linda_state.specs.Deed.{taken_by, takes, outs_of, is_taken}
 use Rattle.linda_state.specs.State.{State, IsState}
 use Rattle.linda_state.specs.After.{IsAfter}
 use Rattle.linda_state.specs.Proper.{HasRoom, IsAllowed, IsProper, AreDone}
-use Rattle.linda_state.proofs.DeedLaws.{outs_of-joined, is_taken-joined}
+use Rattle.linda_state.proofs.DeedLaws.{outs_of-joined, is_taken-joined, taken_is}
 use Rattle.linda_state.proofs.AfterLaws.{TakesBelow, none_after, one_after, more_after}
 use Rattle.linda_state.proofs.DoneLaws.{done, done_after, done_state}
 
@@ -57,13 +56,13 @@ from_some None P some is = absurd (true≢false (sym is))
 from_some (Some x) P some is = some
 
 one_taken : (st : State) (d : Deed) (id : ℕ) → IsState st → HasRoom st d → is_taken id (d ∷ []) ≡ true → id < st.next
-one_taken st (Out c n tuple) id is room taken = absurd (true≢false (sym taken))
-one_taken st (Take c n gone) id is room taken =
-    elim (or_cases (gone == id) false taken) [
-      | inl same ↦ subst (λ i. i < st.next) (eqb-true gone id same) (from_some (get st.bag gone) ((1 ≤ gone) × (gone < st.next)) (is.ids gone) room).1
+one_taken st d id is room taken =
+    elim (or_cases (takes id d) false taken) [
+      | inl named ↦
+          let there = subst (λ o. IfSome o (λ i. IsSome (get st.bag i))) (taken_is id (taken_by d) named) room.1 in
+          (from_some (get st.bag id) ((1 ≤ id) × (id < st.next)) (is.ids id) there).1
       | inr never ↦ absurd (true≢false (sym never))
     ]
-one_taken st (Pass c n passed) id is room taken = absurd (true≢false (sym taken))
 
 takes_more : (st mid : State) (ds : List Deed) (d : Deed) → TakesBelow st ds → IsAfter st ds mid → IsState mid → IsAllowed mid d → TakesBelow st (ds ++ d ∷ [])
 takes_more st mid ds d below after is allowed id taken =

@@ -1,26 +1,18 @@
 -- Which lists of deeds a server can do.
-use Rattle.std.specs.Prelude.{◌≡◌, ℕ, ◌+◌, ◌<◌, List, ◌∷◌, ◌++◌, None, IsSome}
+use Rattle.std.specs.Prelude.{◌≡◌, ◌+◌, ◌<◌, List, ◌∷◌, ◌++◌, None, IsSome, IfSome}
 use Rattle.std.specs.FinMap as map
 use Rattle.linda_wire.specs.declared.limits.TheConstants.{MAX_CLIENTS}
 use Rattle.linda_wire.specs.declared.limits.TheConstants.{NUMBER_LIMIT}
 use Rattle.linda_book.specs.Entries.{number_in}
 use Rattle.linda_state.specs.declared.deed.Deed.{Deed}
-use Rattle.linda_state.specs.declared.deed.Deed.TheVariants.{Out, Take, Pass}
-use Rattle.linda_state.specs.Deed.{client_of, number_of}
+use Rattle.linda_state.specs.Deed.{client_of, number_of, put_by, taken_by}
 use Rattle.linda_state.specs.State.{State}
 use Rattle.linda_state.specs.After.{IsAfter}
 
--- The number is the client's next one and below the limit, and there is a place for the client.
-pub record IsNext (st : State) (c n : ℕ) : Type 0 where
-  pub number : n ≡ number_in (map.get st.book c) + 1
-  pub below : n < NUMBER_LIMIT
-  pub client : map.get st.book c ≡ None → map.len st.book < MAX_CLIENTS
-
--- what a deed asks of the bag and of the next id
+-- what a deed asks of the next id, where it puts a tuple, and of the bag, where it takes one
 abbrev pub HasRoom : State → Deed → Type 0
-HasRoom st (Out client n tuple) = st.next < NUMBER_LIMIT
-HasRoom st (Take client n id) = IsSome (map.get st.bag id)
-HasRoom st (Pass client n id) = Unit {0}
+HasRoom st d =
+    IfSome (put_by d) (λ _. st.next < NUMBER_LIMIT) × IfSome (taken_by d) (λ id. IsSome (map.get st.bag id))
 
 -- The deed may be done in this state: its number is the client's next and below the limit, a new client comes
 -- only while there is a place for it, an Out only while there are ids, and a Take takes a tuple that is there.

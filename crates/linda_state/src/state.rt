@@ -10,7 +10,7 @@ ghost use Rattle.linda_book.specs.declared.kept.KeptReply.TheVariants as kept_re
 ghost use Rattle.linda_state.specs.declared.deed.Deed.TheVariants as deeds;
 ghost use Rattle.linda_state.specs.State.{IsState, empty_state};
 ghost use Rattle.linda_state.specs.After.{IsAfter};
-ghost use Rattle.linda_state.specs.Proper.{IsAllowed, IsNext};
+ghost use Rattle.linda_state.specs.Proper.{HasRoom, IsAllowed};
 
 use crate::deed::Deed;
 use linda_bag::Bag;
@@ -163,25 +163,25 @@ impl<B: Bag> State<B> {
         ensures yes { result ≡ true → IsAllowed self.now deed.now }
         ensures no { result ≡ false → IsAllowed self.now deed.now → ⊥ }
     {
-        match deed {
-            Deed::Out { client, n, .. } => { self.is_next(*client, *n) && self.next < NUMBER_LIMIT }
-            Deed::Take { client, n, id } => {
-                self.is_next(*client, *n) && self.bag.get(*id).is_some()
-            }
-            Deed::Pass { client, n, .. } => self.is_next(*client, *n),
-        }
-    }
-
-    // Whether the number is the client's next one and below the limit, and there is a place for the client.
-    fn is_next(&self, client: u32, n: u64) -> bool
-        ensures yes { result ≡ true → IsNext self.now client n }
-        ensures no { result ≡ false → IsNext self.now client n → ⊥ }
-    {
-        let last = self.book.last(client);
+        let client = deed.client();
+        let n = deed.number();
         n > 0
-            && n - 1 == last
+            && n - 1 == self.book.last(client)
             && n < NUMBER_LIMIT
             && (self.book.len() < MAX_CLIENTS || self.book.kept(client).is_some())
+            && self.has_room(deed)
+    }
+
+    // Whether there is an id for the tuple that the deed puts, and the tuple that it takes.
+    fn has_room(&self, deed: &Deed) -> bool
+        ensures yes { result ≡ true → HasRoom self.now deed.now }
+        ensures no { result ≡ false → HasRoom self.now deed.now → ⊥ }
+    {
+        match deed {
+            Deed::Out { .. } => self.next < NUMBER_LIMIT,
+            Deed::Take { id, .. } => self.bag.get(*id).is_some(),
+            Deed::Pass { .. } => true,
+        }
     }
 }
 

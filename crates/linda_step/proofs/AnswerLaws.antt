@@ -19,10 +19,11 @@ use Rattle.linda_step.specs.Dispatch.{Sends, on_cancel}
 use Rattle.linda_step.specs.Asking.{on_ask, AnswersAsk, AnswersCancel}
 use Rattle.linda_state.specs.After.{IsAfter}
 use Rattle.linda_state.specs.Proper.{IsAllowed, IsProper}
-use Rattle.linda_step.specs.Answer.{Answer, only_sends, on_out, out_without_deed, on_accept, accept_without_deed, take_or_pass, is_for, held_tuple, Tells, IsAnswer, IsStep}
+use Rattle.linda_step.specs.Answer.{Answer, only_sends, is_for, held_tuple, Tells, IsAnswer, IsStep}
 use Rattle.linda_state.proofs.AfterLaws.{none_after, one_after, more_after}
 use Rattle.linda_state.proofs.DoneLaws.{one_state}
 use Rattle.linda_step.proofs.LookingLaws.{one_least, one_held}
+use Rattle.linda_step.proofs.AnswerCourse.{Course, unnumbered, turned_down, told_again, stored, taken, passed, course_of}
 use Rattle.linda_step.proofs.NumberLaws.{allowed_out, allowed_take, allowed_pass}
 use Rattle.linda_state.proofs.ProperLaws.{more_proper, takes_below, proper_state}
 
@@ -34,31 +35,18 @@ held_there st request id soft row = by (is_for request (get soft.holds id))
     by true some = some
     by false none = absurd (none-some row none)
 
-out_deed : (st : State) (c n : ℕ) (tuple : Tuple) (reply : Option Reply) (soft : Soft) (d : Deed) → (on_out st c n tuple reply soft).deed ≡ Some d → (reply ≡ None) × (deeds.Out c n tuple ≡ d)
-out_deed st c n tuple (Some r) soft d is = absurd (none-some d is)
-out_deed st c n tuple None soft d is = (refl, same_Some (deeds.Out c n tuple) d is)
-
-accept_deed : (st : State) (c n ticket id : ℕ) (soft : Soft) (d : Deed) → IsState st → (on_accept st c n ticket id (accept_without_deed st c n) soft).deed ≡ Some d → IsAllowed st d
-accept_deed st c n ticket id soft d ranges = by (accept_without_deed st c n) refl
-  where
-    deed_of : (row : Option Tuple) → held_tuple st (request_of c ticket) id soft ≡ row → accept_without_deed st c n ≡ None → (take_or_pass c n id row soft).deed ≡ Some d → IsAllowed st d
-    deed_of (Some row) held none is =
-        subst (IsAllowed st) (same_Some (deeds.Take c n id) d is) (allowed_take st c n ranges id none (ap is_some (held_there st (request_of c ticket) id soft row held)))
-    deed_of None held none is = subst (IsAllowed st) (same_Some (deeds.Pass c n id) d is) (allowed_pass st c n ranges id none)
-
-    by : (reply : Option Reply) → accept_without_deed st c n ≡ reply → (on_accept st c n ticket id reply soft).deed ≡ Some d → IsAllowed st d
-    by (Some reply) e is = absurd (none-some d is)
-    by None e is = deed_of (held_tuple st (request_of c ticket) id soft) refl e is
-
 -- The deed of an answer is allowed.
 pub answer_allowed : (st : State) (soft : Soft) (c : ℕ) (m : Message) (answered : Answer) (d : Deed) → IsState st → IsAnswer st soft c m answered → answered.deed ≡ Some d → IsAllowed st d
-answer_allowed st soft c (Hello version client fresh) answered d ranges answer is = absurd (none-some d (sym (ap (λ (a : Answer). a.deed) answer) ∙ is))
-answer_allowed st soft c (Ask ticket remove template) answered d ranges answer is = absurd (none-some d (sym (ap (λ (a : Answer). a.deed) answer.1.1) ∙ is))
-answer_allowed st soft c (Cancel ticket) answered d ranges answer is = absurd (none-some d (sym (ap (λ (a : Answer). a.deed) answer.1.1) ∙ is))
-answer_allowed st soft c (Accept n ticket id) answered d ranges answer is = accept_deed st c n ticket id soft d ranges (sym (ap (λ (a : Answer). a.deed) answer) ∙ is)
-answer_allowed st soft c (Out n tuple) answered d ranges answer is =
-    let found = out_deed st c n tuple (out_without_deed st c n) soft d (sym (ap (λ (a : Answer). a.deed) answer) ∙ is) in
-    subst (IsAllowed st) found.1 (allowed_out st c n ranges tuple found.0)
+answer_allowed st soft c m answered d ranges answer = by m answered (course_of st soft c m answered answer)
+  where
+    by : (m : Message) (a : Answer) → Course st soft c m a → a.deed ≡ Some d → IsAllowed st d
+    by _ _ (unnumbered m told none answer) is = absurd (none-some d is)
+    by _ _ (turned_down m w why asked verdict) is = absurd (none-some d is)
+    by _ _ (told_again m w reply asked verdict kept) is = absurd (none-some d is)
+    by _ _ (stored n tuple none) is = subst (IsAllowed st) (same_Some (deeds.Out c n tuple) d is) (allowed_out st c n ranges tuple none)
+    by _ _ (taken n ticket id row none held) is =
+        subst (IsAllowed st) (same_Some (deeds.Take c n id) d is) (allowed_take st c n ranges none id (ap is_some (held_there st (request_of c ticket) id soft row held)))
+    by _ _ (passed n ticket id none held) is = subst (IsAllowed st) (same_Some (deeds.Pass c n id) d is) (allowed_pass st c n ranges none id)
 
 -- A step keeps the ranges of states.
 pub step_state : (st new : State) (soft : Soft) (c : ℕ) (m : Message) (answered : Answer) → IsState st → IsStep st soft c m answered new → IsState new

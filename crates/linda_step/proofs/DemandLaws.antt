@@ -1,19 +1,10 @@
 -- A message does the deed that it asks for exactly where its demand is met; so the bytes of all deeds can be told.
-use Rattle.std.proofs.Common.{◌≡◌, ℕ, ◌+◌, ◌≤◌, ◌<◌, Bool, true, false, cond, not, ◌&&◌, ◌==◌, List, [], ◌∷◌, length, Option, Some, None, IfSome, is_some, option_to_list, refl, sym, ap, ◌∙◌, subst, eq-eqb, eqb-true, ne_eqb, length-append, append-nil, arith}
-use Rattle.std.proofs.lemmas.Bool.{cond-true, cond-false, and_parts, and_from, not-true, not_from_false, cases_Bool}
-use Rattle.std.proofs.Common.{inl, inr}
-use Rattle.std.proofs.lemmas.Option.{none-some}
+use Rattle.std.proofs.Common.{◌≡◌, ℕ, ◌+◌, ◌≤◌, ◌<◌, Bool, true, false, cond, ◌==◌, List, [], ◌∷◌, length, Option, Some, None, IfSome, is_some, option_to_list, refl, sym, ap, ◌∙◌, subst, ne_eqb, length-append, append-nil, arith}
 use Rattle.std.proofs.lemmas.Grind.{flat_map-append}
 use Rattle.std.specs.FinMap.{get, insert, len}
-use Rattle.linda_tuple.specs.Tuple.{Tuple}
 use Rattle.linda_bag.proofs.Maps.{get_inserted, len_new, len_old}
-use Rattle.linda_hold.specs.Request.{request_of}
 use Rattle.linda_wire.specs.declared.message.Message.{Message}
-use Rattle.linda_wire.specs.declared.message.Message.TheVariants as messages
-use Rattle.linda_wire.specs.declared.reply.Reply.{Reply}
 use Rattle.linda_book.specs.Entries.{Entry, number_in}
-use Rattle.linda_book.specs.Classes.{class_of}
-use Rattle.linda_book.specs.declared.classes.Class.TheVariants.{Fresh}
 use Rattle.linda_state.specs.declared.deed.Deed.{Deed}
 use Rattle.linda_state.specs.declared.deed.Deed.TheVariants as deeds
 use Rattle.linda_wire.specs.declared.limits.TheConstants.{NUMBER_LIMIT}
@@ -23,48 +14,15 @@ use Rattle.linda_state.specs.State.{State, IsState}
 use Rattle.linda_state.specs.After.{IsAfter, reply_of_deed}
 use Rattle.linda_state.proofs.AfterLaws.{none_after, one_after}
 use Rattle.linda_state.proofs.DoneLaws.{done, done_after, next_done}
-use Rattle.linda_step.specs.declared.size.Demand.{Demand}
+use Rattle.linda_step.specs.declared.judge.Demand.{Demand}
+use Rattle.linda_step.specs.Judge.{to_put, to_take}
 use Rattle.linda_step.specs.Soft.{Soft}
-use Rattle.linda_step.specs.Answer.{Answer, last_number, is_one_too_many, class_in, without_deed, out_without_deed, accept_without_deed, on_out, on_accept, take_or_pass, held_tuple, IsStep}
+use Rattle.linda_step.specs.Answer.{Answer, last_number, standing_of, IsStep}
 use Rattle.linda_step.specs.History.{History, Happens, comings}
-use Rattle.linda_step.specs.Size.{Numbers, numbers_of, done_of, numbers_after, bytes_of, bytes_from}
-use Rattle.linda_step.proofs.NumberLaws.{fresh}
+use Rattle.linda_step.specs.Size.{numbers_of, deed_bytes, if_done, done_by, done_of, numbers_after, bytes_of, bytes_from}
+use Rattle.linda_step.proofs.AnswerCourse.{Course, unnumbered, turned_down, told_again, stored, taken, passed, course_of}
+use Rattle.linda_step.proofs.NumberLaws.{none_is_done}
 use Rattle.linda_step.proofs.AnswerLaws.{step_state}
-
--- ---- what is met is done
-
-module _ (st : State) (c n : ℕ) (is_spent : Bool) where
-  -- whether the number is next, there is a place for the client, and nothing is spent
-  abbrev can : Bool
-  can = (n == last_number st c + 1) && (not (is_one_too_many st c) && not is_spent)
-
-  none_can : without_deed st c n is_spent (class_in st c n) ≡ None → can ≡ true
-  none_can none =
-      let f = fresh st c n is_spent none in
-      and_from (n == last_number st c + 1) _ (eq-eqb n (last_number st c + 1) f.number)
-      (and_from (not (is_one_too_many st c)) (not is_spent) (not_from_false (is_one_too_many st c) f.few) (not_from_false is_spent f.unspent))
-
-  next_is_fresh : (last : ℕ) → n ≡ last + 1 → class_of last n ≡ Fresh
-  next_is_fresh last e = grind (arith)
-
-  can_none : can ≡ true → without_deed st c n is_spent (class_in st c n) ≡ None
-  can_none met =
-      let parts = and_parts (n == last_number st c + 1) _ met in
-      let limits = and_parts (not (is_one_too_many st c)) (not is_spent) parts.1 in
-      ap (without_deed st c n is_spent) (next_is_fresh (last_number st c) (eqb-true n (last_number st c + 1) parts.0))
-      ∙ cond-false (is_one_too_many st c) _ _ (not-true (is_one_too_many st c) limits.0)
-      ∙ cond-false is_spent _ _ (not-true is_spent limits.1)
-
-  -- Where there is no reply without a deed, what is asked for is done; where there is one, it is not.
-  done_where_none : (d : Demand) → without_deed st c n is_spent (class_in st c n) ≡ None → cond can (Some d) None ≡ Some d
-  done_where_none d none = cond-true can (Some d) None (none_can none)
-
-  not_where_some : (d : Demand) (reply : Reply) → without_deed st c n is_spent (class_in st c n) ≡ Some reply → cond can (Some d) None ≡ None
-  not_where_some d reply some =
-      elim (cases_Bool can) [
-        | inl met ↦ absurd (none-some reply (sym (can_none met) ∙ some))
-        | inr unmet ↦ cond-false can (Some d) None unmet
-      ]
 
 -- ---- the numbers after a deed
 
@@ -86,67 +44,46 @@ len_kept st c e ranges = by (get st.book c) refl (ranges.numbers c)
         len_old st.book c e (ap is_some some) ∙ plus_none (len st.book) ∙ ap (λ b. len st.book + cond b 1 0) (sym apart) ∙ ap (λ o. len st.book + cond (number_in o == 0) 1 0) (sym some)
 
 -- A deed is the one that was asked for.
-record IsAsked (st : State) (c : ℕ) (d : Deed) (w : Demand) : Type 0 where
+record IsAsked (st : State) (c : ℕ) (m : Message) (d : Deed) (w : Demand) : Type 0 where
   client : client_of d ≡ c
   number : number_of d ≡ w.n
   next : next_done st d ≡ st.next + cond w.is_out 1 0
-  size : length (spell_deed d) ≡ w.size
+  size : length (spell_deed d) ≡ deed_bytes m
 
 -- What a step comes to: no deed, and none was to be done; or the one that was.
 data Outcome (st : State) (c : ℕ) (m : Message) (deed : Option Deed) : Type 0 where
   nothing : deed ≡ None → done_of (numbers_of st) c m ≡ None → Outcome st c m deed
-  one : (d : Deed) (w : Demand) → deed ≡ Some d → done_of (numbers_of st) c m ≡ Some w → IsAsked st c d w → Outcome st c m deed
+  one : (d : Deed) (w : Demand) → deed ≡ Some d → done_of (numbers_of st) c m ≡ Some w → IsAsked st c m d w → Outcome st c m deed
 
-module _ (st : State) (c : ℕ) (soft : Soft) where
-  abbrev ns : Numbers
-  ns = numbers_of st
-
-  id_next : st.next ≡ st.next + 0
-  id_next = plus_none st.next
-
-  out_outcome : (n : ℕ) (tuple : Tuple) (reply : Option Reply) → out_without_deed st c n ≡ reply → Outcome st c (messages.Out n tuple) (on_out st c n tuple reply soft).deed
-  out_outcome n tuple (Some reply) is = nothing refl (not_where_some st c n _ _ reply is)
-  out_outcome n tuple None is =
-      one (deeds.Out c n tuple) _ refl (done_where_none st c n _ _ is)
-      (record { client = refl; number = refl; next = refl; size = omega arith })
-
-  taken_outcome : (n ticket id : ℕ) (row : Option Tuple) → accept_without_deed st c n ≡ None → Outcome st c (messages.Accept n ticket id) (take_or_pass c n id row soft).deed
-  taken_outcome n ticket id (Some row) is =
-      one (deeds.Take c n id) _ refl (done_where_none st c n _ _ is) (record { client = refl; number = refl; next = id_next; size = refl })
-  taken_outcome n ticket id None is =
-      one (deeds.Pass c n id) _ refl (done_where_none st c n _ _ is) (record { client = refl; number = refl; next = id_next; size = refl })
-
-  accept_outcome : (n ticket id : ℕ) (reply : Option Reply) → accept_without_deed st c n ≡ reply → Outcome st c (messages.Accept n ticket id) (on_accept st c n ticket id reply soft).deed
-  accept_outcome n ticket id (Some reply) is = nothing refl (not_where_some st c n _ _ reply is)
-  accept_outcome n ticket id None is = taken_outcome n ticket id (held_tuple st (request_of c ticket) id soft) is
-
-  outcome_of : (m : Message) (answered : Answer) (new : State) → IsStep st soft c m answered new → Outcome st c m answered.deed
-  outcome_of (messages.Hello version client fresh) answered new step = nothing (ap (λ (a : Answer). a.deed) step.answer) refl
-  outcome_of (messages.Ask ticket remove template) answered new step = nothing (ap (λ (a : Answer). a.deed) step.answer.1.1) refl
-  outcome_of (messages.Cancel ticket) answered new step = nothing (ap (λ (a : Answer). a.deed) step.answer.1.1) refl
-  outcome_of (messages.Out n tuple) answered new step =
-      subst (λ (a : Answer). Outcome st c (messages.Out n tuple) a.deed) (sym step.answer) (out_outcome n tuple (out_without_deed st c n) refl)
-  outcome_of (messages.Accept n ticket id) answered new step =
-      subst (λ (a : Answer). Outcome st c (messages.Accept n ticket id) a.deed) (sym step.answer) (accept_outcome n ticket id (accept_without_deed st c n) refl)
+outcome_of : (st : State) (c : ℕ) (soft : Soft) (m : Message) (answered : Answer) → Course st soft c m answered → Outcome st c m answered.deed
+outcome_of st c soft _ _ (unnumbered m told none answer) = nothing refl (ap (λ o. done_by o (standing_of st c)) none)
+outcome_of st c soft _ _ (turned_down m d why asked verdict) = nothing refl (ap (λ o. done_by o (standing_of st c)) asked ∙ ap (if_done d) verdict)
+outcome_of st c soft _ _ (told_again m d reply asked verdict kept) = nothing refl (ap (λ o. done_by o (standing_of st c)) asked ∙ ap (if_done d) verdict)
+outcome_of st c soft _ _ (stored n tuple none) =
+    one (deeds.Out c n tuple) (to_put n) refl (ap (if_done (to_put n)) (none_is_done st c (to_put n) none)) (record { client = refl; number = refl; next = refl; size = omega arith })
+outcome_of st c soft _ _ (taken n ticket id row none held) =
+    one (deeds.Take c n id) (to_take n) refl (ap (if_done (to_take n)) (none_is_done st c (to_take n) none)) (record { client = refl; number = refl; next = plus_none st.next; size = refl })
+outcome_of st c soft _ _ (passed n ticket id none held) =
+    one (deeds.Pass c n id) (to_take n) refl (ap (if_done (to_take n)) (none_is_done st c (to_take n) none)) (record { client = refl; number = refl; next = plus_none st.next; size = refl })
 
 -- ---- what a step comes to
 
 -- What is done of the message is told by the numbers of before: its bytes, and the numbers behind it.
 record IsTold (st : State) (c : ℕ) (m : Message) (deed : Option Deed) (new : State) : Type 0 where
-  bytes : length (payload (option_to_list deed)) ≡ bytes_of (done_of (numbers_of st) c m)
+  bytes : length (payload (option_to_list deed)) ≡ bytes_of m (done_of (numbers_of st) c m)
   numbers : numbers_of new ≡ numbers_after (numbers_of st) c (done_of (numbers_of st) c m)
 
 told_of : (st new : State) (c : ℕ) (m : Message) (deed : Option Deed) → IsState st → IsAfter st (option_to_list deed) new → Outcome st c m deed → IsTold st c m deed new
 told_of st new c m deed is after (nothing none undone) =
     let same : new ≡ st = one_after st [] new st (subst (λ d. IsAfter st (option_to_list d) new) none after) (none_after st is) in
     record {
-      bytes = ap (λ d. length (payload (option_to_list d))) none ∙ sym (ap bytes_of undone);
+      bytes = ap (λ d. length (payload (option_to_list d))) none ∙ sym (ap (bytes_of m) undone);
       numbers = ap numbers_of same ∙ sym (ap (numbers_after (numbers_of st) c) undone);
     }
 told_of st new c m deed is after (one d w some was_done asked) =
     let same : new ≡ done st d = one_after st (d ∷ []) new (done st d) (subst (λ d. IsAfter st (option_to_list d) new) some after) (done_after st d is) in
     record {
-      bytes = ap (λ d. length (payload (option_to_list d))) some ∙ ap length (append-nil (spell_deed d)) ∙ asked.size ∙ sym (ap bytes_of was_done);
+      bytes = ap (λ d. length (payload (option_to_list d))) some ∙ ap length (append-nil (spell_deed d)) ∙ asked.size ∙ sym (ap (bytes_of m) was_done);
       numbers = ap numbers_of same ∙ numbers ∙ sym (ap (numbers_after (numbers_of st) c) was_done);
     }
   where
@@ -172,10 +109,10 @@ all_bytes st soft (m ∷ ms) all is happens =
     let mid : State = happens.1.0 in
     let later : History = happens.1.1.0 in
     let step : IsStep st soft m.0 m.1 first mid = happens.1.1.1.0 in
-    let told = told_of st mid m.0 m.1 first.deed is step.state_is (outcome_of st m.0 soft m.1 first mid step) in
+    let told = told_of st mid m.0 m.1 first.deed is step.state_is (outcome_of st m.0 soft m.1 first (course_of st soft m.0 m.1 first step.answer)) in
     let rest = all_bytes mid first.soft ms later (step_state st mid soft m.0 m.1 first is step) happens.1.1.1.1.0 in
     ap (λ (h : History). length (payload h.deeds)) happens.1.1.1.1.1
     ∙ ap length (flat_map-append spell_deed (option_to_list first.deed) later.deeds)
     ∙ length-append (payload (option_to_list first.deed)) (payload later.deeds)
     ∙ ap (λ n. n + length (payload later.deeds)) told.bytes
-    ∙ ap (λ n. bytes_of (done_of (numbers_of st) m.0 m.1) + n) (rest ∙ ap (λ ns. bytes_from ns ms) told.numbers)
+    ∙ ap (λ n. bytes_of m.1 (done_of (numbers_of st) m.0 m.1) + n) (rest ∙ ap (λ ns. bytes_from ns ms) told.numbers)

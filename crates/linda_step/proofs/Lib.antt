@@ -24,3 +24,5 @@ pub mod CourseLaws
 pub mod SizeLaws
 pub mod DemandLaws
 pub mod ExistLaws
+pub mod JudgeLaws
+pub mod AnswerCourse

@@ -1,18 +1,19 @@
 -- Every step and every close keep what a store keeps: the ranges of its state, of its holds and waits, and that nobody waits in vain.
 use Rattle.std.proofs.Common.{◌≡◌, ℕ, ◌<◌, Bool, true, false, cond, nat_le, List, [], ◌∷◌, Option, Some, None, option_to_list, is_some, refl, sym, ap, ◌∙◌, subst, leb-false}
+use Rattle.std.proofs.lemmas.Option.{none-some}
 use Rattle.std.specs.FinMap.{remove}
 use Rattle.linda_hold.specs.declared.request.Request.{Request}
 use Rattle.linda_hold.specs.Request.{request_of}
 use Rattle.linda_wire.specs.declared.limits.TheConstants.{MAX_ASKS}
 use Rattle.linda_wire.specs.Refusal.{refused}
 use Rattle.linda_wire.specs.declared.refusal.Refusal.TheVariants as refusals
-use Rattle.linda_tuple.specs.Tuple.{Tuple}
 use Rattle.linda_tuple.specs.Template.{Template}
 use Rattle.linda_hold.specs.Waits.{is_waiting}
 use Rattle.linda_hold.specs.Holds.{IsHeldAt}
 use Rattle.linda_wire.specs.declared.message.Message.{Message}
-use Rattle.linda_wire.specs.declared.message.Message.TheVariants.{Hello, Out, Ask, Accept, Cancel}
 use Rattle.linda_wire.specs.declared.reply.Reply.{Reply}
+use Rattle.linda_wire.specs.declared.message.Message.TheVariants.{Hello, Out, Ask, Accept, Cancel}
+use Rattle.linda_state.specs.declared.deed.Deed.{Deed}
 use Rattle.linda_state.specs.declared.deed.Deed.TheVariants as deeds
 use Rattle.linda_state.specs.State.{State, IsState}
 use Rattle.linda_step.specs.Soft.{Soft, Bagged, IsSoft, no_asks, open_asks}
@@ -20,10 +21,12 @@ use Rattle.linda_step.specs.Looking.{IsLeast, passed_over, IsAtRest}
 use Rattle.linda_step.specs.Dispatch.{Sends, no_sends, dispatch, on_cancel, on_close}
 use Rattle.linda_step.specs.Asking.{only_sent, serve, on_ask, wait_of}
 use Rattle.linda_state.specs.After.{IsAfter}
-use Rattle.linda_step.specs.Answer.{Answer, only_sends, on_out, out_without_deed, on_accept, accept_without_deed, take_or_pass, held_tuple, IsAnswer, IsStep}
+use Rattle.linda_step.specs.Answer.{Answer, only_sends, IsAnswer, IsStep}
+use Rattle.linda_step.specs.Judge.{to_put, to_take, demand_of}
 use Rattle.linda_step.specs.Store.{IsOrderly}
 use Rattle.linda_state.proofs.AfterLaws.{none_after, one_after}
 use Rattle.linda_state.proofs.DoneLaws.{done, done_after}
+use Rattle.linda_step.proofs.AnswerCourse.{Course, unnumbered, turned_down, told_again, stored, taken, passed, course_of}
 use Rattle.linda_step.proofs.RestLaws.{put_rests, taken_rests, held_rests, waiting_rests, no_asks_rest, cancelling_rests, closing_rests}
 use Rattle.linda_step.proofs.RangeLaws.{put_soft, taken_soft, offer_soft, waiting_soft, no_asks_soft, cancelling_soft, closing_soft}
 use Rattle.linda_step.proofs.AnswerLaws.{step_state}
@@ -71,52 +74,42 @@ module _ (st new : State) (soft : Soft) (c : ℕ) (is : IsOrderly st soft) where
   unchanged : (s : Soft) → IsSettled st.bag s → IsAfter st [] new → IsSettled new.bag s
   unchanged s settled after = subst (λ (x : State). IsSettled x.bag s) (same_state st new is.state_is after) settled
 
-  out_settled : (n : ℕ) (tuple : Tuple) (reply : Option Reply) → IsAfter st (option_to_list (on_out st c n tuple reply soft).deed) new → IsSettled new.bag (on_out st c n tuple reply soft).soft
-  out_settled n tuple (Some reply) after = unchanged soft was after
-  out_settled n tuple None after =
-      subst (λ (x : State). IsSettled x.bag (dispatch st.next tuple soft).soft) (one_after st (deeds.Out c n tuple ∷ []) (done st (deeds.Out c n tuple)) new (done_after st (deeds.Out c n tuple) is.state_is) after)
-      (record { soft_is = put_soft st.bag st.next tuple soft is.soft_is; rest = put_rests st.bag st.next tuple soft is.rest })
-
-  taken_settled : (n id : ℕ) (row : Option Tuple) → IsAfter st (option_to_list (take_or_pass c n id row soft).deed) new → IsSettled new.bag (take_or_pass c n id row soft).soft
-  taken_settled n id (Some row) after =
-      subst (λ (x : State). IsSettled x.bag (record { holds = remove soft.holds id; waits = soft.waits })) (one_after st (deeds.Take c n id ∷ []) (done st (deeds.Take c n id)) new (done_after st (deeds.Take c n id) is.state_is) after)
-      (record { soft_is = taken_soft st.bag id soft is.soft_is; rest = taken_rests st.bag id soft is.rest })
-  taken_settled n id None after =
-      subst (λ (x : State). IsSettled x.bag soft) (one_after st (deeds.Pass c n id ∷ []) (done st (deeds.Pass c n id)) new (done_after st (deeds.Pass c n id) is.state_is) after) was
-
-  accept_settled : (n ticket id : ℕ) (reply : Option Reply) → IsAfter st (option_to_list (on_accept st c n ticket id reply soft).deed) new → IsSettled new.bag (on_accept st c n ticket id reply soft).soft
-  accept_settled n ticket id (Some reply) after = unchanged soft was after
-  accept_settled n ticket id None after = taken_settled n id (held_tuple st (request_of c ticket) id soft) after
-
   cancel_settled : (request : Request) (held : Option ℕ) → IsSettled st.bag (on_cancel st.bag request held soft).soft
   cancel_settled request held = record { soft_is = cancelling_soft st.bag request held soft is.soft_is; rest = cancelling_rests st.bag request held soft is.rest }
 
-  -- the answer to a message settles, where the state is the one after its deed
-  settled : (m : Message) (answered : Answer) → IsAnswer st soft c m answered → IsAfter st (option_to_list answered.deed) new → IsSettled new.bag answered.soft
-  settled (Hello version client fresh) answered answer after =
-      let then_settled : (a : Answer) → Type 0 = λ a. IsAfter st (option_to_list a.deed) new → IsSettled new.bag a.soft in
-      subst then_settled (sym answer) (unchanged soft was) after
-  settled (Out n tuple) answered answer after =
-      let then_settled : (a : Answer) → Type 0 = λ a. IsAfter st (option_to_list a.deed) new → IsSettled new.bag a.soft in
-      subst then_settled (sym answer) (out_settled n tuple (out_without_deed st c n)) after
-  settled (Accept n ticket id) answered answer after =
-      let then_settled : (a : Answer) → Type 0 = λ a. IsAfter st (option_to_list a.deed) new → IsSettled new.bag a.soft in
-      subst then_settled (sym answer) (accept_settled n ticket id (accept_without_deed st c n)) after
-  settled (Ask ticket remove template) answered answer after =
-      let then_settled : (a : Answer) → Type 0 = λ a. IsAfter st (option_to_list a.deed) new → IsSettled new.bag a.soft in
+  -- what is only answered
+  told_settled : (m : Message) (told : Sends) → demand_of m ≡ None → IsAnswer st soft c m (only_sends told) → IsSettled st.bag told.soft
+  told_settled (Hello version client fresh) told none answer = subst (λ (a : Answer). IsSettled st.bag a.soft) (sym answer) was
+  told_settled (Ask ticket remove template) told none answer =
       let asked = answer.1.0 in
-      subst then_settled (sym (answer.1.1 ∙ ap only_sends asked.told_is))
-      (unchanged (on_ask st.bag (request_of c ticket) remove template asked.held asked.least soft).soft
-      (asking_settled st.bag (request_of c ticket) remove template asked.held asked.least soft asked.is_held asked.is_least was)) after
-  settled (Cancel ticket) answered answer after =
-      let then_settled : (a : Answer) → Type 0 = λ a. IsAfter st (option_to_list a.deed) new → IsSettled new.bag a.soft in
+      subst (λ (a : Answer). IsSettled st.bag a.soft) (sym (answer.1.1 ∙ ap only_sends asked.told_is))
+      (asking_settled st.bag (request_of c ticket) remove template asked.held asked.least soft asked.is_held asked.is_least was)
+  told_settled (Cancel ticket) told none answer =
       let given_up = answer.1.0 in
-      subst then_settled (sym (answer.1.1 ∙ ap only_sends given_up.told_is))
-      (unchanged (on_cancel st.bag (request_of c ticket) given_up.held soft).soft (cancel_settled (request_of c ticket) given_up.held)) after
+      subst (λ (a : Answer). IsSettled st.bag a.soft) (sym (answer.1.1 ∙ ap only_sends given_up.told_is)) (cancel_settled (request_of c ticket) given_up.held)
+  told_settled (Out n tuple) told some answer = absurd (none-some (to_put n) (sym some))
+  told_settled (Accept n ticket id) told some answer = absurd (none-some (to_take n) (sym some))
+
+  -- the state after a deed is the one that it leads to
+  after_deed : (d : Deed) (s : Soft) → IsSettled (done st d).bag s → IsAfter st (d ∷ []) new → IsSettled new.bag s
+  after_deed d s settled after = subst (λ (x : State). IsSettled x.bag s) (one_after st (d ∷ []) (done st d) new (done_after st d is.state_is) after) settled
+
+  -- the answer to a message settles, where the state is the one after its deed
+  settled : (m : Message) (a : Answer) → Course st soft c m a → IsAfter st (option_to_list a.deed) new → IsSettled new.bag a.soft
+  settled _ _ (unnumbered m told none answer) after = unchanged told.soft (told_settled m told none answer) after
+  settled _ _ (turned_down m d why asked verdict) after = unchanged soft was after
+  settled _ _ (told_again m d reply asked verdict kept) after = unchanged soft was after
+  settled _ _ (stored n tuple none) after =
+      after_deed (deeds.Out c n tuple) (dispatch st.next tuple soft).soft
+      (record { soft_is = put_soft st.bag st.next tuple soft is.soft_is; rest = put_rests st.bag st.next tuple soft is.rest }) after
+  settled _ _ (taken n ticket id row none held) after =
+      after_deed (deeds.Take c n id) (record { holds = remove soft.holds id; waits = soft.waits })
+      (record { soft_is = taken_soft st.bag id soft is.soft_is; rest = taken_rests st.bag id soft is.rest }) after
+  settled _ _ (passed n ticket id none held) after = after_deed (deeds.Pass c n id) soft was after
 
   pub step_orderly : (m : Message) (answered : Answer) → IsStep st soft c m answered new → IsOrderly new answered.soft
   step_orderly m answered step =
-      let after = settled m answered step.answer step.state_is in
+      let after = settled m answered (course_of st soft c m answered step.answer) step.state_is in
       record { state_is = step_state st new soft c m answered is.state_is step; soft_is = after.soft_is; rest = after.rest }
 
 -- A close keeps what a store keeps.

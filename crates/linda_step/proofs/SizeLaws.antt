@@ -1,15 +1,20 @@
 -- The bytes that the deeds of messages spell are those that were counted.
-use Rattle.std.proofs.Common.{◌≡◌, ℕ, ◌+◌, ◌<◌, ◌≤◌, Bool, true, false, cond, not, ◌&&◌, ◌||◌, ◌==◌, nat_le, List, [], ◌∷◌, ◌++◌, Option, Some, None, refl, sym, ap, ◌∙◌, subst, inl, inr, eq-eqb, ne_eqb, leb-false, add_assoc, suc, length, drop, get_or, drop-cons, arith}
-use Rattle.std.proofs.lemmas.Bool.{cond-true, cond-false, cases_eq, eqb-false, and_parts, or_parts, not-true}
+use Rattle.std.proofs.Common.{◌≡◌, ℕ, ◌+◌, ◌<◌, ◌≤◌, Bool, true, false, cond, ◌&&◌, ◌||◌, ◌==◌, nat_le, List, [], ◌∷◌, ◌++◌, Option, Some, None, refl, sym, ap, ◌∙◌, subst, inl, inr, eq-eqb, ne_eqb, leb-false, add_assoc, suc, length, drop, get_or, drop-cons, arith}
+use Rattle.std.proofs.lemmas.Bool.{cond-true, cond-false, cases_eq, eqb-false, or_parts}
 use mir.Val.{bool_byte}
 use Rattle.std.proofs.lemmas.Option.{none-some, same_Some}
 use Rattle.linda_wire.specs.declared.limits.TheConstants.{MAX_CLIENTS}
 use Rattle.linda_wire.specs.declared.message.Message.{Message}
 use Rattle.linda_wire.specs.declared.limits.TheConstants.{NUMBER_LIMIT}
 use Rattle.linda_state.specs.State.{State}
-use Rattle.linda_step.specs.declared.size.Demand.{Demand}
+use Rattle.linda_step.specs.declared.judge.Demand.{Demand}
+use Rattle.linda_step.specs.declared.judge.Standing.{Standing}
+use Rattle.linda_step.specs.declared.judge.Verdict.{Verdict}
+use Rattle.linda_step.specs.declared.judge.Verdict.TheVariants.{Refused, Repeated, Done}
+use Rattle.linda_step.specs.Judge.{demand_of, judge}
+use Rattle.linda_step.proofs.JudgeLaws.{IsFresh, IsVerdict, verdict_means}
 use Rattle.linda_step.specs.Answer.{last_number}
-use Rattle.linda_step.specs.Size.{Numbers, demand_of, is_spent_for, is_met, if_met, done_of, numbers_after, bytes_of, bytes_from, last_behind}
+use Rattle.linda_step.specs.Size.{Numbers, if_done, done_by, done_of, deed_bytes, numbers_after, bytes_of, bytes_from, last_behind}
 
 -- ---- what was counted so far
 
@@ -28,20 +33,21 @@ turned_test a b x y =
       | inr apart ↦ cond-false (a == b) x y (ne_eqb a b apart) ∙ sym (cond-false (b == a) x y (ne_eqb b a (λ e. apart (sym e))))
     ]
 
--- What is met is the demand, and it is met.
-met_is : (o : Option Demand) (last clients next : ℕ) (d : Demand) → Some d ≡ if_met o last clients next → (o ≡ Some d) × (is_met d last clients next ≡ true)
-met_is None last clients next d is = absurd (none-some d (sym is))
-met_is (Some e) last clients next d is = by (is_met e last clients next) refl is
+-- What is done is fresh.
+done_is : (o : Option Demand) (at : Standing) (d : Demand) → Some d ≡ done_by o at → IsFresh d at
+done_is None at d is = absurd (none-some d (sym is))
+done_is (Some e) at d is = by (judge e at) (verdict_means e at) is
   where
-    by : (b : Bool) → is_met e last clients next ≡ b → Some d ≡ cond b (Some e) None → (Some e ≡ Some d) × (is_met d last clients next ≡ true)
-    by true met same = (sym same, subst (λ x. is_met x last clients next ≡ true) (same_Some e d (sym same)) met)
-    by false met none = absurd (none-some d (sym none))
+    by : (v : Verdict) → IsVerdict e at v → Some d ≡ if_done e v → IsFresh d at
+    by Done means is = subst (λ x. IsFresh x at) (same_Some e d (sym is)) means
+    by Repeated means is = absurd (none-some d (sym is))
+    by (Refused refusal) means is = absurd (none-some d (sym is))
 
 at_most_more : (clients limit : ℕ) (b : Bool) → clients ≤ limit → (b && nat_le limit clients) ≡ false → clients + cond b 1 0 ≤ limit
 at_most_more clients limit true few room = let below = leb-false limit clients room in omega arith
 at_most_more clients limit false few room = omega arith
 
-at_most_next : (next n limit : ℕ) (b : Bool) → next ≤ limit → cond b ((n == limit) || (next == limit)) (n == limit) ≡ false → next + cond b 1 0 ≤ limit
+at_most_next : (next n limit : ℕ) (b : Bool) → next ≤ limit → ((n == limit) || (b && (next == limit))) ≡ false → next + cond b 1 0 ≤ limit
 at_most_next next n limit true low unspent =
     let other = eqb-false next limit (or_parts (n == limit) (next == limit) unspent).1 in
     omega (arith, other)
@@ -49,22 +55,19 @@ at_most_next next n limit false low unspent = omega arith
 
 -- One more message was counted, which does a deed.
 module _ (st : State) (es fs : List (ℕ × ℕ)) (c : ℕ) (m : Message) (last clients next k x bytes total : ℕ) (d : Demand) (ms : List (ℕ × Message))
-    (last_is : last ≡ last_behind es c (last_number st c)) (done : Some d ≡ if_met (demand_of m) last clients next) (fs_is : fs ≡ es ++ (c, d.n) ∷ [])
+    (last_is : last ≡ last_behind es c (last_number st c)) (done : Some d ≡ done_by (demand_of m) (record { last = last; clients = clients; next = next })) (fs_is : fs ≡ es ++ (c, d.n) ∷ [])
     (k_is : k ≡ clients + cond (last == 0) 1 0) (x_is : x ≡ next + cond d.is_out 1 0) where
-  met : is_met d last clients next ≡ true
-  met = (met_is (demand_of m) last clients next d done).1
-
-  limits : (not ((last == 0) && nat_le MAX_CLIENTS clients) ≡ true) × (not (is_spent_for d next) ≡ true)
-  limits = and_parts (not ((last == 0) && nat_le MAX_CLIENTS clients)) (not (is_spent_for d next)) (and_parts (d.n == last + 1) _ met).1
+  found : IsFresh d (record { last = last; clients = clients; next = next })
+  found = done_is (demand_of m) (record { last = last; clients = clients; next = next }) d done
 
   pub clients_few : clients ≤ MAX_CLIENTS → k ≤ MAX_CLIENTS
-  clients_few few = subst (λ i. i ≤ MAX_CLIENTS) (sym k_is) (at_most_more clients MAX_CLIENTS (last == 0) few (not-true _ limits.0))
+  clients_few few = subst (λ i. i ≤ MAX_CLIENTS) (sym k_is) (at_most_more clients MAX_CLIENTS (last == 0) few found.few)
 
   pub next_low : next ≤ NUMBER_LIMIT → x ≤ NUMBER_LIMIT
-  next_low low = subst (λ i. i ≤ NUMBER_LIMIT) (sym x_is) (at_most_next next d.n NUMBER_LIMIT d.is_out low (not-true _ limits.1))
+  next_low low = subst (λ i. i ≤ NUMBER_LIMIT) (sym x_is) (at_most_next next d.n NUMBER_LIMIT d.is_out low found.unspent)
 
   same_done : done_of (numbers_behind st es clients next) c m ≡ Some d
-  same_done = ap (λ l. if_met (demand_of m) l clients next) (sym last_is) ∙ sym done
+  same_done = ap (λ l. done_by (demand_of m) (record { last = l; clients = clients; next = next })) (sym last_is) ∙ sym done
 
   same_numbers : numbers_after (numbers_behind st es clients next) c (Some d) ≡ numbers_behind st fs k x
   same_numbers = λ i. record {
@@ -73,12 +76,14 @@ module _ (st : State) (es fs : List (ℕ × ℕ)) (c : ℕ) (m : Message) (last 
     next = sym x_is i;
   }
 
-  pub counted_on : total ≡ bytes + bytes_from (numbers_behind st es clients next) ((c, m) ∷ ms) → total ≡ bytes + d.size + bytes_from (numbers_behind st fs k x) ms
-  counted_on all =
+  pub counted_on : (size : ℕ) → size ≡ deed_bytes m → total ≡ bytes + bytes_from (numbers_behind st es clients next) ((c, m) ∷ ms)
+      → total ≡ bytes + size + bytes_from (numbers_behind st fs k x) ms
+  counted_on size size_is all =
       all
-      ∙ ap (λ o. bytes + (bytes_of o + bytes_from (numbers_after (numbers_behind st es clients next) c o) ms)) same_done
-      ∙ ap (λ ns. bytes + (d.size + bytes_from ns ms)) same_numbers
-      ∙ sym (add_assoc bytes d.size (bytes_from (numbers_behind st fs k x) ms))
+      ∙ ap (λ o. bytes + (bytes_of m o + bytes_from (numbers_after (numbers_behind st es clients next) c o) ms)) same_done
+      ∙ ap (λ ns. bytes + (deed_bytes m + bytes_from ns ms)) same_numbers
+      ∙ sym (add_assoc bytes (deed_bytes m) (bytes_from (numbers_behind st fs k x) ms))
+      ∙ ap (λ s. bytes + s + bytes_from (numbers_behind st fs k x) ms) (sym size_is)
 
 -- The items from one on.
 pub first_of : {A : Type 0} (xs : List A) (i : ℕ) (x : A) → i < length xs → x ≡ get_or xs i x → drop i xs ≡ x ∷ drop (i + 1) xs

@@ -1,12 +1,11 @@
 -- What a server answers to one message: the deed, if it does one, what it sends, and what it holds and lets wait.
-use Rattle.std.specs.Prelude.{◌≡◌, ℕ, Bool, ◌==◌, false, nat_lt, nat_le, not, ◌&&◌, ◌||◌, if◌then◌else◌}
+use Rattle.std.specs.Prelude.{◌≡◌, ℕ, Bool, ◌==◌, false, nat_lt, not, ◌&&◌, if◌then◌else◌}
 use Rattle.std.specs.Prelude.{List, [], ◌∷◌, Option, Some, None, option_to_list}
 use Rattle.std.specs.FinMap as map
 use Rattle.std.specs.Option.{option_map}
 use Rattle.linda_hold.specs.declared.request.Request.{Request}
 use Rattle.linda_hold.specs.Request.{request_of, same_request}
-use Rattle.linda_wire.specs.declared.limits.TheConstants.{MAX_CLIENTS, VERSION}
-use Rattle.linda_wire.specs.declared.limits.TheConstants.{NUMBER_LIMIT}
+use Rattle.linda_wire.specs.declared.limits.TheConstants.{VERSION}
 use Rattle.linda_wire.specs.Refusal.{refused}
 use Rattle.linda_wire.specs.declared.refusal.Refusal.TheVariants as refusals
 use Rattle.linda_tuple.specs.Tuple.{Tuple}
@@ -14,16 +13,18 @@ use Rattle.linda_wire.specs.declared.message.Message.{Message}
 use Rattle.linda_wire.specs.declared.message.Message.TheVariants as messages
 use Rattle.linda_wire.specs.declared.reply.Reply.{Reply}
 use Rattle.linda_wire.specs.declared.reply.Reply.TheVariants as replies
-use Rattle.linda_book.specs.declared.classes.Class.{Class}
-use Rattle.linda_book.specs.declared.classes.Class.TheVariants as classes
 use Rattle.linda_book.specs.declared.kept.KeptReply.{KeptReply}
 use Rattle.linda_book.specs.declared.kept.KeptReply.TheVariants as kept
 use Rattle.linda_book.specs.Entries.{Entry, number_in}
-use Rattle.linda_book.specs.Classes.{class_of}
 use Rattle.linda_state.specs.declared.deed.Deed.{Deed}
 use Rattle.linda_state.specs.declared.deed.Deed.TheVariants as deeds
 use Rattle.linda_state.specs.State.{State}
 use Rattle.linda_state.specs.After.{IsAfter}
+use Rattle.linda_step.specs.declared.judge.Demand.{Demand}
+use Rattle.linda_step.specs.declared.judge.Standing.{Standing}
+use Rattle.linda_step.specs.declared.judge.Verdict.{Verdict}
+use Rattle.linda_step.specs.declared.judge.Verdict.TheVariants.{Refused, Repeated, Done}
+use Rattle.linda_step.specs.Judge.{to_put, to_take, has_no_place, judge}
 use Rattle.linda_step.specs.Soft.{Soft}
 use Rattle.linda_step.specs.Dispatch.{Sends, dispatch}
 use Rattle.linda_step.specs.Asking.{AnswersAsk, AnswersCancel}
@@ -52,9 +53,13 @@ reply_of_kept n kept.Gone = replies.Gone n
 abbrev pub last_number : State → ℕ → ℕ
 last_number st c = number_in (map.get st.book c)
 
+-- the numbers that a verdict on the client's message hangs on
+abbrev pub standing_of : State → ℕ → Standing
+standing_of st c = record { last = last_number st c; clients = map.len st.book; next = st.next }
+
 -- whether the client is new and no more clients are kept
 abbrev pub is_one_too_many : State → ℕ → Bool
-is_one_too_many st c = (last_number st c == 0) && nat_le MAX_CLIENTS (map.len st.book)
+is_one_too_many st c = has_no_place (standing_of st c)
 
 -- The reply to a Hello: the first case that holds.
 abbrev pub greeting : State → ℕ → ℕ → Bool → Reply
@@ -64,30 +69,21 @@ greeting st c version fresh =
     else (if is_one_too_many st c then (refused refusals.TooManyClients)
     else replies.Welcome (last_number st c)))
 
--- The reply to a numbered message that makes no deed, by the class of its number; none where the deed is done. A
--- fresh one is refused where its client is one too many, or else where numbers or ids are spent for it.
-abbrev pub without_deed : State → ℕ → ℕ → Bool → Class → Option Reply
-without_deed st c n is_spent (classes.Old last) = Some ((refused (refusals.Old last)))
-without_deed st c n is_spent classes.Kept =
-    option_map (λ (e : Entry). reply_of_kept n e.1) (map.get st.book c)
-without_deed st c n is_spent (classes.Gap last) = Some ((refused (refusals.Gap last)))
-without_deed st c n is_spent classes.Fresh =
-    if is_one_too_many st c then Some (refused refusals.TooManyClients)
-    else (if is_spent then Some (refused refusals.Spent)
-    else None)
+-- the reply to the client's message of this number, by its verdict; none where its deed is done
+abbrev pub reply_by : State → ℕ → ℕ → Verdict → Option Reply
+reply_by st c n (Refused refusal) = Some (refused refusal)
+reply_by st c n Repeated = option_map (λ (e : Entry). reply_of_kept n e.1) (map.get st.book c)
+reply_by st c n Done = None
 
--- the class of a message's number for its client
-abbrev pub class_in : State → ℕ → ℕ → Class
-class_in st c n = class_of (last_number st c) n
+-- The reply to a numbered message that makes no deed; none where its deed is done.
+abbrev pub without_deed : State → ℕ → Demand → Option Reply
+without_deed st c d = reply_by st c d.n (judge d (standing_of st c))
 
--- the reply to an Out that makes no deed: an Out needs a number and an id
 abbrev pub out_without_deed : State → ℕ → ℕ → Option Reply
-out_without_deed st c n =
-    without_deed st c n ((n == NUMBER_LIMIT) || (st.next == NUMBER_LIMIT)) (class_in st c n)
+out_without_deed st c n = without_deed st c (to_put n)
 
--- the reply to an Accept that makes no deed: an Accept needs a number
 abbrev pub accept_without_deed : State → ℕ → ℕ → Option Reply
-accept_without_deed st c n = without_deed st c n (n == NUMBER_LIMIT) (class_in st c n)
+accept_without_deed st c n = without_deed st c (to_take n)
 
 -- The answer to an Out, given the reply where it makes no deed. Where it does, the tuple is put under the next id,
 -- and the client's reply comes before those to others.

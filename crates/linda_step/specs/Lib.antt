@@ -9,3 +9,4 @@ pub mod History
 pub mod Course
 pub mod Promises
 pub mod Size
+pub mod Judge

@@ -8,6 +8,7 @@
 //!   of `laws`.
 #![tactic(auto)]
 
+mod judge;
 mod kept;
 mod laws;
 mod size;

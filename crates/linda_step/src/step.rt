@@ -7,6 +7,7 @@ ghost use Rattle.std.specs.Prelude.{◌≡◌, ◌∷◌, [], None, IfOk, OnErr}
 ghost use Rattle.linda_step.specs.Store.{IsOrderly};
 ghost use Rattle.linda_step.specs.Answer.{IsStep};
 
+use crate::judge::Demand;
 use crate::soft::Soft;
 use linda_bag::Bag;
 use linda_hold::Request;
@@ -58,12 +59,14 @@ pub(crate) fn answer_message<B: Bag>(
                 reply::greeting(state, client, *version, *fresh),
             )
         }
-        Message::Out { n, tuple } => match reply::out_without_deed(state, alloc, client, *n)? {
-            Some(reply) => only_reply(alloc, client, reply),
-            None => deed::put(state, soft, alloc, client, *n, tuple),
-        },
+        Message::Out { n, tuple } => {
+            match reply::without_deed(state, alloc, client, Demand::to_put(*n))? {
+                Some(reply) => only_reply(alloc, client, reply),
+                None => deed::put(state, soft, alloc, client, *n, tuple),
+            }
+        }
         Message::Accept { n, ticket, id } => {
-            match reply::accept_without_deed(state, alloc, client, *n)? {
+            match reply::without_deed(state, alloc, client, Demand::to_take(*n))? {
                 Some(reply) => only_reply(alloc, client, reply),
                 None => deed::accept(state, soft, alloc, client, *n, *ticket, *id),
             }

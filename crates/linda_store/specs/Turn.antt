@@ -42,12 +42,7 @@ goes_on IsDown = false
 
 abbrev pub is_welcome : Reply → Bool
 is_welcome (replies.Welcome last) = true
-is_welcome (replies.Stored n id) = false
-is_welcome (replies.Taken n id tuple) = false
-is_welcome (replies.Gone n) = false
-is_welcome (replies.Offer ticket id tuple) = false
-is_welcome (replies.Read ticket id tuple) = false
-is_welcome (replies.Refused code detail) = false
+is_welcome _ = false
 
 -- the client where it is welcome, else nobody
 abbrev pub greeted_if : Bool → ℕ → Option ℕ

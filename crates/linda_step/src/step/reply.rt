@@ -5,13 +5,13 @@ ghost use Rattle.std.specs.Option.{option_map};
 ghost use Rattle.std.specs.FinMap as map;
 ghost use Rattle.linda_book.specs.Entries.{Entry};
 ghost use Rattle.linda_step.specs.Answer as spec;
-ghost use Rattle.linda_step.specs.Answer.{class_in, reply_of_kept, without_deed};
+ghost use Rattle.linda_step.specs.Answer.{reply_of_kept};
 
+use crate::judge::{Demand, Standing, Verdict, has_no_place, judge};
 use crate::kept;
 use linda_bag::Bag;
-use linda_book::Class;
-use linda_state::{NUMBER_LIMIT, State};
-use linda_wire::{MAX_CLIENTS, Refusal, Reply, VERSION};
+use linda_state::State;
+use linda_wire::{Refusal, Reply, VERSION};
 use std::alloc::{AllocError, Global};
 
 /// The reply to a Hello.
@@ -23,63 +23,26 @@ pub(crate) fn greeting<B: Bag>(state: &State<B>, client: u32, version: u8, fresh
         Refusal::Version.reply()
     } else if fresh && last > 0 {
         Refusal::Known(last).reply()
-    } else if is_one_too_many(state, client) {
+    } else if has_no_place(Standing::of(state, client)) {
         Refusal::TooManyClients.reply()
     } else {
         Reply::Welcome { last }
     }
 }
 
-/// The reply to an Out that makes no deed, which changes nothing; none where the deed is to be done.
-pub(crate) fn out_without_deed<B: Bag>(
+/// The reply to a numbered message that makes no deed, which changes nothing; none where its deed is to be done.
+pub(crate) fn without_deed<B: Bag>(
     state: &State<B>,
     alloc: Global,
     client: u32,
-    n: u64,
+    demand: Demand,
 ) -> Result<Option<Reply>, AllocError>
-    ensures { IfOk result (λ r. r ≡ spec.out_without_deed state.now client n) }
+    ensures { IfOk result (λ r. r ≡ spec.without_deed state.now client demand) }
 {
-    let is_spent = n == NUMBER_LIMIT || state.next == NUMBER_LIMIT;
-    without_deed(state, alloc, client, n, is_spent)
-}
-
-/// The reply to an Accept that makes no deed, which changes nothing; none where a deed is to be done.
-pub(crate) fn accept_without_deed<B: Bag>(
-    state: &State<B>,
-    alloc: Global,
-    client: u32,
-    n: u64,
-) -> Result<Option<Reply>, AllocError>
-    ensures { IfOk result (λ r. r ≡ spec.accept_without_deed state.now client n) }
-{
-    without_deed(state, alloc, client, n, n == NUMBER_LIMIT)
-}
-
-// The reply to a numbered message that makes no deed; none where the deed is to be done. Whether the
-// numbers or ids that it needs are spent is told by the caller.
-fn without_deed<B: Bag>(
-    state: &State<B>,
-    alloc: Global,
-    client: u32,
-    n: u64,
-    is_spent: bool,
-) -> Result<Option<Reply>, AllocError>
-    ensures { IfOk result (λ r.
-        r ≡ without_deed state.now client n is_spent (class_in state.now client n)) }
-{
-    match state.book.classify(client, n) {
-        Class::Old(last) => Ok(Some(Refusal::Old(last).reply())),
-        Class::Kept => kept_reply(state, alloc, client, n),
-        Class::Gap(last) => Ok(Some(Refusal::Gap(last).reply())),
-        Class::Fresh => {
-            if is_one_too_many(state, client) {
-                Ok(Some(Refusal::TooManyClients.reply()))
-            } else if is_spent {
-                Ok(Some(Refusal::Spent.reply()))
-            } else {
-                Ok(None)
-            }
-        }
+    match judge(demand, Standing::of(state, client)) {
+        Verdict::Refused(refusal) => Ok(Some(refusal.reply())),
+        Verdict::Repeated => kept_reply(state, alloc, client, demand.n),
+        Verdict::Done => Ok(None),
     }
 }
 
@@ -97,11 +60,4 @@ fn kept_reply<B: Bag>(
         Some((_, kept)) => Ok(Some(kept::to_reply(kept, alloc, n)?)),
         None => Ok(None),
     }
-}
-
-// Whether the client is new and no more clients are kept.
-fn is_one_too_many<B: Bag>(state: &State<B>, client: u32) -> bool
-    ensures { result ≡ spec.is_one_too_many state.now client }
-{
-    state.book.last(client) == 0 && state.book.len() >= MAX_CLIENTS
 }

@@ -26,9 +26,9 @@ loop-client-preserved g c =
     let rest : drop i ms ≡ m ∷ drop (i + 1) ms = first_of ms i m c.loop-client-test.true c.loop-client-item.is in
     let all = l.invariant.all ∙ ap (λ xs. l.bytes + bytes_from (numbers_behind st (take l.count l.lasts) l.clients l.next) xs) rest in
     record {
-      all = counted_on st _ _ m.0 m.1 _ l.clients l.next _ _ l.bytes _ d (drop (i + 1) ms) last_is c.in-Some.ensures.done fs_is k_is x_is all;
+      all = counted_on st _ _ m.0 m.1 _ l.clients l.next _ _ l.bytes _ d (drop (i + 1) ms) last_is c.in-Some.ensures fs_is k_is x_is c.deed_bytes-bytes.result c.deed_bytes-bytes.ensures.exact all;
       count_few = omega (arith, l.invariant.count_few);
-      clients_few = clients_few st _ _ m.0 m.1 _ l.clients l.next _ _ l.bytes 0 d ms last_is c.in-Some.ensures.done fs_is k_is x_is l.invariant.clients_few;
-      next_low = next_low st _ _ m.0 m.1 _ l.clients l.next _ _ l.bytes 0 d ms last_is c.in-Some.ensures.done fs_is k_is x_is l.invariant.next_low;
-      bytes_few = omega (arith, l.invariant.bytes_few, c.in-Some.ensures.short);
+      clients_few = clients_few st _ _ m.0 m.1 _ l.clients l.next _ _ l.bytes 0 d ms last_is c.in-Some.ensures fs_is k_is x_is l.invariant.clients_few;
+      next_low = next_low st _ _ m.0 m.1 _ l.clients l.next _ _ l.bytes 0 d ms last_is c.in-Some.ensures fs_is k_is x_is l.invariant.next_low;
+      bytes_few = omega (arith, l.invariant.bytes_few, c.deed_bytes-bytes.ensures.short);
     }
