@@ -8,6 +8,7 @@ mod disks;
 mod durable;
 mod empty;
 mod fault;
+mod laws;
 mod limits;
 mod renewal;
 mod served;
