@@ -43,7 +43,7 @@ use Rattle.linda_server.specs.Server.{both_of, BothHonest}
 use Rattle.linda_server.specs.Calls.{StandsAround, IsWithOrWithout, StandsAfter, IsBeforeOrAfter, StandsFor, IsNothingOr}
 use Rattle.linda_server.specs.Node.{shown}
 use Rattle.linda_server.specs.Reopening.{has_done}
-use Rattle.linda_server.specs.Lives.{found_of, Call, handles, serves, closes, rewrites, Fall, at_work, at_rest, Cut, amid_work, amid_rest, AreLeft, Made, disks_then, IsNew, IsOpenedOn, Phase, Serving, Stopped, Life, made, half_made, called, fell, cut, stopped, opened, not_opened, KeepsItsWord, IsFreed}
+use Rattle.linda_server.specs.Lives.{found_of, Call, handles, serves, closes, rewrites, Fall, at_work, at_rest, Cut, amid_work, amid_rest, AreLeft, Made, disks_then, IsNew, IsOpenedOn, Phase, Serving, Stopped, Life, made, half_made, called, fell, cut, stopped, opened, not_opened, KeepsItsWord, IsReady, AreReady, IsFreed}
 use Rattle.linda_server.proofs.AgainLaws.{answered_as_kept, all_covered, still_there}
 use Rattle.linda_server.proofs.CallLaws.{none_remains, stands_with}
 use Rattle.linda_server.proofs.NodeLaws.{has_done_it, has_gone_down}
@@ -65,8 +65,8 @@ IsThere before ds hand left right = ∥ IsSomething before ds hand left right �
 
 -- What stands is no bank's lack.
 not_none : (left right : List ℕ) (st : State) → Stands left right st → IsNoBank left × IsNoBank right → ⊥
-not_none left right st (inl use) none = none.0 (is_candidate left use.generation (spell_state use.stands.opening) use.stands.records use.stands.bank)
-not_none left right st (inr use) none = none.1 (is_candidate right use.generation (spell_state use.stands.opening) use.stands.records use.stands.bank)
+not_none left right st (inl first) none = none.0 (is_candidate left first.generation (spell_state first.stands.opening) first.stands.records first.stands.bank)
+not_none left right st (inr first) none = none.1 (is_candidate right first.generation (spell_state first.stands.opening) first.stands.records first.stands.bank)
 
 there_then : (before st : State) (ds hand : List Deed) (left right : List ℕ) → Stands left right st → IsThere before ds hand left right → IsWithOrWithout before hand left right
 there_then before st ds hand left right stands some = ∥∥₁_map some which
@@ -110,6 +110,16 @@ timed_sides : (is_right : Bool) (used other : View) → IsTimed used → IsTimed
 timed_sides true used other timed_used timed = (timed, timed_used)
 timed_sides false used other timed_used timed = (timed_used, timed)
 
+-- What is known of two disks: what stands there, and the deeds go on with those that were in hand.
+record AreKnown {D : Type 0} (g : Ghosts D) (ds hand : List Deed) (all : List (ℕ × Reply)) (left right : D) : Type 0 where
+  before : State
+  done : AreDone empty_state ds before
+  goes_on : IsProper empty_state (ds ++ hand)
+  backed : AreBacked ds all
+  honest_left : g.honest left
+  honest_right : g.honest right
+  there : PairsNow (two (g.view left) (g.view right)) (IsThere before ds hand)
+
 module _ {D : Type 0} {g : Ghosts D} (timed : (d : D) → g.honest d → IsTimed (g.view d)) where
   timed_both : (disks : Disks (Bank D g) D) → BothHonest disks → IsTimed (both_of disks).left × IsTimed (both_of disks).right
   timed_both (InUse pair) are = timed_sides pair.is_right (g.view pair.bank.disk) (g.view pair.other) (timed pair.bank.disk are.0) (timed pair.other are.1)
@@ -117,10 +127,10 @@ module _ {D : Type 0} {g : Ghosts D} (timed : (d : D) → g.honest d → IsTimed
   timed_both Away are = absurd are
 
   -- What crashes since leave, two disks after them leave.
-  left_since : (old new : Both) (P : List ℕ → List ℕ → Type 0) (left right : D) → PairsSince old new P → AreLeft old new left right → PairsNow (two (g.view left) (g.view right)) P
+  left_since : (old new : Both) (P : List ℕ → List ℕ → Type 0) (left right : D) → PairsSince old new P → AreLeft g old new left right → PairsNow (two (g.view left) (g.view right)) P
   left_since old new P left right since are a b la rb = since.each a b (are.left_was a la) (are.right_was b rb)
 
-  left_now : (disks : Disks (Bank D g) D) (P : List ℕ → List ℕ → Type 0) (left right : D) → BothHonest disks → PairsNow (both_of disks) P → AreLeft (both_of disks) (both_of disks) left right
+  left_now : (disks : Disks (Bank D g) D) (P : List ℕ → List ℕ → Type 0) (left right : D) → BothHonest disks → PairsNow (both_of disks) P → AreLeft g (both_of disks) (both_of disks) left right
       → PairsNow (two (g.view left) (g.view right)) P
   left_now disks P left right honest now are a b la rb =
       let times = timed_both disks honest in
@@ -136,19 +146,9 @@ module _ {D : Type 0} {g : Ghosts D} (timed : (d : D) → g.honest d → IsTimed
     sound : IsSound ds (node s)
     backed : AreBacked ds all
 
-  -- Of two disks: what stands there, and the deeds go on with those that were in hand.
-  record AreKnown (ds hand : List Deed) (all : List (ℕ × Reply)) (left right : D) : Type 0 where
-    before : State
-    done : AreDone empty_state ds before
-    goes_on : IsProper empty_state (ds ++ hand)
-    backed : AreBacked ds all
-    honest_left : g.honest left
-    honest_right : g.honest right
-    there : PairsNow (two (g.view left) (g.view right)) (IsThere before ds hand)
-
-  abbrev Known : List Deed → List (ℕ × Reply) → Phase {D = D} {g = g} → Type 0
+  abbrev Known : List Deed → List (ℕ × Reply) → Phase g → Type 0
   Known ds all (Serving s) = IsKnown ds all s
-  Known ds all (Stopped hand left right) = AreKnown ds hand all left right
+  Known ds all (Stopped hand left right) = AreKnown g ds hand all left right
 
   state_up : (s : Durable D g) → s.down ≡ false → (node s).state ≡ s.store.state
   state_up s up = cond-false s.down s.before.value s.store.state up
@@ -221,7 +221,7 @@ module _ {D : Type 0} {g : Ghosts D} (timed : (d : D) → g.honest d → IsTimed
       }
 
   cut_known : (ds hand : List Deed) (all : List (ℕ × Reply)) (old new : Durable D g) (left right : D) → IsKnown ds all old → old.down ≡ false → BothHonest old.disks → Cut old new hand
-      → AreLeft (both_of old.disks) (both_of new.disks) left right → AreKnown ds hand all left right
+      → AreLeft g (both_of old.disks) (both_of new.disks) left right → AreKnown g ds hand all left right
   cut_known ds _ all old new left right known up honest (amid_work xs whole happens always) are =
       let orderly = order_up ds old known.sound up in
       let done = done_up ds old known.sound up in
@@ -252,8 +252,8 @@ module _ {D : Type 0} {g : Ghosts D} (timed : (d : D) → g.honest d → IsTimed
 
   -- Between two calls, or while it is down.
   module _ (ds : List Deed) (all : List (ℕ × Reply)) (s : Durable D g) (left right : D) (known : IsKnown ds all s) (honest : BothHonest s.disks)
-      (are : AreLeft (both_of s.disks) (both_of s.disks) left right) where
-    stopped_at : (base : State) → AreDone empty_state ds base → IsProper empty_state (ds ++ s.lost.items) → PairsNow (both_of s.disks) (IsWithOrWithout base s.lost.items) → AreKnown ds s.lost.items all left right
+      (are : AreLeft g (both_of s.disks) (both_of s.disks) left right) where
+    stopped_at : (base : State) → AreDone empty_state ds base → IsProper empty_state (ds ++ s.lost.items) → PairsNow (both_of s.disks) (IsWithOrWithout base s.lost.items) → AreKnown g ds s.lost.items all left right
     stopped_at base done goes_on now = record {
       before = base;
       done = done;
@@ -264,7 +264,7 @@ module _ {D : Type 0} {g : Ghosts D} (timed : (d : D) → g.honest d → IsTimed
       there = λ a b la rb. ∥∥₁_map (left_now s.disks (IsWithOrWithout base s.lost.items) left right honest now are a b la rb) (λ x. inr x);
     }
 
-    stopped_known : AreKnown ds s.lost.items all left right
+    stopped_known : AreKnown g ds s.lost.items all left right
     stopped_known = by_bool s.down
         (λ down.
           stopped_at s.before.value (record { proper = known.sound.proper; after = subst (IsAfter empty_state ds) (cond-true s.down s.before.value s.store.state down) known.sound.after })
@@ -275,27 +275,46 @@ module _ {D : Type 0} {g : Ghosts D} (timed : (d : D) → g.honest d → IsTimed
           (stands_with (λ b. b.generation) (λ b. b.end) (λ b. g.view b.disk) g.view (λ b. g.honest b.disk) g.honest (λ b h. timed b.disk h) timed s.disks s.store.state s.lost.items (s.none_lost up)
           (order_up ds s known.sound up).state_is honest (s.kept up)))
 
-  module _ (ds hand : List Deed) (all : List (ℕ × Reply)) (left right : D) (s : Durable D g) (known : AreKnown ds hand all left right) (is_open : IsOpenedOn left right s) where
-    -- What stands as the disks read.
-    found_after : IsAfter known.before (found_of s.store.state hand) s.store.state
-    found_after =
-        let seen = known.there (g.view left).seen (g.view right).seen (timed left known.honest_left).stays (timed right known.honest_right).stays in
-        reopened known.before s.store.state hand (g.view left).seen (g.view right).seen (has_done s.store.state hand) refl
-        (there_then known.before s.store.state ds hand (g.view left).seen (g.view right).seen is_open.found seen) is_open.found
+  -- What stands as the disks read.
+  module _ (ds hand : List Deed) (all : List (ℕ × Reply)) (left right : D) (known : AreKnown g ds hand all left right) where
+    seen : IsThere known.before ds hand (g.view left).seen (g.view right).seen
+    seen = known.there (g.view left).seen (g.view right).seen (timed left known.honest_left).stays (timed right known.honest_right).stays
 
-    opened_known : IsKnown (ds ++ found_of s.store.state hand) all s
-    opened_known =
-        let proper = found_proper ds hand (has_done s.store.state hand) known.done.proper known.goes_on in
-        let after = joined_after empty_state known.before s.store.state ds (found_of s.store.state hand) known.done.after found_after (takes_below empty_state ds empty_is_state known.done.proper) in
-        let is = proper_state empty_state s.store.state (ds ++ found_of s.store.state hand) empty_is_state proper after in
+    found_after : (st : State) → Stands (g.view left).seen (g.view right).seen st → IsAfter known.before (found_of st hand) st
+    found_after st stands =
+        reopened known.before st hand (g.view left).seen (g.view right).seen (has_done st hand) refl
+        (there_then known.before st ds hand (g.view left).seen (g.view right).seen stands seen) stands
+
+    found_done : (st : State) → Stands (g.view left).seen (g.view right).seen st → AreDone empty_state (ds ++ found_of st hand) st
+    found_done st stands = record {
+      proper = found_proper ds hand (has_done st hand) known.done.proper known.goes_on;
+      after = joined_after empty_state known.before st ds (found_of st hand) known.done.after (found_after st stands) (takes_below empty_state ds empty_is_state known.done.proper);
+    }
+
+    all_ready : AreReady g ds hand all left right
+    all_ready = record { backed = known.backed; ready = ∥∥₁_map seen which }
+      where
+        which : IsSomething known.before ds hand (g.view left).seen (g.view right).seen
+            → ((IsNoBank (g.view left).seen × IsNoBank (g.view right).seen) × (ds ≡ [])) ⊎ IsReady ds hand (g.view left).seen (g.view right).seen
+        which (inl none) = inl none
+        which (inr around) =
+            elim around.stands [
+              | inl stands ↦ inr (record { state = known.before; stands = stands; done = found_done known.before stands })
+              | inr stands ↦ inr (record { state = around.new; stands = stands; done = found_done around.new stands })
+            ]
+
+    opened_known : (s : Durable D g) → IsOpenedOn left right s → IsKnown (ds ++ found_of s.store.state hand) all s
+    opened_known s is_open =
+        let done = found_done s.store.state is_open.found in
+        let is = proper_state empty_state s.store.state (ds ++ found_of s.store.state hand) empty_is_state done.proper done.after in
         record {
-          sound = sound_up s (ds ++ found_of s.store.state hand) is_open.is_up (record { proper = proper; after = after }) (new_store_orderly s.store.state s.store.soft is is_open.soft_is);
+          sound = sound_up s (ds ++ found_of s.store.state hand) is_open.is_up done (new_store_orderly s.store.state s.store.soft is is_open.soft_is);
           backed = backed_later ds (found_of s.store.state hand) all known.backed;
         }
 
   -- ---- every life
 
-  known_of : (ds : List Deed) (all : List (ℕ × Reply)) (phase : Phase {D = D} {g = g}) → Life ds all phase → Known ds all phase
+  known_of : (ds : List Deed) (all : List (ℕ × Reply)) (phase : Phase g) → Life ds all phase → Known ds all phase
   known_of _ _ _ (made s new) = new_known s new
   known_of _ _ _ (half_made first second left right result honest_first honest_second since are) = record {
     before = empty_state;
@@ -310,9 +329,9 @@ module _ {D : Type 0} {g : Ghosts D} (timed : (d : D) → g.honest d → IsTimed
   known_of _ _ _ (fell ds all old new life up down fall) = fallen_known ds all old new (known_of ds all (Serving old) life) up down fall
   known_of _ _ _ (cut ds hand all old new left right life up honest call are) = cut_known ds hand all old new left right (known_of ds all (Serving old) life) up honest call are
   known_of _ _ _ (stopped ds all s left right life honest are) = stopped_known ds all s left right (known_of ds all (Serving s) life) honest are
-  known_of _ _ _ (opened ds hand all left right s life is_open) = opened_known ds hand all left right s (known_of ds all (Stopped hand left right) life) is_open
+  known_of _ _ _ (opened ds hand all left right s life is_open) = opened_known ds hand all left right (known_of ds all (Stopped hand left right) life) s is_open
   known_of _ _ _ (not_opened ds hand all first second left right result life no_other are) =
-      let known : AreKnown ds hand all first second = known_of ds all (Stopped hand first second) life in
+      let known : AreKnown g ds hand all first second = known_of ds all (Stopped hand first second) life in
       record {
         before = known.before;
         done = known.done;
@@ -330,6 +349,7 @@ module _ {D : Type 0} {g : Ghosts D} (timed : (d : D) → g.honest d → IsTimed
       let done : AreDone empty_state ds (node s).state = record { proper = known.sound.proper; after = known.sound.after } in
       record {
         done = done;
+        ranges = proper_state empty_state (node s).state ds empty_is_state known.sound.proper known.sound.after;
         once = taken_once empty_state ds empty_is_state known.sound.proper;
         backed = known.backed;
         covered = all_covered ds (node s).state done all known.backed;
@@ -337,16 +357,20 @@ module _ {D : Type 0} {g : Ghosts D} (timed : (d : D) → g.honest d → IsTimed
             answered_as_kept s.store.state c n kept (order_up ds s known.sound up).state_is there s.store.soft m answered new bears step;
       }
 
+  -- Two disks after a life without a server are ready to be opened.
+  pub are_ready : (left right : D) (ds hand : List Deed) (all : List (ℕ × Reply)) → Life {g = g} ds all (Stopped hand left right) → AreReady g ds hand all left right
+  are_ready left right ds hand all life = all_ready ds hand all left right (known_of ds all (Stopped hand left right) life)
+
   -- An opening frees what was held.
-  pub frees : (s : Durable D g) (ds hand : List Deed) (all : List (ℕ × Reply)) (left right : D) → Life ds all (Stopped hand left right) → IsOpenedOn left right s → IsFreed ds hand all s
-  frees s ds hand all left right life is_open =
-      let known : AreKnown ds hand all left right = known_of ds all (Stopped hand left right) life in
+  pub frees : (s : Durable D g) (left right : D) (ds hand : List Deed) (all : List (ℕ × Reply)) → Life {g = g} ds all (Stopped hand left right) → IsOpenedOn left right s → IsFreed ds hand all s
+  frees s left right ds hand all life is_open =
+      let known : AreKnown g ds hand all left right = known_of ds all (Stopped hand left right) life in
       record {
         nobody = is_open.soft_is;
         back = λ old id life_then up held free.
-            let then : IsKnown ds all old = known_of ds all (Serving old) life_then in
-            let orderly = order_up ds old then.sound up in
-            let same : known.before ≡ old.store.state = one_after empty_state ds known.before old.store.state known.done.after (done_up ds old then.sound up).after in
+            let was : IsKnown ds all old = known_of ds all (Serving old) life_then in
+            let orderly = order_up ds old was.sound up in
+            let same : known.before ≡ old.store.state = one_after empty_state ds known.before old.store.state known.done.after (done_up ds old was.sound up).after in
             still_there old.store.state s.store.state (found_of s.store.state hand) id orderly.state_is
-            (subst (λ st. IsAfter st (found_of s.store.state hand) s.store.state) same (found_after ds hand all left right s known is_open)) free (orderly.soft_is.there id held);
+            (subst (λ st. IsAfter st (found_of s.store.state hand) s.store.state) same (found_after ds hand all left right known s.store.state is_open.found)) free (orderly.soft_is.there id held);
       }

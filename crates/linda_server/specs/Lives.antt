@@ -7,7 +7,7 @@ use Rattle.linda_wire.specs.declared.reply.Reply.{Reply}
 use Rattle.linda_book.specs.declared.kept.KeptReply.{KeptReply}
 use Rattle.linda_state.specs.declared.deed.Deed.{Deed}
 use Rattle.linda_state.specs.Deed.{is_taken}
-use Rattle.linda_state.specs.State.{State, empty_state}
+use Rattle.linda_state.specs.State.{State, IsState, empty_state}
 use Rattle.linda_state.specs.Once.{IsTakenOnce}
 use Rattle.linda_state.specs.Proper.{AreDone}
 use Rattle.linda_step.specs.Soft.{Soft, no_asks}
@@ -19,6 +19,7 @@ use Rattle.linda_promise.specs.Covered.{IsCovered}
 use Rattle.linda_store.specs.Node.{MayRemain}
 use Rattle.linda_store.specs.Sound.{AreBacked}
 use Rattle.linda_disk.specs.declared.disk.Disk.{Ghosts}
+use Rattle.linda_journal.specs.Renewal.{IsNoBank}
 use Rattle.linda_snap.specs.Stands.{Stands}
 use Rattle.linda_server.specs.declared.durable.Durable.{Durable}
 use Rattle.linda_server.specs.declared.fault.OpenFault.{OpenFault}
@@ -37,6 +38,24 @@ found_of st hand = if has_done st hand then hand else []
 -- this is sent, and holds and waits stand so
 abbrev pub sent : List (ℕ × Reply) → Soft → Sends
 sent sends soft = record { sends = sends; soft = soft }
+
+module _ {D : Type 0} (g : Ghosts D) where
+  -- Two disks after a crash at some moment from the one to the other: whatever may be left of each of them, that crash
+  -- may have left. They are honest.
+  pub record AreLeft (old new : Both) (left right : D) : Type 0 where
+    pub honest_left : g.honest left
+    pub honest_right : g.honest right
+    pub left_was : (image : List ℕ) → (g.view left).may_leave image → new.left.left_since old.left.moment image
+    pub right_was : (image : List ℕ) → (g.view right).may_leave image → new.right.left_since old.right.moment image
+
+  -- what `create` and `open` hand back: a server, or a fault and the two disks
+  abbrev pub Made : Type 0
+  Made = Result (Durable D g) (OpenFault × D × D)
+
+  -- There is a server, up or down; or there is none, and these were the deeds in hand and these are the disks.
+  pub data Phase : Type 0 where
+    Serving : Durable D g → Phase
+    Stopped : List Deed → D → D → Phase
 
 module _ {D : Type 0} {g : Ghosts D} where
   -- A call that ended well: the deeds that it did, and what it sent.
@@ -71,20 +90,8 @@ module _ {D : Type 0} {g : Ghosts D} where
     -- of `close`, `snapshot`, `renew`, `trim` and `clear` (`any_moment`)
     amid_rest : AlwaysLeave old.disks new.disks (StandsFor old.store.state) → Cut old new []
 
-  -- Two disks after a crash at some moment from the one to the other: whatever may be left of each of them, that crash
-  -- may have left. They are honest.
-  pub record AreLeft (old new : Both) (left right : D) : Type 0 where
-    pub honest_left : g.honest left
-    pub honest_right : g.honest right
-    pub left_was : (image : List ℕ) → (g.view left).may_leave image → new.left.left_since old.left.moment image
-    pub right_was : (image : List ℕ) → (g.view right).may_leave image → new.right.left_since old.right.moment image
-
-  -- what `create` and `open` hand back: a server, or a fault and the two disks
-  abbrev pub Made : Type 0
-  Made = Result (Durable D g) (OpenFault × D × D)
-
   -- the two disks then
-  abbrev pub disks_then : Made → Both
+  abbrev pub disks_then : Made g → Both
   disks_then (Ok s) = both_of s.disks
   disks_then (Err e) = two (g.view e.1) (g.view e.2)
 
@@ -99,19 +106,14 @@ module _ {D : Type 0} {g : Ghosts D} where
     pub soft_is : s.store.soft ≡ no_asks
     pub is_up : s.down ≡ false
 
-  -- There is a server, up or down; or there is none, and these were the deeds in hand and these are the disks.
-  pub data Phase : Type 0 where
-    Serving : Durable D g → Phase
-    Stopped : List Deed → D → D → Phase
-
   -- All lives: the deeds so far, all that was sent, and the phase. A call that is refused and one of a server that is
   -- down leave the server as it was.
-  pub data Life : List Deed → List (ℕ × Reply) → Phase → Type 0 where
+  pub data Life : List Deed → List (ℕ × Reply) → Phase g → Type 0 where
     made : (s : Durable D g) → IsNew s → Life [] [] (Serving s)
     -- a making that was cut off, or failed (`create`: `any_moment`)
-    half_made : (first second left right : D) (made : Made) → g.honest first → g.honest second
+    half_made : (first second left right : D) (made : Made g) → g.honest first → g.honest second
         → PairsSince (two (g.view first) (g.view second)) (disks_then made) (IsNothingOr empty_state)
-        → AreLeft (two (g.view first) (g.view second)) (disks_then made) left right
+        → AreLeft g (two (g.view first) (g.view second)) (disks_then made) left right
         → Life [] [] (Stopped [] left right)
     called : (ds es : List Deed) (all sends : List (ℕ × Reply)) (old new : Durable D g) → Life ds all (Serving old)
         → old.down ≡ false → new.down ≡ false → Call old new es sends
@@ -120,19 +122,19 @@ module _ {D : Type 0} {g : Ghosts D} where
         → old.down ≡ false → new.down ≡ true → Fall old new → Life ds all (Serving new)
     cut : (ds hand : List Deed) (all : List (ℕ × Reply)) (old new : Durable D g) (left right : D)
         → Life ds all (Serving old) → old.down ≡ false → BothHonest old.disks → Cut old new hand
-        → AreLeft (both_of old.disks) (both_of new.disks) left right → Life ds all (Stopped hand left right)
+        → AreLeft g (both_of old.disks) (both_of new.disks) left right → Life ds all (Stopped hand left right)
     -- between two calls, or while it is down
     stopped : (ds : List Deed) (all : List (ℕ × Reply)) (s : Durable D g) (left right : D)
         → Life ds all (Serving s) → BothHonest s.disks
-        → AreLeft (both_of s.disks) (both_of s.disks) left right → Life ds all (Stopped s.lost.items left right)
+        → AreLeft g (both_of s.disks) (both_of s.disks) left right → Life ds all (Stopped s.lost.items left right)
     opened : (ds hand : List Deed) (all : List (ℕ × Reply)) (left right : D) (s : Durable D g)
         → Life ds all (Stopped hand left right) → IsOpenedOn left right s
         → Life (ds ++ found_of s.store.state hand) all (Serving s)
     -- an opening that was cut off, or failed (`open`: `any_moment`)
-    not_opened : (ds hand : List Deed) (all : List (ℕ × Reply)) (first second left right : D) (made : Made)
+    not_opened : (ds hand : List Deed) (all : List (ℕ × Reply)) (first second left right : D) (made : Made g)
         → Life ds all (Stopped hand first second)
         → LeavesNoOther (two (g.view first) (g.view second)) (disks_then made)
-        → AreLeft (two (g.view first) (g.view second)) (disks_then made) left right
+        → AreLeft g (two (g.view first) (g.view second)) (disks_then made) left right
         → Life ds all (Stopped hand left right)
 
   -- its state; while it is down, the one before the call in which it went down
@@ -152,6 +154,7 @@ module _ {D : Type 0} {g : Ghosts D} where
   pub record KeepsItsWord (ds : List Deed) (all : List (ℕ × Reply)) (s : Durable D g) : Type 0 where
     -- its deeds, each allowed where it was done, lead from nothing to its state
     pub done : AreDone empty_state ds (state_of s)
+    pub ranges : IsState (state_of s)
     pub once : IsTakenOnce ds
     -- each reply that was ever sent and tells of a deed is the one to a deed that is there,
     pub backed : AreBacked ds all
@@ -159,20 +162,24 @@ module _ {D : Type 0} {g : Ghosts D} where
     pub covered : All (IsCovered (state_of s)) all
     pub again : s.down ≡ false → RepeatsWhatIsKept s
 
-  -- A server on disks where these deeds were in hand: nothing is held and nobody waits, and each tuple that was held
-  -- before is there as it was, unless a deed that was in hand took it.
+  -- What holds of a server that was opened where these deeds were in hand: nothing is held and nobody waits, and each
+  -- tuple that was held before is there as it was, unless a deed that was in hand took it.
   pub record IsFreed (ds hand : List Deed) (all : List (ℕ × Reply)) (s : Durable D g) : Type 0 where
     pub nobody : s.store.soft ≡ no_asks
     pub back : (old : Durable D g) (id : ℕ) → Life ds all (Serving old) → old.down ≡ false
         → IsSome (get old.store.soft.holds id) → is_taken id (found_of s.store.state hand) ≡ false
         → IsSome (get s.store.state.bag id) × (get s.store.state.bag id ≡ get old.store.state.bag id)
 
-  -- Every life that leads to the server.
-  abbrev pub AlwaysKeepsItsWord : Durable D g → Type 0
-  AlwaysKeepsItsWord s = (ds : List Deed) (all : List (ℕ × Reply)) → Life ds all (Serving s) → KeepsItsWord ds all s
+-- On these two files stands the state after the deeds so far and those that were in hand, or none of the latter.
+pub record IsReady (ds hand : List Deed) (left right : List ℕ) : Type 0 where
+  pub state : State
+  pub stands : Stands left right state
+  pub done : AreDone empty_state (ds ++ found_of state hand) state
 
-  -- Every opening that leads to it.
-  abbrev pub IsAlwaysFreed : Durable D g → Type 0
-  IsAlwaysFreed s =
-      (ds hand : List Deed) (all : List (ℕ × Reply)) (left right : D) → Life ds all (Stopped hand left right)
-      → IsOpenedOn left right s → IsFreed ds hand all s
+module _ {D : Type 0} (g : Ghosts D) where
+  -- What holds of two disks without a server, where these deeds were in hand: a state stands there, which `open` finds
+  -- (`only`); or no server was ever made.
+  pub record AreReady (ds hand : List Deed) (all : List (ℕ × Reply)) (left right : D) : Type 0 where
+    pub backed : AreBacked ds all
+    pub ready : ∥ ((IsNoBank (g.view left).seen × IsNoBank (g.view right).seen) × (ds ≡ []))
+        ⊎ IsReady ds hand (g.view left).seen (g.view right).seen ∥₁
