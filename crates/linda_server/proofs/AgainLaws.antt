@@ -27,6 +27,7 @@ use Rattle.linda_state.proofs.ProperLaws.{front_proper, reached, proper_state, m
 use Rattle.linda_state.proofs.ReplyLaws.{reply_behind, kept_behind}
 use Rattle.linda_step.specs.Soft.{Soft}
 use Rattle.linda_step.specs.Answer.{Answer, only_reply, reply_of_kept, class_in, last_number, without_deed, out_without_deed, accept_without_deed, on_out, on_accept, IsAnswer, IsStep}
+use Rattle.linda_step.specs.History.{says, History, Happens, first_then, nothing_yet, history_of}
 use Rattle.linda_promise.specs.Steps.{number_of_message}
 use Rattle.linda_promise.specs.Replies.{reports_deed, ReportsOne}
 use Rattle.linda_promise.specs.Covered.{number_in_reply, IsCovered}
@@ -57,11 +58,17 @@ module _ (st : State) (c n : ℕ) (reply : KeptReply) (is : IsState st) (there :
       subst (λ j. answered ≡ on_accept st c j ticket id (accept_without_deed st c j) soft) (same_Some k n bears) told
       ∙ ap (λ r. on_accept st c n ticket id r soft) (without (n == NUMBER_LIMIT))
 
-  pub answered_as_kept : (soft : Soft) (m : Message) (answered : Answer) (new : State) → number_of_message m ≡ Some n → IsStep st soft c m answered new
-      → (answered ≡ only_reply c (reply_of_kept n reply) soft) × (new ≡ st)
-  answered_as_kept soft m answered new bears step =
-      let told = answer soft m answered bears step.answer in
-      (told, one_after st [] new st (subst (λ (a : Answer). IsAfter st (option_to_list a.deed) new) told step.state_is) (none_after st is))
+  pub answered_as_kept : (soft : Soft) (m : Message) (all : History) → number_of_message m ≡ Some n → Happens st soft (says c m ∷ []) all
+      → all ≡ history_of st soft [] ((c, reply_of_kept n reply) ∷ [])
+  answered_as_kept soft m all bears happens =
+      let first : Answer = happens.0 in
+      let mid : State = happens.1.0 in
+      let later : History = happens.1.1.0 in
+      let step : IsStep st soft c m first mid = happens.1.1.1.0 in
+      let none : later ≡ nothing_yet mid first.soft = happens.1.1.1.1.0 in
+      let told : first ≡ only_reply c (reply_of_kept n reply) soft = answer soft m first bears step.answer in
+      let same : mid ≡ st = one_after st [] mid st (subst (λ (a : Answer). IsAfter st (option_to_list a.deed) mid) told step.state_is) (none_after st is) in
+      happens.1.1.1.1.1 ∙ ap (first_then first) none ∙ (λ i. first_then (told i) (nothing_yet (same i) (told i).soft))
 
 -- ---- a reply that was sent, while more is done
 

@@ -33,7 +33,8 @@ use Rattle.linda_journal.specs.declared.bank.Bank.{Bank}
 use Rattle.linda_journal.specs.Renewal.{IsNoBank}
 use Rattle.linda_journal.proofs.ImageLaws.{is_candidate}
 use Rattle.linda_snap.specs.Snapshot.{spell_state}
-use Rattle.linda_snap.specs.Stands.{StandsOn, Stands}
+use Rattle.linda_snap.specs.Stands.{Stands}
+use Rattle.linda_snap.proofs.ChoiceLaws.{one_stands}
 use Rattle.linda_server.specs.declared.disks.Disks.{Disks}
 use Rattle.linda_server.specs.declared.disks.Disks.TheVariants.{InUse, Shut, Away}
 use Rattle.linda_server.specs.declared.durable.Durable.{Durable}
@@ -56,38 +57,29 @@ by_bool false at_true at_false = at_false refl
 
 -- ---- what stands on two disks
 
--- Neither is a bank and nothing was ever done; or they stand for the state of before, or for the one after these deeds.
-abbrev IsSomething : State → List Deed → List Deed → List ℕ → List ℕ → Type 0
-IsSomething before ds hand left right = ((IsNoBank left × IsNoBank right) × (ds ≡ [])) ⊎ StandsAround before hand left right
-
-abbrev IsThere : State → List Deed → List Deed → List ℕ → List ℕ → Type 0
-IsThere before ds hand left right = ∥ IsSomething before ds hand left right ∥₁
-
 -- What stands is no bank's lack.
 not_none : (left right : List ℕ) (st : State) → Stands left right st → IsNoBank left × IsNoBank right → ⊥
 not_none left right st (inl first) none = none.0 (is_candidate left first.generation (spell_state first.stands.opening) first.stands.records first.stands.bank)
 not_none left right st (inr first) none = none.1 (is_candidate right first.generation (spell_state first.stands.opening) first.stands.records first.stands.bank)
 
-there_then : (before st : State) (ds hand : List Deed) (left right : List ℕ) → Stands left right st → IsThere before ds hand left right → IsWithOrWithout before hand left right
-there_then before st ds hand left right stands some = ∥∥₁_map some which
-  where
-    which : IsSomething before ds hand left right → StandsAround before hand left right
-    which (inl none) = absurd (not_none left right st stands none.0)
-    which (inr around) = around
+-- Where there is nothing or the empty state, what stands is that one.
+empty_stands : (left right : List ℕ) (st : State) → Stands left right st → IsNothingOr empty_state left right → st ≡ empty_state
+empty_stands left right st stands (inl none) = absurd (not_none left right st stands none)
+empty_stands left right st stands (inr empty) = one_stands left right st empty_state stands empty
 
 -- The state stands.
-at_rest_there : (st : State) (ds : List Deed) (left right : List ℕ) → IsState st → StandsFor st left right → IsThere st ds [] left right
-at_rest_there st ds left right is some = ∥∥₁_map some (λ x. inr (record { new = st; ranges = is; done = none_done st is; stands = inl x }))
+at_rest_there : (st : State) (left right : List ℕ) → IsState st → StandsFor st left right → IsWithOrWithout st [] left right
+at_rest_there st left right is some = ∥∥₁_map some (λ x. record { new = st; ranges = is; done = none_done st is; stands = inl x })
 
 -- So it does, or the one after what came.
-at_work_there : (old : Store) (xs : List Coming) (all : History) (ds : List Deed) (left right : List ℕ) → IsOrderly old.state old.soft → Happens old.state old.soft xs all
-    → IsBeforeOrAfter old xs left right → IsThere old.state ds all.deeds left right
-at_work_there old xs all ds left right orderly happens some = ∥∥₁_map some around
+at_work_there : (old : Store) (xs : List Coming) (all : History) (left right : List ℕ) → IsOrderly old.state old.soft → Happens old.state old.soft xs all
+    → IsBeforeOrAfter old xs left right → IsWithOrWithout old.state all.deeds left right
+at_work_there old xs all left right orderly happens some = ∥∥₁_map some around
   where
-    around : Stands left right old.state ⊎ StandsAfter old xs left right → IsSomething old.state ds all.deeds left right
+    around : Stands left right old.state ⊎ StandsAfter old xs left right → StandsAround old.state all.deeds left right
     around x =
         let safe = all_safe old.state old.soft xs all orderly happens in
-        inr (record {
+        record {
           new = all.state;
           ranges = orderly.state_is;
           done = record { proper = safe.proper; after = safe.after };
@@ -95,11 +87,7 @@ at_work_there old xs all ds left right orderly happens some = ∥∥₁_map some
             | inl before ↦ inl before
             | inr after ↦ inr (subst (λ (h : History). Stands left right h.state) (one_outcome old.state old.soft xs after.all all orderly after.happens happens) after.stands)
           ];
-        })
-
-nothing_there : (left right : List ℕ) → IsNothingOr empty_state left right → IsSomething empty_state [] [] left right
-nothing_there left right (inl none) = inl (none, refl)
-nothing_there left right (inr x) = inr (record { new = empty_state; ranges = empty_is_state; done = none_done empty_state empty_is_state; stands = inl x })
+        }
 
 -- Of deeds that go on, those that are found go on.
 found_proper : (ds hand : List Deed) (b : Bool) → IsProper empty_state ds → IsProper empty_state (ds ++ hand) → IsProper empty_state (ds ++ (if b then hand else []))
@@ -118,7 +106,7 @@ record AreKnown {D : Type 0} (g : Ghosts D) (ds hand : List Deed) (all : List (�
   backed : AreBacked ds all
   honest_left : g.honest left
   honest_right : g.honest right
-  there : PairsNow (two (g.view left) (g.view right)) (IsThere before ds hand)
+  there : PairsNow (two (g.view left) (g.view right)) (IsWithOrWithout before hand)
 
 module _ {D : Type 0} {g : Ghosts D} (timed : (d : D) → g.honest d → IsTimed (g.view d)) where
   timed_both : (disks : Disks (Bank D g) D) → BothHonest disks → IsTimed (both_of disks).left × IsTimed (both_of disks).right
@@ -171,15 +159,19 @@ module _ {D : Type 0} {g : Ghosts D} (timed : (d : D) → g.honest d → IsTimed
 
   -- ---- one thing more in a life
 
-  new_known : (s : Durable D g) → IsNew s → IsKnown [] [] s
-  new_known s new =
-      let state_is : s.store.state ≡ empty_state = ap (λ (t : Store). t.state) new.store in
-      let soft_is : s.store.soft ≡ no_asks = ap (λ (t : Store). t.soft) new.store in
-      let is : IsState s.store.state = subst IsState (sym state_is) empty_is_state in
-      record {
-        sound = sound_up s [] new.is_up (subst (AreDone empty_state []) (sym state_is) (none_done empty_state empty_is_state)) (new_store_orderly s.store.state s.store.soft is soft_is);
-        backed = All-nil (λ (send : ℕ × Reply). reports_deed send.1 ≡ true → ReportsOne [] send.0 send.1);
-      }
+  new_known : (s : Durable D g) → s.store.state ≡ empty_state → s.store.soft ≡ no_asks → s.down ≡ false → IsKnown [] [] s
+  new_known s state_is soft_is up = record {
+    sound = sound_up s [] up (subst (AreDone empty_state []) (sym state_is) (none_done empty_state empty_is_state))
+        (new_store_orderly s.store.state s.store.soft (subst IsState (sym state_is) empty_is_state) soft_is);
+    backed = All-nil (λ (send : ℕ × Reply). reports_deed send.1 ≡ true → ReportsOne [] send.0 send.1);
+  }
+
+  half_known : (first second left right : D) (result : Made g) (s : Durable D g) → PairsSince (two (g.view first) (g.view second)) (disks_then result) (IsNothingOr empty_state)
+      → AreLeft g (two (g.view first) (g.view second)) (disks_then result) left right → IsOpenedOn left right s → IsKnown [] [] s
+  half_known first second left right result s since are is_open =
+      let seen = left_since (two (g.view first) (g.view second)) (disks_then result) (IsNothingOr empty_state) left right since are (g.view left).seen (g.view right).seen
+          (timed left are.honest_left).stays (timed right are.honest_right).stays in
+      new_known s (empty_stands (g.view left).seen (g.view right).seen s.store.state is_open.found seen) is_open.soft_is is_open.is_up
 
   -- A call that ended well did what came.
   did : (old new : Durable D g) (es : List Deed) (sends : List (ℕ × Reply)) → old.down ≡ false → new.down ≡ false → Call old new es sends → (xs : List Coming) × IsDone (node old) xs es sends (node new)
@@ -233,7 +225,7 @@ module _ {D : Type 0} {g : Ghosts D} (timed : (d : D) → g.honest d → IsTimed
         backed = known.backed;
         honest_left = are.honest_left;
         honest_right = are.honest_right;
-        there = λ a b la rb. at_work_there old.store xs whole ds a b orderly happens
+        there = λ a b la rb. at_work_there old.store xs whole a b orderly happens
             (left_since (both_of old.disks) (both_of new.disks) (IsBeforeOrAfter old.store xs) left right (always honest) are a b la rb);
       }
   cut_known ds _ all old new left right known up honest (amid_rest always) are =
@@ -246,7 +238,7 @@ module _ {D : Type 0} {g : Ghosts D} (timed : (d : D) → g.honest d → IsTimed
         backed = known.backed;
         honest_left = are.honest_left;
         honest_right = are.honest_right;
-        there = λ a b la rb. at_rest_there old.store.state ds a b orderly.state_is
+        there = λ a b la rb. at_rest_there old.store.state a b orderly.state_is
             (left_since (both_of old.disks) (both_of new.disks) (StandsFor old.store.state) left right (always honest) are a b la rb);
       }
 
@@ -261,7 +253,7 @@ module _ {D : Type 0} {g : Ghosts D} (timed : (d : D) → g.honest d → IsTimed
       backed = known.backed;
       honest_left = are.honest_left;
       honest_right = are.honest_right;
-      there = λ a b la rb. ∥∥₁_map (left_now s.disks (IsWithOrWithout base s.lost.items) left right honest now are a b la rb) (λ x. inr x);
+      there = left_now s.disks (IsWithOrWithout base s.lost.items) left right honest now are;
     }
 
     stopped_known : AreKnown g ds s.lost.items all left right
@@ -277,13 +269,12 @@ module _ {D : Type 0} {g : Ghosts D} (timed : (d : D) → g.honest d → IsTimed
 
   -- What stands as the disks read.
   module _ (ds hand : List Deed) (all : List (ℕ × Reply)) (left right : D) (known : AreKnown g ds hand all left right) where
-    seen : IsThere known.before ds hand (g.view left).seen (g.view right).seen
+    seen : IsWithOrWithout known.before hand (g.view left).seen (g.view right).seen
     seen = known.there (g.view left).seen (g.view right).seen (timed left known.honest_left).stays (timed right known.honest_right).stays
 
     found_after : (st : State) → Stands (g.view left).seen (g.view right).seen st → IsAfter known.before (found_of st hand) st
     found_after st stands =
-        reopened known.before st hand (g.view left).seen (g.view right).seen (has_done st hand) refl
-        (there_then known.before st ds hand (g.view left).seen (g.view right).seen stands seen) stands
+        reopened known.before st hand (g.view left).seen (g.view right).seen (has_done st hand) refl seen stands
 
     found_done : (st : State) → Stands (g.view left).seen (g.view right).seen st → AreDone empty_state (ds ++ found_of st hand) st
     found_done st stands = record {
@@ -294,13 +285,11 @@ module _ {D : Type 0} {g : Ghosts D} (timed : (d : D) → g.honest d → IsTimed
     all_ready : AreReady g ds hand all left right
     all_ready = record { backed = known.backed; ready = ∥∥₁_map seen which }
       where
-        which : IsSomething known.before ds hand (g.view left).seen (g.view right).seen
-            → ((IsNoBank (g.view left).seen × IsNoBank (g.view right).seen) × (ds ≡ [])) ⊎ IsReady ds hand (g.view left).seen (g.view right).seen
-        which (inl none) = inl none
-        which (inr around) =
+        which : StandsAround known.before hand (g.view left).seen (g.view right).seen → IsReady ds hand (g.view left).seen (g.view right).seen
+        which around =
             elim around.stands [
-              | inl stands ↦ inr (record { state = known.before; stands = stands; done = found_done known.before stands })
-              | inr stands ↦ inr (record { state = around.new; stands = stands; done = found_done around.new stands })
+              | inl stands ↦ record { state = known.before; stands = stands; done = found_done known.before stands }
+              | inr stands ↦ record { state = around.new; stands = stands; done = found_done around.new stands }
             ]
 
     opened_known : (s : Durable D g) → IsOpenedOn left right s → IsKnown (ds ++ found_of s.store.state hand) all s
@@ -315,16 +304,8 @@ module _ {D : Type 0} {g : Ghosts D} (timed : (d : D) → g.honest d → IsTimed
   -- ---- every life
 
   known_of : (ds : List Deed) (all : List (ℕ × Reply)) (phase : Phase g) → Life ds all phase → Known ds all phase
-  known_of _ _ _ (made s new) = new_known s new
-  known_of _ _ _ (half_made first second left right result honest_first honest_second since are) = record {
-    before = empty_state;
-    done = none_done empty_state empty_is_state;
-    goes_on = (none_done empty_state empty_is_state).proper;
-    backed = All-nil (λ (send : ℕ × Reply). reports_deed send.1 ≡ true → ReportsOne [] send.0 send.1);
-    honest_left = are.honest_left;
-    honest_right = are.honest_right;
-    there = λ a b la rb. ∣ nothing_there a b (left_since (two (g.view first) (g.view second)) (disks_then result) (IsNothingOr empty_state) left right since are a b la rb) ∣₁;
-  }
+  known_of _ _ _ (made s new) = new_known s (ap (λ (t : Store). t.state) new.store) (ap (λ (t : Store). t.soft) new.store) new.is_up
+  known_of _ _ _ (half_made first second left right result s honest_first honest_second since are is_open) = half_known first second left right result s since are is_open
   known_of _ _ _ (called ds es all sends old new life was_up is_up call) = called_known ds es all sends old new (known_of ds all (Serving old) life) was_up is_up call
   known_of _ _ _ (fell ds all old new life up down fall) = fallen_known ds all old new (known_of ds all (Serving old) life) up down fall
   known_of _ _ _ (cut ds hand all old new left right life up honest call are) = cut_known ds hand all old new left right (known_of ds all (Serving old) life) up honest call are
@@ -353,8 +334,8 @@ module _ {D : Type 0} {g : Ghosts D} (timed : (d : D) → g.honest d → IsTimed
         once = taken_once empty_state ds empty_is_state known.sound.proper;
         backed = known.backed;
         covered = all_covered ds (node s).state done all known.backed;
-        again = λ up c n kept m answered new there bears step.
-            answered_as_kept s.store.state c n kept (order_up ds s known.sound up).state_is there s.store.soft m answered new bears step;
+        again = λ up c n kept m all there bears happens.
+            answered_as_kept s.store.state c n kept (order_up ds s known.sound up).state_is there s.store.soft m all bears happens;
       }
 
   -- Two disks after a life without a server are ready to be opened.

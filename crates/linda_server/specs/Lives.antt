@@ -1,6 +1,6 @@
 -- The life of a server on two disks: its calls, crashes of both disks at any moments, and openings.
-use Rattle.std.specs.Prelude.{◌≡◌, ◌⊎◌, ℕ, Bool, true, false, if◌then◌else◌}
-use Rattle.std.specs.Prelude.{List, [], ◌++◌, All, Some, None, IsSome, Result, Ok, Err}
+use Rattle.std.specs.Prelude.{◌≡◌, ℕ, true, false, if◌then◌else◌}
+use Rattle.std.specs.Prelude.{List, [], ◌∷◌, ◌++◌, All, Some, IsSome, Result, Ok, Err}
 use Rattle.std.specs.FinMap.{get}
 use Rattle.linda_wire.specs.declared.message.Message.{Message}
 use Rattle.linda_wire.specs.declared.reply.Reply.{Reply}
@@ -12,14 +12,13 @@ use Rattle.linda_state.specs.Once.{IsTakenOnce}
 use Rattle.linda_state.specs.Proper.{AreDone}
 use Rattle.linda_step.specs.Soft.{Soft, no_asks}
 use Rattle.linda_step.specs.Dispatch.{Sends, on_close}
-use Rattle.linda_step.specs.Answer.{Answer, only_reply, reply_of_kept, IsStep}
-use Rattle.linda_step.specs.History.{Coming, History, Happens}
+use Rattle.linda_step.specs.Answer.{reply_of_kept}
+use Rattle.linda_step.specs.History.{Coming, says, History, Happens, history_of}
 use Rattle.linda_promise.specs.Steps.{number_of_message}
 use Rattle.linda_promise.specs.Covered.{IsCovered}
 use Rattle.linda_store.specs.Node.{MayRemain}
 use Rattle.linda_store.specs.Sound.{AreBacked}
 use Rattle.linda_disk.specs.declared.disk.Disk.{Ghosts}
-use Rattle.linda_journal.specs.Renewal.{IsNoBank}
 use Rattle.linda_snap.specs.Stands.{Stands}
 use Rattle.linda_server.specs.declared.durable.Durable.{Durable}
 use Rattle.linda_server.specs.declared.fault.OpenFault.{OpenFault}
@@ -110,11 +109,11 @@ module _ {D : Type 0} {g : Ghosts D} where
   -- down leave the server as it was.
   pub data Life : List Deed → List (ℕ × Reply) → Phase g → Type 0 where
     made : (s : Durable D g) → IsNew s → Life [] [] (Serving s)
-    -- a making that was cut off, or failed (`create`: `any_moment`)
-    half_made : (first second left right : D) (made : Made g) → g.honest first → g.honest second
+    -- a making that was cut off, or failed (`create`: `any_moment`), and an opening that found a server all the same
+    half_made : (first second left right : D) (made : Made g) (s : Durable D g) → g.honest first → g.honest second
         → PairsSince (two (g.view first) (g.view second)) (disks_then made) (IsNothingOr empty_state)
-        → AreLeft g (two (g.view first) (g.view second)) (disks_then made) left right
-        → Life [] [] (Stopped [] left right)
+        → AreLeft g (two (g.view first) (g.view second)) (disks_then made) left right → IsOpenedOn left right s
+        → Life [] [] (Serving s)
     called : (ds es : List Deed) (all sends : List (ℕ × Reply)) (old new : Durable D g) → Life ds all (Serving old)
         → old.down ≡ false → new.down ≡ false → Call old new es sends
         → Life (ds ++ es) (all ++ sends) (Serving new)
@@ -141,14 +140,14 @@ module _ {D : Type 0} {g : Ghosts D} where
   abbrev pub state_of : Durable D g → State
   state_of s = if s.down then s.before.value else s.store.state
 
-  -- A message that bears the number of what is kept for its client gets the kept reply, whatever else it says, and
-  -- nothing else is done or sent.
+  -- A message that bears the number of what is kept for its client gets the kept reply, whatever else it says; no deed
+  -- is done, nothing else is sent, and nothing changes.
   abbrev pub RepeatsWhatIsKept : Durable D g → Type 0
   RepeatsWhatIsKept s =
-      (c n : ℕ) (kept : KeptReply) (m : Message) (answered : Answer) (new : State)
+      (c n : ℕ) (kept : KeptReply) (m : Message) (all : History)
       → get s.store.state.book c ≡ Some (n, kept) → number_of_message m ≡ Some n
-      → IsStep s.store.state s.store.soft c m answered new
-      → (answered ≡ only_reply c (reply_of_kept n kept) s.store.soft) × (new ≡ s.store.state)
+      → Happens s.store.state s.store.soft (says c m ∷ []) all
+      → all ≡ history_of s.store.state s.store.soft [] ((c, reply_of_kept n kept) ∷ [])
 
   -- What holds of a server with these deeds and sends.
   pub record KeepsItsWord (ds : List Deed) (all : List (ℕ × Reply)) (s : Durable D g) : Type 0 where
@@ -177,9 +176,8 @@ pub record IsReady (ds hand : List Deed) (left right : List ℕ) : Type 0 where
   pub done : AreDone empty_state (ds ++ found_of state hand) state
 
 module _ {D : Type 0} (g : Ghosts D) where
-  -- What holds of two disks without a server, where these deeds were in hand: a state stands there, which `open` finds
-  -- (`only`); or no server was ever made.
+  -- What holds of two disks without a server, where these deeds were in hand: a state stands there as they read, which
+  -- `open` finds (`only`).
   pub record AreReady (ds hand : List Deed) (all : List (ℕ × Reply)) (left right : D) : Type 0 where
     pub backed : AreBacked ds all
-    pub ready : ∥ ((IsNoBank (g.view left).seen × IsNoBank (g.view right).seen) × (ds ≡ []))
-        ⊎ IsReady ds hand (g.view left).seen (g.view right).seen ∥₁
+    pub ready : ∥ IsReady ds hand (g.view left).seen (g.view right).seen ∥₁
