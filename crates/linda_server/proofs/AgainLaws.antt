@@ -1,5 +1,5 @@
 -- What was sent of a deed is kept while more is done, and is sent again where its number comes again.
-use Rattle.std.proofs.Common.{◌≡◌, ℕ, ◌<◌, ◌≤◌, ◌+◌, ◌==◌, ◌||◌, Bool, true, false, inl, inr, List, [], ◌∷◌, ◌++◌, option_to_list, option_map, Option, Some, None, IfSome, IsSome, is_some, All, refl, sym, ap, ◌∙◌, subst, append_assoc, append-nil, arith}
+use Rattle.std.proofs.Common.{◌≡◌, ℕ, ◌<◌, ◌≤◌, ◌+◌, ◌==◌, ◌||◌, Bool, true, false, inl, inr, List, [], ◌∷◌, ◌++◌, option_to_list, option_map, Option, Some, None, IfSome, IsSome, All, refl, sym, ap, ◌∙◌, subst, append_assoc, append-nil, arith}
 use Rattle.std.proofs.lemmas.Bool.{cases_eq, true≢false}
 use Rattle.linda_tuple.specs.Tuple.{Tuple}
 use Rattle.std.proofs.lemmas.Option.{none-some, same_Some}

@@ -1,12 +1,10 @@
 -- What is known of a server, and of two disks without one, after every life.
-use Rattle.std.proofs.Common.{◌≡◌, ℕ, Bool, true, false, ◌⊎◌, inl, inr, if◌then◌else◌, List, [], ◌∷◌, ◌++◌, All, None, Ok, Err, IsSome, refl, sym, ap, ◌∙◌, subst, append-nil, true≢false}
+use Rattle.std.proofs.Common.{◌≡◌, ℕ, Bool, true, false, ◌⊎◌, inl, inr, if◌then◌else◌, List, [], ◌∷◌, ◌++◌, None, refl, sym, ap, ◌∙◌, subst, append-nil, true≢false}
 use Rattle.std.proofs.Math.Logic.{∥∥₁_map}
 use Rattle.std.proofs.lemmas.Bool.{cond-false, cond-true}
 use Rattle.std.proofs.lemmas.List.Elements.{All-nil, All-append}
-use Rattle.std.specs.FinMap.{get}
 use Rattle.linda_wire.specs.declared.reply.Reply.{Reply}
 use Rattle.linda_state.specs.declared.deed.Deed.{Deed}
-use Rattle.linda_state.specs.Deed.{is_taken}
 use Rattle.linda_state.specs.State.{State, IsState, empty_state}
 use Rattle.linda_state.specs.After.{IsAfter}
 use Rattle.linda_state.specs.Proper.{IsProper, AreDone}
@@ -38,13 +36,13 @@ use Rattle.linda_snap.proofs.ChoiceLaws.{one_stands}
 use Rattle.linda_server.specs.declared.disks.Disks.{Disks}
 use Rattle.linda_server.specs.declared.disks.Disks.TheVariants.{InUse, Shut, Away}
 use Rattle.linda_server.specs.declared.durable.Durable.{Durable}
-use Rattle.linda_server.specs.Pairs.{Both, two, PairsSince, PairsNow, LeavesNoOther}
+use Rattle.linda_server.specs.Pairs.{Both, two, PairsSince, PairsNow}
 use Rattle.linda_server.specs.Disks.{sides}
 use Rattle.linda_server.specs.Server.{both_of, BothHonest}
 use Rattle.linda_server.specs.Calls.{StandsAround, IsWithOrWithout, StandsAfter, IsBeforeOrAfter, StandsFor, IsNothingOr}
 use Rattle.linda_server.specs.Node.{shown}
 use Rattle.linda_server.specs.Reopening.{has_done}
-use Rattle.linda_server.specs.Lives.{found_of, Call, handles, serves, closes, rewrites, Fall, at_work, at_rest, Cut, amid_work, amid_rest, AreLeft, Made, disks_then, IsNew, IsOpenedOn, Phase, Serving, Stopped, Life, made, half_made, called, fell, cut, stopped, opened, not_opened, KeepsItsWord, IsReady, AreReady, IsFreed}
+use Rattle.linda_server.specs.Lives.{found_of, Call, handles, serves, closes, rewrites, Fall, at_work, at_rest, Cut, amid_work, amid_rest, AreLeft, Made, disks_then, IsOpenedOn, Phase, Serving, Stopped, Life, made, half_made, called, fell, cut, stopped, opened, not_opened, KeepsItsWord, IsReady, AreReady, IsFreed}
 use Rattle.linda_server.proofs.AgainLaws.{answered_as_kept, all_covered, still_there}
 use Rattle.linda_server.proofs.CallLaws.{none_remains, stands_with}
 use Rattle.linda_server.proofs.NodeLaws.{has_done_it, has_gone_down}
@@ -170,22 +168,28 @@ module _ {D : Type 0} {g : Ghosts D} (timed : (d : D) → g.honest d → IsTimed
       → AreLeft g (two (g.view first) (g.view second)) (disks_then result) left right → IsOpenedOn left right s → IsKnown [] [] s
   half_known first second left right result s since are is_open =
       let seen = left_since (two (g.view first) (g.view second)) (disks_then result) (IsNothingOr empty_state) left right since are (g.view left).seen (g.view right).seen
-          (timed left are.honest_left).stays (timed right are.honest_right).stays in
+      (timed left are.honest_left).stays (timed right are.honest_right).stays in
       new_known s (empty_stands (g.view left).seen (g.view right).seen s.store.state is_open.found seen) is_open.soft_is is_open.is_up
 
   -- A call that ended well did what came.
   did : (old new : Durable D g) (es : List Deed) (sends : List (ℕ × Reply)) → old.down ≡ false → new.down ≡ false → Call old new es sends → (xs : List Coming) × IsDone (node old) xs es sends (node new)
   did old new _ _ was_up is_up (handles xs sends all) =
       (xs, has_done_it old.before.value new.before.value old.store new.store old.down new.down old.lost.items new.lost.items xs all.deeds sends was_up is_up all.happens)
-  did old new _ _ was_up is_up (serves ms told served) =
-      (comings ms, has_done_it old.before.value new.before.value old.store new.store old.down new.down old.lost.items new.lost.items (comings ms) told.deeds.items told.sends.items was_up is_up
-      (served_happens old.store.state old.store.soft ms told new.store.state new.store.soft served))
-  did old new _ _ was_up is_up (closes client sends told same) =
-      (leaves client ∷ [], has_done_it old.before.value new.before.value old.store new.store old.down new.down old.lost.items new.lost.items (leaves client ∷ []) [] sends was_up is_up
-      (one_only old.store.state new.store.state old.store.soft (leaves client) (record { deed = None; sends = sends; soft = new.store.soft }) (ap only_sends told, same)))
-  did old new _ _ was_up is_up (rewrites same) =
-      ([], has_done_it old.before.value new.before.value old.store new.store old.down new.down old.lost.items new.lost.items [] [] [] was_up is_up
-      (ap (λ (t : Store). history_of t.state t.soft [] []) same))
+  did old new _ _ was_up is_up (serves ms told served) = (
+    comings ms,
+    has_done_it old.before.value new.before.value old.store new.store old.down new.down old.lost.items new.lost.items (comings ms) told.deeds.items told.sends.items was_up is_up
+        (served_happens old.store.state old.store.soft ms told new.store.state new.store.soft served),
+  )
+  did old new _ _ was_up is_up (closes client sends told same) = (
+    leaves client ∷ [],
+    has_done_it old.before.value new.before.value old.store new.store old.down new.down old.lost.items new.lost.items (leaves client ∷ []) [] sends was_up is_up
+        (one_only old.store.state new.store.state old.store.soft (leaves client) (record { deed = None; sends = sends; soft = new.store.soft }) (ap only_sends told, same)),
+  )
+  did old new _ _ was_up is_up (rewrites same) = (
+    [],
+    has_done_it old.before.value new.before.value old.store new.store old.down new.down old.lost.items new.lost.items [] [] [] was_up is_up
+        (ap (λ (t : Store). history_of t.state t.soft [] []) same),
+  )
 
   called_known : (ds es : List Deed) (all sends : List (ℕ × Reply)) (old new : Durable D g) → IsKnown ds all old → old.down ≡ false → new.down ≡ false → Call old new es sends
       → IsKnown (ds ++ es) (all ++ sends) new
@@ -200,9 +204,11 @@ module _ {D : Type 0} {g : Ghosts D} (timed : (d : D) → g.honest d → IsTimed
   went : (old new : Durable D g) → old.down ≡ false → new.down ≡ true → Fall old new → (xs : List Coming) × WentDown (node old) xs (node new)
   went old new up down (at_work xs before remains) =
       (xs, has_gone_down old.before.value new.before.value old.store new.store old.down new.down old.lost.items new.lost.items xs down (λ was. absurd (true≢false (sym was ∙ up))) (λ _. before) (λ _. remains))
-  went old new up down (at_rest before none) =
-      ([], has_gone_down old.before.value new.before.value old.store new.store old.down new.down old.lost.items new.lost.items [] down (λ was. absurd (true≢false (sym was ∙ up))) (λ _. before)
-      (λ _. none_remains (node old) [] new.lost.items none))
+  went old new up down (at_rest before none) = (
+    [],
+    has_gone_down old.before.value new.before.value old.store new.store old.down new.down old.lost.items new.lost.items [] down (λ was. absurd (true≢false (sym was ∙ up))) (λ _. before)
+        (λ _. none_remains (node old) [] new.lost.items none),
+  )
 
   fallen_known : (ds : List Deed) (all : List (ℕ × Reply)) (old new : Durable D g) → IsKnown ds all old → old.down ≡ false → new.down ≡ true → Fall old new → IsKnown ds all new
   fallen_known ds all old new known up down fall =
@@ -259,13 +265,13 @@ module _ {D : Type 0} {g : Ghosts D} (timed : (d : D) → g.honest d → IsTimed
     stopped_known : AreKnown g ds s.lost.items all left right
     stopped_known = by_bool s.down
         (λ down.
-          stopped_at s.before.value (record { proper = known.sound.proper; after = subst (IsAfter empty_state ds) (cond-true s.down s.before.value s.store.state down) known.sound.after })
-          (known.sound.lost down) (s.fallen down honest))
+        stopped_at s.before.value (record { proper = known.sound.proper; after = subst (IsAfter empty_state ds) (cond-true s.down s.before.value s.store.state down) known.sound.after })
+        (known.sound.lost down) (s.fallen down honest))
         (λ up.
-          let done = done_up ds s known.sound up in
-          stopped_at s.store.state done (subst (λ l. IsProper empty_state (ds ++ l)) (sym (s.none_lost up)) (subst (IsProper empty_state) (sym (append-nil ds)) done.proper))
-          (stands_with (λ b. b.generation) (λ b. b.end) (λ b. g.view b.disk) g.view (λ b. g.honest b.disk) g.honest (λ b h. timed b.disk h) timed s.disks s.store.state s.lost.items (s.none_lost up)
-          (order_up ds s known.sound up).state_is honest (s.kept up)))
+        let done = done_up ds s known.sound up in
+        stopped_at s.store.state done (subst (λ l. IsProper empty_state (ds ++ l)) (sym (s.none_lost up)) (subst (IsProper empty_state) (sym (append-nil ds)) done.proper))
+        (stands_with (λ b. b.generation) (λ b. b.end) (λ b. g.view b.disk) g.view (λ b. g.honest b.disk) g.honest (λ b h. timed b.disk h) timed s.disks s.store.state s.lost.items (s.none_lost up)
+        (order_up ds s known.sound up).state_is honest (s.kept up)))
 
   -- What stands as the disks read.
   module _ (ds hand : List Deed) (all : List (ℕ × Reply)) (left right : D) (known : AreKnown g ds hand all left right) where

@@ -30,7 +30,7 @@ use Rattle.linda_server.specs.Served.{IsServed}
 use Rattle.linda_server.specs.Node.{shown}
 use Rattle.linda_server.specs.Reopening.{has_done}
 
--- Of the deeds in hand those that an opening finds done: all, where the last of them is in the book, and else none.
+-- Of the deeds in hand those that an opening finds done: all where the last of them is in the book, and else none.
 abbrev pub found_of : State → List Deed → List Deed
 found_of st hand = if has_done st hand then hand else []
 
@@ -60,8 +60,8 @@ module _ {D : Type 0} {g : Ghosts D} where
   -- A call that ended well: the deeds that it did, and what it sent.
   pub data Call (old new : Durable D g) : List Deed → List (ℕ × Reply) → Type 0 where
     -- of `handle` and `handle_all` (`done`)
-    handles : (xs : List Coming) (sends : List (ℕ × Reply)) (all : HasHandled old.store xs sends new.store)
-        → Call old new all.deeds sends
+    handles : (xs : List Coming) (sends : List (ℕ × Reply)) (handled : HasHandled old.store xs sends new.store)
+        → Call old new handled.deeds sends
     -- of `serve` and `serve_all` (`done`)
     serves : (ms : List (ℕ × Message)) (told : Served)
         → IsServed old.store.state old.store.soft ms told new.store.state new.store.soft
@@ -83,9 +83,9 @@ module _ {D : Type 0} {g : Ghosts D} where
 
   -- A call that was cut off at some moment, with the deeds that were in hand.
   pub data Cut (old new : Durable D g) : List Deed → Type 0 where
-    -- of `handle`, `handle_all`, `serve` and `serve_all` (`any_moment`), where all is what the call comes to
-    amid_work : (xs : List Coming) (all : History) → Happens old.store.state old.store.soft xs all
-        → AlwaysLeave old.disks new.disks (IsBeforeOrAfter old.store xs) → Cut old new all.deeds
+    -- of `handle`, `handle_all`, `serve` and `serve_all` (`any_moment`), with what the call comes to
+    amid_work : (xs : List Coming) (whole : History) → Happens old.store.state old.store.soft xs whole
+        → AlwaysLeave old.disks new.disks (IsBeforeOrAfter old.store xs) → Cut old new whole.deeds
     -- of `close`, `snapshot`, `renew`, `trim` and `clear` (`any_moment`)
     amid_rest : AlwaysLeave old.disks new.disks (StandsFor old.store.state) → Cut old new []
 
@@ -105,8 +105,8 @@ module _ {D : Type 0} {g : Ghosts D} where
     pub soft_is : s.store.soft ≡ no_asks
     pub is_up : s.down ≡ false
 
-  -- All lives: the deeds so far, all that was sent, and the phase. A call that is refused and one of a server that is
-  -- down leave the server as it was.
+  -- All lives: the deeds so far, all that was sent, and the phase. A call that finds no room and one of a server that is
+  -- down leave the server as it was, and are no step of it.
   pub data Life : List Deed → List (ℕ × Reply) → Phase g → Type 0 where
     made : (s : Durable D g) → IsNew s → Life [] [] (Serving s)
     -- a making that was cut off, or failed (`create`: `any_moment`), and an opening that found a server all the same
