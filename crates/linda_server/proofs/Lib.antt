@@ -8,3 +8,5 @@ mod SwitchLaws
 mod SameLaws
 pub mod NodeLaws
 pub mod FallenLaws
+mod AgainLaws
+mod LivesLaws

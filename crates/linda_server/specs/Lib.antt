@@ -7,3 +7,4 @@ pub mod Opening
 pub mod Node
 pub mod Reopening
 pub mod Switch
+pub mod Lives

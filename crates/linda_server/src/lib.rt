@@ -8,6 +8,7 @@ mod disks;
 mod durable;
 mod empty;
 mod fault;
+mod laws;
 mod limits;
 mod renewal;
 mod served;
@@ -15,5 +16,6 @@ mod serving;
 
 pub use durable::Durable;
 pub use fault::{OpenFault, ServeFault};
+pub use laws::servers_keep_their_word;
 pub use limits::{MAX_LIMIT, MIN_LIMIT, SNAPSHOT_RECORDS};
 pub use served::{Served, Share};

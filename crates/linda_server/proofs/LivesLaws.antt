@@ -1,0 +1,363 @@
+-- What is known of a server, and of two disks without one, after every life.
+use Rattle.std.proofs.Common.{◌≡◌, ℕ, Bool, true, false, ◌⊎◌, inl, inr, if◌then◌else◌, List, [], ◌∷◌, ◌++◌, None, refl, sym, ap, ◌∙◌, subst, append-nil, true≢false}
+use Rattle.std.proofs.Math.Logic.{∥∥₁_map}
+use Rattle.std.proofs.lemmas.Bool.{cond-false, cond-true}
+use Rattle.std.proofs.lemmas.List.Elements.{All-nil, All-append}
+use Rattle.linda_wire.specs.declared.reply.Reply.{Reply}
+use Rattle.linda_state.specs.declared.deed.Deed.{Deed}
+use Rattle.linda_state.specs.State.{State, IsState, empty_state}
+use Rattle.linda_state.specs.After.{IsAfter}
+use Rattle.linda_state.specs.Proper.{IsProper, AreDone}
+use Rattle.linda_state.proofs.StateLaws.{empty_is_state}
+use Rattle.linda_state.proofs.AfterLaws.{one_after, joined_after}
+use Rattle.linda_state.proofs.JoinLaws.{joined_done}
+use Rattle.linda_state.proofs.OnceLaws.{taken_once}
+use Rattle.linda_state.proofs.ProperLaws.{none_done, proper_state, takes_below}
+use Rattle.linda_step.specs.Soft.{no_asks}
+use Rattle.linda_step.specs.Store.{Store, IsOrderly}
+use Rattle.linda_step.specs.Answer.{only_sends}
+use Rattle.linda_step.specs.History.{Coming, leaves, History, Happens, comings, history_of}
+use Rattle.linda_step.proofs.GrowthLaws.{one_only}
+use Rattle.linda_step.proofs.HistoryLaws.{all_safe}
+use Rattle.linda_step.proofs.OrderLaws.{new_store_orderly}
+use Rattle.linda_step.proofs.OutcomeLaws.{one_outcome}
+use Rattle.linda_promise.specs.Replies.{reports_deed, ReportsOne}
+use Rattle.linda_store.specs.Node.{Node, Sent, IsDown, IsDone, WentDown}
+use Rattle.linda_store.specs.Sound.{IsSound, AreBacked}
+use Rattle.linda_store.proofs.ServeLaws.{backed_later, works_sound, works_backed}
+use Rattle.linda_disk.specs.declared.disk.Disk.{Ghosts}
+use Rattle.linda_disk.specs.View.{View, IsTimed}
+use Rattle.linda_journal.specs.declared.bank.Bank.{Bank}
+use Rattle.linda_journal.specs.Renewal.{IsNoBank}
+use Rattle.linda_journal.proofs.ImageLaws.{is_candidate}
+use Rattle.linda_snap.specs.Snapshot.{spell_state}
+use Rattle.linda_snap.specs.Stands.{Stands}
+use Rattle.linda_snap.proofs.ChoiceLaws.{one_stands}
+use Rattle.linda_server.specs.declared.disks.Disks.{Disks}
+use Rattle.linda_server.specs.declared.disks.Disks.TheVariants.{InUse, Shut, Away}
+use Rattle.linda_server.specs.declared.durable.Durable.{Durable}
+use Rattle.linda_server.specs.Pairs.{Both, two, PairsSince, PairsNow}
+use Rattle.linda_server.specs.Disks.{sides}
+use Rattle.linda_server.specs.Server.{both_of, BothHonest}
+use Rattle.linda_server.specs.Calls.{StandsAround, IsWithOrWithout, StandsAfter, IsBeforeOrAfter, StandsFor, IsNothingOr}
+use Rattle.linda_server.specs.Node.{shown}
+use Rattle.linda_server.specs.Reopening.{has_done}
+use Rattle.linda_server.specs.Lives.{found_of, Call, handles, serves, closes, rewrites, Fall, at_work, at_rest, Cut, amid_work, amid_rest, AreLeft, Made, disks_then, IsOpenedOn, Phase, Serving, Stopped, Life, made, half_made, called, fell, cut, stopped, opened, not_opened, KeepsItsWord, IsReady, AreReady, IsFreed}
+use Rattle.linda_server.proofs.AgainLaws.{answered_as_kept, all_covered, still_there}
+use Rattle.linda_server.proofs.CallLaws.{none_remains, stands_with}
+use Rattle.linda_server.proofs.NodeLaws.{has_done_it, has_gone_down}
+use Rattle.linda_server.proofs.ReopeningLaws.{reopened}
+use Rattle.linda_server.proofs.ServedLaws.{served_happens}
+
+by_bool : {P : Type 0} (b : Bool) → (b ≡ true → P) → (b ≡ false → P) → P
+by_bool true at_true at_false = at_true refl
+by_bool false at_true at_false = at_false refl
+
+-- ---- what stands on two disks
+
+-- What stands is no bank's lack.
+not_none : (left right : List ℕ) (st : State) → Stands left right st → IsNoBank left × IsNoBank right → ⊥
+not_none left right st (inl first) none = none.0 (is_candidate left first.generation (spell_state first.stands.opening) first.stands.records first.stands.bank)
+not_none left right st (inr first) none = none.1 (is_candidate right first.generation (spell_state first.stands.opening) first.stands.records first.stands.bank)
+
+-- Where there is nothing or the empty state, what stands is that one.
+empty_stands : (left right : List ℕ) (st : State) → Stands left right st → IsNothingOr empty_state left right → st ≡ empty_state
+empty_stands left right st stands (inl none) = absurd (not_none left right st stands none)
+empty_stands left right st stands (inr empty) = one_stands left right st empty_state stands empty
+
+-- The state stands.
+at_rest_there : (st : State) (left right : List ℕ) → IsState st → StandsFor st left right → IsWithOrWithout st [] left right
+at_rest_there st left right is some = ∥∥₁_map some (λ x. record { new = st; ranges = is; done = none_done st is; stands = inl x })
+
+-- So it does, or the one after what came.
+at_work_there : (old : Store) (xs : List Coming) (all : History) (left right : List ℕ) → IsOrderly old.state old.soft → Happens old.state old.soft xs all
+    → IsBeforeOrAfter old xs left right → IsWithOrWithout old.state all.deeds left right
+at_work_there old xs all left right orderly happens some = ∥∥₁_map some around
+  where
+    around : Stands left right old.state ⊎ StandsAfter old xs left right → StandsAround old.state all.deeds left right
+    around x =
+        let safe = all_safe old.state old.soft xs all orderly happens in
+        record {
+          new = all.state;
+          ranges = orderly.state_is;
+          done = record { proper = safe.proper; after = safe.after };
+          stands = elim x [
+            | inl before ↦ inl before
+            | inr after ↦ inr (subst (λ (h : History). Stands left right h.state) (one_outcome old.state old.soft xs after.all all orderly after.happens happens) after.stands)
+          ];
+        }
+
+-- Of deeds that go on, those that are found go on.
+found_proper : (ds hand : List Deed) (b : Bool) → IsProper empty_state ds → IsProper empty_state (ds ++ hand) → IsProper empty_state (ds ++ (if b then hand else []))
+found_proper ds hand true proper goes_on = goes_on
+found_proper ds hand false proper goes_on = subst (IsProper empty_state) (sym (append-nil ds)) proper
+
+timed_sides : (is_right : Bool) (used other : View) → IsTimed used → IsTimed other → IsTimed (sides is_right used other).left × IsTimed (sides is_right used other).right
+timed_sides true used other timed_used timed = (timed, timed_used)
+timed_sides false used other timed_used timed = (timed_used, timed)
+
+-- What is known of two disks: what stands there, and the deeds go on with those that were in hand.
+record AreKnown {D : Type 0} (g : Ghosts D) (ds hand : List Deed) (all : List (ℕ × Reply)) (left right : D) : Type 0 where
+  before : State
+  done : AreDone empty_state ds before
+  goes_on : IsProper empty_state (ds ++ hand)
+  backed : AreBacked ds all
+  honest_left : g.honest left
+  honest_right : g.honest right
+  there : PairsNow (two (g.view left) (g.view right)) (IsWithOrWithout before hand)
+
+module _ {D : Type 0} {g : Ghosts D} (timed : (d : D) → g.honest d → IsTimed (g.view d)) where
+  timed_both : (disks : Disks (Bank D g) D) → BothHonest disks → IsTimed (both_of disks).left × IsTimed (both_of disks).right
+  timed_both (InUse pair) are = timed_sides pair.is_right (g.view pair.bank.disk) (g.view pair.other) (timed pair.bank.disk are.0) (timed pair.other are.1)
+  timed_both (Shut left right) are = (timed left are.0, timed right are.1)
+  timed_both Away are = absurd are
+
+  -- What crashes since leave, two disks after them leave.
+  left_since : (old new : Both) (P : List ℕ → List ℕ → Type 0) (left right : D) → PairsSince old new P → AreLeft g old new left right → PairsNow (two (g.view left) (g.view right)) P
+  left_since old new P left right since are a b la rb = since.each a b (are.left_was a la) (are.right_was b rb)
+
+  left_now : (disks : Disks (Bank D g) D) (P : List ℕ → List ℕ → Type 0) (left right : D) → BothHonest disks → PairsNow (both_of disks) P → AreLeft g (both_of disks) (both_of disks) left right
+      → PairsNow (two (g.view left) (g.view right)) P
+  left_now disks P left right honest now are a b la rb =
+      let times = timed_both disks honest in
+      now a b (times.0.only_now a (are.left_was a la)) (times.1.only_now b (are.right_was b rb))
+
+  -- ---- what is known
+
+  abbrev node : Durable D g → Node
+  node s = shown s.before.value s.store s.down s.lost.items
+
+  -- Of a server: its deeds are sound, and what was sent tells of them.
+  record IsKnown (ds : List Deed) (all : List (ℕ × Reply)) (s : Durable D g) : Type 0 where
+    sound : IsSound ds (node s)
+    backed : AreBacked ds all
+
+  abbrev Known : List Deed → List (ℕ × Reply) → Phase g → Type 0
+  Known ds all (Serving s) = IsKnown ds all s
+  Known ds all (Stopped hand left right) = AreKnown g ds hand all left right
+
+  state_up : (s : Durable D g) → s.down ≡ false → (node s).state ≡ s.store.state
+  state_up s up = cond-false s.down s.before.value s.store.state up
+
+  -- A server that is up and in order is sound.
+  sound_up : (s : Durable D g) (ds : List Deed) → s.down ≡ false → AreDone empty_state ds s.store.state → IsOrderly s.store.state s.store.soft → IsSound ds (node s)
+  sound_up s ds up done orderly = record {
+    proper = done.proper;
+    after = subst (IsAfter empty_state ds) (sym (state_up s up)) done.after;
+    orderly = λ _. subst (λ st. IsOrderly st s.store.soft) (sym (state_up s up)) orderly;
+    lost = λ down. absurd (true≢false (sym down ∙ up));
+  }
+
+  module _ (ds : List Deed) (s : Durable D g) (sound : IsSound ds (node s)) (up : s.down ≡ false) where
+    order_up : IsOrderly s.store.state s.store.soft
+    order_up = subst (λ st. IsOrderly st s.store.soft) (state_up s up) (sound.orderly up)
+
+    done_up : AreDone empty_state ds s.store.state
+    done_up = record { proper = sound.proper; after = subst (IsAfter empty_state ds) (state_up s up) sound.after }
+
+  -- ---- one thing more in a life
+
+  new_known : (s : Durable D g) → s.store.state ≡ empty_state → s.store.soft ≡ no_asks → s.down ≡ false → IsKnown [] [] s
+  new_known s state_is soft_is up = record {
+    sound = sound_up s [] up (subst (AreDone empty_state []) (sym state_is) (none_done empty_state empty_is_state))
+        (new_store_orderly s.store.state s.store.soft (subst IsState (sym state_is) empty_is_state) soft_is);
+    backed = All-nil (λ (send : ℕ × Reply). reports_deed send.1 ≡ true → ReportsOne [] send.0 send.1);
+  }
+
+  half_known : (first second left right : D) (result : Made g) (s : Durable D g) → PairsSince (two (g.view first) (g.view second)) (disks_then result) (IsNothingOr empty_state)
+      → AreLeft g (two (g.view first) (g.view second)) (disks_then result) left right → IsOpenedOn left right s → IsKnown [] [] s
+  half_known first second left right result s since are is_open =
+      let seen = left_since (two (g.view first) (g.view second)) (disks_then result) (IsNothingOr empty_state) left right since are (g.view left).seen (g.view right).seen
+      (timed left are.honest_left).stays (timed right are.honest_right).stays in
+      new_known s (empty_stands (g.view left).seen (g.view right).seen s.store.state is_open.found seen) is_open.soft_is is_open.is_up
+
+  -- A call that ended well did what came.
+  did : (old new : Durable D g) (es : List Deed) (sends : List (ℕ × Reply)) → old.down ≡ false → new.down ≡ false → Call old new es sends → (xs : List Coming) × IsDone (node old) xs es sends (node new)
+  did old new _ _ was_up is_up (handles xs sends all) =
+      (xs, has_done_it old.before.value new.before.value old.store new.store old.down new.down old.lost.items new.lost.items xs all.deeds sends was_up is_up all.happens)
+  did old new _ _ was_up is_up (serves ms told served) = (
+    comings ms,
+    has_done_it old.before.value new.before.value old.store new.store old.down new.down old.lost.items new.lost.items (comings ms) told.deeds.items told.sends.items was_up is_up
+        (served_happens old.store.state old.store.soft ms told new.store.state new.store.soft served),
+  )
+  did old new _ _ was_up is_up (closes client sends told same) = (
+    leaves client ∷ [],
+    has_done_it old.before.value new.before.value old.store new.store old.down new.down old.lost.items new.lost.items (leaves client ∷ []) [] sends was_up is_up
+        (one_only old.store.state new.store.state old.store.soft (leaves client) (record { deed = None; sends = sends; soft = new.store.soft }) (ap only_sends told, same)),
+  )
+  did old new _ _ was_up is_up (rewrites same) = (
+    [],
+    has_done_it old.before.value new.before.value old.store new.store old.down new.down old.lost.items new.lost.items [] [] [] was_up is_up
+        (ap (λ (t : Store). history_of t.state t.soft [] []) same),
+  )
+
+  called_known : (ds es : List Deed) (all sends : List (ℕ × Reply)) (old new : Durable D g) → IsKnown ds all old → old.down ≡ false → new.down ≡ false → Call old new es sends
+      → IsKnown (ds ++ es) (all ++ sends) new
+  called_known ds es all sends old new known was_up is_up call =
+      let d = did old new es sends was_up is_up call in
+      record {
+        sound = works_sound ds (node old) known.sound d.0 (Sent sends) es (node new) d.1;
+        backed = All-append (λ (send : ℕ × Reply). reports_deed send.1 ≡ true → ReportsOne (ds ++ es) send.0 send.1) all sends (backed_later ds es all known.backed)
+            (works_backed ds (node old) known.sound d.0 sends es (node new) d.1);
+      }
+
+  went : (old new : Durable D g) → old.down ≡ false → new.down ≡ true → Fall old new → (xs : List Coming) × WentDown (node old) xs (node new)
+  went old new up down (at_work xs before remains) =
+      (xs, has_gone_down old.before.value new.before.value old.store new.store old.down new.down old.lost.items new.lost.items xs down (λ was. absurd (true≢false (sym was ∙ up))) (λ _. before) (λ _. remains))
+  went old new up down (at_rest before none) = (
+    [],
+    has_gone_down old.before.value new.before.value old.store new.store old.down new.down old.lost.items new.lost.items [] down (λ was. absurd (true≢false (sym was ∙ up))) (λ _. before)
+        (λ _. none_remains (node old) [] new.lost.items none),
+  )
+
+  fallen_known : (ds : List Deed) (all : List (ℕ × Reply)) (old new : Durable D g) → IsKnown ds all old → old.down ≡ false → new.down ≡ true → Fall old new → IsKnown ds all new
+  fallen_known ds all old new known up down fall =
+      let w = went old new up down fall in
+      record {
+        sound = subst (λ l. IsSound l (node new)) (append-nil ds) (works_sound ds (node old) known.sound w.0 IsDown [] (node new) (w.1, refl));
+        backed = known.backed;
+      }
+
+  cut_known : (ds hand : List Deed) (all : List (ℕ × Reply)) (old new : Durable D g) (left right : D) → IsKnown ds all old → old.down ≡ false → BothHonest old.disks → Cut old new hand
+      → AreLeft g (both_of old.disks) (both_of new.disks) left right → AreKnown g ds hand all left right
+  cut_known ds _ all old new left right known up honest (amid_work xs whole happens always) are =
+      let orderly = order_up ds old known.sound up in
+      let done = done_up ds old known.sound up in
+      let safe = all_safe old.store.state old.store.soft xs whole orderly happens in
+      record {
+        before = old.store.state;
+        done = done;
+        goes_on = (joined_done empty_state empty_is_state whole.deeds old.store.state whole.state ds done (record { proper = safe.proper; after = safe.after })).proper;
+        backed = known.backed;
+        honest_left = are.honest_left;
+        honest_right = are.honest_right;
+        there = λ a b la rb. at_work_there old.store xs whole a b orderly happens
+            (left_since (both_of old.disks) (both_of new.disks) (IsBeforeOrAfter old.store xs) left right (always honest) are a b la rb);
+      }
+  cut_known ds _ all old new left right known up honest (amid_rest always) are =
+      let orderly = order_up ds old known.sound up in
+      let done = done_up ds old known.sound up in
+      record {
+        before = old.store.state;
+        done = done;
+        goes_on = subst (IsProper empty_state) (sym (append-nil ds)) done.proper;
+        backed = known.backed;
+        honest_left = are.honest_left;
+        honest_right = are.honest_right;
+        there = λ a b la rb. at_rest_there old.store.state a b orderly.state_is
+            (left_since (both_of old.disks) (both_of new.disks) (StandsFor old.store.state) left right (always honest) are a b la rb);
+      }
+
+  -- Between two calls, or while it is down.
+  module _ (ds : List Deed) (all : List (ℕ × Reply)) (s : Durable D g) (left right : D) (known : IsKnown ds all s) (honest : BothHonest s.disks)
+      (are : AreLeft g (both_of s.disks) (both_of s.disks) left right) where
+    stopped_at : (base : State) → AreDone empty_state ds base → IsProper empty_state (ds ++ s.lost.items) → PairsNow (both_of s.disks) (IsWithOrWithout base s.lost.items) → AreKnown g ds s.lost.items all left right
+    stopped_at base done goes_on now = record {
+      before = base;
+      done = done;
+      goes_on = goes_on;
+      backed = known.backed;
+      honest_left = are.honest_left;
+      honest_right = are.honest_right;
+      there = left_now s.disks (IsWithOrWithout base s.lost.items) left right honest now are;
+    }
+
+    stopped_known : AreKnown g ds s.lost.items all left right
+    stopped_known = by_bool s.down
+        (λ down.
+        stopped_at s.before.value (record { proper = known.sound.proper; after = subst (IsAfter empty_state ds) (cond-true s.down s.before.value s.store.state down) known.sound.after })
+        (known.sound.lost down) (s.fallen down honest))
+        (λ up.
+        let done = done_up ds s known.sound up in
+        stopped_at s.store.state done (subst (λ l. IsProper empty_state (ds ++ l)) (sym (s.none_lost up)) (subst (IsProper empty_state) (sym (append-nil ds)) done.proper))
+        (stands_with (λ b. b.generation) (λ b. b.end) (λ b. g.view b.disk) g.view (λ b. g.honest b.disk) g.honest (λ b h. timed b.disk h) timed s.disks s.store.state s.lost.items (s.none_lost up)
+        (order_up ds s known.sound up).state_is honest (s.kept up)))
+
+  -- What stands as the disks read.
+  module _ (ds hand : List Deed) (all : List (ℕ × Reply)) (left right : D) (known : AreKnown g ds hand all left right) where
+    seen : IsWithOrWithout known.before hand (g.view left).seen (g.view right).seen
+    seen = known.there (g.view left).seen (g.view right).seen (timed left known.honest_left).stays (timed right known.honest_right).stays
+
+    found_after : (st : State) → Stands (g.view left).seen (g.view right).seen st → IsAfter known.before (found_of st hand) st
+    found_after st stands =
+        reopened known.before st hand (g.view left).seen (g.view right).seen (has_done st hand) refl seen stands
+
+    found_done : (st : State) → Stands (g.view left).seen (g.view right).seen st → AreDone empty_state (ds ++ found_of st hand) st
+    found_done st stands = record {
+      proper = found_proper ds hand (has_done st hand) known.done.proper known.goes_on;
+      after = joined_after empty_state known.before st ds (found_of st hand) known.done.after (found_after st stands) (takes_below empty_state ds empty_is_state known.done.proper);
+    }
+
+    all_ready : AreReady g ds hand all left right
+    all_ready = record { backed = known.backed; ready = ∥∥₁_map seen which }
+      where
+        which : StandsAround known.before hand (g.view left).seen (g.view right).seen → IsReady ds hand (g.view left).seen (g.view right).seen
+        which around =
+            elim around.stands [
+              | inl stands ↦ record { state = known.before; stands = stands; done = found_done known.before stands }
+              | inr stands ↦ record { state = around.new; stands = stands; done = found_done around.new stands }
+            ]
+
+    opened_known : (s : Durable D g) → IsOpenedOn left right s → IsKnown (ds ++ found_of s.store.state hand) all s
+    opened_known s is_open =
+        let done = found_done s.store.state is_open.found in
+        let is = proper_state empty_state s.store.state (ds ++ found_of s.store.state hand) empty_is_state done.proper done.after in
+        record {
+          sound = sound_up s (ds ++ found_of s.store.state hand) is_open.is_up done (new_store_orderly s.store.state s.store.soft is is_open.soft_is);
+          backed = backed_later ds (found_of s.store.state hand) all known.backed;
+        }
+
+  -- ---- every life
+
+  known_of : (ds : List Deed) (all : List (ℕ × Reply)) (phase : Phase g) → Life ds all phase → Known ds all phase
+  known_of _ _ _ (made s new) = new_known s (ap (λ (t : Store). t.state) new.store) (ap (λ (t : Store). t.soft) new.store) new.is_up
+  known_of _ _ _ (half_made first second left right result s honest_first honest_second since are is_open) = half_known first second left right result s since are is_open
+  known_of _ _ _ (called ds es all sends old new life was_up is_up call) = called_known ds es all sends old new (known_of ds all (Serving old) life) was_up is_up call
+  known_of _ _ _ (fell ds all old new life up down fall) = fallen_known ds all old new (known_of ds all (Serving old) life) up down fall
+  known_of _ _ _ (cut ds hand all old new left right life up honest call are) = cut_known ds hand all old new left right (known_of ds all (Serving old) life) up honest call are
+  known_of _ _ _ (stopped ds all s left right life honest are) = stopped_known ds all s left right (known_of ds all (Serving s) life) honest are
+  known_of _ _ _ (opened ds hand all left right s life is_open) = opened_known ds hand all left right (known_of ds all (Stopped hand left right) life) s is_open
+  known_of _ _ _ (not_opened ds hand all first second left right result life no_other are) =
+      let known : AreKnown g ds hand all first second = known_of ds all (Stopped hand first second) life in
+      record {
+        before = known.before;
+        done = known.done;
+        goes_on = known.goes_on;
+        backed = known.backed;
+        honest_left = are.honest_left;
+        honest_right = are.honest_right;
+        there = λ a b la rb. known.there a b (no_other.left.each a (are.left_was a la)) (no_other.right.each b (are.right_was b rb));
+      }
+
+  -- A server after a life keeps its word.
+  pub keeps : (s : Durable D g) (ds : List Deed) (all : List (ℕ × Reply)) → Life ds all (Serving s) → KeepsItsWord ds all s
+  keeps s ds all life =
+      let known : IsKnown ds all s = known_of ds all (Serving s) life in
+      let done : AreDone empty_state ds (node s).state = record { proper = known.sound.proper; after = known.sound.after } in
+      record {
+        done = done;
+        ranges = proper_state empty_state (node s).state ds empty_is_state known.sound.proper known.sound.after;
+        once = taken_once empty_state ds empty_is_state known.sound.proper;
+        backed = known.backed;
+        covered = all_covered ds (node s).state done all known.backed;
+        again = λ up c n kept m all there bears happens.
+            answered_as_kept s.store.state c n kept (order_up ds s known.sound up).state_is there s.store.soft m all bears happens;
+      }
+
+  -- Two disks after a life without a server are ready to be opened.
+  pub are_ready : (left right : D) (ds hand : List Deed) (all : List (ℕ × Reply)) → Life {g = g} ds all (Stopped hand left right) → AreReady g ds hand all left right
+  are_ready left right ds hand all life = all_ready ds hand all left right (known_of ds all (Stopped hand left right) life)
+
+  -- An opening frees what was held.
+  pub frees : (s : Durable D g) (left right : D) (ds hand : List Deed) (all : List (ℕ × Reply)) → Life {g = g} ds all (Stopped hand left right) → IsOpenedOn left right s → IsFreed ds hand all s
+  frees s left right ds hand all life is_open =
+      let known : AreKnown g ds hand all left right = known_of ds all (Stopped hand left right) life in
+      record {
+        nobody = is_open.soft_is;
+        back = λ old id life_then up held free.
+            let was : IsKnown ds all old = known_of ds all (Serving old) life_then in
+            let orderly = order_up ds old was.sound up in
+            let same : known.before ≡ old.store.state = one_after empty_state ds known.before old.store.state known.done.after (done_up ds old was.sound up).after in
+            still_there old.store.state s.store.state (found_of s.store.state hand) id orderly.state_is
+            (subst (λ st. IsAfter st (found_of s.store.state hand) s.store.state) same (found_after ds hand all left right known s.store.state is_open.found)) free (orderly.soft_is.there id held);
+      }
