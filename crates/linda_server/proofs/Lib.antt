@@ -9,4 +9,5 @@ mod SameLaws
 pub mod NodeLaws
 pub mod FallenLaws
 mod AgainLaws
+mod LeftLaws
 mod LivesLaws

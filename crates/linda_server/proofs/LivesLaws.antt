@@ -1,7 +1,7 @@
 -- What is known of a server, and of two disks without one, after every life.
-use Rattle.std.proofs.Common.{◌≡◌, ℕ, Bool, true, false, ◌⊎◌, inl, inr, if◌then◌else◌, List, [], ◌∷◌, ◌++◌, None, refl, sym, ap, ◌∙◌, subst, append-nil, true≢false}
+use Rattle.std.proofs.Common.{◌≡◌, ℕ, Bool, true, false, inl, inr, if◌then◌else◌, List, [], ◌∷◌, ◌++◌, None, refl, sym, ap, ◌∙◌, subst, append-nil, true≢false}
 use Rattle.std.proofs.Math.Logic.{∥∥₁_map}
-use Rattle.std.proofs.lemmas.Bool.{cond-false, cond-true}
+use Rattle.std.proofs.lemmas.Bool.{cases_Bool, cond-false, cond-true}
 use Rattle.std.proofs.lemmas.List.Elements.{All-nil, All-append}
 use Rattle.linda_wire.specs.declared.reply.Reply.{Reply}
 use Rattle.linda_state.specs.declared.deed.Deed.{Deed}
@@ -16,85 +16,37 @@ use Rattle.linda_state.proofs.ProperLaws.{none_done, proper_state, takes_below}
 use Rattle.linda_step.specs.Soft.{no_asks}
 use Rattle.linda_step.specs.Store.{Store, IsOrderly}
 use Rattle.linda_step.specs.Answer.{only_sends}
-use Rattle.linda_step.specs.History.{Coming, leaves, History, Happens, comings, history_of}
+use Rattle.linda_step.specs.History.{Coming, leaves, comings, history_of}
 use Rattle.linda_step.proofs.GrowthLaws.{one_only}
 use Rattle.linda_step.proofs.HistoryLaws.{all_safe}
 use Rattle.linda_step.proofs.OrderLaws.{new_store_orderly}
-use Rattle.linda_step.proofs.OutcomeLaws.{one_outcome}
 use Rattle.linda_promise.specs.Replies.{reports_deed, ReportsOne}
 use Rattle.linda_store.specs.Node.{Node, Sent, IsDown, IsDone, WentDown}
 use Rattle.linda_store.specs.Sound.{IsSound, AreBacked}
 use Rattle.linda_store.proofs.ServeLaws.{backed_later, works_sound, works_backed}
 use Rattle.linda_disk.specs.declared.disk.Disk.{Ghosts}
-use Rattle.linda_disk.specs.View.{View, IsTimed}
-use Rattle.linda_journal.specs.declared.bank.Bank.{Bank}
-use Rattle.linda_journal.specs.Renewal.{IsNoBank}
-use Rattle.linda_journal.proofs.ImageLaws.{is_candidate}
-use Rattle.linda_snap.specs.Snapshot.{spell_state}
+use Rattle.linda_disk.specs.View.{IsTimed}
 use Rattle.linda_snap.specs.Stands.{Stands}
-use Rattle.linda_snap.proofs.ChoiceLaws.{one_stands}
-use Rattle.linda_server.specs.declared.disks.Disks.{Disks}
-use Rattle.linda_server.specs.declared.disks.Disks.TheVariants.{InUse, Shut, Away}
 use Rattle.linda_server.specs.declared.durable.Durable.{Durable}
-use Rattle.linda_server.specs.Pairs.{Both, two, PairsSince, PairsNow}
-use Rattle.linda_server.specs.Disks.{sides}
+use Rattle.linda_server.specs.Pairs.{two, PairsSince, PairsNow}
 use Rattle.linda_server.specs.Server.{both_of, BothHonest}
-use Rattle.linda_server.specs.Calls.{StandsAround, IsWithOrWithout, StandsAfter, IsBeforeOrAfter, StandsFor, IsNothingOr}
+use Rattle.linda_server.specs.Calls.{StandsAround, IsWithOrWithout, IsBeforeOrAfter, StandsFor, IsNothingOr}
 use Rattle.linda_server.specs.Node.{shown}
 use Rattle.linda_server.specs.Reopening.{has_done}
-use Rattle.linda_server.specs.Lives.{found_of, Call, handles, serves, closes, rewrites, Fall, at_work, at_rest, Cut, amid_work, amid_rest, AreLeft, Made, disks_then, IsOpenedOn, Phase, Serving, Stopped, Life, made, half_made, called, fell, cut, stopped, opened, not_opened, KeepsItsWord, IsReady, AreReady, IsFreed}
+use Rattle.linda_server.specs.Lives.{found_of, Call, handles, serves, closes, rewrites, Fall, at_work, at_rest, Cut, amid_work, amid_rest, AreLeft, Made, disks_then, IsOpenedOn, Phase, Serving, Stopped, Life, made, half_made, called, fell, cut, stopped, opened, not_opened}
+use Rattle.linda_server.specs.Promises.{KeepsItsWord, IsReady, AreReady, IsFreed}
 use Rattle.linda_server.proofs.AgainLaws.{answered_as_kept, all_covered, still_there}
 use Rattle.linda_server.proofs.CallLaws.{none_remains, stands_with}
+use Rattle.linda_server.proofs.LeftLaws.{empty_stands, at_work_there, left_since, left_now}
 use Rattle.linda_server.proofs.NodeLaws.{has_done_it, has_gone_down}
 use Rattle.linda_server.proofs.ReopeningLaws.{reopened}
 use Rattle.linda_server.proofs.ServedLaws.{served_happens}
-
-by_bool : {P : Type 0} (b : Bool) → (b ≡ true → P) → (b ≡ false → P) → P
-by_bool true at_true at_false = at_true refl
-by_bool false at_true at_false = at_false refl
-
--- ---- what stands on two disks
-
--- What stands is no bank's lack.
-not_none : (left right : List ℕ) (st : State) → Stands left right st → IsNoBank left × IsNoBank right → ⊥
-not_none left right st (inl first) none = none.0 (is_candidate left first.generation (spell_state first.stands.opening) first.stands.records first.stands.bank)
-not_none left right st (inr first) none = none.1 (is_candidate right first.generation (spell_state first.stands.opening) first.stands.records first.stands.bank)
-
--- Where there is nothing or the empty state, what stands is that one.
-empty_stands : (left right : List ℕ) (st : State) → Stands left right st → IsNothingOr empty_state left right → st ≡ empty_state
-empty_stands left right st stands (inl none) = absurd (not_none left right st stands none)
-empty_stands left right st stands (inr empty) = one_stands left right st empty_state stands empty
-
--- The state stands.
-at_rest_there : (st : State) (left right : List ℕ) → IsState st → StandsFor st left right → IsWithOrWithout st [] left right
-at_rest_there st left right is some = ∥∥₁_map some (λ x. record { new = st; ranges = is; done = none_done st is; stands = inl x })
-
--- So it does, or the one after what came.
-at_work_there : (old : Store) (xs : List Coming) (all : History) (left right : List ℕ) → IsOrderly old.state old.soft → Happens old.state old.soft xs all
-    → IsBeforeOrAfter old xs left right → IsWithOrWithout old.state all.deeds left right
-at_work_there old xs all left right orderly happens some = ∥∥₁_map some around
-  where
-    around : Stands left right old.state ⊎ StandsAfter old xs left right → StandsAround old.state all.deeds left right
-    around x =
-        let safe = all_safe old.state old.soft xs all orderly happens in
-        record {
-          new = all.state;
-          ranges = orderly.state_is;
-          done = record { proper = safe.proper; after = safe.after };
-          stands = elim x [
-            | inl before ↦ inl before
-            | inr after ↦ inr (subst (λ (h : History). Stands left right h.state) (one_outcome old.state old.soft xs after.all all orderly after.happens happens) after.stands)
-          ];
-        }
+use Rattle.linda_server.proofs.SwitchLaws.{with_none}
 
 -- Of deeds that go on, those that are found go on.
 found_proper : (ds hand : List Deed) (b : Bool) → IsProper empty_state ds → IsProper empty_state (ds ++ hand) → IsProper empty_state (ds ++ (if b then hand else []))
 found_proper ds hand true proper goes_on = goes_on
 found_proper ds hand false proper goes_on = subst (IsProper empty_state) (sym (append-nil ds)) proper
-
-timed_sides : (is_right : Bool) (used other : View) → IsTimed used → IsTimed other → IsTimed (sides is_right used other).left × IsTimed (sides is_right used other).right
-timed_sides true used other timed_used timed = (timed, timed_used)
-timed_sides false used other timed_used timed = (timed_used, timed)
 
 -- What is known of two disks: what stands there, and the deeds go on with those that were in hand.
 record AreKnown {D : Type 0} (g : Ghosts D) (ds hand : List Deed) (all : List (ℕ × Reply)) (left right : D) : Type 0 where
@@ -107,21 +59,6 @@ record AreKnown {D : Type 0} (g : Ghosts D) (ds hand : List Deed) (all : List (�
   there : PairsNow (two (g.view left) (g.view right)) (IsWithOrWithout before hand)
 
 module _ {D : Type 0} {g : Ghosts D} (timed : (d : D) → g.honest d → IsTimed (g.view d)) where
-  timed_both : (disks : Disks (Bank D g) D) → BothHonest disks → IsTimed (both_of disks).left × IsTimed (both_of disks).right
-  timed_both (InUse pair) are = timed_sides pair.is_right (g.view pair.bank.disk) (g.view pair.other) (timed pair.bank.disk are.0) (timed pair.other are.1)
-  timed_both (Shut left right) are = (timed left are.0, timed right are.1)
-  timed_both Away are = absurd are
-
-  -- What crashes since leave, two disks after them leave.
-  left_since : (old new : Both) (P : List ℕ → List ℕ → Type 0) (left right : D) → PairsSince old new P → AreLeft g old new left right → PairsNow (two (g.view left) (g.view right)) P
-  left_since old new P left right since are a b la rb = since.each a b (are.left_was a la) (are.right_was b rb)
-
-  left_now : (disks : Disks (Bank D g) D) (P : List ℕ → List ℕ → Type 0) (left right : D) → BothHonest disks → PairsNow (both_of disks) P → AreLeft g (both_of disks) (both_of disks) left right
-      → PairsNow (two (g.view left) (g.view right)) P
-  left_now disks P left right honest now are a b la rb =
-      let times = timed_both disks honest in
-      now a b (times.0.only_now a (are.left_was a la)) (times.1.only_now b (are.right_was b rb))
-
   -- ---- what is known
 
   abbrev node : Durable D g → Node
@@ -167,7 +104,7 @@ module _ {D : Type 0} {g : Ghosts D} (timed : (d : D) → g.honest d → IsTimed
   half_known : (first second left right : D) (result : Made g) (s : Durable D g) → PairsSince (two (g.view first) (g.view second)) (disks_then result) (IsNothingOr empty_state)
       → AreLeft g (two (g.view first) (g.view second)) (disks_then result) left right → IsOpenedOn left right s → IsKnown [] [] s
   half_known first second left right result s since are is_open =
-      let seen = left_since (two (g.view first) (g.view second)) (disks_then result) (IsNothingOr empty_state) left right since are (g.view left).seen (g.view right).seen
+      let seen = left_since timed (two (g.view first) (g.view second)) (disks_then result) (IsNothingOr empty_state) left right since are (g.view left).seen (g.view right).seen
       (timed left are.honest_left).stays (timed right are.honest_right).stays in
       new_known s (empty_stands (g.view left).seen (g.view right).seen s.store.state is_open.found seen) is_open.soft_is is_open.is_up
 
@@ -232,7 +169,7 @@ module _ {D : Type 0} {g : Ghosts D} (timed : (d : D) → g.honest d → IsTimed
         honest_left = are.honest_left;
         honest_right = are.honest_right;
         there = λ a b la rb. at_work_there old.store xs whole a b orderly happens
-            (left_since (both_of old.disks) (both_of new.disks) (IsBeforeOrAfter old.store xs) left right (always honest) are a b la rb);
+            (left_since timed (both_of old.disks) (both_of new.disks) (IsBeforeOrAfter old.store xs) left right (always honest) are a b la rb);
       }
   cut_known ds _ all old new left right known up honest (amid_rest always) are =
       let orderly = order_up ds old known.sound up in
@@ -244,8 +181,8 @@ module _ {D : Type 0} {g : Ghosts D} (timed : (d : D) → g.honest d → IsTimed
         backed = known.backed;
         honest_left = are.honest_left;
         honest_right = are.honest_right;
-        there = λ a b la rb. at_rest_there old.store.state a b orderly.state_is
-            (left_since (both_of old.disks) (both_of new.disks) (StandsFor old.store.state) left right (always honest) are a b la rb);
+        there = λ a b la rb. with_none old.store.state [] refl orderly.state_is a b
+            (left_since timed (both_of old.disks) (both_of new.disks) (StandsFor old.store.state) left right (always honest) are a b la rb);
       }
 
   -- Between two calls, or while it is down.
@@ -259,19 +196,22 @@ module _ {D : Type 0} {g : Ghosts D} (timed : (d : D) → g.honest d → IsTimed
       backed = known.backed;
       honest_left = are.honest_left;
       honest_right = are.honest_right;
-      there = left_now s.disks (IsWithOrWithout base s.lost.items) left right honest now are;
+      there = left_now timed s.disks (IsWithOrWithout base s.lost.items) left right honest now are;
     }
 
     stopped_known : AreKnown g ds s.lost.items all left right
-    stopped_known = by_bool s.down
-        (λ down.
-        stopped_at s.before.value (record { proper = known.sound.proper; after = subst (IsAfter empty_state ds) (cond-true s.down s.before.value s.store.state down) known.sound.after })
-        (known.sound.lost down) (s.fallen down honest))
-        (λ up.
-        let done = done_up ds s known.sound up in
-        stopped_at s.store.state done (subst (λ l. IsProper empty_state (ds ++ l)) (sym (s.none_lost up)) (subst (IsProper empty_state) (sym (append-nil ds)) done.proper))
-        (stands_with (λ b. b.generation) (λ b. b.end) (λ b. g.view b.disk) g.view (λ b. g.honest b.disk) g.honest (λ b h. timed b.disk h) timed s.disks s.store.state s.lost.items (s.none_lost up)
-        (order_up ds s known.sound up).state_is honest (s.kept up)))
+    stopped_known =
+        elim (cases_Bool s.down) [
+          | inl down ↦
+              let after = subst (IsAfter empty_state ds) (cond-true s.down s.before.value s.store.state down) known.sound.after in
+              stopped_at s.before.value (record { proper = known.sound.proper; after = after }) (known.sound.lost down) (s.fallen down honest)
+          | inr up ↦
+              let done = done_up ds s known.sound up in
+              let none = subst (IsProper empty_state) (sym (append-nil ds)) done.proper in
+              stopped_at s.store.state done (subst (λ l. IsProper empty_state (ds ++ l)) (sym (s.none_lost up)) none)
+              (stands_with (λ b. b.generation) (λ b. b.end) (λ b. g.view b.disk) g.view (λ b. g.honest b.disk) g.honest (λ b h. timed b.disk h) timed s.disks s.store.state s.lost.items (s.none_lost up)
+              (order_up ds s known.sound up).state_is honest (s.kept up))
+        ]
 
   -- What stands as the disks read.
   module _ (ds hand : List Deed) (all : List (ℕ × Reply)) (left right : D) (known : AreKnown g ds hand all left right) where

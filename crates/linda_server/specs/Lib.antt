@@ -8,3 +8,4 @@ pub mod Node
 pub mod Reopening
 pub mod Switch
 pub mod Lives
+pub mod Promises

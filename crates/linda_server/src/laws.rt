@@ -6,7 +6,7 @@ ghost use Rattle.linda_wire.specs.declared.reply.Reply.{Reply};
 ghost use Rattle.linda_state.specs.declared.deed.Deed.{Deed};
 ghost use Rattle.linda_server.specs.declared.durable.Durable.{Durable};
 ghost use Rattle.linda_server.specs.Lives.{Life, Serving, Stopped, IsOpenedOn};
-ghost use Rattle.linda_server.specs.Lives.{KeepsItsWord, AreReady, IsFreed};
+ghost use Rattle.linda_server.specs.Promises.{KeepsItsWord, AreReady, IsFreed};
 
 use linda_disk::Disk;
 
