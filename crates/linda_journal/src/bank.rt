@@ -4,6 +4,7 @@ ghost use Rattle.std.specs.Prelude.{◌≡◌, ◌≢◌, ◌<◌, ◌≤◌, �
 ghost use Rattle.std.specs.Prelude.{List, length, IfOk, IfErr, OnOk, IsErrOf, true, false};
 ghost use Rattle.linda_state.specs.declared.deed.Deed as deed;
 ghost use Rattle.linda_disk.specs.View.{IsDurable};
+ghost use Rattle.linda_disk.specs.Disk.{TellsFailures};
 ghost use Rattle.linda_disk.specs.Run.{LeavesOnly};
 ghost use Rattle.linda_journal.specs.declared.limits.TheConstants.{MAX_DEEDS};
 ghost use Rattle.linda_journal.specs.Records.{spell_record};
@@ -119,8 +120,10 @@ impl<D: Disk> Bank<D> {
             × (e.0 ≡ BankFault.Full → e.1 ≡ disk)) }
         ensures honest { IfOk result (λ b. D.honest disk ↔ D.honest b.disk)
             × IfErr result (λ e. D.honest disk ↔ D.honest e.1) }
-        ensures cause { IfErr result (λ e. e.0 ≡ BankFault.Disk
-            → D.failures disk < D.failures e.1) }
+        // The count of failures rises where the device is told to have failed, and there alone.
+        ensures cause { IfErr result (λ e. TellsFailures BankFault.Disk e.0
+            (D.failures disk) (D.failures e.1)) }
+        ensures steady { IfOk result (λ b. D.failures b.disk ≡ D.failures disk) }
     {
         if limit < MIN_BYTES + 1 + body.len() {
             return Err((BankFault::Full, disk));
@@ -176,8 +179,9 @@ impl<D: Disk> Bank<D> {
             → IfOk result (λ o. (o.0.generation ≡ generation) × (o.1.items ≡ body)
             × (deeds_of o.2.items ≡ records))
             × IfErr result (λ e. (e.0 ≡ BankFault.Disk) ⊎ (e.0 ≡ BankFault.Memory)) }
-        ensures cause { IfErr result (λ e. e.0 ≡ BankFault.Disk
-            → D.failures disk < D.failures e.1) }
+        ensures cause { IfErr result (λ e. TellsFailures BankFault.Disk e.0
+            (D.failures disk) (D.failures e.1)) }
+        ensures steady { IfOk result (λ o. D.failures o.0.disk ≡ D.failures disk) }
     {
         let mut disk = disk;
         match load(alloc, &mut disk) {
@@ -229,8 +233,10 @@ impl<D: Disk> Bank<D> {
         ensures unfilled { IsErrOf result BankFault.Full → self.new ≡ self.old }
         ensures spent { IsErrOf result BankFault.Spent ↔ (self.old.is_spent ≡ true) }
         ensures unspent { self.old.is_spent ≡ true → self.new ≡ self.old }
-        ensures cause { IsErrOf result BankFault.Disk
-            → D.failures self.old.disk < D.failures self.new.disk }
+        // The count of failures rises where the device is told to have failed, and there alone.
+        ensures cause { IfErr result (λ fault. TellsFailures BankFault.Disk fault
+            (D.failures self.old.disk) (D.failures self.new.disk)) }
+        ensures steady { OnOk result (D.failures self.new.disk ≡ D.failures self.old.disk) }
         ensures off { IsErrOf result BankFault.Disk → self.new.is_spent ≡ true }
         // Want of memory before the first device call changes nothing; after it the bank is spent.
         ensures memory { IsErrOf result BankFault.Memory
@@ -300,8 +306,9 @@ pub fn unlock<D: Disk>(whole: Whole<D>, limit: usize) -> Result<Bank<D>, (DiskFa
         (IsNoneOrNew whole.generation body)) }
     ensures honest { IfOk result (λ b. D.honest whole.disk ↔ D.honest b.disk)
         × IfErr result (λ e. D.honest whole.disk ↔ D.honest e.1) }
-    ensures cause { IfErr result (λ e. e.0 ≡ DiskFault.Device
-        → D.failures whole.disk < D.failures e.1) }
+    ensures cause { IfErr result (λ e. TellsFailures DiskFault.Device e.0
+        (D.failures whole.disk) (D.failures e.1)) }
+    ensures steady { IfOk result (λ b. D.failures b.disk ≡ D.failures whole.disk) }
 {
     let Whole {
         mut disk,

@@ -3,7 +3,7 @@
 ghost use Rattle.std.specs.Prelude.{◌≡◌, ◌<◌, ◌≤◌, ◌↔◌, true, false, length, IfOk, IfErr, OnOk};
 ghost use Rattle.std.specs.Prelude.{IsErrOf};
 ghost use Rattle.linda_disk.specs.View.{IsDurable};
-ghost use Rattle.linda_disk.specs.Disk.{CountsFailure};
+ghost use Rattle.linda_disk.specs.Disk.{CountsFailure, TellsFailures};
 ghost use Rattle.linda_disk.specs.Run.{LeavesOnly};
 ghost use Rattle.linda_journal.specs.declared.limits.TheConstants.{MIN_BYTES};
 ghost use Rattle.linda_journal.specs.Renewal.{IsNoBank, IsClosed, IsOpenOrShort, IsSameOrNone};
@@ -53,8 +53,8 @@ pub fn shut<D: Disk>(disk: D) -> Result<Closed<D>, (DiskFault, D)>
         (λ image. image ≡ (D.view disk).seen)) }
     ensures honest { IfOk result (λ c. D.honest disk ↔ D.honest c.disk)
         × IfErr result (λ e. D.honest disk ↔ D.honest e.1) }
-    ensures cause { IfErr result (λ e. e.0 ≡ DiskFault.Device
-        → D.failures disk < D.failures e.1) }
+    ensures cause { IfErr result (λ e. TellsFailures DiskFault.Device e.0
+        (D.failures disk) (D.failures e.1)) }
     ensures steady { IfOk result (λ c. D.failures c.disk ≡ D.failures disk) }
 {
     let mut disk = disk;

@@ -3,6 +3,7 @@
 ghost use Rattle.std.specs.Prelude.{◌≡◌, ◌≢◌, ◌<◌, ◌≤◌, ◌+◌, ◌-◌, ◌↔◌, take, drop, length, IfOk, IfErr, OnOk};
 ghost use Rattle.std.specs.Prelude.{IsErrOf};
 ghost use Rattle.linda_disk.specs.View.{IsDurable};
+ghost use Rattle.linda_disk.specs.Disk.{TellsFailures};
 ghost use Rattle.linda_disk.specs.Run.{LeavesOnly};
 ghost use Rattle.linda_journal.specs.declared.limits.TheConstants.{MIN_BYTES};
 ghost use Rattle.linda_journal.specs.Journal.{AreAt, deeds_of};
@@ -43,7 +44,9 @@ pub(crate) fn load<D: Disk>(alloc: Global, disk: &mut D) -> Result<Contents, Ban
     ensures any_moment { D.honest disk.old
         → LeavesOnly (D.view disk.old) (D.view disk.new) (D.view disk.old).may_leave }
     ensures honest { D.honest disk.old ↔ D.honest disk.new }
-    ensures cause { IsErrOf result BankFault.Disk → D.failures disk.old < D.failures disk.new }
+    ensures cause { IfErr result (λ fault. TellsFailures BankFault.Disk fault
+        (D.failures disk.old) (D.failures disk.new)) }
+    ensures steady { OnOk result (D.failures disk.new ≡ D.failures disk.old) }
 {
     let bytes = read_all(alloc, disk)?;
     let image = read_image(alloc, &bytes)?;
@@ -77,7 +80,9 @@ fn read_all<D: Disk>(alloc: Global, disk: &mut D) -> Result<Vec<u8>, BankFault>
         → LeavesOnly (D.view disk.old) (D.view disk.new) (D.view disk.old).may_leave }
     ensures known { IfErr result (λ f. f ≢ BankFault.Disk → f ≡ BankFault.Memory) }
     ensures honest { D.honest disk.old ↔ D.honest disk.new }
-    ensures cause { IsErrOf result BankFault.Disk → D.failures disk.old < D.failures disk.new }
+    ensures cause { IfErr result (λ fault. TellsFailures BankFault.Disk fault
+        (D.failures disk.old) (D.failures disk.new)) }
+    ensures steady { OnOk result (D.failures disk.new ≡ D.failures disk.old) }
 {
     disk.sync()?;
     let len = disk.len()?;

@@ -4,7 +4,7 @@ ghost use Rattle.std.specs.Prelude.{◌≡◌, ◌∷◌, [], ◌++◌, ◌<◌,
 ghost use Rattle.std.specs.Prelude.{IfOk, IfErr, OnOk};
 ghost use Rattle.linda_disk.specs.View.{IsDurable};
 ghost use Rattle.linda_disk.specs.Image.{overlay};
-ghost use Rattle.linda_disk.specs.Disk.{CountsFailure};
+ghost use Rattle.linda_disk.specs.Disk.{CountsFailure, TellsFailures};
 ghost use Rattle.linda_disk.specs.Run.{LeavesOnly};
 ghost use Rattle.linda_journal.specs.declared.kinds.TheConstants.{CLOSED};
 ghost use Rattle.linda_journal.specs.Gate.{ClosesAfter, IsReady};
@@ -46,8 +46,8 @@ pub fn fill<D: Disk>(
         × IfErr result (λ e. LeavesOnly (D.view closed.disk) (D.view e.1) IsNoBank) }
     ensures honest { IfOk result (λ w. D.honest closed.disk ↔ D.honest w.disk)
         × IfErr result (λ e. D.honest closed.disk ↔ D.honest e.1) }
-    ensures cause { IfErr result (λ e. e.0 ≡ DiskFault.Device
-        → D.failures closed.disk < D.failures e.1) }
+    ensures cause { IfErr result (λ e. TellsFailures DiskFault.Device e.0
+        (D.failures closed.disk) (D.failures e.1)) }
     ensures steady { IfOk result (λ w. D.failures w.disk ≡ D.failures closed.disk) }
 {
     let mut disk = closed.into_disk();
