@@ -48,8 +48,8 @@ pub(crate) fn commit<D: Disk>(
     ensures ready { OnOk result (is_ready (λ b. b.is_spent) disks.new ≡ true) }
     ensures limit { number_of (λ b. b.limit) disks.new ≡ number_of (λ b. b.limit) disks.old }
     ensures honest { BothHonest disks.old ↔ BothHonest disks.new }
-    ensures cause { IsErrOf result ServeFault.Disk
-        → failures_of disks.old < failures_of disks.new }
+    ensures cause { IfErr result (λ fault. TellsFailures ServeFault.Disk fault
+        (failures_of disks.old) (failures_of disks.new)) }
     ensures known { (IsErrOf result ServeFault.Full → ⊥) × (IsErrOf result ServeFault.Down → ⊥) }
 {
     if deeds.is_empty() {

@@ -43,8 +43,8 @@ pub(crate) fn expect_empty<D: Disk>(
     ensures right_honest { D.honest right.old ↔ D.honest right.new }
     ensures steady { OnOk result ((D.failures left.new ≡ D.failures left.old)
         × (D.failures right.new ≡ D.failures right.old)) }
-    ensures cause { IsErrOf result OpenFault.Disk → (D.failures left.old < D.failures left.new)
-        ⊎ (D.failures right.old < D.failures right.new) }
+    ensures cause { IfErr result (λ fault. TellsFailuresOfTwo OpenFault.Disk fault
+        (D.failures left.old) (D.failures right.old) (D.failures left.new) (D.failures right.new)) }
     ensures known { IsErrOf result OpenFault.NoStore → ⊥ }
 {
     expect_no_bytes(left)?;
@@ -76,7 +76,8 @@ fn expect_no_bytes<D: Disk>(disk: &mut D) -> Result<(), OpenFault>
         × (IsErrOf result OpenFault.NoStore → ⊥) }
     ensures honest { D.honest disk.old ↔ D.honest disk.new }
     ensures steady { OnOk result (D.failures disk.new ≡ D.failures disk.old) }
-    ensures cause { IsErrOf result OpenFault.Disk → D.failures disk.old < D.failures disk.new }
+    ensures cause { IfErr result (λ fault. TellsFailures OpenFault.Disk fault
+        (D.failures disk.old) (D.failures disk.new)) }
 {
     match disk.len() {
         Ok(0) => Ok(()),

@@ -54,8 +54,8 @@ pub(crate) fn renew<B: Bag, D: Disk>(
     ensures room { OnOk result (HasNoNext state.now (number_of (λ b. b.limit) disks.old)
         (number_of (λ b. b.generation) disks.old) → ⊥) }
     ensures honest { BothHonest disks.old ↔ BothHonest disks.new }
-    ensures cause { IsErrOf result ServeFault.Disk
-        → failures_of disks.old < failures_of disks.new }
+    ensures cause { IfErr result (λ fault. TellsFailures ServeFault.Disk fault
+        (failures_of disks.old) (failures_of disks.new)) }
     ensures known { IsErrOf result ServeFault.Down → ⊥ }
 {
     match mem::replace(disks, Disks::Away) {

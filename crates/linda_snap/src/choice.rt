@@ -5,7 +5,7 @@ ghost use Rattle.std.specs.Prelude.{Err, IfOk, IfErr, OnOk, IsErrOf};
 ghost use Rattle.linda_state.specs.State as states;
 ghost use Rattle.linda_state.specs.State.{IsState};
 ghost use Rattle.linda_disk.specs.View.{IsDurable};
-ghost use Rattle.linda_disk.specs.Disk.{CountsFailure};
+ghost use Rattle.linda_disk.specs.Disk.{CountsFailure, TellsFailures, TellsFailuresOfTwo};
 ghost use Rattle.linda_disk.specs.Run.{LeavesOnly};
 ghost use Rattle.linda_journal.specs.Heading.{IsHeading};
 ghost use Rattle.linda_snap.specs.Stands.{IsStored, IsUp, Stands};
@@ -114,8 +114,12 @@ pub fn choose_bank<B: Bag, D: Disk>(
     ensures honest { IfOk result (λ c. (D.honest left × D.honest right)
         ↔ (D.honest c.bank.disk × D.honest c.other))
         × IfErr result (λ e. (D.honest left × D.honest right) ↔ (D.honest e.1 × D.honest e.2)) }
-    ensures cause { IfErr result (λ e. e.0 ≡ ChoiceFault.Disk
-        → (D.failures left < D.failures e.1) ⊎ (D.failures right < D.failures e.2)) }
+    // The counts of failures rise where a device is told to have failed, and there alone.
+    ensures cause { IfErr result (λ e. TellsFailuresOfTwo ChoiceFault.Disk e.0
+        (D.failures left) (D.failures right) (D.failures e.1) (D.failures e.2)) }
+    ensures steady { IfOk result (λ c.
+        (D.failures c.bank.disk ≡ chosen c.is_right (D.failures left) (D.failures right))
+        × (D.failures c.other ≡ chosen c.is_right (D.failures right) (D.failures left))) }
 {
     choose_among(alloc, left, right, limit)
 }
@@ -151,8 +155,11 @@ fn choose_among<B: Bag, D: Disk>(
     ensures honest { IfOk result (λ c. (D.honest left × D.honest right)
         ↔ (D.honest c.bank.disk × D.honest c.other))
         × IfErr result (λ e. (D.honest left × D.honest right) ↔ (D.honest e.1 × D.honest e.2)) }
-    ensures cause { IfErr result (λ e. e.0 ≡ ChoiceFault.Disk
-        → (D.failures left < D.failures e.1) ⊎ (D.failures right < D.failures e.2)) }
+    ensures cause { IfErr result (λ e. TellsFailuresOfTwo ChoiceFault.Disk e.0
+        (D.failures left) (D.failures right) (D.failures e.1) (D.failures e.2)) }
+    ensures steady { IfOk result (λ c.
+        (D.failures c.bank.disk ≡ chosen c.is_right (D.failures left) (D.failures right))
+        × (D.failures c.other ≡ chosen c.is_right (D.failures right) (D.failures left))) }
 {
     let mut left = left;
     let mut right = right;
@@ -214,8 +221,8 @@ fn look_at_both<D: Disk>(left: &mut D, right: &mut D) -> Result<bool, ChoiceFaul
     ensures right_honest { D.honest right.old ↔ D.honest right.new }
     ensures steady { OnOk result ((D.failures left.new ≡ D.failures left.old)
         × (D.failures right.new ≡ D.failures right.old)) }
-    ensures cause { IsErrOf result ChoiceFault.Disk → (D.failures left.old < D.failures left.new)
-        ⊎ (D.failures right.old < D.failures right.new) }
+    ensures cause { IfErr result (λ fault. TellsFailuresOfTwo ChoiceFault.Disk fault
+        (D.failures left.old) (D.failures right.old) (D.failures left.new) (D.failures right.new)) }
 {
     let one = look_at(left)?;
     let two = look_at(right)?;
@@ -242,8 +249,9 @@ fn open_file<B: Bag, D: Disk>(
     ensures ranges { IfOk result (λ x. IsState x.0) }
     ensures honest { IfOk result (λ x. D.honest disk ↔ D.honest x.1.disk)
         × IfErr result (λ e. D.honest disk ↔ D.honest e.1) }
-    ensures cause { IfErr result (λ e. e.0 ≡ BankFault.Disk
-        → D.failures disk < D.failures e.1) }
+    ensures cause { IfErr result (λ e. TellsFailures BankFault.Disk e.0
+        (D.failures disk) (D.failures e.1)) }
+    ensures steady { IfOk result (λ x. D.failures x.1.disk ≡ D.failures disk) }
 {
     match Bank::open(alloc, disk, limit) {
         Err((fault, disk)) => Err((fault, disk)),

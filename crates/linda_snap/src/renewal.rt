@@ -4,6 +4,7 @@ ghost use Rattle.std.specs.Prelude.{◌≡◌, ◌∷◌, [], ◌++◌, ◌<◌,
 ghost use Rattle.std.specs.Prelude.{true, false, length, IfOk, IfErr, OnOk};
 ghost use Rattle.linda_state.specs.State.{IsState};
 ghost use Rattle.linda_disk.specs.View.{IsDurable};
+ghost use Rattle.linda_disk.specs.Disk.{TellsFailures};
 ghost use Rattle.linda_disk.specs.Run.{LeavesOnly};
 ghost use Rattle.linda_journal.specs.declared.kinds.TheConstants.{CLOSED};
 ghost use Rattle.linda_journal.specs.declared.limits.TheConstants.{MIN_BYTES};
@@ -100,8 +101,10 @@ pub fn switch<B: Bag, D: Disk>(
         × (e.0 ≡ SwitchFault.Disk → e.1.is_spent ≡ true)) }
     ensures honest { IfOk result (λ x. D.honest other ↔ D.honest x.0.disk)
         × IfErr result (λ e. D.honest other ↔ D.honest e.2) }
-    ensures cause { IfErr result (λ e. e.0 ≡ SwitchFault.Disk
-        → D.failures other < D.failures e.2) }
+    // The count of failures rises where the device is told to have failed, and there alone.
+    ensures cause { IfErr result (λ e. TellsFailures SwitchFault.Disk e.0
+        (D.failures other) (D.failures e.2)) }
+    ensures steady { IfOk result (λ x. D.failures x.0.disk ≡ D.failures other) }
 {
     let limit = current.limit();
     if !has_room(state, limit) {
@@ -145,8 +148,9 @@ fn renew<D: Disk>(
         × (b.records ≡ 0) × (b.is_spent ≡ false)) }
     ensures honest { IfOk result (λ b. D.honest other ↔ D.honest b.disk)
         × IfErr result (λ e. D.honest other ↔ D.honest e.1) }
-    ensures cause { IfErr result (λ e. e.0 ≡ DiskFault.Device
-        → D.failures other < D.failures e.1) }
+    ensures cause { IfErr result (λ e. TellsFailures DiskFault.Device e.0
+        (D.failures other) (D.failures e.1)) }
+    ensures steady { IfOk result (λ b. D.failures b.disk ≡ D.failures other) }
 {
     match shut(other) {
         Err((fault, other)) => Err((fault, other)),

@@ -62,8 +62,8 @@ impl<D: Disk> Durable<D> {
         ensures honest { IfOk result (λ s. (D.honest left × D.honest right) ↔ BothHonest s.disks)
             × IfErr result (λ e. (D.honest left × D.honest right)
             ↔ (D.honest e.1 × D.honest e.2)) }
-        ensures cause { IfErr result (λ e. e.0 ≡ OpenFault.Disk
-            → (D.failures left < D.failures e.1) ⊎ (D.failures right < D.failures e.2)) }
+        ensures cause { IfErr result (λ e. TellsFailuresOfTwo OpenFault.Disk e.0
+            (D.failures left) (D.failures right) (D.failures e.1) (D.failures e.2)) }
     {
         if !is_limit(limit) {
             return Err((OpenFault::LimitRange, left, right));

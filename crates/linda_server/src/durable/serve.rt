@@ -68,8 +68,8 @@ impl<D: Disk> Durable<D> {
         ensures stays_down { self.old.down ≡ true → self.new ≡ self.old }
         ensures goes_down { (IsErrOf result ServeFault.Disk → self.new.down ≡ true)
             × (IsErrOf result ServeFault.Memory → self.new.down ≡ true) }
-        ensures cause { IsErrOf result ServeFault.Disk
-            → failures_of self.old.disks < failures_of self.new.disks }
+        ensures cause { IfErr result (λ fault. TellsFailures ServeFault.Disk fault
+            (failures_of self.old.disks) (failures_of self.new.disks)) }
         ensures honest { BothHonest self.old.disks ↔ BothHonest self.new.disks }
         ensures limit { self.new.limit ≡ self.old.limit }
         // In the call in which it goes down, some first deeds of what came may be done.
@@ -117,8 +117,8 @@ impl<D: Disk> Durable<D> {
         ensures stays_down { self.old.down ≡ true → self.new ≡ self.old }
         ensures goes_down { (IsErrOf result ServeFault.Disk → self.new.down ≡ true)
             × (IsErrOf result ServeFault.Memory → self.new.down ≡ true) }
-        ensures cause { IsErrOf result ServeFault.Disk
-            → failures_of self.old.disks < failures_of self.new.disks }
+        ensures cause { IfErr result (λ fault. TellsFailures ServeFault.Disk fault
+            (failures_of self.old.disks) (failures_of self.new.disks)) }
         ensures honest { BothHonest self.old.disks ↔ BothHonest self.new.disks }
         ensures limit { self.new.limit ≡ self.old.limit }
         // In the call in which it goes down, some first deeds of what came may be done.
@@ -198,8 +198,8 @@ impl<D: Disk> Durable<D> {
             × (IsErrOf result ServeFault.Down → ⊥) }
         ensures same { (self.new.store ≡ self.old.store) × (self.new.limit ≡ self.old.limit)
             × (self.new.before.value ≡ self.old.before.value) }
-        ensures cause { IsErrOf result ServeFault.Disk
-            → failures_of self.old.disks < failures_of self.new.disks }
+        ensures cause { IfErr result (λ fault. TellsFailures ServeFault.Disk fault
+            (failures_of self.old.disks) (failures_of self.new.disks)) }
         ensures honest { BothHonest self.old.disks ↔ BothHonest self.new.disks }
     {
         match commit(&mut self.disks, alloc, &served.deeds) {

@@ -46,8 +46,8 @@ impl<D: Disk> Durable<D> {
         ensures stays_down { self.old.down ≡ true → self.new ≡ self.old }
         ensures goes_down { (IsErrOf result ServeFault.Disk → self.new.down ≡ true)
             × (IsErrOf result ServeFault.Memory → self.new.down ≡ true) }
-        ensures cause { IsErrOf result ServeFault.Disk
-            → failures_of self.old.disks < failures_of self.new.disks }
+        ensures cause { IfErr result (λ fault. TellsFailures ServeFault.Disk fault
+            (failures_of self.old.disks) (failures_of self.new.disks)) }
         // Nothing is done in the call in which it goes down.
         ensures lost { self.old.down ≡ false → self.new.down ≡ true
             → (self.new.before.value ≡ self.old.store.state) × (self.new.lost.items ≡ []) }
