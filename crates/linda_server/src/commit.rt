@@ -1,8 +1,9 @@
 //! How deeds come onto the bank in use.
 
-ghost use Rattle.std.specs.Prelude.{◌≡◌, ◌<◌, ◌≤◌, ◌+◌, ◌↔◌, ◌⊎◌, ◌≢◌, true, length, OnOk, IsErrOf};
+ghost use Rattle.std.specs.Prelude.{◌≡◌, ◌<◌, ◌≤◌, ◌+◌, ◌↔◌, ◌⊎◌, ◌≢◌, [], true, length, IfErr, OnOk, IsErrOf};
 ghost use Rattle.linda_state.specs.DeedFormat.{payload};
 ghost use Rattle.linda_state.specs.State as state;
+ghost use Rattle.linda_disk.specs.Disk.{TellsFailures};
 ghost use Rattle.linda_step.specs.declared.size.TheConstants.{MAX_BATCH};
 ghost use Rattle.linda_server.specs.declared.limits.TheConstants.{RECORD_BYTES};
 ghost use Rattle.linda_server.specs.Pairs.{PairsSince};
@@ -47,6 +48,8 @@ pub(crate) fn commit<D: Disk>(
     ensures there { is_there disks.old ≡ true → is_there disks.new ≡ true }
     ensures ready { OnOk result (is_ready (λ b. b.is_spent) disks.new ≡ true) }
     ensures limit { number_of (λ b. b.limit) disks.new ≡ number_of (λ b. b.limit) disks.old }
+    // Where there are none, no device call is made.
+    ensures idle { deeds.now ≡ [] → disks.new ≡ disks.old }
     ensures honest { BothHonest disks.old ↔ BothHonest disks.new }
     ensures cause { IfErr result (λ fault. TellsFailures ServeFault.Disk fault
         (failures_of disks.old) (failures_of disks.new)) }
@@ -67,6 +70,7 @@ pub(crate) fn commit<D: Disk>(
 // What a server tells of a bank's fault: of all but want of memory, that a device failed.
 fn told(fault: BankFault) -> ServeFault
     ensures disk { result ≡ ServeFault.Disk → fault ≢ BankFault.Memory }
+    ensures others { result ≢ ServeFault.Disk → fault ≢ BankFault.Disk }
     ensures known { (result ≡ ServeFault.Disk) ⊎ (result ≡ ServeFault.Memory) }
 {
     match fault {

@@ -1,8 +1,9 @@
 //! Two disks that are to hold a new server.
 
 ghost use Rattle.std.specs.Prelude.{◌≡◌, ◌<◌, ◌≤◌, ◌+◌, ◌^◌, ◌⊎◌, ◌↔◌, []};
-ghost use Rattle.std.specs.Prelude.{true, false, length, IfOk, OnOk, IsErrOf};
+ghost use Rattle.std.specs.Prelude.{true, false, length, IfOk, IfErr, OnOk, IsErrOf};
 ghost use Rattle.linda_state.specs.State.{empty_state};
+ghost use Rattle.linda_disk.specs.Disk.{TellsFailures, TellsFailuresOfTwo};
 ghost use Rattle.linda_disk.specs.Run.{LeavesOnly};
 ghost use Rattle.linda_snap.specs.Snapshot.{spell_state, FitsState};
 ghost use Rattle.linda_server.specs.declared.limits.TheConstants.{MIN_LIMIT, MAX_LIMIT};
@@ -34,7 +35,10 @@ pub(crate) fn expect_empty<D: Disk>(
         → LeavesOnly (D.view right.old) (D.view right.new) (λ image. image ≡ [])
         × IsVoid (D.view right.new) }
     ensures limit { OnOk result (IsLimit limit) }
-    ensures range { IsErrOf result OpenFault.LimitRange → IsLimit limit → ⊥ }
+    // The limit is judged last.
+    ensures range { IsErrOf result OpenFault.LimitRange → (IsLimit limit → ⊥)
+        × (D.honest left.old → D.honest right.old
+        → ((D.view left.old).seen ≡ []) × ((D.view right.old).seen ≡ [])) }
     ensures empty { OnOk result (D.honest left.old → D.honest right.old
         → ((D.view left.old).seen ≡ []) × ((D.view right.old).seen ≡ [])) }
     ensures full { IsErrOf result OpenFault.NotEmpty → D.honest left.old → D.honest right.old

@@ -1,7 +1,8 @@
 //! Serving messages: judged, done, and put onto the bank in use before anything is answered.
 
 ghost use Rattle.std.specs.Prelude.{◌≡◌, ◌∷◌, [], ◌<◌, ◌≤◌, ◌+◌, ◌^◌, ◌⊎◌, ◌↔◌};
-ghost use Rattle.std.specs.Prelude.{true, false, length, vec_len, IfOk, OnOk, OnErr, IsErrOf};
+ghost use Rattle.std.specs.Prelude.{true, false, length, vec_len, IfOk, IfErr, OnOk, OnErr, IsErrOf};
+ghost use Rattle.linda_disk.specs.Disk.{TellsFailures};
 ghost use Rattle.linda_server.specs.declared.limits.TheConstants.{RECORD_BYTES};
 ghost use Rattle.linda_server.specs.Server.{BothHonest, failures_of, IsKeptFor, AlwaysLeave, StandNow};
 ghost use Rattle.linda_server.specs.Disks.{is_ready, number_of};
@@ -70,6 +71,9 @@ impl<D: Disk> Durable<D> {
             × (IsErrOf result ServeFault.Memory → self.new.down ≡ true) }
         ensures cause { IfErr result (λ fault. TellsFailures ServeFault.Disk fault
             (failures_of self.old.disks) (failures_of self.new.disks)) }
+        // Where it did no deed, it made no device call.
+        ensures idle { IfOk result (λ served. served.deeds.items ≡ []
+            → self.new.disks ≡ self.old.disks) }
         ensures honest { BothHonest self.old.disks ↔ BothHonest self.new.disks }
         ensures limit { self.new.limit ≡ self.old.limit }
         // In the call in which it goes down, some first deeds of what came may be done.
@@ -119,6 +123,9 @@ impl<D: Disk> Durable<D> {
             × (IsErrOf result ServeFault.Memory → self.new.down ≡ true) }
         ensures cause { IfErr result (λ fault. TellsFailures ServeFault.Disk fault
             (failures_of self.old.disks) (failures_of self.new.disks)) }
+        // Where it did no deed, it made no device call.
+        ensures idle { IfOk result (λ served. served.deeds.items ≡ []
+            → self.new.disks ≡ self.old.disks) }
         ensures honest { BothHonest self.old.disks ↔ BothHonest self.new.disks }
         ensures limit { self.new.limit ≡ self.old.limit }
         // In the call in which it goes down, some first deeds of what came may be done.
@@ -200,6 +207,7 @@ impl<D: Disk> Durable<D> {
             × (self.new.before.value ≡ self.old.before.value) }
         ensures cause { IfErr result (λ fault. TellsFailures ServeFault.Disk fault
             (failures_of self.old.disks) (failures_of self.new.disks)) }
+        ensures idle { IfOk result (λ s. s.deeds.items ≡ [] → self.new.disks ≡ self.old.disks) }
         ensures honest { BothHonest self.old.disks ↔ BothHonest self.new.disks }
     {
         match commit(&mut self.disks, alloc, &served.deeds) {

@@ -1,7 +1,8 @@
 //! A snapshot: the state in few bytes, on the disk that was not in use.
 
-ghost use Rattle.std.specs.Prelude.{◌≡◌, [], ◌<◌, ◌↔◌, true, false, OnOk, IsErrOf};
+ghost use Rattle.std.specs.Prelude.{◌≡◌, [], ◌↔◌, true, false, IfErr, OnOk, IsErrOf};
 ghost use Rattle.linda_server.specs.Disks.{number_of};
+ghost use Rattle.linda_disk.specs.Disk.{TellsFailures};
 ghost use Rattle.linda_server.specs.Server.{BothHonest, failures_of, AlwaysLeave, StandNow};
 
 use super::Durable;

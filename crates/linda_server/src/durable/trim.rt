@@ -1,6 +1,7 @@
 //! Giving back the room of the bank that was in use before the last snapshot.
 
-ghost use Rattle.std.specs.Prelude.{◌≡◌, [], ◌<◌, ◌↔◌, true, false, OnOk, IsErrOf};
+ghost use Rattle.std.specs.Prelude.{◌≡◌, [], ◌↔◌, true, false, IfErr, OnOk, IsErrOf};
+ghost use Rattle.linda_disk.specs.Disk.{TellsFailures};
 ghost use Rattle.linda_server.specs.Server.{BothHonest, failures_of, AlwaysLeave, StandNow};
 
 use super::Durable;
