@@ -58,6 +58,8 @@ pub(crate) fn inscribe<D: Disk>(disk: &mut D, bytes: &[u8]) -> Result<(), BankFa
     ensures honest { D.honest disk.old ↔ D.honest disk.new }
     ensures cause { IfErr result (λ fault. TellsFailures BankFault.Disk fault
         (D.failures disk.old) (D.failures disk.new)) }
+    ensures clock { D.honest disk.old
+        → OnOk result ((D.view disk.new).moment ≡ (D.view disk.old).moment + 6) }
     ensures steady { OnOk result (D.failures disk.new ≡ D.failures disk.old) }
 {
     lay_gate(disk)?;

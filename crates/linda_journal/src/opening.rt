@@ -1,7 +1,6 @@
 //! A bank read from its disk.
 
 ghost use Rattle.std.specs.Prelude.{◌≡◌, ◌≢◌, ◌<◌, ◌≤◌, ◌+◌, ◌-◌, ◌↔◌, take, drop, length, IfOk, IfErr, OnOk};
-ghost use Rattle.std.specs.Prelude.{IsErrOf};
 ghost use Rattle.linda_disk.specs.View.{IsDurable};
 ghost use Rattle.linda_disk.specs.Disk.{TellsFailures};
 ghost use Rattle.linda_disk.specs.Run.{LeavesOnly};
@@ -25,12 +24,13 @@ pub(crate) struct Contents {
     pub journal: Journal,
 }
 
-/// Syncs the disk and reads the bank that it holds.
+/// Reads the bank that a disk holds of which a crash leaves what a read gives.
 ///
 /// # Errors
 ///
 /// `NoBank`, `Damaged`, `Disk` where the device failed, `Memory`.
 pub(crate) fn load<D: Disk>(alloc: Global, disk: &mut D) -> Result<Contents, BankFault>
+    requires { D.honest disk.old → IsDurable (D.view disk.old) }
     ensures found { D.honest disk.old → IfOk result (λ o. IsSettled o.generation o.body.items
         (deeds_of o.journal.records.items) o.journal.end (D.view disk.new)) }
     ensures within { D.honest disk.old
@@ -47,6 +47,8 @@ pub(crate) fn load<D: Disk>(alloc: Global, disk: &mut D) -> Result<Contents, Ban
     ensures cause { IfErr result (λ fault. TellsFailures BankFault.Disk fault
         (D.failures disk.old) (D.failures disk.new)) }
     ensures steady { OnOk result (D.failures disk.new ≡ D.failures disk.old) }
+    ensures clock { D.honest disk.old
+        → OnOk result ((D.view disk.new).moment ≡ (D.view disk.old).moment) }
 {
     let bytes = read_all(alloc, disk)?;
     let image = read_image(alloc, &bytes)?;
@@ -70,8 +72,9 @@ fn body_of(bytes: Vec<u8>, at: usize) -> Vec<u8>
     body
 }
 
-// Syncs the disk and reads all of it.
+// Reads all of a disk of which a crash leaves what a read gives.
 fn read_all<D: Disk>(alloc: Global, disk: &mut D) -> Result<Vec<u8>, BankFault>
+    requires { D.honest disk.old → IsDurable (D.view disk.old) }
     ensures bytes { D.honest disk.old → IfOk result (λ v. v.items ≡ (D.view disk.old).seen) }
     ensures seen { D.honest disk.old
         → OnOk result ((D.view disk.new).seen ≡ (D.view disk.old).seen) }
@@ -83,8 +86,9 @@ fn read_all<D: Disk>(alloc: Global, disk: &mut D) -> Result<Vec<u8>, BankFault>
     ensures cause { IfErr result (λ fault. TellsFailures BankFault.Disk fault
         (D.failures disk.old) (D.failures disk.new)) }
     ensures steady { OnOk result (D.failures disk.new ≡ D.failures disk.old) }
+    ensures clock { D.honest disk.old
+        → OnOk result ((D.view disk.new).moment ≡ (D.view disk.old).moment) }
 {
-    disk.sync()?;
     let len = disk.len()?;
     let mut bytes = vec![in alloc; 0; len]?;
     disk.read_at(0, &mut bytes)?;

@@ -7,7 +7,7 @@ ghost use Rattle.linda_disk.specs.Disk.{TellsFailures};
 ghost use Rattle.linda_step.specs.declared.size.TheConstants.{MAX_BATCH};
 ghost use Rattle.linda_server.specs.declared.limits.TheConstants.{RECORD_BYTES};
 ghost use Rattle.linda_server.specs.Pairs.{PairsSince};
-ghost use Rattle.linda_server.specs.Server.{both_of, BothHonest, failures_of, IsUpFor, IsKeptFor};
+ghost use Rattle.linda_server.specs.Server.{both_of, BothHonest, failures_of, IsUpFor, IsKeptFor, IsPutOn};
 ghost use Rattle.linda_server.specs.Disks.{is_there, is_ready, number_of};
 ghost use Rattle.linda_server.specs.Calls.{LeadTo, IsOldOrNew};
 
@@ -50,6 +50,8 @@ pub(crate) fn commit<D: Disk>(
     ensures limit { number_of (λ b. b.limit) disks.new ≡ number_of (λ b. b.limit) disks.old }
     // Where there are none, no device call is made.
     ensures idle { deeds.now ≡ [] → disks.new ≡ disks.old }
+    // Else four calls change or sync the disk of the bank in use, and the other disk is not touched.
+    ensures clock { 0 < length deeds.now → OnOk result (IsPutOn disks.old disks.new) }
     ensures honest { BothHonest disks.old ↔ BothHonest disks.new }
     ensures cause { IfErr result (λ fault. TellsFailures ServeFault.Disk fault
         (failures_of disks.old) (failures_of disks.new)) }

@@ -1,6 +1,6 @@
 //! Which of two banks stands, and for which state.
 
-ghost use Rattle.std.specs.Prelude.{◌≡◌, ◌≢◌, ◌<◌, ◌↔◌, ◌⊎◌, ℕ, List, true, false, length, Ok};
+ghost use Rattle.std.specs.Prelude.{◌≡◌, ◌≢◌, ◌+◌, ◌<◌, ◌↔◌, ◌⊎◌, ℕ, List, true, false, length, Ok};
 ghost use Rattle.std.specs.Prelude.{Err, IfOk, IfErr, OnOk, IsErrOf};
 ghost use Rattle.linda_state.specs.State as states;
 ghost use Rattle.linda_state.specs.State.{IsState};
@@ -120,6 +120,12 @@ pub fn choose_bank<B: Bag, D: Disk>(
     ensures steady { IfOk result (λ c.
         (D.failures c.bank.disk ≡ chosen c.is_right (D.failures left) (D.failures right))
         × (D.failures c.other ≡ chosen c.is_right (D.failures right) (D.failures left))) }
+    // Each disk is synced once.
+    ensures clock { D.honest left → D.honest right → IfOk result (λ c.
+        ((D.view c.bank.disk).moment
+        ≡ chosen c.is_right (D.view left).moment (D.view right).moment + 1)
+        × ((D.view c.other).moment
+        ≡ chosen c.is_right (D.view right).moment (D.view left).moment + 1)) }
 {
     choose_among(alloc, left, right, limit)
 }
@@ -160,6 +166,11 @@ fn choose_among<B: Bag, D: Disk>(
     ensures steady { IfOk result (λ c.
         (D.failures c.bank.disk ≡ chosen c.is_right (D.failures left) (D.failures right))
         × (D.failures c.other ≡ chosen c.is_right (D.failures right) (D.failures left))) }
+    ensures clock { D.honest left → D.honest right → IfOk result (λ c.
+        ((D.view c.bank.disk).moment
+        ≡ chosen c.is_right (D.view left).moment (D.view right).moment + 1)
+        × ((D.view c.other).moment
+        ≡ chosen c.is_right (D.view right).moment (D.view left).moment + 1)) }
 {
     let mut left = left;
     let mut right = right;
@@ -221,6 +232,10 @@ fn look_at_both<D: Disk>(left: &mut D, right: &mut D) -> Result<bool, ChoiceFaul
     ensures right_honest { D.honest right.old ↔ D.honest right.new }
     ensures steady { OnOk result ((D.failures left.new ≡ D.failures left.old)
         × (D.failures right.new ≡ D.failures right.old)) }
+    ensures left_clock { D.honest left.old
+        → OnOk result ((D.view left.new).moment ≡ (D.view left.old).moment + 1) }
+    ensures right_clock { D.honest right.old
+        → OnOk result ((D.view right.new).moment ≡ (D.view right.old).moment + 1) }
     ensures cause { IfErr result (λ fault. TellsFailuresOfTwo ChoiceFault.Disk fault
         (D.failures left.old) (D.failures right.old) (D.failures left.new) (D.failures right.new)) }
 {
@@ -230,12 +245,13 @@ fn look_at_both<D: Disk>(left: &mut D, right: &mut D) -> Result<bool, ChoiceFaul
     Ok(side)
 }
 
-// Opens the bank on a disk, with the state that it stands for.
+// Opens the bank on a disk that was synced, with the state that it stands for.
 fn open_file<B: Bag, D: Disk>(
     alloc: Global,
     disk: D,
     limit: usize,
 ) -> Result<(State<B>, Bank<D>), (BankFault, D)>
+    requires { D.honest disk → IsDurable (D.view disk) }
     ensures found { D.honest disk → IfOk result (λ x.
         IsStored x.1.generation x.1.end (D.view x.1.disk) x.0) }
     ensures seen { D.honest disk
@@ -252,8 +268,10 @@ fn open_file<B: Bag, D: Disk>(
     ensures cause { IfErr result (λ e. TellsFailures BankFault.Disk e.0
         (D.failures disk) (D.failures e.1)) }
     ensures steady { IfOk result (λ x. D.failures x.1.disk ≡ D.failures disk) }
+    ensures clock { D.honest disk
+        → IfOk result (λ x. (D.view x.1.disk).moment ≡ (D.view disk).moment) }
 {
-    match Bank::open(alloc, disk, limit) {
+    match Bank::open_synced(alloc, disk, limit) {
         Err((fault, disk)) => Err((fault, disk)),
         Ok((bank, body, records)) => match recover(alloc, body, records) {
             Ok(state) => Ok((state, bank)),
@@ -272,6 +290,8 @@ fn look_at<D: Disk>(disk: &mut D) -> Result<Heading, DiskFault>
         → LeavesOnly (D.view disk.old) (D.view disk.new) (D.view disk.old).may_leave }
     ensures honest { D.honest disk.old ↔ D.honest disk.new }
     ensures cause { CountsFailure result (D.failures disk.old) (D.failures disk.new) }
+    ensures clock { D.honest disk.old
+        → OnOk result ((D.view disk.new).moment ≡ (D.view disk.old).moment + 1) }
 {
     disk.sync()?;
     let len = disk.len()?;
