@@ -1,5 +1,5 @@
 -- A disk that is not in use becomes a new bank: what a crash may make of it, step by step.
-use Rattle.std.proofs.Common.{◌≡◌, ℕ, zero, suc, ◌+◌, ◌*◌, ◌<◌, ◌≤◌, inl, inr, List, [], ◌∷◌, ◌++◌, length, take, drop, refl, sym, ap, subst, ◌∙◌, append_assoc, length-append, arith}
+use Rattle.std.proofs.Common.{◌≡◌, ℕ, zero, suc, ◌+◌, ◌*◌, ◌<◌, ◌≤◌, ◌⊎◌, inl, inr, List, [], ◌∷◌, ◌++◌, length, take, drop, refl, sym, ap, subst, ◌∙◌, append_assoc, length-append, arith}
 use Rattle.std.specs.Prelude.{Result, max}
 use Rattle.std.proofs.lemmas.List.{take_at, drop_at, drop-drop, length-take}
 use Rattle.linda_disk.specs.declared.fault.DiskFault.{DiskFault}
@@ -135,8 +135,9 @@ pub no_bank : (old new : View) → LeavesOnly old new (ClosesAfter []) → Leave
 no_bank old new run = weaker old new (ClosesAfter []) IsNoBank run no_candidate
 
 -- After whole pieces and the last one, so many writes were made.
-pub pieces_counted : (bytes old now new at rest : ℕ) → at + rest ≡ 1 + bytes → now * 65536 + 1 ≡ old * 65536 + at → (1 < at → 0 < rest) → rest ≤ 65536 → new ≡ now + 1 → new ≡ old + pieces bytes
-pieces_counted bytes old now new at rest all whole some last next = omega (arith, all, whole, some, last, next)
+pub pieces_counted : (bytes old now new at rest : ℕ) → at + rest ≡ 1 + bytes → now * 65536 + 1 ≡ old * 65536 + at → (at ≡ 1) ⊎ (0 < rest) → rest ≤ 65536 → new ≡ now + 1 → new ≡ old + pieces bytes
+pieces_counted bytes old now new at rest all whole (inl first) last next = omega (arith, all, whole, first, last, next)
+pieces_counted bytes old now new at rest all whole (inr some) last next = omega (arith, all, whole, some, last, next)
 
 -- The bytes of a new bank behind its first gate.
 pub front_length : (generation : ℕ) (body : List ℕ) → length (behind_gate generation body ++ CLOSED ∷ []) ≡ MIN_BYTES + length body

@@ -1,4 +1,4 @@
-use Rattle.std.proofs.Common.{◌≡◌, ◌+◌, ◌++◌, length, take, refl, sym, ap, subst, ◌∙◌, arith}
+use Rattle.std.proofs.Common.{◌≡◌, ◌+◌, inl, inr, ◌++◌, length, take, refl, sym, ap, subst, ◌∙◌, arith}
 use Rattle.std.proofs.lemmas.List.{take-append-drop, length-take, length-append}
 use Rattle.linda_journal.proofs.RenewalLaws.{IsWrittenTo, pieces_counted, none_written, piece_within, piece_run, one_piece_more, all_seen}
 use Rattle.linda_journal.proofs.whole.write_pieces.Goals as goal
@@ -10,7 +10,7 @@ loop-rest-init g c = (
   (λ h. h, λ h. h),
   refl,
   λ honest. refl,
-  λ late. absurd (omega (arith, late)),
+  inl refl,
 )
 
 pub write_at-requires : goal.write_at-requires
@@ -45,7 +45,7 @@ loop-rest-preserved g c =
       (λ h. c.write_at.ensures.honest.0 (c.loop-rest.invariant.2.0 h), λ h. c.loop-rest.invariant.2.1 (c.write_at.ensures.honest.1 h)),
       c.in_ok-write_at.ensures.cause.ok ∙ c.loop-rest.invariant.3,
       λ honest. omega (arith, c.loop-rest.invariant.4 honest, (c.in_ok-write_at.ensures.writes (c.loop-rest.invariant.2.0 honest)).clock.ok),
-      λ late. omega (arith, c.loop-rest-test.true, count, ap length split, length-append piece later),
+      inr (omega (arith, c.loop-rest-test.true, count, ap length split, length-append piece later)),
     )
 
 pub returns-in_err-write_at-2-clause-any_moment : goal.returns-in_err-write_at-2-clause-any_moment

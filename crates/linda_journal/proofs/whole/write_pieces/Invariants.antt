@@ -1,4 +1,4 @@
-use Rattle.std.proofs.Common.{◌≡◌, ◌+◌, ◌*◌, ◌<◌, ◌↔◌, length}
+use Rattle.std.proofs.Common.{◌≡◌, ◌+◌, ◌*◌, ◌<◌, ◌⊎◌, ◌↔◌, length}
 use Rattle.linda_journal.proofs.RenewalLaws.{IsWrittenTo}
 use Rattle.linda_journal.proofs.whole.write_pieces.Given as goal
 
@@ -10,7 +10,7 @@ invariant-loop-rest g l =
     × (g.D.Disk.honest l.fn.disk ↔ g.D.Disk.honest l.disk)
     × (g.D.Disk.failures l.disk ≡ g.D.Disk.failures l.fn.disk)
     × (g.D.Disk.honest l.fn.disk → (g.D.Disk.view l.disk).moment * 65536 + 1 ≡ (g.D.Disk.view l.fn.disk).moment * 65536 + l.at)
-    × (1 < l.at → 0 < length l.rest)
+    × ((l.at ≡ 1) ⊎ (0 < length l.rest))
 
 abbrev pub decreases-loop-rest : goal.decreases-loop-rest
 decreases-loop-rest g l = length l.rest
