@@ -49,3 +49,8 @@ returns-in-Ok-unlock-clause-clock g c honest =
     let filled = c.in-Ok-fill.ensures.clock one in
     let opened = c.in-Ok-unlock.ensures.clock two in
     then_calls 0 (all + 3) (3 + all) old mid new (c.in-Ok.ensures.clock honest) (omega (arith, filled, opened)) (omega arith)
+
+pub returns-in-Err-fill-clause-any_moment : goal.returns-in-Err-fill-clause-any_moment
+returns-in-Err-fill-clause-any_moment g c body short is honest =
+    let one = c.in-Ok.ensures.honest.0.0 honest in
+    (tt, filling c.args.generation body (g.D.Disk.view c.args.other) (g.D.Disk.view c.in-Ok.closed.disk) (g.D.Disk.view c.in-Err-fill.other) (c.in-Ok.ensures.any_moment honest).0 (c.in-Err-fill.ensures.any_moment one).1)
