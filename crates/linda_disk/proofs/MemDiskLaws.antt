@@ -23,6 +23,7 @@ synced h fit = record {
     nothing_else = λ t image le left. elim left [ inl now ↦ inr now | inr earlier ↦ inl earlier.1 ];
     nothing_lost = λ t image le left. inr (le, left);
   };
+  clock = record { ok = omega arith; most = omega arith };
 }
 
 -- A sync that tells a failure is not.
@@ -37,6 +38,7 @@ not_synced h fault = record {
         nothing_else = λ t image le left. inl left;
         nothing_lost = λ t image le left. left;
       };
+  clock = record { ok = tt; most = omega arith };
 }
 
 synced_at : (turn : Turn) (h : History) → fits h ≡ true

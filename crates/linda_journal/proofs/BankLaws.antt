@@ -1,12 +1,15 @@
 -- A record behind the gate of a bank: from gates and bodies to banks.
 use Rattle.std.proofs.Common.{◌≡◌, ℕ, suc, ◌+◌, ◌^◌, ◌<◌, ◌≤◌, inl, inr, List, [], ◌∷◌, ◌++◌, All, length, refl, sym, ap, subst, ◌∙◌, append_assoc, length-append, arith}
+use Rattle.std.specs.Prelude.{Result}
 use Rattle.std.proofs.lemmas.Grind.{flat_map-append}
 use Rattle.std.proofs.lemmas.List.{append-nil}
 use Rattle.std.proofs.lemmas.List.Elements.{All-nil}
 use Rattle.linda_state.specs.declared.deed.Deed.{Deed}
-use Rattle.linda_disk.specs.View.{View}
+use Rattle.linda_disk.specs.declared.fault.DiskFault.{DiskFault}
+use Rattle.linda_disk.specs.View.{View, IsTimed}
+use Rattle.linda_disk.specs.Disk.{Syncs}
 use Rattle.linda_disk.specs.Run.{LeavesOnly}
-use Rattle.linda_disk.proofs.RunLaws.{weaker, joined}
+use Rattle.linda_disk.proofs.RunLaws.{started, goes_on, weaker, joined}
 use Rattle.linda_journal.specs.declared.kinds.TheConstants.{OPEN}
 use Rattle.linda_journal.specs.declared.limits.TheConstants.{MIN_BYTES}
 use Rattle.linda_journal.specs.Records.{IsRecord, record_body, spell_record, spell_records}
@@ -123,3 +126,10 @@ made generation body end new low fits short end_is shut = record {
   place = omega (arith, end_is);
   durable = shut.durable;
 }
+
+-- ---- a bank that is opened
+
+-- A run behind a sync leaves what could be left before it.
+pub after_sync : {T : Type 0} (result : Result T DiskFault) (old mid new : View) → IsTimed old → Syncs result old mid → LeavesOnly mid new mid.may_leave → LeavesOnly old new old.may_leave
+after_sync result old mid new timed syncs second =
+    joined old mid new old.may_leave mid.may_leave old.may_leave (goes_on old old mid old.may_leave (started old old.may_leave timed (λ image left. left)) syncs.time syncs.crash) second (λ image is. is) syncs.crash

@@ -1,5 +1,5 @@
 -- A disk that is not in use becomes a new bank: what a crash may make of it, step by step.
-use Rattle.std.proofs.Common.{◌≡◌, ℕ, zero, suc, ◌+◌, ◌<◌, ◌≤◌, inl, inr, List, [], ◌∷◌, ◌++◌, length, take, drop, refl, sym, ap, subst, ◌∙◌, append_assoc, length-append, arith}
+use Rattle.std.proofs.Common.{◌≡◌, ℕ, zero, suc, ◌+◌, ◌*◌, ◌<◌, ◌≤◌, ◌⊎◌, inl, inr, List, [], ◌∷◌, ◌++◌, length, take, drop, refl, sym, ap, subst, ◌∙◌, append_assoc, length-append, arith}
 use Rattle.std.specs.Prelude.{Result, max}
 use Rattle.std.proofs.lemmas.List.{take_at, drop_at, drop-drop, length-take}
 use Rattle.linda_disk.specs.declared.fault.DiskFault.{DiskFault}
@@ -12,7 +12,7 @@ use Rattle.linda_journal.specs.declared.kinds.TheConstants.{OPEN, CLOSED}
 use Rattle.linda_journal.specs.declared.limits.TheConstants.{MIN_BYTES}
 use Rattle.linda_journal.specs.Gate.{ClosesAfter, IsShut, IsClosedOrOpened}
 use Rattle.linda_journal.specs.Bank.{behind_gate, IsSettled, IsNoneOrNew}
-use Rattle.linda_journal.specs.Renewal.{IsNoBank, IsClosed, IsSameOrNone, IsOpenOrShort, IsWhole}
+use Rattle.linda_journal.specs.Renewal.{IsNoBank, IsClosed, IsSameOrNone, IsOpenOrShort, IsWhole, pieces, TakesCalls}
 use Rattle.linda_journal.proofs.BankLaws.{no_candidate, none_or_new, made}
 
 -- ---- closing
@@ -133,6 +133,20 @@ all_seen bytes old now new at rest some so_far written =
 
 pub no_bank : (old new : View) → LeavesOnly old new (ClosesAfter []) → LeavesOnly old new IsNoBank
 no_bank old new run = weaker old new (ClosesAfter []) IsNoBank run no_candidate
+
+-- After whole pieces and the last one, so many writes were made.
+pub pieces_counted : (bytes old now new at rest : ℕ) → at + rest ≡ 1 + bytes → now * 65536 + 1 ≡ old * 65536 + at → (at ≡ 1) ⊎ (0 < rest) → rest ≤ 65536 → new ≡ now + 1 → new ≡ old + pieces bytes
+pieces_counted bytes old now new at rest all whole (inl first) last next = omega (arith, all, whole, first, last, next)
+pieces_counted bytes old now new at rest all whole (inr some) last next = omega (arith, all, whole, some, last, next)
+
+-- The bytes of a new bank behind its first gate.
+pub front_length : (generation : ℕ) (body : List ℕ) → length (behind_gate generation body ++ CLOSED ∷ []) ≡ MIN_BYTES + length body
+front_length generation body = omega (arith, length-append body (CLOSED ∷ []))
+
+-- More calls after those that closed the first gate.
+pub then_calls : (calls more all : ℕ) (old mid new : View) → TakesCalls calls old mid → new.moment ≡ mid.moment + more → calls + more ≡ all → TakesCalls all old new
+then_calls calls more all old mid new (inl x) next sum = inl (x.0, omega (arith, x.1, next, sum))
+then_calls calls more all old mid new (inr x) next sum = inr (x.0, x.1, omega (arith, x.2, next, sum))
 
 -- ---- opening
 

@@ -1,8 +1,8 @@
 -- How a disk that is not in use becomes a new bank: its gate is closed, then all stands behind it, then it opens.
-use Rattle.std.specs.Prelude.{◌≡◌, ℕ, ◌+◌, ◌<◌, ◌≤◌, ◌^◌, ◌⊎◌, List, [], ◌∷◌, length}
+use Rattle.std.specs.Prelude.{◌≡◌, ℕ, ◌+◌, ◌-◌, ◌/◌, ◌<◌, ◌≤◌, ◌^◌, ◌⊎◌, List, [], ◌∷◌, length}
 use Rattle.linda_disk.specs.View.{View}
 use Rattle.linda_journal.specs.declared.kinds.TheConstants.{OPEN}
-use Rattle.linda_journal.specs.declared.limits.TheConstants.{MIN_BYTES}
+use Rattle.linda_journal.specs.declared.limits.TheConstants.{MIN_BYTES, PIECE}
 use Rattle.linda_journal.specs.Gate.{IsReady}
 use Rattle.linda_journal.specs.Bank.{IsCandidate, behind_gate}
 
@@ -30,3 +30,14 @@ pub record IsWhole (generation : ℕ) (body : List ℕ) (end : ℕ) (v : View) :
   pub short : length body < 2 ^ 32
   pub place : end ≡ MIN_BYTES + length body
   pub ready : IsReady [] 0 (behind_gate generation body) v
+
+-- In how many pieces so many bytes are written: all are whole but the last one, which has a byte where there is any.
+abbrev pub pieces : ℕ → ℕ
+pieces bytes = (bytes - 1) / PIECE + 1
+
+-- So many calls changed or synced a disk, and before them two more, a write and a sync, closed its first gate, where
+-- that was not closed already on a disk of as many bytes as a bank has.
+abbrev pub TakesCalls : ℕ → View → View → Type 0
+TakesCalls calls old new =
+    (IsOpenOrShort old.seen × (new.moment ≡ old.moment + (2 + calls)))
+    ⊎ ((MIN_BYTES ≤ length old.seen) × IsClosed old.seen × (new.moment ≡ old.moment + calls))

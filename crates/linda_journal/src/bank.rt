@@ -4,6 +4,7 @@ ghost use Rattle.std.specs.Prelude.{◌≡◌, ◌≢◌, ◌<◌, ◌≤◌, �
 ghost use Rattle.std.specs.Prelude.{List, length, IfOk, IfErr, OnOk, IsErrOf, true, false};
 ghost use Rattle.linda_state.specs.declared.deed.Deed as deed;
 ghost use Rattle.linda_disk.specs.View.{IsDurable};
+ghost use Rattle.linda_disk.specs.Disk.{TellsFailures};
 ghost use Rattle.linda_disk.specs.Run.{LeavesOnly};
 ghost use Rattle.linda_journal.specs.declared.limits.TheConstants.{MAX_DEEDS};
 ghost use Rattle.linda_journal.specs.Records.{spell_record};
@@ -119,8 +120,12 @@ impl<D: Disk> Bank<D> {
             × (e.0 ≡ BankFault.Full → e.1 ≡ disk)) }
         ensures honest { IfOk result (λ b. D.honest disk ↔ D.honest b.disk)
             × IfErr result (λ e. D.honest disk ↔ D.honest e.1) }
-        ensures cause { IfErr result (λ e. e.0 ≡ BankFault.Disk
-            → D.failures disk < D.failures e.1) }
+        // The count of failures rises where the device is told to have failed, and there alone.
+        ensures cause { IfErr result (λ e. TellsFailures BankFault.Disk e.0
+            (D.failures disk) (D.failures e.1)) }
+        ensures steady { IfOk result (λ b. D.failures b.disk ≡ D.failures disk) }
+        ensures clock { D.honest disk
+            → IfOk result (λ b. (D.view b.disk).moment ≡ (D.view disk).moment + 6) }
     {
         if limit < MIN_BYTES + 1 + body.len() {
             return Err((BankFault::Full, disk));
@@ -176,8 +181,59 @@ impl<D: Disk> Bank<D> {
             → IfOk result (λ o. (o.0.generation ≡ generation) × (o.1.items ≡ body)
             × (deeds_of o.2.items ≡ records))
             × IfErr result (λ e. (e.0 ≡ BankFault.Disk) ⊎ (e.0 ≡ BankFault.Memory)) }
-        ensures cause { IfErr result (λ e. e.0 ≡ BankFault.Disk
-            → D.failures disk < D.failures e.1) }
+        ensures cause { IfErr result (λ e. TellsFailures BankFault.Disk e.0
+            (D.failures disk) (D.failures e.1)) }
+        ensures steady { IfOk result (λ o. D.failures o.0.disk ≡ D.failures disk) }
+        ensures clock { D.honest disk
+            → IfOk result (λ o. (D.view o.0.disk).moment ≡ (D.view disk).moment + 1) }
+    {
+        let mut disk = disk;
+        match disk.sync() {
+            Err(fault) => Err((BankFault::from(fault), disk)),
+            Ok(()) => Bank::open_synced(alloc, disk, limit),
+        }
+    }
+
+    /// Opens a bank as `open` does, on a disk of which a crash leaves what a read gives, as after a sync. It is not
+    /// synced again.
+    ///
+    /// # Errors
+    ///
+    /// As those of `open`.
+    pub fn open_synced(
+        alloc: Global,
+        disk: D,
+        limit: usize,
+    ) -> Result<(Bank<D>, Vec<u8>, Vec<Record>), (BankFault, D)>
+        requires { D.honest disk → IsDurable (D.view disk) }
+        // What is opened is what the disk read at entry, all of it synced.
+        ensures found { D.honest disk → IfOk result (λ o. IsSettled o.0.generation o.1.items
+            (deeds_of o.2.items) o.0.end (D.view o.0.disk)) }
+        ensures seen { D.honest disk
+            → IfOk result (λ o. (D.view o.0.disk).seen ≡ (D.view disk).seen) }
+        ensures gates { IfOk result (λ o. AreAt (MIN_BYTES + length o.1.items) o.2.items) }
+        ensures new { IfOk result (λ o. (o.0.records ≡ length o.2.items) × (o.0.limit ≡ limit)
+            × (o.0.is_spent ≡ false)) }
+        // A fault is one of those bytes.
+        ensures fault { D.honest disk → IfErr result (λ e. e.0 ≢ BankFault.Disk
+            → IsFaultOfBank (D.view disk).seen e.0) }
+        // At no moment a crash leaves what it could not leave at entry.
+        ensures any_moment { D.honest disk
+            → IfOk result (λ o. LeavesOnly (D.view disk) (D.view o.0.disk) (D.view disk).may_leave)
+            × IfErr result (λ e. LeavesOnly (D.view disk) (D.view e.1) (D.view disk).may_leave) }
+        ensures honest { IfOk result (λ o. D.honest disk ↔ D.honest o.0.disk)
+            × IfErr result (λ e. D.honest disk ↔ D.honest e.1) }
+        // A bank that stands there is opened, or the device failed, or memory ran out.
+        ensures only { (generation : ℕ) (body : List ℕ) (records : List (List deed.Deed))
+            → D.honest disk → IsBank (D.view disk).seen generation body records
+            → IfOk result (λ o. (o.0.generation ≡ generation) × (o.1.items ≡ body)
+            × (deeds_of o.2.items ≡ records))
+            × IfErr result (λ e. (e.0 ≡ BankFault.Disk) ⊎ (e.0 ≡ BankFault.Memory)) }
+        ensures cause { IfErr result (λ e. TellsFailures BankFault.Disk e.0
+            (D.failures disk) (D.failures e.1)) }
+        ensures steady { IfOk result (λ o. D.failures o.0.disk ≡ D.failures disk) }
+        ensures clock { D.honest disk
+            → IfOk result (λ o. (D.view o.0.disk).moment ≡ (D.view disk).moment) }
     {
         let mut disk = disk;
         match load(alloc, &mut disk) {
@@ -229,8 +285,13 @@ impl<D: Disk> Bank<D> {
         ensures unfilled { IsErrOf result BankFault.Full → self.new ≡ self.old }
         ensures spent { IsErrOf result BankFault.Spent ↔ (self.old.is_spent ≡ true) }
         ensures unspent { self.old.is_spent ≡ true → self.new ≡ self.old }
-        ensures cause { IsErrOf result BankFault.Disk
-            → D.failures self.old.disk < D.failures self.new.disk }
+        // The count of failures rises where the device is told to have failed, and there alone.
+        ensures cause { IfErr result (λ fault. TellsFailures BankFault.Disk fault
+            (D.failures self.old.disk) (D.failures self.new.disk)) }
+        ensures steady { OnOk result (D.failures self.new.disk ≡ D.failures self.old.disk) }
+        // It is four device calls that change or sync the disk.
+        ensures clock { D.honest self.old.disk → OnOk result
+            ((D.view self.new.disk).moment ≡ (D.view self.old.disk).moment + 4) }
         ensures off { IsErrOf result BankFault.Disk → self.new.is_spent ≡ true }
         // Want of memory before the first device call changes nothing; after it the bank is spent.
         ensures memory { IsErrOf result BankFault.Memory
@@ -300,8 +361,12 @@ pub fn unlock<D: Disk>(whole: Whole<D>, limit: usize) -> Result<Bank<D>, (DiskFa
         (IsNoneOrNew whole.generation body)) }
     ensures honest { IfOk result (λ b. D.honest whole.disk ↔ D.honest b.disk)
         × IfErr result (λ e. D.honest whole.disk ↔ D.honest e.1) }
-    ensures cause { IfErr result (λ e. e.0 ≡ DiskFault.Device
-        → D.failures whole.disk < D.failures e.1) }
+    ensures cause { IfErr result (λ e. TellsFailures DiskFault.Device e.0
+        (D.failures whole.disk) (D.failures e.1)) }
+    ensures steady { IfOk result (λ b. D.failures b.disk ≡ D.failures whole.disk) }
+    // It is a write and a sync.
+    ensures clock { D.honest whole.disk
+        → IfOk result (λ b. (D.view b.disk).moment ≡ (D.view whole.disk).moment + 2) }
 {
     let Whole {
         mut disk,

@@ -1,12 +1,12 @@
 //! A disk that is not in use, with its first gate closed, so that a new bank can be written behind that gate.
 
-ghost use Rattle.std.specs.Prelude.{◌≡◌, ◌<◌, ◌≤◌, ◌↔◌, true, false, length, IfOk, IfErr, OnOk};
+ghost use Rattle.std.specs.Prelude.{◌≡◌, ◌≤◌, ◌↔◌, true, false, length, IfOk, IfErr, OnOk};
 ghost use Rattle.std.specs.Prelude.{IsErrOf};
 ghost use Rattle.linda_disk.specs.View.{IsDurable};
-ghost use Rattle.linda_disk.specs.Disk.{CountsFailure};
+ghost use Rattle.linda_disk.specs.Disk.{CountsFailure, TellsFailures};
 ghost use Rattle.linda_disk.specs.Run.{LeavesOnly};
 ghost use Rattle.linda_journal.specs.declared.limits.TheConstants.{MIN_BYTES};
-ghost use Rattle.linda_journal.specs.Renewal.{IsNoBank, IsClosed, IsOpenOrShort, IsSameOrNone};
+ghost use Rattle.linda_journal.specs.Renewal.{IsNoBank, IsClosed, IsOpenOrShort, IsSameOrNone, TakesCalls};
 
 use crate::kinds::{CLOSED, OPEN};
 use crate::limits::MIN_BYTES;
@@ -53,9 +53,11 @@ pub fn shut<D: Disk>(disk: D) -> Result<Closed<D>, (DiskFault, D)>
         (λ image. image ≡ (D.view disk).seen)) }
     ensures honest { IfOk result (λ c. D.honest disk ↔ D.honest c.disk)
         × IfErr result (λ e. D.honest disk ↔ D.honest e.1) }
-    ensures cause { IfErr result (λ e. e.0 ≡ DiskFault.Device
-        → D.failures disk < D.failures e.1) }
+    ensures cause { IfErr result (λ e. TellsFailures DiskFault.Device e.0
+        (D.failures disk) (D.failures e.1)) }
     ensures steady { IfOk result (λ c. D.failures c.disk ≡ D.failures disk) }
+    // It is a write and a sync, or no call at all.
+    ensures clock { D.honest disk → IfOk result (λ c. TakesCalls 0 (D.view disk) (D.view c.disk)) }
 {
     let mut disk = disk;
     match close(&mut disk) {
@@ -77,6 +79,8 @@ fn close<D: Disk>(disk: &mut D) -> Result<(), DiskFault>
         (λ image. image ≡ (D.view disk.old).seen)) }
     ensures honest { D.honest disk.old ↔ D.honest disk.new }
     ensures cause { CountsFailure result (D.failures disk.old) (D.failures disk.new) }
+    ensures clock { D.honest disk.old
+        → OnOk result (TakesCalls 0 (D.view disk.old) (D.view disk.new)) }
 {
     if is_closed(disk)? {
         return Ok(());
@@ -90,7 +94,8 @@ fn close<D: Disk>(disk: &mut D) -> Result<(), DiskFault>
 fn is_closed<D: Disk>(disk: &mut D) -> Result<bool, DiskFault>
     requires { D.honest disk.old → IsDurable (D.view disk.old) }
     ensures yes { D.honest disk.old
-        → IfOk result (λ b. b ≡ true → IsClosed (D.view disk.old).seen) }
+        → IfOk result (λ b. b ≡ true → (MIN_BYTES ≤ length (D.view disk.old).seen)
+        × IsClosed (D.view disk.old).seen) }
     ensures no { D.honest disk.old
         → IfOk result (λ b. b ≡ false → IsOpenOrShort (D.view disk.old).seen) }
     ensures seen { D.honest disk.old → (D.view disk.new).seen ≡ (D.view disk.old).seen }
@@ -99,6 +104,7 @@ fn is_closed<D: Disk>(disk: &mut D) -> Result<bool, DiskFault>
         (λ image. image ≡ (D.view disk.old).seen) }
     ensures honest { D.honest disk.old ↔ D.honest disk.new }
     ensures cause { CountsFailure result (D.failures disk.old) (D.failures disk.new) }
+    ensures clock { D.honest disk.old → (D.view disk.new).moment ≡ (D.view disk.old).moment }
 {
     let len = disk.len()?;
     if len < MIN_BYTES {

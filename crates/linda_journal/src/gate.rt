@@ -29,6 +29,8 @@ pub(crate) fn stage<D: Disk>(disk: &mut D, gate: usize, bytes: &[u8]) -> Result<
         → OnOk result (gate + length bytes.now < length (D.view disk.new).seen) }
     ensures honest { D.honest disk.old ↔ D.honest disk.new }
     ensures cause { CountsFailure result (D.failures disk.old) (D.failures disk.new) }
+    ensures clock { D.honest disk.old
+        → OnOk result ((D.view disk.new).moment ≡ (D.view disk.old).moment + 2) }
 {
     disk.write_at(gate + 1, bytes)?;
     disk.sync()?;
@@ -52,6 +54,8 @@ pub(crate) fn open_gate<D: Disk>(disk: &mut D, gate: usize) -> Result<(), DiskFa
         → OnOk result (length (D.view disk.new).seen ≡ length (D.view disk.old).seen) }
     ensures honest { D.honest disk.old ↔ D.honest disk.new }
     ensures cause { CountsFailure result (D.failures disk.old) (D.failures disk.new) }
+    ensures clock { D.honest disk.old
+        → OnOk result ((D.view disk.new).moment ≡ (D.view disk.old).moment + 2) }
 {
     disk.write_at(gate, &[OPEN])?;
     disk.sync()?;
@@ -71,6 +75,8 @@ pub fn lay_gate<D: Disk>(disk: &mut D) -> Result<(), DiskFault>
         → LeavesOnly (D.view disk.old) (D.view disk.new) (λ file. length file ≤ 1) }
     ensures honest { D.honest disk.old ↔ D.honest disk.new }
     ensures cause { CountsFailure result (D.failures disk.old) (D.failures disk.new) }
+    ensures clock { D.honest disk.old
+        → OnOk result ((D.view disk.new).moment ≡ (D.view disk.old).moment + 2) }
 {
     disk.write_at(0, &[CLOSED])?;
     disk.sync()?;

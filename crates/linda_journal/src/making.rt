@@ -1,9 +1,10 @@
 //! A new bank on an empty disk.
 
 ghost use Rattle.std.specs.Prelude.{◌≡◌, ◌<◌, ◌≤◌, ◌+◌, ◌^◌, ◌++◌, ◌∷◌, [], ◌↔◌, ℕ, List, length};
-ghost use Rattle.std.specs.Prelude.{IfOk, OnOk, IsErrOf};
+ghost use Rattle.std.specs.Prelude.{IfOk, IfErr, OnOk, IsErrOf};
 ghost use Rattle.linda_codec.specs.Formats.{number};
 ghost use Rattle.linda_disk.specs.View.{IsDurable};
+ghost use Rattle.linda_disk.specs.Disk.{TellsFailures};
 ghost use Rattle.linda_disk.specs.Run.{LeavesOnly};
 ghost use Rattle.linda_journal.specs.declared.kinds.TheConstants.{OPEN, CLOSED};
 ghost use Rattle.linda_journal.specs.Gate.{IsShut, IsLaid};
@@ -55,7 +56,11 @@ pub(crate) fn inscribe<D: Disk>(disk: &mut D, bytes: &[u8]) -> Result<(), BankFa
     ensures long { D.honest disk.old → OnOk result (length bytes.now < length (D.view disk.new).seen) }
     ensures known { IsErrOf result BankFault.Full → ⊥ }
     ensures honest { D.honest disk.old ↔ D.honest disk.new }
-    ensures cause { IsErrOf result BankFault.Disk → D.failures disk.old < D.failures disk.new }
+    ensures cause { IfErr result (λ fault. TellsFailures BankFault.Disk fault
+        (D.failures disk.old) (D.failures disk.new)) }
+    ensures clock { D.honest disk.old
+        → OnOk result ((D.view disk.new).moment ≡ (D.view disk.old).moment + 6) }
+    ensures steady { OnOk result (D.failures disk.new ≡ D.failures disk.old) }
 {
     lay_gate(disk)?;
     stage(disk, 0, bytes)?;

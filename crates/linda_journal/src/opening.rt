@@ -1,8 +1,8 @@
 //! A bank read from its disk.
 
 ghost use Rattle.std.specs.Prelude.{◌≡◌, ◌≢◌, ◌<◌, ◌≤◌, ◌+◌, ◌-◌, ◌↔◌, take, drop, length, IfOk, IfErr, OnOk};
-ghost use Rattle.std.specs.Prelude.{IsErrOf};
 ghost use Rattle.linda_disk.specs.View.{IsDurable};
+ghost use Rattle.linda_disk.specs.Disk.{TellsFailures};
 ghost use Rattle.linda_disk.specs.Run.{LeavesOnly};
 ghost use Rattle.linda_journal.specs.declared.limits.TheConstants.{MIN_BYTES};
 ghost use Rattle.linda_journal.specs.Journal.{AreAt, deeds_of};
@@ -24,12 +24,13 @@ pub(crate) struct Contents {
     pub journal: Journal,
 }
 
-/// Syncs the disk and reads the bank that it holds.
+/// Reads the bank that a disk holds of which a crash leaves what a read gives.
 ///
 /// # Errors
 ///
 /// `NoBank`, `Damaged`, `Disk` where the device failed, `Memory`.
 pub(crate) fn load<D: Disk>(alloc: Global, disk: &mut D) -> Result<Contents, BankFault>
+    requires { D.honest disk.old → IsDurable (D.view disk.old) }
     ensures found { D.honest disk.old → IfOk result (λ o. IsSettled o.generation o.body.items
         (deeds_of o.journal.records.items) o.journal.end (D.view disk.new)) }
     ensures within { D.honest disk.old
@@ -43,7 +44,11 @@ pub(crate) fn load<D: Disk>(alloc: Global, disk: &mut D) -> Result<Contents, Ban
     ensures any_moment { D.honest disk.old
         → LeavesOnly (D.view disk.old) (D.view disk.new) (D.view disk.old).may_leave }
     ensures honest { D.honest disk.old ↔ D.honest disk.new }
-    ensures cause { IsErrOf result BankFault.Disk → D.failures disk.old < D.failures disk.new }
+    ensures cause { IfErr result (λ fault. TellsFailures BankFault.Disk fault
+        (D.failures disk.old) (D.failures disk.new)) }
+    ensures steady { OnOk result (D.failures disk.new ≡ D.failures disk.old) }
+    ensures clock { D.honest disk.old
+        → OnOk result ((D.view disk.new).moment ≡ (D.view disk.old).moment) }
 {
     let bytes = read_all(alloc, disk)?;
     let image = read_image(alloc, &bytes)?;
@@ -67,8 +72,9 @@ fn body_of(bytes: Vec<u8>, at: usize) -> Vec<u8>
     body
 }
 
-// Syncs the disk and reads all of it.
+// Reads all of a disk of which a crash leaves what a read gives.
 fn read_all<D: Disk>(alloc: Global, disk: &mut D) -> Result<Vec<u8>, BankFault>
+    requires { D.honest disk.old → IsDurable (D.view disk.old) }
     ensures bytes { D.honest disk.old → IfOk result (λ v. v.items ≡ (D.view disk.old).seen) }
     ensures seen { D.honest disk.old
         → OnOk result ((D.view disk.new).seen ≡ (D.view disk.old).seen) }
@@ -77,9 +83,12 @@ fn read_all<D: Disk>(alloc: Global, disk: &mut D) -> Result<Vec<u8>, BankFault>
         → LeavesOnly (D.view disk.old) (D.view disk.new) (D.view disk.old).may_leave }
     ensures known { IfErr result (λ f. f ≢ BankFault.Disk → f ≡ BankFault.Memory) }
     ensures honest { D.honest disk.old ↔ D.honest disk.new }
-    ensures cause { IsErrOf result BankFault.Disk → D.failures disk.old < D.failures disk.new }
+    ensures cause { IfErr result (λ fault. TellsFailures BankFault.Disk fault
+        (D.failures disk.old) (D.failures disk.new)) }
+    ensures steady { OnOk result (D.failures disk.new ≡ D.failures disk.old) }
+    ensures clock { D.honest disk.old
+        → OnOk result ((D.view disk.new).moment ≡ (D.view disk.old).moment) }
 {
-    disk.sync()?;
     let len = disk.len()?;
     let mut bytes = vec![in alloc; 0; len]?;
     disk.read_at(0, &mut bytes)?;

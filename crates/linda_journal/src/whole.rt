@@ -4,12 +4,12 @@ ghost use Rattle.std.specs.Prelude.{◌≡◌, ◌∷◌, [], ◌++◌, ◌<◌,
 ghost use Rattle.std.specs.Prelude.{IfOk, IfErr, OnOk};
 ghost use Rattle.linda_disk.specs.View.{IsDurable};
 ghost use Rattle.linda_disk.specs.Image.{overlay};
-ghost use Rattle.linda_disk.specs.Disk.{CountsFailure};
+ghost use Rattle.linda_disk.specs.Disk.{CountsFailure, TellsFailures};
 ghost use Rattle.linda_disk.specs.Run.{LeavesOnly};
 ghost use Rattle.linda_journal.specs.declared.kinds.TheConstants.{CLOSED};
 ghost use Rattle.linda_journal.specs.Gate.{ClosesAfter, IsReady};
 ghost use Rattle.linda_journal.specs.Bank.{behind_gate};
-ghost use Rattle.linda_journal.specs.Renewal.{IsNoBank, IsClosed, IsWhole};
+ghost use Rattle.linda_journal.specs.Renewal.{IsNoBank, IsClosed, IsWhole, pieces};
 
 use crate::closed::Closed;
 use crate::limits::PIECE;
@@ -46,9 +46,12 @@ pub fn fill<D: Disk>(
         × IfErr result (λ e. LeavesOnly (D.view closed.disk) (D.view e.1) IsNoBank) }
     ensures honest { IfOk result (λ w. D.honest closed.disk ↔ D.honest w.disk)
         × IfErr result (λ e. D.honest closed.disk ↔ D.honest e.1) }
-    ensures cause { IfErr result (λ e. e.0 ≡ DiskFault.Device
-        → D.failures closed.disk < D.failures e.1) }
+    ensures cause { IfErr result (λ e. TellsFailures DiskFault.Device e.0
+        (D.failures closed.disk) (D.failures e.1)) }
     ensures steady { IfOk result (λ w. D.failures w.disk ≡ D.failures closed.disk) }
+    // It is one write for each piece, and a sync.
+    ensures clock { D.honest closed.disk → IfOk result (λ w.
+        (D.view w.disk).moment ≡ (D.view closed.disk).moment + (pieces (length bytes.now) + 1)) }
 {
     let mut disk = closed.into_disk();
     match write_behind(&mut disk, bytes) {
@@ -73,6 +76,8 @@ fn write_behind<D: Disk>(disk: &mut D, bytes: &[u8]) -> Result<(), DiskFault>
         → OnOk result (length bytes.now < length (D.view disk.new).seen) }
     ensures honest { D.honest disk.old ↔ D.honest disk.new }
     ensures cause { CountsFailure result (D.failures disk.old) (D.failures disk.new) }
+    ensures clock { D.honest disk.old
+        → OnOk result ((D.view disk.new).moment ≡ (D.view disk.old).moment + (pieces (length bytes.now) + 1)) }
 {
     write_pieces(disk, bytes)?;
     disk.sync()?;
@@ -89,6 +94,8 @@ fn write_pieces<D: Disk>(disk: &mut D, bytes: &[u8]) -> Result<(), DiskFault>
         → LeavesOnly (D.view disk.old) (D.view disk.new) (ClosesAfter []) }
     ensures honest { D.honest disk.old ↔ D.honest disk.new }
     ensures cause { CountsFailure result (D.failures disk.old) (D.failures disk.new) }
+    ensures clock { D.honest disk.old
+        → OnOk result ((D.view disk.new).moment ≡ (D.view disk.old).moment + pieces (length bytes.now)) }
 {
     let mut at = 1;
     let mut rest = bytes;

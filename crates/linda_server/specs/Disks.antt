@@ -98,3 +98,11 @@ AreRelated bank disk (Shut left right) Away = ⊥
 AreRelated bank disk Away (InUse new) = ⊥
 AreRelated bank disk Away (Shut left right) = ⊥
 AreRelated bank disk Away Away = Unit {0}
+
+-- What was in use is related so to the other disk now, and the other disk to what is in use now.
+abbrev pub AreSwapped : {B D : Type 0} → (B → D → Type 0) → (D → B → Type 0) → Disks B D → Disks B D → Type 0
+AreSwapped bank disk (InUse old) (InUse new) = bank old.bank new.other × disk old.other new.bank
+AreSwapped bank disk (InUse old) (Shut left right) = ⊥
+AreSwapped bank disk (InUse old) Away = ⊥
+AreSwapped bank disk (Shut left right) new = ⊥
+AreSwapped bank disk Away new = ⊥

@@ -3,7 +3,7 @@ use Rattle.std.specs.Prelude.{◌≡◌, ℕ, ◌+◌, ◌<◌, ◌≤◌, ◌^�
 use Rattle.linda_state.specs.State.{State}
 use Rattle.linda_disk.specs.View.{View, IsDurable}
 use Rattle.linda_journal.specs.declared.limits.TheConstants.{MIN_BYTES}
-use Rattle.linda_journal.specs.Renewal.{IsClosed}
+use Rattle.linda_journal.specs.Renewal.{IsClosed, pieces}
 use Rattle.linda_snap.specs.Snapshot.{spell_state}
 use Rattle.linda_server.specs.declared.disks.Disks.{Disks}
 use Rattle.linda_server.specs.declared.disks.Disks.TheVariants.{InUse, Shut, Away}
@@ -11,6 +11,11 @@ use Rattle.linda_server.specs.declared.disks.Disks.TheVariants.{InUse, Shut, Awa
 -- There is no next bank for the state: it would pass the limit, or no generation is left after this one.
 abbrev pub HasNoNext : State → ℕ → ℕ → Type 0
 HasNoNext st limit generation = (limit < MIN_BYTES + 1 + length (spell_state st)) ⊎ (2 ^ 64 ≤ generation + 1)
+
+-- How many calls make a new bank for the state behind a closed gate: a write for each piece, a sync, and a write and a
+-- sync that open the gate.
+abbrev pub snapshot_calls : State → ℕ
+snapshot_calls st = 3 + pieces (MIN_BYTES + length (spell_state st))
 
 -- The disk that is not in use is durable, if it is honest.
 abbrev pub IsOtherDurable : {B D : Type 0} → (D → View) → (D → Type 0) → Disks B D → Type 0

@@ -1,9 +1,9 @@
 //! How the disk that is not in use is emptied.
 
-ghost use Rattle.std.specs.Prelude.{◌≡◌, ◌<◌, ◌↔◌, true, length, OnOk, IsErrOf};
+ghost use Rattle.std.specs.Prelude.{◌≡◌, ◌↔◌, true, length, IfErr, OnOk};
 ghost use Rattle.linda_state.specs.State as state;
 ghost use Rattle.linda_disk.specs.View.{IsDurable};
-ghost use Rattle.linda_disk.specs.Disk.{CountsFailure};
+ghost use Rattle.linda_disk.specs.Disk.{CountsFailure, TellsFailures};
 ghost use Rattle.linda_disk.specs.Run.{LeavesOnly};
 ghost use Rattle.linda_journal.specs.Renewal.{IsNoBank, IsClosed, IsSameOrNone};
 ghost use Rattle.linda_snap.specs.Stands.{Stands};
@@ -39,8 +39,8 @@ pub(crate) fn clear<D: Disk>(disks: &mut Disks<Bank<D>, D>) -> Result<(), DiskFa
     ensures ready { is_ready (λ b. b.is_spent) disks.new ≡ true }
     ensures limit { number_of (λ b. b.limit) disks.new ≡ number_of (λ b. b.limit) disks.old }
     ensures honest { BothHonest disks.old ↔ BothHonest disks.new }
-    ensures cause { IsErrOf result DiskFault.Device
-        → failures_of disks.old < failures_of disks.new }
+    ensures cause { IfErr result (λ fault. TellsFailures DiskFault.Device fault
+        (failures_of disks.old) (failures_of disks.new)) }
 {
     match mem::replace(disks, Disks::Away) {
         Disks::InUse(pair) => {
@@ -70,7 +70,8 @@ fn emptied<D: Disk>(disk: D) -> (Result<(), DiskFault>, D)
         × IsClosed (D.view result.1).seen) }
     ensures durable { D.honest disk → OnOk result.0 (IsDurable (D.view result.1)) }
     ensures honest { D.honest disk ↔ D.honest result.1 }
-    ensures cause { IsErrOf result.0 DiskFault.Device → D.failures disk < D.failures result.1 }
+    ensures cause { IfErr result.0 (λ fault. TellsFailures DiskFault.Device fault
+        (D.failures disk) (D.failures result.1)) }
 {
     match shut(disk) {
         Err((fault, disk)) => (Err(fault), disk),

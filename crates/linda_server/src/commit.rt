@@ -1,12 +1,13 @@
 //! How deeds come onto the bank in use.
 
-ghost use Rattle.std.specs.Prelude.{◌≡◌, ◌<◌, ◌≤◌, ◌+◌, ◌↔◌, ◌⊎◌, ◌≢◌, true, length, OnOk, IsErrOf};
+ghost use Rattle.std.specs.Prelude.{◌≡◌, ◌<◌, ◌≤◌, ◌+◌, ◌↔◌, ◌⊎◌, ◌≢◌, [], true, length, IfErr, OnOk, IsErrOf};
 ghost use Rattle.linda_state.specs.DeedFormat.{payload};
 ghost use Rattle.linda_state.specs.State as state;
+ghost use Rattle.linda_disk.specs.Disk.{TellsFailures};
 ghost use Rattle.linda_step.specs.declared.size.TheConstants.{MAX_BATCH};
 ghost use Rattle.linda_server.specs.declared.limits.TheConstants.{RECORD_BYTES};
 ghost use Rattle.linda_server.specs.Pairs.{PairsSince};
-ghost use Rattle.linda_server.specs.Server.{both_of, BothHonest, failures_of, IsUpFor, IsKeptFor};
+ghost use Rattle.linda_server.specs.Server.{both_of, BothHonest, failures_of, IsUpFor, IsKeptFor, IsPutOn};
 ghost use Rattle.linda_server.specs.Disks.{is_there, is_ready, number_of};
 ghost use Rattle.linda_server.specs.Calls.{LeadTo, IsOldOrNew};
 
@@ -47,9 +48,13 @@ pub(crate) fn commit<D: Disk>(
     ensures there { is_there disks.old ≡ true → is_there disks.new ≡ true }
     ensures ready { OnOk result (is_ready (λ b. b.is_spent) disks.new ≡ true) }
     ensures limit { number_of (λ b. b.limit) disks.new ≡ number_of (λ b. b.limit) disks.old }
+    // Where there are none, no device call is made.
+    ensures idle { deeds.now ≡ [] → disks.new ≡ disks.old }
+    // Else four calls change or sync the disk of the bank in use, and the other disk is not touched.
+    ensures clock { 0 < length deeds.now → OnOk result (IsPutOn disks.old disks.new) }
     ensures honest { BothHonest disks.old ↔ BothHonest disks.new }
-    ensures cause { IsErrOf result ServeFault.Disk
-        → failures_of disks.old < failures_of disks.new }
+    ensures cause { IfErr result (λ fault. TellsFailures ServeFault.Disk fault
+        (failures_of disks.old) (failures_of disks.new)) }
     ensures known { (IsErrOf result ServeFault.Full → ⊥) × (IsErrOf result ServeFault.Down → ⊥) }
 {
     if deeds.is_empty() {
@@ -67,6 +72,7 @@ pub(crate) fn commit<D: Disk>(
 // What a server tells of a bank's fault: of all but want of memory, that a device failed.
 fn told(fault: BankFault) -> ServeFault
     ensures disk { result ≡ ServeFault.Disk → fault ≢ BankFault.Memory }
+    ensures others { result ≢ ServeFault.Disk → fault ≢ BankFault.Disk }
     ensures known { (result ≡ ServeFault.Disk) ⊎ (result ≡ ServeFault.Memory) }
 {
     match fault {

@@ -1,8 +1,9 @@
 //! Two disks that are to hold a new server.
 
 ghost use Rattle.std.specs.Prelude.{◌≡◌, ◌<◌, ◌≤◌, ◌+◌, ◌^◌, ◌⊎◌, ◌↔◌, []};
-ghost use Rattle.std.specs.Prelude.{true, false, length, IfOk, OnOk, IsErrOf};
+ghost use Rattle.std.specs.Prelude.{true, false, length, IfOk, IfErr, OnOk, IsErrOf};
 ghost use Rattle.linda_state.specs.State.{empty_state};
+ghost use Rattle.linda_disk.specs.Disk.{TellsFailures, TellsFailuresOfTwo};
 ghost use Rattle.linda_disk.specs.Run.{LeavesOnly};
 ghost use Rattle.linda_snap.specs.Snapshot.{spell_state, FitsState};
 ghost use Rattle.linda_server.specs.declared.limits.TheConstants.{MIN_LIMIT, MAX_LIMIT};
@@ -34,7 +35,10 @@ pub(crate) fn expect_empty<D: Disk>(
         → LeavesOnly (D.view right.old) (D.view right.new) (λ image. image ≡ [])
         × IsVoid (D.view right.new) }
     ensures limit { OnOk result (IsLimit limit) }
-    ensures range { IsErrOf result OpenFault.LimitRange → IsLimit limit → ⊥ }
+    // The limit is judged last.
+    ensures range { IsErrOf result OpenFault.LimitRange → (IsLimit limit → ⊥)
+        × (D.honest left.old → D.honest right.old
+        → ((D.view left.old).seen ≡ []) × ((D.view right.old).seen ≡ [])) }
     ensures empty { OnOk result (D.honest left.old → D.honest right.old
         → ((D.view left.old).seen ≡ []) × ((D.view right.old).seen ≡ [])) }
     ensures full { IsErrOf result OpenFault.NotEmpty → D.honest left.old → D.honest right.old
@@ -43,8 +47,8 @@ pub(crate) fn expect_empty<D: Disk>(
     ensures right_honest { D.honest right.old ↔ D.honest right.new }
     ensures steady { OnOk result ((D.failures left.new ≡ D.failures left.old)
         × (D.failures right.new ≡ D.failures right.old)) }
-    ensures cause { IsErrOf result OpenFault.Disk → (D.failures left.old < D.failures left.new)
-        ⊎ (D.failures right.old < D.failures right.new) }
+    ensures cause { IfErr result (λ fault. TellsFailuresOfTwo OpenFault.Disk fault
+        (D.failures left.old) (D.failures right.old) (D.failures left.new) (D.failures right.new)) }
     ensures known { IsErrOf result OpenFault.NoStore → ⊥ }
 {
     expect_no_bytes(left)?;
@@ -76,7 +80,8 @@ fn expect_no_bytes<D: Disk>(disk: &mut D) -> Result<(), OpenFault>
         × (IsErrOf result OpenFault.NoStore → ⊥) }
     ensures honest { D.honest disk.old ↔ D.honest disk.new }
     ensures steady { OnOk result (D.failures disk.new ≡ D.failures disk.old) }
-    ensures cause { IsErrOf result OpenFault.Disk → D.failures disk.old < D.failures disk.new }
+    ensures cause { IfErr result (λ fault. TellsFailures OpenFault.Disk fault
+        (D.failures disk.old) (D.failures disk.new)) }
 {
     match disk.len() {
         Ok(0) => Ok(()),

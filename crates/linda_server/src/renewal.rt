@@ -1,12 +1,13 @@
 //! How the disk that is not in use becomes a new bank, which is then in use.
 
-ghost use Rattle.std.specs.Prelude.{◌≡◌, ◌<◌, ◌^◌, ◌↔◌, ◌⊎◌, true, OnOk, IsErrOf};
+ghost use Rattle.std.specs.Prelude.{◌≡◌, ◌<◌, ◌^◌, ◌↔◌, ◌⊎◌, true, IfErr, OnOk, IsErrOf};
 ghost use Rattle.linda_state.specs.State.{IsState};
+ghost use Rattle.linda_disk.specs.Disk.{TellsFailures};
 ghost use Rattle.linda_snap.specs.Stands.{Stands};
 ghost use Rattle.linda_server.specs.Pairs.{PairsSince};
-ghost use Rattle.linda_server.specs.Server.{both_of, BothHonest, failures_of, IsUpFor, IsKeptFor};
+ghost use Rattle.linda_server.specs.Server.{both_of, BothHonest, failures_of, IsUpFor, IsKeptFor, IsRenewedBy};
 ghost use Rattle.linda_server.specs.Disks.{is_there, is_ready, number_of};
-ghost use Rattle.linda_server.specs.Switch.{HasNoNext, IsOtherDurable, IsSwitched};
+ghost use Rattle.linda_server.specs.Switch.{HasNoNext, IsOtherDurable, IsSwitched, snapshot_calls};
 
 use crate::disks::{Disks, Pair};
 use crate::fault::ServeFault;
@@ -43,6 +44,9 @@ pub(crate) fn renew<B: Bag, D: Disk>(
         → OnOk result (IsKeptFor disks.new state.now) }
     ensures switched { OnOk result (IsSwitched (λ b. b.generation) (λ b. b.records) (λ b. b.disk)
         disks.old disks.new) }
+    // It is a write for each piece of the new bank, a sync, a write and a sync; and first a write and a sync, where the
+    // disk's first gate is to be closed.
+    ensures clock { OnOk result (IsRenewedBy (snapshot_calls state.now) disks.old disks.new) }
     ensures there { is_there disks.new ≡ true }
     ensures ready { OnOk result (is_ready (λ b. b.is_spent) disks.new ≡ true) }
     ensures limit { OnOk result (number_of (λ b. b.limit) disks.new
@@ -54,8 +58,8 @@ pub(crate) fn renew<B: Bag, D: Disk>(
     ensures room { OnOk result (HasNoNext state.now (number_of (λ b. b.limit) disks.old)
         (number_of (λ b. b.generation) disks.old) → ⊥) }
     ensures honest { BothHonest disks.old ↔ BothHonest disks.new }
-    ensures cause { IsErrOf result ServeFault.Disk
-        → failures_of disks.old < failures_of disks.new }
+    ensures cause { IfErr result (λ fault. TellsFailures ServeFault.Disk fault
+        (failures_of disks.old) (failures_of disks.new)) }
     ensures known { IsErrOf result ServeFault.Down → ⊥ }
 {
     match mem::replace(disks, Disks::Away) {

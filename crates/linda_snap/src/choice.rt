@@ -1,11 +1,11 @@
 //! Which of two banks stands, and for which state.
 
-ghost use Rattle.std.specs.Prelude.{◌≡◌, ◌≢◌, ◌<◌, ◌↔◌, ◌⊎◌, ℕ, List, true, false, length, Ok};
+ghost use Rattle.std.specs.Prelude.{◌≡◌, ◌≢◌, ◌+◌, ◌<◌, ◌↔◌, ◌⊎◌, ℕ, List, true, false, length, Ok};
 ghost use Rattle.std.specs.Prelude.{Err, IfOk, IfErr, OnOk, IsErrOf};
 ghost use Rattle.linda_state.specs.State as states;
 ghost use Rattle.linda_state.specs.State.{IsState};
 ghost use Rattle.linda_disk.specs.View.{IsDurable};
-ghost use Rattle.linda_disk.specs.Disk.{CountsFailure};
+ghost use Rattle.linda_disk.specs.Disk.{CountsFailure, TellsFailures, TellsFailuresOfTwo};
 ghost use Rattle.linda_disk.specs.Run.{LeavesOnly};
 ghost use Rattle.linda_journal.specs.Heading.{IsHeading};
 ghost use Rattle.linda_snap.specs.Stands.{IsStored, IsUp, Stands};
@@ -114,8 +114,18 @@ pub fn choose_bank<B: Bag, D: Disk>(
     ensures honest { IfOk result (λ c. (D.honest left × D.honest right)
         ↔ (D.honest c.bank.disk × D.honest c.other))
         × IfErr result (λ e. (D.honest left × D.honest right) ↔ (D.honest e.1 × D.honest e.2)) }
-    ensures cause { IfErr result (λ e. e.0 ≡ ChoiceFault.Disk
-        → (D.failures left < D.failures e.1) ⊎ (D.failures right < D.failures e.2)) }
+    // The counts of failures rise where a device is told to have failed, and there alone.
+    ensures cause { IfErr result (λ e. TellsFailuresOfTwo ChoiceFault.Disk e.0
+        (D.failures left) (D.failures right) (D.failures e.1) (D.failures e.2)) }
+    ensures steady { IfOk result (λ c.
+        (D.failures c.bank.disk ≡ chosen c.is_right (D.failures left) (D.failures right))
+        × (D.failures c.other ≡ chosen c.is_right (D.failures right) (D.failures left))) }
+    // Each disk is synced once.
+    ensures clock { D.honest left → D.honest right → IfOk result (λ c.
+        ((D.view c.bank.disk).moment
+        ≡ chosen c.is_right (D.view left).moment (D.view right).moment + 1)
+        × ((D.view c.other).moment
+        ≡ chosen c.is_right (D.view right).moment (D.view left).moment + 1)) }
 {
     choose_among(alloc, left, right, limit)
 }
@@ -151,8 +161,16 @@ fn choose_among<B: Bag, D: Disk>(
     ensures honest { IfOk result (λ c. (D.honest left × D.honest right)
         ↔ (D.honest c.bank.disk × D.honest c.other))
         × IfErr result (λ e. (D.honest left × D.honest right) ↔ (D.honest e.1 × D.honest e.2)) }
-    ensures cause { IfErr result (λ e. e.0 ≡ ChoiceFault.Disk
-        → (D.failures left < D.failures e.1) ⊎ (D.failures right < D.failures e.2)) }
+    ensures cause { IfErr result (λ e. TellsFailuresOfTwo ChoiceFault.Disk e.0
+        (D.failures left) (D.failures right) (D.failures e.1) (D.failures e.2)) }
+    ensures steady { IfOk result (λ c.
+        (D.failures c.bank.disk ≡ chosen c.is_right (D.failures left) (D.failures right))
+        × (D.failures c.other ≡ chosen c.is_right (D.failures right) (D.failures left))) }
+    ensures clock { D.honest left → D.honest right → IfOk result (λ c.
+        ((D.view c.bank.disk).moment
+        ≡ chosen c.is_right (D.view left).moment (D.view right).moment + 1)
+        × ((D.view c.other).moment
+        ≡ chosen c.is_right (D.view right).moment (D.view left).moment + 1)) }
 {
     let mut left = left;
     let mut right = right;
@@ -214,8 +232,12 @@ fn look_at_both<D: Disk>(left: &mut D, right: &mut D) -> Result<bool, ChoiceFaul
     ensures right_honest { D.honest right.old ↔ D.honest right.new }
     ensures steady { OnOk result ((D.failures left.new ≡ D.failures left.old)
         × (D.failures right.new ≡ D.failures right.old)) }
-    ensures cause { IsErrOf result ChoiceFault.Disk → (D.failures left.old < D.failures left.new)
-        ⊎ (D.failures right.old < D.failures right.new) }
+    ensures left_clock { D.honest left.old
+        → OnOk result ((D.view left.new).moment ≡ (D.view left.old).moment + 1) }
+    ensures right_clock { D.honest right.old
+        → OnOk result ((D.view right.new).moment ≡ (D.view right.old).moment + 1) }
+    ensures cause { IfErr result (λ fault. TellsFailuresOfTwo ChoiceFault.Disk fault
+        (D.failures left.old) (D.failures right.old) (D.failures left.new) (D.failures right.new)) }
 {
     let one = look_at(left)?;
     let two = look_at(right)?;
@@ -223,12 +245,13 @@ fn look_at_both<D: Disk>(left: &mut D, right: &mut D) -> Result<bool, ChoiceFaul
     Ok(side)
 }
 
-// Opens the bank on a disk, with the state that it stands for.
+// Opens the bank on a disk that was synced, with the state that it stands for.
 fn open_file<B: Bag, D: Disk>(
     alloc: Global,
     disk: D,
     limit: usize,
 ) -> Result<(State<B>, Bank<D>), (BankFault, D)>
+    requires { D.honest disk → IsDurable (D.view disk) }
     ensures found { D.honest disk → IfOk result (λ x.
         IsStored x.1.generation x.1.end (D.view x.1.disk) x.0) }
     ensures seen { D.honest disk
@@ -242,10 +265,13 @@ fn open_file<B: Bag, D: Disk>(
     ensures ranges { IfOk result (λ x. IsState x.0) }
     ensures honest { IfOk result (λ x. D.honest disk ↔ D.honest x.1.disk)
         × IfErr result (λ e. D.honest disk ↔ D.honest e.1) }
-    ensures cause { IfErr result (λ e. e.0 ≡ BankFault.Disk
-        → D.failures disk < D.failures e.1) }
+    ensures cause { IfErr result (λ e. TellsFailures BankFault.Disk e.0
+        (D.failures disk) (D.failures e.1)) }
+    ensures steady { IfOk result (λ x. D.failures x.1.disk ≡ D.failures disk) }
+    ensures clock { D.honest disk
+        → IfOk result (λ x. (D.view x.1.disk).moment ≡ (D.view disk).moment) }
 {
-    match Bank::open(alloc, disk, limit) {
+    match Bank::open_synced(alloc, disk, limit) {
         Err((fault, disk)) => Err((fault, disk)),
         Ok((bank, body, records)) => match recover(alloc, body, records) {
             Ok(state) => Ok((state, bank)),
@@ -264,6 +290,8 @@ fn look_at<D: Disk>(disk: &mut D) -> Result<Heading, DiskFault>
         → LeavesOnly (D.view disk.old) (D.view disk.new) (D.view disk.old).may_leave }
     ensures honest { D.honest disk.old ↔ D.honest disk.new }
     ensures cause { CountsFailure result (D.failures disk.old) (D.failures disk.new) }
+    ensures clock { D.honest disk.old
+        → OnOk result ((D.view disk.new).moment ≡ (D.view disk.old).moment + 1) }
 {
     disk.sync()?;
     let len = disk.len()?;

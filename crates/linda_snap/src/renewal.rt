@@ -4,10 +4,12 @@ ghost use Rattle.std.specs.Prelude.{◌≡◌, ◌∷◌, [], ◌++◌, ◌<◌,
 ghost use Rattle.std.specs.Prelude.{true, false, length, IfOk, IfErr, OnOk};
 ghost use Rattle.linda_state.specs.State.{IsState};
 ghost use Rattle.linda_disk.specs.View.{IsDurable};
+ghost use Rattle.linda_disk.specs.Disk.{TellsFailures};
 ghost use Rattle.linda_disk.specs.Run.{LeavesOnly};
 ghost use Rattle.linda_journal.specs.declared.kinds.TheConstants.{CLOSED};
 ghost use Rattle.linda_journal.specs.declared.limits.TheConstants.{MIN_BYTES};
 ghost use Rattle.linda_journal.specs.Bank.{behind_gate, IsSettled};
+ghost use Rattle.linda_journal.specs.Renewal.{pieces, TakesCalls};
 ghost use Rattle.linda_snap.specs.Snapshot.{spell_state, FitsState};
 ghost use Rattle.linda_snap.specs.Stands.{IsStored, IsUp, StandsBeside};
 ghost use Rattle.linda_snap.specs.Switch.{IsOldNoneOrNew, fault_of_disk};
@@ -100,8 +102,15 @@ pub fn switch<B: Bag, D: Disk>(
         × (e.0 ≡ SwitchFault.Disk → e.1.is_spent ≡ true)) }
     ensures honest { IfOk result (λ x. D.honest other ↔ D.honest x.0.disk)
         × IfErr result (λ e. D.honest other ↔ D.honest e.2) }
-    ensures cause { IfErr result (λ e. e.0 ≡ SwitchFault.Disk
-        → D.failures other < D.failures e.2) }
+    // The count of failures rises where the device is told to have failed, and there alone.
+    ensures cause { IfErr result (λ e. TellsFailures SwitchFault.Disk e.0
+        (D.failures other) (D.failures e.2)) }
+    ensures steady { IfOk result (λ x. D.failures x.0.disk ≡ D.failures other) }
+    // It is a write for each piece of the new bank, a sync, a write and a sync; and first a write and a sync, where the
+    // disk's first gate is to be closed.
+    ensures clock { D.honest other → IfOk result (λ x.
+        TakesCalls (3 + pieces (MIN_BYTES + length (spell_state state.now)))
+        (D.view other) (D.view x.0.disk)) }
 {
     let limit = current.limit();
     if !has_room(state, limit) {
@@ -145,8 +154,11 @@ fn renew<D: Disk>(
         × (b.records ≡ 0) × (b.is_spent ≡ false)) }
     ensures honest { IfOk result (λ b. D.honest other ↔ D.honest b.disk)
         × IfErr result (λ e. D.honest other ↔ D.honest e.1) }
-    ensures cause { IfErr result (λ e. e.0 ≡ DiskFault.Device
-        → D.failures other < D.failures e.1) }
+    ensures cause { IfErr result (λ e. TellsFailures DiskFault.Device e.0
+        (D.failures other) (D.failures e.1)) }
+    ensures steady { IfOk result (λ b. D.failures b.disk ≡ D.failures other) }
+    ensures clock { D.honest other → IfOk result (λ b.
+        TakesCalls (3 + pieces (length bytes.now)) (D.view other) (D.view b.disk)) }
 {
     match shut(other) {
         Err((fault, other)) => Err((fault, other)),

@@ -1,6 +1,6 @@
 //! A new server on two empty disks.
 
-ghost use Rattle.std.specs.Prelude.{◌≡◌, ◌⊎◌};
+ghost use Rattle.std.specs.Prelude.{◌≡◌, ◌⊎◌, ◌↔◌};
 
 use super::Durable;
 use crate::disks::{Disks, Pair};
@@ -13,8 +13,9 @@ use linda_step::Store;
 use std::alloc::Global;
 
 impl<D: Disk> Durable<D> {
-    ghost use Rattle.std.specs.Prelude.{◌<◌, ◌↔◌, [], false, length, IfOk, IfErr};
+    ghost use Rattle.std.specs.Prelude.{◌<◌, [], false, length, IfOk, IfErr};
     ghost use Rattle.linda_state.specs.State.{empty_state};
+    ghost use Rattle.linda_disk.specs.Disk.{TellsFailuresOfTwo};
     ghost use Rattle.linda_step.specs.Soft.{no_asks};
     ghost use Rattle.linda_server.specs.Pairs.{PairsSince, two, IsVoid};
     ghost use Rattle.linda_server.specs.Server.{both_of, BothHonest, StandNow};
@@ -25,8 +26,9 @@ impl<D: Disk> Durable<D> {
     ///
     /// # Errors
     ///
-    /// `NotEmpty`, `LimitRange`: nothing was written. `Disk` where a device failed, `Memory`: the
-    /// left disk holds the whole new bank or none. Each hands the disks back, left and right.
+    /// `NotEmpty`, and `LimitRange` only where both disks are empty: nothing was written. `Disk` where
+    /// a device failed, `Memory`: the left disk holds the whole new bank or none. Each hands the disks
+    /// back, left and right.
     pub fn create(
         alloc: Global,
         left: D,
@@ -48,6 +50,10 @@ impl<D: Disk> Durable<D> {
             × (s.limit ≡ limit) × (s.down ≡ false)) }
         ensures limit { IfOk result (λ s. IsLimit limit)
             × IfErr result (λ e. e.0 ≡ OpenFault.LimitRange → IsLimit limit → ⊥) }
+        // The limit is judged last: LimitRange tells that both disks are empty.
+        ensures last { D.honest left → D.honest right
+            → IfErr result (λ e. e.0 ≡ OpenFault.LimitRange
+            → ((D.view left).seen ≡ []) × ((D.view right).seen ≡ [])) }
         ensures empty { D.honest left → D.honest right
             → IfOk result (λ s. ((D.view left).seen ≡ []) × ((D.view right).seen ≡ []))
             × IfErr result (λ e. e.0 ≡ OpenFault.NotEmpty
@@ -56,8 +62,9 @@ impl<D: Disk> Durable<D> {
         ensures honest { IfOk result (λ s. (D.honest left × D.honest right) ↔ BothHonest s.disks)
             × IfErr result (λ e. (D.honest left × D.honest right)
             ↔ (D.honest e.1 × D.honest e.2)) }
-        ensures cause { IfErr result (λ e. e.0 ≡ OpenFault.Disk
-            → (D.failures left < D.failures e.1) ⊎ (D.failures right < D.failures e.2)) }
+        // The counts of failures rise where a device is told to have failed, and there alone.
+        ensures cause { IfErr result (λ e. TellsFailuresOfTwo OpenFault.Disk e.0
+            (D.failures left) (D.failures right) (D.failures e.1) (D.failures e.2)) }
     {
         let mut left = left;
         let mut right = right;
@@ -94,7 +101,7 @@ impl<D: Disk> Durable<D> {
 
 // What a server tells of a new bank's fault.
 fn of_bank(fault: BankFault) -> OpenFault
-    ensures disk { result ≡ OpenFault.Disk → fault ≡ BankFault.Disk }
+    ensures disk { result ≡ OpenFault.Disk ↔ fault ≡ BankFault.Disk }
     ensures known { (result ≡ OpenFault.Disk) ⊎ (result ≡ OpenFault.Memory) }
 {
     match fault {

@@ -14,9 +14,10 @@ use linda_step::Store;
 use std::alloc::Global;
 
 impl<D: Disk> Durable<D> {
-    ghost use Rattle.std.specs.Prelude.{◌<◌, ◌⊎◌, ◌↔◌, false, IfOk, IfErr};
+    ghost use Rattle.std.specs.Prelude.{◌⊎◌, ◌↔◌, false, IfOk, IfErr, IsErrOf};
     ghost use Rattle.linda_state.specs.State as states;
     ghost use Rattle.linda_step.specs.Soft.{no_asks};
+    ghost use Rattle.linda_disk.specs.Disk.{TellsFailuresOfTwo};
     ghost use Rattle.linda_disk.specs.Run.{LeavesOnly};
     ghost use Rattle.linda_snap.specs.Stands.{Stands};
     ghost use Rattle.linda_server.specs.Pairs.{LeavesNoOther, two};
@@ -53,6 +54,8 @@ impl<D: Disk> Durable<D> {
         ensures fault { D.honest left → D.honest right
             → IfErr result (λ e. IsOpenFault (D.view left).seen (D.view right).seen limit e.0) }
         ensures limit { IfOk result (λ s. IsLimit limit) }
+        // The limit is judged before all else: where it is out of range, no device call is made.
+        ensures first { (IsLimit limit → ⊥) → IsErrOf result (OpenFault.LimitRange, left, right) }
         // At no moment a crash leaves of a disk what it could not leave at entry.
         ensures any_moment { D.honest left → D.honest right
             → IfOk result (λ s. LeavesNoOther (two (D.view left) (D.view right))
@@ -62,8 +65,9 @@ impl<D: Disk> Durable<D> {
         ensures honest { IfOk result (λ s. (D.honest left × D.honest right) ↔ BothHonest s.disks)
             × IfErr result (λ e. (D.honest left × D.honest right)
             ↔ (D.honest e.1 × D.honest e.2)) }
-        ensures cause { IfErr result (λ e. e.0 ≡ OpenFault.Disk
-            → (D.failures left < D.failures e.1) ⊎ (D.failures right < D.failures e.2)) }
+        // The counts of failures rise where a device is told to have failed, and there alone.
+        ensures cause { IfErr result (λ e. TellsFailuresOfTwo OpenFault.Disk e.0
+            (D.failures left) (D.failures right) (D.failures e.1) (D.failures e.2)) }
     {
         if !is_limit(limit) {
             return Err((OpenFault::LimitRange, left, right));

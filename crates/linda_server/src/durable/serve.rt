@@ -1,9 +1,10 @@
 //! Serving messages: judged, done, and put onto the bank in use before anything is answered.
 
 ghost use Rattle.std.specs.Prelude.{◌≡◌, ◌∷◌, [], ◌<◌, ◌≤◌, ◌+◌, ◌^◌, ◌⊎◌, ◌↔◌};
-ghost use Rattle.std.specs.Prelude.{true, false, length, vec_len, IfOk, OnOk, OnErr, IsErrOf};
+ghost use Rattle.std.specs.Prelude.{true, false, length, vec_len, IfOk, IfErr, OnOk, OnErr, IsErrOf};
+ghost use Rattle.linda_disk.specs.Disk.{TellsFailures};
 ghost use Rattle.linda_server.specs.declared.limits.TheConstants.{RECORD_BYTES};
-ghost use Rattle.linda_server.specs.Server.{BothHonest, failures_of, IsKeptFor, AlwaysLeave, StandNow};
+ghost use Rattle.linda_server.specs.Server.{BothHonest, failures_of, IsKeptFor, IsPutOn, AlwaysLeave, StandNow};
 ghost use Rattle.linda_server.specs.Disks.{is_ready, number_of};
 
 use super::Durable;
@@ -68,8 +69,14 @@ impl<D: Disk> Durable<D> {
         ensures stays_down { self.old.down ≡ true → self.new ≡ self.old }
         ensures goes_down { (IsErrOf result ServeFault.Disk → self.new.down ≡ true)
             × (IsErrOf result ServeFault.Memory → self.new.down ≡ true) }
-        ensures cause { IsErrOf result ServeFault.Disk
-            → failures_of self.old.disks < failures_of self.new.disks }
+        ensures cause { IfErr result (λ fault. TellsFailures ServeFault.Disk fault
+            (failures_of self.old.disks) (failures_of self.new.disks)) }
+        // Where it did no deed, it made no device call; else four of them changed or synced the disk of the bank
+        // in use, and the other disk was not touched.
+        ensures idle { IfOk result (λ served. served.deeds.items ≡ []
+            → self.new.disks ≡ self.old.disks) }
+        ensures clock { IfOk result (λ served. 0 < length served.deeds.items
+            → IsPutOn self.old.disks self.new.disks) }
         ensures honest { BothHonest self.old.disks ↔ BothHonest self.new.disks }
         ensures limit { self.new.limit ≡ self.old.limit }
         // In the call in which it goes down, some first deeds of what came may be done.
@@ -117,8 +124,14 @@ impl<D: Disk> Durable<D> {
         ensures stays_down { self.old.down ≡ true → self.new ≡ self.old }
         ensures goes_down { (IsErrOf result ServeFault.Disk → self.new.down ≡ true)
             × (IsErrOf result ServeFault.Memory → self.new.down ≡ true) }
-        ensures cause { IsErrOf result ServeFault.Disk
-            → failures_of self.old.disks < failures_of self.new.disks }
+        ensures cause { IfErr result (λ fault. TellsFailures ServeFault.Disk fault
+            (failures_of self.old.disks) (failures_of self.new.disks)) }
+        // Where it did no deed, it made no device call; else four of them changed or synced the disk of the bank
+        // in use, and the other disk was not touched.
+        ensures idle { IfOk result (λ served. served.deeds.items ≡ []
+            → self.new.disks ≡ self.old.disks) }
+        ensures clock { IfOk result (λ served. 0 < length served.deeds.items
+            → IsPutOn self.old.disks self.new.disks) }
         ensures honest { BothHonest self.old.disks ↔ BothHonest self.new.disks }
         ensures limit { self.new.limit ≡ self.old.limit }
         // In the call in which it goes down, some first deeds of what came may be done.
@@ -198,8 +211,11 @@ impl<D: Disk> Durable<D> {
             × (IsErrOf result ServeFault.Down → ⊥) }
         ensures same { (self.new.store ≡ self.old.store) × (self.new.limit ≡ self.old.limit)
             × (self.new.before.value ≡ self.old.before.value) }
-        ensures cause { IsErrOf result ServeFault.Disk
-            → failures_of self.old.disks < failures_of self.new.disks }
+        ensures cause { IfErr result (λ fault. TellsFailures ServeFault.Disk fault
+            (failures_of self.old.disks) (failures_of self.new.disks)) }
+        ensures idle { IfOk result (λ s. s.deeds.items ≡ [] → self.new.disks ≡ self.old.disks) }
+        ensures clock { IfOk result (λ s. 0 < length s.deeds.items
+            → IsPutOn self.old.disks self.new.disks) }
         ensures honest { BothHonest self.old.disks ↔ BothHonest self.new.disks }
     {
         match commit(&mut self.disks, alloc, &served.deeds) {

@@ -1,8 +1,9 @@
 //! A snapshot: the state in few bytes, on the disk that was not in use.
 
-ghost use Rattle.std.specs.Prelude.{◌≡◌, [], ◌<◌, ◌↔◌, true, false, OnOk, IsErrOf};
+ghost use Rattle.std.specs.Prelude.{◌≡◌, [], ◌↔◌, true, false, IfErr, OnOk, IsErrOf};
 ghost use Rattle.linda_server.specs.Disks.{number_of};
-ghost use Rattle.linda_server.specs.Server.{BothHonest, failures_of, AlwaysLeave, StandNow};
+ghost use Rattle.linda_disk.specs.Disk.{TellsFailures};
+ghost use Rattle.linda_server.specs.Server.{BothHonest, failures_of, IsRenewedBy, AlwaysLeave, StandNow};
 
 use super::Durable;
 use crate::fault::{ServeFault, node_fault};
@@ -14,7 +15,7 @@ use std::alloc::Global;
 
 impl<D: Disk> Durable<D> {
     ghost use Rattle.linda_server.specs.Calls.{StandsFor};
-    ghost use Rattle.linda_server.specs.Switch.{HasNoNext, IsSwitched};
+    ghost use Rattle.linda_server.specs.Switch.{HasNoNext, IsSwitched, snapshot_calls};
 
     /// Writes a snapshot of the state as a new bank onto the disk that is not in use; from then on
     /// that bank is in use. It is what `snapshot` stands on, and tells a device's failure from want
@@ -32,6 +33,10 @@ impl<D: Disk> Durable<D> {
         // At Ok the other disk holds the bank in use, of the next generation and without a record.
         ensures switched { OnOk result (IsSwitched (λ b. b.generation) (λ b. b.records)
             (λ b. b.disk) self.old.disks self.new.disks) }
+        // It is five device calls, and one for each piece in which the new bank is written; two fewer
+        // where the disk's first gate was closed already.
+        ensures clock { OnOk result (IsRenewedBy (snapshot_calls self.old.store.state)
+            self.old.disks self.new.disks) }
         ensures same { (self.new.store ≡ self.old.store) × (self.new.limit ≡ self.old.limit) }
         ensures up { OnOk result ((self.old.down ≡ false) × (self.new.down ≡ false)) }
         // It is Full exactly where there is no next bank for the state; nothing changed then.
@@ -46,8 +51,8 @@ impl<D: Disk> Durable<D> {
         ensures stays_down { self.old.down ≡ true → self.new ≡ self.old }
         ensures goes_down { (IsErrOf result ServeFault.Disk → self.new.down ≡ true)
             × (IsErrOf result ServeFault.Memory → self.new.down ≡ true) }
-        ensures cause { IsErrOf result ServeFault.Disk
-            → failures_of self.old.disks < failures_of self.new.disks }
+        ensures cause { IfErr result (λ fault. TellsFailures ServeFault.Disk fault
+            (failures_of self.old.disks) (failures_of self.new.disks)) }
         // Nothing is done in the call in which it goes down.
         ensures lost { self.old.down ≡ false → self.new.down ≡ true
             → (self.new.before.value ≡ self.old.store.state) × (self.new.lost.items ≡ []) }

@@ -1,6 +1,7 @@
 //! Giving back the room of the bank that was in use before the last snapshot.
 
-ghost use Rattle.std.specs.Prelude.{◌≡◌, [], ◌<◌, ◌↔◌, true, false, OnOk, IsErrOf};
+ghost use Rattle.std.specs.Prelude.{◌≡◌, [], ◌↔◌, true, false, IfErr, OnOk, IsErrOf};
+ghost use Rattle.linda_disk.specs.Disk.{TellsFailures};
 ghost use Rattle.linda_server.specs.Server.{BothHonest, failures_of, AlwaysLeave, StandNow};
 
 use super::Durable;
@@ -36,8 +37,8 @@ impl<D: Disk> Durable<D> {
         ensures stays_down { self.old.down ≡ true → self.new ≡ self.old }
         ensures goes_down { (IsErrOf result ServeFault.Disk → self.new.down ≡ true)
             × (IsErrOf result ServeFault.Memory → self.new.down ≡ true) }
-        ensures cause { IsErrOf result ServeFault.Disk
-            → failures_of self.old.disks < failures_of self.new.disks }
+        ensures cause { IfErr result (λ fault. TellsFailures ServeFault.Disk fault
+            (failures_of self.old.disks) (failures_of self.new.disks)) }
         ensures never_full { IsErrOf result ServeFault.Full → ⊥ }
         // Nothing is done in the call in which it goes down.
         ensures lost { self.old.down ≡ false → self.new.down ≡ true

@@ -1,6 +1,6 @@
-use Rattle.std.proofs.Common.{◌≡◌, ◌+◌, ◌++◌, length, take, refl, sym, ap, subst, ◌∙◌, arith}
+use Rattle.std.proofs.Common.{◌≡◌, ◌+◌, inl, inr, ◌++◌, length, take, refl, sym, ap, subst, ◌∙◌, arith}
 use Rattle.std.proofs.lemmas.List.{take-append-drop, length-take, length-append}
-use Rattle.linda_journal.proofs.RenewalLaws.{IsWrittenTo, none_written, piece_within, piece_run, one_piece_more, all_seen}
+use Rattle.linda_journal.proofs.RenewalLaws.{IsWrittenTo, pieces_counted, none_written, piece_within, piece_run, one_piece_more, all_seen}
 use Rattle.linda_journal.proofs.whole.write_pieces.Goals as goal
 
 pub loop-rest-init : goal.loop-rest-init
@@ -9,6 +9,8 @@ loop-rest-init g c = (
   refl,
   (λ h. h, λ h. h),
   refl,
+  λ honest. refl,
+  inl refl,
 )
 
 pub write_at-requires : goal.write_at-requires
@@ -42,6 +44,8 @@ loop-rest-preserved g c =
       omega (arith, c.loop-rest.invariant.1, count, ap length split, length-append piece later),
       (λ h. c.write_at.ensures.honest.0 (c.loop-rest.invariant.2.0 h), λ h. c.loop-rest.invariant.2.1 (c.write_at.ensures.honest.1 h)),
       c.in_ok-write_at.ensures.cause.ok ∙ c.loop-rest.invariant.3,
+      λ honest. omega (arith, c.loop-rest.invariant.4 honest, (c.in_ok-write_at.ensures.writes (c.loop-rest.invariant.2.0 honest)).clock.ok),
+      inr (omega (arith, c.loop-rest-test.true, count, ap length split, length-append piece later)),
     )
 
 pub returns-in_err-write_at-2-clause-any_moment : goal.returns-in_err-write_at-2-clause-any_moment
@@ -61,3 +65,9 @@ returns-clause-any_moment g c honest =
     let still = c.loop-rest.invariant.2.0 honest in
     piece_run c.args.bytes.now (g.D.Disk.view c.args.disk.now) (g.D.Disk.view c.loop-rest.disk) (g.D.Disk.view c.write_at-2.new.self) c.loop-rest.at c.loop-rest.rest.now c.loop-rest.rest.now c.write_at-2.result
     (g.met.D.Disk.timed c.loop-rest.disk still) (c.loop-rest.invariant.0 honest) (c.write_at-2.ensures.writes still)
+
+pub returns-clause-clock : goal.returns-clause-clock
+returns-clause-clock g c honest =
+    let still = c.loop-rest.invariant.2.0 honest in
+    pieces_counted (length c.args.bytes.now) (g.D.Disk.view c.args.disk.now).moment (g.D.Disk.view c.loop-rest.disk).moment (g.D.Disk.view c.write_at-2.new.self).moment c.loop-rest.at (length c.loop-rest.rest.now)
+    c.loop-rest.invariant.1 (c.loop-rest.invariant.4 honest) c.loop-rest.invariant.5 (omega (arith, c.loop-rest-test.false)) (c.in_ok-write_at-2.ensures.writes still).clock.ok

@@ -1,7 +1,8 @@
-use Rattle.std.proofs.Common.{[], subst, sym}
+use Rattle.std.proofs.Common.{◌+◌, [], length, subst, sym, arith}
 use Rattle.linda_disk.specs.Run.{LeavesOnly}
 use Rattle.linda_journal.specs.Bank.{IsSettled, IsNoneOrNew}
-use Rattle.linda_journal.specs.Renewal.{IsWhole}
+use Rattle.linda_journal.specs.Renewal.{IsWhole, pieces}
+use Rattle.linda_journal.proofs.RenewalLaws.{then_calls}
 use Rattle.linda_snap.proofs.StandsLaws.{filling, opening}
 use Rattle.linda_snap.proofs.renewal.renew.Goals as goal
 
@@ -36,3 +37,20 @@ returns-in-Ok-unlock-clause-any_moment g c body short is honest =
           (subst (λ n. LeavesOnly (g.D.Disk.view w.disk) (g.D.Disk.view c.in-Ok-unlock.bank.disk) (IsNoneOrNew n body)) c.in-Ok-fill.ensures.new.0 (c.in-Ok-unlock.ensures.any_moment body two whole).0),
       tt,
     )
+
+pub returns-in-Ok-unlock-clause-clock : goal.returns-in-Ok-unlock-clause-clock
+returns-in-Ok-unlock-clause-clock g c honest =
+    let one = c.in-Ok.ensures.honest.0.0 honest in
+    let two = c.in-Ok-fill.ensures.honest.0.0 one in
+    let all = pieces (length c.args.bytes.now) in
+    let old = g.D.Disk.view c.args.other in
+    let mid = g.D.Disk.view c.in-Ok.closed.disk in
+    let new = g.D.Disk.view c.in-Ok-unlock.bank.disk in
+    let filled = c.in-Ok-fill.ensures.clock one in
+    let opened = c.in-Ok-unlock.ensures.clock two in
+    then_calls 0 (all + 3) (3 + all) old mid new (c.in-Ok.ensures.clock honest) (omega (arith, filled, opened)) (omega arith)
+
+pub returns-in-Err-fill-clause-any_moment : goal.returns-in-Err-fill-clause-any_moment
+returns-in-Err-fill-clause-any_moment g c body short is honest =
+    let one = c.in-Ok.ensures.honest.0.0 honest in
+    (tt, filling c.args.generation body (g.D.Disk.view c.args.other) (g.D.Disk.view c.in-Ok.closed.disk) (g.D.Disk.view c.in-Err-fill.other) (c.in-Ok.ensures.any_moment honest).0 (c.in-Err-fill.ensures.any_moment one).1)

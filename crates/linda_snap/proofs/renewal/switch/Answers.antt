@@ -1,6 +1,8 @@
-use Rattle.std.proofs.Common.{◌≡◌, ◌+◌, ◌<◌, ◌^◌, [], length, subst, sym, ◌∙◌, arith, rules}
+use Rattle.std.proofs.Common.{◌≡◌, ◌+◌, ◌<◌, ◌^◌, [], length, ap, subst, sym, ◌∙◌, arith, rules}
 use Rattle.linda_disk.specs.Run.{LeavesOnly}
 use Rattle.linda_journal.specs.Bank.{IsSettled}
+use Rattle.linda_journal.specs.Renewal.{pieces, TakesCalls}
+use Rattle.linda_journal.proofs.RenewalLaws.{front_length}
 use Rattle.linda_snap.specs.Snapshot.{spell_state}
 use Rattle.linda_snap.specs.Stands.{IsUp}
 use Rattle.linda_snap.specs.Switch.{IsOldNoneOrNew}
@@ -66,3 +68,9 @@ returns-in-Ok-renew-clause-stored g c honest =
     let bank = c.in-Ok-renew.bank in
     new_stored bank.generation bank.end (g.D.Disk.view bank.disk) st c.requires.ranges c.in-Ok.ensures.fits
     (subst (λ n. IsSettled n (spell_state st) [] bank.end (g.D.Disk.view bank.disk)) (sym c.in-Ok-renew.ensures.new.0) (c.in-Ok-renew.ensures.done (spell_state st) short bytes (c.in-Ok-renew.ensures.honest.0.1 honest)))
+
+pub returns-in-Ok-renew-clause-clock : goal.returns-in-Ok-renew-clause-clock
+returns-in-Ok-renew-clause-clock g c honest =
+    let bytes = c.deref.ensures.value ∙ c.in-Ok.ensures.bytes in
+    let count = ap length bytes ∙ front_length c.in-Some.generation (spell_state c.args.state.now) in
+    subst (λ n. TakesCalls (3 + pieces n) (g.D.Disk.view c.args.other) (g.D.Disk.view c.in-Ok-renew.bank.disk)) count (c.in-Ok-renew.ensures.clock honest)

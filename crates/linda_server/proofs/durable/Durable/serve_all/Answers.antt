@@ -1,5 +1,5 @@
 -- What was served is put onto the bank in use, or nothing is touched.
-use Rattle.std.proofs.Common.{◌≡◌, length, sym, subst, ap, arith}
+use Rattle.std.proofs.Common.{◌≡◌, ◌<◌, [], IfOk, length, sym, subst, ap, arith}
 use Rattle.std.specs.Vec.{vec_len}
 use Rattle.linda_state.proofs.DoneLaws.{on_ok}
 use Rattle.linda_step.specs.declared.size.TheConstants.{MAX_BATCH}
@@ -8,6 +8,7 @@ use Rattle.linda_step.specs.History.{comings, history_of}
 use Rattle.linda_server.specs.declared.served.Served.{Served}
 use Rattle.linda_server.specs.Served.{IsServed}
 use Rattle.linda_server.specs.Pairs.{PairsSince}
+use Rattle.linda_server.specs.Server.{IsPutOn}
 use Rattle.linda_server.specs.Disks.{both, number_of}
 use Rattle.linda_server.specs.Calls.{LeadTo, IsBeforeOrAfter}
 use Rattle.linda_server.specs.Node.{shown}
@@ -101,3 +102,11 @@ returns-clause-lost g c is_up is_down =
     let after = c.serve_each.new.store in
     let lost = at_fault c.settle.result c.settle.new.self.down (c.settle.new.self.lost.items ≡ c.in-Ok.served.deeds.items) c.settle.ensures.up c.settle.ensures.lost is_down in
     all_remains_up s.before.value s.store s.down s.lost.items (c.args.messages.now) c.in-Ok.served after.state after.soft c.settle.new.self.lost.items is_up (subst (λ (st : Store). IsServed st.state st.soft (c.args.messages.now) c.in-Ok.served c.serve_each.new.store.state c.serve_each.new.store.soft) c.begin.ensures.same.0 c.in-Ok.ensures.ok) lost
+
+pub returns-clause-idle : goal.returns-clause-idle
+returns-clause-idle g c =
+    subst (λ d. IfOk c.settle.result (λ served. served.deeds.items ≡ [] → c.settle.new.self.disks ≡ d)) c.begin.ensures.same.1 c.settle.ensures.idle
+
+pub returns-clause-clock : goal.returns-clause-clock
+returns-clause-clock g c =
+    subst (λ d. IfOk c.settle.result (λ served. 0 < length served.deeds.items → IsPutOn d c.settle.new.self.disks)) c.begin.ensures.same.1 c.settle.ensures.clock
