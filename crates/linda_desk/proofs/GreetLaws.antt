@@ -1,5 +1,5 @@
 -- A Hello changes nothing, and its answer is the greeting.
-use Rattle.std.proofs.Common.{◌≡◌, ◌≢◌, ℕ, Bool, true, false, not, cond, ◌==◌, ◌&&◌, nat_lt, List, [], ◌∷◌, Option, Some, None, is_some, All, IfSome, option_to_list, true≢false, refl, sym, ap, ◌∙◌, subst, append-nil, inl, inr}
+use Rattle.std.proofs.Common.{◌≡◌, ◌≢◌, ℕ, Bool, true, false, not, cond, ◌==◌, ◌&&◌, nat_lt, List, [], ◌∷◌, Option, Some, None, All, IfSome, option_to_list, sym, ap, ◌∙◌, subst, append-nil, inl, inr}
 use Rattle.std.proofs.lemmas.Bool.{cases_eq}
 use Rattle.std.proofs.lemmas.List.Elements.{All-nil}
 use Rattle.linda_wire.specs.declared.message.Message.TheVariants as messages
@@ -62,23 +62,6 @@ boxes_shut st client waits0 waits1 at others covered c =
       | inl here ↦ subst (λ c. IfSome (waits1 c) (All (λ (r : Reply). IsCovered st (c, r)))) (sym here) (subst (λ o. IfSome o (All (λ (r : Reply). IsCovered st (client, r)))) (sym at) tt)
       | inr apart ↦ subst (λ o. IfSome o (All (λ (r : Reply). IsCovered st (c, r)))) (sym (others c apart)) (covered c)
     ]
-
--- One outbox is opened, and shut again where there was none.
-pub boxes_back : (client : ℕ) (had_one : Bool) (waits0 waits1 waits2 : ℕ → Option (List Reply)) → had_one ≡ is_some (waits0 client)
-    → waits1 client ≡ opened (waits0 client) → ((c : ℕ) → c ≢ client → waits1 c ≡ waits0 c)
-    → (had_one ≡ true → waits2 client ≡ waits1 client) → (had_one ≡ false → waits2 client ≡ None) → ((c : ℕ) → c ≢ client → waits2 c ≡ waits1 c)
-    → (c : ℕ) → waits2 c ≡ waits0 c
-boxes_back client had_one waits0 waits1 waits2 had opens others kept shut others_too c =
-    elim (cases_eq c client) [
-      | inl here ↦ ap waits2 here ∙ (at had_one (waits0 client) (waits1 client) (waits2 client) had opens kept shut ∙ sym (ap waits0 here))
-      | inr apart ↦ others_too c apart ∙ others c apart
-    ]
-  where
-    at : (had_one : Bool) (o p q : Option (List Reply)) → had_one ≡ is_some o → p ≡ opened o → (had_one ≡ true → q ≡ p) → (had_one ≡ false → q ≡ None) → q ≡ o
-    at true None p q had opens kept shut = absurd (true≢false had)
-    at true (Some rs) p q had opens kept shut = kept refl ∙ opens
-    at false None p q had opens kept shut = shut refl
-    at false (Some rs) p q had opens kept shut = absurd (true≢false (sym had))
 
 -- A greeting welcomes or refuses.
 pub greets : (st : State) (c version : ℕ) (fresh : Bool) → IsGreetingReply (greeting st c version fresh)
