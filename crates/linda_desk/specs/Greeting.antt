@@ -37,6 +37,12 @@ IsGreeted st ps (messages.Hello version client fresh) answer =
     ⊎ ((version ≡ VERSION) × (is_away (map.get ps client) ≡ false) × IsAdmitted st ps client fresh answer))
 IsGreeted st ps _ answer = answer ≡ Err (told_why refusals.NoHello)
 
+-- What holds where a greeting gave no seat.
+abbrev pub OnNoSeat : {A B E : Type 0} → Result (Result A B) E → Type 0 → Type 0
+OnNoSeat (Ok (Ok got)) P = Unit {0}
+OnNoSeat (Ok (Err why)) P = P
+OnNoSeat (Err fault) P = P
+
 -- It welcomes or refuses.
 abbrev pub IsGreetingReply : Reply → Type 0
 IsGreetingReply (replies.Welcome last) = Unit {0}

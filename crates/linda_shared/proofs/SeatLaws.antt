@@ -10,6 +10,15 @@ pub all_snoc : (a : Account) (ts : List (Option Receipt)) (t : Option Receipt) �
 all_snoc a [] t = refl
 all_snoc a (s ∷ ts) t = all_snoc (with_told a s) ts t
 
+-- How many are on their way changes nothing of what is told.
+told_asked : (a : Account) (asked : ℕ) (t : Option Receipt) → with_asked (with_told a t) asked ≡ with_told (with_asked a asked) t
+told_asked a asked None = refl
+told_asked a asked (Some r) = refl
+
+pub all_asked : (a : Account) (asked : ℕ) (ts : List (Option Receipt)) → with_asked (with_all a ts) asked ≡ with_all (with_asked a asked) ts
+all_asked a asked [] = refl
+all_asked a asked (t ∷ ts) = all_asked (with_told a t) asked ts ∙ ap (λ (x : Account). with_all x ts) (told_asked a asked t)
+
 pub told_snoc : (c : ℕ) (ms : List Message) (ts : List (Option Receipt)) (m : Message) (t : Option Receipt) → AreToldOf c ms ts → IsToldOf c m t → AreToldOf c (ms ++ m ∷ []) (ts ++ t ∷ [])
 told_snoc c [] [] m t all one = (one, all)
 told_snoc c [] (s ∷ ts) m t all one = absurd all

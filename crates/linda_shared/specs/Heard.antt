@@ -18,10 +18,20 @@ is_severe (faults.Stuck client) = false
 is_severe faults.NoThread = false
 is_severe faults.Memory = false
 
--- the first fault of several messages
-abbrev pub first_fault : Option SharedFault → SharedFault → SharedFault
-first_fault None fault = fault
-first_fault (Some first) fault = first
+-- whether it is that of a receipt that was no answer to its message
+abbrev pub is_receipt : SharedFault → Bool
+is_receipt (faults.Receipt client number) = true
+is_receipt _ = false
+
+-- the fault of several messages: the first of a receipt, else the first
+abbrev pub worse_fault : Option SharedFault → SharedFault → SharedFault
+worse_fault None fault = fault
+worse_fault (Some first) fault = if is_receipt first then first else if is_receipt fault then fault else first
+
+-- What holds unless the fault is that of a receipt.
+abbrev pub UnlessReceipt : Option SharedFault → Type 0 → Type 0
+UnlessReceipt None P = P
+UnlessReceipt (Some fault) P = is_receipt fault ≡ false → P
 
 -- the fault of a batch: none that says that nothing changed, where something may have
 abbrev pub told_fault : SharedFault → Bool → SharedFault
@@ -38,6 +48,11 @@ pub record IsToldAll (before : Account) (ms : List Message) (a : Account) (told 
   pub deeds : AreToldOf before.client ms told
   pub each : length told ≡ length ms
 
+-- The account was told something of its messages, each what its message asks for.
+pub record HasNoted (before : Account) (ms : List Message) (a : Account) : Type 0 where
+  pub told : List (Option Receipt)
+  pub all : IsToldAll before ms a told
+
 -- The account heard the answers to these messages: without a fault so far, or with this one.
 pub record HasHeard (before : Account) (ms : List Message) (a : Account) (told : List (Option Receipt))
     (fault : Option SharedFault) (as_before : Bool) : Type 0 where
@@ -48,4 +63,5 @@ pub record HasHeard (before : Account) (ms : List Message) (a : Account) (told :
   pub each : length told ≡ length ms
   pub told_all : IfNone fault (IsToldAll before ms a told)
   pub its : IfSome fault (IsFaultOf before.client)
+  pub noted : UnlessReceipt fault (HasNoted before ms a)
   pub same : as_before ≡ true → with_asked a 0 ≡ with_asked before 0

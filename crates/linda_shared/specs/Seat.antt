@@ -1,5 +1,6 @@
 -- What a call of a session leaves of its seat, of which contracts see the account.
-use Rattle.std.specs.Prelude.{◌≡◌, ◌⊎◌, ℕ, ◌+◌, ◌-◌, ◌^◌, ◌≤◌, min, List, [], ◌∷◌, Option, Some, None}
+use Rattle.std.specs.Prelude.{◌≡◌, ℕ, ◌+◌, ◌-◌, ◌^◌, ◌≤◌, min, List, [], ◌∷◌, length}
+use Rattle.std.specs.Prelude.{Option, Some, None, IfSome}
 use Rattle.std.specs.List.{sum_by}
 use Rattle.linda_wire.specs.declared.message.Message.{Message}
 use Rattle.linda_wire.specs.declared.message.Message.TheVariants as messages
@@ -8,7 +9,7 @@ use Rattle.linda_receipt.specs.declared.receipt.Receipt.{Receipt}
 use Rattle.linda_receipt.specs.declared.fault.SharedFault.{SharedFault}
 use Rattle.linda_receipt.specs.declared.fault.SharedFault.TheVariants as faults
 use Rattle.linda_receipt.specs.Account.{Account, account_of}
-use Rattle.linda_receipt.specs.Ring.{with_receipt}
+use Rattle.linda_receipt.specs.Ring.{with_receipt, IsNext}
 
 -- the account with so many messages on their way
 abbrev pub with_asked : Account → ℕ → Account
@@ -56,34 +57,45 @@ AreToldOf c [] (t ∷ ts) = ⊥
 AreToldOf c (m ∷ ms) [] = ⊥
 AreToldOf c (m ∷ ms) (t ∷ ts) = IsToldOf c m t × AreToldOf c ms ts
 
--- It is as before, or was told of one deed more.
-abbrev pub IsLost : Account → Account → Type 0
-IsLost a new = (new ≡ a) ⊎ (new ≡ with_deed a)
+-- An answer was lost, and the account was told what it said: nothing, or a deed that the message asks for, whose receipt
+-- joined the ring behind the others.
+pub record IsLost (m : Message) (a new : Account) : Type 0 where
+  pub told : Option Receipt
+  pub account : new ≡ with_told a told
+  pub deed : IsToldOf a.client m told
+  pub next : IfSome told (IsNext a.client a.ring)
 
 -- A refused message leaves the account so: it is as before, but for a receipt that was no answer to the message, and
 -- for an answer that was lost.
-abbrev pub IsLeft : Account → SharedFault → Account → Type 0
-IsLeft a faults.Down new = IsLost a new
-IsLeft a faults.Full new = new ≡ a
-IsLeft a faults.SeatMissing new = new ≡ a
-IsLeft a (faults.Receipt client number) new = (new ≡ with_deed a) × (client ≡ a.client)
-IsLeft a (faults.Stuck client) new = new ≡ a
-IsLeft a faults.NoThread new = new ≡ a
-IsLeft a faults.Memory new = new ≡ a
+abbrev pub IsLeft : Message → Account → SharedFault → Account → Type 0
+IsLeft m a faults.Down new = IsLost m a new
+IsLeft m a faults.Full new = new ≡ a
+IsLeft m a faults.SeatMissing new = new ≡ a
+IsLeft m a (faults.Receipt client number) new = (new ≡ with_deed a) × (client ≡ a.client)
+IsLeft m a (faults.Stuck client) new = new ≡ a
+IsLeft m a faults.NoThread new = new ≡ a
+IsLeft m a faults.Memory new = new ≡ a
+
+-- Answers were lost, and the account was told what they said: of each message nothing, or a deed that it asks for, whose
+-- receipt joined the ring.
+pub record AreLost (ms : List Message) (a new : Account) : Type 0 where
+  pub told : List (Option Receipt)
+  pub account : new ≡ with_all a told
+  pub deeds : AreToldOf a.client ms told
 
 -- It was told of so many deeds more at most.
-pub record IsLostBy (n : ℕ) (a new : Account) : Type 0 where
+pub record IsToldMore (n : ℕ) (a new : Account) : Type 0 where
   pub client : new.client ≡ a.client
   pub asked : new.asked ≡ a.asked
   pub more : a.deeds ≤ new.deeds
   pub few : new.deeds ≤ a.deeds + n
 
--- So many refused messages leave the account so.
-abbrev pub IsLeftBy : ℕ → Account → SharedFault → Account → Type 0
-IsLeftBy n a faults.Down new = IsLostBy n a new
-IsLeftBy n a faults.Full new = new ≡ a
-IsLeftBy n a faults.SeatMissing new = new ≡ a
-IsLeftBy n a (faults.Receipt client number) new = IsLostBy n a new × (client ≡ a.client)
-IsLeftBy n a (faults.Stuck client) new = new ≡ a
-IsLeftBy n a faults.NoThread new = new ≡ a
-IsLeftBy n a faults.Memory new = new ≡ a
+-- Refused messages leave the account so.
+abbrev pub IsLeftBy : List Message → Account → SharedFault → Account → Type 0
+IsLeftBy ms a faults.Down new = AreLost ms a new
+IsLeftBy ms a faults.Full new = new ≡ a
+IsLeftBy ms a faults.SeatMissing new = new ≡ a
+IsLeftBy ms a (faults.Receipt client number) new = IsToldMore (length ms) a new × (client ≡ a.client)
+IsLeftBy ms a (faults.Stuck client) new = new ≡ a
+IsLeftBy ms a faults.NoThread new = new ≡ a
+IsLeftBy ms a faults.Memory new = new ≡ a

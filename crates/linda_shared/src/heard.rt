@@ -1,12 +1,12 @@
 //! What a session heard of a batch so far.
 
-ghost use Rattle.std.specs.Prelude.{◌≡◌, ◌+◌, ◌<◌, ◌++◌, ◌∷◌, [], false, true, List, Some, None, length};
+ghost use Rattle.std.specs.Prelude.{◌≡◌, ◌+◌, ◌<◌, ◌++◌, ◌∷◌, [], false, true, List, Some, None};
 ghost use Rattle.std.specs.Prelude.{vec_len, vec_capacity, IfOk, IfErr};
 ghost use Rattle.linda_wire.specs.declared.message.Message as messages;
 ghost use Rattle.linda_receipt.specs.Account as accounts;
 ghost use Rattle.linda_shared.specs.Seat.{with_asked, IsLeftBy};
 ghost use Rattle.linda_shared.specs.Heard as spec;
-ghost use Rattle.linda_shared.specs.Heard.{HasHeard, IsToldAll, first_fault};
+ghost use Rattle.linda_shared.specs.Heard.{HasHeard, IsToldAll};
 
 use crate::hearing::hear;
 use linda_mail::Answer;
@@ -14,7 +14,7 @@ use linda_receipt::{Account, Receipt, SharedFault};
 use linda_wire::Message;
 use std::sync::ledger::Ledger;
 
-/// What was told of each message so far, the first fault, and whether the account is known to be as before.
+/// What was told of each message so far, the worst fault, and whether the account is known to be as before.
 #[derive(Drop)]
 pub(crate) struct Heard {
     told: Vec<Option<Receipt>>,
@@ -77,16 +77,14 @@ impl Heard {
         ensures told { self.new.told.items ≡ self.old.told.items ++ None ∷ [] }
         ensures len { (vec_len self.new.told ≡ vec_len self.old.told + 1)
             × (vec_capacity self.new.told ≡ vec_capacity self.old.told) }
-        ensures fault { self.new.fault ≡ Some (first_fault self.old.fault fault) }
+        ensures fault { self.new.fault ≡ Some (spec.worse_fault self.old.fault fault) }
         ensures as_before { self.new.is_as_before ≡ true
             → (self.old.is_as_before ≡ true) × (spec.is_severe fault ≡ false) }
     {
         if is_severe(fault) {
             self.is_as_before = false;
         }
-        if self.fault.is_none() {
-            self.fault = Some(fault);
-        }
+        self.fault = Some(worse_fault(self.fault, fault));
         self.told.push_reserved(None);
     }
 
@@ -97,12 +95,41 @@ impl Heard {
             → IfOk result (λ told. IsToldAll before ms account told.items) }
         ensures err { (before account : accounts.Account) (ms : List messages.Message)
             → HasHeard before ms account self.told.items self.fault self.is_as_before
-            → IfErr result (λ fault. IsLeftBy (length ms) (with_asked before account.asked) fault account) }
+            → IfErr result (λ fault. IsLeftBy ms (with_asked before account.asked) fault account) }
     {
         match self.fault {
             None => Ok(self.told),
             Some(fault) => Err(told_fault(fault, self.is_as_before)),
         }
+    }
+}
+
+// The fault of several messages: the first of a receipt that was no answer, else the first.
+fn worse_fault(before: Option<SharedFault>, fault: SharedFault) -> SharedFault
+    ensures { result ≡ spec.worse_fault before fault }
+{
+    match before {
+        None => fault,
+        Some(first) => {
+            if is_receipt(first) {
+                first
+            } else if is_receipt(fault) {
+                fault
+            } else {
+                first
+            }
+        }
+    }
+}
+
+// Whether it is that of a receipt.
+fn is_receipt(fault: SharedFault) -> bool
+    ensures { result ≡ spec.is_receipt fault }
+{
+    match fault {
+        SharedFault::Receipt { .. } => true,
+        SharedFault::Down | SharedFault::Full | SharedFault::SeatMissing => false,
+        SharedFault::Stuck(_) | SharedFault::NoThread | SharedFault::Memory => false,
     }
 }
 

@@ -110,6 +110,7 @@ fn without_memory_all_go_at_once_or_none(rt: HostRuntime) -> Result<(), Fail> {
     let scene = AsFarAsMemoryGoes {
         limit: 91,
         steps: AT_ONCE,
+        cut_short: None,
     };
     play(&rt, rt.alloc(), ENOUGH, &scene)
 }
@@ -119,6 +120,7 @@ fn without_memory_some_go_one_by_one(rt: HostRuntime) -> Result<(), Fail> {
     let scene = AsFarAsMemoryGoes {
         limit: 90,
         steps: ONE_BY_ONE,
+        cut_short: Some("> down\n> 7 stored 1 1\n"),
     };
     play(&rt, rt.alloc(), TOO_LITTLE, &scene)
 }

@@ -46,6 +46,7 @@ fn without_memory_a_session_is_told_so_or_the_server_is_down(rt: HostRuntime) ->
     let scene = AsFarAsMemoryGoes {
         limit: ROOMY.limit,
         steps: STEPS,
+        cut_short: None,
     };
     play(&rt, rt.alloc(), ROOMY, &scene)
 }

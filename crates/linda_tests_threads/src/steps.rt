@@ -22,11 +22,22 @@ pub(super) struct Strictly {
 
 /// All is told as the steps say, until a growth of memory is refused. Then a call says that there was no memory, and
 /// done again it tells what it does else; or the server is down, and what it keeps on its disks is what it kept before
-/// the step, or behind it.
+/// the step, or behind it. A batch that goes one by one may be cut short behind its first message, which is kept: what
+/// it led to stands beside `down` then, and nothing else ever does.
 #[derive(Clone, Copy)]
 pub(super) struct AsFarAsMemoryGoes {
     pub(super) limit: usize,
     pub(super) steps: &'static [Step],
+    /// All that is told of the batch that was cut short, if one may be.
+    pub(super) cut_short: Option<&'static str>,
+}
+
+/// How far a step went.
+#[derive(Clone, Copy, PartialEq, Eq)]
+enum Went {
+    Whole,
+    Down,
+    CutShort,
 }
 
 impl Scene for Strictly {
@@ -71,12 +82,15 @@ impl Scene for AsFarAsMemoryGoes {
         let mut before = (1, 0, 0);
         for step in self.steps {
             let (_, _, after) = *step;
-            if !is_borne(rt, alloc, &mut sessions, *step)? {
+            let went = step_taken(rt, alloc, &mut sessions, *step, self.cut_short)?;
+            if went != Went::Down {
+                before = after;
+            }
+            if went != Went::Whole {
                 let now = kept_on_disks(rt, alloc, sessions.into_server(), self.limit, Torn::Kept)?;
                 assert!(rt; now == before || now == after, "{now:?}");
                 return Ok(());
             }
-            before = after;
         }
         assert_eq!(rt; kept_by(sessions), before);
         Ok(())
@@ -89,27 +103,29 @@ fn kept_by<L: Ledger>(sessions: Sessions<L>) -> Kept {
     kept(&server)
 }
 
-// Does a step, once more where there was no memory for it. False where the server is down.
-fn is_borne<L: Ledger, R: Wait + Abort>(
+// Does a step, once more where there was no memory for it. Where the server is down, it stays so.
+fn step_taken<L: Ledger, R: Wait + Abort>(
     rt: &R,
     alloc: Global,
     sessions: &mut Sessions<L>,
     step: Step,
-) -> Result<bool, AllocError> {
+    cut_short: Option<&str>,
+) -> Result<Went, AllocError> {
     let (said, told, _) = step;
     let came = done(rt, alloc, sessions, said)?;
     if is(&came, told) {
-        return Ok(true);
+        return Ok(Went::Whole);
     }
     if is(&came, "> memory\n") {
         let again = done(rt, alloc, sessions, said)?;
         assert!(rt; is(&again, told), "{said}: {again}");
-        return Ok(true);
+        return Ok(Went::Whole);
     }
-    assert!(rt; is(&came, "> down\n"), "{said}: {came}");
+    let is_cut = cut_short == Some(came.as_str());
+    assert!(rt; is_cut || is(&came, "> down\n"), "{said}: {came}");
     let later = done(rt, alloc, sessions, "snapshot")?;
     assert!(rt; is(&later, "> down\n"), "{said}: {later}");
-    Ok(false)
+    Ok(if is_cut { Went::CutShort } else { Went::Down })
 }
 
 fn is(came: &String, told: &str) -> bool {

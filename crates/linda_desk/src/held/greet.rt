@@ -1,20 +1,21 @@
 //! Greeting: who may have a seat.
 
-ghost use Rattle.std.specs.Prelude.{◌≡◌, ◌∷◌, ◌+◌, ◌*◌, ◌<◌, [], ℕ, false, vec_len, IfOk, IfErr, OnOk, IfSome, IfNone};
+ghost use Rattle.std.specs.Prelude.{◌≡◌, ◌≢◌, ◌∷◌, ◌+◌, ◌*◌, ◌<◌, [], ℕ, true, false, None, vec_len};
+ghost use Rattle.std.specs.Prelude.{IfOk, IfErr, OnOk, OnErr, IsErrOf, IfSome, IfNone};
 ghost use Rattle.std.specs.FinMap as map;
 ghost use Rattle.linda_wire.specs.declared.reply.Reply as wire;
 ghost use Rattle.linda_state.specs.State as states;
 ghost use Rattle.linda_step.specs.Answer.{greeting};
 ghost use Rattle.linda_outbox.specs.Waiting.{waits_for};
+ghost use Rattle.linda_outbox.specs.Replies.{opened};
 ghost use Rattle.linda_receipt.specs.declared.limits.TheConstants.{ACCOUNT_PARTS, PARTS};
 ghost use Rattle.linda_receipt.specs.Till.{is_away, account_at, seats_out};
 ghost use Rattle.linda_desk.specs.Order.{known};
 ghost use Rattle.linda_desk.specs.Greeting as spec;
-ghost use Rattle.linda_desk.specs.Greeting.{IsGreeted, IsAdmitted, IsGreetingReply};
+ghost use Rattle.linda_desk.specs.Greeting.{IsGreeted, IsAdmitted, IsGreetingReply, OnNoSeat};
 ghost use Rattle.linda_desk.specs.Covered.{BoxesCovered};
 
 use super::Held;
-use super::leave::put_back;
 use super::serve::fault_of;
 use linda_disk::Disk;
 use linda_outbox::Outboxes;
@@ -25,13 +26,20 @@ use std::alloc::Global;
 use std::sync::ledger::Ledger;
 
 impl<D: Disk, L: Ledger> Held<D, L> {
+    /// Whether the client can have no seat now: its seat is out, or is parked for good.
+    pub fn is_out(&self, client: u32) -> bool
+        ensures { result ≡ is_away (map.get self.now.till.places client) }
+    {
+        self.till.is_out(client)
+    }
+
     /// Gives the client of a Hello its seat, with the number of its last request that is kept; or refuses it with
     /// a code and a detail. Nothing is posted. The server is asked first: a Hello changes nothing there, so where
     /// there is no memory for the seat nothing has changed.
     ///
     /// # Errors
     ///
-    /// `Down`, before all; `Memory`.
+    /// `Down`, before all; `Memory`: nothing changed.
     pub fn greet(
         &mut self,
         alloc: Global,
@@ -40,6 +48,13 @@ impl<D: Disk, L: Ledger> Held<D, L> {
         ensures greeted { IfOk result (IsGreeted self.old.server.store.state self.old.till.places message.now) }
         ensures server { OnOk result ((self.new.server.store.state ≡ self.old.server.store.state)
             × (self.new.server.store.soft ≡ self.old.server.store.soft)) }
+        // Where it gives no seat none is out but those of before, and what waits is as it was;
+        ensures none { OnNoSeat result ((self.new.till ≡ self.old.till)
+            × ((c : ℕ) → waits_for self.new.boxes c ≡ waits_for self.old.boxes c)) }
+        // for want of memory nor did the server change, so a second greeting is answered as this one was to be.
+        ensures memory { IsErrOf result SharedFault.Memory → (self.new.server.down ≡ false)
+            × (self.new.server.store.state ≡ self.old.server.store.state)
+            × (self.new.server.store.soft ≡ self.old.server.store.soft) }
         ensures same { (self.new.opening.value ≡ self.old.opening.value) × (self.new.base.value ≡ self.old.base.value)
             × (self.new.receipts.items ≡ self.old.receipts.items) × (self.new.count ≡ self.old.count) }
     {
@@ -92,6 +107,10 @@ fn admit<D: Disk, L: Ledger>(
     ensures total { till.new.total ≡ till.old.total }
     ensures server { OnOk result ((server.new.store.state ≡ server.old.store.state)
         × (server.new.store.soft ≡ server.old.store.soft)) }
+    ensures none { OnNoSeat result ((till.new ≡ till.old)
+        × ((c : ℕ) → waits_for boxes.new c ≡ waits_for boxes.old c)) }
+    ensures memory { IsErrOf result SharedFault.Memory → (server.new.down ≡ false)
+        × (server.new.store.state ≡ server.old.store.state) × (server.new.store.soft ≡ server.old.store.soft) }
     ensures known { (known server.new.before.value server.new.store server.new.down
         ≡ known server.old.before.value server.old.store server.old.down)
         × (server.new.down ≡ false → server.old.down ≡ false) }
@@ -107,7 +126,7 @@ fn admit<D: Disk, L: Ledger>(
     }
 }
 
-// The seat of a client goes out, and it has an outbox.
+// The seat of a client goes out, and it has an outbox. Where there is no seat for it all is as before.
 fn seat<L: Ledger>(
     boxes: &mut Outboxes,
     till: &mut Till<L>,
@@ -118,30 +137,54 @@ fn seat<L: Ledger>(
     ensures account { IfOk result (λ found. IfSome found (λ a.
         a ≡ account_at client (map.get till.old.places client))) }
     ensures none { IfOk result (λ found. IfNone found (PARTS < ACCOUNT_PARTS * (seats_out till.old.places + 1))) }
+    ensures no_seat { IfOk result (λ found. IfNone found ((till.new ≡ till.old)
+        × ((c : ℕ) → waits_for boxes.new c ≡ waits_for boxes.old c))) }
+    ensures err { OnErr result ((till.new ≡ till.old) × ((c : ℕ) → waits_for boxes.new c ≡ waits_for boxes.old c)) }
     ensures total { till.new.total ≡ till.old.total }
     ensures covered { (st : states.State) → BoxesCovered st (waits_for boxes.old)
         → BoxesCovered st (waits_for boxes.new) }
 {
-    let Ok(found) = till.go_out(alloc, client) else {
-        return Err(SharedFault::Memory);
-    };
-    let Some(account) = found else {
-        return Ok(None);
-    };
+    let had_one = boxes.has(client);
     if !open(boxes, alloc, client) {
-        put_back(till, account, false);
         return Err(SharedFault::Memory);
     }
-    Ok(Some(account))
+    match till.go_out(alloc, client) {
+        Ok(Some(account)) => Ok(Some(account)),
+        Ok(None) => {
+            take_back(boxes, client, had_one);
+            Ok(None)
+        }
+        Err(_) => {
+            take_back(boxes, client, had_one);
+            Err(SharedFault::Memory)
+        }
+    }
 }
 
 // Whether the client has an outbox now. What waits stays covered.
 fn open(boxes: &mut Outboxes, alloc: Global, client: u32) -> bool
-    ensures { (st : states.State) → BoxesCovered st (waits_for boxes.old) → BoxesCovered st (waits_for boxes.new) }
+    ensures at { result ≡ true → waits_for boxes.new client ≡ opened (waits_for boxes.old client) }
+    ensures others { (c : ℕ) → c ≢ client → waits_for boxes.new c ≡ waits_for boxes.old c }
+    ensures err { result ≡ false → (c : ℕ) → waits_for boxes.new c ≡ waits_for boxes.old c }
+    ensures covered { (st : states.State) → BoxesCovered st (waits_for boxes.old)
+        → BoxesCovered st (waits_for boxes.new) }
 {
     match boxes.open(alloc, client) {
         Ok(()) => true,
         Err(_) => false,
+    }
+}
+
+// The client's outbox is shut again, where it had none before. What waits stays covered.
+fn take_back(boxes: &mut Outboxes, client: u32, had_one: bool)
+    ensures kept { had_one ≡ true → waits_for boxes.new client ≡ waits_for boxes.old client }
+    ensures shut { had_one ≡ false → waits_for boxes.new client ≡ None }
+    ensures others { (c : ℕ) → c ≢ client → waits_for boxes.new c ≡ waits_for boxes.old c }
+    ensures covered { (st : states.State) → BoxesCovered st (waits_for boxes.old)
+        → BoxesCovered st (waits_for boxes.new) }
+{
+    if !had_one {
+        boxes.shut(client);
     }
 }
 
@@ -156,8 +199,9 @@ fn hello<D: Disk>(
         greeting server.old.store.state client VERSION fresh ≡ Reply.Welcome last)) }
     ensures refused { IfOk result (λ answer. IfErr answer (λ why.
         greeting server.old.store.state client VERSION fresh ≡ Reply.Refused why.0 why.1)) }
-    ensures server { OnOk result ((server.new.store.state ≡ server.old.store.state)
-        × (server.new.store.soft ≡ server.old.store.soft)) }
+    ensures server { OnOk result ((server.new.down ≡ false)
+        × (server.new.store.state ≡ server.old.store.state) × (server.new.store.soft ≡ server.old.store.soft)) }
+    ensures never_memory { IsErrOf result SharedFault.Memory → ⊥ }
     ensures known { (known server.new.before.value server.new.store server.new.down
         ≡ known server.old.before.value server.old.store server.old.down)
         × (server.new.down ≡ false → server.old.down ≡ false) }
@@ -182,8 +226,9 @@ fn ask<D: Disk>(
 ) -> Result<Reply, SharedFault>
     ensures reply { IfOk result (λ r. r ≡ greeting server.old.store.state client VERSION fresh) }
     ensures kind { IfOk result IsGreetingReply }
-    ensures server { OnOk result ((server.new.store.state ≡ server.old.store.state)
-        × (server.new.store.soft ≡ server.old.store.soft)) }
+    ensures server { OnOk result ((server.new.down ≡ false)
+        × (server.new.store.state ≡ server.old.store.state) × (server.new.store.soft ≡ server.old.store.soft)) }
+    ensures never_memory { IsErrOf result SharedFault.Memory → ⊥ }
     ensures known { (known server.new.before.value server.new.store server.new.down
         ≡ known server.old.before.value server.old.store server.old.down)
         × (server.new.down ≡ false → server.old.down ≡ false) }

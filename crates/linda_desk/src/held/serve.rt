@@ -132,6 +132,7 @@ fn take_all<D: Disk>(
 pub(super) fn fault_of(fault: ServeFault) -> SharedFault
     ensures full { result ≡ SharedFault.Full → fault ≡ ServeFault.Full }
     ensures down { result ≡ SharedFault.Down → (fault ≡ ServeFault.Full → ⊥) }
+    ensures never_memory { result ≡ SharedFault.Memory → ⊥ }
 {
     match fault {
         ServeFault::Full => SharedFault::Full,

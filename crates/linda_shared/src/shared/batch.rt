@@ -40,8 +40,9 @@ impl<D: Disk, L: Ledger> Shared<D, L> {
         // there is an answer for each message, and a deed is one that its own message asks for.
         ensures deeds { IfOk result (λ told. AreToldOf seat.old.client messages.now told.items) }
         ensures each { IfOk result (λ told. vec_len told ≡ length messages.now) }
-        // Else the seat is as before, but for `Receipt`, and for `Down` where answers were lost.
-        ensures err { IfErr result (λ fault. IsLeftBy (length messages.now) seat.old fault seat.new) }
+        // Else the seat is as before, but for `Receipt`, and for `Down` where answers were lost: each deed of those has
+        // its receipt in the ring.
+        ensures err { IfErr result (λ fault. IsLeftBy messages.now seat.old fault seat.new) }
     {
         let Ok(told) = Vec::with_capacity(self.alloc, messages.len()) else {
             return Err(self.no_memory(rt));
@@ -88,8 +89,7 @@ impl<D: Disk, L: Ledger> Shared<D, L> {
         ensures ok { IfOk result (λ told. account.new ≡ with_all (with_asked account.old 0) told.items) }
         ensures deeds { IfOk result (λ told. AreToldOf account.old.client messages.now told.items) }
         ensures each { IfOk result (λ told. vec_len told ≡ length messages.now) }
-        ensures err { IfErr result (λ fault.
-            IsLeftBy (length messages.now) (with_asked account.old 0) fault account.new) }
+        ensures err { IfErr result (λ fault. IsLeftBy messages.now (with_asked account.old 0) fault account.new) }
     {
         let mut heard = Heard::new(told);
         let mut leads = leads;

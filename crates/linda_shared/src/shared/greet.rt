@@ -1,6 +1,7 @@
 //! A client comes.
 
-ghost use Rattle.std.specs.Prelude.{◌≡◌, IfOk};
+ghost use Rattle.std.specs.Prelude.{◌≡◌, ℕ, false, IfOk, IsErrOf};
+ghost use Rattle.linda_outbox.specs.Waiting.{waits_for};
 ghost use Rattle.linda_shared.specs.Greeting.{WasGreeted, IsSeatOf, greeting_of};
 
 use super::Shared;
@@ -9,7 +10,7 @@ use crate::seat::Seat;
 use linda_desk::Held;
 use linda_disk::Disk;
 use linda_mail::{Mailbox, Outlet};
-use linda_receipt::{Account, SharedFault};
+use linda_receipt::SharedFault;
 use linda_wire::Message;
 use std::alloc::{AllocError, Global};
 use std::sync::ledger::Ledger;
@@ -21,8 +22,7 @@ impl<D: Disk, L: Ledger> Shared<D, L> {
     ///
     /// # Errors
     ///
-    /// `Down`, before all; `Memory`: the client has no seat. An empty outbox may be left of it, until it
-    /// comes again.
+    /// `Down`, before all; `Memory`: nothing changed.
     pub fn greet<R: Wait>(&self, rt: &R, message: &Message) -> Result<Greeted<L>, SharedFault>
         // It was answered as a server says that is in some state, and has given out some seats;
         ensures greeted { IfOk result (λ g. WasGreeted message.now (greeting_of g)) }
@@ -37,7 +37,8 @@ impl<D: Disk, L: Ledger> Shared<D, L> {
         greeted
     }
 
-    // Greets, and makes a mailbox for whoever is welcome.
+    // Greets whoever comes. A mailbox for it is made first, and its place in the office: so the desk is asked only where
+    // there is memory for them.
     fn welcome<R: Wait>(
         &self,
         rt: &R,
@@ -45,35 +46,73 @@ impl<D: Disk, L: Ledger> Shared<D, L> {
         message: &Message,
     ) -> Result<Greeted<L>, SharedFault>
         ensures greeted { IfOk result (λ g. WasGreeted message.now (greeting_of g)) }
+        // Without memory all is as before, so a second greeting is answered as this one was to be.
+        ensures memory { IsErrOf result SharedFault.Memory → (held.new.server.down ≡ false)
+            × (held.new.server.store.state ≡ held.old.server.store.state)
+            × (held.new.server.store.soft ≡ held.old.server.store.soft) × (held.new.till ≡ held.old.till)
+            × ((c : ℕ) → waits_for held.new.boxes c ≡ waits_for held.old.boxes c) }
     {
-        match held.greet(self.alloc, message)? {
-            Err((code, detail)) => Ok(Greeted::Refused(code, detail)),
-            Ok((account, last)) => self.seat(rt, held, account, last),
+        if held.is_down() {
+            return Err(SharedFault::Down);
         }
-    }
-
-    // Makes a mailbox for the account. Where there is no memory for it the account is parked.
-    fn seat<R: Wait>(
-        &self,
-        rt: &R,
-        held: &mut Held<D, L>,
-        account: Account<L>,
-        last: u64,
-    ) -> Result<Greeted<L>, SharedFault>
-        requires { account.asked ≡ 0 }
-        ensures { IfOk result (λ g. greeting_of g ≡ Ok (account, last)) }
-    {
-        let client = account.client();
         let Ok((mine, theirs, out)) = owners(self.alloc) else {
-            held.park(account);
             return Err(SharedFault::Memory);
         };
-        let Ok(()) = self.office.lock(rt).open(rt, client, theirs) else {
-            held.park(account);
-            return Err(SharedFault::Memory);
-        };
-        Ok(Greeted::Welcome(Seat::new(account, mine), Outlet::new(out), last))
+        let mut office = self.office.lock(rt);
+        let newcomer = newcomer(held, message);
+        if let Some(client) = newcomer {
+            let Ok(()) = office.open(rt, client, theirs) else {
+                return Err(SharedFault::Memory);
+            };
+        }
+        let greeted = admit(held, self.alloc, message, mine, out);
+        if let (Some(client), false) = (newcomer, is_welcome(&greeted)) {
+            office.shut(rt, client);
+        }
+        greeted
     }
+}
+
+// The client of a Hello, where its seat is not out.
+fn newcomer<D: Disk, L: Ledger>(held: &Held<D, L>, message: &Message) -> Option<u32> {
+    match message {
+        Message::Hello { client, .. } => {
+            if held.is_out(*client) {
+                None
+            } else {
+                Some(*client)
+            }
+        }
+        _ => None,
+    }
+}
+
+// Asks the desk; whoever gets a seat has this mailbox.
+fn admit<D: Disk, L: Ledger>(
+    held: &mut Held<D, L>,
+    alloc: Global,
+    message: &Message,
+    mine: Arc<Mailbox<L>, Global>,
+    out: Arc<Mailbox<L>, Global>,
+) -> Result<Greeted<L>, SharedFault>
+    ensures greeted { IfOk result (λ g. WasGreeted message.now (greeting_of g)) }
+    ensures memory { IsErrOf result SharedFault.Memory → (held.new.server.down ≡ false)
+        × (held.new.server.store.state ≡ held.old.server.store.state)
+        × (held.new.server.store.soft ≡ held.old.server.store.soft) × (held.new.till ≡ held.old.till)
+        × ((c : ℕ) → waits_for held.new.boxes c ≡ waits_for held.old.boxes c) }
+{
+    match held.greet(alloc, message)? {
+        Err((code, detail)) => Ok(Greeted::Refused(code, detail)),
+        Ok((account, last)) => Ok(Greeted::Welcome(
+            Seat::new(account, mine),
+            Outlet::new(out),
+            last,
+        )),
+    }
+}
+
+fn is_welcome<L: Ledger>(greeted: &Result<Greeted<L>, SharedFault>) -> bool {
+    matches!(greeted, Ok(Greeted::Welcome(..)))
 }
 
 // Three owners of one new mailbox.

@@ -36,7 +36,7 @@ returns-in-Ok-clause-server g c =
     let old = c.args.server.now.store in
     let new = c.serve.new.self.store in
     let is = hello_served old.state old.soft c.args.client c.args.client VERSION c.args.fresh c.in-Ok.served new.state new.soft c.is_down.ensures.orderly.state_is c.in-Ok.ensures.done in
-    (is.state_is, is.soft_is)
+    (c.in-Ok.ensures.up.1, is.state_is, is.soft_is)
 
 pub returns-in-Ok-clause-known : goal.returns-in-Ok-clause-known
 returns-in-Ok-clause-known g c =
