@@ -23,10 +23,17 @@ pub struct Waiting<L: Ledger> {
     behind: usize,
 }
 
-/// The messages that wait, in order, and whether somebody leads: serves a group, or was told to.
+/// The messages that wait, each kind in order, and whether somebody leads: serves a group, or was told to. Asks and
+/// Cancels, of which no deed comes, go in groups of their own, so that who asks waits for no disk but that of the group
+/// before. Where both kinds wait the groups alternate, so neither waits for more than one of the other.
 #[derive(Drop)]
 pub struct Queue<L: Ledger> {
-    waiting: VecDeque<Waiting<L>>,
+    // Calls of which deeds may come.
+    doing: VecDeque<Waiting<L>>,
+    // Calls of Asks and Cancels alone.
+    asking: VecDeque<Waiting<L>>,
+    // Whether the last group was one of Asks and Cancels.
+    has_asked: bool,
     is_led: bool,
 }
 
@@ -34,12 +41,14 @@ impl<L: Ledger> Queue<L> {
     /// Nobody waits.
     pub fn new(alloc: Global) -> Queue<L> {
         Queue {
-            waiting: VecDeque::new(alloc),
+            doing: VecDeque::new(alloc),
+            asking: VecDeque::new(alloc),
+            has_asked: false,
             is_led: false,
         }
     }
 
-    /// A message of this account goes on its way, behind the others. Says whether whoever asks is to lead.
+    /// A message of this account goes on its way, behind the others of its kind. Says whether whoever asks is to lead.
     ///
     /// # Errors
     ///
@@ -55,9 +64,14 @@ impl<L: Ledger> Queue<L> {
             (account.old.asked + 1) account.old.ring) }
         ensures err { OnErr result (account.new ≡ account.old) }
     {
-        self.waiting.reserve(1)?;
+        let line = if only_asks(&message) {
+            &mut self.asking
+        } else {
+            &mut self.doing
+        };
+        line.reserve(1)?;
         let asked = account.ask(address);
-        self.waiting.push_back_reserved(Waiting {
+        line.push_back_reserved(Waiting {
             message,
             asked,
             behind: 0,
@@ -65,8 +79,8 @@ impl<L: Ledger> Queue<L> {
         Ok(self.take_lead())
     }
 
-    /// Messages of this account go on their way, behind the others and behind one another; they are served in one
-    /// group. Says whether whoever asks is to lead.
+    /// Messages of this account go on their way, behind the others of their kind and behind one another; they are served
+    /// in one group. Says whether whoever asks is to lead.
     ///
     /// # Errors
     ///
@@ -82,12 +96,17 @@ impl<L: Ledger> Queue<L> {
             (account.old.asked + vec_len messages) account.old.ring) }
         ensures err { OnErr result (account.new ≡ account.old) }
     {
-        self.waiting.reserve(messages.len())?;
+        let line = if all_only_ask(&messages) {
+            &mut self.asking
+        } else {
+            &mut self.doing
+        };
+        line.reserve(messages.len())?;
         let mut behind = messages.len();
         for (message, address) in messages {
             behind -= 1;
             let asked = account.ask(address);
-            self.waiting.push_back_reserved(Waiting {
+            line.push_back_reserved(Waiting {
                 message,
                 asked,
                 behind,
@@ -96,22 +115,39 @@ impl<L: Ledger> Queue<L> {
         Ok(self.take_lead())
     }
 
-    /// Takes the message in front, where there is room for it and for those of its call behind it.
+    /// Begins a group: says which kind of messages it is of.
+    pub fn begin(&mut self) {
+        self.has_asked = self.is_next_to_ask();
+    }
+
+    /// Takes the message of the group's kind that is in front, where there is room for it and for those of its call
+    /// behind it.
     pub fn next(&mut self, room: usize) -> Option<Waiting<L>>
         ensures { IfSome result (λ _. 0 < room) }
     {
-        if self.waiting.front()?.behind >= room {
+        let line = if self.has_asked {
+            &mut self.asking
+        } else {
+            &mut self.doing
+        };
+        if line.front()?.behind >= room {
             return None;
         }
-        self.waiting.pop_front()
+        line.pop_front()
     }
 
-    /// Ends a group: the session in front is to lead the next one. Where nobody waits, whoever comes next leads.
+    /// Ends a group: the session in front of the next one is to lead it. Where nobody waits, whoever comes next leads.
     pub fn pass_on<R: Wait>(&mut self, rt: &R) {
-        match self.waiting.front() {
-            Some(waiting) => waiting.asked.address().lead(rt),
-            None => self.is_led = false,
-        }
+        self.is_led = if self.is_next_to_ask() {
+            leads_front(rt, &self.asking)
+        } else {
+            leads_front(rt, &self.doing)
+        };
+    }
+
+    // Whether the next group is of Asks and Cancels: where there are some, unless the last one was and others wait.
+    fn is_next_to_ask(&self) -> bool {
+        !self.asking.is_empty() && (self.doing.is_empty() || !self.has_asked)
     }
 
     // Whether whoever asks is to lead, as somebody does from now on.
@@ -120,4 +156,30 @@ impl<L: Ledger> Queue<L> {
         self.is_led = true;
         leads
     }
+}
+
+// Tells the session in front that it is to lead. Says whether there is one.
+fn leads_front<L: Ledger, R: Wait>(rt: &R, line: &VecDeque<Waiting<L>>) -> bool {
+    match line.front() {
+        Some(waiting) => {
+            waiting.asked.address().lead(rt);
+            true
+        }
+        None => false,
+    }
+}
+
+// Whether no deed comes of the message.
+fn only_asks(message: &Message) -> bool {
+    matches!(message, Message::Ask { .. } | Message::Cancel { .. })
+}
+
+// Whether no deed comes of any of these.
+fn all_only_ask<L: Ledger>(messages: &[(Message, Address<L>)]) -> bool {
+    for message in messages {
+        if !only_asks(&message.0) {
+            return false;
+        }
+    }
+    true
 }

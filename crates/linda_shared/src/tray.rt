@@ -54,8 +54,9 @@ impl<L: Ledger> Tray<L> {
         })
     }
 
-    /// Takes what waits, up to a batch.
+    /// Takes what waits of one kind, up to a batch.
     pub(crate) fn fill(&mut self, queue: &mut Queue<L>) {
+        queue.begin();
         for _ in 0..MAX_BATCH {
             let room = MAX_BATCH - self.asked.len() - self.letters.len();
             let Some(waiting) = queue.next(room) else {

@@ -1,4 +1,4 @@
-use Rattle.std.proofs.Common.{◌≡◌, ◌≤◌, vec_len, vec_capacity}
+use Rattle.std.proofs.Common.{◌≤◌, vec_len, vec_capacity}
 use Rattle.linda_step.specs.declared.size.TheConstants.{MAX_BATCH}
 use Rattle.linda_mail.proofs.office.Office.deliver.Given as goal
 

@@ -8,4 +8,4 @@ invariant-loop-message g l =
     × (l.account.client ≡ l.fn.account.client)
     × (l.account.deeds ≡ l.fn.account.deeds)
     × (l.account.ring ≡ l.fn.account.ring)
-    × (deque_len l.self.waiting + l.behind ≤ deque_capacity l.self.waiting)
+    × (deque_len l.line + l.behind ≤ deque_capacity l.line)
