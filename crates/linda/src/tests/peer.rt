@@ -2,6 +2,7 @@
 
 use crate::faults::PipeFault;
 use crate::piping::pipe;
+use linda_shell::{ScriptFault, run_script};
 use linda_store::{ConverseFault, End, Volatile, converse};
 use std::alloc::Global;
 use std::fmt::Debug;
@@ -131,5 +132,17 @@ pub(super) fn converses(
     let (mut reader, mut writer) = peers(alloc, given);
     let mut node = Volatile::new(alloc);
     let end = converse(alloc, &mut node, &mut reader, &mut writer);
+    came_to(rt, &reader, &writer, &end, want);
+}
+
+/// A script over one server comes to this.
+pub(super) fn plays(
+    rt: &impl Abort,
+    alloc: Global,
+    given: Given,
+    want: &Want<Result<(), ScriptFault>>,
+) {
+    let (mut reader, mut writer) = peers(alloc, given);
+    let end = run_script(alloc, &mut reader, &mut writer, 1);
     came_to(rt, &reader, &writer, &end, want);
 }

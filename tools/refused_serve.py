@@ -1,0 +1,273 @@
+"""`linda serve` under two clients, with one growth of memory refused after another: `tools/refused-growth serve` runs it.
+
+    python3 tools/refused_serve.py MALLOC [FROM] [STEP]     MALLOC: the library that refuses growths; FROM: the first one (1), STEP: to the next (1)
+
+The clients put, take, wait for each other's tuple, send 64 messages at once, and greet again. At each growth that is refused a request gets its answer,
+or a refusal (Busy, Down), or its connection ends, or the program ends with status 3 and `memory` or `store: down`; whoever waits ten seconds for
+anything else is told as a hang. A client that lost its connection greets again and sends what is unanswered; where the program has ended it is started
+again over the same folder, with no growth refused. Then:
+
+- the server's last number of each client is that of its last answered message, or of the one that was unanswered;
+- the last answered message gets the same reply again;
+- at the end the tuples and their ids are those of the run in which nothing was refused, and so are all replies, but for the Gones of Accepts whose hold
+  was given up when a connection or the program ended, and the numbers behind them.
+
+The sweep ends where three runs in a row had no growth left to refuse. The first difference is printed, and ends it with 1.
+"""
+
+import os
+import shutil
+import subprocess
+import sys
+import tempfile
+import time
+from pathlib import Path
+
+from served import PROGRAM, Frame, Peer, frames, listing
+
+PATIENCE = 10
+TRIES = 200
+BUSY, DOWN = 3, 8
+LAST_WORDS = ("memory\n", "store: down\n")
+LOOKERS = 100
+
+
+class Difference(Exception):
+    """What is not as it must be."""
+
+
+class Lost(Exception):
+    """A connection that has ended, or a refusal behind which it does."""
+
+
+class Program:
+    """The server, started again where it has ended; in its first life a growth of memory is refused."""
+
+    def __init__(self, folder: Path, malloc: str, growth: int) -> None:
+        self.folder, self.mark = folder, folder / "refused"
+        self.environment = dict(os.environ, LD_PRELOAD=malloc, REFUSE=str(growth), REFUSED=str(self.mark))
+        self.process: subprocess.Popen[str] | None = None
+        self.port, self.starts = 0, 0
+
+    def start(self) -> None:
+        """Starts it until it is ready: twice at most, since a growth is refused in its first life alone."""
+        while self.process is None:
+            environment = self.environment if self.starts == 0 else None
+            self.starts += 1
+            self.process = subprocess.Popen([PROGRAM, "serve", "--port", "0", "--dir", str(self.folder / "store")], env=environment,
+                                            stdin=subprocess.DEVNULL, stdout=subprocess.PIPE, stderr=subprocess.PIPE, text=True)
+            assert self.process.stdout
+            line = self.process.stdout.readline()
+            if line.startswith("ready "):
+                self.port = int(line.split()[1])
+            else:
+                self.end()
+
+    def end(self) -> None:
+        """It has ended by itself, as it may."""
+        assert self.process
+        _, said = self.process.communicate(timeout=PATIENCE)
+        if self.starts > 1 or (self.process.returncode, said) not in [(3, words) for words in LAST_WORDS]:
+            raise Difference(f"start {self.starts} ended with status {self.process.returncode} and {said!r}")
+        self.process = None
+
+    def has_ended(self) -> bool:
+        return self.process is None or self.process.poll() is not None
+
+    def kill(self) -> None:
+        if self.process:
+            self.process.kill()
+            self.process.communicate()
+            self.process = None
+
+
+class Client:
+    """A client with what it was answered, in order, and the numbered messages that are unanswered."""
+
+    def __init__(self, program: Program, number: int) -> None:
+        self.program, self.number = program, number
+        self.peer: Peer | None = None
+        self.ticket, self.last = 0, 0
+        self.pending: list[bytes] = []
+        self.answered: list[tuple[bytes, Frame]] = []
+        self.busy = 0
+
+    def connect(self) -> None:
+        """Greets until it is welcome, and checks what the server keeps of it."""
+        for _ in range(TRIES):
+            if self.program.process and self.program.has_ended():
+                self.program.end()
+            self.program.start()
+            try:
+                self.peer = Peer(self.program.port, PATIENCE)
+                self.check(self.expect(frames.hello(self.number, False), ("Welcome",)))
+                return
+            except (Lost, ConnectionError):
+                self.hang_up()
+                time.sleep(0.005)
+        raise Difference(f"client {self.number} was not welcome in {TRIES} tries")
+
+    def check(self, welcome: Frame) -> None:
+        last = welcome[1]["last"]
+        if not self.last <= last <= self.last + len(self.pending):
+            raise Difference(f"client {self.number}: the server's last number is {last}, {self.last} was answered, {len(self.pending)} more were sent")
+        if self.answered and last == self.last:
+            message, reply = self.answered[-1]
+            again = self.expect(message, (reply[0],))
+            if again != reply:
+                raise Difference(f"client {self.number} got {frames.words_of(*reply)}, and again {frames.words_of(*again)}")
+
+    def hang_up(self) -> None:
+        if self.peer:
+            self.peer.close()
+        self.peer = None
+
+    def send(self, data: bytes) -> None:
+        if self.peer is None:
+            raise Lost
+        try:
+            self.peer.send(data)
+        except ConnectionError:
+            raise Lost from None
+
+    def receive(self, names: tuple[str, ...]) -> Frame:
+        """The next reply, which has to be one of these, or a refusal behind which the connection is of no use."""
+        if self.peer is None:
+            raise Lost
+        while True:
+            try:
+                name, parts = self.peer.receive()
+            except ConnectionError:
+                raise Lost from None
+            except TimeoutError:
+                raise Difference(f"client {self.number} waits for {' or '.join(names)} in vain") from None
+            if name in names:
+                return name, parts
+            if name == "Refused" and parts["code"] in (BUSY, DOWN):
+                self.busy += 1
+                raise Lost
+            raise Difference(f"client {self.number} wants {' or '.join(names)} and got {frames.words_of(name, parts)}")
+
+    def expect(self, data: bytes, names: tuple[str, ...]) -> Frame:
+        self.send(data)
+        return self.receive(names)
+
+    def held(self, work) -> None:  # noqa: ANN001
+        """Does this over a connection, and again over a new one where that one ended."""
+        for _ in range(TRIES):
+            try:
+                if self.peer is None:
+                    self.connect()
+                work()
+                return
+            except Lost:
+                self.hang_up()
+        raise Difference(f"client {self.number} lost {TRIES} connections")
+
+    def finish_pending(self) -> None:
+        """Sends all that is unanswered, and takes the answers."""
+        if self.pending:
+            self.send(b"".join(self.pending))
+        while self.pending:
+            reply = self.receive(("Stored", "Taken", "Gone"))
+            if reply[1]["number"] != self.last + 1:
+                raise Difference(f"client {self.number} wants number {self.last + 1} and got {frames.words_of(*reply)}")
+            self.answered.append((self.pending.pop(0), reply))
+            self.last += 1
+
+    def put(self, *rows: tuple) -> None:
+        self.pending = [frames.out(self.last + 1 + at, *row) for at, row in enumerate(rows)]
+        self.held(self.finish_pending)
+
+    def ask(self, tag: str) -> None:
+        """Asks, and does not wait."""
+        self.held(lambda: self.ask_now(tag))
+
+    def ask_now(self, tag: str) -> None:
+        self.ticket += 1
+        self.send(frames.ask(self.ticket, True, tag, frames.INT))
+
+    def take(self, tag: str, has_asked: bool = False) -> None:
+        """Takes the tuple that is offered; asks anew where the connection of the Ask has ended, or the hold was given up meanwhile."""
+        asked = has_asked and self.peer is not None
+
+        def work() -> None:
+            nonlocal asked
+            if not self.pending:
+                if not asked:
+                    self.ask_now(tag)
+                asked = False
+                _, parts = self.receive(("Offer",))
+                self.pending = [frames.accept(self.last + 1, self.ticket, parts["id"])]
+            self.finish_pending()
+
+        self.held(work)
+        while self.answered[-1][1][0] == "Gone":
+            self.held(work)
+
+
+def play(program: Program) -> tuple[list, dict[int, tuple], int]:
+    """The whole day of two clients: all replies of both, the tuples at the end, and how often a connection was refused."""
+    one, two = Client(program, 7), Client(program, 8)
+    one.put(("a", 1))
+    one.put(("a", 2))
+    two.take("a")
+    two.ask("b")
+    one.put(("b", 5))
+    two.take("b", has_asked=True)
+    two.put(*[("job", at) for at in range(64)])
+    one.hang_up()
+    one.take("job")
+    one.put(("c", 9))
+    two.take("c")
+    one.hang_up()
+    two.hang_up()
+    told = [reply for client in (one, two) for _, reply in client.answered]
+    replies = [(name, parts["id"], parts.get("tuple")) for name, parts in told if name != "Gone"]
+    if program.has_ended():
+        program.end() if program.process else None
+        program.start()
+    tuples = listing(program.port, frames.spell_items("job", (frames.INT,)), LOOKERS)
+    tuples |= listing(program.port, frames.spell_items("a", (frames.INT,)), LOOKERS)
+    return replies, tuples, one.busy + two.busy
+
+
+def run(malloc: str, growth: int) -> tuple[tuple[list, dict[int, tuple]], bool, int, int]:
+    """One day with this growth refused: what came of it, whether there was such a growth, how often the program was started, and the refusals."""
+    folder = Path(tempfile.mkdtemp())
+    (folder / "store").mkdir()
+    program = Program(folder, malloc, growth)
+    try:
+        replies, tuples, busy = play(program)
+        return (replies, tuples), program.mark.exists(), program.starts, busy
+    finally:
+        program.kill()
+        shutil.rmtree(folder)
+
+
+def main() -> None:
+    if not 2 <= len(sys.argv) <= 4:
+        sys.exit(__doc__)
+    malloc = sys.argv[1]
+    growth, step = (int(word) for word in [*sys.argv[2:], *["1", "1"][len(sys.argv) - 2:]])
+    wanted, _, starts, _ = run(malloc, 0)
+    if starts != 1 or len(wanted[0]) != 3 + 1 + 1 + 64 + 1 + 1 + 1 or len(wanted[1]) != 64:
+        sys.exit(f"with nothing refused: {wanted}, {starts} starts")
+    refused = ended = turned_away = none_left = 0
+    while none_left < 3:
+        try:
+            came, was_refused, starts, busy = run(malloc, growth)
+            if came != wanted:
+                raise Difference(f"{came}\nis not\n{wanted}")
+        except Exception as fault:  # noqa: BLE001
+            sys.exit(f"growth {growth} refused: {type(fault).__name__}: {fault}")
+        none_left = 0 if was_refused else none_left + 1
+        refused += was_refused
+        ended += starts > 1
+        turned_away += busy > 0
+        growth += step
+    print(f"serve under two clients: each of {refused} growths refused, as it must be; {ended} times the program ended and was started again,"
+          f" {turned_away} times a connection was refused")
+
+
+main()
