@@ -2,7 +2,8 @@
 //!
 //! - A `Mailbox` is a session's own: its replies, and a place for the answer to each message that it has on its way.
 //! - `Outlet` is where its replies come out; whoever reads there never asks for the server.
-//! - The `Queue` has the messages that wait to be served, in order of arrival, and says who is to serve the next group.
+//! - The `Queue` has the messages that wait to be served, those of which no deed comes in a line of their own, and says
+//!   who is to serve the next group.
 //! - An `Answer` is what is told of a message, with a second copy of it. A `Letter` is one on its way to a mailbox.
 //! - The `Office` has the mailbox of each session, and gives out what a group came to, while the next one is served.
 //!

@@ -79,8 +79,8 @@ impl<L: Ledger> Queue<L> {
         Ok(self.take_lead())
     }
 
-    /// Messages of this account go on their way, behind the others of their kind and behind one another; they are served
-    /// in one group. Says whether whoever asks is to lead.
+    /// Messages of this account go on their way, behind the others of their kind and behind one another; they are
+    /// served in one group. Says whether whoever asks is to lead.
     ///
     /// # Errors
     ///
