@@ -1,12 +1,12 @@
 -- The two disks of a server, and what its calls keep to, as clauses speak of them.
-use Rattle.std.specs.Prelude.{◌≡◌, ℕ, ◌+◌, ◌<◌, ◌↔◌, true, false, List, Result, OnOk, IsErrOf}
+use Rattle.std.specs.Prelude.{◌≡◌, ℕ, ◌+◌, List}
 use Rattle.linda_state.specs.State.{State}
 use Rattle.linda_disk.specs.declared.disk.Disk.{Ghosts}
 use Rattle.linda_journal.specs.declared.bank.Bank.{Bank}
 use Rattle.linda_journal.specs.Renewal.{TakesCalls}
 use Rattle.linda_server.specs.declared.disks.Disks.{Disks}
 use Rattle.linda_server.specs.Pairs.{Both, PairsSince, PairsNow}
-use Rattle.linda_server.specs.Disks.{both, AreHonest, failures, number_of, IsUpOn, IsKeptOn, AreRelated, AreSwapped}
+use Rattle.linda_server.specs.Disks.{both, AreHonest, failures, IsUpOn, IsKeptOn, AreRelated, AreSwapped}
 use Rattle.linda_server.specs.Calls.{StandsFor}
 
 module _ {D : Type 0} {g : Ghosts D} where
