@@ -14,6 +14,7 @@ use std::alloc::Global;
 
 impl<D: Disk> Durable<D> {
     ghost use Rattle.linda_server.specs.Calls.{StandsFor};
+    ghost use Rattle.linda_server.specs.Lives.{GoesOn};
     ghost use Rattle.linda_server.specs.Switch.{HasNoNext, IsSwitched};
 
     /// Writes a snapshot of the state as a new bank onto the disk that is not in use; from then on
@@ -98,6 +99,7 @@ impl<D: Disk> Durable<D> {
         ensures lost { self.old.down ≡ false → self.new.down ≡ true
             → (self.new.before.value ≡ self.old.store.state) × (self.new.lost.items ≡ []) }
         ensures honest { BothHonest self.old.disks ↔ BothHonest self.new.disks }
+        ensures life { GoesOn (λ done. []) self.old result self.new }
     {
         match self.renew(alloc) {
             Ok(()) => Ok(()),
