@@ -56,6 +56,7 @@ impl<D: Disk> Durable<D> {
             (says client message.now ∷ []) self.new.lost.items }
         ensures before { self.old.down ≡ false → self.new.down ≡ true
             → self.new.before.value ≡ self.old.store.state }
+        // Every life of the server goes on by it.
         ensures life { GoesOn (λ sends. sends.items) self.old result self.new }
     {
         match self.serve(alloc, client, message) {
@@ -98,6 +99,7 @@ impl<D: Disk> Durable<D> {
             (comings messages.now) self.new.lost.items }
         ensures before { self.old.down ≡ false → self.new.down ≡ true
             → self.new.before.value ≡ self.old.store.state }
+        // Every life of the server goes on by it.
         ensures life { GoesOn (λ sends. sends.items) self.old result self.new }
     {
         match self.serve_all(alloc, messages) {
@@ -129,6 +131,7 @@ impl<D: Disk> Durable<D> {
             (leaves client ∷ []) self.new.lost.items }
         ensures before { self.old.down ≡ false → self.new.down ≡ true
             → self.new.before.value ≡ self.old.store.state }
+        // Every life of the server goes on by it.
         ensures life { GoesOn (λ sends. sends.items) self.old result self.new }
     {
         if self.down {

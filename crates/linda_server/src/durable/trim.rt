@@ -81,6 +81,7 @@ impl<D: Disk> Durable<D> {
         ensures lost { self.old.down ≡ false → self.new.down ≡ true
             → (self.new.before.value ≡ self.old.store.state) × (self.new.lost.items ≡ []) }
         ensures honest { BothHonest self.old.disks ↔ BothHonest self.new.disks }
+        // Every life of the server goes on by it.
         ensures life { GoesOn (λ done. []) self.old result self.new }
     {
         match self.clear() {
