@@ -11,3 +11,4 @@ pub mod FallenLaws
 mod AgainLaws
 mod LeftLaws
 mod LivesLaws
+mod GoingLaws

@@ -1,5 +1,5 @@
 -- What is known of a server, and of two disks without one, after every life.
-use Rattle.std.proofs.Common.{◌≡◌, ℕ, Bool, true, false, inl, inr, if◌then◌else◌, List, [], ◌∷◌, ◌++◌, None, refl, sym, ap, ◌∙◌, subst, append-nil, true≢false}
+use Rattle.std.proofs.Common.{◌≡◌, ℕ, Bool, true, false, inl, inr, if◌then◌else◌, List, [], ◌∷◌, ◌++◌, None, refl, sym, ap, ◌∙◌, subst, append-nil, true≢false, Result, Ok, Err, IfOk, OnErr, ◌⊎◌}
 use Rattle.std.proofs.Math.Logic.{∥∥₁_map}
 use Rattle.std.proofs.lemmas.Bool.{cases_Bool, cond-false, cond-true}
 use Rattle.std.proofs.lemmas.List.Elements.{All-nil, All-append}
@@ -17,6 +17,7 @@ use Rattle.linda_step.specs.Soft.{no_asks}
 use Rattle.linda_step.specs.Store.{Store, IsOrderly}
 use Rattle.linda_step.specs.Answer.{only_sends}
 use Rattle.linda_step.specs.History.{Coming, leaves, comings, history_of}
+use Rattle.linda_step.proofs.ExistLaws.{outcome_of}
 use Rattle.linda_step.proofs.GrowthLaws.{one_only}
 use Rattle.linda_step.proofs.HistoryLaws.{all_safe}
 use Rattle.linda_step.proofs.OrderLaws.{new_store_orderly}
@@ -29,11 +30,11 @@ use Rattle.linda_disk.specs.View.{IsTimed}
 use Rattle.linda_snap.specs.Stands.{Stands}
 use Rattle.linda_server.specs.declared.durable.Durable.{Durable}
 use Rattle.linda_server.specs.Pairs.{two, PairsSince, PairsNow}
-use Rattle.linda_server.specs.Server.{both_of, BothHonest}
+use Rattle.linda_server.specs.Server.{both_of, BothHonest, AlwaysLeave}
 use Rattle.linda_server.specs.Calls.{StandsAround, IsWithOrWithout, IsBeforeOrAfter, StandsFor, IsNothingOr}
 use Rattle.linda_server.specs.Node.{shown}
 use Rattle.linda_server.specs.Reopening.{has_done}
-use Rattle.linda_server.specs.Lives.{found_of, Call, handles, serves, closes, rewrites, Fall, at_work, at_rest, Cut, amid_work, amid_rest, AreLeft, Made, disks_then, IsOpenedOn, Phase, Serving, Stopped, Life, made, half_made, called, fell, cut, stopped, opened, not_opened}
+use Rattle.linda_server.specs.Lives.{found_of, Call, handles, serves, closes, rewrites, Fall, at_work, at_rest, Cut, amid_work, amid_rest, AreLeft, Made, disks_then, IsOpenedOn, Phase, Serving, Stopped, Life, made, half_made, called, fell, cut, stopped, opened, not_opened, GoesOn}
 use Rattle.linda_server.specs.Promises.{KeepsItsWord, IsReady, AreReady, IsFreed}
 use Rattle.linda_server.proofs.AgainLaws.{answered_as_kept, all_covered, still_there}
 use Rattle.linda_server.proofs.CallLaws.{none_remains, stands_with}
@@ -301,3 +302,45 @@ module _ {D : Type 0} {g : Ghosts D} (timed : (d : D) → g.honest d → IsTimed
             still_there old.store.state s.store.state (found_of s.store.state hand) id orderly.state_is
             (subst (λ st. IsAfter st (found_of s.store.state hand) s.store.state) same (found_after ds hand all left right known s.store.state is_open.found)) free (orderly.soft_is.there id held);
       }
+
+  -- ---- one call
+
+  -- A call that was cut off, of a server in order.
+  abbrev IsCut : Durable D g → Durable D g → Type 0
+  IsCut old new = IsOrderly old.store.state old.store.soft → (hand : List Deed) × Cut old new hand
+
+  pub cut_at_work : (old new : Durable D g) (xs : List Coming) → AlwaysLeave old.disks new.disks (IsBeforeOrAfter old.store xs) → IsCut old new
+  cut_at_work old new xs always orderly =
+      let whole = outcome_of old.store.state old.store.soft xs orderly in
+      (whole.0.deeds, amid_work xs whole.0 whole.1 always)
+
+  goes_on_so : {T E : Type 0} (sends_of : T → List (ℕ × Reply)) (old new : Durable D g) (r : Result T E)
+      → ((ds : List Deed) (all : List (ℕ × Reply)) → Life ds all (Serving old) → IfOk r (λ told. (es : List Deed) × Life (ds ++ es) (all ++ sends_of told) (Serving new)))
+      → ((ds : List Deed) (all : List (ℕ × Reply)) → Life ds all (Serving old) → OnErr r (Life ds all (Serving new)))
+      → (old.down ≡ false → IsCut old new) → GoesOn sends_of old r new
+  goes_on_so sends_of old new r ok err cut_off = record {
+    ok = ok;
+    err = err;
+    cut = λ ds all left right life up honest are.
+        let known : IsKnown ds all old = known_of ds all (Serving old) life in
+        let c = cut_off up (order_up ds old known.sound up) in
+        (c.0, cut ds c.0 all old new left right life up honest c.1 are);
+  }
+
+  -- It ended well,
+  pub goes_on_well : {T E : Type 0} (sends_of : T → List (ℕ × Reply)) (old new : Durable D g) (es : List Deed) (told : T) → old.down ≡ false → new.down ≡ false → Call old new es (sends_of told)
+      → (old.down ≡ false → IsCut old new) → GoesOn {E = E} sends_of old (Ok told) new
+  goes_on_well {T} {E} sends_of old new es told was_up is_up call cut_off =
+      goes_on_so {T = T} {E = E} sends_of old new (Ok told) (λ ds all life. (es, called ds es all (sends_of told) old new life was_up is_up call)) (λ ds all life. tt) cut_off
+
+  -- or with a fault.
+  pub goes_on_still : {T E : Type 0} (sends_of : T → List (ℕ × Reply)) (old new : Durable D g) (e : E) → (new ≡ old) ⊎ ((old.down ≡ false) × (new.down ≡ true) × Fall old new)
+      → (old.down ≡ false → IsCut old new) → GoesOn {T = T} sends_of old (Err e) new
+  goes_on_still {T} {E} sends_of old new e how cut_off = goes_on_so {T = T} {E = E} sends_of old new (Err e) (λ ds all life. tt) err cut_off
+    where
+      err : (ds : List Deed) (all : List (ℕ × Reply)) → Life ds all (Serving old) → Life ds all (Serving new)
+      err ds all life =
+          elim how [
+            | inl same ↦ subst (λ s. Life ds all (Serving s)) (sym same) life
+            | inr went ↦ fell ds all old new life went.0 went.1 went.2
+          ]

@@ -1,6 +1,6 @@
 -- The life of a server on two disks: its calls, crashes of both disks at any moments, and openings.
 use Rattle.std.specs.Prelude.{◌≡◌, ℕ, true, false, if◌then◌else◌}
-use Rattle.std.specs.Prelude.{List, [], ◌++◌, Result, Ok, Err}
+use Rattle.std.specs.Prelude.{List, [], ◌++◌, Result, Ok, Err, IfOk, OnErr}
 use Rattle.linda_wire.specs.declared.message.Message.{Message}
 use Rattle.linda_wire.specs.declared.reply.Reply.{Reply}
 use Rattle.linda_state.specs.declared.deed.Deed.{Deed}
@@ -126,3 +126,15 @@ module _ {D : Type 0} {g : Ghosts D} where
         → LeavesNoOther (two (g.view first) (g.view second)) (disks_then made)
         → AreLeft g (two (g.view first) (g.view second)) (disks_then made) left right
         → Life ds all (Stopped hand left right)
+
+  -- Every life goes on by a call: at Ok by deeds and by what was sent, with a fault by nothing; and where the call was
+  -- cut off at some moment, on whatever is left of the two disks.
+  pub record GoesOn {T E : Type 0} (sends_of : T → List (ℕ × Reply)) (old : Durable D g) (result : Result T E)
+      (new : Durable D g) : Type 0 where
+    pub ok : (ds : List Deed) (all : List (ℕ × Reply)) → Life ds all (Serving old)
+        → IfOk result (λ told. (es : List Deed) × Life (ds ++ es) (all ++ sends_of told) (Serving new))
+    pub err : (ds : List Deed) (all : List (ℕ × Reply)) → Life ds all (Serving old)
+        → OnErr result (Life ds all (Serving new))
+    pub cut : (ds : List Deed) (all : List (ℕ × Reply)) (left right : D) → Life ds all (Serving old)
+        → old.down ≡ false → BothHonest old.disks → AreLeft g (both_of old.disks) (both_of new.disks) left right
+        → (hand : List Deed) × Life ds all (Stopped hand left right)

@@ -19,6 +19,7 @@ impl<D: Disk> Durable<D> {
     ghost use Rattle.linda_store.specs.Node.{MayRemain};
     ghost use Rattle.linda_server.specs.Calls.{IsBeforeOrAfter, StandsFor, HasHandled, HasNoRoom};
     ghost use Rattle.linda_server.specs.Node.{shown};
+    ghost use Rattle.linda_server.specs.Lives.{GoesOn};
 
     /// Takes one message of a client. What is answered goes to the clients named beside each reply,
     /// in order.
@@ -55,6 +56,8 @@ impl<D: Disk> Durable<D> {
             (says client message.now ∷ []) self.new.lost.items }
         ensures before { self.old.down ≡ false → self.new.down ≡ true
             → self.new.before.value ≡ self.old.store.state }
+        // Every life of the server goes on by it.
+        ensures life { GoesOn (λ sends. sends.items) self.old result self.new }
     {
         match self.serve(alloc, client, message) {
             Ok(served) => Ok(served.into_sends()),
@@ -96,6 +99,8 @@ impl<D: Disk> Durable<D> {
             (comings messages.now) self.new.lost.items }
         ensures before { self.old.down ≡ false → self.new.down ≡ true
             → self.new.before.value ≡ self.old.store.state }
+        // Every life of the server goes on by it.
+        ensures life { GoesOn (λ sends. sends.items) self.old result self.new }
     {
         match self.serve_all(alloc, messages) {
             Ok(served) => Ok(served.into_sends()),
@@ -126,6 +131,8 @@ impl<D: Disk> Durable<D> {
             (leaves client ∷ []) self.new.lost.items }
         ensures before { self.old.down ≡ false → self.new.down ≡ true
             → self.new.before.value ≡ self.old.store.state }
+        // Every life of the server goes on by it.
+        ensures life { GoesOn (λ sends. sends.items) self.old result self.new }
     {
         if self.down {
             return Err(NodeFault::Down);

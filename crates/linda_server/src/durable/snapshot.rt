@@ -15,6 +15,7 @@ use std::alloc::Global;
 
 impl<D: Disk> Durable<D> {
     ghost use Rattle.linda_server.specs.Calls.{StandsFor};
+    ghost use Rattle.linda_server.specs.Lives.{GoesOn};
     ghost use Rattle.linda_server.specs.Switch.{HasNoNext, IsSwitched, snapshot_calls};
 
     /// Writes a snapshot of the state as a new bank onto the disk that is not in use; from then on
@@ -103,6 +104,8 @@ impl<D: Disk> Durable<D> {
         ensures lost { self.old.down ≡ false → self.new.down ≡ true
             → (self.new.before.value ≡ self.old.store.state) × (self.new.lost.items ≡ []) }
         ensures honest { BothHonest self.old.disks ↔ BothHonest self.new.disks }
+        // Every life of the server goes on by it.
+        ensures life { GoesOn (λ done. []) self.old result self.new }
     {
         match self.renew(alloc) {
             Ok(()) => Ok(()),

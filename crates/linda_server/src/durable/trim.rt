@@ -13,6 +13,7 @@ use linda_store::NodeFault;
 
 impl<D: Disk> Durable<D> {
     ghost use Rattle.linda_server.specs.Calls.{StandsFor};
+    ghost use Rattle.linda_server.specs.Lives.{GoesOn};
     ghost use Rattle.linda_server.specs.Switch.{IsTrimmed};
 
     /// Leaves one byte of the disk that is not in use, a closed gate. It is what `trim` stands on,
@@ -81,6 +82,8 @@ impl<D: Disk> Durable<D> {
         ensures lost { self.old.down ≡ false → self.new.down ≡ true
             → (self.new.before.value ≡ self.old.store.state) × (self.new.lost.items ≡ []) }
         ensures honest { BothHonest self.old.disks ↔ BothHonest self.new.disks }
+        // Every life of the server goes on by it.
+        ensures life { GoesOn (λ done. []) self.old result self.new }
     {
         match self.clear() {
             Ok(()) => Ok(()),

@@ -1,10 +1,17 @@
 -- No disk is touched.
-use Rattle.std.proofs.Common.{[], ◌∷◌, sym, subst}
+use Rattle.std.proofs.Common.{◌≡◌, ℕ, inr, [], ◌∷◌, refl, sym, ap, ◌∙◌, subst}
+use Rattle.std.specs.Global.{Vec}
+use Rattle.linda_wire.specs.declared.reply.Reply.{Reply}
+use Rattle.linda_step.specs.Dispatch.{on_close}
+use Rattle.linda_step.specs.Store.{Store}
+use Rattle.linda_store.specs.declared.node.NodeFault.TheVariants.{Down}
 use Rattle.linda_step.specs.History.{leaves}
 use Rattle.linda_server.specs.Node.{shown}
 use Rattle.linda_server.specs.Pairs.{PairsSince}
 use Rattle.linda_server.specs.Disks.{both}
 use Rattle.linda_server.specs.Calls.{StandsFor}
+use Rattle.linda_server.specs.Lives.{sent, closes, at_work, amid_rest}
+use Rattle.linda_server.proofs.LivesLaws.{goes_on_well, goes_on_still}
 use Rattle.linda_server.proofs.CallLaws.{still_so, none_remains}
 use Rattle.linda_server.proofs.durable.Durable.close.Goals as goal
 
@@ -26,3 +33,20 @@ pub returns-in_default-clause-lost : goal.returns-in_default-clause-lost
 returns-in_default-clause-lost g c is_up is_down =
     let s = c.args.self.now in
     none_remains (shown s.before.value s.store s.down s.lost.items) (leaves c.args.client ∷ []) c.begin.new.self.lost.items c.begin.ensures.same.3
+
+pub returns-in_default-clause-life : goal.returns-in_default-clause-life
+returns-in_default-clause-life g c =
+    let up = c.if-self.false in
+    goes_on_still g.met.D.Disk.timed (λ (v : Vec (ℕ × Reply)). v.items) c.args.self.now _ Down
+    (inr (up, c.begin.ensures.down, at_work (leaves c.args.client ∷ []) c.begin.ensures.before (returns-in_default-clause-lost g c up c.begin.ensures.down)))
+    (λ _ orderly. ([], amid_rest (returns-in_default-clause-any_moment g c up)))
+
+pub returns-clause-life : goal.returns-clause-life
+returns-clause-life g c =
+    let up = c.if-self.false in
+    let same = c.begin.ensures.same.0 in
+    let sends = c.in-Ok.sends.items in
+    goes_on_well g.met.D.Disk.timed (λ (v : Vec (ℕ × Reply)). v.items) c.args.self.now _ [] c.in-Ok.sends up refl
+    (closes c.args.client sends (subst (λ (s : Store). sent sends c.close.new.self.soft ≡ on_close s.state.bag c.args.client s.soft) same c.in-Ok.ensures.ok)
+    (c.in-Ok.ensures.state ∙ ap (λ (s : Store). s.state) same))
+    (λ _ orderly. ([], amid_rest (returns-clause-any_moment g c up)))
