@@ -1,5 +1,5 @@
 -- What was sent of a deed is kept while more is done, and is sent again where its number comes again.
-use Rattle.std.proofs.Common.{◌≡◌, ℕ, ◌<◌, ◌≤◌, ◌+◌, ◌==◌, ◌||◌, Bool, true, false, inl, inr, List, [], ◌∷◌, ◌++◌, option_to_list, option_map, Option, Some, None, IfSome, IsSome, All, refl, sym, ap, ◌∙◌, subst, append_assoc, append-nil, arith}
+use Rattle.std.proofs.Common.{◌≡◌, ℕ, ◌<◌, ◌≤◌, ◌+◌, Bool, true, false, inl, inr, List, [], ◌∷◌, ◌++◌, option_to_list, option_map, Option, Some, None, IfSome, IsSome, All, refl, sym, ap, ◌∙◌, subst, append_assoc, append-nil, arith}
 use Rattle.std.proofs.lemmas.Bool.{cases_eq, true≢false}
 use Rattle.linda_tuple.specs.Tuple.{Tuple}
 use Rattle.std.proofs.lemmas.Option.{none-some, same_Some}
@@ -10,6 +10,7 @@ use Rattle.linda_wire.specs.declared.limits.TheConstants.{NUMBER_LIMIT}
 use Rattle.linda_wire.specs.declared.message.Message.{Message}
 use Rattle.linda_wire.specs.declared.message.Message.TheVariants.{Hello, Out, Ask, Accept, Cancel}
 use Rattle.linda_wire.specs.declared.reply.Reply.{Reply}
+use Rattle.linda_book.specs.declared.classes.Class.{Class}
 use Rattle.linda_book.specs.declared.classes.Class.TheVariants.{Kept}
 use Rattle.linda_book.specs.declared.kept.KeptReply.{KeptReply}
 use Rattle.linda_book.specs.declared.kept.KeptReply.TheVariants as kept
@@ -26,7 +27,8 @@ use Rattle.linda_state.proofs.DoneLaws.{done, done_after}
 use Rattle.linda_state.proofs.ProperLaws.{front_proper, reached, proper_state, more_done}
 use Rattle.linda_state.proofs.ReplyLaws.{reply_behind, kept_behind}
 use Rattle.linda_step.specs.Soft.{Soft}
-use Rattle.linda_step.specs.Answer.{Answer, only_reply, reply_of_kept, class_in, last_number, without_deed, out_without_deed, accept_without_deed, on_out, on_accept, IsAnswer, IsStep}
+use Rattle.linda_step.specs.Answer.{Answer, only_reply, reply_of_kept, last_number, standing_of, reply_by, out_without_deed, accept_without_deed, on_out, on_accept, IsAnswer, IsStep}
+use Rattle.linda_step.specs.Judge.{to_put, to_take, judge_class}
 use Rattle.linda_step.specs.History.{says, History, Happens, first_then, nothing_yet, history_of}
 use Rattle.linda_promise.specs.Steps.{number_of_message}
 use Rattle.linda_promise.specs.Replies.{reports_deed, ReportsOne}
@@ -42,10 +44,18 @@ module _ (st : State) (c n : ℕ) (reply : KeptReply) (is : IsState st) (there :
   low : 1 ≤ n
   low = (subst (λ o. IfSome o (λ (e : Entry). (1 ≤ e.0) × (e.0 < NUMBER_LIMIT))) there (is.numbers c)).0
 
+  class : class_of (last_number st c) n ≡ Kept
+  class = ap (λ o. class_of (number_in o) n) there ∙ last_class n low
+
   -- There is a reply without a deed: the one that is kept.
-  without : (is_spent : Bool) → without_deed st c n is_spent (class_in st c n) ≡ Some (reply_of_kept n reply)
-  without is_spent =
-      ap (without_deed st c n is_spent) (ap (λ o. class_of (number_in o) n) there ∙ last_class n low) ∙ ap (option_map (λ (e : Entry). reply_of_kept n e.1)) there
+  kept_reply : option_map (λ (e : Entry). reply_of_kept n e.1) (get st.book c) ≡ Some (reply_of_kept n reply)
+  kept_reply = ap (option_map (λ (e : Entry). reply_of_kept n e.1)) there
+
+  of_out : out_without_deed st c n ≡ Some (reply_of_kept n reply)
+  of_out = ap (λ (k : Class). reply_by st c n (judge_class (to_put n) (standing_of st c) k)) class ∙ kept_reply
+
+  of_accept : accept_without_deed st c n ≡ Some (reply_of_kept n reply)
+  of_accept = ap (λ (k : Class). reply_by st c n (judge_class (to_take n) (standing_of st c) k)) class ∙ kept_reply
 
   answer : (soft : Soft) (m : Message) (answered : Answer) → number_of_message m ≡ Some n → IsAnswer st soft c m answered → answered ≡ only_reply c (reply_of_kept n reply) soft
   answer soft (Hello version client fresh) answered bears told = absurd (none-some n bears)
@@ -53,10 +63,10 @@ module _ (st : State) (c n : ℕ) (reply : KeptReply) (is : IsState st) (there :
   answer soft (Cancel ticket) answered bears told = absurd (none-some n bears)
   answer soft (Out k tuple) answered bears told =
       subst (λ j. answered ≡ on_out st c j tuple (out_without_deed st c j) soft) (same_Some k n bears) told
-      ∙ ap (λ r. on_out st c n tuple r soft) (without ((n == NUMBER_LIMIT) || (st.next == NUMBER_LIMIT)))
+      ∙ ap (λ r. on_out st c n tuple r soft) of_out
   answer soft (Accept k ticket id) answered bears told =
       subst (λ j. answered ≡ on_accept st c j ticket id (accept_without_deed st c j) soft) (same_Some k n bears) told
-      ∙ ap (λ r. on_accept st c n ticket id r soft) (without (n == NUMBER_LIMIT))
+      ∙ ap (λ r. on_accept st c n ticket id r soft) of_accept
 
   pub answered_as_kept : (soft : Soft) (m : Message) (all : History) → number_of_message m ≡ Some n → Happens st soft (says c m ∷ []) all
       → all ≡ history_of st soft [] ((c, reply_of_kept n reply) ∷ [])
