@@ -12,7 +12,7 @@ heads() {
 mkdir "$2"
 while
     before=$(heads "$1")
-    cp "$1/left.bank" "$1/right.bank" "$2"
+    cp "$1/left.bank" "$1/right.bank" "$2" || exit 1
     [ "$(heads "$1")" != "$before" ]
 do
     echo "backup: the server went over to its other bank, so once more" >&2
