@@ -633,7 +633,6 @@ class _Machine:
     def refuse(self, server: int, code: int) -> None:
         """A Refused changes nothing but this: an out or a repeat that was judged and not done is not pending any more, and its number is still the next one."""
         if isinstance(self.task, (_Put, _Repeat)) and self.task.server == server and REFUSALS.get(code) in ("Old", "Gap", "Full", "TooManyClients"):
-            self.outs -= isinstance(self.task, _Put)
             self.task = None
 
     def arrive(self, arrival: _Arrival) -> None:
@@ -939,7 +938,8 @@ class Space:
                 self._write(link)
 
     def _hear_all(self) -> None:
-        """Hears what came, and then looks at the clock. It stops once what is pending has ended: the rest is for the next call."""
+        """Hears what came, and then looks whether an alarm is ready. It stops once what is pending has ended: the rest is for the next call."""
+        self._machine.clock = self.clock()
         for link in self._links:
             while self._machine.ended is None and self._hear(link):
                 pass
