@@ -511,6 +511,7 @@ class _Sync:
         return min(times) if times and self.accepted is None else None
 
 
+_Task = Union[_Put, _Repeat, _Sync]
 _Ended = Union[Stored, Kept, Outcome]
 
 
@@ -521,7 +522,7 @@ class _Machine:
     def __init__(self, client: int, servers: int) -> None:
         self.client, self.servers, self.clock, self.ticket, self.outs = client, servers, 0, 1, 0
         self.numbers = [1] * servers
-        self.task: Union[None, _Put, _Repeat, _Sync] = None
+        self.task: Optional[_Task] = None
         self.sent: List[Tuple[int, bytes]] = []
         self.ended: Optional[_Ended] = None
 
@@ -532,16 +533,14 @@ class _Machine:
         number = self.numbers[server]
         if number >= NUMBER_LIMIT or self.outs + 1 >= NUMBER_LIMIT:
             raise Spent("no number is left")
+        self.begin(_Put(server, number, values))
         self.outs += 1
-        self.task = _Put(server, number, values)
-        self.sent += self.unanswered()
 
     def repeat(self, server: int) -> None:
         """Asks for the kept reply to the last number, if there is one. What is sent under it does not matter."""
         self.be_idle()
         if self.numbers[server] > 1:
-            self.task = _Repeat(server, self.numbers[server] - 1)
-            self.sent += self.unanswered()
+            self.begin(_Repeat(server, self.numbers[server] - 1))
 
     def sync(self, event: Event) -> None:
         self.be_idle()
@@ -558,9 +557,13 @@ class _Machine:
         if self.ticket + len(asking) > NUMBER_LIMIT:
             raise Spent("no ticket is left")
         sync.tickets = {self.ticket + place: base for place, base in enumerate(asking)}
+        self.begin(sync)
         self.ticket += len(asking)
-        self.task = sync
-        self.sent += self.unanswered()
+
+    def begin(self, task: _Task) -> None:
+        """The task is pending from now on, unless a frame of it would be too long."""
+        self.sent += self.unanswered(task)
+        self.task = task
 
     def be_idle(self) -> None:
         if self.task is not None or self.ended is not None:
@@ -587,9 +590,8 @@ class _Machine:
         if base is not None:
             self.commit(sync, base, "alarm")
 
-    def unanswered(self) -> List[Tuple[int, bytes]]:
+    def unanswered(self, task: Optional[_Task]) -> List[Tuple[int, bytes]]:
         """What is not answered: an Out or an Accept, and then the Asks of all open tickets, by rising ticket, then rising server."""
-        task = self.task
         if isinstance(task, _Put):
             return [(task.server, _out(task.number, task.values))]
         if isinstance(task, _Repeat):
@@ -607,7 +609,7 @@ class _Machine:
             raise Idle("nothing is pending")
 
     def reconnected(self, server: int) -> None:
-        self.sent += [packet for packet in self.unanswered() if packet[0] == server]
+        self.sent += [packet for packet in self.unanswered(self.task) if packet[0] == server]
 
     def receive(self, server: int, reply: _Reply) -> None:
         """Takes a reply. Raises Refused where it is one, and Spent where an offer would be accepted and no number is left."""
@@ -730,7 +732,7 @@ class _Link:
         self.stream: Optional[socket.socket] = None
         self.is_made = self.is_up = self.was_up = False
         self.tries, self.due = 0, 0.0
-        self.came, self.left = bytearray(), bytearray()
+        self.came, self.left = bytearray(), bytearray()     # what was read and not heard yet, and what is not written yet
         self.awaited = 0
 
     def frame(self) -> Optional[bytes]:
@@ -750,18 +752,19 @@ class _Link:
 class Space:
     """A client of servers, numbered 0, 1, .. in the order of their ports. Use it in a `with`, or call `close` at the end.
 
-    After an error that is not OutOfRange, Busy, Idle or Spent, what was asked for may be pending still: `pending` tells, and `again` says how to go on.
+    After another error than OutOfRange, Busy, Idle and Spent what was asked for may be pending still, which `pending` tells: `again` goes on with it, `abandon`
+    gives a synchronization up, and until then all other calls raise Busy. That holds for KeyboardInterrupt too.
     """
 
     def __init__(self, ports: Sequence[int], client: int, *, fresh: bool = False, connect: Callable[[int], socket.socket] = _connect,
                  clock: Optional[Callable[[], int]] = None) -> None:
         """Greets each server.
 
-        ports: 1 to 16 ports of this machine, 1 to 65,535 each. All programs that share a space have to give the same ports in the same order.
-        client: the number of this client, from 0 to 2^32 - 1. Two programs may not use one number at the same time.
-        fresh: this number was never used before, and a server that knows it refuses. Without it numbers go on where an earlier life of this client stopped; see
-        `last_reply`.
-        connect: makes a connection to a port, or raises OSError. clock: milliseconds that never fall; those since the beginning, if not given.
+        - `ports`: 1 to 16 ports of this machine, from 1 to 65,535. An earlier life of this client gave the same ones in the same order.
+        - `client`: the number of this client, from 0 to 2^32 - 1. No two programs use one number at the same time.
+        - `fresh`: this number was never used, and a server that knows it refuses it. Where it is not set numbers go on where an earlier life of this client
+          stopped, if there was one: see `last_reply`.
+        - `connect`: makes a connection to a port, or raises OSError. `clock`: milliseconds, which never fall; those since the beginning, where it is not given.
 
         Raises NoConnection where a server cannot be reached, Refused where one refuses (Known, TooManyClients, Version; Busy where `fresh` is set: the number
         is in use). Without `fresh` Busy is tried again, 10,000 times a millisecond apart. After an error nothing is connected.
@@ -790,8 +793,8 @@ class Space:
         self.close()
 
     def close(self) -> None:
-        """Ends all connections. What this client waits for is over at the servers then, and what it holds is free again; what was stored and taken stays so. It
-        may be called again."""
+        """Ends all connections. What was stored and taken stays so; what is pending at the servers is over, and what they hold for this client is free again.
+        It may be called twice."""
         if not self._is_closed:
             self._is_closed = True
             for link in self._links:
@@ -801,10 +804,11 @@ class Space:
     # ---- what one asks for
 
     def out(self, tag: Value, *fields: Value) -> Tuple[int, int]:
-        """Puts a tuple, and answers its server and its id there, once it is stored for good. Client c's j-th out, from 0, goes to server (c + j) mod S.
+        """Puts a tuple, and answers its server and its id there, once it is stored for good. The j-th call of this space, from 0, goes to server (c + j) mod S,
+        where c is the client's number and S the count of servers.
 
         Raises OutOfRange, Busy, Spent: nothing was sent. Refused with Full, TooManyClients, Gap or Old: it was not put, and nothing is pending (Gap and Old say
-        that another program uses this client's number; with Old it may have been put before that). NoConnection, and all others: it may have been put or not,
+        that another program used this client's number; with Old it may have been put before that). NoConnection, and all others: it may have been put or not,
         and is pending.
         """
         values = (_value(tag), *(_value(item) for item in _few(fields)))
@@ -852,8 +856,8 @@ class Space:
         return ended
 
     def after(self, seconds: float) -> Alarm:
-        """An alarm that is ready so many seconds from now, rounded up to milliseconds. Raises OutOfRange where that is below 0 or no number."""
-        if not isinstance(seconds, (int, float)) or not 0 <= seconds < MOST_TIME / 2000:
+        """An alarm that is ready so many seconds from now, rounded up to milliseconds. Raises OutOfRange where that is below 0, no number, or too late."""
+        if not isinstance(seconds, (int, float)) or not 0 <= seconds <= MOST_TIME:
             raise OutOfRange(f"no time in seconds: {seconds!r}")
         return Alarm(self.clock() + math.ceil(seconds * 1000))
 

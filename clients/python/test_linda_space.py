@@ -3,8 +3,8 @@
 
     clients/python/test_linda_space.py [TEST..]
 
-The program is the one that LINDA names, `linda` at the top of the repository if it is not set. The recorded sessions are those of examples/vectors.json, which tools/client-sessions makes
-from the documents: there a test plays the servers over socket pairs and compares each byte that the library sends.
+The program is the one that LINDA names, `linda` at the top of the repository if it is not set. The recorded sessions are those of examples/vectors.json, which
+tools/client-sessions makes from the documents: there a test plays the servers over socket pairs and compares each byte that the library sends.
 """
 
 from __future__ import annotations
@@ -20,7 +20,7 @@ import threading
 import time
 import unittest
 from pathlib import Path
-from typing import Any, Callable, List, Optional
+from typing import Any, Callable, List
 from unittest import mock
 
 HERE = Path(__file__).resolve().parent
@@ -28,8 +28,9 @@ TOP = HERE.parent.parent
 sys.path[:0] = [str(HERE), str(TOP / "tools")]
 
 import linda_space  # noqa: E402
-from linda_space import (ANY, BOOL, INT, TEXT, Alarm, Always, BadReply, Busy, Choose, Closed, Idle, In, Kept, Nack, Never, NoConnection, Outcome, OutOfRange,  # noqa: E402
-                         Rd, Refused, Space, Stored, Wrap)
+from linda_space import (  # noqa: E402
+    ANY, BOOL, INT, TEXT, Alarm, Always, BadReply, Busy, Choose, Closed, Idle, In, Kept, Nack, Never, NoConnection, Outcome, OutOfRange, Rd, Refused, Space, Stored,
+    Wrap)
 from served import Peer, Server, frames  # noqa: E402
 
 PROGRAM = Path(os.environ.get("LINDA", TOP / "linda"))
@@ -84,6 +85,18 @@ class OverServers(unittest.TestCase):
             self.assertIsNone(space.pending)
         with self.assertRaises(Closed):
             space.out("a")
+
+    def test_the_readme(self) -> None:
+        ports = [self.serve("left").port, self.serve("right").port]
+        text = (HERE / "README.md").read_text()
+        self.assertIn("[7000, 7001]", text)
+        first, second = [block.split("```")[0] for block in text.split("```python\n")[1:]]
+        names: dict = {}
+        exec(first.replace("[7000, 7001]", repr(ports)).replace("2.5", "0.1"), names)
+        self.assertEqual(names["won"], Outcome(2, "alarm", (), (9,)))
+        worked: List[tuple] = []
+        exec("from linda_space import Space\n" + second.replace("[7000]", f"[{ports[1]}]").replace("client=12", "client=7"), {"work_on": worked.append})
+        self.assertEqual(worked, [("job", 1)])
 
     def test_true_is_not_one(self) -> None:
         space = self.space(self.serve())
@@ -307,7 +320,8 @@ class OverServers(unittest.TestCase):
 
     def test_values_at_their_limits(self) -> None:
         space = self.space(self.serve())
-        values = [(-(1 << 63), (1 << 63) - 1, 0, -1, True, False, "", "x" * 255, "é" * 127, "\U0001f600" * 63, "\0\n\t\"\\"), ("x" * 255, *["y" * 255] * 16), (True,), (0,), ("",)]
+        values = [(-(1 << 63), (1 << 63) - 1, 0, -1, True, False, "", "x" * 255, "é" * 127, "\U0001f600" * 63, "\0\n\t\"\\"),
+                  ("x" * 255, *["y" * 255] * 16), (True,), (0,), ("",)]
         for place, (tag, *fields) in enumerate(values):
             self.assertEqual(space.out(tag, *fields), (0, place + 1))
             for call in (space.read, space.take):
@@ -323,9 +337,11 @@ class OverServers(unittest.TestCase):
         calls += [lambda item=item: space.out("a", item) for item in [*wrong, INT]]
         calls += [lambda item=item, call=call: call("a", item) for item in wrong for call in (space.take, space.read)]
         calls += [lambda call=call: call("a", *range(17)) for call in (space.out, space.take, space.read)]
-        calls += [lambda: space.take(INT), lambda: space.take("a", timeout=-1), lambda: space.take("a", timeout=float("nan")), lambda: space.choose("a"), lambda: space.sync(("in", "a"))]
-        calls += [lambda: Alarm(-1), lambda: Alarm(1 << 64), lambda: Wrap(-1, Never()), lambda: Nack(1 << 64, Never()), lambda: Wrap(1, "a"), lambda: Always(1 << 63)]
-        calls += [lambda: Space([], 1), lambda: Space([7000] * 17, 1), lambda: Space([0], 1), lambda: Space([65_536], 1), lambda: Space([7000], -1), lambda: Space([7000], 1 << 32)]
+        calls += [lambda seconds=seconds: space.take("a", timeout=seconds) for seconds in (-1, float("nan"), float("inf"), 1e30, "1")]
+        calls += [lambda: space.take(INT), lambda: space.choose("a"), lambda: space.sync(("in", "a")), lambda: Wrap(1, "a"), lambda: Nack(1, None)]
+        calls += [lambda: Alarm(-1), lambda: Alarm(1 << 64), lambda: Wrap(-1, Never()), lambda: Nack(1 << 64, Never()), lambda: Always(1 << 63)]
+        calls += [lambda ports=ports: Space(ports, 1) for ports in ([], [7000] * 17, [0], [65_536], ["7000"])]
+        calls += [lambda client=client: Space([7000], client) for client in (-1, 1 << 32, True, "7")]
         for place, call in enumerate(calls):
             with self.subTest(place=place), self.assertRaises(OutOfRange):
                 call()
@@ -373,9 +389,9 @@ class OverPairs(unittest.TestCase):
     def test_no_frames_of_a_server(self) -> None:
         item = frames.spell_atom("a")
         offer = bytes([0x13]) + bytes(16)
-        for data in (bytes(4), b"\0\1\0\0", b"\xff" * 4, frames.frame(b"\x18"), frames.frame(b"\x01"), frames.frame(b"\x11" + bytes(7)), frames.frame(b"\x11" + bytes(9)),
-                     frames.frame(offer + item + b"\0"), frames.frame(offer + b"\x04\0"), frames.frame(offer + b"\x03\2\0"), frames.frame(offer + b"\2\1\xff\0"),
-                     frames.frame(offer + item + b"\x11" + b"\3\0" * 17), frames.frame(offer + item + b"\1\7"), frames.frame(offer + item)):
+        framed = [b"\x18", b"\x01", b"\x11" + bytes(7), b"\x11" + bytes(9), offer + item + b"\0", offer + b"\x04\0", offer + b"\x03\2\0", offer + b"\2\1\xff\0",
+                  offer + item + b"\x11" + b"\3\0" * 17, offer + item + b"\1\7", offer + item]
+        for data in (bytes(4), b"\0\1\0\0", b"\xff" * 4, *map(frames.frame, framed)):
             with self.subTest(data=data.hex()), self.assertRaises(BadReply):
                 self.told(data)
 
@@ -461,7 +477,8 @@ class Player:
         class Own(Watched):
             waits = self.waits
         try:
-            space = Own(range(1, self.session["servers"] + 1), self.session["client"], fresh=self.session["fresh"], connect=self.connect, clock=lambda: self.now)
+            ports = range(1, self.session["servers"] + 1)
+            space = Own(ports, self.session["client"], fresh=self.session["fresh"], connect=self.connect, clock=lambda: self.now)
         except BaseException as fault:
             self.answer(fault)
             return
