@@ -690,14 +690,14 @@ class _Machine:
     def commit(self, sync: _Sync, base: _Base, kind: str, got: Optional[_Arrival] = None, spared: Optional[Tuple[int, int]] = None,
                value: Optional[Value] = None) -> None:
         """The synchronization ends by this base."""
-        self.cancel(sync, spared)
-        self.task = None
         raised = tuple(number for place, number in enumerate(sync.nacks) if place not in base.above)
         if got is None:
-            self.ended = Outcome(base.number, kind, base.labels, raised, value=value)
+            outcome = Outcome(base.number, kind, base.labels, raised, value=value)
         else:
             assert isinstance(base.leaf, _Asking)
-            self.ended = Outcome(base.number, kind, base.labels, raised, got.server, got.id, got.tuple, base.leaf.binds(got.tuple))
+            outcome = Outcome(base.number, kind, base.labels, raised, got.server, got.id, got.tuple, base.leaf.binds(got.tuple))
+        self.cancel(sync, spared)
+        self.task, self.ended = None, outcome
 
     def cancel(self, sync: _Sync, spared: Optional[Tuple[int, int]]) -> None:
         """A Cancel of each ticket to each server, by rising ticket, then rising server, but where it is spared."""
@@ -897,9 +897,8 @@ class Space:
         """
         self._begin()
         self._machine.be_pending()
-        if self._machine.ended is None:
-            for link in self._links:
-                self._let_go(link)
+        for link in self._links:
+            self._let_go(link)
         return self._end()
 
     def abandon(self) -> Tuple[int, ...]:

@@ -29,8 +29,8 @@ sys.path[:0] = [str(HERE), str(TOP / "tools")]
 
 import linda_space  # noqa: E402
 from linda_space import (  # noqa: E402
-    ANY, BOOL, INT, TEXT, Alarm, Always, BadReply, Busy, Choose, Closed, Idle, In, Kept, Nack, Never, NoConnection, Outcome, OutOfRange, Rd, Refused, Space, Stored,
-    Wrap)
+    ANY, BOOL, INT, TEXT, Alarm, Always, BadReply, Busy, Choose, Closed, Idle, In, Kept, Nack, Never, NoConnection, Outcome, OutOfRange, Rd, Refused, Space,
+    Stored, Wrap)
 from served import Peer, Server, frames  # noqa: E402
 
 PROGRAM = Path(os.environ.get("LINDA", TOP / "linda"))
