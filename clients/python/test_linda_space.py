@@ -203,13 +203,28 @@ class OverServers(unittest.TestCase):
             call()
         self.assertEqual((caught.exception.server, caught.exception.name, caught.exception.detail), (server, name, detail))
 
+    @staticmethod
+    def not_busy(call: Callable[[], Any]) -> Callable[[], Any]:
+        """The call, again while a server has not seen yet that an earlier connection ended."""
+        def patient() -> Any:
+            until = time.monotonic() + PATIENCE
+            while True:
+                try:
+                    return call()
+                except Refused as fault:
+                    if fault.name != "Busy" or time.monotonic() > until:
+                        raise
+                time.sleep(0.01)
+        return patient
+
     def test_refused_greetings(self) -> None:
         left, right = self.serve("left"), self.serve("right")
         with Space([left.port, right.port], 7, fresh=True) as space:
             space.out("a")
             self.refused(lambda: Space([right.port], 7, fresh=True), 0, "Busy", 0)
-        time.sleep(0.2)
-        self.refused(lambda: Space([left.port, right.port], 7, fresh=True), 1, "Known", 1)
+        with mock.patch.object(linda_space, "VERSION", 2):
+            self.refused(lambda: self.space(left, client=8), 0, "Version", 1)
+        self.refused(self.not_busy(lambda: Space([left.port, right.port], 7, fresh=True)), 1, "Known", 1)
         self.assertEqual(self.space(left, right).out("b"), (1, 2))
 
     def test_busy_is_tried_again(self) -> None:
