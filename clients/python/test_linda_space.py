@@ -240,9 +240,11 @@ class OverServers(unittest.TestCase):
         server = self.serve()
         with socket.socket() as taken:
             taken.bind(("127.0.0.1", 0))
+            begin = time.monotonic()
             with self.assertRaises(NoConnection) as caught:
                 Space([server.port, taken.getsockname()[1]], 7)
         self.assertEqual(caught.exception.server, 1)
+        self.assertLess(time.monotonic() - begin, 5)
         self.assertEqual(self.space(server).out("a"), (0, 1))
 
     def test_too_many_clients(self) -> None:
@@ -391,43 +393,79 @@ class OverServers(unittest.TestCase):
         self.assertEqual((space.pending, space.take("a")), (None, ("a",)))
 
 
+WELCOME = frames.frame(b"\x11" + bytes(8))
+
+
 class OverPairs(unittest.TestCase):
-    """Servers that say what no server says, over a socket pair."""
+    """Servers that say what they do not say over the program, over socket pairs."""
 
-    def told(self, *pieces: bytes) -> Space:
-        """A space whose server sends these bytes at the first connection."""
-        ours, theirs = socket.socketpair()
-        self.addCleanup(ours.close)
-        ours.sendall(b"".join(pieces))
-        return Space([1], 7, connect=lambda _: theirs)
-
-    def test_no_frames_of_a_server(self) -> None:
-        item = frames.spell_atom("a")
-        offer = bytes([0x13]) + bytes(16)
-        framed = [b"\x18", b"\x01", b"\x11" + bytes(7), b"\x11" + bytes(9), offer + item + b"\0", offer + b"\x04\0", offer + b"\x03\2\0", offer + b"\2\1\xff\0",
-                  offer + item + b"\x11" + b"\3\0" * 17, offer + item + b"\1\7", offer + item]
-        for data in (bytes(4), b"\0\1\0\0", b"\xff" * 4, *map(frames.frame, framed)):
-            with self.subTest(data=data.hex()), self.assertRaises(BadReply):
-                self.told(data)
-
-    def test_a_bad_reply_ends_the_connection_and_the_next_call_greets_again(self) -> None:
-        pairs = [socket.socketpair() for _ in range(2)]
-        for ours, theirs in pairs:
+    def space(self, *told: bytes) -> Space:
+        """A space whose server welcomes it and then sends these bytes at the first connection, those at the second, and so on."""
+        self.pairs = [socket.socketpair() for _ in told]
+        for ours, theirs in self.pairs:
             self.addCleanup(ours.close)
             self.addCleanup(theirs.close)
-        made = iter(theirs for _, theirs in pairs)
-        first, second = (ours for ours, _ in pairs)
-        welcome = frames.frame(b"\x11" + bytes(8))
-        first.sendall(welcome)
+            ours.settimeout(PATIENCE)
+            ours.sendall(WELCOME)
+        made = iter([theirs for _, theirs in self.pairs])
         space = Space([1], 7, connect=lambda _: next(made))
-        first.sendall(frames.frame(b"\x18"))
+        self.addCleanup(space.close)
+        for data, (ours, _) in zip(told, self.pairs):
+            ours.sendall(data)
+        return space
+
+    def sent(self, connection: int) -> bytes:
+        return self.pairs[connection][0].recv(65_536)
+
+    def test_no_frames_of_a_server(self) -> None:
+        item, offer = frames.spell_atom("a"), b"\x13" + bytes(16)
+        framed = [b"\x18", b"\x01", b"\x11" + bytes(7), b"\x11" + bytes(9), offer + item + b"\0\0", offer + b"\x04\0", offer + b"\x03\2\0",
+                  offer + b"\2\1\xff\0", offer + item + b"\x11" + b"\3\0" * 17, offer + item + b"\1\7", offer + item]
+        for data in (bytes(4), b"\0\1\0\0", b"\xff" * 4, *map(frames.frame, framed)):
+            with self.subTest(data=data.hex()):
+                space = self.space(data)
+                with self.assertRaises(BadReply):
+                    space.out("a")
+                self.assertEqual(space.pending, "out")
+
+    def test_a_bad_reply_ends_the_connection_and_it_goes_on_over_another(self) -> None:
+        space = self.space(frames.frame(b"\x18"), frames.frame(b"\x12" + frames.spell_number(1) + frames.spell_number(9)))
         with self.assertRaises(BadReply):
             space.out("a")
-        second.sendall(welcome + frames.frame(b"\x12" + frames.spell_number(1) + frames.spell_number(9)))
-        self.assertEqual((space.pending, space.again()), ("out", Stored(0, 9)))
-        sent = frames.out(1, "a")
-        self.assertEqual(first.recv(1000), frames.hello(7, False) + sent)
-        self.assertEqual(second.recv(1000), frames.hello(7, False) + sent)
+        self.assertEqual((space.pending, space.again(), space.pending), ("out", Stored(0, 9), None))
+        self.assertEqual([self.sent(0), self.sent(1)], [frames.hello(7, False) + frames.out(1, "a")] * 2)
+
+    def test_goes_on_after_a_refusal(self) -> None:
+        refused = frames.frame(b"\x17\x0a" + frames.spell_number(1))
+        space = self.space(refused, frames.frame(b"\x14" + frames.spell_number(1) + frames.spell_number(3) + frames.spell_items("a", [True])))
+        with self.assertRaises(Refused) as caught:
+            space.choose(Rd("a", ANY).nack(1), In("b").wrap(2).nack(5))
+        self.assertEqual((caught.exception.name, caught.exception.detail, space.pending), ("TooManyAsks", 1, "sync"))
+        self.assertEqual(space.again(), Outcome(0, "read", (), (5,), 0, 3, ("a", True)))
+        asked = frames.hello(7, False) + frames.ask(1, False, "a", frames.ANY) + frames.ask(2, True, "b")
+        self.assertEqual([self.sent(0), self.sent(1)], [asked, asked + frames.cancel(1) + frames.cancel(2)])
+
+    def test_no_outcome_is_lost_by_an_interrupt(self) -> None:
+        taken = frames.spell_number(1) + frames.spell_number(3) + frames.spell_items("a", [8])
+        stored = frames.spell_number(2) + frames.spell_number(4)
+        space = self.space(frames.frame(b"\x13" + taken) + frames.frame(b"\x15" + taken), frames.frame(b"\x12" + stored))
+        send = Space._send
+
+        def interrupted(one: Space) -> None:
+            if one._machine.ended is not None:
+                raise KeyboardInterrupt
+            send(one)
+
+        with mock.patch.object(Space, "_send", interrupted), self.assertRaises(KeyboardInterrupt):
+            space.take("a", INT)
+        self.assertEqual(space.pending, "sync")
+        for call in (lambda: space.out("b"), space.abandon):
+            with self.assertRaises(Busy):
+                call()
+        self.assertEqual(space.again(), Outcome(0, "took", (), (), 0, 3, ("a", 8), (8,)))
+        self.assertEqual(space.out("b"), (0, 4))
+        asked = frames.hello(7, False) + frames.ask(1, True, "a", frames.INT) + frames.accept(1, 1, 3)
+        self.assertEqual([self.sent(0), self.sent(1)], [asked, frames.hello(7, False) + frames.out(2, "b")])
 
 
 # ---- recorded sessions
