@@ -517,11 +517,14 @@ class Player:
         self.made: List[queue.Queue] = [queue.Queue() for _ in range(session["servers"])]
         self.pairs: dict = {}
         self.waits = threading.Event()
+        self.is_over = False
         self.thread = threading.Thread(target=self.live, daemon=True)
 
     # ---- the client
 
     def connect(self, port: int) -> socket.socket:
+        if self.is_over:
+            raise RuntimeError("the session is over")
         ours, theirs = socket.socketpair()
         self.made[port - 1].put((ours, theirs))
         return theirs
@@ -570,6 +573,7 @@ class Player:
                 except (AssertionError, OSError, queue.Empty) as fault:
                     raise AssertionError(f"step {place}, {step}: {type(fault).__name__} {fault}") from fault
         finally:
+            self.is_over = True
             self.calls.put(None)
             for ours, theirs in self.pairs.values():
                 ours.shutdown(socket.SHUT_WR)
@@ -643,9 +647,15 @@ class Recorded(unittest.TestCase):
     def test_recorded_sessions(self) -> None:
         sessions = json.loads((TOP / "examples/vectors.json").read_text())["clients"]
         self.assertGreaterEqual(len(sessions), 200)
+        wrong: List[str] = []
         for place, session in enumerate(sessions):
-            with self.subTest(session=place):
+            try:
                 Player(session).play()
+            except AssertionError as fault:
+                wrong.append(f"session {place}: {fault}")
+            if len(wrong) == 3:
+                break
+        self.assertEqual(wrong, [])
 
 
 if __name__ == "__main__":
