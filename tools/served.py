@@ -3,6 +3,8 @@
 It is no tool by itself. Frames are those of examples/client.py, which is written from docs/FORMATS.md alone.
 """
 
+from __future__ import annotations
+
 import os
 import socket
 import subprocess

@@ -1,0 +1,662 @@
+#!/usr/bin/env python3
+"""The tests of linda_space.py: over servers of the program, and against recorded sessions.
+
+    clients/python/test_linda_space.py [TEST..]
+
+The program is the one that LINDA names, `linda` at the top of the repository if it is not set. The recorded sessions are those of examples/vectors.json, which
+tools/client-sessions makes from the documents: there a test plays the servers over socket pairs and compares each byte that the library sends.
+"""
+
+from __future__ import annotations
+
+import json
+import os
+import queue
+import shutil
+import socket
+import sys
+import tempfile
+import threading
+import time
+import unittest
+from pathlib import Path
+from typing import Any, Callable, List
+from unittest import mock
+
+HERE = Path(__file__).resolve().parent
+TOP = HERE.parent.parent
+sys.path[:0] = [str(HERE), str(TOP / "tools")]
+
+import linda_space  # noqa: E402
+from linda_space import (  # noqa: E402
+    ANY, BOOL, INT, TEXT, Alarm, Always, BadReply, Busy, Choose, Closed, Idle, In, Kept, Nack, Never, NoConnection, Outcome, OutOfRange, Rd, Refused, Space,
+    Stored, Wrap)
+from served import Peer, Server, frames  # noqa: E402
+
+PROGRAM = Path(os.environ.get("LINDA", TOP / "linda"))
+PATIENCE = 20
+
+
+class Going:
+    """A call in a thread of its own."""
+
+    def __init__(self, call: Callable[[], Any]) -> None:
+        self.ends: queue.Queue = queue.Queue()
+        threading.Thread(target=self.run, args=(call,), daemon=True).start()
+
+    def run(self, call: Callable[[], Any]) -> None:
+        try:
+            self.ends.put((call(), None))
+        except BaseException as fault:
+            self.ends.put((None, fault))
+
+    def end(self) -> Any:
+        value, fault = self.ends.get(timeout=PATIENCE)
+        if fault is not None:
+            raise fault
+        return value
+
+
+class OverServers(unittest.TestCase):
+    """Servers of the program, killed at the end."""
+
+    def setUp(self) -> None:
+        self.folder = Path(tempfile.mkdtemp())
+        self.addCleanup(shutil.rmtree, self.folder)
+
+    def serve(self, name: str = "one", port: int = 0) -> Server:
+        (self.folder / name).mkdir(exist_ok=True)
+        server = Server(self.folder / name, port, PROGRAM)
+        self.addCleanup(server.kill)
+        return server
+
+    def space(self, *servers: Server, client: int = 7, **more: Any) -> Space:
+        space = Space([server.port for server in servers], client, **more)
+        self.addCleanup(space.close)
+        return space
+
+    def test_put_read_take(self) -> None:
+        server = self.serve()
+        with Space([server.port], 7, fresh=True) as space:
+            self.assertEqual(space.out("a", 3, "x", True), (0, 1))
+            self.assertEqual(space.read("a", INT, TEXT, BOOL), ("a", 3, "x", True))
+            self.assertEqual(space.take("a", 3, ANY, ANY), ("a", 3, "x", True))
+            self.assertIsNone(space.take("a", ANY, ANY, ANY, timeout=0.05))
+            self.assertIsNone(space.pending)
+        with self.assertRaises(Closed):
+            space.out("a")
+
+    def test_the_readme(self) -> None:
+        ports = [self.serve("left").port, self.serve("right").port]
+        text = (HERE / "README.md").read_text()
+        self.assertIn("[7000, 7001]", text)
+        first, second = [block.split("```")[0] for block in text.split("```python\n")[1:]]
+        names: dict = {}
+        exec(first.replace("[7000, 7001]", repr(ports)).replace("2.5", "0.1"), names)
+        self.assertEqual(names["won"], Outcome(2, "alarm", (), (9,)))
+        worked: List[tuple] = []
+        exec("from linda_space import Space\n" + second.replace("[7000]", f"[{ports[1]}]").replace("client=12", "client=7"), {"work_on": worked.append})
+        self.assertEqual(worked, [("job", 1)])
+
+    def test_true_is_not_one(self) -> None:
+        space = self.space(self.serve())
+        space.out("a", True)
+        space.out("a", 1)
+        self.assertIs(space.take("a", 1)[1] is True, False)
+        self.assertIs(space.take("a", True)[1], True)
+
+    def test_choose_over_two_servers(self) -> None:
+        left, right = self.serve("left"), self.serve("right")
+        space = self.space(left, right)
+        self.assertEqual([space.out("a", 1), space.out("b", 2)], [(1, 1), (0, 1)])
+        event = Choose(In("b", INT).wrap(5).wrap(6).nack(1), Rd("c").nack(2), Alarm(60_000))
+        self.assertEqual(space.sync(event), Outcome(0, "took", (5, 6), (2,), 0, 1, ("b", 2), (2,)))
+        self.assertEqual(space.choose(In("b", ANY).nack(1), Rd("a", INT).wrap(3), timeout=10), Outcome(1, "read", (3,), (1,), 1, 1, ("a", 1), (1,)))
+        self.assertEqual(space.sync(Choose(Nack(1, In("b", ANY)), Wrap(8, space.after(0.01)), Nack(4, Never()))), Outcome(1, "alarm", (8,), (1, 4)))
+        self.assertEqual(space.sync(Nack(9, Wrap(2, Always("v")))), Outcome(0, "always", (2,), (), value="v"))
+        self.assertEqual(space.choose(In("b", ANY).nack(1), timeout=0.01), Outcome(1, "alarm", (), (1,)))
+
+    def test_takers_share_jobs_over_two_servers(self) -> None:
+        servers = [self.serve("left"), self.serve("right")]
+        boss = self.space(*servers, client=1)
+        workers = [Going(lambda space=self.space(*servers, client=number): [space.take("job", INT)[1] for _ in range(20)]) for number in (2, 3, 4)]
+        for job in range(60):
+            boss.out("job", job)
+        self.assertEqual(sorted(job for worker in workers for job in worker.end()), list(range(60)))
+        self.assertIsNone(boss.read("job", ANY, timeout=0.05))
+
+    def test_time_is_up(self) -> None:
+        server = self.serve()
+        space, other = self.space(server), self.space(server, client=8)
+        begin = time.monotonic()
+        self.assertIsNone(space.take("a", timeout=0.2))
+        self.assertTrue(0.19 <= time.monotonic() - begin < 5)
+        other.out("a")
+        self.assertEqual(other.take("a", timeout=5), ("a",))
+        self.assertIsNone(space.read("a", timeout=0))
+
+    def test_kill_under_a_take(self) -> None:
+        server = self.serve()
+        space = self.space(server)
+        space.out("b")
+        taking = Going(lambda: space.take("a", INT))
+        time.sleep(0.2)
+        server.kill()
+        time.sleep(0.1)
+        again = self.serve(port=server.port)
+        self.assertEqual(self.space(again, client=8).out("a", 5), (0, 2))
+        self.assertEqual(taking.end(), ("a", 5))
+        self.assertEqual(space.take("b"), ("b",))
+
+    def test_kill_under_a_choice_of_two(self) -> None:
+        left, right = self.serve("left"), self.serve("right")
+        space = self.space(left, right)
+        choosing = Going(lambda: space.choose(In("a", INT).wrap(1).nack(4), Rd("b").nack(5), timeout=PATIENCE))
+        time.sleep(0.1)
+        left.kill()
+        self.assertEqual(self.space(right, client=8).out("a", 1), (0, 1))
+        self.assertEqual(choosing.end(), Outcome(0, "took", (1,), (5,), 1, 1, ("a", 1), (1,)))
+        again = self.serve("left", left.port)
+        self.assertEqual(self.space(again, client=9).out("c"), (0, 1))
+        self.assertEqual(space.take("c"), ("c",))
+
+    def test_kills_under_outs_and_takes(self) -> None:
+        server = self.serve()
+        putter, taker = self.space(server, client=7), self.space(server, client=8)
+        putting = Going(lambda: [putter.out("n", number) for number in range(300)])
+        taking = Going(lambda: [taker.take("n", INT)[1] for _ in range(300)])
+        for _ in range(3):
+            time.sleep(0.05)
+            server.kill()
+            server = self.serve(port=server.port)
+        self.assertEqual(putting.end(), [(0, place) for place in range(1, 301)])
+        self.assertEqual(sorted(taking.end()), list(range(300)))
+        self.assertIsNone(taker.read("n", ANY, timeout=0.05))
+
+    def test_last_reply_of_an_earlier_life(self) -> None:
+        server = self.serve()
+        with Space([server.port], 7) as space:
+            self.assertIsNone(space.last_reply())
+            space.out("a", 1)
+            self.assertEqual(space.last_reply(), Kept(0, 1, "stored", 1))
+            space.take("a", INT)
+            self.assertEqual(space.last_reply(), Kept(0, 2, "taken", 1, ("a", 1)))
+        server.kill()
+        server = self.serve(port=server.port)
+        with Space([server.port], 7) as space:
+            self.assertEqual(space.last_reply(), Kept(0, 2, "taken", 1, ("a", 1)))
+            self.assertEqual(space.out("b"), (0, 2))
+            self.assertEqual(space.last_reply(), Kept(0, 3, "stored", 2))
+        peer = Peer(server.port)
+        self.assertEqual(peer.greet(7), 3)
+        self.assertEqual(peer.ask(frames.accept(4, 1, 2)), ("Gone", {"number": 4}))
+        peer.close()
+        with Space([server.port], 7) as space:
+            self.assertEqual(space.last_reply(), Kept(0, 4, "gone"))
+            self.assertEqual(space.take("b"), ("b",))
+            for wrong in (1, -1, "0"):
+                with self.assertRaises(OutOfRange):
+                    space.last_reply(wrong)  # type: ignore[arg-type]
+
+    def refused(self, call: Callable[[], Any], server: int, name: str, detail: int) -> None:
+        with self.assertRaises(Refused) as caught:
+            call()
+        self.assertEqual((caught.exception.server, caught.exception.name, caught.exception.detail), (server, name, detail))
+
+    @staticmethod
+    def not_busy(call: Callable[[], Any]) -> Callable[[], Any]:
+        """The call, again while a server has not seen yet that an earlier connection ended."""
+        def patient() -> Any:
+            until = time.monotonic() + PATIENCE
+            while True:
+                try:
+                    return call()
+                except Refused as fault:
+                    if fault.name != "Busy" or time.monotonic() > until:
+                        raise
+                time.sleep(0.01)
+        return patient
+
+    def test_refused_greetings(self) -> None:
+        left, right = self.serve("left"), self.serve("right")
+        with Space([left.port, right.port], 7, fresh=True) as space:
+            space.out("a")
+            self.refused(lambda: Space([right.port], 7, fresh=True), 0, "Busy", 0)
+        with mock.patch.object(linda_space, "VERSION", 2):
+            self.refused(lambda: self.space(left, client=8), 0, "Version", 1)
+        self.refused(self.not_busy(lambda: Space([left.port, right.port], 7, fresh=True)), 1, "Known", 1)
+        self.assertEqual(self.space(left, right).out("b"), (1, 2))
+
+    def test_busy_is_tried_again(self) -> None:
+        server = self.serve()
+        peer = Peer(server.port)
+        peer.greet(7)
+        greeting = Going(lambda: self.space(server))
+        time.sleep(0.1)
+        peer.close()
+        self.assertEqual(greeting.end().out("a"), (0, 1))
+
+    def test_no_connection(self) -> None:
+        server = self.serve()
+        with socket.socket() as taken:
+            taken.bind(("127.0.0.1", 0))
+            begin = time.monotonic()
+            with self.assertRaises(NoConnection) as caught:
+                Space([server.port, taken.getsockname()[1]], 7)
+        self.assertEqual(caught.exception.server, 1)
+        self.assertLess(time.monotonic() - begin, 5)
+        self.assertEqual(self.space(server).out("a"), (0, 1))
+
+    def test_too_many_clients(self) -> None:
+        server = self.serve()
+        early = self.space(server, client=5_000)
+        for client in range(1_024):
+            peer = Peer(server.port)
+            peer.send(frames.hello(client, True) + frames.out(1, "a"))
+            self.assertEqual([peer.receive()[0] for _ in range(2)], ["Welcome", "Stored"])
+            peer.close()
+        self.refused(lambda: Space([server.port], 2_000), 0, "TooManyClients", 1_024)
+        self.refused(lambda: early.out("b"), 0, "TooManyClients", 1_024)
+        self.assertIsNone(early.pending)
+        self.refused(lambda: early.take("a"), 0, "TooManyClients", 1_024)
+        self.assertEqual(early.pending, "sync")
+        with self.assertRaises(Busy):
+            early.abandon()
+
+    def test_another_program_uses_the_number(self) -> None:
+        server = self.serve()
+        space = self.space(server)
+        space.out("a")
+        server.kill()
+        server = self.serve(port=server.port)
+        peer = Peer(server.port)
+        peer.greet(7)
+        peer.send(frames.out(2, "x") + frames.out(3, "y"))
+        self.assertEqual([peer.receive()[0] for _ in range(2)], ["Stored"] * 2)
+        peer.close()
+        self.refused(lambda: space.out("b"), 0, "Old", 3)
+        self.assertIsNone(space.pending)
+        server.kill()
+        self.serve("other", server.port)
+        self.refused(lambda: space.out("b"), 0, "Gap", 0)
+        self.assertIsNone(space.read("b", timeout=0.05))
+
+    def test_goes_on_after_too_many_tries(self) -> None:
+        server = self.serve()
+        space = self.space(server)
+        space.out("a", 0)
+        server.kill()
+        with mock.patch.object(linda_space, "MOST_TRIES", 20):
+            for call in (lambda: space.out("a", 1), space.again):
+                with self.assertRaises(NoConnection):
+                    call()
+                self.assertEqual(space.pending, "out")
+        for call in (lambda: space.out("a", 2), lambda: space.take("a"), space.last_reply):
+            with self.assertRaises(Busy):
+                call()
+        with self.assertRaises(Idle):
+            space.abandon()
+        server = self.serve(port=server.port)
+        self.assertEqual(space.again(), Stored(0, 2))
+        with self.assertRaises(Idle):
+            space.again()
+        self.assertEqual([space.take("a", 1), space.take("a", 0)], [("a", 1), ("a", 0)])
+        self.assertIsNone(space.read("a", ANY, timeout=0.05))
+
+    def test_abandons_or_goes_on_with_a_take(self) -> None:
+        server = self.serve()
+        space, other = self.space(server), self.space(server, client=8)
+        server.kill()
+        with mock.patch.object(linda_space, "MOST_TRIES", 20), self.assertRaises(NoConnection):
+            space.choose(In("a").nack(3), Rd("b").nack(4))
+        self.assertEqual((space.pending, space.abandon(), space.pending), ("sync", (3, 4), None))
+        with mock.patch.object(linda_space, "MOST_TRIES", 20), self.assertRaises(NoConnection):
+            space.take("a", INT)
+        server = self.serve(port=server.port)
+        other.out("a", 6)
+        self.assertEqual(space.again(), Outcome(0, "took", (), (), 0, 1, ("a", 6), (6,)))
+        other.out("a", 7)
+        self.assertEqual(other.take("a", INT), ("a", 7))
+
+    def test_goes_on_after_an_interrupt(self) -> None:
+        server = self.serve()
+        due: List[BaseException] = []
+
+        def clock() -> int:
+            if due:
+                raise due.pop()
+            return 0
+
+        space, other = self.space(server, clock=clock), self.space(server, client=8)
+        other.out("a", 1)
+        due.append(KeyboardInterrupt())
+        with self.assertRaises(KeyboardInterrupt):
+            space.out("b")
+        self.assertEqual((space.pending, space.again(), space.take("a", INT)), ("out", Stored(0, 2), ("a", 1)))
+        self.assertEqual(other.take("b"), ("b",))
+
+    def test_values_at_their_limits(self) -> None:
+        space = self.space(self.serve())
+        values = [(-(1 << 63), (1 << 63) - 1, 0, -1, True, False, "", "x" * 255, "é" * 127, "\U0001f600" * 63, "\0\n\t\"\\"),
+                  ("x" * 255, *["y" * 255] * 16), (True,), (0,), ("",)]
+        for place, (tag, *fields) in enumerate(values):
+            self.assertEqual(space.out(tag, *fields), (0, place + 1))
+            for call in (space.read, space.take):
+                for patterns in (fields, [ANY] * len(fields), [{int: INT, str: TEXT, bool: BOOL}[type(item)] for item in fields]):
+                    if call == space.read or patterns is fields:
+                        found = call(tag, *patterns, timeout=PATIENCE)
+                        self.assertEqual((found, list(map(type, found))), ((tag, *fields), list(map(type, (tag, *fields)))))
+
+    def test_nothing_is_sent_after_a_wrong_value(self) -> None:
+        space = self.space(self.serve())
+        wrong = [1 << 63, -(1 << 63) - 1, "x" * 256, "é" * 128, "\ud800", 1.5, None, b"x", ("a",), ["a"]]
+        calls: List[Callable[[], Any]] = [lambda tag=tag: space.out(tag) for tag in [*wrong, INT, ANY]]
+        calls += [lambda item=item: space.out("a", item) for item in [*wrong, INT]]
+        calls += [lambda item=item, call=call: call("a", item) for item in wrong for call in (space.take, space.read)]
+        calls += [lambda call=call: call("a", *range(17)) for call in (space.out, space.take, space.read)]
+        calls += [lambda seconds=seconds: space.take("a", timeout=seconds) for seconds in (-1, float("nan"), float("inf"), 1e30, "1")]
+        calls += [lambda: space.take(INT), lambda: space.choose("a"), lambda: space.sync(("in", "a")), lambda: Wrap(1, "a"), lambda: Nack(1, None)]
+        calls += [lambda: Alarm(-1), lambda: Alarm(1 << 64), lambda: Wrap(-1, Never()), lambda: Nack(1 << 64, Never()), lambda: Always(1 << 63)]
+        calls += [lambda ports=ports: Space(ports, 1) for ports in ([], [7000] * 17, [0], [65_536], ["7000"])]
+        calls += [lambda client=client: Space([7000], client) for client in (-1, 1 << 32, True, "7")]
+        for place, call in enumerate(calls):
+            with self.subTest(place=place), self.assertRaises(OutOfRange):
+                call()
+        self.assertEqual((space.pending, space.last_reply(), space.out("a")), (None, None, (0, 1)))
+
+    def test_events_at_their_limits(self) -> None:
+        space = self.space(self.serve())
+        space.out("a")
+
+        def under(depth: int) -> Choose:
+            event = Choose(Rd("a"))
+            for label in range(depth - 1):
+                event = Choose(Wrap(label, event)) if label % 2 else Choose(event)
+            return event
+
+        deep = Rd("a")
+        for label in range(64):
+            deep = deep.wrap(label)
+        self.assertEqual(space.sync(deep).labels, tuple(range(64)))
+        for event in (deep.wrap(64), deep.nack(1), Choose(deep), Choose(Always(1), deep.wrap(1))):
+            with self.assertRaisesRegex(OutOfRange, "64 nodes"):
+                space.sync(event)
+        self.assertEqual(space.choose(*[In("b")] * 62, Rd("a"), timeout=PATIENCE).base, 62)
+        self.assertEqual(space.choose(*[In("b")] * 64, *[Never()] * 191, Alarm(0)).base, 255)
+        for event in (Choose(*[Rd("a")] * 65), Choose(Always(1), *[Never()] * 256)):
+            with self.assertRaisesRegex(OutOfRange, "256 bases"):
+                space.sync(event)
+        empty: Any = Choose()
+        for _ in range(5_000):
+            empty = Choose(empty)
+        self.assertEqual(space.choose(empty, Rd("a")).base, 0)
+        self.assertEqual((space.pending, space.take("a")), (None, ("a",)))
+
+
+WELCOME = frames.frame(b"\x11" + bytes(8))
+
+
+class OverPairs(unittest.TestCase):
+    """Servers that say what they do not say over the program, over socket pairs."""
+
+    def space(self, *told: bytes) -> Space:
+        """A space whose server welcomes it and then sends these bytes at the first connection, those at the second, and so on."""
+        self.pairs = [socket.socketpair() for _ in told]
+        for ours, theirs in self.pairs:
+            self.addCleanup(ours.close)
+            self.addCleanup(theirs.close)
+            ours.settimeout(PATIENCE)
+            ours.sendall(WELCOME)
+        made = iter([theirs for _, theirs in self.pairs])
+        space = Space([1], 7, connect=lambda _: next(made))
+        self.addCleanup(space.close)
+        for data, (ours, _) in zip(told, self.pairs):
+            ours.sendall(data)
+        return space
+
+    def sent(self, connection: int) -> bytes:
+        return self.pairs[connection][0].recv(65_536)
+
+    def test_no_frames_of_a_server(self) -> None:
+        item, offer = frames.spell_atom("a"), b"\x13" + bytes(16)
+        framed = [b"\x18", b"\x01", b"\x11" + bytes(7), b"\x11" + bytes(9), offer + item + b"\0\0", offer + b"\x04\0", offer + b"\x03\2\0",
+                  offer + b"\2\1\xff\0", offer + item + b"\x11" + b"\3\0" * 17, offer + item + b"\1\7", offer + item]
+        for data in (bytes(4), b"\0\1\0\0", b"\xff" * 4, *map(frames.frame, framed)):
+            with self.subTest(data=data.hex()):
+                space = self.space(data)
+                with self.assertRaises(BadReply):
+                    space.out("a")
+                self.assertEqual(space.pending, "out")
+
+    def test_a_bad_reply_ends_the_connection_and_it_goes_on_over_another(self) -> None:
+        space = self.space(frames.frame(b"\x18"), frames.frame(b"\x12" + frames.spell_number(1) + frames.spell_number(9)))
+        with self.assertRaises(BadReply):
+            space.out("a")
+        self.assertEqual((space.pending, space.again(), space.pending), ("out", Stored(0, 9), None))
+        self.assertEqual([self.sent(0), self.sent(1)], [frames.hello(7, False) + frames.out(1, "a")] * 2)
+
+    def test_goes_on_after_a_refusal(self) -> None:
+        refused = frames.frame(b"\x17\x0a" + frames.spell_number(1))
+        space = self.space(refused, frames.frame(b"\x14" + frames.spell_number(1) + frames.spell_number(3) + frames.spell_items("a", [True])))
+        with self.assertRaises(Refused) as caught:
+            space.choose(Rd("a", ANY).nack(1), In("b").wrap(2).nack(5))
+        self.assertEqual((caught.exception.name, caught.exception.detail, space.pending), ("TooManyAsks", 1, "sync"))
+        self.assertEqual(space.again(), Outcome(0, "read", (), (5,), 0, 3, ("a", True)))
+        asked = frames.hello(7, False) + frames.ask(1, False, "a", frames.ANY) + frames.ask(2, True, "b")
+        self.assertEqual([self.sent(0), self.sent(1)], [asked, asked + frames.cancel(1) + frames.cancel(2)])
+
+    def test_no_outcome_is_lost_by_an_interrupt(self) -> None:
+        taken = frames.spell_number(1) + frames.spell_number(3) + frames.spell_items("a", [8])
+        stored = frames.spell_number(2) + frames.spell_number(4)
+        space = self.space(frames.frame(b"\x13" + taken) + frames.frame(b"\x15" + taken), frames.frame(b"\x12" + stored))
+        send = Space._send
+
+        def interrupted(one: Space) -> None:
+            if one._machine.ended is not None:
+                raise KeyboardInterrupt
+            send(one)
+
+        with mock.patch.object(Space, "_send", interrupted), self.assertRaises(KeyboardInterrupt):
+            space.take("a", INT)
+        self.assertEqual(space.pending, "sync")
+        for call in (lambda: space.out("b"), space.abandon):
+            with self.assertRaises(Busy):
+                call()
+        self.assertEqual(space.again(), Outcome(0, "took", (), (), 0, 3, ("a", 8), (8,)))
+        self.assertEqual(space.out("b"), (0, 4))
+        asked = frames.hello(7, False) + frames.ask(1, True, "a", frames.INT) + frames.accept(1, 1, 3)
+        self.assertEqual([self.sent(0), self.sent(1)], [asked, frames.hello(7, False) + frames.out(2, "b")])
+
+
+# ---- recorded sessions
+
+class Watched(Space):
+    """A space that tells when it waits."""
+
+    waits: threading.Event
+
+    def _wait(self) -> None:
+        self.waits.set()
+        super()._wait()
+
+
+def pattern(item: Any) -> Any:
+    return {"?i": INT, "?s": TEXT, "?b": BOOL, "_": ANY}[item[0]] if isinstance(item, list) else item
+
+
+def event_of(told: list) -> linda_space.Event:
+    kind, *parts = told
+    if kind in ("in", "rd"):
+        return (In if kind == "in" else Rd)(*map(pattern, parts[0]))
+    if kind == "choose":
+        return Choose(*map(event_of, parts))
+    if kind in ("wrap", "nack"):
+        return (Wrap if kind == "wrap" else Nack)(parts[0], event_of(parts[1]))
+    return {"alarm": Alarm, "always": Always, "never": Never}[kind](*parts)
+
+
+def ends_of(value: Any) -> list:
+    """How a call ended, as the file tells it."""
+    if isinstance(value, Refused):
+        return ["refused", value.server, value.code, value.detail]
+    if isinstance(value, Kept):
+        return ["kept", value.kind, value.number, *([] if value.id is None else [value.id]), *([] if value.tuple is None else [list(value.tuple)])]
+    if isinstance(value, Outcome):
+        got = {"alarm": [], "always": [value.value]}.get(value.kind, [value.server, value.id, value.tuple and list(value.tuple), list(value.binds)])
+        return [value.kind, value.base, *got, list(value.labels), list(value.raised)]
+    raise value
+
+
+class Player:
+    """Plays the servers of a session step by step. The client is in a thread of its own, and does the calls of the session one after another."""
+
+    def __init__(self, session: dict) -> None:
+        self.session, self.now = session, 0
+        self.calls: queue.Queue = queue.Queue()
+        self.ends: queue.Queue = queue.Queue()
+        self.made: List[queue.Queue] = [queue.Queue() for _ in range(session["servers"])]
+        self.pairs: dict = {}
+        self.waits = threading.Event()
+        self.is_over = False
+        self.thread = threading.Thread(target=self.live, daemon=True)
+
+    # ---- the client
+
+    def connect(self, port: int) -> socket.socket:
+        if self.is_over:
+            raise RuntimeError("the session is over")
+        ours, theirs = socket.socketpair()
+        self.made[port - 1].put((ours, theirs))
+        return theirs
+
+    def live(self) -> None:
+        class Own(Watched):
+            waits = self.waits
+        try:
+            ports = range(1, self.session["servers"] + 1)
+            space = Own(ports, self.session["client"], fresh=self.session["fresh"], connect=self.connect, clock=lambda: self.now)
+        except BaseException as fault:
+            self.answer(fault)
+            return
+        with space:
+            while (call := self.calls.get()) is not None:
+                try:
+                    self.answer(self.do(space, *call))
+                except BaseException as fault:
+                    self.answer(fault)
+
+    def answer(self, value: Any) -> None:
+        self.ends.put(value)
+        self.waits.set()
+
+    @staticmethod
+    def do(space: Space, word: str, *parts: Any) -> Any:
+        if word == "out":
+            return ["stored", *space.out(*parts)]
+        if word in ("take", "read"):
+            found = getattr(space, word)(*map(pattern, parts[0]), timeout=parts[1])
+            return (word, found and list(found))
+        if word == "sync":
+            return space.sync(event_of(parts[0]))
+        if word == "last_reply":
+            return space.last_reply(*parts) or ["none"]
+        return ["dropped", list(space.abandon())]
+
+    # ---- the servers
+
+    def play(self) -> None:
+        self.thread.start()
+        try:
+            for place, step in enumerate(self.session["steps"]):
+                try:
+                    self.step(step)
+                except (AssertionError, OSError, queue.Empty) as fault:
+                    raise AssertionError(f"step {place}, {step}: {type(fault).__name__} {fault}") from fault
+        finally:
+            self.is_over = True
+            self.calls.put(None)
+            for ours, theirs in self.pairs.values():
+                ours.shutdown(socket.SHUT_WR)
+            self.thread.join(PATIENCE)
+        for server, (ours, theirs) in self.pairs.items():
+            rest = b""
+            while piece := ours.recv(65_536):
+                rest += piece
+            assert not rest, f"server {server} was sent more: {rest.hex()}"
+            ours.close()
+
+    def step(self, step: Any) -> None:
+        if isinstance(step, list):
+            self.end(step[1:]) if step[0] == "ends" else self.call(step)
+        elif step[0] == "@":
+            self.now = int(step[1:])
+        else:
+            word, server, *digits = step[0], *step[1:].split()
+            {"+": self.meet, "-": self.leave, ">": self.expect, "<": self.tell}[word](int(server), *map(bytes.fromhex, digits))
+
+    def call(self, words: list) -> None:
+        """The call has begun once the client waits for its end, or has told it."""
+        self.waits.clear()
+        self.calls.put(words)
+        assert self.waits.wait(PATIENCE), "the call does not begin"
+
+    def end(self, wanted: list) -> None:
+        found = self.ends.get(timeout=PATIENCE)
+        if isinstance(found, tuple):
+            found, wanted = found[1], wanted[4] if wanted[0] in ("took", "read") else None if wanted[0] == "alarm" else wanted
+        elif not isinstance(found, list):
+            found = ends_of(found)
+        assert json.dumps(found) == json.dumps(wanted), f"found {found}"
+
+    def meet(self, server: int) -> None:
+        if server in self.pairs:
+            self.pairs.pop(server)[0].close()
+        self.pairs[server] = self.made[server].get(timeout=PATIENCE)
+
+    def leave(self, server: int) -> None:
+        self.pairs.pop(server)[0].close()
+
+    def expect(self, server: int, data: bytes) -> None:
+        ours, found = self.pairs[server][0], b""
+        ours.settimeout(PATIENCE)
+        while len(found) < len(data):
+            piece = ours.recv(len(data) - len(found))
+            assert piece, f"the client ended the connection behind {found.hex()}"
+            found += piece
+        assert found == data, f"found {found.hex()}"
+
+    def tell(self, server: int, data: bytes) -> None:
+        """Sends, and waits until the client has read it: what another server sends after that comes after it."""
+        ours, theirs = self.pairs[server]
+        ours.sendall(data)
+        until = time.monotonic() + PATIENCE
+        while self.is_left(theirs):
+            assert time.monotonic() < until, "the client does not read"
+            time.sleep(0.0002)
+
+    @staticmethod
+    def is_left(stream: socket.socket) -> bool:
+        try:
+            return bool(stream.recv(1, socket.MSG_PEEK | socket.MSG_DONTWAIT))
+        except OSError:
+            return False
+
+
+class Recorded(unittest.TestCase):
+
+    def test_recorded_sessions(self) -> None:
+        sessions = json.loads((TOP / "examples/vectors.json").read_text())["clients"]
+        self.assertGreaterEqual(len(sessions), 200)
+        wrong: List[str] = []
+        for place, session in enumerate(sessions):
+            try:
+                Player(session).play()
+            except AssertionError as fault:
+                wrong.append(f"session {place}: {fault}")
+            if len(wrong) == 3:
+                break
+        self.assertEqual(wrong, [])
+
+
+if __name__ == "__main__":
+    unittest.main()
