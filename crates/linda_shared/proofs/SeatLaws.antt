@@ -1,10 +1,12 @@
 -- What an account was told, one message more.
-use Rattle.std.proofs.Common.{◌≡◌, ℕ, ◌+◌, ◌-◌, ◌≤◌, ◌^◌, min, List, [], ◌∷◌, ◌++◌, Option, Some, None, IfSome, IsSome, true≢false, refl, sym, ap, ◌∙◌, arith}
+use Rattle.std.proofs.Common.{◌≡◌, ◌⊎◌, inl, inr, subst, ℕ, ◌+◌, ◌-◌, ◌≤◌, ◌^◌, min, List, [], ◌∷◌, ◌++◌, Option, Some, None, IfSome, IsSome, true≢false, refl, sym, ap, ◌∙◌, arith}
 use Rattle.std.proofs.lemmas.List.Sums.{sum_by-cons}
 use Rattle.linda_wire.specs.declared.message.Message.{Message}
 use Rattle.linda_receipt.specs.declared.receipt.Receipt.{Receipt}
+use Rattle.linda_receipt.specs.declared.fault.SharedFault.{SharedFault}
+use Rattle.linda_receipt.specs.declared.fault.SharedFault.TheVariants as faults
 use Rattle.linda_receipt.specs.Account.{Account}
-use Rattle.linda_shared.specs.Seat.{with_asked, back, with_told, with_all, IsToldOf, AreToldOf, deeds_told}
+use Rattle.linda_shared.specs.Seat.{with_asked, back, with_told, with_all, IsToldOf, AreToldOf, IsLeftBy, deeds_told}
 
 pub all_snoc : (a : Account) (ts : List (Option Receipt)) (t : Option Receipt) → with_all a (ts ++ t ∷ []) ≡ with_told (with_all a ts) t
 all_snoc a [] t = refl
@@ -45,6 +47,25 @@ back_few a (Some r) = omega arith
 pub back_told : (a : Account) (t : Option Receipt) → with_asked (with_told (back a) t) 0 ≡ with_told (with_asked a 0) t
 back_told a None = refl
 back_told a (Some r) = refl
+
+-- ---- messages of which nothing was told
+
+nothing_told : List Message → List (Option Receipt)
+nothing_told [] = []
+nothing_told (m ∷ ms) = None ∷ nothing_told ms
+
+all_nothing : (a : Account) (ms : List Message) → with_all a (nothing_told ms) ≡ a
+all_nothing a [] = refl
+all_nothing a (m ∷ ms) = all_nothing a ms
+
+are_nothing : (c : ℕ) (ms : List Message) → AreToldOf c ms (nothing_told ms)
+are_nothing c [] = tt
+are_nothing c (m ∷ ms) = (tt, are_nothing c ms)
+
+pub nothing_left : (ms : List Message) (a : Account) (fault : SharedFault) (new : Account) → (fault ≡ faults.Down) ⊎ (fault ≡ faults.Memory) → new ≡ a → IsLeftBy ms a fault new
+nothing_left ms a fault new (inl is) same =
+    subst (λ f. IsLeftBy ms a f new) (sym is) (record { told = nothing_told ms; account = same ∙ sym (all_nothing a ms); deeds = are_nothing a.client ms })
+nothing_left ms a fault new (inr is) same = subst (λ f. IsLeftBy ms a f new) (sym is) same
 
 -- ---- what seats say that they were told
 

@@ -1,5 +1,5 @@
 -- A greeting is the server's.
-use Rattle.std.proofs.Common.{Ok, subst}
+use Rattle.std.proofs.Common.{Ok, sym, subst}
 use Rattle.linda_desk.specs.Greeting.{IsGreeted}
 use Rattle.linda_shared.proofs.shared.greet.admit.Goals as goal
 
@@ -18,5 +18,7 @@ returns-in-Ok-clause-greeted g c =
     record {
       state = held.server.store.state;
       places = held.till.places;
-      greeted = subst (λ a. IsGreeted held.server.store.state held.till.places c.args.message.now a) c.in-Ok.is c.in_ok-code.ensures.greeted;
+      greeted =
+          subst (λ account. IsGreeted held.server.store.state held.till.places c.args.message.now (Ok (account, c.in-Ok.last))) (sym c.new.ensures)
+          (subst (λ a. IsGreeted held.server.store.state held.till.places c.args.message.now a) c.in-Ok.is c.in_ok-code.ensures.greeted);
     }
