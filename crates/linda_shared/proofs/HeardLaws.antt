@@ -1,11 +1,11 @@
 -- One message more of a batch is heard.
-use Rattle.std.proofs.Common.{◌≡◌, ℕ, ◌+◌, ◌<◌, ◌≤◌, Bool, true, false, true≢false, cond, List, [], ◌∷◌, ◌++◌, length, length-append, Option, Some, None, IfSome, IfNone, refl, sym, ap, ◌∙◌, subst, inl, inr, arith}
+use Rattle.std.proofs.Common.{◌≡◌, ℕ, ◌+◌, ◌<◌, ◌≤◌, Bool, true, false, true≢false, cond, List, [], ◌∷◌, ◌++◌, length, length-append, Option, Some, None, IfSome, IfNone, refl, sym, ap, ◌∙◌, subst, arith}
 use Rattle.linda_wire.specs.declared.message.Message.{Message}
 use Rattle.linda_receipt.specs.declared.receipt.Receipt.{Receipt}
 use Rattle.linda_receipt.specs.declared.fault.SharedFault.{SharedFault}
 use Rattle.linda_receipt.specs.declared.fault.SharedFault.TheVariants as faults
 use Rattle.linda_receipt.specs.Account.{Account}
-use Rattle.linda_shared.specs.Seat.{with_asked, back, with_deed, with_told, with_all, IsToldOf, IsLost, IsLeft, AreLost, IsLeftBy}
+use Rattle.linda_shared.specs.Seat.{with_asked, back, with_deed, with_told, IsToldOf, IsLost, IsLeft, AreLost, IsLeftBy}
 use Rattle.linda_shared.specs.Heard.{is_severe, is_receipt, worse_fault, told_fault, UnlessReceipt, IsFaultOf, IsToldAll, HasNoted, HasHeard}
 use Rattle.linda_shared.proofs.SeatLaws.{all_snoc, all_asked, told_snoc, back_client, back_asked, back_more, back_few, back_told}
 

@@ -50,7 +50,7 @@ back_told a (Some r) = refl
 
 -- ---- messages of which nothing was told
 
-nothing_told : List Message → List (Option Receipt)
+abbrev nothing_told : List Message → List (Option Receipt)
 nothing_told [] = []
 nothing_told (m ∷ ms) = None ∷ nothing_told ms
 

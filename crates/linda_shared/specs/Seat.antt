@@ -57,8 +57,8 @@ AreToldOf c [] (t ∷ ts) = ⊥
 AreToldOf c (m ∷ ms) [] = ⊥
 AreToldOf c (m ∷ ms) (t ∷ ts) = IsToldOf c m t × AreToldOf c ms ts
 
--- An answer was lost, and the account was told what it said: nothing, or a deed that the message asks for, whose receipt
--- joined the ring behind the others.
+-- An answer was lost, and the account was told what it said: nothing, or a deed that the message asks for, whose
+-- receipt joined the ring behind the others.
 pub record IsLost (m : Message) (a new : Account) : Type 0 where
   pub told : Option Receipt
   pub account : new ≡ with_told a told
@@ -76,8 +76,8 @@ IsLeft m a (faults.Stuck client) new = new ≡ a
 IsLeft m a faults.NoThread new = new ≡ a
 IsLeft m a faults.Memory new = new ≡ a
 
--- Answers were lost, and the account was told what they said: of each message nothing, or a deed that it asks for, whose
--- receipt joined the ring.
+-- Answers were lost, and the account was told what they said: of each message nothing, or a deed that it asks for,
+-- whose receipt joined the ring.
 pub record AreLost (ms : List Message) (a new : Account) : Type 0 where
   pub told : List (Option Receipt)
   pub account : new ≡ with_all a told

@@ -37,8 +37,8 @@ impl<D: Disk, L: Ledger> Shared<D, L> {
         greeted
     }
 
-    // Greets whoever comes. A mailbox for it is made first, and its place in the office: so the desk is asked only where
-    // there is memory for them.
+    // Greets whoever comes. A mailbox for it is made first, and its place in the office: so the desk is asked only
+    // where there is memory for them.
     fn welcome<R: Wait>(
         &self,
         rt: &R,

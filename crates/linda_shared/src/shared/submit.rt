@@ -36,8 +36,8 @@ impl<D: Disk, L: Ledger> Shared<D, L> {
         ensures next { IfOk result (λ o. IfSome o (IsNext seat.old.client seat.old.ring)) }
         // its deed is one that the message asks for.
         ensures deed { IfOk result (IsToldOf seat.old.client message.now) }
-        // Else the seat is as before, but for `Receipt`, and for `Down` where the answer was lost: a deed of that has its
-        // receipt in the ring.
+        // Else the seat is as before, but for `Receipt`, and for `Down` where the answer was lost: a deed of that has
+        // its receipt in the ring.
         ensures err { IfErr result (λ fault. IsLeft message.now seat.old fault seat.new) }
     {
         if let Message::Hello { .. } = message {

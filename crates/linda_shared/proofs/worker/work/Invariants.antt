@@ -1,4 +1,3 @@
-use Rattle.std.proofs.Common.{◌≡◌, ℕ, ◌+◌, ◌-◌, ◌*◌, ◌<◌, ◌≤◌, length}
 use Rattle.linda_shared.specs.Working.{HasWorked}
 use Rattle.linda_shared.proofs.worker.work.Given as goal
 

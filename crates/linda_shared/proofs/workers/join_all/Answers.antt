@@ -1,4 +1,4 @@
-use Rattle.std.proofs.Common.{arith, ◌≡◌, ◌∙◌, sym, ap, [], ◌∷◌, ◌++◌, length, append_assoc}
+use Rattle.std.proofs.Common.{arith, ◌∙◌, sym, ap, [], ◌∷◌, ◌++◌, length, append_assoc}
 use Rattle.linda_shared.specs.Working.{HasWorked}
 use Rattle.linda_shared.proofs.WorkingLaws.{worked_more}
 use Rattle.linda_shared.proofs.workers.join_all.Goals as goal
