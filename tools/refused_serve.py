@@ -32,6 +32,8 @@ TRIES = 200
 BUSY, DOWN = 3, 8
 LAST_WORDS = ("memory\n", "store: down\n")
 LOOKERS = 100
+# So many tuples are left at the end of the day.
+LEFT = 64
 
 
 class Difference(Exception):
@@ -239,17 +241,24 @@ def play(program: Program) -> tuple[list, dict[int, tuple], int]:
 
 
 def left_over(program: Program) -> dict[int, tuple]:
-    """The tuples that nobody took, by their ids; asked for again where the growth that is refused is one of this asking."""
+    """The tuples that nobody took, by their ids; asked for again where the growth that is refused is one of this asking, until all are free again."""
+    tuples: dict[int, tuple] = {}
     for _ in range(TRIES):
         if program.process and program.has_ended():
             program.end()
         program.start()
         try:
             tuples = listing(program.port, frames.spell_items("job", (frames.INT,)), LOOKERS)
-            return tuples | listing(program.port, frames.spell_items("a", (frames.INT,)), LOOKERS)
+            tuples |= listing(program.port, frames.spell_items("a", (frames.INT,)), LOOKERS)
+            if len(tuples) == LEFT:
+                break
         except ConnectionError:
-            time.sleep(0.005)
-    raise Difference(f"{TRIES} times the tuples could not be listed")
+            pass
+        except ValueError as fault:
+            if not str(fault).startswith("Refused Down"):
+                raise Difference(str(fault)) from None
+        time.sleep(0.005)
+    return tuples
 
 
 def are_alike(came: list, wanted: list) -> bool:
@@ -276,7 +285,7 @@ def main() -> None:
     malloc = sys.argv[1]
     growth, step = (int(word) for word in [*sys.argv[2:], *["1", "1"][len(sys.argv) - 2:]])
     wanted, _, starts, _ = run(malloc, 0)
-    if starts != 1 or len(wanted[0]) != 3 + 1 + 1 + 64 + 1 + 1 + 1 or len(wanted[1]) != 64:
+    if starts != 1 or len(wanted[0]) != 3 + 1 + 1 + 64 + 1 + 1 + 1 or len(wanted[1]) != LEFT:
         sys.exit(f"with nothing refused: {wanted}, {starts} starts")
     refused = ended = turned_away = none_left = 0
     while none_left < 3:

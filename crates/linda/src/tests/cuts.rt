@@ -7,11 +7,11 @@ use crate::faults::PipeFault;
 use linda_shell::ScriptFault;
 use linda_store::{ConverseFault, End};
 
-/// Where a message ends that is answered, in the stream and in the replies: the next bytes are of no whole one.
-type Ends = [(usize, usize)];
+/// Where messages end that are answered, in the stream and in the replies: the next bytes are of no whole one.
+type Ends<'a> = &'a [(usize, usize)];
 
 /// How much is there of the stream, or was read of it, where the last whole message ends at this place or before it.
-fn reached(ends: &Ends, at: usize) -> (usize, usize) {
+fn reached(ends: Ends, at: usize) -> (usize, usize) {
     let mut reached = (0, 0);
     for end in ends {
         if end.0 <= at {
@@ -22,7 +22,7 @@ fn reached(ends: &Ends, at: usize) -> (usize, usize) {
 }
 
 /// How much of the stream was read where the writer had room for so much.
-fn read_for(ends: &Ends, room: usize) -> usize {
+fn read_for(ends: Ends, room: usize) -> usize {
     for end in ends {
         if room < end.1 {
             return end.0;
@@ -37,7 +37,7 @@ fn front(bytes: &[u8], len: usize) -> &[u8] {
 }
 
 /// The lines that end a message, with the replies.
-const LINES: &Ends = &[(0, 0), (24, 27), (77, 70), (130, 113), (183, 142)];
+const LINES: Ends = &[(0, 0), (24, 27), (77, 70), (130, 113), (183, 142)];
 
 #[test]
 fn a_pipe_writes_a_front_where_its_writer_fails(rt: HostRuntime) {
@@ -89,7 +89,7 @@ const ANSWERS: &[u8] = b"\0\0\0\x09\x11\0\0\0\0\0\0\0\0\
     \0\0\0\x11\x12\0\0\0\0\0\0\0\x01\0\0\0\0\0\0\0\x01\
     \0\0\0\x0a\x17\x05\0\0\0\0\0\0\0\x01";
 
-const FRAMES: &Ends = &[(0, 0), (11, 13), (37, 34), (63, 55), (89, 69)];
+const FRAMES: Ends = &[(0, 0), (11, 13), (37, 34), (63, 55), (89, 69)];
 
 #[test]
 fn a_conversation_writes_a_front_where_its_writer_fails(rt: HostRuntime) {
@@ -146,7 +146,7 @@ const PRINTED: &str = "7 stored 0 1\n\
     client 7 1 stored 1\n\
     client 8 1 taken 1 (\"a\", 3)\n";
 
-const COMMANDS: &Ends = &[(0, 0), (15, 13), (35, 63), (43, 146)];
+const COMMANDS: Ends = &[(0, 0), (15, 13), (35, 63), (43, 146)];
 
 #[test]
 fn a_script_prints_a_front_where_its_writer_fails(rt: HostRuntime) {
