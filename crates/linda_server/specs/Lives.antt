@@ -96,8 +96,8 @@ module _ {D : Type 0} {g : Ghosts D} where
     pub soft_is : s.store.soft ≡ no_asks
     pub is_up : s.down ≡ false
 
-  -- All lives: the deeds so far, all that was sent, and the phase. A call that finds no room and one of a server that is
-  -- down leave the server as it was, and are no step of it.
+  -- All lives: the deeds so far, all that was sent, and the phase. A call that finds no room and one of a server that
+  -- is down leave the server as it was, and are no step of it.
   pub data Life : List Deed → List (ℕ × Reply) → Phase g → Type 0 where
     made : (s : Durable D g) → IsNew s → Life [] [] (Serving s)
     -- a making that was cut off, or failed (`create`: `any_moment`), and an opening that found a server all the same
