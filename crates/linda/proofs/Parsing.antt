@@ -205,6 +205,13 @@ serve_stops rest =
     let start = walked top.rules (names_of (built linda)) (walk_from nothing_held) (codes "serve") in
     ap (λ (w : Walk). w.stopped) (walk_stopped top.rules (names_of (built linda)) start (codes "serve") [] rest)
 
+-- and behind `inspect`
+inspect_stops : (rest : List Text) → Some (codes "inspect", rest) ≡ (walk top.rules (names_of (built linda)) nothing_held (codes "inspect" ∷ rest)).stopped
+unfolding walked
+inspect_stops rest =
+    let start = walked top.rules (names_of (built linda)) (walk_from nothing_held) (codes "inspect") in
+    ap (λ (w : Walk). w.stopped) (walk_stopped top.rules (names_of (built linda)) start (codes "inspect") [] rest)
+
 behind_run : (rest : List Text) → built_fault (built linda) nothing_held (codes "run" ∷ rest) ≡ [] → level_fault runner [] nothing_held rest false [] ≡ []
 behind_run rest e = ap (entered_fault (built linda)) (run_stops rest) ∙ first_empty _ _ (second_empty _ _ e)
 
@@ -238,9 +245,14 @@ pub record ServesOn (words : List Text) : Type 0 where
   pub rest : List Text
   pub spelled : words ≡ codes "serve" ∷ rest
 
+-- words that begin with `inspect`
+pub record InspectsOn (words : List Text) : Type 0 where
+  pub rest : List Text
+  pub spelled : words ≡ codes "inspect" ∷ rest
+
 -- the words behind the program's name, where no fault may come
 passing : (words : List Text) → built_fault (built linda) nothing_held words ≡ []
-    → ((words ≡ codes "pipe" ∷ []) ⊎ (words ≡ codes "pipe" ∷ codes "--" ∷ [])) ⊎ (RunsOn words ⊎ (CallsOn words ⊎ ServesOn words))
+    → ((words ≡ codes "pipe" ∷ []) ⊎ (words ≡ codes "pipe" ∷ codes "--" ∷ [])) ⊎ (RunsOn words ⊎ (CallsOn words ⊎ (ServesOn words ⊎ InspectsOn words)))
 unfolding walk_fault
 passing [] e = absurd (no_words e)
 passing (w ∷ rest) e = at_pipe (bytes_eq (codes "pipe") w) refl
@@ -253,40 +265,47 @@ passing (w ∷ rest) e = at_pipe (bytes_eq (codes "pipe") w) refl
     behind is (inr end) = inr (rw (is, end) refl)
 
     at_end : (b : Bool) → bytes_eq w (codes "--") ≡ b → bytes_eq (codes "pipe") w ≡ false → bytes_eq (codes "run") w ≡ false
-        → bytes_eq (codes "call") w ≡ false → bytes_eq (codes "serve") w ≡ false → bytes_eq (codes "help") w ≡ false → ⊥
-    at_end true t no_pipe no_run no_call no_serve no_help = no_command rest (to (codes "--") ((bytes_eq-Decides w (codes "--")).0 t))
-    at_end false t no_pipe no_run no_call no_serve no_help =
+        → bytes_eq (codes "call") w ≡ false → bytes_eq (codes "serve") w ≡ false → bytes_eq (codes "inspect") w ≡ false → bytes_eq (codes "help") w ≡ false → ⊥
+    at_end true t no_pipe no_run no_call no_serve no_inspect no_help = no_command rest (to (codes "--") ((bytes_eq-Decides w (codes "--")).0 t))
+    at_end false t no_pipe no_run no_call no_serve no_inspect no_help =
         let first : turn_fault top (names_of (built linda)) (walk_from nothing_held) w ≡ [] = first_empty _ _ (first_empty _ _ e) in
-        let turn : other_turn top w ≡ [] = rw (no_pipe, no_run, no_call, no_serve, no_help) at first in
+        let turn : other_turn top w ≡ [] = rw (no_pipe, no_run, no_call, no_serve, no_inspect, no_help) at first in
         other_refused top w t turn
 
     at_help : (b : Bool) → bytes_eq (codes "help") w ≡ b → bytes_eq (codes "pipe") w ≡ false → bytes_eq (codes "run") w ≡ false
-        → bytes_eq (codes "call") w ≡ false → bytes_eq (codes "serve") w ≡ false → ⊥
-    at_help true t no_pipe no_run no_call no_serve = help_wanted rest (to (codes "help") (sym ((bytes_eq-Decides (codes "help") w).0 t)))
-    at_help false t no_pipe no_run no_call no_serve = at_end (bytes_eq w (codes "--")) refl no_pipe no_run no_call no_serve t
+        → bytes_eq (codes "call") w ≡ false → bytes_eq (codes "serve") w ≡ false → bytes_eq (codes "inspect") w ≡ false → ⊥
+    at_help true t no_pipe no_run no_call no_serve no_inspect = help_wanted rest (to (codes "help") (sym ((bytes_eq-Decides (codes "help") w).0 t)))
+    at_help false t no_pipe no_run no_call no_serve no_inspect = at_end (bytes_eq w (codes "--")) refl no_pipe no_run no_call no_serve no_inspect t
+
+    at_inspect : (b : Bool) → bytes_eq (codes "inspect") w ≡ b → bytes_eq (codes "pipe") w ≡ false → bytes_eq (codes "run") w ≡ false
+        → bytes_eq (codes "call") w ≡ false → bytes_eq (codes "serve") w ≡ false → InspectsOn (w ∷ rest)
+    at_inspect true t no_pipe no_run no_call no_serve =
+        let is = sym ((bytes_eq-Decides (codes "inspect") w).0 t) in
+        record { rest = rest; spelled = ap (λ (x : Text). x ∷ rest) is }
+    at_inspect false t no_pipe no_run no_call no_serve = absurd (at_help (bytes_eq (codes "help") w) refl no_pipe no_run no_call no_serve t)
 
     at_serve : (b : Bool) → bytes_eq (codes "serve") w ≡ b → bytes_eq (codes "pipe") w ≡ false → bytes_eq (codes "run") w ≡ false
-        → bytes_eq (codes "call") w ≡ false → ServesOn (w ∷ rest)
+        → bytes_eq (codes "call") w ≡ false → ServesOn (w ∷ rest) ⊎ InspectsOn (w ∷ rest)
     at_serve true t no_pipe no_run no_call =
         let is = sym ((bytes_eq-Decides (codes "serve") w).0 t) in
-        record { rest = rest; spelled = ap (λ (x : Text). x ∷ rest) is }
-    at_serve false t no_pipe no_run no_call = absurd (at_help (bytes_eq (codes "help") w) refl no_pipe no_run no_call t)
+        inl (record { rest = rest; spelled = ap (λ (x : Text). x ∷ rest) is })
+    at_serve false t no_pipe no_run no_call = inr (at_inspect (bytes_eq (codes "inspect") w) refl no_pipe no_run no_call t)
 
     at_call : (b : Bool) → bytes_eq (codes "call") w ≡ b → bytes_eq (codes "pipe") w ≡ false → bytes_eq (codes "run") w ≡ false
-        → CallsOn (w ∷ rest) ⊎ ServesOn (w ∷ rest)
+        → CallsOn (w ∷ rest) ⊎ (ServesOn (w ∷ rest) ⊎ InspectsOn (w ∷ rest))
     at_call true t no_pipe no_run =
         let is = sym ((bytes_eq-Decides (codes "call") w).0 t) in
         inl (record { rest = rest; spelled = ap (λ (x : Text). x ∷ rest) is })
     at_call false t no_pipe no_run = inr (at_serve (bytes_eq (codes "serve") w) refl no_pipe no_run t)
 
-    at_run : (b : Bool) → bytes_eq (codes "run") w ≡ b → bytes_eq (codes "pipe") w ≡ false → RunsOn (w ∷ rest) ⊎ (CallsOn (w ∷ rest) ⊎ ServesOn (w ∷ rest))
+    at_run : (b : Bool) → bytes_eq (codes "run") w ≡ b → bytes_eq (codes "pipe") w ≡ false → RunsOn (w ∷ rest) ⊎ (CallsOn (w ∷ rest) ⊎ (ServesOn (w ∷ rest) ⊎ InspectsOn (w ∷ rest)))
     at_run true t no_pipe =
         let is = sym ((bytes_eq-Decides (codes "run") w).0 t) in
         inl (record { rest = rest; spelled = ap (λ (x : Text). x ∷ rest) is; passes = behind_run rest (to (codes "run") is) })
     at_run false t no_pipe = inr (at_call (bytes_eq (codes "call") w) refl no_pipe t)
 
     at_pipe : (b : Bool) → bytes_eq (codes "pipe") w ≡ b
-        → ((w ∷ rest ≡ codes "pipe" ∷ []) ⊎ (w ∷ rest ≡ codes "pipe" ∷ codes "--" ∷ [])) ⊎ (RunsOn (w ∷ rest) ⊎ (CallsOn (w ∷ rest) ⊎ ServesOn (w ∷ rest)))
+        → ((w ∷ rest ≡ codes "pipe" ∷ []) ⊎ (w ∷ rest ≡ codes "pipe" ∷ codes "--" ∷ [])) ⊎ (RunsOn (w ∷ rest) ⊎ (CallsOn (w ∷ rest) ⊎ (ServesOn (w ∷ rest) ⊎ InspectsOn (w ∷ rest))))
     at_pipe true t =
         let is = sym ((bytes_eq-Decides (codes "pipe") w).0 t) in
         inl (behind is (leaf_words rest (behind_pipe rest (to (codes "pipe") is))))
@@ -317,14 +336,21 @@ pub record AsksToServe (words : List Text) : Type 0 where
   pub later : List Text
   pub spelled : words ≡ name ∷ codes "serve" ∷ later
 
--- where no fault may come, the words ask for the pipe, or they ask for a run, for a call or to serve
-pub asked : (words : List Text) → fault_of linda words ≡ [] → AsksForPipe words ⊎ (AsksToRun words ⊎ (AsksToCall words ⊎ AsksToServe words))
+-- the words are a program's name and words that begin with `inspect`
+pub record AsksToInspect (words : List Text) : Type 0 where
+  pub name : Text
+  pub later : List Text
+  pub spelled : words ≡ name ∷ codes "inspect" ∷ later
+
+-- where no fault may come, the words ask for the pipe, or they ask for a run, for a call, to serve or to inspect
+pub asked : (words : List Text) → fault_of linda words ≡ [] → AsksForPipe words ⊎ (AsksToRun words ⊎ (AsksToCall words ⊎ (AsksToServe words ⊎ AsksToInspect words)))
 asked [] e = absurd (no_words e)
 asked (name ∷ rest) e = elim (passing rest e) [
   | inl h ↦ inl (named_pipe name rest h)
   | inr (inl h) ↦ inr (inl (record { name = name; later = rest; spelled = refl; runs = h }))
   | inr (inr (inl h)) ↦ inr (inr (inl (record { name = name; later = h.rest; spelled = ap (λ (xs : List Text). name ∷ xs) h.spelled })))
-  | inr (inr (inr h)) ↦ inr (inr (inr (record { name = name; later = h.rest; spelled = ap (λ (xs : List Text). name ∷ xs) h.spelled })))
+  | inr (inr (inr (inl h))) ↦ inr (inr (inr (inl (record { name = name; later = h.rest; spelled = ap (λ (xs : List Text). name ∷ xs) h.spelled }))))
+  | inr (inr (inr (inr h))) ↦ inr (inr (inr (inr (record { name = name; later = h.rest; spelled = ap (λ (xs : List Text). name ∷ xs) h.spelled }))))
 ]
 
 pub is_free : is_simple_and_free linda ≡ true
@@ -359,6 +385,12 @@ serve_named name rest = sym (ap (λ o. option_map (λ p. p.0) (entered (built li
 
 pub named_serve : (words : List Text) → AsksToServe words → name_met words ≡ Some (codes "serve")
 named_serve words a = ap name_met a.spelled ∙ serve_named a.name a.later
+
+inspect_named : (name : Text) (rest : List Text) → name_met (name ∷ codes "inspect" ∷ rest) ≡ Some (codes "inspect")
+inspect_named name rest = sym (ap (λ o. option_map (λ p. p.0) (entered (built linda) o)) (inspect_stops rest))
+
+pub named_inspect : (words : List Text) → AsksToInspect words → name_met words ≡ Some (codes "inspect")
+named_inspect words a = ap name_met a.spelled ∙ inspect_named a.name a.later
 
 -- the name of the command that was met, by the rows
 pub name_of_rows : (m : ArgMatches) → subcommand_name_of m ≡ option_map (λ p. p.0) (subcommand_rows_of m)
@@ -404,12 +436,12 @@ stray_turn s w e =
     let turn : other_turn s w ≡ flag_turn s w (long_of w) = rw (no_end w e) refl in
     turn ∙ ap (flag_turn s w) no_long ∙ none_turn s w None no_short
 
-pub unknown_kinds : (name w : Text) (rest : List Text) → has_hyphen w ≡ false → w ≢ codes "pipe" → w ≢ codes "run" → w ≢ codes "call" → w ≢ codes "serve" → w ≢ codes "help"
+pub unknown_kinds : (name w : Text) (rest : List Text) → has_hyphen w ≡ false → w ≢ codes "pipe" → w ≢ codes "run" → w ≢ codes "call" → w ≢ codes "serve" → w ≢ codes "inspect" → w ≢ codes "help"
     → fault_of linda (name ∷ w ∷ rest) ≡ kind.UnknownArgument ∷ kind.InvalidSubcommand ∷ []
 unfolding walk_fault
-unknown_kinds name w rest e no_pipe no_run no_call no_serve no_help =
+unknown_kinds name w rest e no_pipe no_run no_call no_serve no_inspect no_help =
     let turn : turn_fault top (names_of (built linda)) (walk_from nothing_held) w ≡ kind.UnknownArgument ∷ kind.InvalidSubcommand ∷ [] =
-    rw (differs (codes "pipe") w no_pipe, differs (codes "run") w no_run, differs (codes "call") w no_call, differs (codes "serve") w no_serve, differs (codes "help") w no_help) (stray_turn top w e) in
+    rw (differs (codes "pipe") w no_pipe, differs (codes "run") w no_run, differs (codes "call") w no_call, differs (codes "serve") w no_serve, differs (codes "inspect") w no_inspect, differs (codes "help") w no_help) (stray_turn top w e) in
     first_is _ _ _ _ (first_is _ _ _ _ turn)
 
 leaf_kinds : (w : Text) (rest : List Text) → has_hyphen w ≡ false → level_fault leaf [] nothing_held (w ∷ rest) false [] ≡ kind.UnknownArgument ∷ []

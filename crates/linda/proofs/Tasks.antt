@@ -14,10 +14,10 @@ use Rattle.clap.specs.declared.parser.matches.ArgMatches.{ArgMatches}
 use Rattle.clap.specs.declared.parser.matches.Found.{Found}
 use Rattle.clap.proofs.OnLiterals.{clap_on_literals}
 use Rattle.clap.proofs.WalkLemmas.{one_text-rows}
-use Rattle.linda.specs.Commands.{IsCall, IsServe, IsRefusedAs, AsksFor, AsksExactlyFor, AsksForPipe, AsksForRun, HasServers, Spells, linda}
+use Rattle.linda.specs.Commands.{IsCall, IsInspect, IsServe, IsRefusedAs, AsksFor, AsksExactlyFor, AsksForPipe, AsksForRun, HasServers, Spells, linda}
 use Rattle.linda.specs.declared.command.Task.{Task}
 use Rattle.linda.specs.declared.command.Task.TheVariants as tasks
-use Rattle.linda.proofs.Parsing.{many_kinds, missing_kinds, unknown_kinds, AsksToCall, AsksToRun, AsksToServe, asked, name_of_rows, named, named_call, named_serve}
+use Rattle.linda.proofs.Parsing.{many_kinds, missing_kinds, unknown_kinds, AsksToCall, AsksToInspect, AsksToRun, AsksToServe, asked, name_of_rows, named, named_call, named_inspect, named_serve}
 use Rattle.linda.proofs.RunWords.{run_kinds, run_refused_some, number_of_row, run_is_found, run_is_free, runs}
 
 -- the parser's command is that of the words
@@ -32,6 +32,9 @@ call_found m words asks rows = name_of_rows m ∙ ap (λ o. option_map (λ p. p.
 
 pub serve_found : (m : ArgMatches) (words : List Text) → AsksToServe words → subcommand_rows_of m ≡ subcommand_of linda words → subcommand_name_of m ≡ Some (codes "serve")
 serve_found m words asks rows = name_of_rows m ∙ ap (λ o. option_map (λ p. p.0) o) rows ∙ named_serve words asks
+
+pub inspect_found : (m : ArgMatches) (words : List Text) → AsksToInspect words → subcommand_rows_of m ≡ subcommand_of linda words → subcommand_name_of m ≡ Some (codes "inspect")
+inspect_found m words asks rows = name_of_rows m ∙ ap (λ o. option_map (λ p. p.0) o) rows ∙ named_inspect words asks
 
 abbrev initial : Option Text → ℕ
 initial o = slice_index (unwrap_or o []) 0
@@ -66,19 +69,41 @@ no_serve_call o is as_other =
     let bad : ◌≡◌ {A = ℕ} (slice_index (codes "serve") 0) (slice_index (codes "call") 0) = ap initial (sym is ∙ as_other) in
     absurd (omega (arith, bad))
 
+pub no_inspect_pipe : (o : Option Text) → o ≡ Some (codes "inspect") → o ≡ Some (codes "pipe") → ⊥
+no_inspect_pipe o is as_other =
+    let bad : ◌≡◌ {A = ℕ} (slice_index (codes "inspect") 0) (slice_index (codes "pipe") 0) = ap initial (sym is ∙ as_other) in
+    absurd (omega (arith, bad))
+
+pub no_inspect_run : (o : Option Text) → o ≡ Some (codes "inspect") → o ≡ Some (codes "run") → ⊥
+no_inspect_run o is as_other =
+    let bad : ◌≡◌ {A = ℕ} (slice_index (codes "inspect") 0) (slice_index (codes "run") 0) = ap initial (sym is ∙ as_other) in
+    absurd (omega (arith, bad))
+
+pub no_inspect_call : (o : Option Text) → o ≡ Some (codes "inspect") → o ≡ Some (codes "call") → ⊥
+no_inspect_call o is as_other =
+    let bad : ◌≡◌ {A = ℕ} (slice_index (codes "inspect") 0) (slice_index (codes "call") 0) = ap initial (sym is ∙ as_other) in
+    absurd (omega (arith, bad))
+
+pub no_inspect_serve : (o : Option Text) → o ≡ Some (codes "inspect") → o ≡ Some (codes "serve") → ⊥
+no_inspect_serve o is as_other =
+    let bad : ◌≡◌ {A = ℕ} (slice_index (codes "inspect") 0) (slice_index (codes "serve") 0) = ap initial (sym is ∙ as_other) in
+    absurd (omega (arith, bad))
+
 -- what the words ask for, where no fault may come
 pub data Asked (words : List Text) : Type 0 where
   to_pipe : AsksForPipe words → Asked words
   to_run : (n : ℕ) → AsksForRun words n → Asked words
   to_call : AsksToCall words → Asked words
   to_serve : AsksToServe words → Asked words
+  to_inspect : AsksToInspect words → Asked words
 
 pub asked_for : (words : List Text) → fault_of linda words ≡ [] → Asked words
 asked_for words free = elim (asked words free) [
   | inl h ↦ to_pipe h
   | inr (inl h) ↦ (let r = runs words h in to_run r.0 r.1)
   | inr (inr (inl h)) ↦ to_call h
-  | inr (inr (inr h)) ↦ to_serve h
+  | inr (inr (inr (inl h))) ↦ to_serve h
+  | inr (inr (inr (inr h))) ↦ to_inspect h
 ]
 
 -- the text of the number that the parser found below `run`
@@ -96,6 +121,7 @@ exactly_pipe m words tasks.Pipe asks rows is = refl
 exactly_pipe m words (tasks.Run n) asks rows is = absurd (no_run_pipe (subcommand_name_of m) (run_found m words n asks rows) is)
 exactly_pipe m words (tasks.Call client ports) asks rows is = absurd asks
 exactly_pipe m words (tasks.Serve port dir sessions) asks rows is = absurd asks
+exactly_pipe m words (tasks.Inspect dir lists) asks rows is = absurd asks
 
 -- the parser reads the number of a run off this text
 abbrev pub Reads : Found → Option Task → Type 0
@@ -108,6 +134,7 @@ exactly_run m f words tasks.Pipe result asks rows is below reads = absurd (no_ru
 exactly_run m f words (tasks.Run n) result asks rows is below reads = reads asks.number n (text_found m f words n asks rows below) asks.spells
 exactly_run m f words (tasks.Call client ports) result asks rows is below reads = absurd asks
 exactly_run m f words (tasks.Serve port dir sessions) result asks rows is below reads = absurd asks
+exactly_run m f words (tasks.Inspect dir lists) result asks rows is below reads = absurd asks
 
 pub never_other : (m : ArgMatches) (words : List Text) (task : Task) → AsksExactlyFor words task → subcommand_rows_of m ≡ subcommand_of linda words
     → (subcommand_name_of m ≡ Some (codes "pipe") → ⊥) → (subcommand_name_of m ≡ Some (codes "run") → ⊥) → ⊥
@@ -115,6 +142,7 @@ never_other m words tasks.Pipe asks rows no_pipe no_run = no_pipe (pipe_found m 
 never_other m words (tasks.Run n) asks rows no_pipe no_run = no_run (run_found m words n asks rows)
 never_other m words (tasks.Call client ports) asks rows no_pipe no_run = asks
 never_other m words (tasks.Serve port dir sessions) asks rows no_pipe no_run = asks
+never_other m words (tasks.Inspect dir lists) asks rows no_pipe no_run = asks
 
 pub pipe_asked : (m : ArgMatches) (words : List Text) → fault_of linda words ≡ [] → subcommand_rows_of m ≡ subcommand_of linda words
     → subcommand_name_of m ≡ Some (codes "pipe") → AsksForPipe words
@@ -125,6 +153,7 @@ pipe_asked m words free rows is = go (asked_for words free)
     go (to_run n a) = absurd (no_run_pipe (subcommand_name_of m) (run_found m words n a rows) is)
     go (to_call a) = absurd (no_call_pipe (subcommand_name_of m) (call_found m words a rows) is)
     go (to_serve a) = absurd (no_serve_pipe (subcommand_name_of m) (serve_found m words a rows) is)
+    go (to_inspect a) = absurd (no_inspect_pipe (subcommand_name_of m) (inspect_found m words a rows) is)
 
 pub run_asked : (m : ArgMatches) (f : Found) (words : List Text) (result : Option Task) → fault_of linda words ≡ []
     → subcommand_rows_of m ≡ subcommand_of linda words → subcommand_name_of m ≡ Some (codes "run")
@@ -136,18 +165,32 @@ run_asked m f words result free rows is below reads = go (asked_for words free)
     go (to_run n a) = subst (λ (o : Option Task). IfSome o (AsksFor words)) (sym (reads a.number n (text_found m f words n a rows below) a.spells)) a
     go (to_call a) = absurd (no_call_run (subcommand_name_of m) (call_found m words a rows) is)
     go (to_serve a) = absurd (no_serve_run (subcommand_name_of m) (serve_found m words a rows) is)
+    go (to_inspect a) = absurd (no_inspect_run (subcommand_name_of m) (inspect_found m words a rows) is)
 
 call_asks : (words : List Text) (task : Task) → AsksToCall words → IsCall task → AsksFor words task
 call_asks words tasks.Pipe a h = absurd h
 call_asks words (tasks.Run n) a h = absurd h
 call_asks words (tasks.Call client ports) a h = record { name = a.name; later = a.later; spelled = a.spelled; is_client = h.0; are_ports = h.1 }
 call_asks words (tasks.Serve port dir sessions) a h = absurd h
+call_asks words (tasks.Inspect dir lists) a h = absurd h
 
 serve_asks : (words : List Text) (task : Task) → AsksToServe words → IsServe task → AsksFor words task
 serve_asks words tasks.Pipe a h = absurd h
 serve_asks words (tasks.Run n) a h = absurd h
 serve_asks words (tasks.Call client ports) a h = absurd h
 serve_asks words (tasks.Serve port dir sessions) a h = record { name = a.name; later = a.later; spelled = a.spelled; is_port = h.0; are_sessions = h.1 }
+serve_asks words (tasks.Inspect dir lists) a h = absurd h
+
+inspect_asks : (words : List Text) (task : Task) → AsksToInspect words → IsInspect task → AsksFor words task
+inspect_asks words tasks.Pipe a h = absurd h
+inspect_asks words (tasks.Run n) a h = absurd h
+inspect_asks words (tasks.Call client ports) a h = absurd h
+inspect_asks words (tasks.Serve port dir sessions) a h = absurd h
+inspect_asks words (tasks.Inspect dir lists) a h = record { name = a.name; later = a.later; spelled = a.spelled }
+
+inspect_is_asked : (words : List Text) (found : Option Task) → AsksToInspect words → IfSome found IsInspect → IfSome found (AsksFor words)
+inspect_is_asked words None a h = tt
+inspect_is_asked words (Some task) a h = inspect_asks words task a h
 
 serve_is_asked : (words : List Text) (found : Option Task) → AsksToServe words → IfSome found IsServe → IfSome found (AsksFor words)
 serve_is_asked words None a h = tt
@@ -168,6 +211,7 @@ call_asked m words (Ok found) free rows is h = go (asked_for words free)
     go (to_run n a) = absurd (no_call_run (subcommand_name_of m) is (run_found m words n a rows))
     go (to_call a) = call_is_asked words found a h
     go (to_serve a) = absurd (no_serve_call (subcommand_name_of m) (serve_found m words a rows) is)
+    go (to_inspect a) = absurd (no_inspect_call (subcommand_name_of m) (inspect_found m words a rows) is)
 
 pub serve_asked : {E : Type 0} (m : ArgMatches) (words : List Text) (result : Result (Option Task) E) → fault_of linda words ≡ []
     → subcommand_rows_of m ≡ subcommand_of linda words → subcommand_name_of m ≡ Some (codes "serve")
@@ -180,6 +224,20 @@ serve_asked m words (Ok found) free rows is h = go (asked_for words free)
     go (to_run n a) = absurd (no_serve_run (subcommand_name_of m) is (run_found m words n a rows))
     go (to_call a) = absurd (no_serve_call (subcommand_name_of m) is (call_found m words a rows))
     go (to_serve a) = serve_is_asked words found a h
+    go (to_inspect a) = absurd (no_inspect_serve (subcommand_name_of m) (inspect_found m words a rows) is)
+
+pub inspect_asked : {E : Type 0} (m : ArgMatches) (words : List Text) (result : Result (Option Task) E) → fault_of linda words ≡ []
+    → subcommand_rows_of m ≡ subcommand_of linda words → subcommand_name_of m ≡ Some (codes "inspect")
+    → IfOk result (λ found. IfSome found IsInspect) → IfOk result (λ found. IfSome found (AsksFor words))
+inspect_asked m words (Err e) free rows is h = tt
+inspect_asked m words (Ok found) free rows is h = go (asked_for words free)
+  where
+    go : Asked words → IfSome found (AsksFor words)
+    go (to_pipe p) = absurd (no_inspect_pipe (subcommand_name_of m) is (pipe_found m words p rows))
+    go (to_run n a) = absurd (no_inspect_run (subcommand_name_of m) is (run_found m words n a rows))
+    go (to_call a) = absurd (no_inspect_call (subcommand_name_of m) is (call_found m words a rows))
+    go (to_serve a) = absurd (no_inspect_serve (subcommand_name_of m) is (serve_found m words a rows))
+    go (to_inspect a) = inspect_is_asked words found a h
 
 -- ---- faults
 
@@ -198,12 +256,14 @@ task_is_free words tasks.Pipe (name, inr h) = ap (fault_of linda) h ∙ pipe_end
 task_is_free words (tasks.Run n) asks = run_is_free words n asks
 task_is_free words (tasks.Call client ports) asks = absurd asks
 task_is_free words (tasks.Serve port dir sessions) asks = absurd asks
+task_is_free words (tasks.Inspect dir lists) asks = absurd asks
 
 pub has_servers : (words : List Text) (task : Task) → AsksFor words task → HasServers task
 has_servers words tasks.Pipe asks = tt
 has_servers words (tasks.Run n) asks = (asks.spells.some, asks.spells.most)
 has_servers words (tasks.Call client ports) asks = (asks.are_ports.0, asks.are_ports.1.0)
 has_servers words (tasks.Serve port dir sessions) asks = tt
+has_servers words (tasks.Inspect dir lists) asks = tt
 
 abbrev second : List Text → ℕ
 second words = slice_index (unwrap_or (slice_get words 1) []) 0
@@ -226,7 +286,7 @@ matched_on (Err y) e Q P is p = subst P (sym is) p
 
 pub refused_kinds : (words : List Text) (kinds : Kinds) → IsRefusedAs words kinds → fault_of linda words ≡ kinds
 refused_kinds words kinds (inl h) = missing_kinds words h.0 ∙ sym h.1
-refused_kinds words kinds (inr (inl h)) = ap (fault_of linda) h.0.spelled ∙ unknown_kinds h.0.name h.0.word h.0.later h.0.no_option h.0.no_pipe h.0.no_run h.0.no_call h.0.no_serve h.0.no_help ∙ sym h.1
+refused_kinds words kinds (inr (inl h)) = ap (fault_of linda) h.0.spelled ∙ unknown_kinds h.0.name h.0.word h.0.later h.0.no_option h.0.no_pipe h.0.no_run h.0.no_call h.0.no_serve h.0.no_inspect h.0.no_help ∙ sym h.1
 refused_kinds words kinds (inr (inr (inl h))) = ap (fault_of linda) h.0.spelled ∙ many_kinds h.0.name h.0.word h.0.later h.0.no_option ∙ sym h.1
 refused_kinds words kinds (inr (inr (inr h))) = run_kinds words kinds h
 

@@ -5,7 +5,7 @@ use Rattle.std.specs.Prelude.{codes, Result, IsErrAnd}
 use Rattle.std.specs.Str.Parse.{IsNumeral, digits_value, without_leading_plus}
 use Rattle.clap.specs.Words.{App, Kinds, Rule, HasKind, new_app, new_rule, with_rule, with_subcommand}
 use Rattle.clap.specs.Simple.{on_top}
-use Rattle.clap.specs.declared.builder.action.ArgAction.TheVariants.{Set}
+use Rattle.clap.specs.declared.builder.action.ArgAction.TheVariants.{Set, SetTrue}
 use Rattle.clap.specs.declared.builder.value_parser.ValueParser.TheVariants as parsers
 use Rattle.clap.specs.declared.error.Error.{Error}
 use Rattle.clap.specs.declared.error.kind.ErrorKind.TheVariants as kinds
@@ -73,13 +73,36 @@ sessions_rule = record (new_rule (codes "sessions")) {
   parser = Some (parsers.Signed (pos 0) (pos 4294967295));
 }
 
--- The program's command as the parser has it: it wants a command below it, `pipe`, `run`, `call` or `serve`.
+-- the word that names the folder of a store, which must be there
+abbrev pub folder_rule : Rule
+folder_rule = record (new_rule (codes "dir")) {
+  value_names = 1;
+  required = true;
+  action = Some Set;
+}
+
+-- the option `--tuples`, which may be there, and stands alone
+abbrev pub tuples_rule : Rule
+tuples_rule = record (new_rule (codes "tuples")) {
+  long = Some (codes "tuples");
+  action = Some SetTrue;
+}
+
+-- the option `--clients`, which may be there, and stands alone
+abbrev pub clients_rule : Rule
+clients_rule = record (new_rule (codes "clients")) {
+  long = Some (codes "clients");
+  action = Some SetTrue;
+}
+
+-- The program's command as the parser has it: it wants a command below it, `pipe`, `run`, `call`, `serve` or `inspect`.
 abbrev pub linda : App
-linda = with_subcommand (with_subcommand (with_subcommand (with_subcommand
+linda = with_subcommand (with_subcommand (with_subcommand (with_subcommand (with_subcommand
     (on_top (λ s. record s { subcommand_required = true }) (new_app (codes "linda"))) (new_app (codes "pipe")).top)
     (with_rule (new_app (codes "run")) servers_rule).top)
     (with_rule (with_rule (new_app (codes "call")) client_rule) ports_rule).top)
-    (with_rule (with_rule (with_rule (new_app (codes "serve")) port_rule) dir_rule) sessions_rule).top
+    (with_rule (with_rule (with_rule (new_app (codes "serve")) port_rule) dir_rule) sessions_rule).top)
+    (with_rule (with_rule (with_rule (new_app (codes "inspect")) folder_rule) tuples_rule) clients_rule).top
 
 -- no word, or the `--` that ends options
 abbrev pub IsEnd : List (List ℕ) → Type 0
@@ -131,12 +154,23 @@ pub record AsksForServe (words : List (List ℕ)) (port : ℕ) (sessions : Optio
   pub is_port : port < 2 ^ 16
   pub are_sessions : IfSome sessions (λ k. k < 2 ^ 32)
 
+-- The words are a program's name and `inspect`.
+pub record AsksForInspect (words : List (List ℕ)) : Type 0 where
+  pub name : List ℕ
+  pub later : List (List ℕ)
+  pub spelled : words ≡ name ∷ codes "inspect" ∷ later
+
+-- The words are a program's name and `--version`.
+abbrev pub AsksForVersion : List (List ℕ) → Type 0
+AsksForVersion words = (name : List ℕ) × (words ≡ name ∷ codes "--version" ∷ [])
+
 -- what the words ask for
 abbrev pub AsksFor : List (List ℕ) → Task → Type 0
 AsksFor words tasks.Pipe = AsksForPipe words
 AsksFor words (tasks.Run n) = AsksForRun words n
 AsksFor words (tasks.Call client ports) = AsksForCall words client ports
 AsksFor words (tasks.Serve port dir sessions) = AsksForServe words port sessions
+AsksFor words (tasks.Inspect dir lists) = AsksForInspect words
 
 -- it is a call, by such numbers
 abbrev pub IsCall : Task → Type 0
@@ -144,6 +178,7 @@ IsCall tasks.Pipe = ⊥
 IsCall (tasks.Run n) = ⊥
 IsCall (tasks.Call client ports) = (client < 2 ^ 32) × ArePorts ports
 IsCall (tasks.Serve port dir sessions) = ⊥
+IsCall (tasks.Inspect dir lists) = ⊥
 
 -- it serves, by such numbers
 abbrev pub IsServe : Task → Type 0
@@ -151,6 +186,15 @@ IsServe tasks.Pipe = ⊥
 IsServe (tasks.Run n) = ⊥
 IsServe (tasks.Call client ports) = ⊥
 IsServe (tasks.Serve port dir sessions) = (port < 2 ^ 16) × IfSome sessions (λ k. k < 2 ^ 32)
+IsServe (tasks.Inspect dir lists) = ⊥
+
+-- it inspects
+abbrev pub IsInspect : Task → Type 0
+IsInspect tasks.Pipe = ⊥
+IsInspect (tasks.Run n) = ⊥
+IsInspect (tasks.Call client ports) = ⊥
+IsInspect (tasks.Serve port dir sessions) = ⊥
+IsInspect (tasks.Inspect dir lists) = ⊤
 
 -- what words ask for that are written out above to the letter: the pipe, or a run
 abbrev pub AsksExactlyFor : List (List ℕ) → Task → Type 0
@@ -158,6 +202,7 @@ AsksExactlyFor words tasks.Pipe = AsksForPipe words
 AsksExactlyFor words (tasks.Run n) = AsksForRun words n
 AsksExactlyFor words (tasks.Call client ports) = ⊥
 AsksExactlyFor words (tasks.Serve port dir sessions) = ⊥
+AsksExactlyFor words (tasks.Inspect dir lists) = ⊥
 
 -- a run and a call have at least one server, and not more than there may be
 abbrev pub HasServers : Task → Type 0
@@ -165,6 +210,7 @@ HasServers tasks.Pipe = ⊤
 HasServers (tasks.Run n) = (1 ≤ n) × (n ≤ MAX_SERVERS)
 HasServers (tasks.Call client ports) = (1 ≤ length ports) × (length ports ≤ MAX_SERVERS)
 HasServers (tasks.Serve port dir sessions) = ⊤
+HasServers (tasks.Inspect dir lists) = ⊤
 
 -- whether a word begins with a hyphen
 abbrev pub has_hyphen : List ℕ → Bool
@@ -172,7 +218,7 @@ has_hyphen [] = false
 has_hyphen (b ∷ bs) = b == hyphen
 
 -- The words are a program's name and then a word that is no option, and none of `pipe`, `run`, `call`,
--- `serve`, `help`.
+-- `serve`, `inspect`, `help`.
 pub record HasUnknown (words : List (List ℕ)) : Type 0 where
   pub name : List ℕ
   pub word : List ℕ
@@ -183,6 +229,7 @@ pub record HasUnknown (words : List (List ℕ)) : Type 0 where
   pub no_run : word ≢ codes "run"
   pub no_call : word ≢ codes "call"
   pub no_serve : word ≢ codes "serve"
+  pub no_inspect : word ≢ codes "inspect"
   pub no_help : word ≢ codes "help"
 
 -- The words are a program's name, `pipe`, and then a word that is no option.

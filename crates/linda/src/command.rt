@@ -1,6 +1,7 @@
 //! The command line.
 
 mod ports;
+mod version;
 
 ghost use Rattle.std.specs.Prelude.{◌≡◌, ℕ, List, [], Some, false, map, codes, IfOk, IfSome, MatchResult};
 ghost use Rattle.std.specs.String.{string_bytes};
@@ -9,15 +10,18 @@ ghost use Rattle.clap.specs.Matches.{one_text, subcommand_name_of};
 ghost use Rattle.clap.specs.Words.{Kinds, app_of, fault_of, found_of, kind_of, rule_of};
 ghost use Rattle.clap.specs.Words.{subcommand_of, subcommand_rows_of};
 ghost use Rattle.linda.specs.Commands.{AsksExactlyFor, AsksFor, AsksForPipe, AsksForRun, HasServers, Spells};
-ghost use Rattle.linda.specs.Commands.{IsCall, IsRefusedAs, IsServe, Refuses, client_rule, dir_rule, linda, port_rule};
-ghost use Rattle.linda.specs.Commands.{ports_rule, servers_rule, sessions_rule};
+ghost use Rattle.linda.specs.Commands.{IsCall, IsInspect, IsRefusedAs, IsServe, Refuses, client_rule, clients_rule};
+ghost use Rattle.linda.specs.Commands.{dir_rule, folder_rule, linda, port_rule, ports_rule, servers_rule};
+ghost use Rattle.linda.specs.Commands.{sessions_rule, tuples_rule};
 ghost use Rattle.linda.specs.declared.command.Task.TheVariants as tasks;
 
 use clap::error::ErrorKind;
 use clap::{Arg, ArgAction, ArgMatches, Command, Error, value_parser};
 use linda_client::MAX_SERVERS;
+use linda_inspect::Lists;
 pub use ports::Ports;
 use std::alloc::{AllocError, Global};
+pub use version::{VERSION_LINES, asks_for_version};
 
 /// What the command line asks for.
 #[derive(Debug, Drop)]
@@ -39,6 +43,11 @@ pub enum Task {
         port: u16,
         dir: String,
         sessions: Option<u32>,
+    },
+    /// What the store in this folder comes to, with these lists.
+    Inspect {
+        dir: String,
+        lists: Lists,
     },
 }
 
@@ -99,7 +108,10 @@ fn other_of(alloc: Global, matches: &ArgMatches) -> Result<Option<Task>, AllocEr
         Some(below) => call_of(alloc, below),
         None => match matches.subcommand_matches(SERVE) {
             Some(below) => serve_of(alloc, below),
-            None => Ok(None),
+            None => match matches.subcommand_matches(INSPECT) {
+                Some(below) => inspect_of(alloc, below),
+                None => Ok(None),
+            },
         },
     }
 }
@@ -145,6 +157,20 @@ fn serve_of(alloc: Global, below: &ArgMatches) -> Result<Option<Task>, AllocErro
     }))
 }
 
+// What is found below `inspect`.
+fn inspect_of(alloc: Global, below: &ArgMatches) -> Result<Option<Task>, AllocError>
+    ensures { IfOk result (λ found. IfSome found IsInspect) }
+{
+    let Some(text) = below.get_str(DIR) else {
+        return Ok(None);
+    };
+    let dir = String::from_str(alloc, text)?;
+    let tuples = below.get_flag(TUPLES);
+    let clients = below.get_flag(CLIENTS);
+    let lists = Lists { tuples, clients };
+    Ok(Some(Task::Inspect { dir, lists }))
+}
+
 // The program's command.
 fn command<'a>(alloc: Global) -> Result<Command<'a>, AllocError>
     ensures { IfOk result (λ c. app_of c ≡ linda) }
@@ -167,13 +193,23 @@ fn command<'a>(alloc: Global) -> Result<Command<'a>, AllocError>
         .arg(port_option(alloc))?
         .arg(dir_option(alloc))?
         .arg(sessions_option(alloc))?;
+    let inspect = Command::new(alloc, INSPECT)
+        .about(
+            "Tell what the store in a folder holds, and whether it would be served; nothing is written",
+        )
+        .after_help(INSPECTING)
+        .arg(folder_word(alloc))?
+        .arg(tuples_flag(alloc))?
+        .arg(clients_flag(alloc))?;
     Command::new(alloc, "linda")
         .about("A tuple space")
+        .after_help(VERSION)
         .subcommand_required(true)
         .subcommand(pipe)?
         .subcommand(run)?
         .subcommand(call)?
-        .subcommand(serve)
+        .subcommand(serve)?
+        .subcommand(inspect)
 }
 
 // The option that says how many servers there are.
@@ -258,6 +294,40 @@ fn sessions_option<'a>(alloc: Global) -> Arg<'a>
         .value_parser(value_parser!(u32))
 }
 
+// The word that names the folder of a store.
+fn folder_word<'a>(alloc: Global) -> Arg<'a>
+    ensures rule { rule_of result ≡ folder_rule }
+    ensures own { result.global ≡ false }
+{
+    Arg::new(alloc, DIR)
+        .value_name("DIR")
+        .help("The folder of the store")
+        .required(true)
+        .action(ArgAction::Set)
+}
+
+// The option that asks for a line for each tuple.
+fn tuples_flag<'a>(alloc: Global) -> Arg<'a>
+    ensures rule { rule_of result ≡ tuples_rule }
+    ensures own { result.global ≡ false }
+{
+    Arg::new(alloc, TUPLES)
+        .long(TUPLES)
+        .help("A line for each tuple")
+        .action(ArgAction::SetTrue)
+}
+
+// The option that asks for a line for each client.
+fn clients_flag<'a>(alloc: Global) -> Arg<'a>
+    ensures rule { rule_of result ≡ clients_rule }
+    ensures own { result.global ≡ false }
+{
+    Arg::new(alloc, CLIENTS)
+        .long(CLIENTS)
+        .help("A line for each client, with its kept reply")
+        .action(ArgAction::SetTrue)
+}
+
 const PIPE: &str = "pipe";
 
 const RUN: &str = "run";
@@ -273,6 +343,12 @@ const PORT: &str = "port";
 const DIR: &str = "dir";
 
 const SESSIONS: &str = "sessions";
+
+const INSPECT: &str = "inspect";
+
+const TUPLES: &str = "tuples";
+
+const CLIENTS: &str = "clients";
 
 const CLIENT: &str = "client";
 
@@ -290,3 +366,9 @@ const LINES: &str = "Example, beside a server on port 7707:\n  \
 const SERVING: &str = "Example:\n  \
     mkdir store\n  \
     linda serve --port 7707 --dir store";
+
+const INSPECTING: &str = "Example:\n  \
+    mkdir store\n  \
+    linda inspect store --tuples --clients";
+
+const VERSION: &str = "linda --version tells the version, and the forms of banks and frames.";

@@ -11,6 +11,10 @@
 //! `linda serve --port P --dir D [--sessions K]` serves the store in a folder to clients that connect to a port of this
 //! machine.
 //!
+//! `linda inspect DIR [--tuples] [--clients]` tells what the store in a folder holds, and whether it would be served.
+//!
+//! `linda --version` tells the version of the program, and the forms of banks and frames.
+//!
 //! The exit status is 0 at the end; 2 for a fault of the command line, with the parser's text on standard
 //! error; 3 with one line there, `io` or `memory`, where standard input or output fails or memory runs out, or
 //! `server S: no connection`, `server S: refused CODE DETAIL`, or what is told of a store; 4 with one line there for a
@@ -29,6 +33,7 @@ mod command;
 mod decoding;
 mod exchanges;
 mod faults;
+mod inspecting;
 mod lines;
 mod piping;
 mod running;
@@ -38,14 +43,16 @@ mod spelling;
 mod tests;
 
 use crate::calling::{CallFault, call};
-use crate::command::{Ports, Task, read_task};
+use crate::command::{Ports, Task, VERSION_LINES, asks_for_version, read_task};
 use crate::faults::{PipeFault, REFUSED};
+use crate::inspecting::inspect_folder;
 use crate::piping::pipe;
 use crate::running::status_of_script;
 use crate::serving::serve_folder;
+use linda_inspect::Lists;
 use linda_shell::{ScriptFault, run_script};
 use std::fmt::Display;
-use std::io::ErrorKind;
+use std::io::{ErrorKind, Write};
 use std::net::{Net, TcpListener, TcpStream};
 use std::process::ExitCode;
 use std::sync::Wait;
@@ -66,6 +73,9 @@ fn main(rt: HostRuntime) -> ExitCode {
             return end(&rt, "error: an argument is not UTF-8", USAGE);
         }
     };
+    if asks_for_version(&words) {
+        return tell_version(&rt);
+    }
     match read_task(rt.alloc(), &words) {
         Ok(Task::Pipe) => run_pipe(&rt),
         Ok(Task::Run { servers }) => run_servers(&rt, servers),
@@ -77,6 +87,7 @@ fn main(rt: HostRuntime) -> ExitCode {
                 sessions,
             },
         ) => run_serve(&rt, &rt, port, &dir, sessions),
+        Ok(Task::Inspect { dir, lists }) => run_inspect(&rt, &dir, lists),
         Err(error) => show(&rt, &error),
     }
 }
@@ -184,6 +195,26 @@ fn run_serve<S: Net<Listener = TcpListener, Stream = TcpStream> + Threads + Wait
         Ok(()) => ExitCode::SUCCESS,
         Err(cause) => end(rt, cause, REFUSED),
     }
+}
+
+// Tells what the store in a folder comes to.
+fn run_inspect(rt: &HostRuntime, dir: &str, lists: Lists) -> ExitCode
+    ensures { (exit_status result ≡ 0) ⊎ (exit_status result ≡ 3) }
+{
+    match inspect_folder(rt, rt.alloc(), &mut rt.stdout(), dir, lists) {
+        Ok(()) => ExitCode::SUCCESS,
+        Err(cause) => end(rt, cause, REFUSED),
+    }
+}
+
+// Tells the version.
+fn tell_version(rt: &HostRuntime) -> ExitCode
+    ensures { (exit_status result ≡ 0) ⊎ (exit_status result ≡ 3) }
+{
+    if rt.stdout().write_all(VERSION_LINES.as_bytes()).is_err() {
+        return end(rt, "io", REFUSED);
+    }
+    ExitCode::SUCCESS
 }
 
 // Shows the text of the parser of the command line.

@@ -21,7 +21,7 @@ use std::sync::Wait;
 use std::sync::ledger::{Blank, Ledger};
 use std::thread::Threads;
 use std::time::Clock;
-pub(crate) use store::open_store;
+pub(crate) use store::{LEFT, RIGHT, open_store};
 
 /// Serves the store in a folder to clients that connect to a port of this machine, and writes `ready PORT` once it
 /// listens: any free port where 0 is asked for. Where a number is given it ends after so many connections.

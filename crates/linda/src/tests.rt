@@ -4,6 +4,7 @@
 mod calls;
 mod cuts;
 mod flush;
+mod inspects;
 mod peer;
 mod rows;
 mod serves;

@@ -1,12 +1,14 @@
 -- A search through keys in their order, lowest first: what is known of those that are left, and what follows where one is
 -- found and where all are passed.
-use Rattle.std.proofs.Common.{◌≡◌, ℕ, ◌<◌, ◌⊎◌, inl, inr, arith, true, false, ◌||◌, List, [], ◌∷◌, refl, sym, ap, subst, ◌∙◌, nat_cmp, Less, true≢false}
-use Rattle.std.specs.Ordering.{is_eq}
+use Rattle.std.proofs.Common.{◌≡◌, ℕ, ◌≤◌, ◌<◌, ◌⊎◌, inl, inr, arith, Bool, true, false, not, cond, ◌||◌, ◌&&◌, List, [], ◌∷◌, filter, refl, sym, ap, subst, ◌∙◌, nat_cmp, Less, true≢false}
+use Rattle.std.specs.Ordering.{is_eq, is_le}
+use Rattle.std.proofs.lemmas.Bool.Decides.{nat_tests}
 use Rattle.std.specs.Cmp.{ranked}
 use Rattle.std.specs.List.{AllByRecursion, list_any}
 use Rattle.std.specs.List.Sorted.{IsStrictlySortedBy}
 use Rattle.std.specs.BTreeMap.{is_at}
 use Rattle.std.proofs.lemmas.Map.Keys.{sorted_head, sorted_tail}
+use Rattle.std.proofs.lemmas.List.Kept.{IsStrictlySortedBy-filter}
 use Rattle.linda_bag.proofs.Refiling.{id_told}
 
 -- One of the keys is k.
@@ -55,3 +57,28 @@ module _ (Wanted : ℕ → Type 0) (left : List ℕ) (k : ℕ) (rest : List ℕ)
 -- Where nothing is left no key is wanted.
 pub none_ahead : (Wanted : ℕ → Type 0) (left : List ℕ) → IsAhead Wanted left → left ≡ [] → (k : ℕ) → Wanted k → ⊥
 none_ahead Wanted left ahead ended k wanted = (subst (IsAhead Wanted) ended ahead).each k wanted
+
+-- Of the keys that pass a test, each that is wanted passes it.
+kept_key : (p : ℕ → Bool) (k : ℕ) (xs : List ℕ) → p k ≡ true → IsKey k xs → IsKey k (filter p xs)
+kept_key p k [] passes has = absurd has
+kept_key p k (x ∷ xs) passes (inl same) =
+    elim (p x) as (λ b. p x ≡ b → IsKey k (cond b (x ∷ filter p xs) (filter p xs))) [
+      | true ↦ λ is. inl same
+      | false ↦ λ off. absurd (true≢false (sym passes ∙ ap p same ∙ off))
+    ] refl
+kept_key p k (x ∷ xs) passes (inr later) =
+    elim (p x) as (λ b. IsKey k (cond b (x ∷ filter p xs) (filter p xs))) [
+      | true ↦ inr (kept_key p k xs passes later)
+      | false ↦ kept_key p k xs passes later
+    ]
+
+-- At the start of a walk through the keys of a set that pass a test, all of them are left.
+pub all_ahead : (Wanted : ℕ → Type 0) (p : ℕ → Bool) (xs left : List ℕ) → left ≡ filter p xs → IsStrictlySortedBy nat_cmp xs → ((k : ℕ) → Wanted k → p k ≡ true) → ((k : ℕ) → Wanted k → list_any (is_at (nat_cmp k)) xs ≡ true) → IsAhead Wanted left
+all_ahead Wanted p xs left is sorted passes there = subst (IsAhead Wanted) (sym is) record {
+  sorted = IsStrictlySortedBy-filter nat_cmp p xs sorted;
+  each = λ k wanted. kept_key p k xs (passes k wanted) (found_key k xs (there k wanted));
+}
+
+-- A number that is not below another comes from it on.
+pub from_on : (from k : ℕ) → from ≤ k → (is_le (nat_cmp from k) && not false) ≡ true
+from_on from k le = grind (arith, nat_tests)

@@ -11,3 +11,4 @@ pub mod Ahead
 pub mod Free
 pub mod Left
 pub mod Sums
+pub mod StartLaws

@@ -5,3 +5,4 @@ pub mod Ids
 pub mod Tuples
 pub mod Candidates
 pub mod Firsts
+pub mod Starts

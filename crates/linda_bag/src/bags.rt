@@ -12,6 +12,15 @@ use linda_tuple::{Template, Tuple};
 use std::alloc::{AllocError, Global};
 use std::collections::BTreeSet;
 
+/// What a search for a tuple came to.
+#[derive(Clone, Copy, Debug)]
+pub struct Found {
+    /// The id that was found; nothing only where there is none.
+    pub id: Option<u64>,
+    /// How many tuples were looked at in vain.
+    pub passed: usize,
+}
+
 /// Tuples under ids, at most one under each. Any 64-bit number may be an id.
 pub trait Bag: Drop {
     // the tuples by their ids
@@ -48,6 +57,16 @@ pub trait Bag: Drop {
         ensures least { IfSome result (λ id. (k : ℕ) → k < id
             → IsFreeMatch (contents self.now) template.now (contains nat_cmp passed.now) k → ⊥) }
         ensures none { IfNone result ((k : ℕ)
+            → IsFreeMatch (contents self.now) template.now (contains nat_cmp passed.now) k → ⊥) };
+
+    /// The same of the ids from `from` on alone, and how many tuples were looked at in vain. Takes no memory.
+    fn least_match_from(&self, template: &Template, passed: &BTreeSet<u64>, from: u64) -> Found
+        ensures found { IfSome result.id
+            (IsFreeMatch (contents self.now) template.now (contains nat_cmp passed.now)) }
+        ensures above { IfSome result.id (λ id. from ≤ id) }
+        ensures least { IfSome result.id (λ id. (k : ℕ) → from ≤ k → k < id
+            → IsFreeMatch (contents self.now) template.now (contains nat_cmp passed.now) k → ⊥) }
+        ensures none { IfNone result.id ((k : ℕ) → from ≤ k
             → IsFreeMatch (contents self.now) template.now (contains nat_cmp passed.now) k → ⊥) };
 
     /// How many tuples there are. Takes no memory.

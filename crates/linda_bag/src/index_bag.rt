@@ -1,13 +1,13 @@
 //! The bag of a server that has many tuples: a look-up looks at those alone that have the template's
 //! head, its tag, its number of fields and the value that it begins with.
 
-ghost use Rattle.std.specs.Prelude.{◌≡◌, ◌<◌, ◌↔◌, ℕ, true, IsTrue, IfSome, IfNone};
+ghost use Rattle.std.specs.Prelude.{◌≡◌, ◌≤◌, ◌<◌, ◌↔◌, ℕ, None, true, IsTrue, IfSome, IfNone};
 ghost use Rattle.std.specs.Ordering.{nat_cmp};
 ghost use Rattle.std.specs.BTreeSet.{contains};
 ghost use Rattle.std.specs.FinMap as map;
 ghost use Rattle.linda_bag.specs.FreeMatch.{IsFreeMatch};
 
-use crate::bags::Bag;
+use crate::bags::{Bag, Found};
 use crate::by_id::is_free_match;
 use crate::filing::Shelf;
 use crate::ids::Ids;
@@ -88,16 +88,26 @@ impl Bag for IndexBag {
     }
 
     fn least_match(&self, template: &Template, passed: &BTreeSet<u64>) -> Option<u64> {
-        match candidates(&self.index, template)? {
-            Ids::Nothing => None,
-            Ids::One(id) => {
-                if is_free(&self.tuples, template, passed, *id) {
-                    Some(*id)
-                } else {
-                    None
+        self.least_match_from(template, passed, 0).id
+    }
+
+    fn least_match_from(&self, template: &Template, passed: &BTreeSet<u64>, from: u64) -> Found {
+        match candidates(&self.index, template) {
+            None => nothing_found(),
+            Some(Ids::Nothing) => nothing_found(),
+            Some(Ids::One(id)) => {
+                if *id < from {
+                    return nothing_found();
                 }
+                if is_free(&self.tuples, template, passed, *id) {
+                    return Found {
+                        id: Some(*id),
+                        passed: 0,
+                    };
+                }
+                nothing_found()
             }
-            Ids::Many(ids) => least_free(&self.tuples, template, passed, ids),
+            Some(Ids::Many(ids)) => least_free(&self.tuples, template, passed, ids, from),
         }
     }
 
@@ -110,26 +120,46 @@ impl Bag for IndexBag {
     }
 }
 
-// The least of the ids whose tuple may answer the template.
+// No tuple was looked at.
+fn nothing_found() -> Found
+    ensures { result.id ≡ None }
+{
+    Found {
+        id: None,
+        passed: 0,
+    }
+}
+
+// The least of the ids from `from` on whose tuple may answer the template.
 fn least_free(
     tuples: &Tuples,
     template: &Template,
     passed: &BTreeSet<u64>,
     ids: &BTreeSet<u64>,
-) -> Option<u64>
-    ensures found { IfSome result
+    from: u64,
+) -> Found
+    ensures found { IfSome result.id
         (IsFreeMatch tuples.now template.now (contains nat_cmp passed.now)) }
-    ensures least { IfSome result (λ id. (k : ℕ) → k < id → contains nat_cmp ids.now k ≡ true
+    ensures above { IfSome result.id (λ id. from ≤ id) }
+    ensures least { IfSome result.id (λ id. (k : ℕ) → from ≤ k → k < id → contains nat_cmp ids.now k ≡ true
         → IsFreeMatch tuples.now template.now (contains nat_cmp passed.now) k → ⊥) }
-    ensures none { IfNone result ((k : ℕ) → contains nat_cmp ids.now k ≡ true
+    ensures none { IfNone result.id ((k : ℕ) → from ≤ k → contains nat_cmp ids.now k ≡ true
         → IsFreeMatch tuples.now template.now (contains nat_cmp passed.now) k → ⊥) }
 {
-    for id in ids {
+    let mut looks: usize = 0;
+    for id in ids.range(from..) {
         if is_free(tuples, template, passed, *id) {
-            return Some(*id);
+            return Found {
+                id: Some(*id),
+                passed: looks,
+            };
         }
+        looks = looks.saturating_add(1);
     }
-    None
+    Found {
+        id: None,
+        passed: looks,
+    }
 }
 
 // Whether there is a tuple under the id that may answer the template.

@@ -20,10 +20,12 @@ mod ids;
 mod index;
 mod index_bag;
 mod lists;
+mod starts;
 mod tuples;
 
-pub use bags::Bag;
+pub use bags::{Bag, Found};
 pub use filing::{Key, Shelf, refile, unfile};
 pub use heads::{Headed, Heads, alike};
 pub use index_bag::IndexBag;
 pub use lists::ListBag;
+pub use starts::Starts;

@@ -4,7 +4,7 @@ ghost use Rattle.std.specs.Prelude.{◌≡◌};
 ghost use Rattle.std.specs.Ordering.{nat_cmp};
 ghost use Rattle.std.specs.FinMap as map;
 
-use crate::bags::Bag;
+use crate::bags::{Bag, Found};
 use crate::by_id::{is_free_match, next_id};
 use linda_tuple::{Template, Tuple};
 use std::alloc::{AllocError, Global};
@@ -51,12 +51,26 @@ impl Bag for ListBag {
     }
 
     fn least_match(&self, template: &Template, passed: &BTreeSet<u64>) -> Option<u64> {
+        self.least_match_from(template, passed, 0).id
+    }
+
+    fn least_match_from(&self, template: &Template, passed: &BTreeSet<u64>, from: u64) -> Found {
+        let mut looks: usize = 0;
         for (id, tuple) in &self.tuples {
-            if is_free_match(template, passed, *id, tuple) {
-                return Some(*id);
+            if *id >= from {
+                if is_free_match(template, passed, *id, tuple) {
+                    return Found {
+                        id: Some(*id),
+                        passed: looks,
+                    };
+                }
+                looks = looks.saturating_add(1);
             }
         }
-        None
+        Found {
+            id: None,
+            passed: looks,
+        }
     }
 
     #[tactic(auto, using(crate::proofs::Maps::len_entries))]

@@ -10,9 +10,9 @@ pub enum Class {
     Fresh,
     /// The number is the last one: the message is a repeat, and its reply is kept.
     Kept,
-    /// The number is 0 or below the last one, which is told: nothing is kept for it any more.
+    /// The number is 0 or below the last one, which is given: nothing is kept for it any more.
     Old(u64),
-    /// The number is beyond the next one. The last one is told, 0 if there is none.
+    /// The number is beyond the next one. The last one is given, 0 if there is none.
     Gap(u64),
 }
 

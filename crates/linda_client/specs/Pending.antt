@@ -66,7 +66,7 @@ drop_oldest pending = record pending { saved = drop 1 pending.saved }
 abbrev pub take_oldest : Accepted → Pending → Pending
 take_oldest a pending = record (drop_oldest pending) { accepted = Some a }
 
--- It saves an arrival, behind those that it saved before.
+-- It saves an arrival, after those that it saved before.
 abbrev pub save_last : Arrival → Pending → Pending
 save_last a pending = record pending { saved = pending.saved ++ a ∷ [] }
 

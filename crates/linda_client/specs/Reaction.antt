@@ -61,7 +61,7 @@ commit c event packets base got = finish c packets (commitment event base got)
 abbrev pub shown : Told → Client → Reaction
 shown told c = record { packets = told.packets.items; outcome = told.outcome; fault = told.fault; client = c }
 
--- The refusal is that of the answer; want of memory is found only where the call is not refused.
+-- The refusal is that of the answer; `Memory` is returned only where the call is not refused.
 abbrev pub IsRefusal : ClientFault → Answer → Type 0
 IsRefusal faults.ServersRange answer = answer ≡ Err faults.ServersRange
 IsRefusal faults.Busy answer = answer ≡ Err faults.Busy

@@ -29,7 +29,7 @@ pub(crate) struct Accepted {
     pub(crate) id: u64,
 }
 
-/// An arrival as a reply tells it, before it is kept.
+/// An arrival as a reply reports it, before it is kept.
 #[derive(Clone, Copy, Debug)]
 pub(crate) struct Arriving<'a> {
     pub(crate) server: u32,
@@ -55,7 +55,7 @@ impl Arrival {
 }
 
 impl Arrival {
-    /// The arrival, as it was told.
+    /// The arrival, as it was reported.
     pub(crate) fn arriving(&self) -> Arriving<'_>
         ensures { arrival_of result ≡ self.now }
     {

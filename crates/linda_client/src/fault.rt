@@ -6,8 +6,8 @@ ghost use Rattle.linda_client.specs.declared.fault.ClientFault.TheVariants as fa
 use std::alloc::AllocError;
 use thiserror::Error;
 
-/// Why a call of the client is refused. The refusals are judged in this order, and want of memory is
-/// found after all of them.
+/// Why a call of the client is refused. The refusals are judged in this order, and `Memory` is
+/// returned after all of them.
 #[derive(Clone, Copy, Debug, PartialEq, Eq, Error)]
 pub enum ClientFault {
     /// A client has 1 to 16 servers.

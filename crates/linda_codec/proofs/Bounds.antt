@@ -1,7 +1,7 @@
 -- What a reader leaves, and what a fault counts, are bytes that are there.
 use Rattle.std.proofs.Common.{◌≡◌, ◌≢◌, ℕ, zero, suc, ◌-◌, ◌≤◌, Bool, true, false, cond, List, ◌∷◌, length, drop, Ok, Err, sym, ap, subst, ◌∙◌, arith, length-drop}
 use Rattle.linda_codec.specs.declared.fault.ReadFault.{ReadFault}
-use Rattle.linda_codec.specs.declared.fault.ReadFault.TheVariants.{Memory, Short, BadKind, BadBool, BadText, TooMany}
+use Rattle.linda_codec.specs.declared.fault.ReadFault.TheVariants.{Memory, Short, BadKind, BadBool, BadText, TooMany, LongText}
 use Rattle.linda_codec.specs.Steps.{Read, Reader, ◌>>=◌, many_at}
 use Rattle.linda_codec.specs.Lawful.{IsLeftOf, IsBounded}
 use Rattle.linda_codec.specs.Places.{placed, IsPlace}
@@ -13,6 +13,7 @@ more_left m n (BadKind left) le h = (h.0, omega (arith, h.1))
 more_left m n (BadBool left) le h = (h.0, omega (arith, h.1))
 more_left m n (BadText left) le h = (h.0, omega (arith, h.1))
 more_left m n (TooMany left) le h = (h.0, omega (arith, h.1))
+more_left m n (LongText left) le h = (h.0, omega (arith, h.1))
 
 pub more_bounded : {A : Type 0} (m n : ℕ) (read : Read A) → m ≤ n → IsBounded m read → IsBounded n read
 more_bounded m n (Ok x) le h = omega (arith, h)
@@ -42,6 +43,7 @@ place_of from to (BadKind left) h = (omega (arith, h.0, h.1), omega (arith, h.0,
 place_of from to (BadBool left) h = (omega (arith, h.0, h.1), omega (arith, h.0, h.1))
 place_of from to (BadText left) h = (omega (arith, h.0, h.1), omega (arith, h.0, h.1))
 place_of from to (TooMany left) h = (omega (arith, h.0, h.1), omega (arith, h.0, h.1))
+place_of from to (LongText left) h = (omega (arith, h.0, h.1), omega (arith, h.0, h.1))
 
 fault_left : {A : Type 0} (read : Reader A) → ((bytes : List ℕ) → IsBounded (length bytes) (read bytes)) → (bytes : List ℕ) (fault : ReadFault) → read bytes ≡ Err fault → IsLeftOf (length bytes) fault
 fault_left {A = A} read bounded bytes fault e = subst (λ (r : Read A). IsBounded (length bytes) r) e (bounded bytes)
@@ -53,6 +55,7 @@ told_place from to (BadKind left) h = place_of from to (BadKind left) (h (λ e. 
 told_place from to (BadBool left) h = place_of from to (BadBool left) (h (λ e. cc))
 told_place from to (BadText left) h = place_of from to (BadText left) (h (λ e. cc))
 told_place from to (TooMany left) h = place_of from to (TooMany left) (h (λ e. cc))
+told_place from to (LongText left) h = place_of from to (LongText left) (h (λ e. cc))
 
 -- The fault of a reader from an offset on is told within the bytes.
 pub is_place : {A : Type 0} (read : Reader A) → ((bytes : List ℕ) → IsBounded (length bytes) (read bytes)) → (bytes tail : List ℕ) (at : ℕ) (fault told : ReadFault) → tail ≡ drop at bytes → (fault ≢ Memory → read tail ≡ Err fault) → told ≡ placed (length bytes) fault → IsPlace at (length bytes) told

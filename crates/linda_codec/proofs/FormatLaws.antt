@@ -2,7 +2,7 @@
 use Rattle.std.proofs.Common.{◌≡◌, ℕ, ℤ, zero, suc, ◌^◌, ◌<◌, ◌≤◌, Bool, true, false, cond, ltb, eqb, List, [], ◌∷◌, ◌++◌, length, take, drop, Ok, Err, refl, sym, ap, subst, ◌∙◌, append_assoc, arith, length-drop}
 use Rattle.std.specs.Prelude.{if◌then◌else◌}
 use Rattle.std.specs.List.{flat_map, AllByRecursion}
-use Rattle.std.specs.Int.{Width, w32, w64, byte_len, from_be_bytes, to_be_bytes, cast_signed, cast_unsigned}
+use Rattle.std.specs.Int.{Width, w16, w32, w64, byte_len, from_be_bytes, to_be_bytes, cast_signed, cast_unsigned}
 use Rattle.std.specs.Str.{is_utf8}
 use mathlib.Core.Bool.{true≢false}
 use borrow.Author.Gap.{read_sfits}
@@ -11,11 +11,11 @@ use Rattle.std.proofs.lemmas.Bool.{ltb-false, le-ltb, eqb-true}
 use Rattle.std.proofs.lemmas.Int.{to_z-of_z, of_z-to_z}
 use Rattle.std.proofs.lemmas.List.{take_at, drop_at, length-append, length-take}
 use Rattle.std.proofs.lemmas.Str.{is_utf8-from_IsUtf8}
-use Rattle.linda_codec.specs.declared.fault.ReadFault.TheVariants.{Short, BadText, TooMany}
+use Rattle.linda_codec.specs.declared.fault.ReadFault.TheVariants.{Short, BadText, TooMany, LongText}
 use Rattle.linda_codec.specs.Steps.{Read, Reader, ◌>>=◌, many_at}
-use Rattle.linda_codec.specs.Formats.{Format, byte_at, byte, number_at, short_number, number, integer, truth_at, truth, nothing, both, made_at, made, known_as, sized_text, count_at, counted, no_kind, body_at, choice_at}
+use Rattle.linda_codec.specs.Formats.{Format, byte_at, byte, number_at, length_at, short_length, short_number, number, integer, truth_at, truth, nothing, both, made_at, made, known_as, sized_text, count_at, counted, no_kind, body_at, choice_at}
 use Rattle.linda_codec.specs.Lawful.{IsBytes, Takes, IsBounded, IsSpelled, IsFormat}
-use Rattle.linda_codec.proofs.Takes.{IsBytes-rest, bind_ok, guard_ok, guard_then, guard_right, ok_is, Takes-then, Takes-none, Takes-byte, Takes-behind, Takes-front, wide32, wide64, number_takes, number_again, byte_takes}
+use Rattle.linda_codec.proofs.Takes.{IsBytes-rest, bind_ok, guard_ok, guard_then, guard_right, ok_is, Takes-then, Takes-none, Takes-byte, Takes-behind, Takes-front, wide16, wide32, wide64, number_takes, number_again, byte_takes}
 use Rattle.linda_codec.proofs.Many.{many_takes, many_again}
 use Rattle.linda_codec.proofs.Bounds.{more_bounded, bounded_then, guarded, many_bounded}
 
@@ -34,6 +34,26 @@ number_bounded w bytes =
 
 pub short_number_is : IsFormat short_number
 short_number_is = record { takes = number_takes w32 (2 ^ 32) wide32; again = number_again w32 (2 ^ 32) wide32; bounded = number_bounded w32 }
+
+pub short_length_is : (limit : ℕ) → IsFormat (short_length limit)
+short_length_is limit = record {
+  takes = λ bytes x fits e.
+      let a = bind_ok (number_at w16 bytes) (λ n. if ltb limit n.0 then Err (LongText (length bytes)) else Ok n) x e in
+      let t = number_takes w16 (2 ^ 16) wide16 bytes a.0 fits a.1 in
+      let g = guard_ok (ltb limit a.0.0) (LongText (length bytes)) a.0 x a.2 in
+      let short : a.0.0 ≤ limit = ltb-false _ _ g.0 in
+      subst (λ (y : ℕ × List ℕ). IsSpelled (short_length limit).spell (short_length limit).Fits bytes y) g.1 (t.0, (short, t.1));
+  again = λ n rest fits.
+      let not_long : ltb limit n ≡ false = le-ltb _ _ fits.0 in
+      rw (number_again w16 (2 ^ 16) wide16 n rest fits.1, not_long) refl;
+  bounded = λ bytes. length_bounded (ltb (length bytes) 2) bytes refl;
+}
+  where
+    length_bounded : (b : Bool) (bytes : List ℕ) → ltb (length bytes) 2 ≡ b → IsBounded (length bytes) (length_at limit bytes)
+    length_bounded true bytes e = rw e tt
+    length_bounded false bytes e =
+        let long : 2 ≤ length bytes = ltb-false _ _ e in
+        rw e (guarded (length bytes) (ltb limit (from_be_bytes w16 (take 2 bytes))) (LongText (length bytes)) (Ok (from_be_bytes w16 (take 2 bytes), drop 2 bytes)) (omega (arith, long), omega arith) (omega (arith, length-drop 2 bytes)))
 
 pub number_is : IsFormat number
 number_is = record { takes = number_takes w64 (2 ^ 64) wide64; again = number_again w64 (2 ^ 64) wide64; bounded = number_bounded w64 }

@@ -1,80 +1,164 @@
 -- The formats of atoms, tuples and templates are lawful.
-use Rattle.std.proofs.Common.{◌≡◌, ℕ, List, [], ◌∷◌, ◌++◌, Ok, refl, arith}
+use Rattle.std.proofs.Common.{◌≡◌, ◌≤◌, ℕ, length, List, [], ◌∷◌, ◌++◌, Ok, refl, arith}
 use Rattle.linda_tuple.specs.declared.atom.Atom.{Atom}
 use Rattle.linda_tuple.specs.declared.atom.Atom.TheVariants as atoms
 use Rattle.linda_tuple.specs.declared.pattern.Pattern.{Pattern}
 use Rattle.linda_tuple.specs.declared.pattern.Pattern.TheVariants as patterns
-use Rattle.linda_tuple.specs.declared.limits.TheConstants.{MAX_FIELDS}
-use Rattle.linda_tuple.specs.Atom.{IsSound}
-use Rattle.linda_tuple.specs.Tuple.{IsWithin}
-use Rattle.linda_tuple.specs.Template.{IsSoundPattern, IsWithinTemplate}
+use Rattle.linda_tuple.specs.declared.form.Form.{Form}
+use Rattle.linda_tuple.specs.declared.form.Form.TheVariants.{One, Two}
+use Rattle.linda_tuple.specs.Form.{longest_text, most_fields}
+use Rattle.linda_tuple.specs.Atom.{IsSound, IsSoundIn}
+use Rattle.linda_tuple.specs.Tuple.{Tuple, FitsIn, IsWithin}
+use Rattle.linda_tuple.specs.Template.{Template, IsSoundPattern, IsSoundPatternIn, FitsTemplateIn, IsWithinTemplate}
 use Rattle.linda_codec.specs.declared.kinds.TheConstants.{INTEGER, TEXT, TRUTH, INT_FORMAL, TEXT_FORMAL, BOOL_FORMAL, WILDCARD}
 use Rattle.linda_codec.specs.Lawful.{IsFormat}
 use Rattle.linda_codec.specs.Formats.{made_at, no_kind}
 use Rattle.linda_codec.specs.Values as format
-use Rattle.linda_codec.proofs.FormatLaws.{byte_is, integer_is, truth_is, nothing_is, both_is, body_is, made_again, made_is, known_as_is, sized_text_is, counted_is, no_kind_is, choice_is, AreBodies}
+use Rattle.linda_codec.proofs.FormatLaws.{byte_is, short_length_is, integer_is, truth_is, nothing_is, both_is, body_is, made_again, made_is, known_as_is, sized_text_is, counted_is, no_kind_is, choice_is, AreBodies}
 
-pub text_is : IsFormat format.text
-text_is = sized_text_is byte_is
+-- The length of a text that has a spelling has one.
+length_fits : (form : Form) (n : ℕ) → n ≤ longest_text form → (format.text_length form).Fits n
+length_fits One n short = omega (arith, short)
+length_fits Two n short = (short, omega (arith, short))
+
+-- A length that has a spelling is that of a text that has one.
+length_short : (form : Form) (n : ℕ) → (format.text_length form).Fits n → n ≤ longest_text form
+length_short One n fits = omega (arith, fits)
+length_short Two n fits = fits.0
+
+text_length_is : (form : Form) → IsFormat (format.text_length form)
+text_length_is One = byte_is
+text_length_is Two = short_length_is (longest_text Two)
+
+pub text_is : (form : Form) → IsFormat (format.text form)
+text_is form = sized_text_is (text_length_is form)
 
 -- ---- atoms
 
-atom_bodies : AreBodies format.spell_atom IsSound format.atom_kinds
-atom_bodies = (
-  body_is integer_is format.spell_atom IsSound (INTEGER ∷ []) (λ n. atoms.Int n) (λ n. refl) (λ n fits. fits),
+atom_bodies : (form : Form) → AreBodies (format.spell_atom form) (IsSoundIn form) (format.atom_kinds form)
+atom_bodies form = (
+  body_is integer_is (format.spell_atom form) (IsSoundIn form) (INTEGER ∷ []) (λ n. atoms.Int n) (λ n. refl) (λ n fits. fits),
   (
-    body_is text_is format.spell_atom IsSound (TEXT ∷ []) (λ t. atoms.Text t) (λ t. refl) (λ t fits. (omega (arith, fits.0), fits.1)),
-    (body_is truth_is format.spell_atom IsSound (TRUTH ∷ []) (λ b. atoms.Bool b) (λ b. refl) (λ b fits. fits), tt),
+    body_is (text_is form) (format.spell_atom form) (IsSoundIn form) (TEXT ∷ []) (λ t. atoms.Text t) (λ t. refl) (λ t fits. (length_short form (length t) fits.0, fits.1)),
+    (body_is truth_is (format.spell_atom form) (IsSoundIn form) (TRUTH ∷ []) (λ b. atoms.Bool b) (λ b. refl) (λ b fits. fits), tt),
   ),
 )
 
-atom_again : (a : Atom) (rest : List ℕ) → IsSound a → format.atom.read (format.atom.spell a ++ rest) ≡ Ok (a, rest)
-atom_again (atoms.Int n) rest sound = made_again integer_is (λ n. atoms.Int n) n rest sound
-atom_again (atoms.Text t) rest sound = made_again text_is (λ t. atoms.Text t) t rest (omega (arith, sound.0), sound.1)
-atom_again (atoms.Bool b) rest sound = made_again truth_is (λ b. atoms.Bool b) b rest sound
+atom_again : (form : Form) (a : Atom) (rest : List ℕ) → IsSoundIn form a → (format.atom form).read ((format.atom form).spell a ++ rest) ≡ Ok (a, rest)
+atom_again form (atoms.Int n) rest sound = made_again integer_is (λ n. atoms.Int n) n rest sound
+atom_again form (atoms.Text t) rest sound = made_again (text_is form) (λ t. atoms.Text t) t rest (length_fits form (length t) sound.0, sound.1)
+atom_again form (atoms.Bool b) rest sound = made_again truth_is (λ b. atoms.Bool b) b rest sound
 
-pub atom_is : IsFormat format.atom
-atom_is = choice_is format.spell_atom IsSound format.atom_kinds no_kind atom_bodies (no_kind_is format.spell_atom IsSound) atom_again
+pub atom_is : (form : Form) → IsFormat (format.atom form)
+atom_is form =
+    choice_is (format.spell_atom form) (IsSoundIn form) (format.atom_kinds form) no_kind (atom_bodies form)
+    (no_kind_is (format.spell_atom form) (IsSoundIn form)) (atom_again form)
 
 -- ---- patterns
 
-formal_bodies : AreBodies format.spell_pattern IsSoundPattern format.formal_kinds
-formal_bodies = (
-  body_is nothing_is format.spell_pattern IsSoundPattern (INT_FORMAL ∷ []) (λ n. patterns.IntFormal) (λ n. refl) (λ n fits. fits),
+formal_bodies : (form : Form) → AreBodies (format.spell_pattern form) (IsSoundPatternIn form) format.formal_kinds
+formal_bodies form = (
+  body_is nothing_is (format.spell_pattern form) (IsSoundPatternIn form) (INT_FORMAL ∷ []) (λ n. patterns.IntFormal) (λ n. refl) (λ n fits. fits),
   (
-    body_is nothing_is format.spell_pattern IsSoundPattern (TEXT_FORMAL ∷ []) (λ n. patterns.TextFormal) (λ n. refl) (λ n fits. fits),
+    body_is nothing_is (format.spell_pattern form) (IsSoundPatternIn form) (TEXT_FORMAL ∷ []) (λ n. patterns.TextFormal) (λ n. refl) (λ n fits. fits),
     (
-      body_is nothing_is format.spell_pattern IsSoundPattern (BOOL_FORMAL ∷ []) (λ n. patterns.BoolFormal) (λ n. refl) (λ n fits. fits),
-      (body_is nothing_is format.spell_pattern IsSoundPattern (WILDCARD ∷ []) (λ n. patterns.Any) (λ n. refl) (λ n fits. fits), tt),
+      body_is nothing_is (format.spell_pattern form) (IsSoundPatternIn form) (BOOL_FORMAL ∷ []) (λ n. patterns.BoolFormal) (λ n. refl) (λ n fits. fits),
+      (body_is nothing_is (format.spell_pattern form) (IsSoundPatternIn form) (WILDCARD ∷ []) (λ n. patterns.Any) (λ n. refl) (λ n fits. fits), tt),
     ),
   ),
 )
 
-value_again : (a : Atom) (rest : List ℕ) → IsSound a → made_at (λ v. patterns.Value v) format.atom (format.atom.spell a ++ rest) ≡ Ok (patterns.Value a, rest)
-value_again a rest sound = made_again atom_is (λ v. patterns.Value v) a rest sound
+value_again : (form : Form) (a : Atom) (rest : List ℕ) → IsSoundIn form a → made_at (λ v. patterns.Value v) (format.atom form) ((format.atom form).spell a ++ rest) ≡ Ok (patterns.Value a, rest)
+value_again form a rest sound = made_again (atom_is form) (λ v. patterns.Value v) a rest sound
 
-pattern_again : (p : Pattern) (rest : List ℕ) → IsSoundPattern p → format.pattern.read (format.pattern.spell p ++ rest) ≡ Ok (p, rest)
-pattern_again (patterns.Value (atoms.Int n)) rest sound = value_again (atoms.Int n) rest sound
-pattern_again (patterns.Value (atoms.Text t)) rest sound = value_again (atoms.Text t) rest sound
-pattern_again (patterns.Value (atoms.Bool b)) rest sound = value_again (atoms.Bool b) rest sound
-pattern_again patterns.IntFormal rest sound = refl
-pattern_again patterns.TextFormal rest sound = refl
-pattern_again patterns.BoolFormal rest sound = refl
-pattern_again patterns.Any rest sound = refl
+pattern_again : (form : Form) (p : Pattern) (rest : List ℕ) → IsSoundPatternIn form p → (format.pattern form).read ((format.pattern form).spell p ++ rest) ≡ Ok (p, rest)
+pattern_again form (patterns.Value (atoms.Int n)) rest sound = value_again form (atoms.Int n) rest sound
+pattern_again form (patterns.Value (atoms.Text t)) rest sound = value_again form (atoms.Text t) rest sound
+pattern_again form (patterns.Value (atoms.Bool b)) rest sound = value_again form (atoms.Bool b) rest sound
+pattern_again form patterns.IntFormal rest sound = refl
+pattern_again form patterns.TextFormal rest sound = refl
+pattern_again form patterns.BoolFormal rest sound = refl
+pattern_again form patterns.Any rest sound = refl
 
-pub pattern_is : IsFormat format.pattern
-pattern_is =
-    choice_is format.spell_pattern IsSoundPattern format.formal_kinds (made_at (λ v. patterns.Value v) format.atom) formal_bodies
-    (body_is atom_is format.spell_pattern IsSoundPattern [] (λ v. patterns.Value v) (λ v. refl) (λ v fits. fits)) pattern_again
+pub pattern_is : (form : Form) → IsFormat (format.pattern form)
+pattern_is form =
+    choice_is (format.spell_pattern form) (IsSoundPatternIn form) format.formal_kinds (made_at (λ v. patterns.Value v) (format.atom form)) (formal_bodies form)
+    (body_is (atom_is form) (format.spell_pattern form) (IsSoundPatternIn form) [] (λ v. patterns.Value v) (λ v. refl) (λ v fits. fits)) (pattern_again form)
 
 -- ---- tuples and templates
 
-pub tuple_is : IsFormat format.tuple
-tuple_is =
-    known_as_is (made_is (both_is atom_is (counted_is MAX_FIELDS atom_is)) (λ p. record { tag = p.0; fields = p.1 }) (λ t. (t.tag, t.fields)) (λ p. refl) (λ t. refl))
-    IsWithin (λ t fits. record { count = fits.1.0; tag = fits.0; fields = fits.1.1 }) (λ t within. (within.tag, (within.count, within.fields)))
+pub tuple_is : (form : Form) → IsFormat (format.tuple form)
+tuple_is form =
+    known_as_is (made_is (both_is (atom_is form) (counted_is (most_fields form) (atom_is form))) (λ p. record { tag = p.0; fields = p.1 }) (λ t. (t.tag, t.fields)) (λ p. refl) (λ t. refl))
+    (FitsIn form) (λ t fits. record { count = fits.1.0; tag = fits.0; fields = fits.1.1 }) (λ t within. (within.tag, (within.count, within.fields)))
 
-pub template_is : IsFormat format.template
-template_is =
-    known_as_is (made_is (both_is atom_is (counted_is MAX_FIELDS pattern_is)) (λ p. record { tag = p.0; fields = p.1 }) (λ t. (t.tag, t.fields)) (λ p. refl) (λ t. refl))
-    IsWithinTemplate (λ t fits. record { count = fits.1.0; tag = fits.0; fields = fits.1.1 }) (λ t within. (within.tag, (within.count, within.fields)))
+pub template_is : (form : Form) → IsFormat (format.template form)
+template_is form =
+    known_as_is (made_is (both_is (atom_is form) (counted_is (most_fields form) (pattern_is form))) (λ p. record { tag = p.0; fields = p.1 }) (λ t. (t.tag, t.fields)) (λ p. refl) (λ t. refl))
+    (FitsTemplateIn form) (λ t fits. record { count = fits.1.0; tag = fits.0; fields = fits.1.1 }) (λ t within. (within.tag, (within.count, within.fields)))
+
+-- ---- what has a spelling in a form is within the limits
+
+sound_within : (form : Form) (a : Atom) → IsSoundIn form a → IsSound a
+sound_within One (atoms.Int n) sound = sound
+sound_within One (atoms.Text t) sound = (omega (arith, sound.0), sound.1)
+sound_within One (atoms.Bool b) sound = sound
+sound_within Two a sound = sound
+
+pattern_within : (form : Form) (p : Pattern) → IsSoundPatternIn form p → IsSoundPattern p
+pattern_within form (patterns.Value v) sound = sound_within form v sound
+pattern_within form patterns.IntFormal sound = sound
+pattern_within form patterns.TextFormal sound = sound
+pattern_within form patterns.BoolFormal sound = sound
+pattern_within form patterns.Any sound = sound
+
+few_within : (form : Form) (n : ℕ) → n ≤ most_fields form → n ≤ most_fields Two
+few_within One n few = omega (arith, few)
+few_within Two n few = few
+
+pub tuple_within : (form : Form) (t : Tuple) → FitsIn form t → IsWithin t
+tuple_within form t fits = record {
+  count = few_within form (length t.fields) fits.count;
+  tag = sound_within form t.tag fits.tag;
+  fields = λ k d lt. sound_within form _ (fits.fields k d lt);
+}
+
+pub template_within : (form : Form) (t : Template) → FitsTemplateIn form t → IsWithinTemplate t
+template_within form t fits = record {
+  count = few_within form (length t.fields) fits.count;
+  tag = sound_within form t.tag fits.tag;
+  fields = λ k d lt. pattern_within form _ (fits.fields k d lt);
+}
+
+-- ---- what is within the limits has a spelling in either form
+
+atom_fits : (form : Form) (a : Atom) → IsSound a → IsSoundIn form a
+atom_fits One (atoms.Int n) sound = sound
+atom_fits One (atoms.Text t) sound = (omega (arith, sound.0), sound.1)
+atom_fits One (atoms.Bool b) sound = sound
+atom_fits Two a sound = sound
+
+pattern_fits : (form : Form) (p : Pattern) → IsSoundPattern p → IsSoundPatternIn form p
+pattern_fits form (patterns.Value v) sound = atom_fits form v sound
+pattern_fits form patterns.IntFormal sound = sound
+pattern_fits form patterns.TextFormal sound = sound
+pattern_fits form patterns.BoolFormal sound = sound
+pattern_fits form patterns.Any sound = sound
+
+few_fit : (form : Form) (n : ℕ) → n ≤ most_fields Two → n ≤ most_fields form
+few_fit One n few = omega (arith, few)
+few_fit Two n few = few
+
+pub tuple_fits : (form : Form) (t : Tuple) → IsWithin t → FitsIn form t
+tuple_fits form t within = record {
+  count = few_fit form (length t.fields) within.count;
+  tag = atom_fits form t.tag within.tag;
+  fields = λ k d lt. atom_fits form _ (within.fields k d lt);
+}
+
+pub template_fits : (form : Form) (t : Template) → IsWithinTemplate t → FitsTemplateIn form t
+template_fits form t within = record {
+  count = few_fit form (length t.fields) within.count;
+  tag = atom_fits form t.tag within.tag;
+  fields = λ k d lt. pattern_fits form _ (within.fields k d lt);
+}

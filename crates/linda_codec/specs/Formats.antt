@@ -3,9 +3,9 @@ use Rattle.std.specs.Prelude.{◌≡◌, ℕ, zero, suc, ◌<◌, ◌≤◌, ◌
 use Rattle.std.specs.Prelude.{[], ◌∷◌, ◌++◌, length, take, drop, All, Ok, Err, FitsSigned, nat_lt}
 use Rattle.std.specs.Prelude.{if◌then◌else◌}
 use Rattle.std.specs.List.{flat_map}
-use Rattle.std.specs.Int.{Width, w32, w64, byte_len, to_be_bytes, from_be_bytes, cast_signed, cast_unsigned}
+use Rattle.std.specs.Int.{Width, w16, w32, w64, byte_len, to_be_bytes, from_be_bytes, cast_signed, cast_unsigned}
 use Rattle.std.specs.Str.{is_utf8}
-use Rattle.linda_codec.specs.declared.fault.ReadFault.TheVariants.{Short, BadKind, BadBool, BadText, TooMany}
+use Rattle.linda_codec.specs.declared.fault.ReadFault.TheVariants.{Short, BadKind, BadBool, BadText, TooMany, LongText}
 use Rattle.linda_codec.specs.Steps.{Reader, ◌>>=◌, many_at}
 
 -- The one spelling of a value, which values have one, and the reader.
@@ -29,6 +29,15 @@ abbrev pub number_at : Width → Reader ℕ
 number_at w bytes =
     if nat_lt (length bytes) (byte_len w) then Err Short
     else Ok (from_be_bytes w (take (byte_len w) bytes), drop (byte_len w) bytes)
+
+-- A number of 16 bits that is not above the limit, as a text's length.
+abbrev pub length_at : ℕ → Reader ℕ
+length_at limit bytes =
+    number_at w16 bytes >>= λ n. if nat_lt limit n.0 then Err (LongText (length bytes)) else Ok n
+
+abbrev pub short_length : ℕ → Format ℕ
+short_length limit =
+    record { spell = to_be_bytes w16; Fits = λ n. (n ≤ limit) × (n < 2 ^ 16); read = length_at limit }
 
 -- A number of 32 bits.
 abbrev pub short_number : Format ℕ
@@ -82,7 +91,7 @@ made make parts f = record { spell = λ m. f.spell (parts m); Fits = λ m. f.Fit
 abbrev pub known_as : {A : Type 0} → (A → Type 0) → Format A → Format A
 known_as Fits f = record { spell = f.spell; Fits = Fits; read = f.read }
 
--- A text behind its length.
+-- A text after its length.
 abbrev pub sized_text : Format ℕ → Format (List ℕ)
 sized_text size = record {
   spell = λ t. size.spell (length t) ++ t;
@@ -116,7 +125,7 @@ abbrev pub body_at : {A : Type 0} → List (ℕ × Reader A) → Reader A → �
 body_at [] other kind rest = other (kind ∷ rest)
 body_at (row ∷ rows) other kind rest = if kind == row.0 then row.1 rest else body_at rows other kind rest
 
--- A choice by a kind byte, which the table's bodies stand behind.
+-- A choice by a kind byte, after which a body of the table stands.
 abbrev pub choice_at : {A : Type 0} → List (ℕ × Reader A) → Reader A → Reader A
 choice_at rows other [] = other []
 choice_at rows other (kind ∷ rest) = body_at rows other kind rest

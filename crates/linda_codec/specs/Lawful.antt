@@ -1,7 +1,8 @@
 -- Which formats are lawful: what is read is so spelled, what is spelled is read again, and what is left was there.
 use Rattle.std.specs.Prelude.{◌≡◌, ℕ, ◌<◌, ◌≤◌, List, ◌++◌, length, get_or, Ok, Err}
 use Rattle.linda_codec.specs.declared.fault.ReadFault.{ReadFault}
-use Rattle.linda_codec.specs.declared.fault.ReadFault.TheVariants.{Memory, Short, BadKind, BadBool, BadText, TooMany}
+use Rattle.linda_codec.specs.declared.fault.ReadFault.TheVariants.{Memory, Short, BadKind, BadBool, BadText}
+use Rattle.linda_codec.specs.declared.fault.ReadFault.TheVariants.{TooMany, LongText}
 use Rattle.linda_codec.specs.Steps.{Read}
 use Rattle.linda_codec.specs.Formats.{Format}
 
@@ -14,7 +15,7 @@ pub record Takes (bytes text rest : List ℕ) : Type 0 where
   pub parts : bytes ≡ text ++ rest
   pub rest_fits : IsBytes rest
 
--- The bytes left that a fault counts are some of so many; no reader tells of memory.
+-- The bytes left that a fault counts are some of so many; no reader reports memory.
 abbrev pub IsLeftOf : ℕ → ReadFault → Type 0
 IsLeftOf n Memory = ⊥
 IsLeftOf n Short = Unit {0}
@@ -22,6 +23,7 @@ IsLeftOf n (BadKind left) = (0 < left) × (left ≤ n)
 IsLeftOf n (BadBool left) = (0 < left) × (left ≤ n)
 IsLeftOf n (BadText left) = (0 < left) × (left ≤ n)
 IsLeftOf n (TooMany left) = (0 < left) × (left ≤ n)
+IsLeftOf n (LongText left) = (0 < left) × (left ≤ n)
 
 -- What reading so many bytes gave leaves no more, and counts no more.
 abbrev pub IsBounded : {A : Type 0} → ℕ → Read A → Type 0

@@ -1,12 +1,13 @@
--- Reading at an offset: where a fault is told, and what is read there.
+-- Reading at an offset: where a fault is reported, and what is read there.
 use Rattle.std.specs.Prelude.{◌≡◌, ℕ, ◌-◌, ◌<◌, ◌≤◌, List, ◌++◌, length, drop, Result, Ok, Err}
 use Rattle.std.specs.Prelude.{IfOk, IfErr, IsOk, IsErrOf}
 use Rattle.linda_codec.specs.declared.fault.ReadFault.{ReadFault}
-use Rattle.linda_codec.specs.declared.fault.ReadFault.TheVariants.{Memory, Short, BadKind, BadBool, BadText, TooMany}
+use Rattle.linda_codec.specs.declared.fault.ReadFault.TheVariants.{Memory, Short, BadKind, BadBool, BadText}
+use Rattle.linda_codec.specs.declared.fault.ReadFault.TheVariants.{TooMany, LongText}
 use Rattle.linda_codec.specs.Steps.{Read, Reader, Gives}
 use Rattle.linda_codec.specs.Formats.{Format}
 
--- A fault told by its offset, where so many bytes were there in all.
+-- A fault given by its offset, where so many bytes were there in all.
 abbrev pub placed : ℕ → ReadFault → ReadFault
 placed n Memory = Memory
 placed n Short = Short
@@ -14,6 +15,7 @@ placed n (BadKind left) = BadKind (n - left)
 placed n (BadBool left) = BadBool (n - left)
 placed n (BadText left) = BadText (n - left)
 placed n (TooMany left) = TooMany (n - left)
+placed n (LongText left) = LongText (n - left)
 
 -- What reading gave, with the offset of the next byte, or the offset of the fault.
 abbrev pub settled : {A : Type 0} → ℕ → Read A → Result (A × ℕ) ReadFault
@@ -24,7 +26,7 @@ settled n (Err fault) = Err (placed n fault)
 abbrev pub read_at : {A : Type 0} → Reader A → List ℕ → ℕ → Result (A × ℕ) ReadFault
 read_at read bytes at = settled (length bytes) (read (drop at bytes))
 
--- The offset that a fault tells, if it tells one, is one of those.
+-- The offset that a fault gives, if it gives one, is one of those.
 abbrev pub IsPlace : ℕ → ℕ → ReadFault → Type 0
 IsPlace from to Memory = Unit {0}
 IsPlace from to Short = Unit {0}
@@ -32,6 +34,7 @@ IsPlace from to (BadKind at) = (from ≤ at) × (at < to)
 IsPlace from to (BadBool at) = (from ≤ at) × (at < to)
 IsPlace from to (BadText at) = (from ≤ at) × (at < to)
 IsPlace from to (TooMany at) = (from ≤ at) × (at < to)
+IsPlace from to (LongText at) = (from ≤ at) × (at < to)
 
 -- A value that fits is spelled from the first offset to the second.
 abbrev pub IsSpelledAt : {A : Type 0} → Format A → List ℕ → ℕ → A × ℕ → Type 0

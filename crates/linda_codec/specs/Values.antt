@@ -1,46 +1,53 @@
--- The formats of atoms, tuples and templates.
+-- The formats of atoms, tuples and templates, in each of the two forms.
 use Rattle.std.specs.Prelude.{ℕ, List, [], ◌∷◌}
 use Rattle.linda_tuple.specs.declared.atom.Atom.{Atom}
 use Rattle.linda_tuple.specs.declared.atom.Atom.TheVariants as atoms
 use Rattle.linda_tuple.specs.declared.pattern.Pattern.{Pattern}
 use Rattle.linda_tuple.specs.declared.pattern.Pattern.TheVariants as patterns
-use Rattle.linda_tuple.specs.declared.limits.TheConstants.{MAX_FIELDS}
-use Rattle.linda_tuple.specs.Atom.{IsSound}
-use Rattle.linda_tuple.specs.Tuple.{Tuple, IsWithin}
-use Rattle.linda_tuple.specs.Template.{Template, IsSoundPattern, IsWithinTemplate}
+use Rattle.linda_tuple.specs.declared.form.Form.{Form}
+use Rattle.linda_tuple.specs.declared.form.Form.TheVariants.{One, Two}
+use Rattle.linda_tuple.specs.Form.{longest_text, most_fields}
+use Rattle.linda_tuple.specs.Atom.{IsSoundIn}
+use Rattle.linda_tuple.specs.Tuple.{Tuple, FitsIn}
+use Rattle.linda_tuple.specs.Template.{Template, IsSoundPatternIn, FitsTemplateIn}
 use Rattle.linda_codec.specs.declared.kinds.TheConstants.{INTEGER, TEXT, TRUTH, INT_FORMAL}
 use Rattle.linda_codec.specs.declared.kinds.TheConstants.{TEXT_FORMAL, BOOL_FORMAL, WILDCARD}
 use Rattle.linda_codec.specs.Steps.{Reader}
-use Rattle.linda_codec.specs.Formats.{Format, byte, integer, truth, nothing, both, made_at, made}
+use Rattle.linda_codec.specs.Formats.{Format, byte, short_length, integer, truth, nothing, both, made_at, made}
 use Rattle.linda_codec.specs.Formats.{known_as, sized_text, counted, no_kind, choice_at}
 
--- A text: a length byte and that many bytes of UTF-8.
-abbrev pub text : Format (List ℕ)
-text = sized_text byte
+-- A text's length: a byte, or a number of two bytes that is not above the limit.
+abbrev pub text_length : Form → Format ℕ
+text_length One = byte
+text_length Two = short_length (longest_text Two)
+
+-- A text: its length and that many bytes of UTF-8.
+abbrev pub text : Form → Format (List ℕ)
+text form = sized_text (text_length form)
 
 -- A kind byte, and the value of that kind.
-abbrev pub spell_atom : Atom → List ℕ
-spell_atom (atoms.Int n) = INTEGER ∷ integer.spell n
-spell_atom (atoms.Text t) = TEXT ∷ text.spell t
-spell_atom (atoms.Bool b) = TRUTH ∷ truth.spell b
+abbrev pub spell_atom : Form → Atom → List ℕ
+spell_atom form (atoms.Int n) = INTEGER ∷ integer.spell n
+spell_atom form (atoms.Text t) = TEXT ∷ (text form).spell t
+spell_atom form (atoms.Bool b) = TRUTH ∷ truth.spell b
 
 -- The kinds of atoms, each with its body.
-abbrev pub atom_kinds : List (ℕ × Reader Atom)
-atom_kinds =
+abbrev pub atom_kinds : Form → List (ℕ × Reader Atom)
+atom_kinds form =
     (INTEGER, made_at (λ n. atoms.Int n) integer)
-    ∷ (TEXT, made_at (λ t. atoms.Text t) text)
+    ∷ (TEXT, made_at (λ t. atoms.Text t) (text form))
     ∷ (TRUTH, made_at (λ b. atoms.Bool b) truth) ∷ []
 
-abbrev pub atom : Format Atom
-atom = record { spell = spell_atom; Fits = IsSound; read = choice_at atom_kinds no_kind }
+abbrev pub atom : Form → Format Atom
+atom form = record { spell = spell_atom form; Fits = IsSoundIn form; read = choice_at (atom_kinds form) no_kind }
 
 -- A value as the atom that it is, else the one byte of its kind.
-abbrev pub spell_pattern : Pattern → List ℕ
-spell_pattern (patterns.Value v) = spell_atom v
-spell_pattern patterns.IntFormal = INT_FORMAL ∷ []
-spell_pattern patterns.TextFormal = TEXT_FORMAL ∷ []
-spell_pattern patterns.BoolFormal = BOOL_FORMAL ∷ []
-spell_pattern patterns.Any = WILDCARD ∷ []
+abbrev pub spell_pattern : Form → Pattern → List ℕ
+spell_pattern form (patterns.Value v) = spell_atom form v
+spell_pattern form patterns.IntFormal = INT_FORMAL ∷ []
+spell_pattern form patterns.TextFormal = TEXT_FORMAL ∷ []
+spell_pattern form patterns.BoolFormal = BOOL_FORMAL ∷ []
+spell_pattern form patterns.Any = WILDCARD ∷ []
 
 -- The kinds of patterns that are no atoms; each is its kind byte alone.
 abbrev pub formal_kinds : List (ℕ × Reader Pattern)
@@ -48,23 +55,23 @@ formal_kinds =
     (INT_FORMAL, made_at (λ n. patterns.IntFormal) nothing) ∷ (TEXT_FORMAL, made_at (λ n. patterns.TextFormal) nothing)
     ∷ (BOOL_FORMAL, made_at (λ n. patterns.BoolFormal) nothing) ∷ (WILDCARD, made_at (λ n. patterns.Any) nothing) ∷ []
 
-abbrev pub pattern : Format Pattern
-pattern = record {
-  spell = spell_pattern;
-  Fits = IsSoundPattern;
-  read = choice_at formal_kinds (made_at (λ v. patterns.Value v) atom);
+abbrev pub pattern : Form → Format Pattern
+pattern form = record {
+  spell = spell_pattern form;
+  Fits = IsSoundPatternIn form;
+  read = choice_at formal_kinds (made_at (λ v. patterns.Value v) (atom form));
 }
 
 -- A tuple: the tag, the count of the fields, the fields.
-abbrev pub tuple : Format Tuple
-tuple =
-    known_as IsWithin
+abbrev pub tuple : Form → Format Tuple
+tuple form =
+    known_as (FitsIn form)
     (made (λ p. record { tag = p.0; fields = p.1 }) (λ t. (t.tag, t.fields))
-    (both atom (counted MAX_FIELDS atom)))
+    (both (atom form) (counted (most_fields form) (atom form))))
 
 -- A template: the tag, the count of the patterns, the patterns.
-abbrev pub template : Format Template
-template =
-    known_as IsWithinTemplate
+abbrev pub template : Form → Format Template
+template form =
+    known_as (FitsTemplateIn form)
     (made (λ p. record { tag = p.0; fields = p.1 }) (λ t. (t.tag, t.fields))
-    (both atom (counted MAX_FIELDS pattern)))
+    (both (atom form) (counted (most_fields form) (pattern form))))

@@ -8,7 +8,7 @@ use thiserror::Error;
 
 /// What is wrong with the bytes: the first fault from left to right; or that memory ran out.
 ///
-/// Each number tells the byte at fault: its offset in the answers of `get_atom`, `get_tuple` and
+/// Each number names the byte at fault: its offset in the answers of `get_atom`, `get_tuple` and
 /// `get_template`, and the count of the bytes left, from that byte to the end, in the answers of the
 /// readers that hand back the bytes after the value.
 #[derive(Clone, Copy, Debug, PartialEq, Eq, Error)]
@@ -28,9 +28,12 @@ pub enum ReadFault {
     /// The bytes of a text, from its first, are not UTF-8.
     #[error("no UTF-8 at {0}")]
     BadText(usize),
-    /// A count of fields or patterns is above 16.
+    /// A count of fields or patterns is above the form's limit.
     #[error("too many fields at {0}")]
     TooMany(usize),
+    /// A text's length, from its first byte, is above the limit. Only the second form spells such lengths.
+    #[error("a text too long at {0}")]
+    LongText(usize),
 }
 
 impl From<AllocError> for ReadFault {

@@ -20,6 +20,25 @@ pub fn read_u8(bytes: &[u8]) -> Result<(u8, &[u8]), ReadFault>
     }
 }
 
+/// Reads a text's length: a number of two bytes that is not above the limit.
+///
+/// # Errors
+///
+/// `Short` where there are fewer, `LongText` where it is above.
+pub(crate) fn read_length(limit: usize, bytes: &[u8]) -> Result<(usize, &[u8]), ReadFault>
+    ensures { GivesAlways (λ x. (x.0, x.1.now)) result ((format.short_length limit).read bytes.now) }
+{
+    if bytes.len() < 2 {
+        return Err(ReadFault::Short);
+    }
+    let (front, rest) = bytes.split_at(2);
+    let len = usize::from(u16::from_be_bytes([front[0], front[1]]));
+    if len > limit {
+        return Err(ReadFault::LongText(bytes.len()));
+    }
+    Ok((len, rest))
+}
+
 /// Reads a number of four bytes.
 ///
 /// # Errors

@@ -3,13 +3,14 @@
 ghost use Rattle.std.specs.Prelude.{◌≡◌, drop, IsOk, IsErrOf};
 ghost use Rattle.linda_codec.specs.Steps.{Gives};
 ghost use Rattle.linda_codec.specs.Places.{placed, IsReadAt};
+ghost use Rattle.linda_tuple.specs.declared.form.Form as forms;
 ghost use Rattle.linda_codec.specs.Formats.{Format};
 ghost use Rattle.linda_codec.specs.Lawful.{IsFormat};
 ghost use Rattle.linda_codec.specs.Values as values;
 
 use crate::fault::ReadFault;
 use crate::reading::{read_atom, read_template, read_tuple};
-use linda_tuple::{Atom, Template, Tuple};
+use linda_tuple::{Atom, Form, Template, Tuple};
 use std::alloc::Global;
 
 /// The atom whose spelling begins at the offset, and the offset of the byte after it. Past the end there are no
@@ -17,11 +18,16 @@ use std::alloc::Global;
 ///
 /// # Errors
 ///
-/// The first fault from the left, told by its offset; `Memory` where a text finds none.
-pub fn get_atom(alloc: Global, bytes: &[u8], at: usize) -> Result<(Atom, usize), ReadFault>
-    ensures { IsReadAt values.atom bytes.now at result }
+/// The first fault from the left, given by its offset; `Memory` where a text finds none.
+pub fn get_atom(
+    alloc: Global,
+    form: Form,
+    bytes: &[u8],
+    at: usize,
+) -> Result<(Atom, usize), ReadFault>
+    ensures { IsReadAt (values.atom form) bytes.now at result }
 {
-    get(alloc, bytes, at)
+    get(alloc, form, bytes, at)
 }
 
 /// The tuple whose spelling begins at the offset, and the offset of the byte after it. Past the end there are no
@@ -29,11 +35,16 @@ pub fn get_atom(alloc: Global, bytes: &[u8], at: usize) -> Result<(Atom, usize),
 ///
 /// # Errors
 ///
-/// The first fault from the left, told by its offset; `Memory` where the values find none.
-pub fn get_tuple(alloc: Global, bytes: &[u8], at: usize) -> Result<(Tuple, usize), ReadFault>
-    ensures { IsReadAt values.tuple bytes.now at result }
+/// The first fault from the left, given by its offset; `Memory` where the values find none.
+pub fn get_tuple(
+    alloc: Global,
+    form: Form,
+    bytes: &[u8],
+    at: usize,
+) -> Result<(Tuple, usize), ReadFault>
+    ensures { IsReadAt (values.tuple form) bytes.now at result }
 {
-    get(alloc, bytes, at)
+    get(alloc, form, bytes, at)
 }
 
 /// The template whose spelling begins at the offset, and the offset of the byte after it. Past the end there are no
@@ -41,20 +52,25 @@ pub fn get_tuple(alloc: Global, bytes: &[u8], at: usize) -> Result<(Tuple, usize
 ///
 /// # Errors
 ///
-/// The first fault from the left, told by its offset; `Memory` where the values find none.
-pub fn get_template(alloc: Global, bytes: &[u8], at: usize) -> Result<(Template, usize), ReadFault>
-    ensures { IsReadAt values.template bytes.now at result }
+/// The first fault from the left, given by its offset; `Memory` where the values find none.
+pub fn get_template(
+    alloc: Global,
+    form: Form,
+    bytes: &[u8],
+    at: usize,
+) -> Result<(Template, usize), ReadFault>
+    ensures { IsReadAt (values.template form) bytes.now at result }
 {
-    get(alloc, bytes, at)
+    get(alloc, form, bytes, at)
 }
 
 // What is read at an offset.
 trait Value: Drop {
-    ghost format: { Format Self };
+    ghost format: { forms.Form → Format Self };
 
-    fn read(alloc: Global, bytes: &[u8]) -> Result<(Self, &[u8]), ReadFault>
-        ensures value { Gives (λ x. (x.0, x.1.now)) result (format.read bytes.now) }
-        ensures memory { IsErrOf result ReadFault.Memory → IsOk (format.read bytes.now) };
+    fn read(alloc: Global, form: Form, bytes: &[u8]) -> Result<(Self, &[u8]), ReadFault>
+        ensures value { Gives (λ x. (x.0, x.1.now)) result ((format form).read bytes.now) }
+        ensures memory { IsErrOf result ReadFault.Memory → IsOk ((format form).read bytes.now) };
 }
 
 impl Value for Atom {
@@ -62,8 +78,8 @@ impl Value for Atom {
 
     ghost format = { values.atom };
 
-    fn read(alloc: Global, bytes: &[u8]) -> Result<(Atom, &[u8]), ReadFault> {
-        read_atom(alloc, bytes)
+    fn read(alloc: Global, form: Form, bytes: &[u8]) -> Result<(Atom, &[u8]), ReadFault> {
+        read_atom(alloc, form, bytes)
     }
 }
 
@@ -72,8 +88,8 @@ impl Value for Tuple {
 
     ghost format = { values.tuple };
 
-    fn read(alloc: Global, bytes: &[u8]) -> Result<(Tuple, &[u8]), ReadFault> {
-        read_tuple(alloc, bytes)
+    fn read(alloc: Global, form: Form, bytes: &[u8]) -> Result<(Tuple, &[u8]), ReadFault> {
+        read_tuple(alloc, form, bytes)
     }
 }
 
@@ -82,17 +98,22 @@ impl Value for Template {
 
     ghost format = { values.template };
 
-    fn read(alloc: Global, bytes: &[u8]) -> Result<(Template, &[u8]), ReadFault> {
-        read_template(alloc, bytes)
+    fn read(alloc: Global, form: Form, bytes: &[u8]) -> Result<(Template, &[u8]), ReadFault> {
+        read_template(alloc, form, bytes)
     }
 }
 
 // The value whose spelling begins at the offset, and the offset of the byte after it.
-fn get<V: Value>(alloc: Global, bytes: &[u8], at: usize) -> Result<(V, usize), ReadFault>
-    requires { IsFormat V.format }
-    ensures { IsReadAt V.format bytes.now at result }
+fn get<V: Value>(
+    alloc: Global,
+    form: Form,
+    bytes: &[u8],
+    at: usize,
+) -> Result<(V, usize), ReadFault>
+    requires { IsFormat (V.format form) }
+    ensures { IsReadAt (V.format form) bytes.now at result }
 {
-    match V::read(alloc, tail(bytes, at)) {
+    match V::read(alloc, form, tail(bytes, at)) {
         Ok((value, rest)) => Ok((value, bytes.len() - rest.len())),
         Err(fault) => Err(fault.placed(bytes.len())),
     }
@@ -109,7 +130,7 @@ fn tail(bytes: &[u8], at: usize) -> &[u8]
 }
 
 impl ReadFault {
-    // The fault told by its offset, where it counts the bytes left of so many.
+    // The fault given by its offset, where it counts the bytes left of so many.
     fn placed(self, len: usize) -> ReadFault
         ensures value { result ≡ placed len self }
         ensures memory { result ≡ ReadFault.Memory → self ≡ ReadFault.Memory }
@@ -121,6 +142,7 @@ impl ReadFault {
             ReadFault::BadBool(left) => ReadFault::BadBool(len.saturating_sub(left)),
             ReadFault::BadText(left) => ReadFault::BadText(len.saturating_sub(left)),
             ReadFault::TooMany(left) => ReadFault::TooMany(len.saturating_sub(left)),
+            ReadFault::LongText(left) => ReadFault::LongText(len.saturating_sub(left)),
         }
     }
 }

@@ -2,21 +2,33 @@
 
 ghost use Rattle.std.specs.Prelude.{◌≡◌, true, false, MatchOption};
 ghost use Rattle.std.specs.Str.{is_utf8};
-ghost use Rattle.linda_tuple.specs.declared.limits.TheConstants.{MAX_FIELDS};
+ghost use Rattle.linda_tuple.specs.Form.{most_fields};
 ghost use Rattle.linda_codec.specs.Steps.{GivesAlways};
 ghost use Rattle.linda_codec.specs.Formats.{count_at};
 ghost use Rattle.linda_codec.specs.Values as format;
 
 use crate::fault::ReadFault;
-use crate::number::read_u8;
-use linda_tuple::MAX_FIELDS;
+use crate::number::{read_length, read_u8};
+use linda_tuple::Form;
 
-/// A length byte and that many bytes of UTF-8: the text, where it stands, and the bytes after it.
-pub(crate) fn split_text(bytes: &[u8]) -> Result<(&str, &[u8]), ReadFault>
-    ensures { GivesAlways (λ x. (x.0.now, x.1.now)) result (format.text.read bytes.now) }
+/// A text's length.
+fn read_text_length(form: Form, bytes: &[u8]) -> Result<(usize, &[u8]), ReadFault>
+    ensures { GivesAlways (λ x. (x.0, x.1.now)) result ((format.text_length form).read bytes.now) }
 {
-    let (len, rest) = read_u8(bytes)?;
-    let len = usize::from(len);
+    match form {
+        Form::One => {
+            let (len, rest) = read_u8(bytes)?;
+            Ok((usize::from(len), rest))
+        }
+        Form::Two => read_length(Form::Two.longest_text(), bytes),
+    }
+}
+
+/// A text's length and that many bytes of UTF-8: the text, where it stands, and the bytes after it.
+pub(crate) fn split_text(form: Form, bytes: &[u8]) -> Result<(&str, &[u8]), ReadFault>
+    ensures { GivesAlways (λ x. (x.0.now, x.1.now)) result ((format.text form).read bytes.now) }
+{
+    let (len, rest) = read_text_length(form, bytes)?;
     if rest.len() < len {
         return Err(ReadFault::Short);
     }
@@ -37,13 +49,13 @@ fn as_text(bytes: &[u8]) -> Option<&str>
 }
 
 /// The count of the fields or patterns.
-pub(crate) fn read_count(bytes: &[u8]) -> Result<(u8, &[u8]), ReadFault>
-    ensures { GivesAlways (λ x. (x.0, x.1.now)) result (count_at MAX_FIELDS bytes.now) }
+pub(crate) fn read_count(form: Form, bytes: &[u8]) -> Result<(u8, &[u8]), ReadFault>
+    ensures { GivesAlways (λ x. (x.0, x.1.now)) result (count_at (most_fields form) bytes.now) }
 {
     match bytes {
         [] => Err(ReadFault::Short),
         [count, rest @ ..] => {
-            if usize::from(*count) > MAX_FIELDS {
+            if usize::from(*count) > form.most_fields() {
                 return Err(ReadFault::TooMany(bytes.len()));
             }
             Ok((*count, rest))

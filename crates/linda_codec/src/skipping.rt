@@ -1,4 +1,4 @@
-//! Passing over tuples and templates: what their readers leave and which fault they tell, without taking memory.
+//! Passing over tuples and templates: what their readers leave and which fault they return, without taking memory.
 
 ghost use Rattle.std.specs.Prelude.{◌≡◌};
 ghost use Rattle.linda_codec.specs.Steps.{GivesAlways, left_by};
@@ -9,37 +9,37 @@ use crate::field::skip_fields;
 use crate::kinds::{BOOL_FORMAL, INT_FORMAL, INTEGER, TEXT, TEXT_FORMAL, TRUTH, WILDCARD};
 use crate::number::{read_bool, read_i64};
 use crate::parts::{read_count, split_text};
-use linda_tuple::{Atom, Pattern};
+use linda_tuple::{Atom, Form, Pattern};
 
 /// The bytes after the tuple at the front.
 ///
 /// # Errors
 ///
-/// The first fault from the left, told by the count of bytes left; never `Memory`.
-pub fn skip_tuple(bytes: &[u8]) -> Result<&[u8], ReadFault>
-    ensures { GivesAlways (λ rest. rest.now) result (left_by (format.tuple.read bytes.now)) }
+/// The first fault from the left, given by the count of bytes left; never `Memory`.
+pub fn skip_tuple(form: Form, bytes: &[u8]) -> Result<&[u8], ReadFault>
+    ensures { GivesAlways (λ rest. rest.now) result (left_by ((format.tuple form).read bytes.now)) }
 {
-    let rest = skip_atom(bytes)?;
-    let (count, rest) = read_count(rest)?;
-    skip_fields::<Atom>(count, rest)
+    let rest = skip_atom(form, bytes)?;
+    let (count, rest) = read_count(form, rest)?;
+    skip_fields::<Atom>(form, count, rest)
 }
 
 /// The bytes after the template at the front.
 ///
 /// # Errors
 ///
-/// The first fault from the left, told by the count of bytes left; never `Memory`.
-pub fn skip_template(bytes: &[u8]) -> Result<&[u8], ReadFault>
-    ensures { GivesAlways (λ rest. rest.now) result (left_by (format.template.read bytes.now)) }
+/// The first fault from the left, given by the count of bytes left; never `Memory`.
+pub fn skip_template(form: Form, bytes: &[u8]) -> Result<&[u8], ReadFault>
+    ensures { GivesAlways (λ rest. rest.now) result (left_by ((format.template form).read bytes.now)) }
 {
-    let rest = skip_atom(bytes)?;
-    let (count, rest) = read_count(rest)?;
-    skip_fields::<Pattern>(count, rest)
+    let rest = skip_atom(form, bytes)?;
+    let (count, rest) = read_count(form, rest)?;
+    skip_fields::<Pattern>(form, count, rest)
 }
 
 /// The bytes after the atom at the front.
-pub(crate) fn skip_atom(bytes: &[u8]) -> Result<&[u8], ReadFault>
-    ensures { GivesAlways (λ rest. rest.now) result (left_by (format.atom.read bytes.now)) }
+pub(crate) fn skip_atom(form: Form, bytes: &[u8]) -> Result<&[u8], ReadFault>
+    ensures { GivesAlways (λ rest. rest.now) result (left_by ((format.atom form).read bytes.now)) }
 {
     match bytes {
         [] => Err(ReadFault::Short),
@@ -48,7 +48,7 @@ pub(crate) fn skip_atom(bytes: &[u8]) -> Result<&[u8], ReadFault>
             Ok(rest)
         }
         [TEXT, rest @ ..] => {
-            let (_text, rest) = split_text(rest)?;
+            let (_text, rest) = split_text(form, rest)?;
             Ok(rest)
         }
         [TRUTH, rest @ ..] => {
@@ -60,8 +60,8 @@ pub(crate) fn skip_atom(bytes: &[u8]) -> Result<&[u8], ReadFault>
 }
 
 /// The bytes after the pattern at the front.
-pub(crate) fn skip_pattern(bytes: &[u8]) -> Result<&[u8], ReadFault>
-    ensures { GivesAlways (λ rest. rest.now) result (left_by (format.pattern.read bytes.now)) }
+pub(crate) fn skip_pattern(form: Form, bytes: &[u8]) -> Result<&[u8], ReadFault>
+    ensures { GivesAlways (λ rest. rest.now) result (left_by ((format.pattern form).read bytes.now)) }
 {
     match bytes {
         [] => Err(ReadFault::Short),
@@ -69,6 +69,6 @@ pub(crate) fn skip_pattern(bytes: &[u8]) -> Result<&[u8], ReadFault>
         [TEXT_FORMAL, rest @ ..] => Ok(rest),
         [BOOL_FORMAL, rest @ ..] => Ok(rest),
         [WILDCARD, rest @ ..] => Ok(rest),
-        [_, ..] => skip_atom(bytes),
+        [_, ..] => skip_atom(form, bytes),
     }
 }

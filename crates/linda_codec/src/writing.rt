@@ -1,14 +1,15 @@
 //! Writing atoms, tuples and templates: each has one spelling.
 
-ghost use Rattle.std.specs.Prelude.{◌≡◌, ◌++◌, length, take, OnOk, OnErr};
-ghost use Rattle.linda_tuple.specs.Atom.{IsSound};
-ghost use Rattle.linda_tuple.specs.Tuple.{IsWithin};
-ghost use Rattle.linda_tuple.specs.Template.{IsSoundPattern, IsWithinTemplate};
+ghost use Rattle.std.specs.Prelude.{◌≡◌, ◌≤◌, ◌++◌, length, take, OnOk, OnErr};
+ghost use Rattle.linda_tuple.specs.Form.{longest_text};
+ghost use Rattle.linda_tuple.specs.Atom.{IsSoundIn};
+ghost use Rattle.linda_tuple.specs.Tuple.{FitsIn};
+ghost use Rattle.linda_tuple.specs.Template.{IsSoundPatternIn, FitsTemplateIn};
 ghost use Rattle.linda_codec.specs.Values as format;
 
 use crate::field::push_fields;
 use crate::kinds::{BOOL_FORMAL, INT_FORMAL, INTEGER, TEXT, TEXT_FORMAL, TRUTH, WILDCARD};
-use linda_tuple::{Atom, Pattern, Template, Tuple};
+use linda_tuple::{Atom, Form, Pattern, Template, Tuple};
 use std::alloc::AllocError;
 
 /// Appends the spelling of the atom.
@@ -16,13 +17,13 @@ use std::alloc::AllocError;
 /// # Errors
 ///
 /// Where memory runs out, `out` is left as it was.
-pub fn put_atom(out: &mut Vec<u8>, atom: &Atom) -> Result<(), AllocError>
-    requires { IsSound atom.now }
-    ensures ok { OnOk result (out.new.items ≡ out.old.items ++ format.atom.spell atom.now) }
+pub fn put_atom(form: Form, out: &mut Vec<u8>, atom: &Atom) -> Result<(), AllocError>
+    requires { IsSoundIn form atom.now }
+    ensures ok { OnOk result (out.new.items ≡ out.old.items ++ (format.atom form).spell atom.now) }
     ensures err { OnErr result (out.new.items ≡ out.old.items) }
 {
     let len = out.len();
-    let pushed = push_atom(out, atom);
+    let pushed = push_atom(form, out, atom);
     kept_or_cut(out, len, pushed)
 }
 
@@ -31,14 +32,14 @@ pub fn put_atom(out: &mut Vec<u8>, atom: &Atom) -> Result<(), AllocError>
 /// # Errors
 ///
 /// Where memory runs out, `out` is left as it was.
-pub fn put_tuple(out: &mut Vec<u8>, tuple: &Tuple) -> Result<(), AllocError>
-    ensures ok { OnOk result (out.new.items ≡ out.old.items ++ format.tuple.spell tuple.now) }
+pub fn put_tuple(form: Form, out: &mut Vec<u8>, tuple: &Tuple) -> Result<(), AllocError>
+    ensures ok { OnOk result (out.new.items ≡ out.old.items ++ (format.tuple form).spell tuple.now) }
     ensures err { OnErr result (out.new.items ≡ out.old.items) }
-    // It was within its limits, as every tuple is.
-    ensures within { IsWithin tuple.now }
+    ensures fits { FitsIn form tuple.now }
 {
+    tuple_fits(form, tuple);
     let len = out.len();
-    let pushed = push_tuple(out, tuple);
+    let pushed = push_tuple(form, out, tuple);
     kept_or_cut(out, len, pushed)
 }
 
@@ -47,15 +48,29 @@ pub fn put_tuple(out: &mut Vec<u8>, tuple: &Tuple) -> Result<(), AllocError>
 /// # Errors
 ///
 /// Where memory runs out, `out` is left as it was.
-pub fn put_template(out: &mut Vec<u8>, template: &Template) -> Result<(), AllocError>
-    ensures ok { OnOk result (out.new.items ≡ out.old.items ++ format.template.spell template.now) }
+pub fn put_template(form: Form, out: &mut Vec<u8>, template: &Template) -> Result<(), AllocError>
+    ensures ok { OnOk result (out.new.items ≡ out.old.items ++ (format.template form).spell template.now) }
     ensures err { OnErr result (out.new.items ≡ out.old.items) }
-    // It was within its limits, as every template is.
-    ensures within { IsWithinTemplate template.now }
+    ensures fits { FitsTemplateIn form template.now }
 {
+    template_fits(form, template);
     let len = out.len();
-    let pushed = push_template(out, template);
+    let pushed = push_template(form, out, template);
     kept_or_cut(out, len, pushed)
+}
+
+// The tuple has a spelling in the form: today both have one for every tuple.
+fn tuple_fits(form: Form, tuple: &Tuple)
+    ensures { FitsIn form tuple.now }
+{
+    let _fields = tuple.fields();
+}
+
+// The template has a spelling in the form, likewise.
+fn template_fits(form: Form, template: &Template)
+    ensures { FitsTemplateIn form template.now }
+{
+    let _patterns = template.fields();
 }
 
 // Cuts the bytes back to that length where what was pushed is not whole.
@@ -74,38 +89,42 @@ fn kept_or_cut(
     pushed
 }
 
-// Appends the spelling of the tuple; where memory runs out, a part of it may stand behind the old bytes.
-fn push_tuple(out: &mut Vec<u8>, tuple: &Tuple) -> Result<(), AllocError>
-    ensures ok { OnOk result (out.new.items ≡ out.old.items ++ format.tuple.spell tuple.now) }
+// Appends the spelling of the tuple; where memory runs out, a part of it may stand after the old bytes.
+fn push_tuple(form: Form, out: &mut Vec<u8>, tuple: &Tuple) -> Result<(), AllocError>
+    requires { FitsIn form tuple.now }
+    ensures ok { OnOk result (out.new.items ≡ out.old.items ++ (format.tuple form).spell tuple.now) }
     ensures front { take (length out.old.items) out.new.items ≡ out.old.items }
-    ensures within { IsWithin tuple.now }
 {
     let fields = tuple.fields();
-    push_atom(out, tuple.tag())?;
+    push_atom(form, out, tuple.tag())?;
     out.push(fields.len() as u8)?;
-    push_fields(out, fields)
+    push_fields(form, out, fields)
 }
 
 // Appends the spelling of the template; likewise.
-fn push_template(out: &mut Vec<u8>, template: &Template) -> Result<(), AllocError>
-    ensures ok { OnOk result (out.new.items ≡ out.old.items ++ format.template.spell template.now) }
+fn push_template(form: Form, out: &mut Vec<u8>, template: &Template) -> Result<(), AllocError>
+    requires { FitsTemplateIn form template.now }
+    ensures ok { OnOk result (out.new.items ≡ out.old.items ++ (format.template form).spell template.now) }
     ensures front { take (length out.old.items) out.new.items ≡ out.old.items }
-    ensures within { IsWithinTemplate template.now }
 {
     let patterns = template.fields();
-    push_atom(out, template.tag())?;
+    push_atom(form, out, template.tag())?;
     out.push(patterns.len() as u8)?;
-    push_fields(out, patterns)
+    push_fields(form, out, patterns)
 }
 
 /// Appends the spelling of the pattern; likewise.
-pub(crate) fn push_pattern(out: &mut Vec<u8>, pattern: &Pattern) -> Result<(), AllocError>
-    requires { IsSoundPattern pattern.now }
-    ensures ok { OnOk result (out.new.items ≡ out.old.items ++ format.pattern.spell pattern.now) }
+pub(crate) fn push_pattern(
+    form: Form,
+    out: &mut Vec<u8>,
+    pattern: &Pattern,
+) -> Result<(), AllocError>
+    requires { IsSoundPatternIn form pattern.now }
+    ensures ok { OnOk result (out.new.items ≡ out.old.items ++ (format.pattern form).spell pattern.now) }
     ensures front { take (length out.old.items) out.new.items ≡ out.old.items }
 {
     let kind = match pattern {
-        Pattern::Value(value) => return push_atom(out, value),
+        Pattern::Value(value) => return push_atom(form, out, value),
         Pattern::IntFormal => INT_FORMAL,
         Pattern::TextFormal => TEXT_FORMAL,
         Pattern::BoolFormal => BOOL_FORMAL,
@@ -116,9 +135,9 @@ pub(crate) fn push_pattern(out: &mut Vec<u8>, pattern: &Pattern) -> Result<(), A
 }
 
 /// Appends the spelling of the atom; likewise.
-pub(crate) fn push_atom(out: &mut Vec<u8>, atom: &Atom) -> Result<(), AllocError>
-    requires { IsSound atom.now }
-    ensures ok { OnOk result (out.new.items ≡ out.old.items ++ format.atom.spell atom.now) }
+pub(crate) fn push_atom(form: Form, out: &mut Vec<u8>, atom: &Atom) -> Result<(), AllocError>
+    requires { IsSoundIn form atom.now }
+    ensures ok { OnOk result (out.new.items ≡ out.old.items ++ (format.atom form).spell atom.now) }
     ensures front { take (length out.old.items) out.new.items ≡ out.old.items }
 {
     match atom {
@@ -128,7 +147,7 @@ pub(crate) fn push_atom(out: &mut Vec<u8>, atom: &Atom) -> Result<(), AllocError
         }
         Atom::Text(text) => {
             out.push(TEXT)?;
-            out.push(text.len() as u8)?;
+            push_text_length(form, out, text.len())?;
             out.extend_from_slice(text.as_str().as_bytes())
         }
         Atom::Bool(truth) => {
@@ -136,5 +155,20 @@ pub(crate) fn push_atom(out: &mut Vec<u8>, atom: &Atom) -> Result<(), AllocError
             out.push(u8::from(*truth))?;
             Ok(())
         }
+    }
+}
+
+// Appends the length of a text; where memory runs out, a part of it may stand after the old bytes.
+fn push_text_length(form: Form, out: &mut Vec<u8>, len: usize) -> Result<(), AllocError>
+    requires { len ≤ longest_text form }
+    ensures ok { OnOk result (out.new.items ≡ out.old.items ++ (format.text_length form).spell len) }
+    ensures front { take (length out.old.items) out.new.items ≡ out.old.items }
+{
+    match form {
+        Form::One => {
+            out.push(len as u8)?;
+            Ok(())
+        }
+        Form::Two => out.extend_from_slice(&(len as u16).to_be_bytes()),
     }
 }

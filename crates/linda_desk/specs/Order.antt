@@ -12,8 +12,8 @@ use Rattle.linda_receipt.specs.Receipts.{deeds_in, AreTrue}
 abbrev pub known : State → Store → Bool → State
 known before store is_down = if is_down then before else store.state
 
--- The state is the one after the deeds since the opening: some before the base, and behind it those of the receipts;
--- while the server is down there may be others behind these, of which nobody was told. The receipts have the
+-- The state is the one after the deeds since the opening: some before the base, and after it those of the receipts;
+-- while the server is down there may be others after these, of which nobody was told. The receipts have the
 -- replies to their deeds, and the count is that of the deeds that were told.
 pub record IsInOrder (opening base : State) (receipts : List Receipt) (count : ℕ) (is_down : Bool)
     (state : State) : Type 0 where
@@ -37,7 +37,7 @@ pub record CountsDeeds (opening : State) (count : ℕ) (state : State) : Type 0 
   pub done : AreDone opening deeds state
   pub counted : length deeds ≡ count
 
--- Two images stand for the state after the receipts' deeds, and maybe others behind them.
+-- Two images stand for the state after the receipts' deeds, and maybe others after them.
 pub record StandsBehind (base : State) (receipts : List Receipt) (left right : List ℕ) : Type 0 where
   pub untold : List Deed
   pub state : State

@@ -15,7 +15,7 @@ use Rattle.linda_receipt.specs.Telling.{receipts_in, HasTold}
 use Rattle.linda_receipt.specs.Told.{told_of}
 
 -- The messages were answered one after another in one step, this is told of them, and what is sent to a client stands
--- behind what waited in its outbox, where it has one.
+-- after what waited in its outbox, where it has one.
 pub record HasPosted (st : State) (soft : Soft) (ms : List (ℕ × Message)) (told : List (Option Receipt))
     (old posted : ℕ → Option (List Reply)) (new : State) (behind : Soft) : Type 0 where
   pub sends : List (ℕ × Reply)
@@ -66,7 +66,7 @@ pub record WentSome (st : State) (soft : Soft) (ms : List (ℕ × Message)) (old
   pub between : Soft
   pub went : WentAlone st soft old (take many ms) told posted mid between
 
--- The same, and the receipts of the deeds stand behind those of before, and each place is told what its message led to,
+-- The same, and the receipts of the deeds stand after those of before, and each place is told what its message led to,
 -- the last one first.
 pub record IsHandled (st : State) (soft : Soft) (ms : List (ℕ × Message)) (old_receipts : List Receipt)
     (old_posted : ℕ → Option (List Reply)) (old_told : List Told) (receipts : List Receipt)

@@ -1,4 +1,4 @@
--- What each call of a disk does to its view, and when a call tells a failure.
+-- What each call of a disk does to its view, and when a call reports a failure.
 use Rattle.std.specs.Prelude.{◌≡◌, ◌≢◌, ℕ, ◌+◌, ◌<◌, ◌≤◌, ◌⊎◌, List, length, take, Result, OnOk, IsErrOf}
 use Rattle.linda_disk.specs.declared.fault.DiskFault.{DiskFault}
 use Rattle.linda_disk.specs.declared.fault.DiskFault.TheVariants.{Device, Memory}
@@ -6,7 +6,7 @@ use Rattle.linda_disk.specs.View.{View, IsDurable, LeavesNoMore, Follows, Elapse
 use Rattle.linda_disk.specs.Image.{overlay, TornWrite, TornCut}
 
 -- The clock counts the calls that changed or synced the file: it goes on by one where the call was done, and by one
--- at most where it tells a fault.
+-- at most where it returns a fault.
 pub record Ticks {T : Type 0} (result : Result T DiskFault) (old new : View) : Type 0 where
   pub ok : OnOk result (new.moment ≡ old.moment + 1)
   pub most : new.moment ≤ old.moment + 1
@@ -41,13 +41,13 @@ pub record Syncs {T : Type 0} (result : Result T DiskFault) (old new : View) : T
   pub time : Elapses old new
   pub clock : Ticks result old new
 
--- The count of failures rises by one where the call tells a failure of the device, and stays elsewhere.
+-- The count of failures rises by one where the call reports a failure of the device, and stays elsewhere.
 pub record CountsFailure {T : Type 0} (result : Result T DiskFault) (old new : ℕ) : Type 0 where
   pub ok : OnOk result (new ≡ old)
   pub memory : IsErrOf result Memory → new ≡ old
   pub device : IsErrOf result Device → new ≡ old + 1
 
--- A told fault says whether a device failed: where it is that of a device, the count of failures rose, and with each
+-- The fault says whether a device failed: where it is that of a device, the count of failures rose, and with each
 -- other one it is as it was.
 pub record TellsFailures {F : Type 0} (device told : F) (old new : ℕ) : Type 0 where
   pub cause : told ≡ device → old < new

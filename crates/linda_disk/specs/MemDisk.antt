@@ -27,11 +27,11 @@ failures disk = disk.failures
 abbrev pub view : MemDisk → View
 view disk = view_of disk.history
 
--- what a call tells
+-- what a call returns
 abbrev pub Told : Type 0
 Told = Result (Unit {0}) DiskFault
 
--- What a call tells at its turn.
+-- What a call returns at its turn.
 abbrev pub answer_at : Turn → Told
 answer_at Works = Ok tt
 answer_at Stops = Err Device
@@ -55,7 +55,7 @@ failures_at Fails n = n + 1
 -- A call at this turn, which leaves this history: where memory runs out, all is as before.
 pub record GoesBy (turn : Turn × Trouble) (then : History) (result : Told) (old new : MemDisk) : Type 0 where
   pub memory : IsErrOf result Memory → new ≡ old
-  -- a call that is to fail takes none: it tells so, as long as the count can rise
+  -- a call that is to fail takes none: it says so, as long as the count can rise
   pub no_memory : turn.0 ≡ Fails → IsErrOf result Memory → 2 ^ 64 ≤ failures old + 1
   pub told : (IsErrOf result Memory → ⊥) → result ≡ answer_at turn.0
   pub done : (IsErrOf result Memory → ⊥) → history new ≡ then

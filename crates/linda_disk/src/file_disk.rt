@@ -33,7 +33,7 @@ impl FileDisk {
         self.failures
     }
 
-    /// Counts a failure of the device, and tells it.
+    /// Counts a failure of the device, and reports it.
     fn failed(&mut self) -> DiskFault
         ensures device { result ≡ DiskFault.Device
             → disk.failures self.new ≡ disk.failures self.old + 1 }

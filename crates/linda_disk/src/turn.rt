@@ -1,4 +1,4 @@
-//! What a call tells at its turn, and how it counts.
+//! What a call returns at its turn, and how it counts.
 
 ghost use Rattle.std.specs.Prelude.{◌≡◌, ◌≢◌, ◌≤◌, ◌+◌, ◌^◌, if◌then◌else◌, IsTrue, IfOk, IfErr, OnErr};
 ghost use Rattle.linda_disk.specs.History.{History, after};
@@ -8,7 +8,7 @@ use crate::call::DeviceCall;
 use crate::fault::DiskFault;
 use crate::trouble::Turn;
 
-/// What a call tells at this turn.
+/// What a call returns at this turn.
 pub(crate) fn told(turn: Turn) -> Result<(), DiskFault>
     ensures { result ≡ answer_at turn }
 {

@@ -14,7 +14,7 @@ IsFound leaves left before after (Some rest) = (after ≡ before) × (left ≡ l
 abbrev pub leaf_under : ℕ → Place × Kind → Place × Kind
 leaf_under number leaf = (number ∷ leaf.0, leaf.1)
 
--- what is left of the way to a place behind the member of this number, if it leads there
+-- what is left of the way to a place after the member of this number, if it leads there
 abbrev pub way_under : ℕ → Option Place → Option Place
 way_under number None = None
 way_under number (Some []) = None

@@ -118,7 +118,7 @@ fn way_to(place: &Option<Vec<usize>>) -> Option<&[usize]>
     }
 }
 
-// What is left of the way to a place behind the member of this number, if it leads there.
+// What is left of the way to a place after the member of this number, if it leads there.
 fn way_in<'a>(way: Option<&'a [usize]>, number: usize) -> Option<&'a [usize]>
     ensures { option_map (λ s. s.now) result ≡ way_under number (option_map (λ s. s.now) way.entry) }
 {

@@ -6,3 +6,5 @@ pub mod HeldParts
 pub mod Indexing
 pub mod Entries
 pub mod WaitParts
+pub mod Arriving
+pub mod Beginning

@@ -14,7 +14,7 @@ use Rattle.std.proofs.lemmas.Map.Lookups.{btree_set_from_contains, exact_unsigne
 use Rattle.linda_bag.specs.Filing.{Rows, HasIds, IsBare}
 use Rattle.linda_hold.proofs.Lists.{lookup_any}
 
-empty_sorted : IsStrictlySortedBy nat_cmp []
+pub empty_sorted : IsStrictlySortedBy nat_cmp []
 unfolding IsStrictlySortedBy
 empty_sorted = tt
 

@@ -1,12 +1,15 @@
--- Which requests a tuple may answer: those that ask for its tag and its number of fields.
-use Rattle.std.specs.Prelude.{ℕ, length}
-use Rattle.std.specs.BTreeSet.{BTreeSet}
+-- Which requests a tuple may answer: those that ask for its tag and its number of fields and, where their
+-- template begins with a value, for its first field.
+use Rattle.std.specs.Prelude.{ℕ, Bool, Option, length}
 use Rattle.linda_tuple.specs.declared.atom.Atom.{Atom}
 use Rattle.linda_tuple.specs.Tuple.{Tuple}
 use Rattle.linda_bag.specs.declared.heads.Heads.{Heads}
-use Rattle.linda_bag.specs.Filing.{Rows, HasIds}
+use Rattle.linda_bag.specs.Filing.{Rows}
 use Rattle.linda_bag.specs.Heads.{HasHeads, with_head}
+use Rattle.linda_bag.specs.Candidates.{first_among}
 use Rattle.linda_hold.specs.declared.asks.Asked.{Asked}
+use Rattle.linda_hold.specs.declared.group.Group.{Group}
+use Rattle.linda_hold.specs.Group.{HasGroup, is_reached}
 use Rattle.linda_hold.specs.Waits.{Wait}
 
 -- The wait under each number, where there is one.
@@ -21,9 +24,13 @@ abbrev pub count_of : Asked → ℕ
 count_of asked = length asked.template.fields
 
 -- The heads have the numbers of what these requests ask.
-abbrev pub HasAsked : Heads (BTreeSet ℕ) → Rows Asked → Type 0
-HasAsked heads asked = HasHeads tag_of count_of HasIds heads asked
+abbrev pub HasAsked : Heads Group → Rows Asked → Type 0
+HasAsked heads asked = HasHeads tag_of count_of HasGroup heads asked
 
 -- what asks for a tuple of this tag and of as many fields
 abbrev pub alike : Tuple → Rows Asked → Rows Asked
 alike row asked = with_head tag_of count_of row.tag (length row.fields) asked
+
+-- whether there is a request that the tuple may answer
+abbrev pub may_answer : Tuple → Option Asked → Bool
+may_answer row asked = is_reached (first_among row.fields) (alike row (λ _. asked) 0)

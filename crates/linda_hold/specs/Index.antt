@@ -31,3 +31,8 @@ before (Some w) waits = w ∷ waits
 abbrev pub waits_at : Waiting → List ℕ → List Wait
 waits_at waiting [] = []
 waits_at waiting (k ∷ ks) = before (waiting k) (waits_at waiting ks)
+
+-- what was found first, if something was
+abbrev pub or_else : {X : Type 0} → Option X → Option X → Option X
+or_else None later = later
+or_else (Some found) later = Some found

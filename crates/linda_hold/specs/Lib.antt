@@ -6,3 +6,7 @@ pub mod Held
 pub mod Heads
 pub mod Index
 pub mod Codes
+pub mod Numbers
+pub mod Arrivals
+pub mod Firsts
+pub mod Group

@@ -1,9 +1,11 @@
 //! What a request asks of the space.
 
 ghost use Rattle.std.specs.Prelude.{◌≡◌, ◌&&◌, not};
+ghost use Rattle.std.specs.Option.{option_copied};
 ghost use Rattle.linda_tuple.specs.Testing.{is_match};
+ghost use Rattle.linda_hold.specs.Firsts.{first_of};
 
-use linda_tuple::{Template, Tuple, matches};
+use linda_tuple::{Atom, Pattern, Template, Tuple, matches};
 
 /// What a request asks for: a tuple that the template matches, to take it away or to copy it.
 #[derive(Debug, Drop)]
@@ -14,6 +16,19 @@ pub struct Asked {
 }
 
 impl Asked {
+    /// The value that the template begins with, if it begins with one. Takes no memory.
+    pub(crate) fn first(&self) -> Option<&Atom>
+        ensures { option_copied result ≡ first_of self.now }
+    {
+        match self.template.fields().first()? {
+            Pattern::Value(value) => Some(value),
+            Pattern::IntFormal => None,
+            Pattern::TextFormal => None,
+            Pattern::BoolFormal => None,
+            Pattern::Any => None,
+        }
+    }
+
     /// Whether this is a read that the tuple answers. Takes no memory.
     pub(crate) fn is_read_of(&self, tuple: &Tuple) -> bool
         ensures { result ≡ (not self.now.remove && is_match self.now.template tuple.now) }

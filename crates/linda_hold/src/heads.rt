@@ -1,22 +1,26 @@
-//! The requests that wait, by what a tuple must have that answers them: the tag, and the number of
-//! fields.
+//! The requests that wait, by what a tuple must have that answers them: the tag, the number of fields
+//! and, where the template begins with a value, that value first.
 
-ghost use Rattle.std.specs.Prelude.{◌≡◌, length};
-ghost use Rattle.std.specs.Option.{option_copied};
-ghost use Rattle.linda_bag.specs.Filing.{Finds};
-ghost use Rattle.linda_hold.specs.Heads.{HasAsked, alike};
+ghost use Rattle.std.specs.Prelude.{◌≡◌, ℕ, length};
+ghost use Rattle.std.specs.Ordering.{nat_cmp};
+ghost use Rattle.std.specs.List.Sorted.{IsStrictlySortedBy};
+ghost use Rattle.linda_bag.specs.Filing.{Rows};
+ghost use Rattle.linda_hold.specs.declared.asks.Asked as asks;
+ghost use Rattle.linda_hold.specs.Arrivals.{has_in};
+ghost use Rattle.linda_hold.specs.Heads.{HasAsked, may_answer};
 
+use crate::arrivals::Arrivals;
 use crate::asks::Asked;
+use crate::group::Group;
 use crate::request::Request;
-use linda_bag::Headed;
+use linda_bag::{Headed, alike};
 use linda_tuple::{Atom, Tuple};
-use std::collections::BTreeSet;
 
 /// A request that waits, and what it asked.
 pub(crate) type Wait = (Request, Asked);
 
-/// The numbers of requests, by the tag and the number of fields that they ask for.
-pub(crate) type Heads = linda_bag::Heads<BTreeSet<u64>>;
+/// The numbers of requests, by what they ask for.
+pub(crate) type Heads = linda_bag::Heads<Group>;
 
 impl Headed for Asked {
     ghost tag_of = { λ asked. asked.template.tag };
@@ -32,10 +36,16 @@ impl Headed for Asked {
     }
 }
 
-/// The numbers of the requests for a tuple of this tag and of as many fields, rising; nothing where
-/// there are none. Takes no memory.
-pub(crate) fn alike<'a>(heads: &'a Heads, tuple: &Tuple) -> Option<&'a BTreeSet<u64>>
-    ensures { Finds (HasAsked heads.now) (alike tuple.now) (option_copied result) }
+/// The numbers of the requests that the tuple may answer, in order of arrival: those that ask for its tag and
+/// its number of fields, and for its first field or for no value there. Takes no memory.
+pub(crate) fn arrivals<'a>(heads: &'a Heads, tuple: &Tuple) -> Arrivals<'a>
+    ensures ordered { IsStrictlySortedBy nat_cmp result }
+    ensures has { (asked : Rows asks.Asked) → HasAsked heads.now asked → (q : ℕ)
+        → has_in result q ≡ may_answer tuple.now (asked q) }
 {
-    linda_bag::alike::<Asked, BTreeSet<u64>>(heads, tuple.tag(), tuple.fields().len())
+    let fields = tuple.fields();
+    match alike::<Asked, Group>(heads, tuple.tag(), fields.len()) {
+        Some(group) => group.arrivals(fields.first()),
+        None => Arrivals::none(),
+    }
 }

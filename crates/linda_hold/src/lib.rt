@@ -8,12 +8,16 @@
 //! `specs/Waits` and `specs/Holds`.
 #![tactic(auto)]
 
+mod arrivals;
 mod asks;
+mod firsts;
+mod group;
 mod heads;
 mod held;
 mod holding;
 mod index;
 mod names;
+mod numbers;
 mod request;
 mod waiting;
 mod walks;
@@ -22,3 +26,4 @@ pub use asks::Asked;
 pub use holding::Holds;
 pub use request::Request;
 pub use waiting::Waits;
+pub use walks::Awaiting;

@@ -9,10 +9,10 @@ ghost use Rattle.linda_hold.specs.Waits.{AreDistinct, is_awaited, is_waiting, lo
 ghost use Rattle.linda_hold.specs.Waits.{waits_of, without, without_client, without_readers};
 
 use crate::asks::Asked;
-use crate::heads::{Wait, alike};
+use crate::heads::{Wait, arrivals};
 use crate::index::Index;
 use crate::request::Request;
-use crate::walks::{first_input, is_answering_one, reads_among};
+use crate::walks::{Awaiting, awaiting_among, first_input, is_answering_one};
 use linda_tuple::Tuple;
 use std::alloc::{AllocError, Global};
 use std::collections::BTreeMap;
@@ -136,44 +136,59 @@ impl Waits {
         ensures left { OnOk result (self.new ≡ without_readers tuple.now self.old) }
         ensures err { OnErr result (self.new ≡ self.old) }
     {
-        let found = self.readers(alloc, tuple)?;
-        for request in &found {
+        let awaiting = self.take_awaiting(alloc, tuple)?;
+        Ok(awaiting.readers)
+    }
+
+    /// Takes out the reads that the tuple answers, and gives them in order of arrival, with the input that
+    /// has waited longest of those that the tuple answers: it waits still. The others keep their order.
+    /// It goes once through the requests that the tuple may answer, and takes no memory where it answers
+    /// no read.
+    ///
+    /// # Errors
+    ///
+    /// `AllocError` where memory runs out, and then the waits are as before.
+    pub fn take_awaiting(&mut self, alloc: Global, tuple: &Tuple) -> Result<Awaiting, AllocError>
+        ensures readers { IfOk result (λ a. a.readers.items ≡ map (λ w. w.0) (readers tuple.now self.old)) }
+        ensures longest { IfOk result (λ a. a.longest ≡ option_map (λ w. w.0) (longest tuple.now self.old)) }
+        ensures left { OnOk result (self.new ≡ without_readers tuple.now self.old) }
+        ensures err { OnErr result (self.new ≡ self.old) }
+    {
+        let found = self.awaiting(alloc, tuple)?;
+        for request in &found.readers {
             self.remove(*request);
         }
         Ok(found)
     }
 
-    // The reads that the tuple answers, in order of arrival.
-    fn readers(&self, alloc: Global, tuple: &Tuple) -> Result<Vec<Request>, AllocError>
-        ensures found { IfOk result (λ v. v.items ≡ map (λ w. w.0) (readers tuple.now self.now)) }
+    // The requests that wait for the tuple.
+    fn awaiting(&self, alloc: Global, tuple: &Tuple) -> Result<Awaiting, AllocError>
+        ensures readers { IfOk result (λ a. a.readers.items ≡ map (λ w. w.0) (readers tuple.now self.now)) }
+        ensures longest { IfOk result (λ a. a.longest ≡ option_map (λ w. w.0) (longest tuple.now self.now)) }
         ensures distinct { AreDistinct self.now }
     {
-        match alike(&self.index.heads, tuple) {
-            Some(numbers) => reads_among(alloc, &self.by_arrival, numbers, tuple),
-            None => Ok(Vec::new(alloc)),
-        }
+        awaiting_among(
+            alloc,
+            &self.by_arrival,
+            arrivals(&self.index.heads, tuple),
+            tuple,
+        )
     }
 
-    /// Whether some request waits that the tuple answers. It looks at those alone that ask for its
-    /// tag and its number of fields, and takes no memory.
+    /// Whether some request waits that the tuple answers. It looks at those alone that ask for its tag, its
+    /// number of fields, and its first field or no value there, and takes no memory.
     pub fn is_awaited(&self, tuple: &Tuple) -> bool
         ensures { result ≡ is_awaited tuple.now self.now }
     {
-        match alike(&self.index.heads, tuple) {
-            Some(numbers) => is_answering_one(&self.by_arrival, numbers, tuple),
-            None => false,
-        }
+        is_answering_one(&self.by_arrival, arrivals(&self.index.heads, tuple), tuple)
     }
 
-    /// The input that has waited longest of those that the tuple answers. It looks at those alone that
-    /// ask for its tag and its number of fields, and takes no memory.
+    /// The input that has waited longest of those that the tuple answers. It looks at those alone that ask
+    /// for its tag, its number of fields, and its first field or no value there, and takes no memory.
     pub fn longest(&self, tuple: &Tuple) -> Option<Request>
         ensures { result ≡ option_map (λ w. w.0) (longest tuple.now self.now) }
     {
-        match alike(&self.index.heads, tuple) {
-            Some(numbers) => first_input(&self.by_arrival, numbers, tuple),
-            None => None,
-        }
+        first_input(&self.by_arrival, arrivals(&self.index.heads, tuple), tuple)
     }
 
     /// How many requests of the client wait. It walks over none of them, and takes no memory.

@@ -4,28 +4,35 @@ ghost use Rattle.std.specs.Prelude.{◌≡◌, map, IfOk};
 ghost use Rattle.std.specs.Option.{option_map};
 ghost use Rattle.std.specs.Ordering.{nat_cmp};
 ghost use Rattle.std.specs.BTreeMap as tree;
-ghost use Rattle.std.specs.BTreeSet as set;
 ghost use Rattle.linda_hold.specs.Waits.{is_awaited, longest, readers};
 ghost use Rattle.linda_hold.specs.Index.{waits_at};
 
+use crate::arrivals::Arrivals;
 use crate::heads::Wait;
 use crate::request::Request;
 use linda_tuple::{Tuple, matches};
 use std::alloc::{AllocError, Global};
-use std::collections::{BTreeMap, BTreeSet};
+use std::collections::BTreeMap;
+
+/// The requests that wait for a tuple: the reads, in order of arrival, and the input that has waited
+/// longest.
+#[derive(Debug, Drop)]
+pub struct Awaiting {
+    pub readers: Vec<Request>,
+    pub longest: Option<Request>,
+}
 
 /// The first input under these numbers that the tuple answers. Takes no memory.
 pub(crate) fn first_input(
     by_arrival: &BTreeMap<u64, Wait>,
-    numbers: &BTreeSet<u64>,
+    mut numbers: Arrivals<'_>,
     tuple: &Tuple,
 ) -> Option<Request>
-    ensures first { result ≡ option_map (λ w. w.0)
-        (longest tuple.now (waits_at (tree.get nat_cmp by_arrival.now) numbers.now.keys)) }
-    ensures ordered { set.IsOrdered nat_cmp numbers.now }
+    ensures { result ≡ option_map (λ w. w.0)
+        (longest tuple.now (waits_at (tree.get nat_cmp by_arrival.now) numbers.entry)) }
 {
-    for number in numbers {
-        if let Some((request, asked)) = by_arrival.get(number) {
+    while let Some(number) = numbers.next() {
+        if let Some((request, asked)) = by_arrival.get(&number) {
             if asked.is_input_of(tuple) {
                 return Some(*request);
             }
@@ -37,15 +44,14 @@ pub(crate) fn first_input(
 /// Whether the tuple answers some request under these numbers. Takes no memory.
 pub(crate) fn is_answering_one(
     by_arrival: &BTreeMap<u64, Wait>,
-    numbers: &BTreeSet<u64>,
+    mut numbers: Arrivals<'_>,
     tuple: &Tuple,
 ) -> bool
-    ensures answers { result
-        ≡ is_awaited tuple.now (waits_at (tree.get nat_cmp by_arrival.now) numbers.now.keys) }
-    ensures ordered { set.IsOrdered nat_cmp numbers.now }
+    ensures { result
+        ≡ is_awaited tuple.now (waits_at (tree.get nat_cmp by_arrival.now) numbers.entry) }
 {
-    for number in numbers {
-        if let Some((_, asked)) = by_arrival.get(number) {
+    while let Some(number) = numbers.next() {
+        if let Some((_, asked)) = by_arrival.get(&number) {
             if matches(&asked.template, tuple) {
                 return true;
             }
@@ -54,28 +60,32 @@ pub(crate) fn is_answering_one(
     false
 }
 
-/// The reads under these numbers that the tuple answers, in their order.
+/// The requests under these numbers that wait for the tuple.
 ///
 /// # Errors
 ///
 /// `AllocError` where memory runs out.
-pub(crate) fn reads_among(
+pub(crate) fn awaiting_among(
     alloc: Global,
     by_arrival: &BTreeMap<u64, Wait>,
-    numbers: &BTreeSet<u64>,
+    mut numbers: Arrivals<'_>,
     tuple: &Tuple,
-) -> Result<Vec<Request>, AllocError>
-    ensures reads { IfOk result (λ v. v.items ≡ map (λ w. w.0)
-        (readers tuple.now (waits_at (tree.get nat_cmp by_arrival.now) numbers.now.keys))) }
-    ensures ordered { set.IsOrdered nat_cmp numbers.now }
+) -> Result<Awaiting, AllocError>
+    ensures readers { IfOk result (λ a. a.readers.items ≡ map (λ w. w.0)
+        (readers tuple.now (waits_at (tree.get nat_cmp by_arrival.now) numbers.entry))) }
+    ensures longest { IfOk result (λ a. a.longest ≡ option_map (λ w. w.0)
+        (longest tuple.now (waits_at (tree.get nat_cmp by_arrival.now) numbers.entry))) }
 {
-    let mut found = Vec::new(alloc);
-    for number in numbers {
-        if let Some((request, asked)) = by_arrival.get(number) {
+    let mut readers = Vec::new(alloc);
+    let mut longest = None;
+    while let Some(number) = numbers.next() {
+        if let Some((request, asked)) = by_arrival.get(&number) {
             if asked.is_read_of(tuple) {
-                found.push(*request)?;
+                readers.push(*request)?;
+            } else if longest.is_none() && asked.is_input_of(tuple) {
+                longest = Some(*request);
             }
         }
     }
-    Ok(found)
+    Ok(Awaiting { readers, longest })
 }

@@ -4,13 +4,14 @@ use Rattle.linda_codec.specs.Formats.{no_kind}
 use Rattle.linda_codec.specs.Lawful.{IsFormat}
 use Rattle.linda_codec.proofs.FormatLaws.{short_number_is, number_is, both_is, body_is, made_again, no_kind_is, AreBodies, choice_is}
 use Rattle.linda_codec.proofs.ValueLaws.{tuple_is}
+use Rattle.linda_state.specs.DeedFormat.{written}
 use Rattle.linda_state.specs.declared.deed.Deed.{Deed}
 use Rattle.linda_state.specs.declared.deed.Deed.TheVariants.{Out, Take, Pass}
 use Rattle.linda_state.specs.declared.kinds.TheConstants as kind
 use Rattle.linda_state.specs.DeedFormat as format
 
 out_is : IsFormat format.out
-out_is = both_is short_number_is (both_is number_is tuple_is)
+out_is = both_is short_number_is (both_is number_is (tuple_is written))
 
 reference_is : IsFormat format.reference
 reference_is = both_is short_number_is (both_is number_is number_is)

@@ -20,11 +20,11 @@ IsCandidate file = (MIN_BYTES ≤ length file) × ((rest : List ℕ) × (file �
 abbrev pub headed : ℕ → List ℕ → List ℕ
 headed generation rest = OPEN ∷ magic ++ (number.spell generation ++ rest)
 
--- The same behind its first gate, up to the journal.
+-- The same after its first gate, up to the journal.
 abbrev pub behind_gate : ℕ → List ℕ → List ℕ
 behind_gate generation body = magic ++ (number.spell generation ++ (short_number.spell (length body) ++ body))
 
--- What stands before the journal: an open gate, the magic, the generation, and a body behind its length.
+-- What stands before the journal: an open gate, the magic, the generation, and a body after its length.
 abbrev pub head : ℕ → List ℕ → List ℕ
 head generation body = headed generation (short_number.spell (length body) ++ body)
 

@@ -1,4 +1,4 @@
--- What a bank tells of a disk's faults.
+-- What a bank returns for a disk's faults.
 use Rattle.linda_disk.specs.declared.fault.DiskFault.{DiskFault}
 use Rattle.linda_disk.specs.declared.fault.DiskFault.TheVariants as device
 use Rattle.linda_journal.specs.declared.fault.BankFault.{BankFault}

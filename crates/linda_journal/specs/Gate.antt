@@ -1,4 +1,4 @@
--- A gate on a disk: what stands before it, whether it is closed, and what stands behind it.
+-- A gate on a disk: what stands before it, whether it is closed, and what stands after it.
 use Rattle.std.specs.Prelude.{◌≡◌, ◌≢◌, ◌≤◌, ℕ, ◌⊎◌, List, [], ◌∷◌, ◌++◌, length}
 use Rattle.linda_disk.specs.View.{View, IsDurable}
 use Rattle.linda_journal.specs.declared.kinds.TheConstants.{OPEN, CLOSED}
@@ -16,7 +16,7 @@ pub record IsShut (front : List ℕ) (gate : ℕ) (v : View) : Type 0 where
   pub file : ClosesAfter front v.seen
   pub durable : IsDurable v
 
--- Behind the gate, which is still closed, stands this body with a closed gate at its end; and a crash now
+-- After the gate, which is still closed, stands this body with a closed gate at its end; and a crash now
 -- leaves it so.
 pub record IsReady (front : List ℕ) (gate : ℕ) (body : List ℕ) (v : View) : Type 0 where
   pub place : length front ≡ gate
@@ -26,11 +26,11 @@ pub record IsReady (front : List ℕ) (gate : ℕ) (body : List ℕ) (v : View) 
   pub closed : value ≢ OPEN
   pub durable : IsDurable v
 
--- The gate is closed still, or it is open and the body stands behind it, with a closed gate at its end.
+-- The gate is closed still, or it is open and the body stands after it, with a closed gate at its end.
 abbrev pub IsClosedOrOpened : List ℕ → List ℕ → List ℕ → Type 0
 IsClosedOrOpened front body file = ClosesAfter front file ⊎ ClosesAfter (front ++ OPEN ∷ body) file
 
--- Of a file that begins with a gate and this body behind it: no more than the gate is there, or it is closed still,
--- or it is open and the body stands behind it.
+-- Of a file that begins with a gate and this body after it: no more than the gate is there, or it is closed still,
+-- or it is open and the body stands after it.
 abbrev pub IsLaid : List ℕ → List ℕ → Type 0
 IsLaid body file = (length file ≤ 1) ⊎ IsClosedOrOpened [] body file

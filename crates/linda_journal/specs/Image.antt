@@ -28,7 +28,7 @@ pub record IsBroken (file : List ℕ) (offset : ℕ) : Type 0 where
   pub damaged : IsDamaged rest place
   pub offset_is : offset ≡ length (head generation body) + place
 
--- What a fault tells of the bytes.
+-- What a fault says of the bytes.
 abbrev pub IsFaultOfBank : List ℕ → BankFault → Type 0
 IsFaultOfBank file faults.NoBank = IsCandidate file → ⊥
 IsFaultOfBank file (faults.Damaged offset) =

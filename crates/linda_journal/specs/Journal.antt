@@ -15,12 +15,12 @@ pub record IsJournal (bytes : List ℕ) (records : List (List Deed)) : Type 0 wh
   pub closed : gate ≢ OPEN
   pub good : All IsRecord records
 
--- What stands behind a gate is no record with the byte of a gate after it.
+-- What stands after a gate is no record with the byte of a gate after it.
 abbrev pub IsNoRecord : List ℕ → Type 0
 IsNoRecord behind =
     (ds : List Deed) (gate : ℕ) (rest : List ℕ) → IsRecord ds → behind ≡ record_body ds ++ gate ∷ rest → ⊥
 
--- The bytes are some records, and then, at this place, an open gate that no record stands behind.
+-- The bytes are some records, and then, at this place, an open gate with no record after it.
 pub record IsDamaged (bytes : List ℕ) (place : ℕ) : Type 0 where
   pub records : List (List Deed)
   pub behind : List ℕ
@@ -40,11 +40,11 @@ abbrev pub places : ℕ → List (List Deed) → List ℕ
 places at [] = []
 places at (ds ∷ rs) = at ∷ places (at + length (spell_record ds)) rs
 
--- Each record tells the place of its gate, where the first one stands here.
+-- Each record gives the offset of its gate, where the first one stands here.
 abbrev pub AreAt : ℕ → List Record → Type 0
 AreAt at rs = map (λ (r : Record). r.gate) rs ≡ places at (deeds_of rs)
 
--- What a fault tells of bytes that begin at this offset.
+-- What a fault says of bytes that begin at this offset.
 abbrev pub IsFaultOf : List ℕ → ℕ → JournalFault → Type 0
 IsFaultOf bytes at Memory = Unit {0}
 IsFaultOf bytes at (Damaged offset) = (place : ℕ) × (offset ≡ at + place) × IsDamaged bytes place

@@ -24,11 +24,11 @@ pub record IsPayloadOf (bytes : List ℕ) (count : ℕ) : Type 0 where
 abbrev pub IsNoPayload : List ℕ → Type 0
 IsNoPayload bytes = (ds : List Deed) → IsRecord ds → bytes ≡ payload ds → ⊥
 
--- What stands behind a record's gate: the length of the payload, and the payload.
+-- What stands after a record's gate: the length of the payload, and the payload.
 abbrev pub record_body : List Deed → List ℕ
 record_body ds = short_number.spell (length (payload ds)) ++ payload ds
 
--- A record: an open gate, and what stands behind it.
+-- A record: an open gate, and what stands after it.
 abbrev pub spell_record : List Deed → List ℕ
 spell_record ds = kind.OPEN ∷ record_body ds
 

@@ -1,4 +1,4 @@
--- How a disk that is not in use becomes a new bank: its gate is closed, then all stands behind it, then it opens.
+-- How a disk that is not in use becomes a new bank: its gate is closed, then all stands after it, then it opens.
 use Rattle.std.specs.Prelude.{◌≡◌, ℕ, ◌+◌, ◌-◌, ◌/◌, ◌<◌, ◌≤◌, ◌^◌, ◌⊎◌, List, [], ◌∷◌, length}
 use Rattle.linda_disk.specs.View.{View}
 use Rattle.linda_journal.specs.declared.kinds.TheConstants.{OPEN}
@@ -10,7 +10,7 @@ use Rattle.linda_journal.specs.Bank.{IsCandidate, behind_gate}
 abbrev pub IsNoBank : List ℕ → Type 0
 IsNoBank file = IsCandidate file → ⊥
 
--- There is a first gate, and it is closed: whatever is written behind it, the bytes are no bank.
+-- There is a first gate, and it is closed: whatever is written after it, the bytes are no bank.
 abbrev pub IsClosed : List ℕ → Type 0
 IsClosed file = (0 < length file) × ((rest : List ℕ) → file ≡ OPEN ∷ rest → ⊥)
 
@@ -22,7 +22,7 @@ IsOpenOrShort file = (length file < MIN_BYTES) ⊎ ((rest : List ℕ) × (file �
 abbrev pub IsSameOrNone : List ℕ → List ℕ → Type 0
 IsSameOrNone old file = (file ≡ old) ⊎ IsNoBank file
 
--- Behind a first gate that is still closed stands all of the new bank of this generation with this body, up to the
+-- After a first gate that is still closed stands all of the new bank of this generation with this body, up to the
 -- closed gate of its journal at this offset; and a crash now leaves it so.
 pub record IsWhole (generation : ℕ) (body : List ℕ) (end : ℕ) (v : View) : Type 0 where
   pub low : 1 ≤ generation

@@ -68,7 +68,7 @@ impl<D: Disk> Bank<D> {
         self.limit
     }
 
-    /// Ends the use of the bank: from now on `append` tells `Spent`, and the disk is to be opened again. No device call
+    /// Ends the use of the bank: `append` returns `Spent` then, and the disk is to be opened again. No device call
     /// is made.
     pub fn retire(&mut self)
         ensures spent { self.new.is_spent ≡ true }
@@ -88,7 +88,7 @@ impl<D: Disk> Bank<D> {
     }
 
     /// Makes a bank of this generation with this body, whose journal has no record, on an empty disk: a closed gate
-    /// and a sync, all that stands behind it and a sync, the gate opened and a sync.
+    /// and a sync, all that stands after it and a sync, the gate opened and a sync.
     ///
     /// # Errors
     ///
@@ -120,7 +120,7 @@ impl<D: Disk> Bank<D> {
             × (e.0 ≡ BankFault.Full → e.1 ≡ disk)) }
         ensures honest { IfOk result (λ b. D.honest disk ↔ D.honest b.disk)
             × IfErr result (λ e. D.honest disk ↔ D.honest e.1) }
-        // The count of failures rises where the device is told to have failed, and there alone.
+        // The count of failures rises where the device is reported to have failed, and there alone.
         ensures cause { IfErr result (λ e. TellsFailures BankFault.Disk e.0
             (D.failures disk) (D.failures e.1)) }
         ensures steady { IfOk result (λ b. D.failures b.disk ≡ D.failures disk) }
@@ -252,7 +252,7 @@ impl<D: Disk> Bank<D> {
         }
     }
 
-    /// Adds one record of these deeds to the journal: a write of all of it behind the closed gate at the end,
+    /// Adds one record of these deeds to the journal: a write of all of it after the closed gate at the end,
     /// a sync, a write that opens the gate, a sync.
     ///
     /// # Errors
@@ -278,14 +278,14 @@ impl<D: Disk> Bank<D> {
         ensures place { OnOk result (self.new.end ≡ self.old.end + length (spell_record deeds.now)) }
         ensures count { OnOk result (self.new.records ≡ self.old.records + 1) }
         ensures ready { OnOk result (self.new.is_spent ≡ false) }
-        // It is Full exactly where the closed gate behind the new record would pass the limit; nothing changed then.
+        // It is Full exactly where the closed gate after the new record would pass the limit; nothing changed then.
         ensures room { OnOk result (self.new.end < self.new.limit) }
         ensures full { IsErrOf result BankFault.Full ↔ (self.old.is_spent ≡ false)
             × (self.old.limit ≤ self.old.end + length (spell_record deeds.now)) }
         ensures unfilled { IsErrOf result BankFault.Full → self.new ≡ self.old }
         ensures spent { IsErrOf result BankFault.Spent ↔ (self.old.is_spent ≡ true) }
         ensures unspent { self.old.is_spent ≡ true → self.new ≡ self.old }
-        // The count of failures rises where the device is told to have failed, and there alone.
+        // The count of failures rises where the device is reported to have failed, and there alone.
         ensures cause { IfErr result (λ fault. TellsFailures BankFault.Disk fault
             (D.failures self.old.disk) (D.failures self.new.disk)) }
         ensures steady { OnOk result (D.failures self.new.disk ≡ D.failures self.old.disk) }
@@ -326,7 +326,7 @@ impl Bank<MemDisk> {
     ghost use Rattle.linda_disk.specs.MemDisk as mem_disk;
 
     /// Lets so many writes, cuts and syncs more pass on the bank's disk, and then the power goes off inside the next
-    /// one, as `MemDisk::fuse` tells. Nothing else changes.
+    /// one, as `MemDisk::fuse` says. Nothing else changes.
     pub fn fuse(&mut self, passes: u64)
         ensures trouble { mem_disk.trouble self.new.disk
             ≡ record { power = OnFor passes; failing = (mem_disk.trouble self.old.disk).failing } }
@@ -386,7 +386,7 @@ pub fn unlock<D: Disk>(whole: Whole<D>, limit: usize) -> Result<Bank<D>, (DiskFa
     }
 }
 
-// Whether so many bytes from this offset on, and the gate behind them, keep within the limit.
+// Whether so many bytes from this offset on, and the gate after them, keep within the limit.
 fn has_room(limit: usize, at: usize, len: usize) -> bool
     ensures yes { result ≡ true → at + len < limit }
     ensures no { result ≡ false → limit ≤ at + len }

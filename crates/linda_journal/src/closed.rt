@@ -1,4 +1,4 @@
-//! A disk that is not in use, with its first gate closed, so that a new bank can be written behind that gate.
+//! A disk that is not in use, with its first gate closed, so that a new bank can be written after that gate.
 
 ghost use Rattle.std.specs.Prelude.{◌≡◌, ◌≤◌, ◌↔◌, true, false, length, IfOk, IfErr, OnOk};
 ghost use Rattle.std.specs.Prelude.{IsErrOf};
@@ -12,7 +12,7 @@ use crate::kinds::{CLOSED, OPEN};
 use crate::limits::MIN_BYTES;
 use linda_disk::{Disk, DiskFault};
 
-/// A disk whose first gate is closed, and a crash leaves it so: it holds no bank, whatever is written behind the gate.
+/// A disk whose first gate is closed, and a crash leaves it so: it holds no bank, whatever is written after the gate.
 #[derive(Drop)]
 pub struct Closed<D: Disk> {
     pub(crate) disk: D,

@@ -7,14 +7,14 @@ ghost use Rattle.linda_state.specs.declared.deed.Deed.TheVariants.{Out, Take, Pa
 ghost use Rattle.linda_state.specs.DeedFormat as format;
 
 use linda_codec::{ReadFault, put_tuple, read_tuple, read_u32, read_u64, skip_tuple};
-use linda_state::{Deed, OUT, PASS, TAKE};
+use linda_state::{BANK_FORM, Deed, OUT, PASS, TAKE};
 use std::alloc::{AllocError, Global};
 
 /// Reads a deed, and gives the bytes after it.
 ///
 /// # Errors
 ///
-/// The first fault from the left, told by the count of bytes left; `Memory` where a tuple finds none.
+/// The first fault from the left, given by the count of bytes left; `Memory` where a tuple finds none.
 pub(crate) fn read_deed(alloc: Global, bytes: &[u8]) -> Result<(Deed, &[u8]), ReadFault>
     ensures { Gives (λ x. (x.0, x.1.now)) result (format.deed.read bytes.now) }
 {
@@ -33,7 +33,7 @@ fn out_from(alloc: Global, body: &[u8]) -> Result<(Deed, &[u8]), ReadFault>
 {
     let (client, rest) = read_u32(body)?;
     let (n, rest) = read_u64(rest)?;
-    let (tuple, rest) = read_tuple(alloc, rest)?;
+    let (tuple, rest) = read_tuple(alloc, BANK_FORM, rest)?;
     Ok((Deed::Out { client, n, tuple }, rest))
 }
 
@@ -61,7 +61,7 @@ fn pass_from(body: &[u8]) -> Result<(Deed, &[u8]), ReadFault>
 ///
 /// # Errors
 ///
-/// The first fault from the left, told by the count of bytes left; never `Memory`.
+/// The first fault from the left, given by the count of bytes left; never `Memory`.
 pub(crate) fn skip_deed(bytes: &[u8]) -> Result<&[u8], ReadFault>
     ensures { GivesAlways (λ rest. rest.now) result (left_by (format.deed.read bytes.now)) }
 {
@@ -86,10 +86,10 @@ fn skip_out(body: &[u8]) -> Result<&[u8], ReadFault>
 {
     let (_client, rest) = read_u32(body)?;
     let (_n, rest) = read_u64(rest)?;
-    skip_tuple(rest)
+    skip_tuple(BANK_FORM, rest)
 }
 
-/// Appends the spelling of the deed. Where memory runs out, a part of it may stand behind the old bytes.
+/// Appends the spelling of the deed. Where memory runs out, a part of it may stand after the old bytes.
 pub(crate) fn push_deed(out: &mut Vec<u8>, deed: &Deed) -> Result<(), AllocError>
     ensures ok { OnOk result (out.new.items ≡ out.old.items ++ format.deed.spell deed.now) }
     // It had a spelling, as every deed has.
@@ -98,7 +98,7 @@ pub(crate) fn push_deed(out: &mut Vec<u8>, deed: &Deed) -> Result<(), AllocError
     match deed {
         Deed::Out { client, n, tuple } => {
             push_head(out, OUT, *client, *n)?;
-            put_tuple(out, tuple)
+            put_tuple(BANK_FORM, out, tuple)
         }
         Deed::Take { client, n, id } => push_reference(out, TAKE, *client, *n, *id),
         Deed::Pass { client, n, id } => push_reference(out, PASS, *client, *n, *id),

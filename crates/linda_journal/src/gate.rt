@@ -1,4 +1,4 @@
-//! The two steps by which a body comes onto a disk whole or not at all: first it is written behind a gate
+//! The two steps by which a body comes onto a disk whole or not at all: first it is written after a gate
 //! that is closed, and only once it is there the gate is opened.
 
 ghost use Rattle.std.specs.Prelude.{◌≡◌, ◌∷◌, [], ◌++◌, ◌<◌, ◌≤◌, ◌+◌, ◌^◌, ◌↔◌, ℕ, List, length};
@@ -12,7 +12,7 @@ ghost use Rattle.linda_journal.specs.Gate.{ClosesAfter, IsShut, IsReady, IsClose
 use crate::kinds::{CLOSED, OPEN};
 use linda_disk::{Disk, DiskFault};
 
-/// Writes these bytes, a body and a closed gate, behind the gate at this offset, which is closed; and sees
+/// Writes these bytes, a body and a closed gate, after the gate at this offset, which is closed; and sees
 /// to it that they are on the disk.
 ///
 /// # Errors
@@ -37,7 +37,7 @@ pub(crate) fn stage<D: Disk>(disk: &mut D, gate: usize, bytes: &[u8]) -> Result<
     Ok(())
 }
 
-/// Opens the gate at this offset, behind which a body stands.
+/// Opens the gate at this offset, after which a body stands.
 ///
 /// # Errors
 ///

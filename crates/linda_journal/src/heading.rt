@@ -45,7 +45,7 @@ pub fn read_heading(bytes: &[u8]) -> Heading
     }
 }
 
-// What stands behind the letters; None where others stand there.
+// What stands after the letters; None where others stand there.
 fn behind_magic(bytes: &[u8]) -> Option<&[u8]>
     ensures found { IfSome result (λ rest. bytes.now ≡ magic ++ rest.now) }
     ensures none { IfNone result ((rest : List ℕ) → bytes.now ≡ magic ++ rest → ⊥) }

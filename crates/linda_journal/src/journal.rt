@@ -19,7 +19,7 @@ pub enum JournalFault {
     /// No memory for the records.
     #[error("out of memory")]
     Memory,
-    /// The offset of the first open gate that no record stands behind: what is there is cut short, is not
+    /// The offset of the first open gate with no record after it: what is there is cut short, is not
     /// 1 to 64 deeds that fill their length, or has no gate after it.
     #[error("no record at {0}")]
     Damaged(usize),
@@ -46,7 +46,7 @@ impl<T: Drop> From<AllocFailed<T>> for JournalFault {
 pub struct Journal {
     /// The records, in order.
     pub records: Vec<Record>,
-    /// The offset of the closed gate behind them.
+    /// The offset of the closed gate after them.
     pub end: usize,
 }
 
@@ -54,7 +54,7 @@ pub struct Journal {
 ///
 /// # Errors
 ///
-/// `Damaged` with the offset of the first open gate that no record stands behind; `Memory`.
+/// `Damaged` with the offset of the first open gate with no record after it; `Memory`.
 pub fn read_journal(alloc: Global, bytes: &[u8], at: usize) -> Result<Journal, JournalFault>
     requires { at < length bytes.now }
     // What is read stands there,
@@ -68,7 +68,7 @@ pub fn read_journal(alloc: Global, bytes: &[u8], at: usize) -> Result<Journal, J
     ensures only { (rs : List (List deed.Deed)) → IsJournal (drop at bytes.now) rs
         → IfOk result (λ j. deeds_of j.records.items ≡ rs)
         × IfErr result (λ f. f ≡ JournalFault.Memory) }
-    // Where it is damaged, that offset is told, or memory runs out.
+    // Where it is damaged, that offset is reported, or memory runs out.
     ensures damaged { (place : ℕ) → IsDamaged (drop at bytes.now) place
         → IfOk result (λ j. ⊥)
         × IfErr result (λ f. f ≢ JournalFault.Memory → f ≡ JournalFault.Damaged (at + place)) }
@@ -100,7 +100,7 @@ fn collect(alloc: Global, bytes: &[u8], at: usize) -> Result<Journal, JournalFau
     Ok(Journal { records, end })
 }
 
-/// What stands behind a gate that is open; None where it is closed, or is not there.
+/// What stands after a gate that is open; None where it is closed, or is not there.
 pub(crate) fn behind_open(bytes: &[u8]) -> Option<&[u8]>
     ensures opened { IfSome result (λ behind. bytes.now ≡ OPEN ∷ behind.now) }
     ensures shut { IfNone result ((behind : List ℕ) → bytes.now ≡ OPEN ∷ behind → ⊥) }

@@ -1,4 +1,4 @@
-//! The journal of a server: deeds as bytes, and back, so that any torn end is told.
+//! The journal of a server: deeds as bytes, and back, so that any torn end is detected.
 #![tactic(auto)]
 
 mod bank;

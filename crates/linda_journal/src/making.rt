@@ -17,10 +17,10 @@ use crate::record::as_length;
 use linda_disk::Disk;
 use std::alloc::{AllocError, Global};
 
-/// The letters that every bank has behind its first gate.
+/// The letters that every bank has after its first gate.
 const MAGIC: [u8; 4] = [b'L', b'N', b'D', b'1'];
 
-/// What is to stand behind the first gate of a new bank, with the closed gate of its journal at its end.
+/// What is to stand after the first gate of a new bank, with the closed gate of its journal at its end.
 pub fn spell_front(alloc: Global, generation: u64, body: &[u8]) -> Result<Vec<u8>, AllocError>
     requires { length body.now < 2 ^ 32 }
     ensures { IfOk result (λ v. v.items ≡ behind_gate generation body.now ++ CLOSED ∷ []) }
@@ -42,7 +42,7 @@ fn push_heading(out: &mut Vec<u8>, generation: u64) -> Result<(), AllocError>
     out.extend_from_slice(&generation.to_be_bytes())
 }
 
-/// Puts these bytes, with a closed gate at their end, behind an open gate at the front of an empty disk.
+/// Puts these bytes, with a closed gate at their end, after an open gate at the front of an empty disk.
 ///
 /// # Errors
 ///

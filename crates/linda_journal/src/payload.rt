@@ -67,7 +67,7 @@ fn read_deeds(alloc: Global, count: usize, payload: &[u8]) -> Result<Vec<Deed>, 
 }
 
 /// Appends the spellings of the deeds, one after the other. Where memory runs out, a part of them may
-/// stand behind the old bytes.
+/// stand after the old bytes.
 pub(crate) fn push_payload(out: &mut Vec<u8>, deeds: &[Deed]) -> Result<(), AllocError>
     ensures ok { OnOk result (out.new.items ≡ out.old.items ++ format.payload deeds.now) }
     ensures fits { OnOk result (All format.FitsDeed deeds.now) }

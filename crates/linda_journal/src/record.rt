@@ -1,4 +1,4 @@
-//! A record: one deed or more that were done together, behind one gate.
+//! A record: one deed or more that were done together, after one gate.
 
 ghost use Rattle.std.specs.Prelude.{◌≡◌, ◌∷◌, [], ◌++◌, ◌<◌, ◌≤◌, ◌^◌, ℕ, List, length, IfOk};
 ghost use Rattle.std.specs.Prelude.{IfSome, IfNone, OnOk};
@@ -24,7 +24,7 @@ pub struct Record {
     pub deeds: Vec<Deed>,
 }
 
-/// The deeds of the record behind an open gate, and the bytes from the next gate on. None where no record
+/// The deeds of the record after an open gate, and the bytes from the next gate on. None where no record
 /// stands there with the byte of a gate after it.
 pub(crate) fn read_record(
     alloc: Global,
@@ -50,7 +50,7 @@ pub(crate) fn read_record(
     }
 }
 
-/// What is to stand behind the gate of the record of these deeds, with a closed gate at its end: as many bytes as the
+/// What is to stand after the gate of the record of these deeds, with a closed gate at its end: as many bytes as the
 /// record has, which are these.
 pub(crate) fn spell_body(alloc: Global, deeds: &[Deed], len: usize) -> Result<Vec<u8>, AllocError>
     requires some { 1 ≤ length deeds.now }

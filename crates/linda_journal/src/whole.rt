@@ -1,4 +1,4 @@
-//! A new bank behind a first gate that is still closed: it is written whole before that gate opens.
+//! A new bank after a first gate that is still closed: it is written whole before that gate opens.
 
 ghost use Rattle.std.specs.Prelude.{◌≡◌, ◌∷◌, [], ◌++◌, ◌<◌, ◌≤◌, ◌+◌, ◌^◌, ◌↔◌, ℕ, List, length};
 ghost use Rattle.std.specs.Prelude.{IfOk, IfErr, OnOk};
@@ -15,7 +15,7 @@ use crate::closed::Closed;
 use crate::limits::PIECE;
 use linda_disk::{Disk, DiskFault};
 
-/// A disk on which all of a new bank stands, behind a first gate that is still closed.
+/// A disk on which all of a new bank stands, after a first gate that is still closed.
 #[derive(Drop)]
 pub struct Whole<D: Disk> {
     pub(crate) disk: D,
@@ -24,7 +24,7 @@ pub struct Whole<D: Disk> {
     ghost inside: { D.honest disk → end < length (D.view disk).seen },
 }
 
-/// Writes these bytes, what stands behind the first gate of a new bank of this generation, in order and in pieces; and
+/// Writes these bytes, what stands after the first gate of a new bank of this generation, in order and in pieces; and
 /// then sees to it that they are on the disk.
 ///
 /// # Errors
@@ -64,7 +64,7 @@ pub fn fill<D: Disk>(
     }
 }
 
-// Writes these bytes behind a first gate that is closed, and sees to it that they are on the disk.
+// Writes these bytes after a first gate that is closed, and sees to it that they are on the disk.
 fn write_behind<D: Disk>(disk: &mut D, bytes: &[u8]) -> Result<(), DiskFault>
     requires closed { D.honest disk.old → IsClosed (D.view disk.old).seen }
     requires durable { D.honest disk.old → IsDurable (D.view disk.old) }

@@ -83,13 +83,13 @@ impl<L: Ledger> Mail<L> {
         self.due = self.due.saturating_sub(1);
     }
 
-    /// Puts a reply behind the others. Where there is no memory for it nothing changes.
+    /// Puts a reply after the others. Where there is no memory for it nothing changes.
     pub(crate) fn post_one(&mut self, reply: Reply) -> Result<(), AllocError> {
         self.replies.push(reply)?;
         Ok(())
     }
 
-    /// Puts replies behind the others. Where there is no memory for them none comes any more.
+    /// Puts replies after the others. Where there is no memory for them none comes any more.
     pub(crate) fn post(&mut self, replies: Vec<Reply>) {
         if self.replies.is_empty() {
             self.replies = replies;

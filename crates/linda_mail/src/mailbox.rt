@@ -30,7 +30,7 @@ impl<L: Ledger> Mailbox<L> {
         }
     }
 
-    /// Puts a reply of the session's own behind the others.
+    /// Puts a reply of the session's own after the others.
     ///
     /// # Errors
     ///
@@ -41,7 +41,7 @@ impl<L: Ledger> Mailbox<L> {
         Ok(())
     }
 
-    /// Puts replies behind the others. Where there is no memory for them none comes any more. Whoever waits for news
+    /// Puts replies after the others. Where there is no memory for them none comes any more. Whoever waits for news
     /// is woken too where others' messages led to these.
     pub(crate) fn post<R: Wait>(&self, rt: &R, replies: Vec<Reply>, is_news: bool) {
         let mut mail = self.mail.lock(rt);

@@ -19,7 +19,7 @@ pub struct Waiting<L: Ledger> {
     pub message: Message,
     /// Where the answer goes.
     pub asked: Asked<Address<L>, L>,
-    // How many messages of the same call stand behind it.
+    // How many messages of the same call stand after it.
     behind: usize,
 }
 
@@ -48,7 +48,7 @@ impl<L: Ledger> Queue<L> {
         }
     }
 
-    /// A message of this account goes on its way, behind the others of its kind. Says whether whoever asks is to lead.
+    /// A message of this account goes on its way, after the others of its kind. Says whether whoever asks is to lead.
     ///
     /// # Errors
     ///
@@ -79,7 +79,7 @@ impl<L: Ledger> Queue<L> {
         Ok(self.take_lead())
     }
 
-    /// Messages of this account go on their way, behind the others of their kind and behind one another; they are
+    /// Messages of this account go on their way, after the others of their kind and one after another; they are
     /// served in one group. Says whether whoever asks is to lead.
     ///
     /// # Errors
@@ -121,7 +121,7 @@ impl<L: Ledger> Queue<L> {
     }
 
     /// Takes the message of the group's kind that is in front, where there is room for it and for those of its call
-    /// behind it.
+    /// after it.
     pub fn next(&mut self, room: usize) -> Option<Waiting<L>>
         ensures { IfSome result (λ _. 0 < room) }
     {

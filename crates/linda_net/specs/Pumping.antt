@@ -41,11 +41,11 @@ pub record IsReading (bytes : List ℕ) (messages : List Message) (rest : List �
   pub fit : All FitsMessage messages
   pub spelled : bytes ≡ flat_map message_frame messages ++ rest
 
--- the messages behind a first one
+-- the messages after a first one
 abbrev pub ReadsOn : List ℕ → List ℕ → Message → List Message → Type 0
 ReadsOn bytes rest first messages = (more : List Message) × ((messages ≡ first ∷ more) × IsReading bytes more rest)
 
--- How the bytes behind the last message stand: no whole frame and no fault, or a fault.
+-- How the bytes after the last message stand: no whole frame and no fault, or a fault.
 abbrev pub StandsAs : Option ℕ → List ℕ → Type 0
 StandsAs None rest = message_front rest ≡ Partial
 StandsAs (Some detail) rest = IsMalformed rest detail
@@ -60,7 +60,7 @@ abbrev pub SomeTaken : List ℕ → Known → Known → Type 0
 SomeTaken bytes old new =
     (messages : List Message) × ((rest : List ℕ) × (IsReading bytes messages rest × TakesSome old new messages))
 
--- What a call that hands over all messages in the bytes did: it says how the bytes behind them stand.
+-- What a call that hands over all messages in the bytes did: it says how the bytes after them stand.
 abbrev pub HandsOver : List ℕ → List ℕ → Known → Known → Result (Option ℕ) ConverseFault → Type 0
 HandsOver bytes rest old new (Ok stand) = AllTaken bytes stand rest old new
 HandsOver bytes rest old new (Err fault) = IsOfIntake fault × SomeTaken bytes old new

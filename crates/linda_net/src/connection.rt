@@ -26,7 +26,7 @@ struct Connection<'a, D: Disk, L: Ledger, R: Wait> {
     seat: Option<Seat<L>>,
 }
 
-/// No contract names what a server has that threads share, so nothing is told of the messages.
+/// No contract names what a server has that threads share, so nothing is said of the messages.
 impl<D: Disk, L: Ledger, R: Wait> Intake for Connection<'_, D, L, R> {
     ghost use Rattle.std.specs.Prelude.{None};
 

@@ -25,7 +25,7 @@ pub enum Arrival {
 #[derive(Drop)]
 struct Arrivals {
     waiting: VecDeque<(u32, Arrival)>,
-    // Something came for which there was no memory.
+    // Something came, and memory ran out for it.
     has_lost: bool,
     // Nobody takes any more.
     is_over: bool,
@@ -61,7 +61,7 @@ impl Inbox {
         self.arrived.notify_one();
     }
 
-    /// What came first, behind the number of its server; `None` where nothing has come for a millisecond.
+    /// What came first, after the number of its server; `None` where nothing has come for a millisecond.
     pub fn take<R: Wait + Clock>(&self, rt: &R) -> Option<(u32, Arrival)> {
         let (mut arrivals, _) = self.arrived.wait_timeout_while(
             rt,

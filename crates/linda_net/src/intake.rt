@@ -10,7 +10,7 @@ use linda_wire::Message;
 
 /// Whoever takes the messages of a stream.
 pub trait Intake {
-    /// The messages that were taken, in order; `None` where nothing is told of them, as of a server that threads share.
+    /// The messages that were taken, in order; `None` where nothing is said of them, as of a server that threads share.
     ghost taken: { Self → Option (List MessageValue) };
 
     /// Takes messages, in order; there is one at least, and no more than a batch has.
@@ -26,7 +26,7 @@ pub trait Intake {
             × TakesSome (taken self.old) (taken self.new) messages.items) };
 }
 
-/// A list takes what comes and keeps it. `Memory` is told before any of the messages is taken.
+/// A list takes what comes and keeps it. `Memory` is returned before any of the messages is taken.
 impl Intake for Vec<Message> {
     ghost use Rattle.std.specs.Prelude.{Some};
 

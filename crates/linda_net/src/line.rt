@@ -133,7 +133,7 @@ impl<L: Ledger> Line<L> {
     }
 }
 
-// Puts a reply behind the bytes.
+// Puts a reply after the bytes.
 fn spell(bytes: &mut Vec<u8>, reply: &Reply) -> Result<(), ConverseFault>
     ensures { IfErr result IsOfIntake }
 {

@@ -77,7 +77,7 @@ impl Link {
     /// Keeps the connection up and brings what comes into the inbox, until that is over or the server is given up.
     ///
     /// The first greeting is that of a client that was never used; where no connection can be had for it, or the server
-    /// refuses it, the server is given up at once. A connection that is lost behind a greeting is greeted again.
+    /// refuses it, the server is given up at once. A connection that is lost after a greeting is greeted again.
     pub fn keep<R: Net<Stream = TcpStream> + Wait + Clock>(
         &self,
         rt: &R,

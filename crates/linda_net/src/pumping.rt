@@ -62,7 +62,7 @@ fn read_piece<R: Read>(reader: &mut R, buffer: &mut [u8; PIECE]) -> Result<usize
     }
 }
 
-// Feeds a piece and hands over all messages that are whole then; the place of a fault behind them, if there is one.
+// Feeds a piece and hands over all messages that are whole then; the offset of a fault after them, if there is one.
 fn hand_over<I: Intake>(
     alloc: Global,
     feed: &mut Feed,
@@ -77,7 +77,7 @@ fn hand_over<I: Intake>(
     }
 }
 
-// Hands over all messages that are whole; the place of a fault behind them, if there is one.
+// Hands over all messages that are whole; the offset of a fault after them, if there is one.
 fn hand_over_whole<I: Intake>(
     alloc: Global,
     feed: &mut Feed,
@@ -99,7 +99,7 @@ fn hand_over_whole<I: Intake>(
     }
 }
 
-// This message and those that are whole behind it, 64 at most.
+// This message and those that are whole after it, 64 at most.
 fn batch(alloc: Global, feed: &mut Feed, first: Message) -> Result<Vec<Message>, ConverseFault>
     ensures ok { IfOk result (λ v. ReadsOn feed.old feed.new first v.items) }
     ensures some { IfOk result (λ v. (1 ≤ vec_len v) × (vec_len v ≤ MAX_BATCH)) }
@@ -129,7 +129,7 @@ fn keep(messages: &mut Vec<Message>, message: Message) -> Result<(), ConverseFau
     }
 }
 
-// The place that is told for a fault of a frame; want of memory is none.
+// The offset that is reported for a fault of a frame; `Memory` is none.
 fn detail_of(fault: FrameFault) -> Result<Option<u32>, ConverseFault>
     ensures ok { IfOk result (λ o. (fault ≢ Memory) × (o ≡ Some (detail_of fault))) }
     ensures err { IfErr result (λ told. told ≡ ConverseFault.Memory) }

@@ -12,7 +12,7 @@ abbrev pub opened : Option (List Reply) → Option (List Reply)
 opened None = Some []
 opened (Some rs) = Some rs
 
--- these behind what waits
+-- these after what waits
 abbrev pub with_more : List Reply → Option (List Reply) → Option (List Reply)
 with_more more None = None
 with_more more (Some rs) = Some (rs ++ more)

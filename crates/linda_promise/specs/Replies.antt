@@ -18,7 +18,7 @@ kept_in (replies.Taken n id tuple) = Some (n, kept.Taken id tuple)
 kept_in (replies.Gone n) = Some (n, kept.Gone)
 kept_in _ = None
 
--- whether a deed stands behind the reply
+-- whether the reply reports a deed
 abbrev pub reports_deed : Reply → Bool
 reports_deed r = is_some (kept_in r)
 

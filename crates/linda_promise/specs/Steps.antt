@@ -1,4 +1,4 @@
--- Which deed a step does for a message, and how it is told from the reply.
+-- Which deed a step does for a message, and how it is known from the reply.
 use Rattle.std.specs.Prelude.{◌≡◌, ◌≢◌, ℕ, ◌+◌, ◌==◌, Bool, false, if◌then◌else◌}
 use Rattle.std.specs.Prelude.{List, ◌∷◌, Option, Some, None, IsSome}
 use Rattle.std.specs.FinMap as map
@@ -45,12 +45,12 @@ deed_behind c (messages.Accept n ticket id) ((to, replies.Taken m other row) ∷
 deed_behind c (messages.Accept n ticket id) ((to, replies.Gone m) ∷ sends) = Some (deeds.Pass c n id)
 deed_behind c _ _ = None
 
--- whether this is a number, and the one behind the last
+-- whether this is a number, and the one after the last
 abbrev pub comes_next : Option ℕ → ℕ → Bool
 comes_next None last = false
 comes_next (Some n) last = n == last + 1
 
--- The deed that was done for a client's message, told from the client's last number before it and from what was sent.
+-- The deed that was done for a client's message, known from the client's last number before it and from what was sent.
 abbrev pub reported_deed : ℕ → Message → ℕ → List (ℕ × Reply) → Option Deed
 reported_deed c m last sends =
     if comes_next (number_of_message m) last then deed_behind c m sends else None

@@ -14,7 +14,7 @@ ghost use Rattle.linda_promise.specs.Steps.{number_of_message};
 use linda_state::Deed;
 use linda_wire::{Message, Reply};
 
-/// The number of the client's last deed among these, 0 where it did none: looked for from behind, so what a client did
+/// The number of the client's last deed among these, 0 where it did none: looked for from the end, so what a client did
 /// lately is found soon. Takes no memory.
 pub fn last_number(deeds: &[Deed], client: u32) -> u64
     ensures { result ≡ last_in deeds.now client }
@@ -61,7 +61,7 @@ fn takes(deed: &Deed, id: u64) -> Option<(u32, u64)>
     }
 }
 
-/// The deed that a server did for the client's message, if it did one: told from the client's last number before
+/// The deed that a server did for the client's message, if it did one: known from the client's last number before
 /// the message, and from what the server sent. Takes no memory.
 pub fn reported_deed(
     client: u32,
@@ -82,7 +82,7 @@ pub fn reported_deed(
     }
 }
 
-// Whether the message bears a number, and the one behind the last.
+// Whether the message bears a number, and the one after the last.
 fn comes_next(message: &Message, last: u64) -> bool
     ensures { result ≡ spec.comes_next (number_of_message message.now) last }
 {

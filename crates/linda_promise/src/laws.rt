@@ -1,4 +1,4 @@
-//! What follows from the definitions of states, deeds and steps, each told by the contract of a function that does
+//! What follows from the definitions of states, deeds and steps, each stated by the contract of a function that does
 //! nothing.
 
 ghost use Rattle.std.specs.Prelude.{◌≡◌, ℕ, List, ◌-◌, Some, Contains, All};
@@ -74,7 +74,7 @@ pub fn steps_do_as_they_are_asked()
         → DoesAsAsked c m answered.soft d }
 {}
 
-/// The deed of a step can be told from its message, the client's last number before it, and what is sent.
+/// The deed of a step can be known from its message, the client's last number before it, and what is sent.
 pub fn replies_tell_the_deed()
     ensures { (st new : State) (c : ℕ) (old : Soft) (m : Message) (answered : Answer)
         → IsState st → IsStep st old c m answered new

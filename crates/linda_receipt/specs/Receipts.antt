@@ -18,7 +18,7 @@ number_in r = number_of r.deed
 abbrev pub deeds_in : List Receipt → List Deed
 deeds_in rs = map (λ (r : Receipt). r.deed) rs
 
--- The replies are those to the deeds, done one after another behind these.
+-- The replies are those to the deeds, done one after another after these.
 abbrev pub AreTrue : State → List Deed → List Receipt → Type 0
 AreTrue st before [] = Unit {0}
 AreTrue st before (r ∷ rs) = (r.reply ≡ reply_of_deed st before r.deed) × AreTrue st (before ++ r.deed ∷ []) rs

@@ -60,7 +60,7 @@ pub record HasTold (st : State) (soft : Soft) (ms : List (ℕ × Message)) (told
   pub told_is : told ≡ map receipt_of answers
   pub sends_is : sends ≡ sends_of answers
 
--- What is told of the answers is true of the deeds, which are done behind these.
+-- What is told of the answers is true of the deeds, which are done after these.
 pub record IsTrueOf (base : State) (before : List Deed) (answers : List Answer) (new : State) : Type 0 where
   pub done : AreDone base (before ++ deeds_of answers) new
   pub deeds : deeds_in (receipts_in (map receipt_of answers)) ≡ deeds_of answers

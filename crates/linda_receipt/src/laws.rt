@@ -1,4 +1,4 @@
-//! What follows from the definitions of receipts, each told by the contract of a function that does nothing.
+//! What follows from the definitions of receipts, each stated by the contract of a function that does nothing.
 
 ghost use Rattle.std.specs.Prelude.{◌≡◌, ◌+◌, ℕ, List, [], ◌∷◌, ◌++◌, Option, length, map};
 ghost use Rattle.linda_wire.specs.declared.message.Message.{Message};
@@ -21,7 +21,7 @@ pub fn receipts_tell_what_was_done()
         → IsTrueOf base before answers new }
 {}
 
-/// True receipts, and others behind them that are true where those are done, are true together.
+/// True receipts, and others after them that are true where those are done, are true together.
 pub fn true_receipts_go_on()
     ensures { (st : State) (before : List Deed) (rs qs : List Receipt) → AreTrue st before rs
         → AreTrue st (before ++ deeds_in rs) qs → AreTrue st before (rs ++ qs) }

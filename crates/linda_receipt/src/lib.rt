@@ -3,7 +3,7 @@
 //! A session carries an `Account`: of how many deeds it was told, its last receipts, and its parts of a ledger. Each
 //! message goes to the server with one part (`Asked`) and comes back with what was told (`Answered`), which the `Till`
 //! under the server's lock has written into the ledger. So once all accounts are back, what was told in all is what
-//! they were told; and `Till::compare` tells whether what they were told is what was stored.
+//! they were told; and `Till::compare` says whether what they were told is what was stored.
 #![tactic(auto)]
 
 mod account;

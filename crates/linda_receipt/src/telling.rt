@@ -44,7 +44,7 @@ pub fn receipts_of(alloc: Global, served: &Served) -> Result<Vec<Option<Receipt>
     Ok(told)
 }
 
-// What stands behind so many.
+// What stands after so many.
 fn behind<T>(xs: &[T], n: usize) -> &[T]
     ensures { result.now ≡ drop n xs.now }
 {

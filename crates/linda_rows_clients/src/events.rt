@@ -2,10 +2,10 @@
 //!
 //! | line | what comes of it |
 //! |---|---|
-//! | `event EVENT` | nothing; the lines behind it are about this event |
+//! | `event EVENT` | nothing; the lines after it are about this event |
 //! | `check` | `fits`, or why it is refused |
 //! | `count` | how many bases there are, and how many of them ask |
-//! | `bases` | each base behind its number, a line each |
+//! | `bases` | each base after its number, a line each |
 //! | `at TIME` | `ready` where a base is ready then without a server, else `not ready` |
 //! | `base K` | the labels above the base of this number, and what a commitment to it raises |
 //! | `nothing` | what is raised where no base is chosen |

@@ -1,6 +1,6 @@
 //! Rows of clients, events, their texts, scripts and whole worlds, each worked by hand.
 //!
-//! The rows stand in the file `stdin` beside `src/`: what is done, a line each, and behind it what is to come of it.
+//! The rows stand in the file `stdin` beside `src/`: what is done, a line each, and after it what is to come of it.
 //! A row's subject says who plays its lines: `events`, `clients`, `texts`, `scripts` or `worlds`, in the module of
 //! that name. What came is the text that was read where every row comes as it says.
 #![tactic(auto)]

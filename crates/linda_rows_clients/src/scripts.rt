@@ -1,10 +1,10 @@
 //! Scripts of `linda run`, and what they print.
 //!
-//! A line is a line of the script, and what it prints is told behind it: each time the script is run from its
-//! beginning, and what it printed before has to come again. Its fault, if it has one, is told behind that. `servers N`
+//! A line is a line of the script, and what it prints comes after it: each time the script is run from its
+//! beginning, and what it printed before has to come again. Its fault, if it has one, comes after that. `servers N`
 //! begins a script over that many servers; where a row does not say so, it is over one. `script TEXT` runs a script
-//! that stands there as a string, since its blanks and line ends matter, and tells all that it prints. `times N LINE`
-//! is a line that stands there N times: how many lines that prints is told, and the last of them. A tilde in a line
+//! that stands there as a string, since its blanks and line ends matter, and gives all that it prints. `times N LINE`
+//! is a line that stands there N times: how many lines that prints is written, and the last of them. A tilde in a line
 //! stands for a string of 255 letters.
 
 mod lines;
@@ -62,7 +62,7 @@ impl Scripts {
         self.run(alloc, came, false)
     }
 
-    // Runs the script, and tells what it printed that it had not printed before: all of it, or only the last line where
+    // Runs the script, and gives what it printed that it had not printed before: all of it, or only the last line where
     // there are many.
     fn run(&mut self, alloc: Global, came: &mut String, are_many: bool) -> Result<(), WordsFault> {
         let (printed, end) = printed_by(alloc, self.script.as_str(), self.servers)?;

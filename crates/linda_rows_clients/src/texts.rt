@@ -1,4 +1,4 @@
-//! Texts of events: what is read, told by the one text that is written of it, or the fault.
+//! Texts of events: what is read, given by the one text that is written of it, or the fault.
 //!
 //! `read TEXT` reads the text, which stands as a string where it begins or ends with a blank or has a tab in it.
 //! `nested COUNT NODE END` reads so many nodes that begin as the first string says, and then the second one, and tells

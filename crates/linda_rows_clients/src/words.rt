@@ -16,7 +16,7 @@ pub fn typed_event(alloc: Global, words: &str) -> Result<Event, WordsFault> {
     }
 }
 
-/// The string that stands at this place of the words, as people type it, and the place behind it.
+/// The string that stands at this place of the words, as people type it, and the place after it.
 pub fn string_at(alloc: Global, words: &str, at: usize) -> Result<(String, usize), WordsFault> {
     let (atom, behind) = read_atom_at(alloc, words, at)?;
     match atom {

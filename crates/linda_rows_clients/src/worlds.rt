@@ -1,7 +1,7 @@
 //! Worlds of servers and clients: what happens, and what comes of it.
 //!
 //! A row makes its worlds first, each with clients 7, 8 and 9. Then each line happens in all of them: what comes of it
-//! is told once where it is the same in each, and else world by world, from 0.
+//! is written once where it is the same in each, and else world by world, from 0.
 //!
 //! | line | what it does |
 //! |---|---|

@@ -68,7 +68,7 @@ fn take_bank(stand: &mut Stand, bank: Bank<MemDisk>, came: &mut String) -> Resul
     Ok(told?)
 }
 
-// Takes the disk back, and tells why it holds no bank.
+// Takes the disk back, and says why it holds no bank.
 fn take_disk(
     stand: &mut Stand,
     fault: BankFault,

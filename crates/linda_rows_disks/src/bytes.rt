@@ -42,7 +42,7 @@ const NAMED: [(&str, &str); 8] = [
     ),
 ];
 
-/// As many equal bytes are told by their number.
+/// As many equal bytes are given by their number.
 const MANY: usize = 16;
 
 /// The bytes that the words stand for: those of this name; a text, `"abc"`; or pieces of hexadecimal digits, where
@@ -96,7 +96,7 @@ pub(crate) fn name_or_pieces(alloc: Global, bytes: &[u8]) -> Result<String, Allo
     Ok(pieces)
 }
 
-/// The bytes in hexadecimal digits, where many equal ones behind one another are a piece of their own.
+/// The bytes in hexadecimal digits, where many equal ones one after another are a piece of their own.
 pub(crate) fn pieces_of(alloc: Global, bytes: &[u8]) -> Result<String, AllocError> {
     let mut text = String::new(alloc);
     let mut byte = 0;

@@ -82,7 +82,7 @@ fn cut_to(disk: &mut MemDisk, len: usize, came: &mut String) -> Result<(), Words
     tell_fault(disk.cut(len), came)
 }
 
-// Asks the disk for its length, and tells it.
+// Asks the disk for its length, and gives it.
 fn tell_length(disk: &mut MemDisk, came: &mut String) -> Result<(), WordsFault> {
     match disk.len() {
         Ok(len) => Ok(writeln!(came, "> {len}")?),
@@ -124,7 +124,7 @@ fn hold_or_show(
     }
 }
 
-// Shows what the disk holds as a text, how often it failed, or whether it holds an open gate and what stands behind it.
+// Shows what the disk holds as a text, how often it failed, or whether it holds an open gate and what stands after it.
 fn show(disk: &MemDisk, word: &str, came: &mut String) -> Result<(), WordsFault> {
     if word == "text" {
         match str::from_utf8(disk.bytes()) {
@@ -167,7 +167,7 @@ fn hold_byte(alloc: Global, disk: &mut MemDisk, words: &str) -> Result<(), Words
     Ok(())
 }
 
-// Holds what it held, and more bytes behind it.
+// Holds what it held, and more bytes after it.
 fn hold_more(alloc: Global, disk: &mut MemDisk, words: &str) -> Result<(), WordsFault> {
     let mut bytes = Vec::from_slice(alloc, disk.bytes())?;
     bytes.extend_from_slice(&read_bytes(alloc, words)?)?;

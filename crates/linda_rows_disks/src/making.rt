@@ -9,7 +9,7 @@ use linda_server::{Durable, OpenFault};
 use std::alloc::Global;
 use std::mem;
 
-/// Makes or opens a server of this limit on the two disks, and tells what it keeps, or why there is none.
+/// Makes or opens a server of this limit on the two disks, and says what it keeps, or why there is none.
 pub(crate) fn begin(
     alloc: Global,
     stand: &mut Stand,

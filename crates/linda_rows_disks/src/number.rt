@@ -19,7 +19,7 @@ pub(crate) fn read_size(text: &str) -> Result<usize, WordsFault> {
     }
 }
 
-/// The way to crash that begins the text, as `kept`, `lost` or `filled ff`, and what stands behind it.
+/// The way to crash that begins the text, as `kept`, `lost` or `filled ff`, and what stands after it.
 pub(crate) fn split_torn(text: &str) -> Result<(Torn, &str), WordsFault> {
     let (word, rest) = split_word(text);
     if word == "kept" {

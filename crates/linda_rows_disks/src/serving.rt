@@ -130,7 +130,7 @@ fn tell_deeds(told: Result<Vec<Deed>, NodeFault>, came: &mut String) -> Result<(
     }
 }
 
-// Takes the bytes of a connection, and tells the bytes that answer it.
+// Takes the bytes of a connection, and gives the bytes that answer it.
 fn talk(
     alloc: Global,
     server: &mut Durable<MemDisk>,

@@ -49,7 +49,7 @@ impl Stand {
         crash(&mut self.right, torn)
     }
 
-    // Lets both disks crash, and tells which of them had bytes that were not synced.
+    // Lets both disks crash, and says which of them had bytes that were not synced.
     fn tell_unsynced(&mut self, alloc: Global, came: &mut String) -> Result<(), WordsFault> {
         let left = was_synced(alloc, &mut self.left)?;
         let right = was_synced(alloc, &mut self.right)?;

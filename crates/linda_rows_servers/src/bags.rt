@@ -26,7 +26,7 @@ impl Bags {
         }
     }
 
-    /// Lets both bags do what the words say, and tells what came of it, of each where they differ.
+    /// Lets both bags do what the words say, and says what came of it, of each where they differ.
     pub(crate) fn play(
         &mut self,
         alloc: Global,
@@ -67,7 +67,7 @@ impl Bags {
         Ok(())
     }
 
-    // Does this on both bags, and tells what came where they differ.
+    // Does this on both bags, and says what came where they differ.
     fn take_alike(
         &mut self,
         alloc: Global,
@@ -154,7 +154,7 @@ fn fill<B: Bag>(alloc: Global, bag: &mut B, words: &str) -> Result<String, Words
     Ok(String::new(alloc))
 }
 
-// Takes the tuple of the least id that the template matches; tells the id, the tuple, and which id comes next.
+// Takes the tuple of the least id that the template matches; gives the id, the tuple, and which id comes next.
 fn take<B: Bag>(
     alloc: Global,
     bag: &mut B,

@@ -40,7 +40,7 @@ impl HoldsRow {
     }
 }
 
-// Lets the tuple be held for the request; where that holds one already, its id is told.
+// Lets the tuple be held for the request; where that holds one already, its id is given.
 fn hold(holds: &mut Holds, id: u64, request: Request, came: &mut String) -> Result<(), WordsFault> {
     match holds.find(request) {
         Some(held) => Ok(writeln!(came, "> holds {held}")?),

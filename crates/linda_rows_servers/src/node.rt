@@ -53,7 +53,7 @@ fn batch(alloc: Global, words: &str) -> Result<Vec<(u32, Message)>, WordsFault>
     Ok(messages)
 }
 
-// Stops the node at its work on the messages, and tells how many deeds were added.
+// Stops the node at its work on the messages, and says how many deeds were added.
 fn stop(
     alloc: Global,
     node: &mut Volatile,

@@ -26,7 +26,7 @@ pub(crate) fn read_size(text: &str) -> Result<usize, WordsFault> {
     }
 }
 
-/// The number that is the first word of a text, and what stands behind it.
+/// The number that is the first word of a text, and what stands after it.
 pub(crate) fn split_number(text: &str) -> Result<(u64, &str), WordsFault> {
     let (word, rest) = split_word(text);
     Ok((read_number(word)?, rest))

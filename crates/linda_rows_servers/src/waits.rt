@@ -59,7 +59,7 @@ pub(crate) fn tell_request(request: Option<Request>, came: &mut String) -> Resul
     }
 }
 
-// Lets a request wait, as `2 1 rd (7)`; where it waits already, that is told.
+// Lets a request wait, as `2 1 rd (7)`; where it waits already, that is said.
 fn wait(
     alloc: Global,
     waits: &mut Waits,
@@ -80,7 +80,7 @@ fn wait(
     Ok(waits.add(request, asked)?)
 }
 
-// Takes out the reads that the tuple answers, and tells them.
+// Takes out the reads that the tuple answers, and gives them.
 fn take_readers(
     alloc: Global,
     waits: &mut Waits,

@@ -1,10 +1,11 @@
 //! Values as bytes.
 //!
-//! `spell tuple TUPLE` and `spell template TEMPLATE` are told the bytes; `put BYTES ATOM ..` is told these bytes with
-//! the atoms' behind them. `get tuple AT BYTES`, and so `template` and `atom`, reads from an offset on, and is told
-//! the value and the offset behind it. `read tuple BYTES`, and so `template`, `atom`, `u8`, `u32`, `u64` and `bool`,
-//! is told the value and the bytes behind it. `skip tuple BYTES` and `skip template BYTES` are told the bytes behind it
-//! alone. Each is told the fault where nothing is read.
+//! `spell tuple TUPLE` and `spell template TEMPLATE` give the bytes; `put BYTES ATOM ..` gives these bytes with
+//! the atoms' after them. `get tuple AT BYTES`, and so `template` and `atom`, reads from an offset on, and gives
+//! the value and the offset after it. `read tuple BYTES`, and so `template`, `atom`, `u8`, `u32`, `u64` and `bool`,
+//! gives the value and the bytes after it. `skip tuple BYTES` and `skip template BYTES` give the bytes after it
+//! alone. Each gives the fault where nothing is read. Values are in the first form; with `two` after the verb, as in
+//! `spell two tuple TUPLE`, they are in the second one.
 
 use crate::hexadecimal::{bytes_of, tell_bytes};
 use crate::texts::{atoms_in, split_offset};
@@ -15,6 +16,7 @@ use linda_codec::{
 };
 use linda_script::{WordsFault, split_word};
 use linda_text::{read_template as typed_template, read_tuple as typed_tuple};
+use linda_tuple::Form;
 use std::alloc::Global;
 
 /// Plays a line of a row about bytes.
@@ -24,61 +26,98 @@ use std::alloc::Global;
 /// `Unknown` where it says nothing of the kind; `Memory` where memory runs out.
 pub(crate) fn play_bytes(alloc: Global, words: &str, came: &mut String) -> Result<(), WordsFault> {
     let (verb, rest) = split_word(words);
+    let (form, rest) = split_form(rest);
     let (kind, rest) = split_word(rest);
     match verb {
-        "spell" => spell(alloc, came, kind, rest),
-        "put" => put(alloc, came, kind, rest),
+        "spell" => spell(alloc, form, came, kind, rest),
+        "put" => put(alloc, form, came, kind, rest),
         "get" => {
             let (at, digits) = split_offset(rest)?;
-            get(alloc, came, kind, bytes_of(alloc, digits)?.as_slice(), at)
+            get(
+                alloc,
+                form,
+                came,
+                kind,
+                bytes_of(alloc, digits)?.as_slice(),
+                at,
+            )
         }
-        "read" => read(alloc, came, kind, bytes_of(alloc, rest)?.as_slice()),
-        "skip" => skip(alloc, came, kind, bytes_of(alloc, rest)?.as_slice()),
+        "read" => read(alloc, form, came, kind, bytes_of(alloc, rest)?.as_slice()),
+        "skip" => skip(alloc, form, came, kind, bytes_of(alloc, rest)?.as_slice()),
         _ => Err(WordsFault::Unknown),
     }
 }
 
-fn spell(alloc: Global, came: &mut String, kind: &str, text: &str) -> Result<(), WordsFault> {
+// The form that is asked for, and the words after it.
+fn split_form(words: &str) -> (Form, &str) {
+    let (word, rest) = split_word(words);
+    if word == "two" {
+        (Form::Two, rest)
+    } else {
+        (Form::One, words)
+    }
+}
+
+fn spell(
+    alloc: Global,
+    form: Form,
+    came: &mut String,
+    kind: &str,
+    text: &str,
+) -> Result<(), WordsFault> {
     let mut bytes = Vec::new(alloc);
     match kind {
-        "tuple" => put_tuple(&mut bytes, &typed_tuple(alloc, text)?)?,
-        "template" => put_template(&mut bytes, &typed_template(alloc, text)?)?,
+        "tuple" => put_tuple(form, &mut bytes, &typed_tuple(alloc, text)?)?,
+        "template" => put_template(form, &mut bytes, &typed_template(alloc, text)?)?,
         _ => return Err(WordsFault::Unknown),
     }
     Ok(tell_bytes(alloc, came, bytes.as_slice())?)
 }
 
-fn put(alloc: Global, came: &mut String, front: &str, atoms: &str) -> Result<(), WordsFault> {
+fn put(
+    alloc: Global,
+    form: Form,
+    came: &mut String,
+    front: &str,
+    atoms: &str,
+) -> Result<(), WordsFault> {
     let mut bytes = bytes_of(alloc, front)?;
     for atom in &atoms_in(alloc, atoms)? {
-        if !atom.is_sound() {
+        if !atom.fits(form) {
             return Err(WordsFault::Unknown);
         }
-        put_atom(&mut bytes, atom)?;
+        put_atom(form, &mut bytes, atom)?;
     }
     Ok(tell_bytes(alloc, came, bytes.as_slice())?)
 }
 
 fn get(
     alloc: Global,
+    form: Form,
     came: &mut String,
     kind: &str,
     bytes: &[u8],
     at: usize,
 ) -> Result<(), WordsFault> {
     match kind {
-        "tuple" => Ok(tell_placed(alloc, came, get_tuple(alloc, bytes, at))?),
-        "template" => Ok(tell_placed(alloc, came, get_template(alloc, bytes, at))?),
-        "atom" => Ok(tell_placed(alloc, came, get_atom(alloc, bytes, at))?),
+        "tuple" => Ok(tell_placed(alloc, came, get_tuple(alloc, form, bytes, at))?),
+        "template" => Ok(tell_placed(alloc, came, get_template(alloc, form, bytes, at))?),
+        "atom" => Ok(tell_placed(alloc, came, get_atom(alloc, form, bytes, at))?),
         _ => Err(WordsFault::Unknown),
     }
 }
 
-fn read(alloc: Global, came: &mut String, kind: &str, bytes: &[u8]) -> Result<(), WordsFault> {
+fn read(
+    alloc: Global,
+    form: Form,
+    came: &mut String,
+    kind: &str,
+    bytes: &[u8],
+) -> Result<(), WordsFault> {
     match kind {
-        "tuple" => Ok(tell_front(alloc, came, read_tuple(alloc, bytes))?),
-        "template" => Ok(tell_front(alloc, came, read_template(alloc, bytes))?),
-        "atom" => Ok(tell_front(alloc, came, read_atom(alloc, bytes))?),
+        "tuple" => Ok(tell_front(alloc, came, read_tuple(alloc, form, bytes))?),
+        "template" => Ok(tell_front(alloc, came, read_template(alloc, form, bytes))?),
+        "atom" => Ok(tell_front(alloc, came, read_atom(alloc, form, bytes))?),
         "u8" => Ok(tell_front(alloc, came, read_u8(bytes))?),
         "u32" => Ok(tell_front(alloc, came, read_u32(bytes))?),
         "u64" => Ok(tell_front(alloc, came, read_u64(bytes))?),
@@ -87,10 +126,16 @@ fn read(alloc: Global, came: &mut String, kind: &str, bytes: &[u8]) -> Result<()
     }
 }
 
-fn skip(alloc: Global, came: &mut String, kind: &str, bytes: &[u8]) -> Result<(), WordsFault> {
+fn skip(
+    alloc: Global,
+    form: Form,
+    came: &mut String,
+    kind: &str,
+    bytes: &[u8],
+) -> Result<(), WordsFault> {
     match kind {
-        "tuple" => Ok(tell_rest(alloc, came, skip_tuple(bytes))?),
-        "template" => Ok(tell_rest(alloc, came, skip_template(bytes))?),
+        "tuple" => Ok(tell_rest(alloc, came, skip_tuple(form, bytes))?),
+        "template" => Ok(tell_rest(alloc, came, skip_template(form, bytes))?),
         _ => Err(WordsFault::Unknown),
     }
 }

@@ -1,6 +1,6 @@
 //! Copies of values.
 //!
-//! `tuple TUPLE` and `template TEMPLATE` are told a copy. `text LETTERS` is told the text's count of bytes, whether it
+//! `tuple TUPLE` and `template TEMPLATE` give a copy. `text LETTERS` gives the text's count of bytes, whether it
 //! is empty, its letters, whether a copy is equal to it, and the letters that the copy gives back.
 
 use crate::notation::tell;

@@ -82,7 +82,7 @@ pub(crate) fn frame_of<T: Spoken>(alloc: Global, words: &str) -> Result<Vec<u8>,
     Ok(frame)
 }
 
-/// Appends a line that tells what the words say, in words, or that they say nothing.
+/// Appends a line that gives what the words say, in words, or that they say nothing.
 ///
 /// # Errors
 ///

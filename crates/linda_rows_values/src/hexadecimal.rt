@@ -21,7 +21,7 @@ pub(crate) fn bytes_of(alloc: Global, digits: &str) -> Result<Vec<u8>, WordsFaul
     Ok(bytes)
 }
 
-/// Appends a line that tells the bytes.
+/// Appends a line that gives the bytes.
 ///
 /// # Errors
 ///

@@ -1,6 +1,6 @@
 //! Tuples and templates that are made of parts, which may be too many or too long.
 //!
-//! `tuple TAG FIELD ..` and `template TAG PATTERN ..` are told what is made. A part is a number, `true`, `_`, or else
+//! `tuple TAG FIELD ..` and `template TAG PATTERN ..` give what is made. A part is a number, `true`, `_`, or else
 //! the text that it is.
 
 use crate::notation::tell;

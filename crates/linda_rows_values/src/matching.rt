@@ -1,6 +1,6 @@
 //! What a template matches, and what it binds.
 //!
-//! `match TEMPLATE | TUPLE` is told what the template binds in the tuple. `fits TEMPLATE | TUPLE` is told of each field
+//! `match TEMPLATE | TUPLE` gives what the template binds in the tuple. `fits TEMPLATE | TUPLE` gives of each field
 //! of the tuple whether the template's first pattern fits it.
 
 use crate::words::split_pair;
@@ -44,7 +44,7 @@ fn tell_bindings(
     came.push('\n')
 }
 
-// Appends the atoms, each behind a blank.
+// Appends the atoms, each after a blank.
 fn push_atoms(came: &mut String, atoms: &[Atom]) -> Result<(), AllocError> {
     for atom in atoms {
         came.push(' ')?;

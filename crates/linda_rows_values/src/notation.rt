@@ -1,7 +1,7 @@
 //! How texts are written in rows, where they would be long or could not be seen.
 //!
 //! In braces stands what bytes are there in hexadecimal digits, as `{0a}` for a line feed; or how often what stands
-//! behind a blank is there, as `{255 a}`.
+//! after a blank is there, as `{255 a}`.
 
 use crate::hexadecimal::bytes_of;
 use linda_script::WordsFault;
@@ -37,7 +37,7 @@ pub(crate) fn spread(alloc: Global, written: &str) -> Result<String, WordsFault>
     Ok(text)
 }
 
-// Appends what stands in braces, of which the first one is gone, and what stands behind them.
+// Appends what stands in braces, of which the first one is gone, and what stands after them.
 fn push_part(alloc: Global, text: &mut String, part: &str) -> Result<(), WordsFault> {
     let Some((inside, behind)) = part.split_once('}') else {
         return Err(WordsFault::Unknown);
@@ -67,7 +67,7 @@ fn push_bytes(alloc: Global, text: &mut String, digits: &str) -> Result<(), Word
     }
 }
 
-/// Appends a line that tells a text.
+/// Appends a line that gives a text.
 ///
 /// # Errors
 ///

@@ -1,7 +1,7 @@
 //! The order of atoms and of texts, and when tuples and templates are equal.
 //!
 //! `atoms ATOM ..` is told, a line for each of them, how it stands to each: `<`, `=` or `>`. `texts ATOM ..` compares
-//! what the strings say. `tuples TUPLE | TUPLE` and `templates TEMPLATE | TEMPLATE` are told whether they are equal.
+//! what the strings say. `tuples TUPLE | TUPLE` and `templates TEMPLATE | TEMPLATE` give whether they are equal.
 
 use crate::texts::atoms_in;
 use crate::words::split_pair;

@@ -1,11 +1,11 @@
 //! Streams of frames, of messages or of replies.
 //!
-//! `frame WORDS` is told the frame of a message or a reply. `feed BYTES` is a piece of the row's stream; `next` is told
+//! `frame WORDS` gives the frame of a message or a reply. `feed BYTES` is a piece of the row's stream; `next` gives
 //! what stands at its front, `nothing` where that is not whole, or the fault; `left` how many bytes are not read.
-//! `bytewise BYTES` feeds them one by one, and is told how often there was nothing before a byte came.
+//! `bytewise BYTES` feeds them one by one, and gives how often there was nothing before a byte came.
 //!
-//! `behind BYTES` says what `fault` lets come behind. `fault BYTES` gives a new stream all of them but the last one,
-//! the last one, and what comes behind, and is told what is next after each, and how many bytes are left.
+//! `behind BYTES` says what `fault` lets come after. `fault BYTES` gives a new stream all of them but the last one,
+//! the last one, and what comes after, and gives what is next after each, and how many bytes are left.
 
 use crate::frames::{Spoken, frame_of, push_words_of_copy};
 use crate::hexadecimal::{bytes_of, tell_bytes};
@@ -18,7 +18,7 @@ use std::alloc::{AllocError, Global};
 #[derive(Drop)]
 pub(crate) struct Stream<T: Spoken> {
     feed: FrameFeed<T>,
-    /// What comes behind the bytes of a fault.
+    /// What comes after the bytes of a fault.
     behind: Vec<u8>,
 }
 

@@ -1,7 +1,7 @@
 //! Tuples, templates and atoms as people type them.
 //!
-//! `tuple TEXT` and `template TEXT` are told what is read, as it is written, or why nothing is. `template-at AT TEXT`
-//! and `atom-at AT TEXT` read from an offset on, and are told the offset behind it too. `triples ATOM ..` is told how
+//! `tuple TEXT` and `template TEXT` give what is read, as it is written, or why nothing is. `template-at AT TEXT`
+//! and `atom-at AT TEXT` read from an offset on, and give the offset after it too. `triples ATOM ..` gives how
 //! many of all tuples of three of these atoms are written, read again and the same.
 
 use crate::told::{tell_alone, tell_placed};
@@ -33,7 +33,7 @@ pub(crate) fn play_texts(alloc: Global, words: &str, came: &mut String) -> Resul
     }
 }
 
-/// The offset at the front, and what stands behind the blank after it.
+/// The offset at the front, and what stands after the blank after it.
 ///
 /// # Errors
 ///
@@ -46,7 +46,7 @@ pub(crate) fn split_offset(words: &str) -> Result<(usize, &str), WordsFault> {
     }
 }
 
-/// The atoms that stand in a text, one behind the other.
+/// The atoms that stand in a text, one after the other.
 ///
 /// # Errors
 ///

@@ -57,7 +57,7 @@ impl Written for bool {
     }
 }
 
-/// Appends a line that tells the fault.
+/// Appends a line that gives the fault.
 ///
 /// # Errors
 ///
@@ -77,7 +77,7 @@ pub(crate) fn push_fault<F: Display + Drop>(came: &mut String, fault: F) -> Resu
     write!(came, "{fault}")
 }
 
-/// Appends a line that tells the value, or the fault.
+/// Appends a line that gives the value, or the fault.
 ///
 /// # Errors
 ///
@@ -96,7 +96,7 @@ pub(crate) fn tell_alone<V: Written, F: Display + Drop>(
     }
 }
 
-/// Appends a line that tells the value and the offset behind it, or the fault.
+/// Appends a line that gives the value and the offset after it, or the fault.
 ///
 /// # Errors
 ///
@@ -115,7 +115,7 @@ pub(crate) fn tell_placed<V: Written, F: Display + Drop>(
     }
 }
 
-/// Appends a line that tells the value and the bytes behind it, or the fault.
+/// Appends a line that gives the value and the bytes after it, or the fault.
 ///
 /// # Errors
 ///
@@ -135,7 +135,7 @@ pub(crate) fn tell_front<V: Written, F: Display + Drop>(
     }
 }
 
-/// Appends a line that tells the bytes that are passed over to, or the fault.
+/// Appends a line that gives the bytes that are passed over to, or the fault.
 ///
 /// # Errors
 ///
@@ -154,7 +154,7 @@ pub(crate) fn tell_rest<F: Display + Drop>(
     }
 }
 
-// Appends the end of a line that tells the bytes behind a value.
+// Appends the end of a line that gives the bytes after a value.
 fn push_rest(alloc: Global, came: &mut String, rest: &[u8]) -> Result<(), AllocError> {
     if rest.is_empty() {
         came.push_str("then nothing\n")
@@ -165,7 +165,7 @@ fn push_rest(alloc: Global, came: &mut String, rest: &[u8]) -> Result<(), AllocE
     }
 }
 
-// Appends the beginning of a line that tells the value.
+// Appends the beginning of a line that gives the value.
 fn push_value<V: Written>(alloc: Global, came: &mut String, value: &V) -> Result<(), AllocError> {
     came.push_str("> ")?;
     push_written(came, value.written(alloc)?.as_str())

@@ -1,7 +1,7 @@
 //! The words of messages and replies.
 //!
-//! `message WORDS` and `reply WORDS` are told what is read, in words. `said LINE` and `told LINE` are told the frames
-//! of a script's line. `numbered WORDS` is told the number at the front, and what stands behind it.
+//! `message WORDS` and `reply WORDS` give what is read, in words. `said LINE` and `told LINE` give the frames
+//! of a script's line. `numbered WORDS` gives the number at the front, and what stands after it.
 
 use crate::frames::tell_said;
 use crate::hexadecimal::tell_bytes;
@@ -27,7 +27,7 @@ pub(crate) fn play_words(alloc: Global, words: &str, came: &mut String) -> Resul
     }
 }
 
-/// The two parts of some words, before and behind the first ` | `.
+/// The two parts of some words, before and after the first ` | `.
 ///
 /// # Errors
 ///

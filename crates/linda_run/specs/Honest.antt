@@ -23,7 +23,7 @@ pub record IsEarned (servers : List Server) (c : ℕ) (client : Client) (pair : 
 abbrev pub OfServers : World → (ℕ → Server → Type 0) → Type 0
 OfServers w P = (s : ℕ) (server : Server) → slice_get w.servers s ≡ Some server → P s server
 
--- Servers are sound, each reply that tells of a deed is backed by it, clients keep their ranges,
+-- Servers are sound, each reply that reports a deed is backed by it, clients keep their ranges,
 -- and what they were given they earned, and were given once.
 pub record IsHonest (w : World) : Type 0 where
   pub some : 1 ≤ length w.servers

@@ -35,7 +35,7 @@ pub record IsGivenOnce (w : World) : Type 0 where
 abbrev pub OfServer : List Server → ℕ → (List Deed → Type 0) → Type 0
 OfServer servers s P = (server : Server) × ((slice_get servers s ≡ Some server) × P server.deeds)
 
--- Deeds stay: each server has those of before, and more behind them.
+-- Deeds stay: each server has those of before, and more after them.
 abbrev pub DeedsStay : World → World → Type 0
 DeedsStay w new = (s : ℕ) (old : Server) → slice_get w.servers s ≡ Some old
     → OfServer new.servers s (λ ds. (more : List Deed) × (ds ≡ old.deeds ++ more))
@@ -45,12 +45,12 @@ DeedsStay w new = (s : ℕ) (old : Server) → slice_get w.servers s ≡ Some ol
 abbrev pub IsRightful : World → ℕ → ℕ × ℕ → Type 0
 IsRightful w c pair = OfServer w.servers pair.0 (λ ds. (row : Tuple) × HandsOver ds c pair.1 row)
 
--- A reply that tells of a deed is the book's for a deed of its server, which stays.
+-- A reply that reports a deed is the book's for a deed of its server, which stays.
 abbrev pub IsBacked : List Server → ℕ → ℕ → Body → Type 0
 IsBacked servers s c (bodies.Message m) = Unit {0}
 IsBacked servers s c (bodies.Reply r) = reports_deed r ≡ true → OfServer servers s (λ ds. ReportsOne ds c r)
 
--- A Gone tells of an Accept that passed: nothing was taken by its number, and nothing ever will be.
+-- A Gone reports an Accept that passed: nothing was taken by its number, and nothing ever will be.
 abbrev pub IsGone : List Server → ℕ → ℕ → Body → Type 0
 IsGone servers s c (bodies.Message m) = Unit {0}
 IsGone servers s c (bodies.Reply (replies.Gone n)) = OfServer servers s (λ ds. PassesOn ds c n)

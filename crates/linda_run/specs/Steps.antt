@@ -26,7 +26,7 @@ use Rattle.linda_run.specs.declared.packet.Packet.{Packet}
 use Rattle.linda_run.specs.declared.seen.Seen.{Seen}
 use Rattle.linda_run.specs.World.{Server, Member, World, member_then, sent_by, sent_from, delivered}
 
--- What is told of a step: what is seen of it, or which server is down.
+-- What is reported of a step: what is seen of it, or which server is down.
 abbrev pub Told : Type 0
 Told = Result Seen ℕ
 

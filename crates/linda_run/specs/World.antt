@@ -64,7 +64,7 @@ place_of handed = (handed.server, handed.id)
 abbrev pub given_by : Option Outcome → List (ℕ × ℕ)
 given_by outcome = option_to_list (option_map place_of (handed_by outcome))
 
--- A client behind a call: it is as the call leaves it, and was given what the outcome gives.
+-- A client after a call: it is as the call leaves it, and was given what the outcome gives.
 abbrev pub member_then : Member → Reaction → Member
 member_then member reaction = record { client = reaction.client; got = member.got ++ given_by reaction.outcome }
 

@@ -31,8 +31,8 @@ use linda_store::{
 };
 
 /// No tuple is taken twice. What clients were given, over all of them, are pairs that differ; each
-/// was put once and taken once, by that client; each reply that tells of a deed is the book's for
-/// one of its server's; and a Gone tells of an Accept that took nothing, and never will.
+/// was put once and taken once, by that client; each reply that reports a deed is the book's for
+/// one of its server's; and a Gone reports an Accept that took nothing, and never will.
 pub fn worlds_are_safe()
     ensures { (w : World) → IsReached w → IsSafe w }
 {
@@ -56,7 +56,7 @@ pub fn what_is_handed_over_was_put()
     laws_below();
 }
 
-/// What servers did stays, at each step, and more comes behind it.
+/// What servers did stays, at each step, and more comes after it.
 pub fn deeds_stay()
     ensures { (w new : World) (event : WorldEvent) (told : Told) → Steps w event told new → DeedsStay w new }
 {}
@@ -76,7 +76,7 @@ pub fn servers_are_few()
     laws_below();
 }
 
-/// Which deed a node did for a message can be told from the deeds of before and from what it sends.
+/// Which deed a node did for a message follows from the deeds of before and from what it sends.
 pub fn deeds_are_learned()
     ensures { (ds es : List Deed) (old new : Node) (c : ℕ) (m : Message) (sends : List (ℕ × Reply))
         → IsSound ds old → Works old (says c m ∷ []) (Sent sends) es new

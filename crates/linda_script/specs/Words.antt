@@ -1,4 +1,4 @@
--- The one text of a message and of a reply: a word, numbers behind one blank each, and a tuple or a template.
+-- The one text of a message and of a reply: a word, numbers after one blank each, and a tuple or a template.
 use Rattle.std.specs.Prelude.{ℕ, Bool, true, false, List, ◌∷◌, ◌++◌, codes}
 use Rattle.std.specs.Fmt.{decimal}
 use Rattle.linda_tuple.specs.Tuple.{Tuple}
@@ -16,7 +16,7 @@ spaced text = 32 ∷ text
 abbrev pub numbered : List ℕ → ℕ → List ℕ
 numbered word number = word ++ spaced (decimal number)
 
--- A word, a number, and what follows behind a blank.
+-- A word, a number, and what follows after a blank.
 abbrev pub numbered_then : List ℕ → ℕ → List ℕ → List ℕ
 numbered_then word number rest = word ++ spaced (decimal number ++ spaced rest)
 
@@ -38,7 +38,7 @@ message_words (Ask ticket remove template) = numbered_then (ask_word remove) tic
 message_words (Accept n ticket id) = numbered_then (codes "accept") n (decimal ticket ++ spaced (decimal id))
 message_words (Cancel ticket) = numbered (codes "cancel") ticket
 
--- Two numbers and a tuple behind a word.
+-- Two numbers and a tuple after a word.
 abbrev pub entry_words : List ℕ → ℕ → ℕ → Tuple → List ℕ
 entry_words word number id tuple = numbered_then word number (decimal id ++ spaced (written_tuple tuple))
 

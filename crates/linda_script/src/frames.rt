@@ -8,7 +8,7 @@ use hex::FromHexError;
 use linda_wire::{encode_message, encode_reply};
 use std::alloc::Global;
 
-/// The frames of the messages that a script says, one behind the other.
+/// The frames of the messages that a script says, one after the other.
 ///
 /// # Errors
 ///
@@ -23,7 +23,7 @@ pub fn said_frames(alloc: Global, script: &str) -> Result<Vec<u8>, WordsFault> {
     Ok(frames)
 }
 
-/// The frames of the replies that a script tells, one behind the other.
+/// The frames of the replies that a script tells, one after the other.
 ///
 /// # Errors
 ///
@@ -38,7 +38,7 @@ pub fn told_frames(alloc: Global, script: &str) -> Result<Vec<u8>, WordsFault> {
     Ok(frames)
 }
 
-// Appends the frame of the message that is said, or the bytes whose digits stand behind the word `bytes`.
+// Appends the frame of the message that is said, or the bytes whose digits stand after the word `bytes`.
 fn push_said(alloc: Global, frames: &mut Vec<u8>, words: &str) -> Result<(), WordsFault> {
     match words.strip_prefix("bytes ") {
         Some(digits) => Ok(frames.extend_from_slice(&read_hex(alloc, digits)?)?),

@@ -6,7 +6,7 @@ use linda_tuple::Tuple;
 use linda_wire::Reply;
 use std::alloc::{AllocError, Global};
 
-/// Appends a line for each reply, behind the client that it goes to, as `> 7 stored 1 1`.
+/// Appends a line for each reply, after the client that it goes to, as `> 7 stored 1 1`.
 ///
 /// # Errors
 ///

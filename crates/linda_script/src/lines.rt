@@ -3,7 +3,7 @@
 use std::alloc::{AllocError, Global};
 
 /// What a line says that goes in: the line without the blanks around it, if anything stands there and it is not told
-/// behind `>`.
+/// after `>`.
 pub fn said(line: &str) -> Option<&str> {
     let line = line.trim();
     if line.is_empty() || line.starts_with('>') {
@@ -13,7 +13,7 @@ pub fn said(line: &str) -> Option<&str> {
     }
 }
 
-/// What a line tells that comes out: what stands behind `> `, if it begins so.
+/// What a line tells that comes out: what stands after `> `, if it begins so.
 pub fn told(line: &str) -> Option<&str> {
     line.trim().strip_prefix("> ")
 }

@@ -65,7 +65,7 @@ pub fn read_message(alloc: Global, text: &str) -> Result<Message, WordsFault>
     }
 }
 
-/// The messages that a script says, each behind the number of its client, as `7 out 1 ("a", 3)`.
+/// The messages that a script says, each after the number of its client, as `7 out 1 ("a", 3)`.
 ///
 /// # Errors
 ///
@@ -81,7 +81,7 @@ pub fn read_messages(alloc: Global, script: &str) -> Result<Vec<(u32, Message)>,
     Ok(messages)
 }
 
-/// The messages that the words say, with `; ` between them, each behind the number of its client; of no words none.
+/// The messages that the words say, with `; ` between them, each after the number of its client; of no words none.
 ///
 /// # Errors
 ///

@@ -2,7 +2,7 @@
 
 use crate::fault::WordsFault;
 
-/// The first word of a text and what stands behind the blank after it, which is nothing where no blank stands there.
+/// The first word of a text and what stands after the blank after it, which is nothing where no blank stands there.
 pub fn split_word(text: &str) -> (&str, &str) {
     match text.split_once(' ') {
         Some((word, rest)) => (word, rest),
@@ -10,7 +10,7 @@ pub fn split_word(text: &str) -> (&str, &str) {
     }
 }
 
-/// The number of 64 bits that is the first word of a text, and what stands behind the blank after it.
+/// The number of 64 bits that is the first word of a text, and what stands after the blank after it.
 pub(crate) fn split_number(text: &str) -> Result<(u64, &str), WordsFault> {
     let (word, rest) = split_word(text);
     match word.parse::<u64>() {
@@ -19,7 +19,7 @@ pub(crate) fn split_number(text: &str) -> Result<(u64, &str), WordsFault> {
     }
 }
 
-/// The number of 32 bits that is the first word, of a client or a server, and what stands behind the blank after it.
+/// The number of 32 bits that is the first word, of a client or a server, and what stands after the blank after it.
 ///
 /// # Errors
 ///

@@ -69,7 +69,7 @@ fn reply_in(alloc: Global, text: &str) -> Result<Reply, WordsFault> {
     }
 }
 
-// The reply of two numbers or more that the words may say behind the first number.
+// The reply of two numbers or more that the words may say after the first number.
 fn reply_of_two(alloc: Global, word: &str, first: u64, text: &str) -> Result<Reply, WordsFault> {
     let (second, rest) = split_number(text)?;
     if word == "stored" {

@@ -35,7 +35,7 @@ pub trait Player {
     /// `Unknown` for a subject that is not known: no line of the row is played then. `Memory` where memory runs out.
     fn begin(&mut self, alloc: Global, subject: &str) -> Result<(), WordsFault>;
 
-    /// Does what a line says, and appends what came of it, line by line, each behind `> `.
+    /// Does what a line says, and appends what came of it, line by line, each after `> `.
     ///
     /// # Errors
     ///
@@ -48,7 +48,7 @@ pub trait Player {
 pub struct Played {
     /// How many rows there are.
     pub rows: u64,
-    /// Their text, line by line, with what came of a line in place of what is wanted of it. Behind a line that says
+    /// Their text, line by line, with what came of a line in place of what is wanted of it. After a line that says
     /// nothing to do stands `> ? not understood`.
     pub came: String,
     /// Of each row that came otherwise its number, its heading, and the first line that did.
@@ -113,7 +113,7 @@ impl Row {
         }
     }
 
-    // The row behind this one, of which nothing was read yet.
+    // The row after this one, of which nothing was read yet.
     fn go_on(&mut self, alloc: Global) {
         self.number = self.number.saturating_add(1);
         self.is_known = false;

@@ -61,7 +61,7 @@ StandsFor st left right = ∥ Stands left right st ∥₁
 abbrev pub IsNothingOr : State → List ℕ → List ℕ → Type 0
 IsNothingOr st left right = (IsNoBank left × IsNoBank right) ⊎ Stands left right st
 
--- The messages would do deeds, and the record of them, behind this end, would pass the limit.
+-- The messages would do deeds, and the record of them, after this end, would pass the limit.
 abbrev pub HasNoRoom : Store → List (ℕ × Message) → ℕ → ℕ → Type 0
 HasNoRoom old ms end limit = (all : History) → Answers old.state old.soft ms all
     → (0 < length (payload all.deeds)) × (limit < end + RECORD_BYTES + length (payload all.deeds))

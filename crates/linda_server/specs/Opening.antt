@@ -15,7 +15,7 @@ fault_of_choice (choices.Damaged right offset) = Damaged right offset
 fault_of_choice choices.Disk = Disk
 fault_of_choice choices.Memory = Memory
 
--- What a fault tells of two files and a limit.
+-- What a fault says of two files and a limit.
 abbrev pub IsOpenFault : List ℕ → List ℕ → ℕ → OpenFault → Type 0
 IsOpenFault left right limit NotEmpty = ⊥
 IsOpenFault left right limit LimitRange = IsLimit limit → ⊥

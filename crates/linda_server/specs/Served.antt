@@ -32,7 +32,7 @@ sends_of answers = flat_map (λ (a : Answer). a.sends) answers
 abbrev pub share_of : Answer → Share
 share_of a = record { has_deed = is_some a.deed; sends = length a.sends }
 
--- What was served tells the answers: all deeds in order, all sends in order, and each answer's
+-- What was served gives the answers: all deeds in order, all sends in order, and each answer's
 -- share of both.
 pub record Tells (told : Served) (answers : List Answer) : Type 0 where
   pub deeds : told.deeds.items ≡ deeds_of answers
@@ -47,7 +47,7 @@ pub record IsServed (st : State) (soft : Soft) (ms : List (ℕ × Message)) (tol
   pub answered : AreAnswered st soft ms answers new then
   pub tells : Tells told answers
 
--- One message more was answered, and what was served tells it behind what it told before.
+-- One message more was answered, and what was served gives it after what it gave before.
 pub record IsServedToo (st : State) (soft : Soft) (c : ℕ) (m : Message) (before told : Served)
     (new : State) (then : Soft) : Type 0 where
   pub answer : Answer

@@ -12,7 +12,7 @@ use Rattle.linda_server.specs.declared.disks.Disks.TheVariants.{InUse, Shut, Awa
 abbrev pub HasNoNext : State → ℕ → ℕ → Type 0
 HasNoNext st limit generation = (limit < MIN_BYTES + 1 + length (spell_state st)) ⊎ (2 ^ 64 ≤ generation + 1)
 
--- How many calls make a new bank for the state behind a closed gate: a write for each piece, a sync, and a write and a
+-- How many calls make a new bank for the state after a closed gate: a write for each piece, a sync, and a write and a
 -- sync that open the gate.
 abbrev pub snapshot_calls : State → ℕ
 snapshot_calls st = 3 + pieces (MIN_BYTES + length (spell_state st))

@@ -61,7 +61,7 @@ pub(crate) fn clear<D: Disk>(disks: &mut Disks<Bank<D>, D>) -> Result<(), DiskFa
     }
 }
 
-// A disk that is not in use with its gate closed, and nothing behind that gate.
+// A disk that is not in use with its gate closed, and nothing after that gate.
 fn emptied<D: Disk>(disk: D) -> (Result<(), DiskFault>, D)
     requires { D.honest disk → IsDurable (D.view disk) }
     ensures any_moment { D.honest disk → LeavesOnly (D.view disk) (D.view result.1)
@@ -83,7 +83,7 @@ fn emptied<D: Disk>(disk: D) -> (Result<(), DiskFault>, D)
     }
 }
 
-// Cuts off all that stands behind a first gate that is closed.
+// Cuts off all that stands after a first gate that is closed.
 fn cut_behind_gate<D: Disk>(disk: &mut D) -> Result<(), DiskFault>
     requires closed { D.honest disk.old → IsClosed (D.view disk.old).seen }
     requires durable { D.honest disk.old → IsDurable (D.view disk.old) }

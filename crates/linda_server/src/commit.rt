@@ -69,7 +69,7 @@ pub(crate) fn commit<D: Disk>(
     }
 }
 
-// What a server tells of a bank's fault: of all but want of memory, that a device failed.
+// What a server returns for a bank's fault: for all but `Memory`, that a device failed.
 fn told(fault: BankFault) -> ServeFault
     ensures disk { result ≡ ServeFault.Disk → fault ≢ BankFault.Memory }
     ensures others { result ≢ ServeFault.Disk → fault ≢ BankFault.Disk }

@@ -90,7 +90,7 @@ fn expect_no_bytes<D: Disk>(disk: &mut D) -> Result<(), OpenFault>
     }
 }
 
-/// What a server tells of a disk's fault.
+/// What a server returns for a disk's fault.
 pub(crate) fn of_device(fault: DiskFault) -> OpenFault
     ensures device { (result ≡ OpenFault.Disk) ↔ (fault ≡ DiskFault.Device) }
     ensures memory { (result ≡ OpenFault.Memory) ↔ (fault ≡ DiskFault.Memory) }

@@ -51,7 +51,7 @@ pub enum ServeFault {
     Memory,
 }
 
-/// What a server tells of a fault of its disk.
+/// What a server returns for a fault of its disk.
 pub(crate) fn of_disk(fault: DiskFault) -> ServeFault
     ensures device { (result ≡ ServeFault.Disk) ↔ (fault ≡ DiskFault.Device) }
     ensures memory { (result ≡ ServeFault.Memory) ↔ (fault ≡ DiskFault.Memory) }

@@ -1,4 +1,4 @@
-//! What holds of a server after all its calls, crashes and openings, told by the contract of a function that does
+//! What holds of a server after all its calls, crashes and openings, stated by the contract of a function that does
 //! nothing.
 
 ghost use Rattle.std.specs.Prelude.{ℕ, List};

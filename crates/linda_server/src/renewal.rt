@@ -92,7 +92,7 @@ pub(crate) fn renew<B: Bag, D: Disk>(
     }
 }
 
-// What a server tells of a switch that was not made.
+// What a server returns for a switch that was not made.
 fn told(fault: SwitchFault) -> ServeFault
     ensures full { result ≡ ServeFault.Full
         ↔ (fault ≡ SwitchFault.BankFull) ⊎ (fault ≡ SwitchFault.GenerationsSpent) }

@@ -1,4 +1,4 @@
-//! What messages led to, told for each of them.
+//! What messages led to, given for each of them.
 
 ghost use Rattle.std.specs.Prelude.{◌≡◌};
 

@@ -58,7 +58,7 @@ AreToldOf c (m ∷ ms) [] = ⊥
 AreToldOf c (m ∷ ms) (t ∷ ts) = IsToldOf c m t × AreToldOf c ms ts
 
 -- An answer was lost, and the account was told what it said: nothing, or a deed that the message asks for, whose
--- receipt joined the ring behind the others.
+-- receipt joined the ring after the others.
 pub record IsLost (m : Message) (a new : Account) : Type 0 where
   pub told : Option Receipt
   pub account : new ≡ with_told a told

@@ -33,7 +33,7 @@ abbrev pub GivesAlways : {X Y : Type 0}
 GivesAlways view (Ok x) read = read ≡ Ok (view x)
 GivesAlways view (Err fault) read = (fault ≢ Text Memory) × (read ≡ Err fault)
 
--- A fault told by its offset, where so many bytes were there in all.
+-- A fault given by its offset, where so many bytes were there in all.
 abbrev pub settled_fault : ℕ → EventTextFault → EventTextFault
 settled_fault n (Text fault) = Text (placed n fault)
 settled_fault n TooManyNested = TooManyNested

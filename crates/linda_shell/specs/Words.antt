@@ -31,7 +31,7 @@ EndsWord (b ∷ rest) = is_ascii_alphanumeric b ≡ false
 
 -- ---- which keyword may stand at the front: two begin with `a`, and two with `n`
 
--- Whether the third letter of what begins with `a` is that of `always`; here are those behind the
+-- Whether the third letter of what begins with `a` is that of `always`; here are those after the
 -- first.
 abbrev pub is_always : List ℕ → Bool
 is_always [] = false
@@ -69,7 +69,7 @@ word_end [] = Ok []
 word_end (b ∷ rest) =
     if is_ascii_alphanumeric b then Err (SyntaxAt (suc (length rest))) else Ok (b ∷ rest)
 
--- The keyword, and the bytes behind it.
+-- The keyword, and the bytes after it.
 abbrev pub chosen_word : Option Keyword → Reader Keyword
 chosen_word None bytes = wrong bytes
 chosen_word (Some keyword) bytes = do
@@ -77,24 +77,24 @@ chosen_word (Some keyword) bytes = do
   behind ← word_end rest
   Ok (keyword, behind)
 
--- The keyword at the front, behind which it ends.
+-- The keyword at the front, after which it ends.
 unfoldable pub keyword_at : Reader Keyword
 keyword_at bytes = chosen_word (candidate bytes) bytes
 
--- A number behind blanks, behind which it ends.
+-- A number after blanks, after which it ends.
 unfoldable pub label_at : Reader ℕ
 label_at bytes = do
   number ← natural_at (after_blanks bytes)
   behind ← word_end number.1
   Ok (number.0, behind)
 
--- Whether members follow an opening bracket, and what stands there; or what stands behind the
+-- Whether members follow an opening bracket, and what stands there; or what stands after the
 -- closing one.
 abbrev pub inside : List ℕ → Bool × List ℕ
 inside [] = (true, [])
 inside (b ∷ rest) = if b == CLOSING_BRACKET then (false, rest) else (true, b ∷ rest)
 
--- The opening bracket behind blanks, and whether members follow it.
+-- The opening bracket after blanks, and whether members follow it.
 unfoldable pub open_at : Reader Bool
 open_at bytes = do
   rest ← word_at (OPENING_BRACKET ∷ []) (after_blanks bytes)

@@ -1,4 +1,4 @@
--- The one text in which an event is written: one blank behind each keyword and number, `, ` between
+-- The one text in which an event is written: one blank after each keyword and number, `, ` between
 -- the members of a choice, and no other blanks.
 use Rattle.std.specs.Prelude.{ℕ, Bool, true, false, List, [], ◌∷◌, ◌++◌}
 use Rattle.std.specs.Fmt.{decimal}

@@ -1,7 +1,7 @@
-//! Events that are all of a text, but for blanks before and behind them.
+//! Events that are all of a text, but for blanks before and after them.
 //!
-//! A text is judged first, which takes no memory; then the event is made. So every fault is told
-//! before want of memory.
+//! A text is judged first, which takes no memory; then the event is made. So every fault is
+//! returned before `Memory`.
 
 ghost use Rattle.std.specs.Prelude.{◌≡◌, length, IfOk, IsOk, IsErrOf, Ok};
 ghost use Rattle.linda_event.specs.Trees.{Tree, tree_of};
@@ -53,7 +53,7 @@ fn only_event(alloc: Global, text: &str) -> Result<Event, EventTextFault>
 }
 
 impl EventTextFault {
-    // The fault told by its offset, where it counts the bytes left of so many.
+    // The fault given by its offset, where it counts the bytes left of so many.
     fn placed(self, len: usize) -> EventTextFault
         ensures value { result ≡ settled_fault len self }
         ensures memory { result ≡ Text Memory → self ≡ Text Memory }

@@ -43,7 +43,7 @@ impl Keyword {
     }
 }
 
-/// The keyword at the front, behind which no letter or digit stands, and the bytes behind it.
+/// The keyword at the front, after which no letter or digit stands, and the bytes after it.
 #[tactic(auto, unfolding(crate::specs::Words::keyword_at))]
 pub(crate) fn read_keyword(bytes: &[u8]) -> Result<(Keyword, &[u8]), TextFault>
     ensures { GivesAlways (λ x. (x.0, x.1.now)) result (keyword_at bytes.now) }

@@ -3,7 +3,7 @@
 /// Before the members of a choice.
 pub const OPENING_BRACKET: u8 = b'[';
 
-/// Behind the last member of a choice.
+/// After the last member of a choice.
 pub const CLOSING_BRACKET: u8 = b']';
 
 /// The first letter of `in`.

@@ -12,8 +12,8 @@ use linda_event::Event;
 use linda_text::{TextFault, skip_blanks, split_number, split_spaced_atom, split_template};
 use std::alloc::Global;
 
-/// The event at the front, of at most so many nested nodes, and the bytes behind it; `Memory` may
-/// be told before a fault.
+/// The event at the front, of at most so many nested nodes, and the bytes after it; `Memory` may
+/// be returned before a fault.
 #[cycle(node)]
 #[tactic(auto, unfolding(crate::specs::Reading::event_at, crate::specs::Reading::under_at))]
 pub(crate) fn build_event(
@@ -62,7 +62,7 @@ pub(crate) fn build_event(
     }
 }
 
-// The members of a choice between brackets, and the bytes behind them.
+// The members of a choice between brackets, and the bytes after them.
 #[cycle(node)]
 fn build_members(
     alloc: Global,

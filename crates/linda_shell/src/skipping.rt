@@ -1,4 +1,4 @@
-//! Passing over events: what reading leaves and which fault it tells, without taking memory.
+//! Passing over events: what reading leaves and which fault it returns, without taking memory.
 
 ghost use Rattle.std.specs.Prelude.{◌≡◌};
 ghost use Rattle.linda_shell.specs.Reading.{event_at, members_at};
@@ -10,7 +10,7 @@ use crate::keyword::{Keyword, read_keyword};
 use crate::token::{open_list, read_label, read_mark};
 use linda_text::{TextFault, skip_blanks, skip_spaced_atom, skip_template, split_number};
 
-/// The bytes behind the event at the front, of at most so many nested nodes.
+/// The bytes after the event at the front, of at most so many nested nodes.
 #[cycle(skipping)]
 #[tactic(auto, unfolding(crate::specs::Reading::event_at, crate::specs::Reading::under_at))]
 pub(crate) fn skip_event(bytes: &[u8], room: usize) -> Result<&[u8], EventTextFault>
@@ -41,7 +41,7 @@ pub(crate) fn skip_event(bytes: &[u8], room: usize) -> Result<&[u8], EventTextFa
     }
 }
 
-// The bytes behind the members of a choice and their brackets.
+// The bytes after the members of a choice and their brackets.
 #[cycle(skipping)]
 fn skip_members(bytes: &[u8], room: usize) -> Result<&[u8], EventTextFault>
     ensures { GivesAlways (λ rest. rest.now) result (left_by (members_at (event_at room) bytes.now)) }

@@ -24,7 +24,7 @@ pub(crate) fn end_word(bytes: &[u8]) -> Result<&[u8], TextFault>
     }
 }
 
-/// A number behind blanks, behind which no letter or digit stands, and the bytes behind it.
+/// A number after blanks, after which no letter or digit stands, and the bytes after it.
 #[tactic(auto, unfolding(crate::specs::Words::label_at))]
 pub(crate) fn read_label(bytes: &[u8]) -> Result<(u64, &[u8]), TextFault>
     ensures { GivesAlways (λ x. (x.0, x.1.now)) result (label_at bytes.now) }
@@ -33,8 +33,8 @@ pub(crate) fn read_label(bytes: &[u8]) -> Result<(u64, &[u8]), TextFault>
     Ok((number, end_word(rest)?))
 }
 
-/// Whether members stand behind the opening bracket behind the blanks, and the bytes from the first
-/// one on; or those behind the closing bracket.
+/// Whether members stand after the opening bracket after the blanks, and the bytes from the first
+/// one on; or those after the closing bracket.
 #[tactic(auto, unfolding(crate::specs::Words::open_at))]
 pub(crate) fn open_list(bytes: &[u8]) -> Result<(bool, &[u8]), TextFault>
     ensures { GivesAlways (λ x. (x.0, x.1.now)) result (open_at bytes.now) }
@@ -47,7 +47,7 @@ pub(crate) fn open_list(bytes: &[u8]) -> Result<(bool, &[u8]), TextFault>
     }
 }
 
-/// Whether a comma stands behind the blanks, or the closing bracket; and the bytes behind it.
+/// Whether a comma stands after the blanks, or the closing bracket; and the bytes after it.
 #[tactic(auto, unfolding(crate::specs::Words::mark_at))]
 pub(crate) fn read_mark(bytes: &[u8]) -> Result<(bool, &[u8]), TextFault>
     ensures { GivesAlways (λ x. (x.0, x.1.now)) result (mark_at (after_blanks bytes.now)) }

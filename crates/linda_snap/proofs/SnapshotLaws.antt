@@ -10,6 +10,7 @@ use Rattle.linda_codec.proofs.Many.{many_takes, many_again}
 use Rattle.linda_codec.proofs.Bounds.{bounded_then, many_bounded}
 use Rattle.linda_codec.proofs.FormatLaws.{short_number_is, number_is, nothing_is, both_is, body_is, made_again, no_kind_is, AreBodies, choice_is}
 use Rattle.linda_codec.proofs.ValueLaws.{tuple_is}
+use Rattle.linda_state.specs.DeedFormat.{written}
 use Rattle.linda_book.specs.declared.kept.KeptReply.{KeptReply}
 use Rattle.linda_book.specs.declared.kept.KeptReply.TheVariants.{Stored, Taken, Gone}
 use Rattle.linda_state.specs.State.{State}
@@ -19,7 +20,7 @@ use Rattle.linda_snap.specs.Snapshot as format
 use Rattle.linda_snap.specs.Snapshot.{listed, Parts, parts_of, spell_state, IsSnapshot}
 
 pub placed_is : IsFormat format.placed
-placed_is = both_is number_is tuple_is
+placed_is = both_is number_is (tuple_is written)
 
 reply_bodies : AreBodies format.spell_reply format.FitsReply format.reply_kinds
 reply_bodies = (

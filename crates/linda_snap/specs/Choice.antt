@@ -69,7 +69,7 @@ pub record IsRecovered (body : List ℕ) (records : List Record) (st : State) : 
   pub snapshot : IsSnapshot body opening
   pub done : AreDone opening (joined records) st
 
--- What a fault tells of a body and of the records behind it.
+-- What a fault says of a body and of the records after it.
 abbrev pub IsUnrecovered : List ℕ → List Record → BankFault → Type 0
 IsUnrecovered body records (banks.Damaged offset) =
     (IsNoSnapshot body × (offset ≡ MIN_BYTES))
@@ -80,12 +80,12 @@ IsUnrecovered body records banks.Spent = ⊥
 IsUnrecovered body records banks.Full = ⊥
 IsUnrecovered body records banks.Disk = ⊥
 
--- What a fault of a replay is told as.
+-- What a fault of a replay is returned as.
 abbrev pub fault_of_replay : ReplayFault → BankFault
 fault_of_replay replays.Memory = banks.Memory
 fault_of_replay (replays.Improper gate) = banks.Damaged gate
 
--- What a fault tells of one file: that of its bank comes first.
+-- What a fault says of one file: that of its bank comes first.
 abbrev pub IsFaultOfFile : List ℕ → BankFault → Type 0
 IsFaultOfFile file (banks.Damaged offset) =
     IsFaultOfBank file (banks.Damaged offset) ⊎ ((HasNoSnapshot file × (offset ≡ MIN_BYTES)) ⊎ HasImproper file offset)
@@ -101,7 +101,7 @@ IsFaultOfFile file banks.Disk = ⊥
 abbrev pub chosen : {A : Type 0} → Bool → A → A → A
 chosen right a b = if right then b else a
 
--- What a disk's fault is told as.
+-- What a disk's fault is returned as.
 abbrev pub fault_of_device : DiskFault → ChoiceFault
 fault_of_device device.Device = Disk
 fault_of_device device.Memory = Memory
@@ -115,7 +115,7 @@ pub record ChosenLeaves (right : Bool) (left_old right_old used other : View) : 
   pub left : right ≡ false → LeavesNothingNew left_old used × LeavesNothingNew right_old other
   pub right_one : right ≡ true → LeavesNothingNew right_old used × LeavesNothingNew left_old other
 
--- What a fault of one bank is told as.
+-- What a fault of one bank is returned as.
 abbrev pub fault_on : Bool → BankFault → ChoiceFault
 fault_on right banks.Spent = NoStore
 fault_on right banks.Full = NoStore
@@ -124,7 +124,7 @@ fault_on right (banks.Damaged offset) = Damaged right offset
 fault_on right banks.Disk = Disk
 fault_on right banks.Memory = Memory
 
--- What a fault tells of two files: none is chosen, or the one that is chosen is damaged.
+-- What a fault says of two files: none is chosen, or the one that is chosen is damaged.
 pub record IsFaultOfChosen (left right : List ℕ) (told : ChoiceFault) : Type 0 where
   pub side : Bool
   pub choice_is : IsChoice left right (Ok side)

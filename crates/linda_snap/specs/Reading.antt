@@ -64,3 +64,4 @@ fault_of_read (reading.BadKind left) = NoSnapshot
 fault_of_read (reading.BadBool left) = NoSnapshot
 fault_of_read (reading.BadText left) = NoSnapshot
 fault_of_read (reading.TooMany left) = NoSnapshot
+fault_of_read (reading.LongText left) = NoSnapshot

@@ -34,7 +34,7 @@ pub record IsImproper (st : State) (records : List Record) (gate : ℕ) : Type 0
   pub proper : IsProper st (joined before)
   pub not : (more : List Deed) → IsProper st (joined before ++ one.deeds.items ++ more) → ⊥
 
--- What a fault of a replay tells.
+-- What a fault of a replay says.
 abbrev pub IsReplayFault : State → List Record → ReplayFault → Type 0
 IsReplayFault st records Memory = Unit {0}
 IsReplayFault st records (Improper gate) = IsImproper st records gate

@@ -11,13 +11,14 @@ use Rattle.linda_book.specs.declared.kept.KeptReply.{KeptReply}
 use Rattle.linda_book.specs.declared.kept.KeptReply.TheVariants.{Stored, Taken, Gone}
 use Rattle.linda_book.specs.Entries.{Entry}
 use Rattle.linda_state.specs.State.{State, IsState}
+use Rattle.linda_state.specs.DeedFormat.{written}
 use Rattle.linda_snap.specs.declared.kinds.TheConstants as kind
 
 -- ---- entries
 
 -- The id of a tuple, and the tuple.
 abbrev pub placed : Format (ℕ × Tuple)
-placed = both number value.tuple
+placed = both number (value.tuple written)
 
 -- A kept reply's kind byte and body.
 abbrev pub spell_reply : KeptReply → List ℕ

@@ -10,7 +10,7 @@ use Rattle.linda_snap.specs.declared.renewal.SwitchFault.TheVariants.{Disk, Memo
 abbrev pub IsOldNoneOrNew : List ℕ → ℕ → List ℕ → List ℕ → Type 0
 IsOldNoneOrNew old generation body file = (file ≡ old) ⊎ IsNoneOrNew generation body file
 
--- What a disk's fault is told as.
+-- What a disk's fault is returned as.
 abbrev pub fault_of_disk : DiskFault → SwitchFault
 fault_of_disk device.Device = Disk
 fault_of_disk device.Memory = Memory

@@ -114,7 +114,7 @@ pub fn choose_bank<B: Bag, D: Disk>(
     ensures honest { IfOk result (λ c. (D.honest left × D.honest right)
         ↔ (D.honest c.bank.disk × D.honest c.other))
         × IfErr result (λ e. (D.honest left × D.honest right) ↔ (D.honest e.1 × D.honest e.2)) }
-    // The counts of failures rise where a device is told to have failed, and there alone.
+    // The counts of failures rise where a device is reported to have failed, and there alone.
     ensures cause { IfErr result (λ e. TellsFailuresOfTwo ChoiceFault.Disk e.0
         (D.failures left) (D.failures right) (D.failures e.1) (D.failures e.2)) }
     ensures steady { IfOk result (λ c.
@@ -333,7 +333,7 @@ fn choose(left: Heading, right: Heading) -> Result<bool, ChoiceFault>
     }
 }
 
-// The state that a body and the records behind it come to. The memory of the body is given back before they are done.
+// The state that a body and the records after it come to. The memory of the body is given back before they are done.
 fn recover<B: Bag>(
     alloc: Global,
     body: Vec<u8>,
@@ -358,7 +358,7 @@ fn recover<B: Bag>(
     }
 }
 
-// What a fault of a replay is told as.
+// What a fault of a replay is returned as.
 fn told_of(fault: ReplayFault) -> BankFault
     ensures { result ≡ fault_of_replay fault }
 {

@@ -1,4 +1,4 @@
-//! What the definitions of standing banks come to, each told by the contract of a function that does nothing.
+//! What the definitions of standing banks come to, each stated by the contract of a function that does nothing.
 
 ghost use Rattle.std.specs.Prelude.{◌≡◌, ◌⊎◌, ℕ, List};
 ghost use Rattle.linda_state.specs.declared.deed.Deed.{Deed};

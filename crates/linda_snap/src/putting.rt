@@ -25,7 +25,7 @@ const NEXT: usize = 8;
 /// The bytes of a client and its number.
 const CLIENT: usize = 12;
 
-/// Appends the spelling of the state. Where memory runs out, a part of it may stand behind the old bytes.
+/// Appends the spelling of the state. Where memory runs out, a part of it may stand after the old bytes.
 ///
 /// # Errors
 ///

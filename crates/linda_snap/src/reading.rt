@@ -52,6 +52,7 @@ impl From<ReadFault> for SnapshotFault {
             ReadFault::BadBool(_) => SnapshotFault::NoSnapshot,
             ReadFault::BadText(_) => SnapshotFault::NoSnapshot,
             ReadFault::TooMany(_) => SnapshotFault::NoSnapshot,
+            ReadFault::LongText(_) => SnapshotFault::NoSnapshot,
         }
     }
 }

@@ -102,7 +102,7 @@ pub fn switch<B: Bag, D: Disk>(
         × (e.0 ≡ SwitchFault.Disk → e.1.is_spent ≡ true)) }
     ensures honest { IfOk result (λ x. D.honest other ↔ D.honest x.0.disk)
         × IfErr result (λ e. D.honest other ↔ D.honest e.2) }
-    // The count of failures rises where the device is told to have failed, and there alone.
+    // The count of failures rises where the device is reported to have failed, and there alone.
     ensures cause { IfErr result (λ e. TellsFailures SwitchFault.Disk e.0
         (D.failures other) (D.failures e.2)) }
     ensures steady { IfOk result (λ x. D.failures x.0.disk ≡ D.failures other) }
@@ -132,7 +132,7 @@ pub fn switch<B: Bag, D: Disk>(
     }
 }
 
-// Makes a new bank of these bytes, which stand behind its first gate, on a disk that is not in use.
+// Makes a new bank of these bytes, which stand after its first gate, on a disk that is not in use.
 fn renew<D: Disk>(
     other: D,
     generation: u64,
@@ -184,7 +184,7 @@ fn has_room<B: Bag>(state: &State<B>, limit: usize) -> bool
     }
 }
 
-// What is to stand behind the first gate of a new bank whose body is a snapshot of the state.
+// What is to stand after the first gate of a new bank whose body is a snapshot of the state.
 fn spell_bank<B: Bag>(
     alloc: Global,
     generation: u64,

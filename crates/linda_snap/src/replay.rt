@@ -28,7 +28,7 @@ impl From<AllocError> for ReplayFault {
     }
 }
 
-/// Does the deeds of the records, one after the other, and gives back the memory of each record behind it. After an
+/// Does the deeds of the records, one after the other, and gives back the memory of each record after it. After an
 /// error the state may be any.
 ///
 /// # Errors
@@ -53,7 +53,7 @@ pub(crate) fn replay<B: Bag>(
     Ok(())
 }
 
-// Does the deeds one after the other, and tells whether each was allowed where it came.
+// Does the deeds one after the other, and says whether each was allowed where it came.
 fn redo_all<B: Bag>(
     alloc: Global,
     state: &mut State<B>,

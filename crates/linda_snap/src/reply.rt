@@ -1,17 +1,18 @@
-//! A kept reply as bytes: a kind byte, and the id and the tuple that it tells.
+//! A kept reply as bytes: a kind byte, and the id and the tuple that it gives.
 
 ghost use Rattle.std.specs.Prelude.{◌≡◌, ◌++◌, ◌≤◌, ◌+◌, length, OnOk};
 ghost use Rattle.linda_codec.specs.Steps.{Gives, GivesAlways};
 ghost use Rattle.linda_codec.specs.Formats.{made_at, number};
 ghost use Rattle.linda_book.specs.declared.kept.KeptReply.TheVariants.{Stored, Taken};
 ghost use Rattle.linda_codec.specs.Values as value;
+ghost use Rattle.linda_state.specs.DeedFormat.{written};
 ghost use Rattle.linda_snap.specs.declared.reply.TheConstants.{ID};
 ghost use Rattle.linda_snap.specs.Snapshot as format;
 
 use crate::kinds::{GONE, STORED, TAKEN};
 use linda_book::KeptReply;
 use linda_codec::{ReadFault, put_tuple, read_tuple, read_u64};
-use linda_state::tuple_len;
+use linda_state::{BANK_FORM, tuple_len};
 use linda_tuple::Tuple;
 use std::alloc::{AllocError, Global};
 
@@ -19,7 +20,7 @@ use std::alloc::{AllocError, Global};
 ///
 /// # Errors
 ///
-/// The first fault from the left, told by the count of bytes left; `Memory` where a tuple finds none.
+/// The first fault from the left, given by the count of bytes left; `Memory` where a tuple finds none.
 pub(crate) fn read_reply(alloc: Global, bytes: &[u8]) -> Result<(KeptReply, &[u8]), ReadFault>
     ensures { Gives (λ x. (x.0, x.1.now)) result (format.reply.read bytes.now) }
 {
@@ -53,11 +54,11 @@ pub(crate) fn read_placed(alloc: Global, bytes: &[u8]) -> Result<(u64, Tuple, &[
     ensures { Gives (λ x. ((x.0, x.1), x.2.now)) result (format.placed.read bytes.now) }
 {
     let (id, rest) = read_u64(bytes)?;
-    let (tuple, rest) = read_tuple(alloc, rest)?;
+    let (tuple, rest) = read_tuple(alloc, BANK_FORM, rest)?;
     Ok((id, tuple, rest))
 }
 
-/// Appends the spelling of the kept reply. Where memory runs out, a part of it may stand behind the old bytes.
+/// Appends the spelling of the kept reply. Where memory runs out, a part of it may stand after the old bytes.
 pub(crate) fn push_reply(out: &mut Vec<u8>, reply: &KeptReply) -> Result<(), AllocError>
     ensures ok { OnOk result (out.new.items ≡ out.old.items ++ format.spell_reply reply.now) }
     ensures fits { OnOk result (format.FitsReply reply.now) }
@@ -85,7 +86,7 @@ pub(crate) fn push_placed(out: &mut Vec<u8>, id: u64, tuple: &Tuple) -> Result<(
     ensures fits { OnOk result (format.placed.Fits (id, tuple.now)) }
 {
     out.extend_from_slice(&id.to_be_bytes())?;
-    put_tuple(out, tuple)
+    put_tuple(BANK_FORM, out, tuple)
 }
 
 /// How many bytes the kept reply spells.
@@ -102,7 +103,7 @@ pub(crate) fn reply_len(reply: &KeptReply) -> usize
 
 /// How many bytes an id and the tuple spell.
 pub(crate) fn placed_len(tuple: &Tuple) -> usize
-    ensures exact { result ≡ ID + length (value.tuple.spell tuple.now) }
+    ensures exact { result ≡ ID + length ((value.tuple written).spell tuple.now) }
     ensures short { result ≤ 65535 }
 {
     ID + tuple_len(tuple)

@@ -1,6 +1,8 @@
 -- The format of deeds: the one spelling of each in bytes, which deeds have one, and the reader.
 use Rattle.std.specs.Prelude.{ℕ, List, [], ◌∷◌}
 use Rattle.std.specs.List.{flat_map}
+use Rattle.linda_tuple.specs.declared.form.Form.{Form}
+use Rattle.linda_tuple.specs.declared.form.Form.TheVariants.{One}
 use Rattle.linda_tuple.specs.Tuple.{Tuple}
 use Rattle.linda_codec.specs.Steps.{Reader}
 use Rattle.linda_codec.specs.Formats.{Format, short_number, number, both, made_at, no_kind, choice_at}
@@ -9,9 +11,13 @@ use Rattle.linda_state.specs.declared.deed.Deed.{Deed}
 use Rattle.linda_state.specs.declared.deed.Deed.TheVariants.{Out, Take, Pass}
 use Rattle.linda_state.specs.declared.kinds.TheConstants as kind
 
+-- The form in which a server's banks spell values.
+abbrev pub written : Form
+written = One
+
 -- The client, the number, the tuple.
 abbrev pub out : Format (ℕ × (ℕ × Tuple))
-out = both short_number (both number value.tuple)
+out = both short_number (both number (value.tuple written))
 
 -- The client, the number, the id of a tuple.
 abbrev pub reference : Format (ℕ × (ℕ × ℕ))

@@ -1,4 +1,4 @@
-//! What the definitions of states and deeds come to, each told by the contract of a function that does nothing.
+//! What the definitions of states and deeds come to, each stated by the contract of a function that does nothing.
 
 ghost use Rattle.std.specs.Prelude.{◌≡◌, ◌+◌, ◌∷◌, ◌++◌, [], List, length, Some};
 ghost use Rattle.std.specs.FinMap as map;
@@ -45,7 +45,7 @@ pub fn kept_numbers_count_deeds()
         → IsState st → AreDone st ds new → kept_sum new ≡ kept_sum st + length ds }
 {}
 
-/// The reply to a deed behind others: in the state that these led to it is the reply behind them, and the book has it
+/// The reply to a deed after others: in the state that these led to it is the reply after them, and the book has it
 /// once the deed is done.
 pub fn replies_look_back()
     ensures behind { (st mid : State) (ds : List Deed) (d : Deed)

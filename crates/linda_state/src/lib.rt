@@ -5,7 +5,7 @@
 //! - A `Deed` is one change of it. `State::put`, `State::take` and `State::pass` do one each, and
 //!   `State::redo` does one again that was written down; the state after a list of deeds is what
 //!   `specs/After` says, whatever the code did to get there.
-//! - `specs/Proper` says which lists of deeds a server can do. What follows for these lists is told by
+//! - `specs/Proper` says which lists of deeds a server can do. What follows for these lists is stated by
 //!   the functions of `laws`.
 #![tactic(auto)]
 
@@ -22,7 +22,7 @@ pub use laws::{
     deeds_are_done_one_by_one, kept_numbers_count_deeds, lists_are_done_one_after_another,
     no_tuple_is_taken_twice, proper_lists_keep_the_ranges, replies_look_back,
 };
-pub use limits::{HEAD_BYTES, ID_BYTES, MAX_DEED_BYTES, MAX_TUPLE_BYTES};
+pub use limits::{BANK_FORM, HEAD_BYTES, ID_BYTES, MAX_DEED_BYTES, MAX_TUPLE_BYTES};
 pub use linda_book::{Book, Class, KeptReply};
 pub use linda_wire::NUMBER_LIMIT;
 pub use size::{deed_len, tuple_len};

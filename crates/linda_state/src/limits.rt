@@ -1,4 +1,9 @@
-//! How many bytes deeds spell: their parts, and the most that there may be.
+//! How deeds are spelled: the form of their values, the bytes of their parts, and the most that there may be.
+
+use linda_tuple::Form;
+
+/// The form in which a server's banks spell values.
+pub const BANK_FORM: Form = Form::One;
 
 /// The bytes of a deed before its tuple or id: its kind, the client and the number.
 pub const HEAD_BYTES: usize = 13;

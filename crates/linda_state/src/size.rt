@@ -6,6 +6,7 @@ ghost use Rattle.linda_codec.specs.Values as value;
 ghost use Rattle.linda_state.specs.declared.limits.TheConstants.{MAX_DEED_BYTES, MAX_TUPLE_BYTES};
 ghost use Rattle.linda_state.specs.declared.size.TheConstants.{ATOM_BYTES};
 ghost use Rattle.linda_state.specs.DeedFormat as format;
+ghost use Rattle.linda_state.specs.DeedFormat.{written};
 
 use crate::deed::Deed;
 use crate::limits::{HEAD_BYTES, ID_BYTES};
@@ -16,7 +17,7 @@ const ATOM_BYTES: usize = 257;
 
 /// How many bytes the tuple spells. Takes no memory.
 pub fn tuple_len(tuple: &Tuple) -> usize
-    ensures exact { result ≡ length (value.tuple.spell tuple.now) }
+    ensures exact { result ≡ length ((value.tuple written).spell tuple.now) }
     ensures short { result ≤ MAX_TUPLE_BYTES }
 {
     let fields = tuple.fields();
@@ -30,7 +31,7 @@ pub fn tuple_len(tuple: &Tuple) -> usize
 // How many bytes the atom spells.
 fn atom_len(atom: &Atom) -> usize
     requires { IsSound atom.now }
-    ensures exact { result ≡ length (value.atom.spell atom.now) }
+    ensures exact { result ≡ length ((value.atom written).spell atom.now) }
     ensures short { result ≤ ATOM_BYTES }
 {
     match atom {

@@ -116,7 +116,7 @@ impl<B: Bag> State<B> {
         self.book.keep(client, n, KeptReply::Gone)
     }
 
-    /// Does the deed, where it is allowed in this state, and tells whether it is. Where it is not, the
+    /// Does the deed, where it is allowed in this state, and says whether it is. Where it is not, the
     /// state is as before. So a list of deeds is done again by one call for each. A tuple that is put is
     /// the deed's own.
     ///

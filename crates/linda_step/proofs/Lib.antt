@@ -2,7 +2,6 @@ pub mod AddressLaws
 pub mod AnswerLaws
 pub mod ApartLaws
 pub mod AskingLaws
-pub mod AwaitLaws
 pub mod CountLaws
 pub mod DispatchLaws
 pub mod HistoryLaws
@@ -26,3 +25,4 @@ pub mod DemandLaws
 pub mod ExistLaws
 pub mod JudgeLaws
 pub mod AnswerCourse
+pub mod FreeLaws

@@ -13,9 +13,13 @@ IsLeast bag shape passed (Some id) =
     IsFreeMatch bag shape passed id × ((k : ℕ) → k < id → IsFreeMatch bag shape passed k → ⊥)
 IsLeast bag shape passed None = (k : ℕ) → IsFreeMatch bag shape passed k → ⊥
 
+-- whether the tuple of this id is held
+abbrev pub is_held : HeldFor → ℕ → Bool
+is_held holds id = is_some (map.get holds id)
+
 -- What a request passes over: an input the tuples that are held, a read nothing.
 abbrev pub passed_over : Bool → HeldFor → ℕ → Bool
-passed_over remove holds id = remove && is_some (map.get holds id)
+passed_over remove holds id = remove && is_held holds id
 
 -- Nobody waits in vain: for each request that waits there is no tuple that it can have.
 abbrev pub IsAtRest : Bagged → Soft → Type 0

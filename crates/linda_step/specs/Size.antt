@@ -8,6 +8,7 @@ use Rattle.linda_wire.specs.declared.message.Message.{Message}
 use Rattle.linda_wire.specs.declared.message.Message.TheVariants as messages
 use Rattle.linda_state.specs.declared.limits.TheConstants.{HEAD_BYTES, ID_BYTES}
 use Rattle.linda_state.specs.State.{State}
+use Rattle.linda_state.specs.DeedFormat.{written}
 use Rattle.linda_step.specs.declared.judge.Demand.{Demand}
 use Rattle.linda_step.specs.declared.judge.Standing.{Standing}
 use Rattle.linda_step.specs.declared.judge.Verdict.{Verdict}
@@ -53,7 +54,7 @@ numbers_after ns c (Some d) = record {
 
 -- the bytes of a message's deed, where it does one
 abbrev pub deed_bytes : Message → ℕ
-deed_bytes (messages.Out n tuple) = HEAD_BYTES + length (value.tuple.spell tuple)
+deed_bytes (messages.Out n tuple) = HEAD_BYTES + length ((value.tuple written).spell tuple)
 deed_bytes _ = HEAD_BYTES + ID_BYTES
 
 -- the bytes of what is done of a message

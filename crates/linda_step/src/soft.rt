@@ -4,14 +4,17 @@
 
 mod ask;
 
-ghost use Rattle.std.specs.Prelude.{◌≡◌, ◌++◌, map, IfOk, OnOk};
+ghost use Rattle.std.specs.Prelude.{◌≡◌, ◌++◌, ℕ, Bool, Some, false, map, IfOk, OnOk};
+ghost use Rattle.std.specs.FinMap as maps;
+ghost use Rattle.linda_bag.specs.Starts.{Bagged, AreRight};
 ghost use Rattle.linda_wire.specs.declared.reply.Reply.TheVariants as replies;
 ghost use Rattle.linda_step.specs.Soft.{AreApart, no_asks};
 ghost use Rattle.linda_step.specs.Dispatch.{Sends, dispatch, release, release_all, on_close};
+ghost use Rattle.linda_step.specs.Looking.{is_held};
 ghost use Rattle.linda_step.specs.Asking.{AnswersCancel};
 
-use linda_bag::Bag;
-use linda_hold::{Holds, Request, Waits};
+use linda_bag::{Bag, Starts};
+use linda_hold::{Awaiting, Holds, Request, Waits};
 use linda_tuple::Tuple;
 use linda_wire::Reply;
 use std::alloc::{AllocError, Global};
@@ -63,26 +66,7 @@ impl Soft {
         ensures sends { OnOk result (sends.new.items ≡ sends.old.items ++ (dispatch id tuple.now self.old).sends) }
         ensures soft { OnOk result (self.new ≡ (dispatch id tuple.now self.old).soft) }
     {
-        if !self.waits.is_awaited(tuple) {
-            return Ok(());
-        }
-        self.answer_waits(alloc, id, tuple, sends)
-    }
-
-    // The same, where somebody may wait for the tuple.
-    fn answer_waits(
-        &mut self,
-        alloc: Global,
-        id: u64,
-        tuple: &Tuple,
-        sends: &mut Vec<(u32, Reply)>,
-    ) -> Result<(), AllocError>
-        requires { AreApart self.old }
-        ensures sends { OnOk result (sends.new.items ≡ sends.old.items ++ (dispatch id tuple.now self.old).sends) }
-        ensures soft { OnOk result (self.new ≡ (dispatch id tuple.now self.old).soft) }
-    {
-        let longest = self.waits.longest(tuple);
-        let readers = self.waits.take_readers(alloc, tuple)?;
+        let Awaiting { readers, longest } = self.waits.take_awaiting(alloc, tuple)?;
         answer_reads(alloc, readers, id, tuple, sends)?;
         if let Some(request) = longest {
             let Request { client, ticket } = request;
@@ -103,6 +87,7 @@ impl Soft {
         &mut self,
         alloc: Global,
         bag: &B,
+        starts: &mut Starts,
         id: u64,
         sends: &mut Vec<(u32, Reply)>,
     ) -> Result<(), AllocError>
@@ -111,13 +96,29 @@ impl Soft {
             ≡ sends.old.items ++ (release (B.contents bag.now) id self.old).sends) }
         ensures soft { OnOk result (self.new ≡ (release (B.contents bag.now) id self.old).soft) }
         ensures apart { OnOk result (AreApart self.new) }
+        ensures right { (next : ℕ) → AreRight (B.contents bag.now) (is_held self.old.holds) next starts.old
+            → OnOk result (AreRight (B.contents bag.now) (is_held self.new.holds) next starts.new) }
     {
         match bag.get(id) {
             None => Ok(()),
             Some(tuple) => {
                 self.holds.remove(id);
-                self.dispatch(alloc, id, tuple, sends)
+                self.dispatch(alloc, id, tuple, sends)?;
+                self.note_free(starts, id, tuple);
+                Ok(())
             }
+        }
+    }
+
+    // The tuple was held, and is free unless it is held again.
+    fn note_free(&self, starts: &mut Starts, id: u64, tuple: &Tuple)
+        ensures { (bag : Bagged) (before : ℕ → Bool) (next : ℕ) → maps.get bag id ≡ Some tuple.now
+            → ((k : ℕ) → (k ≡ id → ⊥) → is_held self.now.holds k ≡ false → before k ≡ false)
+            → AreRight bag before next starts.old → AreRight bag (is_held self.now.holds) next starts.new }
+    {
+        match self.holds.get(id) {
+            Some(_) => {}
+            None => starts.free(id, tuple),
         }
     }
 
@@ -126,6 +127,7 @@ impl Soft {
         &mut self,
         alloc: Global,
         bag: &B,
+        starts: &mut Starts,
         ids: Vec<u64>,
         sends: &mut Vec<(u32, Reply)>,
     ) -> Result<(), AllocError>
@@ -133,9 +135,11 @@ impl Soft {
         ensures sends { OnOk result (sends.new.items
             ≡ sends.old.items ++ (release_all (B.contents bag.now) ids.items self.old).sends) }
         ensures soft { OnOk result (self.new ≡ (release_all (B.contents bag.now) ids.items self.old).soft) }
+        ensures right { (next : ℕ) → AreRight (B.contents bag.now) (is_held self.old.holds) next starts.old
+            → OnOk result (AreRight (B.contents bag.now) (is_held self.new.holds) next starts.new) }
     {
         for id in ids {
-            self.release(alloc, bag, id, sends)?;
+            self.release(alloc, bag, starts, id, sends)?;
         }
         Ok(())
     }
@@ -150,20 +154,28 @@ impl Soft {
         &mut self,
         alloc: Global,
         bag: &B,
+        starts: &mut Starts,
         request: Request,
     ) -> Result<Vec<(u32, Reply)>, AllocError>
         requires { AreApart self.old }
-        ensures { IfOk result (λ sends. AnswersCancel (B.contents bag.now) request self.old
+        ensures sends { IfOk result (λ sends. AnswersCancel (B.contents bag.now) request self.old
             (record { sends = sends.items; soft = self.new })) }
+        ensures right { (next : ℕ) → AreRight (B.contents bag.now) (is_held self.old.holds) next starts.old
+            → OnOk result (AreRight (B.contents bag.now) (is_held self.new.holds) next starts.new) }
     {
         let mut sends = Vec::new(alloc);
         let held = self.holds.find(request);
         if self.waits.contains(request) {
             self.waits.remove(request);
-        } else if let Some(id) = held {
-            self.release(alloc, bag, id, &mut sends)?;
+            return Ok(sends);
         }
-        Ok(sends)
+        match held {
+            Some(id) => {
+                self.release(alloc, bag, starts, id, &mut sends)?;
+                Ok(sends)
+            }
+            None => Ok(sends),
+        }
     }
 
     /// All that the client asked is given up: first its waits, then its holds, which are released by
@@ -176,16 +188,19 @@ impl Soft {
         &mut self,
         alloc: Global,
         bag: &B,
+        starts: &mut Starts,
         client: u32,
     ) -> Result<Vec<(u32, Reply)>, AllocError>
         requires { AreApart self.old }
-        ensures { IfOk result (λ sends. let t : Sends = record { sends = sends.items; soft = self.new }
+        ensures sends { IfOk result (λ sends. let t : Sends = record { sends = sends.items; soft = self.new }
             in t ≡ on_close (B.contents bag.now) client self.old) }
+        ensures right { (next : ℕ) → AreRight (B.contents bag.now) (is_held self.old.holds) next starts.old
+            → OnOk result (AreRight (B.contents bag.now) (is_held self.new.holds) next starts.new) }
     {
         let mut sends = Vec::new(alloc);
         self.waits.remove_client(client);
         let held = self.holds.of_client(alloc, client)?;
-        self.release_all(alloc, bag, held, &mut sends)?;
+        self.release_all(alloc, bag, starts, held, &mut sends)?;
         Ok(sends)
     }
 }

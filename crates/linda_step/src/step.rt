@@ -3,13 +3,15 @@
 mod deed;
 mod reply;
 
-ghost use Rattle.std.specs.Prelude.{◌≡◌, ◌∷◌, [], None, IfOk, OnErr};
+ghost use Rattle.std.specs.Prelude.{◌≡◌, ◌∷◌, [], None, IfOk, OnOk, OnErr};
+ghost use Rattle.linda_bag.specs.Starts.{AreRight};
 ghost use Rattle.linda_step.specs.Store.{IsOrderly};
+ghost use Rattle.linda_step.specs.Looking.{is_held};
 ghost use Rattle.linda_step.specs.Answer.{IsStep};
 
 use crate::judge::Demand;
 use crate::soft::Soft;
-use linda_bag::Bag;
+use linda_bag::{Bag, Starts};
 use linda_hold::Request;
 use linda_state::{Deed, State};
 use linda_wire::{Message, Reply};
@@ -42,13 +44,16 @@ pub struct Steps {
 pub(crate) fn answer_message<B: Bag>(
     state: &mut State<B>,
     soft: &mut Soft,
+    starts: &mut Starts,
     alloc: Global,
     client: u32,
     message: &Message,
 ) -> Result<Step, AllocError>
-    requires { IsOrderly state.old soft.old }
+    requires orderly { IsOrderly state.old soft.old }
+    requires right { AreRight state.old.bag (is_held soft.old.holds) state.old.next starts.old }
     ensures ok { IfOk result (λ s. IsStep state.old soft.old client message.now
         (record { deed = s.deed; sends = s.sends.items; soft = soft.new }) state.new) }
+    ensures right { OnOk result (AreRight state.new.bag (is_held soft.new.holds) state.new.next starts.new) }
     ensures err { OnErr result (state.new ≡ state.old) }
 {
     match message {
@@ -78,12 +83,14 @@ pub(crate) fn answer_message<B: Bag>(
         } => {
             let ticket = *ticket;
             let request = Request { client, ticket };
-            Ok(only_sends(soft.ask(alloc, &state.bag, request, *remove, template)?))
+            Ok(only_sends(soft.ask(
+                alloc, &state.bag, starts, state.next, request, *remove, template,
+            )?))
         }
         Message::Cancel { ticket } => {
             let ticket = *ticket;
             let request = Request { client, ticket };
-            Ok(only_sends(soft.cancel(alloc, &state.bag, request)?))
+            Ok(only_sends(soft.cancel(alloc, &state.bag, starts, request)?))
         }
     }
 }

@@ -13,7 +13,7 @@ ghost use Rattle.linda_step.specs.Store.{IsOrderly};
 use crate::size::{self, MAX_BATCH};
 use crate::soft::Soft;
 use crate::step::{Step, Steps, answer_message};
-use linda_bag::Bag;
+use linda_bag::{Bag, Starts};
 use linda_hold::{Holds, Waits};
 use linda_state::{Deed, State};
 use linda_wire::{Message, Reply};
@@ -33,11 +33,14 @@ use std::marker::Model;
 pub struct Store<B: Bag> {
     state: State<B>,
     soft: Soft,
+    starts: Starts,
     spent: bool,
 }
 
 impl<B: Bag> Model for Store<B> {
     ghost use Rattle.linda_step.specs.Store as seen;
+    ghost use Rattle.linda_bag.specs.Starts.{AreRight};
+    ghost use Rattle.linda_step.specs.Looking.{is_held};
     ghost use Rattle.linda_step.specs.Store.{IsOrderly, store_code};
 
     ghost Value = { seen.Store };
@@ -46,7 +49,8 @@ impl<B: Bag> Model for Store<B> {
 
     ghost view = { λ s. record { state = s.state; soft = s.soft; is_spent = s.spent } };
 
-    ghost invariant = { λ s. IsOrderly s.state s.soft };
+    ghost invariant = { λ s. IsOrderly s.state s.soft
+        × AreRight s.state.bag (is_held s.soft.holds) s.state.next s.starts };
 }
 
 impl<B: Bag> Store<B> {
@@ -57,6 +61,7 @@ impl<B: Bag> Store<B> {
         Store {
             state: State::new(alloc),
             soft: Soft::new(alloc),
+            starts: Starts::new(alloc),
             spent: false,
         }
     }
@@ -69,6 +74,7 @@ impl<B: Bag> Store<B> {
         Store {
             state,
             soft: Soft::new(alloc),
+            starts: Starts::new(alloc),
             spent: false,
         }
     }
@@ -95,10 +101,18 @@ impl<B: Bag> Store<B> {
         if self.spent {
             return Err(AllocError);
         }
-        match answer_message(&mut self.state, &mut self.soft, alloc, client, message) {
+        match answer_message(
+            &mut self.state,
+            &mut self.soft,
+            &mut self.starts,
+            alloc,
+            client,
+            message,
+        ) {
             Ok(step) => Ok(step),
             Err(error) => {
                 self.soft = Soft::new(alloc);
+                self.starts = Starts::new(alloc);
                 self.spent = true;
                 Err(error)
             }
@@ -214,10 +228,14 @@ impl<B: Bag> Store<B> {
         if self.spent {
             return Err(AllocError);
         }
-        match self.soft.close(alloc, &self.state.bag, client) {
+        match self
+            .soft
+            .close(alloc, &self.state.bag, &mut self.starts, client)
+        {
             Ok(sends) => Ok(sends),
             Err(error) => {
                 self.soft = Soft::new(alloc);
+                self.starts = Starts::new(alloc);
                 self.spent = true;
                 Err(error)
             }
@@ -254,6 +272,7 @@ impl<B: Bag> Store<B> {
             ≡ record { state = self.old.state; soft = no_asks; is_spent = self.old.is_spent } }
     {
         self.soft = Soft::new(alloc);
+        self.starts = Starts::new(alloc);
     }
 
     /// Gives the state away, which keeps its ranges. Takes no memory.

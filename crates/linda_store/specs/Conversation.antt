@@ -28,7 +28,7 @@ is_up stages.Open = true
 is_up (stages.Malformed detail) = true
 is_up stages.Down = false
 
--- the place that a client is told for a fault in its frames
+-- the offset that a client is told for a fault in its frames
 abbrev pub detail_of : FrameFault → ℕ
 detail_of frames.Memory = 0
 detail_of frames.EmptyFrame = 0
@@ -68,14 +68,14 @@ pub record IsConversation (from : Point) (bytes : List ℕ) (said : List Reply) 
   pub up : to.is_open ≡ is_up stage
   pub said_is : said ≡ turns ++ last_words stage
 
--- A talk that was given up, for want of memory, in some place.
+-- A talk that was given up, since memory ran out, in some place.
 abbrev pub IsGivenUp : Point → List ℕ → Node → Option ℕ → Type 0
 IsGivenUp from bytes node greeted =
     (turns : List Reply) × ((rest : List ℕ) × ((is_open : Bool)
     × IsTalk from bytes turns rest (point_at node greeted is_open)))
 
 -- What a call that takes all messages in the bytes did: it says how the connection stands, and puts what is said
--- behind the replies of before. Where memory ran out, what is said may be lost.
+-- after the replies of before. Where memory ran out, what is said may be lost.
 abbrev pub HasAnswered :
     {E : Type 0} → Point → List ℕ → List Reply → Result Stage E → List ℕ → List Reply → Node → Option ℕ → Type 0
 HasAnswered from bytes old (Ok stage) rest new node greeted =

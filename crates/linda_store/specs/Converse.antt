@@ -51,7 +51,7 @@ AnswersSo (Err faults.Read) from bytes written rest to = ⊥
 AnswersSo (Err faults.Turns) from bytes written rest to = ⊥
 AnswersSo (Err faults.Down) from bytes written rest to = ⊥
 
--- A session that was open took a piece and put bytes behind those of a writer.
+-- A session that was open took a piece and put bytes after those of a writer.
 pub record HasReplied (old : Session) (was : Node) (piece : List ℕ) (output now : Option (List ℕ))
     (result : Result Stage ConverseFault) (new : Session) (node : Node) : Type 0 where
   pub written : List ℕ
@@ -78,7 +78,7 @@ EndsSo (Err faults.Turns) from read written left to =
 EndsSo (Err faults.Write) from read written left to = IsWrittenInPart from read written to
 EndsSo (Err faults.Memory) from read written left to = IsBrokenOff from read written to
 
--- A conversation with a node took bytes off a reader and put bytes behind those of a writer, and ended so.
+-- A conversation with a node took bytes off a reader and put bytes after those of a writer, and ended so.
 pub record HasEnded (node : Node) (input left output now : Option (List ℕ))
     (result : Result End ConverseFault) (to : Point) : Type 0 where
   pub read : List ℕ

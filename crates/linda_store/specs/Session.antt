@@ -32,7 +32,7 @@ pub record HasTaken (old : Session) (was : Node) (piece : List ℕ) (taken : Tak
   pub goes_on : taken.goes_on ≡ stays_open new.stage
   pub not_spent : new.is_spent ≡ false
 
--- Memory ran out while a session took a piece: some of its messages were taken, and nothing is told of them.
+-- Memory ran out while a session took a piece: some of its messages were taken, and nothing is said of them.
 pub record HasGivenUp (old : Session) (was : Node) (piece : List ℕ) (new : Session) (now : Node) : Type 0 where
   pub talk : IsGivenUp (point_of old was) (old.unread ++ piece) now new.greeted
   pub spent : new.is_spent ≡ true

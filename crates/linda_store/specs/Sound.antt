@@ -19,7 +19,7 @@ pub record IsSound (ds : List Deed) (node : Node) : Type 0 where
   pub orderly : node.is_down ≡ false → IsOrderly node.state node.soft
   pub lost : node.is_down ≡ true → IsProper empty_state (ds ++ node.lost)
 
--- What is sent tells only of these deeds.
+-- What is sent reports these deeds alone.
 abbrev pub AreBacked : List Deed → List (ℕ × Reply) → Type 0
 AreBacked ds sends = All (λ (send : ℕ × Reply). reports_deed send.1 ≡ true → ReportsOne ds send.0 send.1) sends
 

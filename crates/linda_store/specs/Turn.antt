@@ -93,7 +93,7 @@ abbrev pub Turns : Point → Message → List Reply → Point → Type 0
 Turns from m said to = (from.is_open ≡ true) × Treats from.greeted m from said to
 
 -- What a call that answers one message did, given what is done with the message: it says whether the conversation goes
--- on, and puts what is said behind the replies of before. Where memory ran out, what is said may be lost.
+-- on, and puts what is said after the replies of before. Where memory ran out, what is said may be lost.
 abbrev pub HasSaid : {E : Type 0} → (Bool → List Reply → Type 0) → List Reply → Result Bool E → List Reply → Type 0
 HasSaid does old (Ok is_open) new = (said : List Reply) × (does is_open said × (new ≡ old ++ said))
 HasSaid does old (Err fault) new = (said : List Reply) × ((is_open : Bool) × does is_open said)

@@ -169,7 +169,7 @@ fn refuse_frame(fault: FrameFault, replies: &mut Vec<Reply>) -> Result<Stage, Al
     Ok(Stage::Malformed(detail))
 }
 
-// The place that the client is told for a fault of a frame; want of memory is none.
+// The offset that the client is told for a fault of a frame; `Memory` is none.
 fn detail_of(fault: FrameFault) -> Result<u32, AllocError>
     ensures { IfOk result (λ detail. (fault ≢ Memory) × (detail ≡ detail_of fault)) }
 {

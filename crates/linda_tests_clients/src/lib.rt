@@ -1,4 +1,4 @@
-//! Tests with which every growth of memory may be refused, by public calls alone: of a client and of worlds.
+//! Tests with which every allocation may be refused, by public calls alone: of a client and of worlds.
 //!
 //! The rows that need none of that are those of the program linda_rows_clients.
 #![tactic(auto)]

@@ -19,7 +19,7 @@ const ENOUGH: Stand = Stand {
     stops_in: None,
 };
 
-/// With room for the first alone, and for nothing behind it.
+/// With room for the first alone, and for nothing after it.
 const TOO_LITTLE: Stand = Stand {
     limit: 90,
     stops_in: None,
@@ -58,7 +58,7 @@ fn is_at(bytes: &[u8], at: usize, wanted: u8) -> bool {
     }
 }
 
-// Whether the record behind the snapshot of the empty state is open and so long.
+// Whether the record after the snapshot of the empty state is open and so long.
 fn has_record(bytes: &[u8], len: u8) -> bool {
     is_at(bytes, 33, 1)
         && is_at(bytes, 34, 0)

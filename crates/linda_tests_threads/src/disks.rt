@@ -36,7 +36,7 @@ const STEPS: &[Step] = &[
     ("finish 7", "> down\n", BEFORE),
 ];
 
-/// A crash that leaves so much, and what the server opened behind it keeps.
+/// A crash that leaves so much, and what the server opened after it keeps.
 #[derive(Clone, Copy)]
 struct Stopped {
     torn: Torn,

@@ -1,5 +1,5 @@
-//! Tests of sessions over one server, by public calls alone: what a session and its neighbours are told, want of
-//! memory, servers that go down, and threads side by side.
+//! Tests of sessions over one server, by public calls alone: what a session and its neighbours are told, failed
+//! allocations, servers that go down, and threads side by side.
 #![tactic(auto)]
 
 #[cfg(test)]

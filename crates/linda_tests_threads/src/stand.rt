@@ -21,7 +21,7 @@ const CALLS_TO_CREATE: u64 = 6;
 /// What a server keeps: its next id, how many tuples there are, and how many clients it knows.
 pub(super) type Kept = (u64, usize, usize);
 
-/// The server on which a scene is played: its limit, and the device call behind its making, from 0, inside which its
+/// The server on which a scene is played: its limit, and the device call after its making, from 0, inside which its
 /// left disk stops, if it does.
 #[derive(Clone, Copy)]
 pub(super) struct Stand {

@@ -11,7 +11,7 @@ use std::sync::Wait;
 use std::sync::ledger::Ledger;
 use std::test::Fail;
 
-/// What is done, all that is told of it, and what the server keeps behind it.
+/// What is done, all that is told of it, and what the server keeps after it.
 pub(super) type Step = (&'static str, &'static str, Kept);
 
 /// All is told as the steps say.
@@ -20,9 +20,9 @@ pub(super) struct Strictly {
     pub(super) steps: &'static [Step],
 }
 
-/// All is told as the steps say, until a growth of memory is refused. Then a call says that there was no memory, and
+/// All is told as the steps say, until an allocation is refused. Then a call says that memory ran out, and
 /// done again it tells what it does else; or the server is down, and what it keeps on its disks is what it kept before
-/// the step, or behind it. A batch that goes one by one may be cut short behind its first message, which is kept: what
+/// the step, or after it. A batch that goes one by one may be cut short after its first message, which is kept: what
 /// it led to stands beside `down` then, and nothing else ever does.
 #[derive(Clone, Copy)]
 pub(super) struct AsFarAsMemoryGoes {
@@ -54,7 +54,7 @@ impl Scene for Strictly {
     }
 }
 
-/// Does the steps; all is told as they say. Gives what the server is to keep behind them.
+/// Does the steps; all is told as they say. Gives what the server is to keep after them.
 pub(super) fn done_as_said<L: Ledger, R: Wait + Abort>(
     rt: &R,
     alloc: Global,
@@ -103,7 +103,7 @@ fn kept_by<L: Ledger>(sessions: Sessions<L>) -> Kept {
     kept(&server)
 }
 
-// Does a step, once more where there was no memory for it. Where the server is down, it stays so.
+// Does a step, once more where memory ran out for it. Where the server is down, it stays so.
 fn step_taken<L: Ledger, R: Wait + Abort>(
     rt: &R,
     alloc: Global,

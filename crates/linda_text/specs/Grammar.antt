@@ -59,7 +59,7 @@ abbrev pub EndsNumeral : List ℕ → Type 0
 EndsNumeral [] = Unit {0}
 EndsNumeral (b ∷ rest) = is_ascii_digit b ≡ false
 
--- The fields that follow the tag: before each a comma, behind the last one the closing parenthesis,
+-- The fields that follow the tag: before each a comma, after the last one the closing parenthesis,
 -- and blanks before each token.
 abbrev pub AreFields : {A : Type 0} → (A → List ℕ → Type 0) → List A → List ℕ → Type 0
 AreFields IsText [] text = (blanks : List ℕ) × AreBlanks blanks × (text ≡ blanks ++ mark.CLOSING ∷ [])
@@ -83,7 +83,7 @@ IsTupleText tuple text = IsRowText IsAtomText tuple.tag tuple.fields text
 abbrev pub IsTemplateText : Template → List ℕ → Type 0
 IsTemplateText template text = IsRowText IsPatternText template.tag template.fields text
 
--- A text of the value stands at the front, behind blanks or none, and these are the bytes behind
+-- A text of the value stands at the front, after blanks or none, and these are the bytes after
 -- it.
 abbrev pub Stands : {A : Type 0} → (A → List ℕ → Type 0) → A → List ℕ → List ℕ → Type 0
 Stands IsText a bytes rest =
@@ -103,11 +103,11 @@ IsTupleAlone bytes tuple = IsWithin tuple × IsAlone IsTupleText tuple bytes
 abbrev pub IsTemplateAlone : List ℕ → Template → Type 0
 IsTemplateAlone bytes template = IsWithinTemplate template × IsAlone IsTemplateText template bytes
 
--- A template within its limits stands from the offset on, and these are the bytes behind it.
+-- A template within its limits stands from the offset on, and these are the bytes after it.
 abbrev pub IsTemplateAt : List ℕ → ℕ → Template → List ℕ → Type 0
 IsTemplateAt bytes at template rest =
     IsWithinTemplate template × Stands IsTemplateText template (drop at bytes) rest
 
--- An atom within its limits stands from the offset on, and these are the bytes behind it.
+-- An atom within its limits stands from the offset on, and these are the bytes after it.
 abbrev pub IsAtomAt : List ℕ → ℕ → Atom → List ℕ → Type 0
 IsAtomAt bytes at atom rest = IsSound atom × Stands IsAtomText atom (drop at bytes) rest

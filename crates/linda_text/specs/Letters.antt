@@ -1,4 +1,4 @@
--- The bytes that texts are made of: blanks, marks, and what stands behind a backslash.
+-- The bytes that texts are made of: blanks, marks, and what stands after a backslash.
 use Rattle.std.specs.Prelude.{ℕ, Bool, true, false, ◌==◌, ◌||◌, List, [], ◌∷◌}
 use Rattle.std.specs.Prelude.{Option, Some, None, if◌then◌else◌}
 use Rattle.std.specs.Str.Parse.{true_text, false_text}
@@ -12,7 +12,7 @@ is_blank b = b == mark.SPACE || b == mark.TAB
 abbrev pub is_special : ℕ → Bool
 is_special b = b == mark.QUOTE || b == mark.BACKSLASH || b == mark.LINE_FEED || b == mark.CARRIAGE_RETURN
 
--- What a letter behind a backslash stands for: \" \\ \n \t \r.
+-- What a letter after a backslash stands for: \" \\ \n \t \r.
 abbrev pub escaped : ℕ → Option ℕ
 escaped e =
     if e == mark.QUOTE then Some mark.QUOTE

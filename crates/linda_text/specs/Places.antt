@@ -1,4 +1,4 @@
--- Reading at an offset: where a fault is told, and what is read there.
+-- Reading at an offset: where a fault is reported, and what is read there.
 use Rattle.std.specs.Prelude.{ℕ, ◌-◌, List, length, drop, Result, Ok, Err}
 use Rattle.linda_text.specs.declared.fault.TextFault.{TextFault}
 use Rattle.linda_text.specs.declared.fault.TextFault.TheVariants.{Memory, SyntaxAt}
@@ -6,7 +6,7 @@ use Rattle.linda_text.specs.declared.fault.TextFault.TheVariants.{TooManyFields,
 use Rattle.linda_text.specs.declared.fault.TextFault.TheVariants.{NumberRange}
 use Rattle.linda_text.specs.Steps.{Read, Reader}
 
--- A fault told by its offset, where so many bytes were there in all.
+-- A fault given by its offset, where so many bytes were there in all.
 abbrev pub placed : ℕ → TextFault → TextFault
 placed n Memory = Memory
 placed n (SyntaxAt left) = SyntaxAt (n - left)

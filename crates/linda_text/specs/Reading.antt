@@ -25,14 +25,14 @@ use Rattle.linda_text.specs.declared.marks.TheConstants as mark
 abbrev pub wrong : {A : Type 0} → List ℕ → Read A
 wrong bytes = Err (SyntaxAt (length bytes))
 
--- The bytes behind the blanks at the front.
+-- The bytes after the blanks at the front.
 unfoldable pub after_blanks : List ℕ → List ℕ
 after_blanks [] = []
 after_blanks (b ∷ rest) = if is_blank b then after_blanks rest else b ∷ rest
 
 -- ---- words and marks
 
--- The bytes behind the word.
+-- The bytes after the word.
 unfoldable pub word_at : List ℕ → List ℕ → Result (List ℕ) TextFault
 word_at [] bytes = Ok bytes
 word_at (w ∷ word) [] = Err (SyntaxAt 0)
@@ -94,7 +94,7 @@ integer_at (b ∷ rest) =
 
 -- ---- strings
 
--- The byte that a letter behind a backslash stands for, if it is one.
+-- The byte that a letter after a backslash stands for, if it is one.
 abbrev pub chosen : Option ℕ → List ℕ → List ℕ → Read (Option ℕ)
 chosen None here rest = wrong here
 chosen (Some b) here rest = Ok (Some b, rest)
@@ -111,11 +111,11 @@ said_at (b ∷ rest) =
     else (if b == mark.BACKSLASH then escape_at rest
     else (if is_special b then wrong (b ∷ rest) else Ok (Some b, rest)))
 
--- A byte of a string, and those behind it.
+-- A byte of a string, and those after it.
 abbrev pub with_byte : ℕ → Read (List ℕ) → Read (List ℕ)
 with_byte b read = read >>= λ x. Ok (b ∷ x.0, x.1)
 
--- The byte that an escape stands for, if it is one, and the bytes of the string behind it.
+-- The byte that an escape stands for, if it is one, and the bytes of the string after it.
 abbrev pub with_escape : Option ℕ → Read (List ℕ) → Read (List ℕ) → Read (List ℕ)
 with_escape None fault read = fault
 with_escape (Some b) fault read = with_byte b read
@@ -161,7 +161,7 @@ atom_at (b ∷ rest) =
     else (if b == mark.FALSE_LETTER then named (atoms.Bool false) false_text (b ∷ rest)
     else made (λ n. atoms.Int n) (integer_at (b ∷ rest))))
 
--- The letter behind a question mark.
+-- The letter after a question mark.
 unfoldable pub formal_at : Reader Pattern
 formal_at [] = wrong []
 formal_at (b ∷ rest) =
@@ -189,7 +189,7 @@ unfoldable pub no_more_at : List ℕ → Result (List ℕ) TextFault
 no_more_at bytes =
     more_at (after_blanks bytes) >>= λ more. if more.0 then Err TooManyFields else Ok more.1
 
--- The fields behind a tag, of which so many may follow.
+-- The fields after a tag, of which so many may follow.
 unfoldable pub fields_at : {A : Type 0} → Reader A → ℕ → Reader (List A)
 fields_at field zero bytes = no_more_at bytes >>= λ rest. Ok ([], rest)
 fields_at field (suc room) bytes = do
@@ -222,7 +222,7 @@ tuple_at bytes = made tuple_of (row_at atom_at (after_blanks bytes))
 unfoldable pub template_at : Reader Template
 template_at bytes = made template_of (row_at pattern_at (after_blanks bytes))
 
--- An atom, behind blanks.
+-- An atom, after blanks.
 unfoldable pub spaced_atom_at : Reader Atom
 spaced_atom_at bytes = atom_at (after_blanks bytes)
 
@@ -231,6 +231,6 @@ abbrev pub ended : {A : Type 0} → A → List ℕ → Result A TextFault
 ended a [] = Ok a
 ended a (b ∷ rest) = Err (SyntaxAt (suc (length rest)))
 
--- A value that is all there is, but for blanks behind it.
+-- A value that is all there is, but for blanks after it.
 abbrev pub only_of : {A : Type 0} → Read A → Result A TextFault
 only_of read = read >>= λ x. ended x.0 (after_blanks x.1)

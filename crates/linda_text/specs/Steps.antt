@@ -18,7 +18,7 @@ abbrev pub ◌>>=◌ : {F A B : Type 0} → Result A F → (A → Result B F) �
 (Ok x) >>= f = f x
 (Err fault) >>= f = Err fault
 
--- The bytes that reading leaves behind the value, or the fault.
+-- The bytes that reading leaves after the value, or the fault.
 abbrev pub left_by : {F A : Type 0} → Result (A × List ℕ) F → Result (List ℕ) F
 left_by (Ok x) = Ok x.1
 left_by (Err fault) = Err fault

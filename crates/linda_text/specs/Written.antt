@@ -13,7 +13,7 @@ use Rattle.linda_tuple.specs.Template.{Template}
 use Rattle.linda_text.specs.Letters.{truth_word, int_word, text_word, bool_word, any_word}
 use Rattle.linda_text.specs.declared.marks.TheConstants as mark
 
--- These bytes were written behind what stood there.
+-- These bytes were written after what stood there.
 abbrev pub IsWrittenBehind : String Global → String Global → List ℕ → Type 0
 IsWrittenBehind old new bytes = string_bytes new ≡ string_bytes old ++ bytes
 
@@ -42,11 +42,11 @@ written_pattern patterns.TextFormal = text_word
 written_pattern patterns.BoolFormal = bool_word
 written_pattern patterns.Any = any_word
 
--- A field behind its comma and one space.
+-- A field after its comma and one space.
 abbrev pub written_field : {A : Type 0} → (A → List ℕ) → A → List ℕ
 written_field written field = mark.COMMA ∷ mark.SPACE ∷ written field
 
--- The opening parenthesis, the tag, the fields behind it, and the closing parenthesis.
+-- The opening parenthesis, the tag, the fields after it, and the closing parenthesis.
 abbrev pub written_row : {A : Type 0} → (A → List ℕ) → Atom → List A → List ℕ
 written_row written tag fields =
     mark.OPENING ∷ (written_atom tag ++ (flat_map (written_field written) fields ++ mark.CLOSING ∷ []))

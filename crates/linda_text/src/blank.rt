@@ -6,7 +6,7 @@ ghost use Rattle.linda_text.specs.Reading.{after_blanks};
 
 use crate::marks::{SPACE, TAB};
 
-/// The bytes behind the blanks at the front.
+/// The bytes after the blanks at the front.
 #[tactic(auto, unfolding(crate::specs::Reading::after_blanks))]
 pub fn skip_blanks(bytes: &[u8]) -> &[u8]
     ensures { result.now ≡ after_blanks bytes.now }

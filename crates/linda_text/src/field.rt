@@ -1,4 +1,4 @@
-//! The fields of tuples and of templates: a comma before each, the closing parenthesis behind the
+//! The fields of tuples and of templates: a comma before each, the closing parenthesis after the
 //! last.
 
 ghost use Rattle.std.specs.Prelude.{◌≡◌};
@@ -16,16 +16,16 @@ use std::alloc::Global;
 pub(crate) trait Field: Drop {
     ghost reading: { Reader Self };
 
-    /// The field at the front, and the bytes behind it; `Memory` may be told before a fault.
+    /// The field at the front, and the bytes after it; `Memory` may be returned before a fault.
     fn read(alloc: Global, bytes: &[u8]) -> Result<(Self, &[u8]), TextFault>
         ensures { Gives (λ x. (x.0, x.1.now)) result (reading bytes.now) };
 
-    /// The bytes behind the field at the front.
+    /// The bytes after the field at the front.
     fn skip(bytes: &[u8]) -> Result<&[u8], TextFault>
         ensures { GivesAlways (λ rest. rest.now) result (left_by (reading bytes.now)) };
 }
 
-/// The fields that follow a tag, and the bytes behind the closing parenthesis.
+/// The fields that follow a tag, and the bytes after the closing parenthesis.
 pub(crate) fn read_fields<F: Field>(
     alloc: Global,
     bytes: &[u8],
@@ -47,7 +47,7 @@ pub(crate) fn read_fields<F: Field>(
     Ok((fields, rest))
 }
 
-/// The bytes behind the closing parenthesis behind the fields.
+/// The bytes after the closing parenthesis after the fields.
 pub(crate) fn skip_fields<F: Field>(bytes: &[u8]) -> Result<&[u8], TextFault>
     ensures { GivesAlways (λ rest. rest.now) result (left_by (fields_at F.reading MAX_FIELDS bytes.now)) }
 {
@@ -62,7 +62,7 @@ pub(crate) fn skip_fields<F: Field>(bytes: &[u8]) -> Result<&[u8], TextFault>
     read_no_more(rest)
 }
 
-// Whether a comma stands behind the blanks, or the closing parenthesis; and the bytes behind it.
+// Whether a comma stands after the blanks, or the closing parenthesis; and the bytes after it.
 #[tactic(auto, unfolding(crate::specs::Reading::more_at))]
 fn read_more(bytes: &[u8]) -> Result<(bool, &[u8]), TextFault>
     ensures { GivesAlways (λ x. (x.0, x.1.now)) result (more_at (after_blanks bytes.now)) }
@@ -76,7 +76,7 @@ fn read_more(bytes: &[u8]) -> Result<(bool, &[u8]), TextFault>
     }
 }
 
-// The bytes behind the closing parenthesis, where no more fields may follow.
+// The bytes after the closing parenthesis, where no more fields may follow.
 #[tactic(auto, unfolding(crate::specs::Reading::no_more_at))]
 fn read_no_more(bytes: &[u8]) -> Result<&[u8], TextFault>
     ensures { GivesAlways (λ rest. rest.now) result (no_more_at bytes.now) }

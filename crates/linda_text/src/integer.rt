@@ -8,7 +8,7 @@ use crate::fault::TextFault;
 use crate::marks::MINUS;
 use crate::number::{split_number, split_positive};
 
-/// The integer at the front, and the bytes behind it.
+/// The integer at the front, and the bytes after it.
 #[tactic(auto, unfolding(crate::specs::Reading::integer_at, crate::specs::Reading::integer_of))]
 pub(crate) fn read_integer(bytes: &[u8]) -> Result<(i64, &[u8]), TextFault>
     ensures { GivesAlways (λ x. (x.0, x.1.now)) result (integer_at bytes.now) }

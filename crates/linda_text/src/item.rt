@@ -15,7 +15,7 @@ use crate::word::skip_word;
 use linda_tuple::{Atom, Pattern};
 use std::alloc::Global;
 
-/// The atom at the front, and the bytes behind it.
+/// The atom at the front, and the bytes after it.
 #[tactic(auto, unfolding(crate::specs::Reading::atom_at))]
 pub(crate) fn read_atom(alloc: Global, bytes: &[u8]) -> Result<(Atom, &[u8]), TextFault>
     ensures value { Gives (λ x. (x.0, x.1.now)) result (atom_at bytes.now) }
@@ -42,7 +42,7 @@ pub(crate) fn read_atom(alloc: Global, bytes: &[u8]) -> Result<(Atom, &[u8]), Te
     }
 }
 
-/// The bytes behind the atom at the front.
+/// The bytes after the atom at the front.
 #[tactic(auto, unfolding(crate::specs::Reading::atom_at))]
 pub(crate) fn skip_atom(bytes: &[u8]) -> Result<&[u8], TextFault>
     ensures { GivesAlways (λ rest. rest.now) result (left_by (atom_at bytes.now)) }
@@ -105,7 +105,7 @@ impl Field for Pattern {
     }
 }
 
-// The letter of a formal, behind its question mark.
+// The letter of a formal, after its question mark.
 #[tactic(auto, unfolding(crate::specs::Reading::formal_at))]
 fn read_formal(bytes: &[u8]) -> Result<(Pattern, &[u8]), TextFault>
     ensures { GivesAlways (λ x. (x.0, x.1.now)) result (formal_at bytes.now) }

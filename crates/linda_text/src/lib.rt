@@ -1,7 +1,7 @@
 //! The texts of atoms, tuples and templates: `read_..` reads them, `write_..` writes them.
 //!
 //! `split_..` and `skip_..` are for texts that are made of these: they take a value or a token off
-//! the front of bytes, and tell a fault by the count of bytes left, which `TextFault::placed` turns
+//! the front of bytes, and give a fault by the count of bytes left, which `TextFault::placed` turns
 //! into its offset; `push_..` appends a value's text.
 #![tactic(auto)]
 

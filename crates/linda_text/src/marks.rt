@@ -12,7 +12,7 @@ pub const LINE_FEED: u8 = b'\n';
 /// In a string, it stands as an escape alone.
 pub const CARRIAGE_RETURN: u8 = b'\r';
 
-/// Before a string and behind it.
+/// Before a string and after it.
 pub const QUOTE: u8 = b'"';
 
 /// Before the letter of an escape.
@@ -30,7 +30,7 @@ pub const RETURN_LETTER: u8 = b'r';
 /// Before the tag.
 pub const OPENING: u8 = b'(';
 
-/// Behind the last field.
+/// After the last field.
 pub const CLOSING: u8 = b')';
 
 /// Before each field.

@@ -10,7 +10,7 @@ ghost use Rattle.linda_text.specs.Steps.{GivesAlways};
 use crate::fault::TextFault;
 use crate::marks::ZERO;
 
-/// The number without a sign at the front, and the bytes behind it.
+/// The number without a sign at the front, and the bytes after it.
 ///
 /// # Errors
 ///
@@ -27,7 +27,7 @@ pub fn split_number(bytes: &[u8]) -> Result<(u64, &[u8]), TextFault>
     }
 }
 
-/// The number at the front whose digits do not begin with 0, and the bytes behind it.
+/// The number at the front whose digits do not begin with 0, and the bytes after it.
 #[tactic(auto, unfolding(crate::specs::Reading::positive_at))]
 pub(crate) fn split_positive(bytes: &[u8]) -> Result<(u64, &[u8]), TextFault>
     ensures { GivesAlways (λ x. (x.0, x.1.now)) result (positive_at bytes.now) }

@@ -1,8 +1,8 @@
-//! Readers of what stands in a text from an offset on, which give the value and the offset behind
+//! Readers of what stands in a text from an offset on, which give the value and the offset after
 //! it.
 //!
-//! A text is judged first, which takes no memory; then the value is made. So every fault is told
-//! before want of memory.
+//! A text is judged first, which takes no memory; then the value is made. So every fault is
+//! returned before `Memory`.
 
 ghost use Rattle.std.specs.Prelude.{◌≡◌, ◌≤◌, ◌-◌, ℕ, List, length, drop};
 ghost use Rattle.std.specs.Prelude.{IfOk, IsOk, IsErrOf, Ok};
@@ -18,8 +18,8 @@ use crate::row::{skip_template, split_spaced_atom, split_template};
 use linda_tuple::{Atom, Template};
 use std::alloc::Global;
 
-/// The template that stands from the offset on, behind blanks or none, and the offset of the byte
-/// behind it. Past the end there are no bytes.
+/// The template that stands from the offset on, after blanks or none, and the offset of the byte
+/// after it. Past the end there are no bytes.
 ///
 /// # Errors
 ///
@@ -47,8 +47,8 @@ pub fn read_template_at(
     }
 }
 
-/// The atom that stands from the offset on, behind blanks or none, and the offset of the byte
-/// behind it. Past the end there are no bytes.
+/// The atom that stands from the offset on, after blanks or none, and the offset of the byte
+/// after it. Past the end there are no bytes.
 ///
 /// # Errors
 ///
@@ -58,7 +58,7 @@ pub fn read_atom_at(alloc: Global, text: &str, at: usize) -> Result<(Atom, usize
     // What is read stands there, and ends within the text.
     ensures found { IfOk result (λ x. IsAtomAt text.now at x.0 (drop x.1 text.now)) }
     ensures within { IfOk result (λ x. x.1 ≤ length text.now) }
-    // What stands there, with no digit behind it, is read, unless memory runs out.
+    // What stands there, with no digit after it, is read, unless memory runs out.
     ensures only { (atom : atoms.Atom) (rest : List ℕ) → IsAtomAt text.now at atom rest → EndsNumeral rest
         → Gives (λ x. x) result (Ok (atom, length text.now - length rest)) }
     // Which fault it is, and where.
@@ -94,7 +94,7 @@ fn tail(text: &str, at: usize) -> &[u8]
 }
 
 impl TextFault {
-    /// The fault told by its offset, where it counts the bytes left of so many.
+    /// The fault given by its offset, where it counts the bytes left of so many.
     pub fn placed(self, len: usize) -> TextFault
         ensures value { result ≡ placed len self }
         ensures memory { result ≡ TextFault.Memory → self ≡ TextFault.Memory }

@@ -14,7 +14,7 @@ use crate::word::skip_word;
 use linda_tuple::{Atom, Pattern, Template, Tuple};
 use std::alloc::Global;
 
-/// The tuple behind the blanks, and the bytes behind it; `Memory` may be told before a fault.
+/// The tuple after the blanks, and the bytes after it; `Memory` may be returned before a fault.
 #[tactic(auto, unfolding(crate::specs::Reading::tuple_at, crate::specs::Reading::row_at))]
 pub(crate) fn build_tuple(alloc: Global, bytes: &[u8]) -> Result<(Tuple, &[u8]), TextFault>
     ensures { Gives (λ x. (x.0, x.1.now)) result (tuple_at bytes.now) }
@@ -24,11 +24,11 @@ pub(crate) fn build_tuple(alloc: Global, bytes: &[u8]) -> Result<(Tuple, &[u8]),
     Ok((Tuple::from_parts(tag, fields), rest))
 }
 
-/// The template behind the blanks, and the bytes behind it.
+/// The template after the blanks, and the bytes after it.
 ///
 /// # Errors
 ///
-/// The first fault from the left, told by the count of bytes left; `Memory` may be told before it.
+/// The first fault from the left, given by the count of bytes left; `Memory` may come before it.
 #[tactic(auto, unfolding(crate::specs::Reading::template_at, crate::specs::Reading::row_at))]
 pub fn split_template(alloc: Global, bytes: &[u8]) -> Result<(Template, &[u8]), TextFault>
     ensures { Gives (λ x. (x.0, x.1.now)) result (template_at bytes.now) }
@@ -38,29 +38,29 @@ pub fn split_template(alloc: Global, bytes: &[u8]) -> Result<(Template, &[u8]), 
     Ok((Template::from_parts(tag, fields), rest))
 }
 
-/// The bytes behind the tuple behind the blanks.
+/// The bytes after the tuple after the blanks.
 pub(crate) fn skip_tuple(bytes: &[u8]) -> Result<&[u8], TextFault>
     ensures { GivesAlways (λ rest. rest.now) result (left_by (tuple_at bytes.now)) }
 {
     skip_row::<Atom>(bytes)
 }
 
-/// The bytes behind the template behind the blanks.
+/// The bytes after the template after the blanks.
 ///
 /// # Errors
 ///
-/// The first fault from the left, told by the count of bytes left; never `Memory`.
+/// The first fault from the left, given by the count of bytes left; never `Memory`.
 pub fn skip_template(bytes: &[u8]) -> Result<&[u8], TextFault>
     ensures { GivesAlways (λ rest. rest.now) result (left_by (template_at bytes.now)) }
 {
     skip_row::<Pattern>(bytes)
 }
 
-/// The atom behind the blanks, and the bytes behind it.
+/// The atom after the blanks, and the bytes after it.
 ///
 /// # Errors
 ///
-/// The first fault from the left, told by the count of bytes left; `Memory` where an atom stands
+/// The first fault from the left, given by the count of bytes left; `Memory` where an atom stands
 /// there that is a string and finds none.
 #[tactic(auto, unfolding(crate::specs::Reading::spaced_atom_at))]
 pub fn split_spaced_atom(alloc: Global, bytes: &[u8]) -> Result<(Atom, &[u8]), TextFault>
@@ -70,11 +70,11 @@ pub fn split_spaced_atom(alloc: Global, bytes: &[u8]) -> Result<(Atom, &[u8]), T
     read_atom(alloc, skip_blanks(bytes))
 }
 
-/// The bytes behind the atom behind the blanks.
+/// The bytes after the atom after the blanks.
 ///
 /// # Errors
 ///
-/// The first fault from the left, told by the count of bytes left; never `Memory`.
+/// The first fault from the left, given by the count of bytes left; never `Memory`.
 #[tactic(auto, unfolding(crate::specs::Reading::spaced_atom_at))]
 pub fn skip_spaced_atom(bytes: &[u8]) -> Result<&[u8], TextFault>
     ensures { GivesAlways (λ rest. rest.now) result (left_by (spaced_atom_at bytes.now)) }
@@ -82,7 +82,7 @@ pub fn skip_spaced_atom(bytes: &[u8]) -> Result<&[u8], TextFault>
     skip_atom(skip_blanks(bytes))
 }
 
-// The bytes behind the row behind the blanks.
+// The bytes after the row after the blanks.
 #[tactic(auto, unfolding(crate::specs::Reading::row_at, crate::specs::Reading::tag_at))]
 fn skip_row<F: Field>(bytes: &[u8]) -> Result<&[u8], TextFault>
     ensures { GivesAlways (λ rest. rest.now) result (left_by (row_at F.reading (after_blanks bytes.now))) }

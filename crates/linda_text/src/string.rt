@@ -1,6 +1,6 @@
 //! Strings between quotes: each character stands as itself or as an escape.
 //!
-//! What a string says is put into an array first, so that a fault of it is told without taking
+//! What a string says is put into an array first, so that a fault of it is reported without taking
 //! memory.
 
 ghost use Rattle.std.specs.Prelude.{◌≡◌, ◌<◌, ◌≤◌, false, length, take, IfOk, IsOk, IsErrOf};
@@ -15,7 +15,7 @@ use crate::marks::{
 use linda_tuple::{MAX_TEXT, Text};
 use std::alloc::Global;
 
-/// What the string says whose quote was opened, and the bytes behind its closing quote.
+/// What the string says whose quote was opened, and the bytes after its closing quote.
 #[tactic(auto, unfolding(crate::specs::Reading::string_at))]
 pub(crate) fn read_string(alloc: Global, bytes: &[u8]) -> Result<(Text, &[u8]), TextFault>
     ensures value { Gives (λ x. (x.0, x.1.now)) result (string_at bytes.now) }
@@ -32,7 +32,7 @@ pub(crate) fn read_string(alloc: Global, bytes: &[u8]) -> Result<(Text, &[u8]), 
     }
 }
 
-/// The bytes behind the closing quote of the string whose quote was opened.
+/// The bytes after the closing quote of the string whose quote was opened.
 #[tactic(auto, unfolding(crate::specs::Reading::string_at))]
 pub(crate) fn skip_string(bytes: &[u8]) -> Result<&[u8], TextFault>
     ensures { GivesAlways (λ rest. rest.now) result (left_by (string_at bytes.now)) }
@@ -45,7 +45,7 @@ pub(crate) fn skip_string(bytes: &[u8]) -> Result<&[u8], TextFault>
     }
 }
 
-// Puts what the string says into the buffer; gives how many bytes that are, and those behind the
+// Puts what the string says into the buffer; gives how many bytes that are, and those after the
 // closing quote.
 fn fill<'a>(bytes: &'a [u8], buffer: &mut [u8; MAX_TEXT]) -> Result<(usize, &'a [u8]), TextFault>
     ensures value { GivesAlways (λ x. (take x.0 buffer.new, x.1.now)) result (short_at bytes.now) }
@@ -68,7 +68,7 @@ fn fill<'a>(bytes: &'a [u8], buffer: &mut [u8; MAX_TEXT]) -> Result<(usize, &'a 
     }
 }
 
-// The bytes behind the closing quote, however much the string says before it.
+// The bytes after the closing quote, however much the string says before it.
 fn skip_content(bytes: &[u8]) -> Result<&[u8], TextFault>
     ensures { GivesAlways (λ rest. rest.now) result (left_by (content_at false bytes.now)) }
 {
@@ -97,7 +97,7 @@ fn read_said(bytes: &[u8]) -> Result<(Option<u8>, &[u8]), TextFault>
     }
 }
 
-// What stands behind a backslash.
+// What stands after a backslash.
 #[tactic(auto, unfolding(crate::specs::Reading::escape_at))]
 fn read_escape(bytes: &[u8]) -> Result<(Option<u8>, &[u8]), TextFault>
     ensures value { GivesAlways (λ x. (x.0, x.1.now)) result (escape_at bytes.now) }

@@ -1,7 +1,7 @@
-//! Tuples and templates that are all of a text, but for blanks before and behind them.
+//! Tuples and templates that are all of a text, but for blanks before and after them.
 //!
-//! A text is judged first, which takes no memory; then the value is made. So every fault is told
-//! before want of memory.
+//! A text is judged first, which takes no memory; then the value is made. So every fault is
+//! returned before `Memory`.
 
 ghost use Rattle.std.specs.Prelude.{◌≡◌, length, IfOk, IsOk, IsErrOf, Ok};
 ghost use Rattle.linda_tuple.specs.Tuple.{Tuple};

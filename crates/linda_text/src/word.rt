@@ -6,7 +6,7 @@ ghost use Rattle.linda_text.specs.Steps.{GivesAlways};
 
 use crate::fault::TextFault;
 
-/// The bytes behind the word at the front.
+/// The bytes after the word at the front.
 ///
 /// # Errors
 ///

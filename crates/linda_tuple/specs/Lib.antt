@@ -1,3 +1,4 @@
+pub mod Form
 pub mod Atom
 pub mod Tuple
 pub mod Template

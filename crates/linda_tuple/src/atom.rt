@@ -2,9 +2,9 @@
 
 ghost use Rattle.std.specs.Prelude.{◌≡◌, ◌↔◌, IfOk, IsTrue, FitsSigned};
 ghost use Rattle.std.specs.Int.{w64};
-ghost use Rattle.linda_tuple.specs.Atom.{IsSound};
+ghost use Rattle.linda_tuple.specs.Atom.{IsSound, IsSoundIn};
 
-use crate::limits::MAX_TEXT;
+use crate::form::Form;
 use crate::text::Text;
 use std::alloc::{AllocError, Global};
 
@@ -33,12 +33,19 @@ impl Atom {
     pub fn is_sound(&self) -> bool
         ensures { IsTrue result ↔ IsSound self.now }
     {
+        self.fits(Form::Two)
+    }
+
+    /// Whether the atom has a spelling in this form.
+    pub fn fits(&self, form: Form) -> bool
+        ensures { IsTrue result ↔ IsSoundIn form self.now }
+    {
         match self {
             Atom::Int(n) => {
                 let _n = *n;
                 true
             }
-            Atom::Text(t) => t.len() <= MAX_TEXT,
+            Atom::Text(t) => t.len() <= form.longest_text(),
             Atom::Bool(_) => true,
         }
     }

@@ -4,6 +4,7 @@
 //! bytes of UTF-8, or a truth value. A template has patterns in place of the fields. Every `Tuple`
 //! and every `Template` keeps these limits, so whoever holds one need not test them again.
 //! `matches` says which tuples a template asks for, and `bindings` what its formals bind there.
+//! A `Form` is one of the two ways to spell values in bytes, and `fits` says whether a tuple has a spelling in one.
 //!
 //! Contracts see a text as its bytes, a tuple as the `Tuple` of `specs/Tuple` and a template as the
 //! `Template` of `specs/Template`, and know nothing of capacities or places in memory.
@@ -11,6 +12,7 @@
 
 mod atom;
 mod fault;
+mod form;
 mod limits;
 mod matching;
 mod pattern;
@@ -20,7 +22,8 @@ mod tuple;
 
 pub use atom::Atom;
 pub use fault::ValueFault;
-pub use limits::{MAX_FIELDS, MAX_TEXT};
+pub use form::{Form, fits};
+pub use limits::{MAX_FIELDS, MAX_TEXT, ONE_MAX_FIELDS, ONE_MAX_TEXT};
 pub use matching::{bindings, matches};
 pub use pattern::Pattern;
 pub use template::Template;

@@ -5,3 +5,9 @@ pub const MAX_TEXT: usize = 255;
 
 /// The most fields, or patterns, that may follow a tag.
 pub const MAX_FIELDS: usize = 16;
+
+/// The longest text that the first form spells, in bytes.
+pub const ONE_MAX_TEXT: usize = 255;
+
+/// The most fields, or patterns, after a tag that the first form spells.
+pub const ONE_MAX_FIELDS: usize = 16;

@@ -58,6 +58,7 @@ value_place len (reading.BadKind left) h = (omega (arith, h.1), omega arith)
 value_place len (reading.BadBool left) h = (omega (arith, h.1), omega arith)
 value_place len (reading.BadText left) h = (omega (arith, h.1), omega arith)
 value_place len (reading.TooMany left) h = (omega (arith, h.1), omega arith)
+value_place len (reading.LongText left) h = (omega (arith, h.1), omega arith)
 
 rest_place : {A : Type 0} (len : ℕ) (value : A) (rest : List ℕ) (fault : FrameFault) → length rest ≤ len → with_no_rest len value rest ≡ Err fault → IsFaultOfPayload len fault
 rest_place len value [] fault le e = absurd cc
@@ -96,6 +97,7 @@ told_fault len (reading.BadKind left) other e = absurd cc
 told_fault len (reading.BadBool left) other e = absurd cc
 told_fault len (reading.BadText left) other e = absurd cc
 told_fault len (reading.TooMany left) other e = absurd cc
+told_fault len (reading.LongText left) other e = absurd cc
 
 -- A fault that is told of what is left is the payload's.
 pub judged_err : {A : Type 0} (len : ℕ) (read : Read A) (fault : ReadFault) → (fault ≡ reading.Memory → ⊥) → left_by read ≡ Err fault → (frame_fault len fault ≡ Memory → ⊥) × (in_frame len read ≡ Err (frame_fault len fault))

@@ -7,10 +7,10 @@ use Rattle.std.proofs.lemmas.List.Elements.{recursion_from_All}
 use Rattle.linda_tuple.specs.declared.atom.Atom.{Atom}
 use Rattle.linda_tuple.specs.declared.atom.Atom.TheVariants as atoms
 use Rattle.linda_tuple.specs.declared.pattern.Pattern.TheVariants as patterns
-use Rattle.linda_tuple.specs.declared.limits.TheConstants.{MAX_TEXT, MAX_FIELDS}
-use Rattle.linda_tuple.specs.Atom.{IsSound}
-use Rattle.linda_tuple.specs.Tuple.{Tuple, IsWithin}
-use Rattle.linda_tuple.specs.Template.{Template, IsSoundPattern, IsWithinTemplate}
+use Rattle.linda_tuple.specs.Form.{longest_text, most_fields}
+use Rattle.linda_tuple.specs.Atom.{IsSoundIn}
+use Rattle.linda_tuple.specs.Tuple.{Tuple, FitsIn}
+use Rattle.linda_tuple.specs.Template.{Template, IsSoundPatternIn, FitsTemplateIn}
 use Rattle.linda_codec.specs.Formats.{Format, no_kind, made_at}
 use Rattle.linda_codec.specs.Lawful.{IsFormat}
 use Rattle.linda_codec.specs.Values as value
@@ -24,6 +24,7 @@ use Rattle.linda_wire.specs.declared.message.Message.TheVariants.{Hello, Out, As
 use Rattle.linda_wire.specs.declared.reply.Reply.{Reply}
 use Rattle.linda_wire.specs.declared.reply.Reply.TheVariants.{Welcome, Stored, Offer, Read, Taken, Gone, Refused}
 use Rattle.linda_wire.specs.Frames as format
+use Rattle.linda_wire.specs.Frames.{spoken}
 
 -- ---- messages
 
@@ -31,15 +32,15 @@ hello_is : IsFormat format.hello
 hello_is = both_is byte_is (both_is short_number_is truth_is)
 
 out_is : IsFormat format.out
-out_is = both_is number_is tuple_is
+out_is = both_is number_is (tuple_is spoken)
 
 ask_is : IsFormat format.ask
-ask_is = both_is number_is (both_is truth_is template_is)
+ask_is = both_is number_is (both_is truth_is (template_is spoken))
 
 accept_is : IsFormat format.accept
 accept_is = both_is number_is (both_is number_is number_is)
 
--- A body behind a kind byte that makes a message.
+-- A body after a kind byte that makes a message.
 message_body : {A : Type 0} {f : Format A} → IsFormat f → (kind : ℕ) (make : A → Message)
     → ((a : A) → format.spell_message (make a) ≡ kind ∷ f.spell a)
     → ((a : A) → f.Fits a → format.FitsMessage (make a))
@@ -83,12 +84,12 @@ stored_is : IsFormat format.stored
 stored_is = both_is number_is number_is
 
 entry_is : IsFormat format.entry
-entry_is = both_is number_is (both_is number_is tuple_is)
+entry_is = both_is number_is (both_is number_is (tuple_is spoken))
 
 refusal_is : IsFormat format.refusal
 refusal_is = both_is byte_is number_is
 
--- A body behind a kind byte that makes a reply.
+-- A body after a kind byte that makes a reply.
 reply_body : {A : Type 0} {f : Format A} → IsFormat f → (kind : ℕ) (make : A → Reply)
     → ((a : A) → format.spell_reply (make a) ≡ kind ∷ f.spell a)
     → ((a : A) → f.Fits a → format.FitsReply (make a))
@@ -136,18 +137,18 @@ reply_is =
 
 -- No more than these bytes are in an atom's spelling.
 abbrev ATOM_BYTES : ℕ
-ATOM_BYTES = MAX_TEXT + 2
+ATOM_BYTES = longest_text spoken + 3
 
 -- Each value's spelling is that short.
 abbrev AreShort : {A : Type 0} → (A → List ℕ) → (A → Type 0) → Type 0
 AreShort {A = A} spell Fits = (a : A) → Fits a → length (spell a) ≤ ATOM_BYTES
 
-atom_short : AreShort value.atom.spell IsSound
+atom_short : AreShort (value.atom spoken).spell (IsSoundIn spoken)
 atom_short (atoms.Int n) sound = omega arith
 atom_short (atoms.Text t) sound = omega (arith, sound.0)
 atom_short (atoms.Bool b) sound = omega arith
 
-pattern_short : AreShort value.pattern.spell IsSoundPattern
+pattern_short : AreShort (value.pattern spoken).spell (IsSoundPatternIn spoken)
 pattern_short (patterns.Value v) sound = atom_short v sound
 pattern_short patterns.IntFormal sound = omega arith
 pattern_short patterns.TextFormal sound = omega arith
@@ -168,28 +169,28 @@ many_short spell Fits one (a ∷ many) fits =
 
 -- No more than these bytes are in the spelling of a tag, a count and that many values.
 abbrev VALUE_BYTES : ℕ
-VALUE_BYTES = ATOM_BYTES + 1 + ATOM_BYTES * MAX_FIELDS
+VALUE_BYTES = ATOM_BYTES + 1 + ATOM_BYTES * most_fields spoken
 
 tagged_short : {A : Type 0} (spell : A → List ℕ) (Fits : A → Type 0) → AreShort spell Fits
-    → (tag : Atom) (many : List A) → IsSound tag → length many ≤ MAX_FIELDS → All Fits many
-    → length (value.atom.spell tag ++ length many ∷ flat_map spell many) ≤ VALUE_BYTES
+    → (tag : Atom) (many : List A) → IsSoundIn spoken tag → length many ≤ most_fields spoken → All Fits many
+    → length ((value.atom spoken).spell tag ++ length many ∷ flat_map spell many) ≤ VALUE_BYTES
 tagged_short spell Fits one tag many sound count fits =
     omega (
       arith,
       count,
       atom_short tag sound,
       many_short spell Fits one many (recursion_from_All Fits many fits),
-      length-append (value.atom.spell tag) (length many ∷ flat_map spell many),
+      length-append ((value.atom spoken).spell tag) (length many ∷ flat_map spell many),
     )
 
-pub tuple_short : (t : Tuple) → IsWithin t → length (value.tuple.spell t) ≤ VALUE_BYTES
+pub tuple_short : (t : Tuple) → FitsIn spoken t → length ((value.tuple spoken).spell t) ≤ VALUE_BYTES
 tuple_short t within =
-    tagged_short value.atom.spell IsSound atom_short t.tag t.fields
+    tagged_short (value.atom spoken).spell (IsSoundIn spoken) atom_short t.tag t.fields
     within.tag within.count within.fields
 
-pub template_short : (t : Template) → IsWithinTemplate t → length (value.template.spell t) ≤ VALUE_BYTES
+pub template_short : (t : Template) → FitsTemplateIn spoken t → length ((value.template spoken).spell t) ≤ VALUE_BYTES
 template_short t within =
-    tagged_short value.pattern.spell IsSoundPattern pattern_short t.tag t.fields
+    tagged_short (value.pattern spoken).spell (IsSoundPatternIn spoken) pattern_short t.tag t.fields
     within.tag within.count within.fields
 
 -- A payload is not empty, and no longer than a frame's may be.

@@ -1,6 +1,8 @@
 -- The formats of messages and replies, and the frames that they stand in.
 use Rattle.std.specs.Prelude.{ℕ, Bool, List, [], ◌∷◌, ◌++◌, length, take}
 use Rattle.std.specs.Int.{w32, to_be_bytes, from_be_bytes}
+use Rattle.linda_tuple.specs.declared.form.Form.{Form}
+use Rattle.linda_tuple.specs.declared.form.Form.TheVariants.{One}
 use Rattle.linda_tuple.specs.Tuple.{Tuple}
 use Rattle.linda_tuple.specs.Template.{Template}
 use Rattle.linda_codec.specs.Steps.{Reader}
@@ -13,13 +15,19 @@ use Rattle.linda_wire.specs.declared.message.Message.TheVariants.{Hello, Out, As
 use Rattle.linda_wire.specs.declared.reply.Reply.{Reply}
 use Rattle.linda_wire.specs.declared.reply.Reply.TheVariants.{Welcome, Stored, Offer, Read, Taken, Gone, Refused}
 
+-- ---- values
+
+-- The form in which frames spell values.
+abbrev pub spoken : Form
+spoken = One
+
 -- ---- frames
 
--- The bytes that tell a frame's length.
+-- The bytes that give a frame's length.
 unfoldable pub length_field : ℕ → List ℕ
 length_field n = to_be_bytes w32 n
 
--- The number that the first bytes tell.
+-- The number that the first bytes give.
 unfoldable pub told_length : List ℕ → ℕ
 told_length bytes = from_be_bytes w32 (take LENGTH_BYTES bytes)
 
@@ -35,11 +43,11 @@ hello = both byte (both short_number truth)
 
 -- The number and the tuple.
 abbrev pub out : Format (ℕ × Tuple)
-out = both number value.tuple
+out = both number (value.tuple spoken)
 
 -- The ticket, whether the tuple is to be taken, the template.
 abbrev pub ask : Format (ℕ × (Bool × Template))
-ask = both number (both truth value.template)
+ask = both number (both truth (value.template spoken))
 
 -- The number, the ticket, the tuple's id.
 abbrev pub accept : Format (ℕ × (ℕ × ℕ))
@@ -99,7 +107,7 @@ stored = both number number
 
 -- The ticket or the number, the tuple's id, the tuple.
 abbrev pub entry : Format (ℕ × (ℕ × Tuple))
-entry = both number (both number value.tuple)
+entry = both number (both number (value.tuple spoken))
 
 -- The code, the detail.
 abbrev pub refusal : Format (ℕ × ℕ)

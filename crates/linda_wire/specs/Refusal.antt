@@ -43,6 +43,6 @@ detail_of (Malformed offset) = offset
 detail_of (TooManyAsks ticket) = ticket
 detail_of NoHello = 0
 
--- The reply that tells a refusal.
+-- The reply that reports a refusal.
 abbrev pub refused : Refusal → Reply
 refused refusal = Refused (code_of refusal) (detail_of refusal)

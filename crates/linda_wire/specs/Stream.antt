@@ -18,12 +18,12 @@ use Rattle.linda_wire.specs.FrameLaws.{IsPayload}
 
 -- ---- payloads
 
--- A fault in a payload of so many bytes, told by how many of them are left from it on: its offset in the frame.
+-- A fault in a payload of so many bytes, given by how many of them are left from it on: its offset in the frame.
 abbrev pub malformed_with : ℕ → ℕ → FrameFault
 malformed_with len left = Malformed (LENGTH_BYTES + len - left)
 
 -- A fault of a value in a payload of so many bytes, as a fault of the frame; where the value is cut
--- short it is told at the frame's end.
+-- short it is reported at the frame's end.
 abbrev pub frame_fault : ℕ → ReadFault → FrameFault
 frame_fault len reading.Memory = Memory
 frame_fault len reading.Short = malformed_with len 0
@@ -31,6 +31,7 @@ frame_fault len (reading.BadKind left) = malformed_with len left
 frame_fault len (reading.BadBool left) = malformed_with len left
 frame_fault len (reading.BadText left) = malformed_with len left
 frame_fault len (reading.TooMany left) = malformed_with len left
+frame_fault len (reading.LongText left) = malformed_with len left
 
 -- A value read from a payload of so many bytes, after which no byte may be left over.
 abbrev pub with_no_rest : {A : Type 0} → ℕ → A → List ℕ → Result A FrameFault
@@ -116,7 +117,7 @@ HasNoValue (Whole value rest) = ⊥
 HasNoValue (Broken fault) = Unit {0}
 
 -- The answer to a call for the next value: what stands at the front, which is taken off where it is
--- a value. A fault changes nothing, nor does want of memory.
+-- a value. A fault changes nothing, nor does `Memory`.
 abbrev pub Answers : {A : Type 0} → (List ℕ → Front A) → List ℕ → Result (Option A) FrameFault → List ℕ → Type 0
 Answers at_front old (Ok (Some value)) new = at_front old ≡ Whole value new
 Answers at_front old (Ok None) new = (at_front old ≡ Partial) × (new ≡ old)
@@ -128,8 +129,8 @@ HasFrame bytes =
     (0 < told_length bytes) × (told_length bytes ≤ MAX_PAYLOAD)
     × (LENGTH_BYTES + told_length bytes ≤ length bytes)
 
--- What a fault tells of the frame at the front: of its length, once that is there, that it is 0 or
--- too great; else, once all of the frame is there, that it finds no memory, or an offset from its
+-- What a fault says of the frame at the front: of its length, once that is there, that it is 0 or
+-- too great; else, once all of the frame is there, that memory runs out for it, or an offset from its
 -- kind to its end.
 abbrev pub IsFaultOf : List ℕ → FrameFault → Type 0
 IsFaultOf bytes Memory = HasFrame bytes

@@ -66,7 +66,7 @@ impl<T: Framed> FrameFeed<T> {
     ///
     /// # Errors
     ///
-    /// The fault of the frame at the front, once it can be told: of its length with its first four
+    /// The fault of the frame at the front, once it can be known: of its length with its first four
     /// bytes, else with its last byte. It stays at the front, so the same fault is answered from then
     /// on. `Memory` where the value at the front finds none. An error changes nothing.
     pub fn next(&mut self, alloc: Global) -> Result<Option<T>, FrameFault>

@@ -19,7 +19,7 @@ pub trait Framed: Drop {
     ///
     /// # Errors
     ///
-    /// The first fault from the left, told by the count of bytes left. `Memory` may be told before it.
+    /// The first fault from the left, given by the count of bytes left. `Memory` may be returned before it.
     fn read(alloc: Global, payload: &[u8]) -> Result<(Self, &[u8]), ReadFault>
         ensures { Gives (λ x. (x.0, x.1.now)) result (format.read payload.now) };
 
@@ -27,7 +27,7 @@ pub trait Framed: Drop {
     ///
     /// # Errors
     ///
-    /// The first fault from the left, told by the count of bytes left; never `Memory`.
+    /// The first fault from the left, given by the count of bytes left; never `Memory`.
     fn skip(payload: &[u8]) -> Result<&[u8], ReadFault>
         ensures { GivesAlways (λ rest. rest.now) result (left_by (format.read payload.now)) };
 
@@ -35,7 +35,7 @@ pub trait Framed: Drop {
     ///
     /// # Errors
     ///
-    /// Where memory runs out, a part of them may stand behind the old bytes.
+    /// Where memory runs out, a part of them may stand after the old bytes.
     fn push(&self, out: &mut Vec<u8>) -> Result<(), AllocError>
         ensures ok { OnOk result (out.new.items ≡ out.old.items ++ format.spell self.now) }
         ensures front { take (length out.old.items) out.new.items ≡ out.old.items }
@@ -45,7 +45,7 @@ pub trait Framed: Drop {
     ghost framed: { IsFramed format };
 }
 
-/// Appends two numbers; where memory runs out, a part of them may stand behind the old bytes.
+/// Appends two numbers; where memory runs out, a part of them may stand after the old bytes.
 pub(crate) fn push_pair(out: &mut Vec<u8>, first: u64, second: u64) -> Result<(), AllocError>
     ensures ok { OnOk result (out.new.items ≡ out.old.items ++ (number.spell first ++ number.spell second)) }
     ensures front { take (length out.old.items) out.new.items ≡ out.old.items }
@@ -69,7 +69,7 @@ pub(crate) fn encode<T: Framed>(out: &mut Vec<u8>, value: &T) -> Result<(), Allo
     }
 }
 
-// Appends the value's frame; where memory runs out, a part of it may stand behind the old bytes.
+// Appends the value's frame; where memory runs out, a part of it may stand after the old bytes.
 fn push_frame<T: Framed>(out: &mut Vec<u8>, value: &T) -> Result<(), AllocError>
     ensures ok { OnOk result (out.new.items ≡ out.old.items ++ frame (T.format.spell value.now)) }
     ensures front { take (length out.old.items) out.new.items ≡ out.old.items }

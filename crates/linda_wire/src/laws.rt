@@ -1,4 +1,4 @@
-//! Laws of streams of messages and of replies, each told by the contract of a function that does nothing.
+//! Laws of streams of messages and of replies, each stated by the contract of a function that does nothing.
 
 ghost use Rattle.linda_wire.specs.Frames as format;
 ghost use Rattle.linda_wire.specs.Stream.{FaultsStay, HasOneReading};

@@ -1,10 +1,15 @@
-//! How frames are measured, and what a refusal tells of.
+//! How frames are measured, and what a refusal reports.
+
+use linda_tuple::Form;
 
 /// How many bytes a frame's length takes.
 pub const LENGTH_BYTES: usize = 4;
 
 /// The most bytes of a frame's kind and body.
 pub const MAX_PAYLOAD: usize = 65535;
+
+/// The form in which frames spell values.
+pub(crate) const FORM: Form = Form::One;
 
 /// The version of the protocol that is spoken here.
 pub const VERSION: u8 = 1;

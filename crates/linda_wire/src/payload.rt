@@ -10,7 +10,7 @@ use crate::limits::LENGTH_BYTES;
 use linda_codec::ReadFault;
 use std::alloc::Global;
 
-/// The value that a payload spells, all of it. Want of memory is told last: only of a payload that spells one.
+/// The value that a payload spells, all of it. `Memory` is returned last: only of a payload that spells one.
 pub(crate) fn read_whole<T: Framed>(alloc: Global, payload: &[u8]) -> Result<T, FrameFault>
     requires { length payload.now ≤ MAX_PAYLOAD }
     ensures value { GivesWhole result (whole_of T.format payload.now) }
@@ -41,7 +41,7 @@ fn judge<T: Framed>(payload: &[u8]) -> Result<(), FrameFault>
     }
 }
 
-// A payload of so many bytes ends behind its value.
+// A payload of so many bytes ends after its value.
 fn ended(len: usize, rest: &[u8]) -> Result<(), FrameFault>
     requires { len ≤ MAX_PAYLOAD }
     ensures { result ≡ with_no_rest len tt rest.now }
@@ -65,6 +65,7 @@ fn fault_of_frame(len: usize, fault: ReadFault) -> FrameFault
         ReadFault::BadBool(left) => malformed(len, left),
         ReadFault::BadText(left) => malformed(len, left),
         ReadFault::TooMany(left) => malformed(len, left),
+        ReadFault::LongText(left) => malformed(len, left),
     }
 }
 

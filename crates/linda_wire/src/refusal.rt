@@ -10,30 +10,30 @@ use crate::codes::{
 use crate::limits::{MAX_CLIENTS, VERSION};
 use crate::reply::Reply;
 
-/// Why a message was refused, which changed nothing. Over a connection it is told by a code and a detail.
+/// Why a message was refused, which changed nothing. Over a connection it is reported by a code and a detail.
 #[derive(Clone, Copy, Debug, PartialEq, Eq)]
 pub enum Refusal {
-    /// The version of the protocol is not the one spoken here, which is told.
+    /// The version of the protocol is not the one spoken here, which is reported.
     Version,
-    /// The client says that it is fresh, and a reply is kept for it: the number of the last is told.
+    /// The client says that it is fresh, and a reply is kept for it: the number of the last is reported.
     Known(u64),
     /// The connection has greeted already, or the client has another connection.
     Busy,
-    /// The number is older than the last that is kept, which is told.
+    /// The number is older than the last that is kept, which is reported.
     Old(u64),
-    /// The number is beyond the next one: the last that is kept is told.
+    /// The number is beyond the next one: the last that is kept is reported.
     Gap(u64),
     /// The server's store has no room.
     Full,
     /// Ids or numbers are spent.
     Spent,
-    /// As many clients are kept as may be, which is told.
+    /// As many clients are kept as may be, which is reported.
     TooManyClients,
     /// The server is down.
     Down,
-    /// The frame spells nothing: the offset in it of the first byte at fault is told, 0 where its length is at fault.
+    /// The frame spells nothing: the offset in it of the first byte at fault, 0 where its length is at fault.
     Malformed(u32),
-    /// The client has as many open asks as it may have: the ticket of this one is told.
+    /// The client has as many open asks as it may have: the ticket of this one is reported.
     TooManyAsks(u64),
     /// A connection begins with a Hello.
     NoHello,
@@ -78,7 +78,7 @@ impl Refusal {
         }
     }
 
-    /// The reply that tells it.
+    /// The reply that reports it.
     pub fn reply(self) -> Reply
         ensures { result ≡ refused self }
     {

@@ -18,7 +18,7 @@ call_of own.Resend = calls.Resend
 call_of (own.Reconnected server) = calls.Reconnected server
 call_of own.Abandon = calls.Abandon
 
--- a client's fault as the world tells it
+-- a client's fault as the world returns it
 abbrev pub world_fault : ClientFault → WorldFault
 world_fault refusals.ServersRange = faults.Client refusals.ServersRange
 world_fault refusals.Busy = faults.Client refusals.Busy

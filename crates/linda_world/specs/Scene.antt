@@ -1,4 +1,4 @@
--- What an event of a world comes to: a step, a refusal, or want of memory.
+-- What an event of a world comes to: a step, a refusal, or `Memory`.
 use Rattle.std.specs.Prelude.{◌≡◌, ℕ, List, [], Option, Some, None, IsSome, Result, Ok, Err, map}
 use Rattle.std.specs.FinMap as maps
 use Rattle.linda_store.specs.Node.{Node}
@@ -18,7 +18,7 @@ pub record IsShownAs (old new : World) : Type 0 where
   pub got : SameGot old.members new.members
   pub packets : new.packets ≡ old.packets
 
--- what the world answers where a server told this, or memory ran out
+-- what the world answers where a server returned this, or memory ran out
 abbrev pub answer_of : Told → Result Seen WorldFault
 answer_of (Ok seen) = Ok seen
 answer_of (Err s) = Err (faults.Down s)

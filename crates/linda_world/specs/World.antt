@@ -48,7 +48,7 @@ pub record Refuses (refused : Option WorldFault) (old new : World) (fault : Worl
   pub why : refused ≡ Some fault
   pub same : new ≡ old
 
--- What an event comes to: a step, where a server that is down is told as a fault; a refusal; or want of memory.
+-- What an event comes to: a step, where a server that is down is reported as a fault; a refusal; or `Memory`.
 abbrev pub Steps : World → WorldEvent → Result Seen WorldFault → World → Type 0
 Steps old event result new = Tells (IsStep old event new)
     (Refuses (refusal old.world event) old new) (IsShort (early_refusal old.world event) old new) result
@@ -58,7 +58,7 @@ abbrev pub Runs : World → List WorldEvent → World → Type 0
 Runs old [] new = new ≡ old
 Runs old (event ∷ events) new = (seen : Seen) × ((mid : World) × (Steps old event (Ok seen) mid × Runs mid events new))
 
--- What an event comes to, where nothing is told of what is seen.
+-- What an event comes to, where nothing is reported of what is seen.
 abbrev pub Passes : World → WorldEvent → Result (Unit {0}) WorldFault → World → Type 0
 Passes old event (Ok done) new = (seen : Seen) × Steps old event (Ok seen) new
 Passes old event (Err fault) new = Steps old event (Err fault) new

@@ -41,7 +41,7 @@ impl Call {
     }
 }
 
-/// What the world tells of a client's fault: want of memory is its own.
+/// What the world returns for a client's fault: `Memory` is its own.
 pub(crate) fn refused(fault: ClientFault) -> WorldFault
     ensures { result ≡ world_fault fault }
 {

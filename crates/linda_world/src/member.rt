@@ -40,7 +40,7 @@ impl Member {
         &self.got
     }
 
-    /// Makes a call of the client of this number. What it sends comes behind the packets, and what it is given is
+    /// Makes a call of the client of this number. What it sends comes after the packets, and what it is given is
     /// noted.
     pub(crate) fn react(
         &mut self,

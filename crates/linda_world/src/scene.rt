@@ -60,7 +60,7 @@ fn servers_of<N: Node>(alloc: Global, nodes: Vec<N>) -> Result<Vec<Server<N>>, A
     Ok(servers)
 }
 
-/// What the world answers where a server told this, or memory ran out.
+/// What the world answers where a server returned this, or memory ran out.
 fn asked(told: Result<Told, AllocError>) -> Result<Seen, WorldFault>
     ensures { result ≡ seen_of told }
 {

@@ -17,7 +17,7 @@ use linda_wire::{Message, Refusal, Reply};
 use std::alloc::{AllocError, Global};
 use std::marker::Model;
 
-/// What a server's call tells: what is seen of it, or that the server of this number is down.
+/// What a server's call returns: what is seen of it, or that the server of this number is down.
 pub(crate) type Told = Result<Seen, u32>;
 
 /// A node, and all deeds that it ever did.

@@ -142,7 +142,7 @@ impl<N: Node> World<N> {
         Ok(())
     }
 
-    // Does one event, and tells nothing of what is seen.
+    // Does one event, and reports nothing of what is seen.
     fn pass(&mut self, alloc: Global, event: WorldEvent) -> Result<(), WorldFault>
         ensures { Passes self.old event result self.new }
     {

@@ -1,5 +1,6 @@
 //! Why a server on a folder does not serve.
 
+use linda_inspect::InspectFault;
 use linda_server::OpenFault;
 use std::alloc::{AllocError, AllocFailed};
 use thiserror::Error;
@@ -39,6 +40,18 @@ impl From<OpenFault> for ServingFault {
             OpenFault::NotEmpty => ServingFault::Disk,
             OpenFault::LimitRange => ServingFault::Disk,
             OpenFault::Disk => ServingFault::Disk,
+        }
+    }
+}
+
+impl From<InspectFault> for ServingFault {
+    fn from(fault: InspectFault) -> ServingFault {
+        match fault {
+            InspectFault::NoStore => ServingFault::NoStore,
+            InspectFault::Damaged { right, offset } => ServingFault::Damaged { right, offset },
+            InspectFault::Disk => ServingFault::Disk,
+            InspectFault::Memory => ServingFault::Memory,
+            InspectFault::Io => ServingFault::Io,
         }
     }
 }

@@ -8,9 +8,11 @@ use linda_server::{Durable, MAX_LIMIT, OpenFault};
 use std::alloc::Global;
 use std::fs::{File, Files, OpenOptions, TryLockError};
 
-const LEFT: &str = "left.bank";
+/// The file of the left bank.
+pub(crate) const LEFT: &str = "left.bank";
 
-const RIGHT: &str = "right.bank";
+/// The file of the right bank.
+pub(crate) const RIGHT: &str = "right.bank";
 
 /// Opens the store in a folder, which nobody else has open. Where both of its files are missing or empty a new one is
 /// created. What it created is there after a power cut.

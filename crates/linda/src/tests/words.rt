@@ -1,6 +1,6 @@
 //! What is read of the command line, and what is told of faults.
 
-use crate::command::read_task;
+use crate::command::{asks_for_version, read_task};
 use crate::faults::PipeFault;
 use std::alloc::AllocError;
 
@@ -38,7 +38,7 @@ fn told(rt: &HostRuntime, words: &[&str]) -> Result<String, AllocError> {
 
 #[test]
 fn reads_the_command_line(rt: HostRuntime) -> Result<(), AllocError> {
-    let asked: [Asked<'_>; 15] = [
+    let asked: [Asked<'_>; 18] = [
         (&["linda", "pipe"], "Pipe"),
         (&["linda", "pipe", "--"], "Pipe"),
         (&["linda", "run", "--servers", "2"], "Run { servers: 2 }"),
@@ -94,6 +94,18 @@ fn reads_the_command_line(rt: HostRuntime) -> Result<(), AllocError> {
             ],
             "Serve { port: 1, dir: \"d\", sessions: Some(4294967295) }",
         ),
+        (
+            &["linda", "inspect", "d"],
+            "Inspect { dir: \"d\", lists: Lists { tuples: false, clients: false } }",
+        ),
+        (
+            &["linda", "inspect", "--clients", "a b"],
+            "Inspect { dir: \"a b\", lists: Lists { tuples: false, clients: true } }",
+        ),
+        (
+            &["linda", "inspect", "--clients", "--tuples", "--", "--d"],
+            "Inspect { dir: \"--d\", lists: Lists { tuples: true, clients: true } }",
+        ),
     ];
     for (words, task) in &asked {
         assert_eq!(rt; told(&rt, words)?.as_str(), *task);
@@ -103,7 +115,7 @@ fn reads_the_command_line(rt: HostRuntime) -> Result<(), AllocError> {
 
 #[test]
 fn tells_a_fault_of_the_command_line(rt: HostRuntime) -> Result<(), AllocError> {
-    let faults: [&[&str]; 35] = [
+    let faults: [&[&str]; 42] = [
         &["linda"],
         &["linda", "pip"],
         &["linda", "--", "pipe"],
@@ -151,6 +163,13 @@ fn tells_a_fault_of_the_command_line(rt: HostRuntime) -> Result<(), AllocError> 
             "linda", "call", "--client", "7", "1", "2", "3", "4", "5", "6", "7", "8", "9", "10",
             "11", "12", "13", "14", "15", "16", "17",
         ],
+        &["linda", "inspect"],
+        &["linda", "inspect", "--tuples"],
+        &["linda", "inspect", "d", "e"],
+        &["linda", "inspect", "d", "--dir", "d"],
+        &["linda", "inspect", "d", "--tuples", "--tuples"],
+        &["linda", "inspect", "d", "--tuples=true"],
+        &["linda", "inspect", "--version"],
     ];
     for words in &faults {
         assert_eq!(rt; told(&rt, words)?.as_str(), "2");
@@ -160,14 +179,35 @@ fn tells_a_fault_of_the_command_line(rt: HostRuntime) -> Result<(), AllocError> 
 
 #[test]
 fn helps(rt: HostRuntime) -> Result<(), AllocError> {
-    let helps: [&[&str]; 4] = [
+    let helps: [&[&str]; 5] = [
         &["linda", "--help"],
         &["linda", "run", "--help"],
         &["linda", "call", "--help"],
         &["linda", "serve", "--help"],
+        &["linda", "inspect", "--help"],
     ];
     for words in &helps {
         assert_eq!(rt; told(&rt, words)?.as_str(), "0");
+    }
+    Ok(())
+}
+
+#[test]
+fn tells_who_asks_for_the_version(rt: HostRuntime) -> Result<(), AllocError> {
+    let rows: [(&[&str], bool); 6] = [
+        (&["linda", "--version"], true),
+        (&["", "--version"], true),
+        (&["linda"], false),
+        (&["--version"], false),
+        (&["linda", "--versions"], false),
+        (&["linda", "--version", "pipe"], false),
+    ];
+    for (words, wanted) in &rows {
+        let mut all = Vec::new(rt.alloc());
+        for word in *words {
+            all.push(String::from_str(rt.alloc(), word)?)?;
+        }
+        assert_eq!(rt; asks_for_version(&all), *wanted);
     }
     Ok(())
 }

@@ -159,7 +159,7 @@ fn first_of(told: Vec<Option<Receipt>>) -> Option<Receipt>
     one
 }
 
-// Whether the message bears the number behind its client's last.
+// Whether the message bears the number after its client's last.
 fn comes_next(state: &State<IndexBag>, client: u32, message: &Message) -> bool
     ensures { result ≡ steps.comes_next (number_of_message message.now) (last_number state.now client) }
 {

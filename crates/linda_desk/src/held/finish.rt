@@ -21,7 +21,7 @@ pub struct Report {
 }
 
 impl<D: Disk, L: Ledger> Held<D, L> {
-    /// Parks the given seats for good and tells, once all seats are back, what they were told. That is compared
+    /// Parks the given seats for good and reports, once all seats are back, what they were told. That is compared
     /// with what was stored: each receipt that the lock has with the one that its client was told by that number,
     /// if it still has that, and the last that each client was told with the reply that is kept for it.
     ///

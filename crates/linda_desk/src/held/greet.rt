@@ -51,7 +51,7 @@ impl<D: Disk, L: Ledger> Held<D, L> {
         // Where it gives no seat none is out but those of before, and what waits is as it was;
         ensures none { OnNoSeat result ((self.new.till ≡ self.old.till)
             × ((c : ℕ) → waits_for self.new.boxes c ≡ waits_for self.old.boxes c)) }
-        // for want of memory nor did the server change, so a second greeting is answered as this one was to be.
+        // where memory ran out the server did not change, so a second greeting is answered as this one was to be.
         ensures memory { IsErrOf result SharedFault.Memory → (self.new.server.down ≡ false)
             × (self.new.server.store.state ≡ self.old.server.store.state)
             × (self.new.server.store.soft ≡ self.old.server.store.soft) }

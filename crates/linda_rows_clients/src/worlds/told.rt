@@ -6,7 +6,7 @@ use linda_wire::{Message, Reply};
 use linda_world::{Body, Packet, Seen, World};
 use std::alloc::AllocError;
 
-/// What is told of an event: of a server that it served, or was full; of a client what it got.
+/// What is said of an event: of a server that it served, or was full; of a client what it got.
 pub fn push_seen(out: &mut String, seen: &Seen) -> Result<(), AllocError> {
     match seen.client {
         Some(client) => write!(out, "{client}")?,

@@ -43,7 +43,7 @@ fn answered<N: Node>(
     }
 }
 
-// What is told of the event, and the packets that are new.
+// What is said of the event, and the packets that are new.
 fn stepped<N: Node>(
     alloc: Global,
     world: &mut World<N>,

@@ -1,8 +1,8 @@
-//! What is told of words, with those behind one another of which the same is told as one.
+//! What is told of words, with those one after another of which the same is told as one.
 
 use std::alloc::{AllocError, Global};
 
-/// Words behind one another, of which the same is told.
+/// Words one after another, of which the same is told.
 #[derive(Drop)]
 struct Run {
     first: String,

@@ -9,8 +9,8 @@ use std::alloc::{AllocError, Global};
 /// them for each word of the first list and each of the second, from the beginning, with these words in the places of
 /// `$1` and `$2`. `A-B` stands for all numbers from A to B, and without ` by ` there is one list.
 ///
-/// Told is for each word of the first list which outcome each of the second had, by numbers; words behind one another
-/// of which the same is told are told as one, `0 to 3`. Behind that stands what came of each outcome, line by line.
+/// Told is for each word of the first list which outcome each of the second had, by numbers; words one after another
+/// of which the same is told are told as one, `0 to 3`. After that stands what came of each outcome, line by line.
 #[derive(Drop)]
 pub struct Sweeps<P: Drop> {
     player: P,
@@ -152,7 +152,7 @@ fn number_of(outcomes: &mut Vec<String>, outcome: String) -> Result<usize, Alloc
     Ok(outcomes.len())
 }
 
-// Appends what came of each outcome, behind its number.
+// Appends what came of each outcome, after its number.
 fn tell_outcomes(came: &mut String, outcomes: &[String]) -> Result<(), WordsFault> {
     for (at, outcome) in outcomes.iter().enumerate() {
         let number = at.saturating_add(1);

@@ -7,7 +7,7 @@ use std::alloc::{AllocError, Global};
 pub(super) struct RowTexts {
     /// The number of its first line.
     first_line: u64,
-    /// The number of the line behind it.
+    /// The number of the line after it.
     next_line: u64,
     wanted: String,
     came: String,
@@ -24,7 +24,7 @@ impl RowTexts {
         }
     }
 
-    /// The number of the line behind the row.
+    /// The number of the line after the row.
     pub(super) fn next_line(&self) -> u64 {
         self.next_line
     }
@@ -34,7 +34,7 @@ impl RowTexts {
         self.came.as_str()
     }
 
-    /// The text that came, for a player to write behind it.
+    /// The text that came, for a player to write after it.
     pub(super) fn came_mut(&mut self) -> &mut String {
         &mut self.came
     }

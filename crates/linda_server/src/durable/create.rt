@@ -50,7 +50,7 @@ impl<D: Disk> Durable<D> {
             × (s.limit ≡ limit) × (s.down ≡ false)) }
         ensures limit { IfOk result (λ s. IsLimit limit)
             × IfErr result (λ e. e.0 ≡ OpenFault.LimitRange → IsLimit limit → ⊥) }
-        // The limit is judged last: LimitRange tells that both disks are empty.
+        // The limit is judged last: LimitRange says that both disks are empty.
         ensures last { D.honest left → D.honest right
             → IfErr result (λ e. e.0 ≡ OpenFault.LimitRange
             → ((D.view left).seen ≡ []) × ((D.view right).seen ≡ [])) }
@@ -62,7 +62,7 @@ impl<D: Disk> Durable<D> {
         ensures honest { IfOk result (λ s. (D.honest left × D.honest right) ↔ BothHonest s.disks)
             × IfErr result (λ e. (D.honest left × D.honest right)
             ↔ (D.honest e.1 × D.honest e.2)) }
-        // The counts of failures rise where a device is told to have failed, and there alone.
+        // The counts of failures rise where a device is reported to have failed, and there alone.
         ensures cause { IfErr result (λ e. TellsFailuresOfTwo OpenFault.Disk e.0
             (D.failures left) (D.failures right) (D.failures e.1) (D.failures e.2)) }
     {
@@ -99,7 +99,7 @@ impl<D: Disk> Durable<D> {
     }
 }
 
-// What a server tells of a new bank's fault.
+// What a server returns for a new bank's fault.
 fn of_bank(fault: BankFault) -> OpenFault
     ensures disk { result ≡ OpenFault.Disk ↔ fault ≡ BankFault.Disk }
     ensures known { (result ≡ OpenFault.Disk) ⊎ (result ≡ OpenFault.Memory) }

@@ -65,7 +65,7 @@ impl<D: Disk> Durable<D> {
         ensures honest { IfOk result (λ s. (D.honest left × D.honest right) ↔ BothHonest s.disks)
             × IfErr result (λ e. (D.honest left × D.honest right)
             ↔ (D.honest e.1 × D.honest e.2)) }
-        // The counts of failures rise where a device is told to have failed, and there alone.
+        // The counts of failures rise where a device is reported to have failed, and there alone.
         ensures cause { IfErr result (λ e. TellsFailuresOfTwo OpenFault.Disk e.0
             (D.failures left) (D.failures right) (D.failures e.1) (D.failures e.2)) }
     {
@@ -100,7 +100,7 @@ impl<D: Disk> Durable<D> {
     }
 }
 
-// What a server tells where no bank was chosen.
+// What a server returns where no bank was chosen.
 fn of_choice(fault: ChoiceFault) -> OpenFault
     ensures { result ≡ fault_of_choice fault }
 {

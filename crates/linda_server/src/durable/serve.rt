@@ -30,7 +30,7 @@ impl<D: Disk> Durable<D> {
     ghost use Rattle.linda_server.specs.Calls.{IsBeforeOrAfter, HasNoRoom};
     ghost use Rattle.linda_server.specs.Node.{shown};
 
-    /// Does what the messages ask, one after another, each of its client, and tells for each of
+    /// Does what the messages ask, one after another, each of its client, and says for each of
     /// them which deed it did and what is sent. All deeds come onto the bank in use as one record;
     /// where there are none, no device call is made.
     ///
@@ -56,7 +56,7 @@ impl<D: Disk> Durable<D> {
         ensures each { IfOk result (λ served. vec_len served.shares ≡ length messages.now) }
         ensures now { OnOk result (StandNow self.new.disks self.new.store.state) }
         ensures up { OnOk result ((self.old.down ≡ false) × (self.new.down ≡ false)) }
-        // It is Full exactly where the record of the deeds, and the gate behind it, would pass the
+        // It is Full exactly where the record of the deeds, and the gate after it, would pass the
         // limit; nothing changed then.
         ensures full { IsErrOf result ServeFault.Full → (self.new ≡ self.old)
             × HasNoRoom self.old.store messages.now
@@ -231,7 +231,7 @@ impl<D: Disk> Durable<D> {
     }
 }
 
-// Whether a record of deeds of this size, and the gate behind it, keep within the limit, where
+// Whether a record of deeds of this size, and the gate after it, keep within the limit, where
 // there are deeds.
 fn has_room(limit: usize, end: usize, size: u64) -> bool
     ensures yes { result ≡ true → 0 < size → end + RECORD_BYTES + size ≤ limit }

@@ -19,8 +19,8 @@ impl<D: Disk> Durable<D> {
     ghost use Rattle.linda_server.specs.Switch.{HasNoNext, IsSwitched, snapshot_calls};
 
     /// Writes a snapshot of the state as a new bank onto the disk that is not in use; from then on
-    /// that bank is in use. It is what `snapshot` stands on, and tells a device's failure from want
-    /// of memory.
+    /// that bank is in use. It is what `snapshot` stands on, and distinguishes a device's failure
+    /// from `Memory`.
     ///
     /// # Errors
     ///

@@ -17,7 +17,7 @@ impl<D: Disk> Durable<D> {
     ghost use Rattle.linda_server.specs.Switch.{IsTrimmed};
 
     /// Leaves one byte of the disk that is not in use, a closed gate. It is what `trim` stands on,
-    /// and tells a device's failure from want of memory.
+    /// and distinguishes a device's failure from `Memory`.
     ///
     /// # Errors
     ///
@@ -33,7 +33,7 @@ impl<D: Disk> Durable<D> {
         ensures same { (self.new.store ≡ self.old.store) × (self.new.limit ≡ self.old.limit) }
         ensures up { OnOk result ((self.old.down ≡ false) × (self.new.down ≡ false)) }
         // It is down exactly where it was, and goes down only where a device failed or the disk
-        // found no memory.
+        // ran out of memory.
         ensures was_down { IsErrOf result ServeFault.Down ↔ (self.old.down ≡ true) }
         ensures stays_down { self.old.down ≡ true → self.new ≡ self.old }
         ensures goes_down { (IsErrOf result ServeFault.Disk → self.new.down ≡ true)

@@ -19,7 +19,7 @@ use std::sync::ledger::Ledger;
 use std::sync::{Arc, Wait};
 
 impl<D: Disk, L: Ledger> Shared<D, L> {
-    /// Submits some messages, which are served in one group, one behind the other. Gives for each the receipt of its
+    /// Submits some messages, which are served in one group, one after the other. Gives for each the receipt of its
     /// deed, if it made one. Their replies come out of the outlet.
     ///
     /// # Errors

@@ -49,7 +49,7 @@ impl<D: Disk, L: Ledger> Shared<D, L> {
         answer
     }
 
-    /// Parks the given seats for good and tells, once all seats are back, what they were told, where that is what was
+    /// Parks the given seats for good and reports, once all seats are back, what they were told, where that is what was
     /// stored.
     ///
     /// # Errors
@@ -70,7 +70,7 @@ impl<D: Disk, L: Ledger> Shared<D, L> {
     }
 }
 
-// Parks the seats for good. Tells of how many deeds they were told in all, as far as that can be counted.
+// Parks the seats for good. Reports of how many deeds they were told in all, as far as that can be counted.
 fn park_all<D: Disk, L: Ledger>(held: &mut Held<D, L>, seats: Vec<Seat<L>>) -> Option<u64>
     ensures { IfSome result (λ told. told ≡ deeds_told seats.items) }
 {

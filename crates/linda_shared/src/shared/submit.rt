@@ -31,7 +31,7 @@ impl<D: Disk, L: Ledger> Shared<D, L> {
         seat: &mut Seat<L>,
         message: &Message,
     ) -> Result<Option<Receipt>, SharedFault>
-        // There is a receipt exactly where the seat was told of one deed more, and it joins the ring behind the others;
+        // There is a receipt exactly where the seat was told of one deed more, and it joins the ring after the others;
         ensures seat { IfOk result (λ r. seat.new ≡ with_told seat.old r) }
         ensures next { IfOk result (λ o. IfSome o (IsNext seat.old.client seat.old.ring)) }
         // its deed is one that the message asks for.
@@ -88,7 +88,7 @@ impl<D: Disk, L: Ledger> Shared<D, L> {
         self.queue.lock(rt).ask(account, message, address)
     }
 
-    // Why a call that found no memory did nothing.
+    // Why a call that ran out of memory did nothing.
     pub(super) fn no_memory<R: Wait>(&self, rt: &R) -> SharedFault
         ensures { (result ≡ SharedFault.Down) ⊎ (result ≡ SharedFault.Memory) }
     {

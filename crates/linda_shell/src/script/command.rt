@@ -85,7 +85,7 @@ fn command_in(alloc: Global, text: &[u8]) -> Result<Option<Command>, AllocError>
     }
 }
 
-// What a client is to do, behind its number.
+// What a client is to do, after its number.
 fn client_command(alloc: Global, client: u32, text: &[u8]) -> Result<Option<Command>, AllocError> {
     if let Some([]) = behind_word(text, b"abandon") {
         return Ok(Some(Command::Abandon(client)));
@@ -171,7 +171,7 @@ fn last_number(text: &[u8]) -> Option<u64> {
     }
 }
 
-// The number at the front of the text, behind which no letter or digit stands, and what stands behind it and behind
+// The number at the front of the text, after which no letter or digit stands, and what stands after it and after
 // blanks.
 fn number_in(text: &[u8]) -> Option<(u64, &[u8])> {
     match split_number(text) {
@@ -180,7 +180,7 @@ fn number_in(text: &[u8]) -> Option<(u64, &[u8])> {
     }
 }
 
-// What stands behind the word, behind which no letter or digit stands, and behind blanks.
+// What stands after the word, after which no letter or digit stands, and after blanks.
 fn behind_word<'a>(text: &'a [u8], word: &[u8]) -> Option<&'a [u8]> {
     match skip_word(text, word) {
         Ok(rest) => behind_blanks(rest),
@@ -188,7 +188,7 @@ fn behind_word<'a>(text: &'a [u8], word: &[u8]) -> Option<&'a [u8]> {
     }
 }
 
-// What stands behind blanks, where no letter or digit stands at the front.
+// What stands after blanks, where no letter or digit stands at the front.
 fn behind_blanks(text: &[u8]) -> Option<&[u8]> {
     match text {
         [first, ..] if first.is_ascii_alphanumeric() => None,

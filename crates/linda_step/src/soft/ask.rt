@@ -1,17 +1,18 @@
 //! What a server does for a request for a tuple.
 
-ghost use Rattle.std.specs.Prelude.{◌≡◌, ℕ, nat_le, false, None, Option, List, IfOk};
+ghost use Rattle.std.specs.Prelude.{◌≡◌, ℕ, nat_le, false, None, Option, List, IfOk, OnOk};
+ghost use Rattle.linda_bag.specs.Starts.{AreRight};
 ghost use Rattle.linda_wire.specs.declared.limits.TheConstants.{MAX_ASKS};
 ghost use Rattle.linda_hold.specs.Holds.{IsHeldAt};
 ghost use Rattle.linda_hold.specs.Waits.{is_waiting};
 ghost use Rattle.linda_step.specs.Soft.{open_asks};
 ghost use Rattle.linda_step.specs.Dispatch.{Sends};
-ghost use Rattle.linda_step.specs.Looking.{IsLeast, passed_over};
+ghost use Rattle.linda_step.specs.Looking.{IsLeast, is_held, passed_over};
 ghost use Rattle.linda_step.specs.Asking.{AnswersAsk, offer_of, read_of, serve};
 
 use super::Soft;
 use crate::step::one_send;
-use linda_bag::Bag;
+use linda_bag::{Bag, Starts};
 use linda_hold::{Asked, Request};
 use linda_tuple::Template;
 use linda_wire::{MAX_ASKS, Refusal, Reply};
@@ -32,12 +33,16 @@ impl Soft {
         &mut self,
         alloc: Global,
         bag: &B,
+        starts: &mut Starts,
+        next: u64,
         request: Request,
         remove: bool,
         template: &Template,
     ) -> Result<Vec<(u32, Reply)>, AllocError>
-        ensures { IfOk result (λ sends. AnswersAsk (B.contents bag.now) request remove template.now
+        requires right { AreRight (B.contents bag.now) (is_held self.old.holds) next starts.old }
+        ensures sends { IfOk result (λ sends. AnswersAsk (B.contents bag.now) request remove template.now
             self.old (record { sends = sends.items; soft = self.new })) }
+        ensures right { OnOk result (AreRight (B.contents bag.now) (is_held self.new.holds) next starts.new) }
     {
         if let Some(id) = self.holds.find(request) {
             offer_of(alloc, bag, id, request)
@@ -50,7 +55,7 @@ impl Soft {
                 Refusal::TooManyAsks(request.ticket).reply(),
             )
         } else {
-            self.serve(alloc, bag, request, remove, template)
+            self.serve(alloc, bag, starts, next, request, remove, template)
         }
     }
 
@@ -68,21 +73,26 @@ impl Soft {
         &mut self,
         alloc: Global,
         bag: &B,
+        starts: &mut Starts,
+        next: u64,
         request: Request,
         remove: bool,
         template: &Template,
     ) -> Result<Vec<(u32, Reply)>, AllocError>
+        requires right { AreRight (B.contents bag.now) (is_held self.old.holds) next starts.old }
         requires held { IsHeldAt self.old.holds request None }
         requires waiting { is_waiting request self.old.waits ≡ false }
-        ensures { IfOk result (λ sends. (least : Option ℕ)
+        ensures sends { IfOk result (λ sends. (least : Option ℕ)
             × IsLeast (B.contents bag.now) template.now (passed_over remove self.old.holds) least
             × (let t : Sends = record { sends = sends.items; soft = self.new }
             in t ≡ serve (B.contents bag.now) request remove template.now least self.old)) }
+        ensures right { OnOk result (AreRight (B.contents bag.now) (is_held self.new.holds) next starts.new) }
     {
-        match self.least_match(alloc, bag, remove, template) {
+        match self.least_match(alloc, bag, starts, next, remove, template) {
             Some(id) if remove => {
                 let sends = offer_of(alloc, bag, id, request)?;
                 self.holds.insert(id, request)?;
+                starts.hold(id, template);
                 Ok(sends)
             }
             Some(id) => read_of(alloc, bag, id, request),
@@ -99,13 +109,17 @@ impl Soft {
         &self,
         alloc: Global,
         bag: &B,
+        starts: &mut Starts,
+        next: u64,
         remove: bool,
         template: &Template,
     ) -> Option<u64>
-        ensures { IsLeast (B.contents bag.now) template.now (passed_over remove self.now.holds) result }
+        requires { AreRight (B.contents bag.now) (is_held self.now.holds) next starts.old }
+        ensures least { IsLeast (B.contents bag.now) template.now (passed_over remove self.now.holds) result }
+        ensures right { AreRight (B.contents bag.now) (is_held self.now.holds) next starts.new }
     {
         if remove {
-            bag.least_match(template, self.holds.ids())
+            starts.least_match(alloc, bag, template, self.holds.ids(), next)
         } else {
             bag.least_match(template, &BTreeSet::new(alloc))
         }

@@ -44,7 +44,7 @@ impl Model {
         Ok(())
     }
 
-    /// Takes the bytes off that are behind.
+    /// Takes off the bytes at the end.
     pub(super) fn cut(&mut self, len: usize) {
         self.seen.truncate(len);
     }

@@ -99,7 +99,7 @@ impl Plan {
     }
 }
 
-/// What a call that is to go so tells.
+/// What a call that is to go so returns.
 fn told(goes: Goes) -> Option<DiskFault> {
     match goes {
         Goes::Well => None,
@@ -132,7 +132,7 @@ impl Pair {
         })
     }
 
-    /// Writes on both, and answers whether the disk tells what it should.
+    /// Writes on both, and answers whether the disk returns what it should.
     fn write(&mut self, random: &mut Random) -> Result<bool, Fail> {
         let at = random.below(self.disk.bytes().len() + 1);
         let bytes = random.bytes(self.alloc)?;
@@ -172,7 +172,7 @@ impl Pair {
         self.is_as_told(fault, goes)
     }
 
-    /// Whether the disk told what it should, counted it, and holds what it should.
+    /// Whether the disk returned what it should, counted it, and holds what it should.
     fn is_as_told(&mut self, fault: Option<DiskFault>, goes: Goes) -> bool {
         if goes != Goes::Well {
             self.failures = self.failures.saturating_add(1);

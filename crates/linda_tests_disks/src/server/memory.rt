@@ -1,7 +1,7 @@
 //! A server for which memory is short: it is down, and opened again it has the state of before the call or after it.
 //!
-//! The tests are made to be run with each growth of memory refused, one after another, and pass whichever it is. Where
-//! the growth is one of the script's own, the step is done again.
+//! The tests are made to be run with each allocation refused, one after another, and pass whichever it is. Where
+//! the allocation is one of the script's own, the step is done again.
 
 use super::script::{Do, Stand, Told, empty_stand, step};
 use super::words::{EMPTY, WITH_ONE};
@@ -11,7 +11,7 @@ use std::alloc::{AllocError, Global};
 use std::process::Abort;
 use std::test::Fail;
 
-/// Does the step, and once more where there was no memory for the script.
+/// Does the step, and once more where memory ran out for the script.
 fn surely(alloc: Global, stand: &mut Stand, what: Do) -> Result<Told, AllocError> {
     match step(alloc, stand, what) {
         Ok(told) => Ok(told),
@@ -45,7 +45,7 @@ fn opened(rt: &impl Abort, alloc: Global, stand: &mut Stand) -> Result<Told, Fai
     Ok(told)
 }
 
-/// A step, what it tells, and what the server keeps behind it.
+/// A step, what it tells, and what the server keeps after it.
 type Row = (Do, Told, Told);
 
 const ROWS: &[Row] = &[
@@ -64,7 +64,7 @@ const ROWS: &[Row] = &[
 ];
 
 /// Does a step. Where there is no memory for it, the server is down, and opened again it keeps what it kept before, or
-/// what it keeps behind the step; done again, the step tells what it does else.
+/// what it keeps after the step; done again, the step tells what it does else.
 fn borne(
     rt: &impl Abort,
     alloc: Global,

@@ -1,4 +1,4 @@
-//! The messages of scripts, and what is kept behind them.
+//! The messages of scripts, and what is kept after them.
 
 use super::script::Told;
 use linda_tuple::{Atom, Pattern, Template, Text, Tuple};

@@ -8,6 +8,7 @@ ghost use Rattle.linda_wire.specs.declared.message.Message.TheVariants.{Hello, O
 
 use crate::framed::{Framed, push_pair};
 use crate::kinds::{ACCEPT, ASK, CANCEL, HELLO, OUT};
+use crate::limits::FORM;
 use crate::message::Message;
 use linda_codec::{
     ReadFault, put_template, put_tuple, read_bool, read_template, read_tuple, read_u8, read_u32,
@@ -72,7 +73,7 @@ impl Framed for Message {
             Message::Out { n, tuple } => {
                 out.push(OUT)?;
                 out.extend_from_slice(&n.to_be_bytes())?;
-                put_tuple(out, tuple)
+                put_tuple(FORM, out, tuple)
             }
             Message::Ask {
                 ticket,
@@ -82,7 +83,7 @@ impl Framed for Message {
                 out.push(ASK)?;
                 out.extend_from_slice(&ticket.to_be_bytes())?;
                 out.push(u8::from(*remove))?;
-                put_template(out, template)
+                put_template(FORM, out, template)
             }
             Message::Accept { n, ticket, id } => {
                 out.push(ACCEPT)?;
@@ -115,7 +116,7 @@ fn out_from(alloc: Global, body: &[u8]) -> Result<(Message, &[u8]), ReadFault>
     ensures { Gives (λ x. (x.0, x.1.now)) result (made_at format.out_of format.out body.now) }
 {
     let (n, rest) = read_u64(body)?;
-    let (tuple, rest) = read_tuple(alloc, rest)?;
+    let (tuple, rest) = read_tuple(alloc, FORM, rest)?;
     Ok((Message::Out { n, tuple }, rest))
 }
 
@@ -123,7 +124,7 @@ fn skip_out(body: &[u8]) -> Result<&[u8], ReadFault>
     ensures { GivesAlways (λ rest. rest.now) result (left_by (made_at format.out_of format.out body.now)) }
 {
     let (_n, rest) = read_u64(body)?;
-    skip_tuple(rest)
+    skip_tuple(FORM, rest)
 }
 
 fn ask_from(alloc: Global, body: &[u8]) -> Result<(Message, &[u8]), ReadFault>
@@ -131,7 +132,7 @@ fn ask_from(alloc: Global, body: &[u8]) -> Result<(Message, &[u8]), ReadFault>
 {
     let (ticket, rest) = read_u64(body)?;
     let (remove, rest) = read_bool(rest)?;
-    let (template, rest) = read_template(alloc, rest)?;
+    let (template, rest) = read_template(alloc, FORM, rest)?;
     let ask = Message::Ask {
         ticket,
         remove,
@@ -145,7 +146,7 @@ fn skip_ask(body: &[u8]) -> Result<&[u8], ReadFault>
 {
     let (_ticket, rest) = read_u64(body)?;
     let (_remove, rest) = read_bool(rest)?;
-    skip_template(rest)
+    skip_template(FORM, rest)
 }
 
 fn accept_from(body: &[u8]) -> Result<(Message, &[u8]), ReadFault>

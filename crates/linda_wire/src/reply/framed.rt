@@ -1,14 +1,16 @@
 //! A reply in a frame: read, passed over and written.
 
 ghost use Rattle.std.specs.Prelude.{◌≡◌, ◌∷◌, ◌++◌, length, take, OnOk};
-ghost use Rattle.linda_tuple.specs.Tuple.{IsWithin};
+ghost use Rattle.linda_tuple.specs.Tuple.{FitsIn};
 ghost use Rattle.linda_codec.specs.Steps.{Gives, GivesAlways, left_by};
 ghost use Rattle.linda_codec.specs.Formats.{made_at, number};
 ghost use Rattle.linda_wire.specs.Frames as format;
+ghost use Rattle.linda_wire.specs.Frames.{spoken};
 ghost use Rattle.linda_wire.specs.declared.reply.Reply.TheVariants as replies;
 
 use crate::framed::{Framed, push_pair};
 use crate::kinds::{GONE, OFFER, READ, REFUSED, STORED, TAKEN, WELCOME};
+use crate::limits::FORM;
 use crate::reply::Reply;
 use linda_codec::{ReadFault, put_tuple, read_tuple, read_u8, read_u64, skip_tuple};
 use linda_tuple::Tuple;
@@ -133,7 +135,7 @@ fn read_entry(alloc: Global, body: &[u8]) -> Result<(u64, u64, Tuple, &[u8]), Re
 {
     let (number, rest) = read_u64(body)?;
     let (id, rest) = read_u64(rest)?;
-    let (tuple, rest) = read_tuple(alloc, rest)?;
+    let (tuple, rest) = read_tuple(alloc, FORM, rest)?;
     Ok((number, id, tuple, rest))
 }
 
@@ -144,7 +146,7 @@ fn skip_entry(body: &[u8]) -> Result<&[u8], ReadFault>
 {
     let (_number, rest) = read_u64(body)?;
     let (_id, rest) = read_u64(rest)?;
-    skip_tuple(rest)
+    skip_tuple(FORM, rest)
 }
 
 // Appends a kind byte, two numbers and a tuple.
@@ -157,10 +159,10 @@ fn push_entry(
 ) -> Result<(), AllocError>
     ensures ok { OnOk result (out.new.items ≡ out.old.items ++ (kind ∷ format.entry.spell (number, (id, tuple.now)))) }
     ensures front { take (length out.old.items) out.new.items ≡ out.old.items }
-    ensures within { OnOk result (IsWithin tuple.now) }
+    ensures within { OnOk result (FitsIn spoken tuple.now) }
 {
     out.push(kind)?;
     out.extend_from_slice(&number.to_be_bytes())?;
     out.extend_from_slice(&id.to_be_bytes())?;
-    put_tuple(out, tuple)
+    put_tuple(FORM, out, tuple)
 }

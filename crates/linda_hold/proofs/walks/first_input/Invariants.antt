@@ -1,4 +1,4 @@
-use Rattle.std.proofs.Common.{◌≡◌, nat_cmp}
+use Rattle.std.proofs.Common.{◌≡◌, length, nat_cmp}
 use Rattle.std.specs.BTreeMap as tree
 use Rattle.linda_hold.specs.Waits.{longest}
 use Rattle.linda_hold.specs.Index.{waits_at}
@@ -7,4 +7,7 @@ use Rattle.linda_hold.proofs.walks.first_input.Given as goal
 -- The first answer among those that are left is the first of all.
 abbrev pub invariant-loop-number : goal.invariant-loop-number
 invariant-loop-number l =
-    longest l.tuple (waits_at (tree.get nat_cmp l.by_arrival) l.number-iterator) ≡ longest l.tuple (waits_at (tree.get nat_cmp l.by_arrival) l.numbers.keys)
+    longest l.tuple (waits_at (tree.get nat_cmp l.by_arrival) l.numbers) ≡ longest l.tuple (waits_at (tree.get nat_cmp l.by_arrival) l.fn.numbers)
+
+abbrev pub decreases-loop-number : goal.decreases-loop-number
+decreases-loop-number l = length l.numbers

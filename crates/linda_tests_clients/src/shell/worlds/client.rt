@@ -1,6 +1,6 @@
-//! A client's run in which a growth of memory may be refused: a call that finds none leaves the client as it was, so it
-//! is made again, and then gives what it gives else. It is made to be run with each growth refused, one after another;
-//! where the growth is one of the test's own, the test fails and says that memory ran out.
+//! A client's run in which an allocation may be refused: a call that runs out of memory leaves the client as it was, so
+//! it is made again, and then gives what it gives else. It is made to be run with each allocation refused, one after
+//! another; where the allocation is one of the test's own, the test fails and says that memory ran out.
 
 use linda_client::{Client, ClientFault, Reaction};
 use linda_script::write_message;
@@ -70,7 +70,7 @@ fn made_of(alloc: Global, client: &mut Client, call: Call) -> Made {
     }
 }
 
-/// The same, where a call that finds no memory is made again.
+/// The same, where a call that runs out of memory is made again.
 fn made_at_last(alloc: Global, client: &mut Client, call: Call) -> Result<Reaction, Fail> {
     match made_of(alloc, client, call)? {
         Err(ClientFault::Memory) => Ok(made_of(alloc, client, call)??),

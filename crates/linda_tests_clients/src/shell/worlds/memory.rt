@@ -1,7 +1,7 @@
-//! A run in which a growth of memory may be refused: with ample memory it goes to its end, and else what the world
+//! A run in which an allocation may be refused: with ample memory it goes to its end, and else what the world
 //! shows is as before, and it does nothing more, but for a server on disks that may be opened again. It is made to be
-//! run with each growth refused, one after another; where the growth is one of the test's own, the test fails and says
-//! that memory ran out.
+//! run with each allocation refused, one after another; where the allocation is one of the test's own, the test fails
+//! and says that memory ran out.
 
 use super::made::{in_memory, on_disks};
 use super::step::{Do, event_of};

@@ -1,32 +1,11 @@
-use Rattle.std.proofs.Common.{ℕ, IsSome, refl, sym, subst}
-use Rattle.linda_tuple.specs.Tuple.{Tuple}
-use Rattle.linda_bag.proofs.Left.{all_left, first_stored, fewer_left, none_below, none_wanted, not_free}
+-- The search from 0 on goes through all.
+use Rattle.std.proofs.Common.{◌≤◌, arith}
+use Rattle.std.proofs.lemmas.Option.{IfSome_then}
+use Rattle.linda_bag.proofs.StartLaws.{IfNone_then}
 use Rattle.linda_bag.proofs.lists.ListBagBag.least_match.Goals as goal
 
-pub loop-id-init : goal.loop-id-init
-loop-id-init c =
-    let begun = c.into_iter-id-iterator.ensures.into_iter_gives in
-    all_left c.args.self.now.tuples _ _ begun.0 begun.5 begun.6 (λ k wanted. subst (λ o. IsSome o) (sym wanted.stored) refl)
-
-pub returns-then-is_free_match-clause-found : goal.returns-then-is_free_match-clause-found
-returns-then-is_free_match-clause-found c =
-    let fits = c.is_free_match.ensures.0 c.if-is_free_match.true in
-    record {
-      row = c.in-Some.tuple.now;
-      stored = first_stored _ _ _ (c.in-Some.id.now, c.in-Some.tuple.now) _ c.loop-id.invariant c.in-Some.ensures.steps;
-      matches = fits.0;
-      free = fits.1;
-    }
-
-pub returns-then-is_free_match-clause-least : goal.returns-then-is_free_match-clause-least
-returns-then-is_free_match-clause-least c =
-    none_below _ _ _ (c.in-Some.id.now, c.in-Some.tuple.now) _ c.loop-id.invariant c.in-Some.ensures.steps
-
-pub loop-id-preserved : goal.loop-id-preserved
-loop-id-preserved c =
-    let entry : ℕ × Tuple = (c.in-Some.id.now, c.in-Some.tuple.now) in
-    let stored = first_stored _ _ _ entry _ c.loop-id.invariant c.in-Some.ensures.steps in
-    fewer_left _ _ _ entry _ c.loop-id.invariant c.in-Some.ensures.steps (not_free _ _ _ entry _ stored c.is_free_match.ensures c.if-is_free_match.false)
+pub returns-clause-least : goal.returns-clause-least
+returns-clause-least c = IfSome_then c.least_match_from.result.id c.least_match_from.ensures.least (λ id least. λ k below free. least k (omega arith) below free)
 
 pub returns-clause-none : goal.returns-clause-none
-returns-clause-none c = none_wanted _ _ _ c.loop-id.invariant c.in-None.ensures.steps.0
+returns-clause-none c = IfNone_then c.least_match_from.result.id c.least_match_from.ensures.none (λ none. λ k free. none k (omega arith) free)

@@ -6,24 +6,24 @@ use Rattle.linda_step.specs.Asking.{AnswersAsk, only_sent}
 use Rattle.linda_step.proofs.AskingLaws.{offered_again, waits_on, turned_away}
 use Rattle.linda_step.proofs.soft.Soft.ask.Goals as goal
 
-pub returns-in-Some : goal.returns-in-Some
-returns-in-Some g c =
+pub returns-in-Some-clause-sends : goal.returns-in-Some-clause-sends
+returns-in-Some-clause-sends g c =
     let soft : Soft = record { holds = c.self.inside.holds; waits = c.self.inside.waits } in
     subst
     (λ s. IfOk c.offer_of.result (λ sends. AnswersAsk (g.B.Bag.contents c.args.bag.now) c.args.request c.args.remove c.args.template.now s (only_sent sends.items s)))
     c.self.view_is
     (IfOk-weaker c.offer_of.result _ _ (λ sends. offered_again _ _ _ _ soft sends.items c.in-Some.id c.in-Some.ensures.value) c.offer_of.ensures)
 
-pub returns-then-contains : goal.returns-then-contains
-returns-then-contains g c =
+pub returns-then-contains-clause-sends : goal.returns-then-contains-clause-sends
+returns-then-contains-clause-sends g c =
     let soft : Soft = record { holds = c.self.inside.holds; waits = c.self.inside.waits } in
     subst
     (λ s. AnswersAsk (g.B.Bag.contents c.args.bag.now) c.args.request c.args.remove c.args.template.now s (only_sent c.new.result.items s))
     c.self.view_is
     (waits_on _ _ _ _ soft c.new.result.items c.in_default.ensures.value (sym c.contains.ensures ∙ c.if-contains.true) c.new.ensures.items)
 
-pub returns-then-asks_too_much : goal.returns-then-asks_too_much
-returns-then-asks_too_much g c =
+pub returns-then-asks_too_much-clause-sends : goal.returns-then-asks_too_much-clause-sends
+returns-then-asks_too_much-clause-sends g c =
     let soft : Soft = record { holds = c.self.inside.holds; waits = c.self.inside.waits } in
     subst
     (λ s. IfOk c.one_send.result (λ sends. AnswersAsk (g.B.Bag.contents c.args.bag.now) c.args.request c.args.remove c.args.template.now s (only_sent sends.items s)))

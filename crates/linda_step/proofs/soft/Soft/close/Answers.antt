@@ -1,4 +1,6 @@
 use Rattle.std.proofs.Common.{not, ◌==◌, sym, subst}
+use Rattle.linda_bag.specs.Starts.{AreRight}
+use Rattle.linda_step.specs.Looking.{is_held}
 use Rattle.linda_step.specs.Soft.{Soft, AreApart}
 use Rattle.linda_step.proofs.ApartLaws.{fewer_apart}
 use Rattle.linda_step.proofs.soft.Soft.close.Goals as goal
@@ -11,3 +13,8 @@ release_all-requires g c =
     (λ waits. AreApart (record { holds = c.self.inside.holds; waits = waits }))
     (sym c.remove_client.ensures)
     (fewer_apart (λ w. not (c.args.client == w.0.client)) soft (subst AreApart (sym c.self.view_is) c.requires))
+
+pub returns-clause-right : goal.returns-clause-right
+returns-clause-right g c = λ next rights.
+    c.in_ok-release_all.ensures.right next
+    (subst (λ (s : Soft). AreRight (g.B.Bag.contents c.args.bag.now) (is_held s.holds) next c.args.starts.now) (sym c.self.view_is) rights)

@@ -1,13 +1,41 @@
--- Where nobody waits for the tuple, nothing is sent and nothing changes.
-use Rattle.std.proofs.Common.{◌++◌, sym, ap, ◌∙◌, append-nil}
-use Rattle.linda_step.proofs.AwaitLaws.{unawaited_at}
+use Rattle.std.proofs.Common.{◌≡◌, ◌++◌, ◌∷◌, [], map, sym, ap, subst, ◌∙◌, append_assoc}
+use Rattle.linda_hold.specs.Waits.{readers}
+use Rattle.linda_step.specs.Soft.{Soft, AreApart}
+use Rattle.linda_step.specs.Dispatch.{dispatch}
+use Rattle.linda_step.proofs.DispatchLaws.{read_for, offer_for, told_reads, told_offer, longest_holds_nothing}
 use Rattle.linda_step.proofs.soft.Soft.dispatch.Goals as goal
 
-pub returns-then-not-is_awaited-clause-sends : goal.returns-then-not-is_awaited-clause-sends
-returns-then-not-is_awaited-clause-sends c =
-    sym (append-nil c.args.sends.now.items)
-    ∙ ap (λ t. c.args.sends.now.items ++ t.sends) (sym (unawaited_at c.args.id c.args.tuple.now _ c.args.self.now _ c.self.view_is c.is_awaited.ensures c.if-not-is_awaited.true))
+-- Who waits holds nothing, so the tuple may be held for it.
+pub insert-requires : goal.insert-requires
+insert-requires c =
+    let soft : Soft = record { holds = c.self.inside.holds; waits = c.self.inside.waits } in
+    longest_holds_nothing c.args.id c.args.tuple.now soft c.in-Some.request
+    (subst AreApart (sym c.self.view_is) c.requires)
+    (sym c.in_ok-readers.ensures.longest ∙ c.in-Some.is)
 
-pub returns-then-not-is_awaited-clause-soft : goal.returns-then-not-is_awaited-clause-soft
-returns-then-not-is_awaited-clause-soft c =
-    ap (λ t. t.soft) (sym (unawaited_at c.args.id c.args.tuple.now _ c.args.self.now _ c.self.view_is c.is_awaited.ensures c.if-not-is_awaited.true))
+-- The answers to the reads, then the offer.
+pub returns-in_ok-insert-clause-sends : goal.returns-in_ok-insert-clause-sends
+returns-in_ok-insert-clause-sends c =
+    let soft : Soft = record { holds = c.self.inside.holds; waits = c.self.inside.waits } in
+    let told = told_offer c.args.id c.args.tuple.now soft c.in-Some.request (sym c.in_ok-readers.ensures.longest ∙ c.in-Some.is) in
+    subst
+    (λ s. c.push.new.self.items ≡ c.args.sends.now.items ++ (dispatch c.args.id c.args.tuple.now s).sends)
+    c.self.view_is
+    (c.in_ok-push.ensures.items
+    ∙ ap (λ row. c.answer_reads.new.sends.items ++ offer_for c.args.id row c.in-Some.request ∷ []) c.in_ok-tuple.ensures
+    ∙ ap (λ sends. sends ++ offer_for c.args.id c.args.tuple.now c.in-Some.request ∷ [])
+    (c.in_ok-answer_reads.ensures ∙ ap (λ requests. c.args.sends.now.items ++ map (read_for c.args.id c.args.tuple.now) requests) c.in_ok-readers.ensures.readers)
+    ∙ append_assoc c.args.sends.now.items (map (read_for c.args.id c.args.tuple.now) (map (λ w. w.0) (readers c.args.tuple.now soft.waits))) (offer_for c.args.id c.args.tuple.now c.in-Some.request ∷ [])
+    ∙ ap (λ t. c.args.sends.now.items ++ t.sends) (sym told))
+
+-- The answers to the reads alone.
+pub returns-in_default-clause-sends : goal.returns-in_default-clause-sends
+returns-in_default-clause-sends c =
+    let soft : Soft = record { holds = c.self.inside.holds; waits = c.self.inside.waits } in
+    let told = told_reads c.args.id c.args.tuple.now soft (sym c.in_ok-readers.ensures.longest ∙ c.in_default.is) in
+    subst
+    (λ s. c.answer_reads.new.sends.items ≡ c.args.sends.now.items ++ (dispatch c.args.id c.args.tuple.now s).sends)
+    c.self.view_is
+    (c.in_ok-answer_reads.ensures
+    ∙ ap (λ requests. c.args.sends.now.items ++ map (read_for c.args.id c.args.tuple.now) requests) c.in_ok-readers.ensures.readers
+    ∙ ap (λ t. c.args.sends.now.items ++ t.sends) (sym told))

@@ -1,0 +1,37 @@
+//! `linda inspect`: what the store in a folder comes to. Its files are opened for reading alone, and no lock is taken.
+
+mod banks;
+
+use crate::serving::ServingFault;
+use banks::{Banks, read_banks};
+use linda_inspect::{Lists, write_report};
+use linda_server::MAX_LIMIT;
+use std::alloc::Global;
+use std::fs::{File, Files};
+use std::io::Write;
+
+/// Writes what the store in a folder comes to, as `write_report` tells it of the bytes of its two files, of which one
+/// that is missing is empty.
+///
+/// # Errors
+///
+/// As a server tells them that is not kept from the folder by another one: `NoStore`, `Damaged`, `Disk` where the
+/// folder or a file in it cannot be read, `Memory`; `Io` where the output fails. `InUse` where a server went over to
+/// its other bank at each reading.
+pub fn inspect_folder<F: Files<File = File>, W: Write>(
+    files: &F,
+    alloc: Global,
+    writer: &mut W,
+    folder: &str,
+    lists: Lists,
+) -> Result<(), ServingFault> {
+    let Banks { left, right } = read_banks(files, alloc, folder)?;
+    let told = write_report(alloc, writer, left, right, MAX_LIMIT, lists);
+    if writer.flush().is_err() {
+        return Err(ServingFault::Io);
+    }
+    match told {
+        Ok(()) => Ok(()),
+        Err(fault) => Err(ServingFault::from(fault)),
+    }
+}

@@ -1,0 +1,106 @@
+//! The bytes of the two banks of a folder, of one moment, though a server may be at work on them.
+//!
+//! A file is read from the front to its end: a record is there before its gate opens, and stands behind it. Where both
+//! files begin afterwards as they did, no bank was begun anew meanwhile.
+
+use crate::serving::{LEFT, RIGHT, ServingFault};
+use std::alloc::Global;
+use std::fs::{File, Files};
+use std::io;
+use std::io::{ErrorKind, Read};
+
+// How often they are read where a bank is begun anew meanwhile.
+const READINGS: u32 = 100;
+
+// The bytes of a bank that tell which one it is: its gate, four letters and the generation.
+const FRONT: usize = 13;
+
+/// The bytes of both banks; none of a file that is missing.
+#[derive(Drop)]
+pub(super) struct Banks {
+    pub left: Vec<u8>,
+    pub right: Vec<u8>,
+}
+
+/// Reads both banks of a folder.
+///
+/// # Errors
+///
+/// `Disk` where the folder or a file cannot be read; `InUse` where a bank was begun anew at each reading; `Memory`.
+pub(super) fn read_banks<F: Files<File = File>>(
+    files: &F,
+    alloc: Global,
+    folder: &str,
+) -> Result<Banks, ServingFault> {
+    if File::open(files, folder).is_err() {
+        return Err(ServingFault::Disk);
+    }
+    let left_path = format!(in alloc; "{folder}/{LEFT}")?;
+    let right_path = format!(in alloc; "{folder}/{RIGHT}")?;
+    for _ in 0..READINGS {
+        let left = read_bank(files, alloc, &left_path)?;
+        let right = read_bank(files, alloc, &right_path)?;
+        if begins_so(files, &left_path, &left)? && begins_so(files, &right_path, &right)? {
+            return Ok(Banks { left, right });
+        }
+    }
+    Err(ServingFault::InUse)
+}
+
+// The bytes of a file; none where it is missing.
+fn read_bank<F: Files<File = File>>(
+    files: &F,
+    alloc: Global,
+    path: &str,
+) -> Result<Vec<u8>, ServingFault> {
+    let mut bytes = Vec::new(alloc);
+    let Some(mut file) = open_bank(files, path)? else {
+        return Ok(bytes);
+    };
+    match file.read_to_end(&mut bytes) {
+        Ok(_) => Ok(bytes),
+        Err(error) => Err(fault_of(&error)),
+    }
+}
+
+// Whether a file begins with what these bytes begin with.
+fn begins_so<F: Files<File = File>>(
+    files: &F,
+    path: &str,
+    bytes: &[u8],
+) -> Result<bool, ServingFault> {
+    let Some(mut file) = open_bank(files, path)? else {
+        return Ok(bytes.is_empty());
+    };
+    let mut front = [0; FRONT];
+    match file.read(&mut front) {
+        Ok(count) => Ok(bytes.get(..count) == Some(&front[..count]) && ends_so(count, bytes)),
+        Err(error) => Err(fault_of(&error)),
+    }
+}
+
+// Whether so many bytes of a front are all of it.
+fn ends_so(count: usize, bytes: &[u8]) -> bool {
+    count == FRONT || count == bytes.len()
+}
+
+// The file, opened for reading; None where it is missing.
+fn open_bank<F: Files<File = File>>(files: &F, path: &str) -> Result<Option<File>, ServingFault> {
+    match File::open(files, path) {
+        Ok(file) => Ok(Some(file)),
+        Err(error) => {
+            if error.kind() == ErrorKind::NotFound {
+                return Ok(None);
+            }
+            Err(fault_of(&error))
+        }
+    }
+}
+
+// What is told where a file was not read.
+fn fault_of(error: &io::Error) -> ServingFault {
+    if error.kind() == ErrorKind::OutOfMemory {
+        return ServingFault::Memory;
+    }
+    ServingFault::Disk
+}

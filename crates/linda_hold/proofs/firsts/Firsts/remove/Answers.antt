@@ -1,0 +1,10 @@
+use Rattle.std.proofs.Common.{refl}
+use Rattle.linda_hold.specs.Firsts.{int_of, other_of}
+use Rattle.linda_bag.proofs.Refiling.{refiled_as}
+use Rattle.linda_hold.proofs.firsts.Firsts.remove.Goals as goal
+
+pub returns : goal.returns
+returns c = λ rows there known. (
+  refiled_as _ _ int_of c.args.self.now.ints c.unfile_if_any.new.firsts _ _ _ _ _ c.int_place.ensures refl c.unfile_if_any.ensures rows there known.0,
+  refiled_as _ _ other_of c.args.self.now.others c.unfile_if_any-2.new.firsts _ _ _ _ _ c.other_place.ensures refl c.unfile_if_any-2.ensures rows there known.1,
+)

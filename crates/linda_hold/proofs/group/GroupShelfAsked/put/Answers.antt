@@ -1,0 +1,34 @@
+use Rattle.std.proofs.Common.{Some, true, false, is_some, Result, Ok, Err, sym, ap, subst, ◌∙◌}
+use Rattle.std.specs.Result.{OnErr}
+use Rattle.std.specs.Option.{option_copied}
+use Rattle.linda_bag.specs.Filing.{HasIds}
+use Rattle.linda_bag.proofs.Refiling.{same_rows}
+use Rattle.linda_hold.specs.Group.{if_unkeyed, unkeyed_of}
+use Rattle.linda_hold.proofs.Beginning.{unkeyed_with, unfiled}
+use Rattle.linda_hold.proofs.group.GroupShelfAsked.put.Goals as goal
+
+on_err_there : {T E P : Type 0} (r : Result T E) → P → OnErr r P
+on_err_there (Ok t) p = tt
+on_err_there (Err e) p = p
+
+pub returns-in_err-put-in-Some-clause-err : goal.returns-in_err-put-in-Some-clause-err
+returns-in_err-put-in-Some-clause-err c = on_err_there c.from_residual.result (λ rows there known. (
+  c.in_err-put-in-Some.ensures.err rows there known.0,
+  subst (λ rs. HasIds c.args.self.now.unkeyed (unkeyed_of rs)) (sym (same_rows rows c.args.id _ there)) known.1,
+))
+
+pub returns-in_ok-put-in-Some-clause-ok : goal.returns-in_ok-put-in-Some-clause-ok
+returns-in_ok-put-in-Some-clause-ok c = λ rows there known.
+    let first = ap option_copied (sym c.in-Some.is) ∙ c.first.ensures in (
+      c.in_ok-put-in-Some.ensures.ok rows there known.0,
+      unkeyed_with c.args.self.now.unkeyed c.remove.new.self rows c.args.id (Some c.args.new.now) false known.1 c.remove.ensures.updates.0
+          (ap (λ f. is_some (if_unkeyed f c.args.new.now)) first),
+    )
+
+pub returns-in_ok-insert-in-None-clause-ok : goal.returns-in_ok-insert-in-None-clause-ok
+returns-in_ok-insert-in-None-clause-ok c = λ rows there known.
+    let none = ap option_copied (sym c.in-None.is) ∙ c.first.ensures in (
+      unfiled c.remove-in-None.new.self rows c.args.id c.args.new.now (sym none) (c.remove-in-None.ensures rows there known.0),
+      unkeyed_with c.args.self.now.unkeyed c.insert.new.self rows c.args.id (Some c.args.new.now) true known.1 c.in_ok-insert-in-None.ensures.updates.0
+          (ap (λ f. is_some (if_unkeyed f c.args.new.now)) none),
+    )

@@ -1,0 +1,36 @@
+-- Requests that ask for tuples of one tag and one number of fields: which of them a tuple may answer, by its
+-- first field.
+use Rattle.std.specs.Prelude.{Bool, ◌||◌, Option, None, Some}
+use Rattle.std.specs.Option.{is_some}
+use Rattle.linda_tuple.specs.declared.atom.Atom.{Atom}
+use Rattle.linda_tuple.specs.contracts.atom.AtomOrd.TheImpl as atom_ord
+use Rattle.linda_bag.specs.Filing.{Rows, HasIds, row_at, placed}
+use Rattle.linda_hold.specs.declared.asks.Asked.{Asked}
+use Rattle.linda_hold.specs.declared.group.Group.{Group}
+use Rattle.linda_hold.specs.Firsts.{HasFirsts, first_of}
+
+-- the request, if its template begins with no value
+abbrev pub if_unkeyed : Option Atom → Asked → Option Asked
+if_unkeyed None asked = Some asked
+if_unkeyed (Some v) asked = None
+
+abbrev pub unkeyed_at : Option Asked → Option Asked
+unkeyed_at None = None
+unkeyed_at (Some asked) = if_unkeyed (first_of asked) asked
+
+abbrev pub unkeyed_of : Rows Asked → Rows Asked
+unkeyed_of asked q = unkeyed_at (asked q)
+
+-- the request, if its template begins with this value
+abbrev pub keyed_at : Option Atom → Option Asked → Option Asked
+keyed_at None asked = None
+keyed_at (Some v) asked = row_at atom_ord.ghosts.cmp v (placed first_of asked)
+
+-- whether there is a request that a tuple with this first field may answer
+abbrev pub is_reached : Option Atom → Option Asked → Bool
+is_reached first asked = is_some (keyed_at first asked) || is_some (unkeyed_at asked)
+
+-- Each number is filed under the value that the template of its request begins with, or is with the others.
+abbrev pub HasGroup : Group → Rows Asked → Type 0
+HasGroup group asked =
+    HasFirsts group.firsts asked × HasIds group.unkeyed (unkeyed_of asked)

@@ -1,0 +1,2 @@
+mod ReportLaws
+mod WholeLaws

@@ -1,0 +1,17 @@
+//! What the two banks of a store come to, told from their bytes alone and with no write: which one stands and why, its
+//! form, how much it keeps and takes, its tuples and clients; or what is damaged, and what is whole before that.
+//!
+//! `write_report` ends well exactly where a server would open such banks, unless memory runs out or the output fails:
+//! where a state stands on them, or both are empty. Else it tells the fault that the server would tell.
+#![tactic(auto)]
+
+mod fault;
+mod listing;
+mod output;
+mod report;
+mod side;
+mod whole;
+
+pub use fault::{InspectFault, OutputFault};
+pub use listing::Lists;
+pub use report::write_report;
