@@ -1,6 +1,6 @@
 //! How a row makes its worlds.
 
-ghost use Rattle.std.specs.Prelude.{◌≡◌, ◌≤◌, All, IfOk, length, map};
+ghost use Rattle.std.specs.Prelude.{◌≡◌, ◌≤◌, All, IfOk, IfSome, length, map};
 ghost use Rattle.linda_client.specs.declared.limits.TheConstants.{MAX_SERVERS};
 ghost use Rattle.linda_run.specs.Reached.{IsUnused};
 
@@ -129,10 +129,25 @@ fn durable_nodes(
 {
     let left = new_disk(alloc, disks.left);
     let right = new_disk(alloc, disks.right);
-    let mut nodes = Vec::new(alloc);
-    nodes.push(unused_node(alloc, left, right, disks.limit)?)?;
+    let first = unused_node(alloc, left, right, disks.limit)?;
     if two {
-        nodes.push(another_node(alloc)?)?;
+        return nodes_of(alloc, first, Some(another_node(alloc)?));
+    }
+    nodes_of(alloc, first, None)
+}
+
+/// The first server, and behind it the other one if there is one.
+fn nodes_of<N: Node>(alloc: Global, first: N, other: Option<N>) -> Result<Vec<N>, AllocError>
+    requires first { IsUnused (N.shown first) }
+    requires other { IfSome other (λ n. IsUnused (N.shown n)) }
+    ensures some { IfOk result (λ v. 1 ≤ length v.items) }
+    ensures few { IfOk result (λ v. length v.items ≤ MAX_SERVERS) }
+    ensures unused { IfOk result (λ v. All IsUnused (map (λ n. N.shown n) v.items)) }
+{
+    let mut nodes = Vec::new(alloc);
+    nodes.push(first)?;
+    if let Some(node) = other {
+        nodes.push(node)?;
     }
     Ok(nodes)
 }
