@@ -28,7 +28,7 @@ pub(crate) fn serve_one(
         ((client, message.now) ∷ []) served store.new.state store.new.soft) }
     ensures unspent { OnOk result (store.new.is_spent ≡ false) }
 {
-    let mut served = none(alloc, 1)?;
+    let mut served = none(alloc);
     add(&mut served, store, alloc, client, message)?;
     Ok(served)
 }
@@ -48,15 +48,28 @@ pub(crate) fn serve_each(
         served store.new.state store.new.soft) }
     ensures unspent { OnOk result (store.new.is_spent ≡ false) }
 {
-    let mut served = none(alloc, messages.len())?;
+    let mut served = none_of(alloc, messages.len())?;
     for message in messages {
         add(&mut served, store, alloc, message.0, &message.1)?;
     }
     Ok(served)
 }
 
+// Nothing was served yet. Takes no memory.
+fn none(alloc: Global) -> Served
+    ensures deeds { result.deeds.items ≡ [] }
+    ensures sends { result.sends.items ≡ [] }
+    ensures shares { result.shares.items ≡ [] }
+{
+    Served {
+        deeds: Vec::new(alloc),
+        sends: Vec::new(alloc),
+        shares: Vec::new(alloc),
+    }
+}
+
 // Nothing was served yet; there is room for what so many messages mostly lead to.
-fn none(alloc: Global, messages: usize) -> Result<Served, AllocError>
+fn none_of(alloc: Global, messages: usize) -> Result<Served, AllocError>
     ensures deeds { IfOk result (λ served. served.deeds.items ≡ []) }
     ensures sends { IfOk result (λ served. served.sends.items ≡ []) }
     ensures shares { IfOk result (λ served. served.shares.items ≡ []) }

@@ -7,5 +7,5 @@ pub returns-clause-ok : goal.returns-clause-ok
 returns-clause-ok c =
     let st = c.args.store.now.state in
     let soft = c.args.store.now.soft in
-    served_more st soft [] c.in_ok-served.served c.add.new.served st soft c.args.client c.args.message.now c.add.new.store.state c.add.new.store.soft
-    (none_served st soft c.in_ok-served.served c.in_ok-served.ensures.deeds c.in_ok-served.ensures.sends c.in_ok-served.ensures.shares) c.in_ok-add.ensures.ok
+    served_more st soft [] c.none-served.result c.add.new.served st soft c.args.client c.args.message.now c.add.new.store.state c.add.new.store.soft
+    (none_served st soft c.none-served.result c.none-served.ensures.deeds c.none-served.ensures.sends c.none-served.ensures.shares) c.in_ok-add.ensures.ok
