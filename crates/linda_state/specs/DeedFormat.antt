@@ -1,4 +1,4 @@
--- The format of deeds in each of the two forms: the one spelling of each in bytes, which deeds have one, and the reader.
+-- The format of deeds in each of the two forms: the one spelling of each, which deeds have one, and the reader.
 use Rattle.std.specs.Prelude.{ℕ, List, [], ◌∷◌}
 use Rattle.std.specs.List.{flat_map}
 use Rattle.linda_tuple.specs.declared.form.Form.{Form}
