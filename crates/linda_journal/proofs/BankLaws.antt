@@ -5,6 +5,7 @@ use Rattle.std.proofs.lemmas.Grind.{flat_map-append}
 use Rattle.std.proofs.lemmas.List.{append-nil}
 use Rattle.std.proofs.lemmas.List.Elements.{All-nil}
 use Rattle.linda_state.specs.declared.deed.Deed.{Deed}
+use Rattle.linda_state.specs.DeedFormat.{written}
 use Rattle.linda_disk.specs.declared.fault.DiskFault.{DiskFault}
 use Rattle.linda_disk.specs.View.{View, IsTimed}
 use Rattle.linda_disk.specs.Disk.{Syncs}
@@ -19,55 +20,55 @@ use Rattle.linda_journal.proofs.PayloadLaws.{all_with}
 
 -- What stands before the closed gate at the end.
 abbrev pub whole : ℕ → List ℕ → List (List Deed) → List ℕ
-whole generation body records = head generation body ++ spell_records records
+whole generation body records = head generation body ++ spell_records written records
 
 module _ (generation : ℕ) (body : List ℕ) (records : List (List Deed)) where
   -- With one record more.
-  pub whole_with : (ds : List Deed) → whole generation body records ++ OPEN ∷ record_body ds ≡ whole generation body (records ++ ds ∷ [])
+  pub whole_with : (ds : List Deed) → whole generation body records ++ OPEN ∷ record_body written ds ≡ whole generation body (records ++ ds ∷ [])
   whole_with ds =
-      append_assoc (head generation body) (spell_records records) (OPEN ∷ record_body ds)
-      ∙ ap (λ l. head generation body ++ (spell_records records ++ l)) (sym (append-nil (spell_record ds)))
-      ∙ ap (λ l. head generation body ++ l) (sym (flat_map-append spell_record records (ds ∷ [])))
+      append_assoc (head generation body) (spell_records written records) (OPEN ∷ record_body written ds)
+      ∙ ap (λ l. head generation body ++ (spell_records written records ++ l)) (sym (append-nil (spell_record written ds)))
+      ∙ ap (λ l. head generation body ++ l) (sym (flat_map-append (spell_record written) records (ds ∷ [])))
 
   -- A bank's file closes behind its records,
   pub shut_of : (end : ℕ) (v : View) → IsSettled generation body records end v → IsShut (whole generation body records) end v
   shut_of end v settled =
       let journal = settled.file.journal in
       record {
-        place = length-append (head generation body) (spell_records records) ∙ settled.place;
+        place = length-append (head generation body) (spell_records written records) ∙ settled.place;
         file = record {
           gate = journal.gate;
           rest = journal.rest;
-          parts = settled.file.parts ∙ ap (λ l. head generation body ++ l) journal.parts ∙ sym (append_assoc (head generation body) (spell_records records) (journal.gate ∷ journal.rest));
+          parts = settled.file.parts ∙ ap (λ l. head generation body ++ l) journal.parts ∙ sym (append_assoc (head generation body) (spell_records written records) (journal.gate ∷ journal.rest));
           closed = journal.closed;
         };
         durable = settled.durable;
       }
 
   -- and a file that closes so is the bank.
-  pub bank_of : (other : List (List Deed)) (seen file : List ℕ) → IsBank seen generation body other → All IsRecord records → ClosesAfter (whole generation body records) file → IsBank file generation body records
+  pub bank_of : (other : List (List Deed)) (seen file : List ℕ) → IsBank seen generation body other → All (IsRecord written) records → ClosesAfter (whole generation body records) file → IsBank file generation body records
   bank_of other seen file bank good closes = record {
     low = bank.low;
     fits = bank.fits;
     short = bank.short;
-    rest = spell_records records ++ closes.gate ∷ closes.rest;
-    parts = closes.parts ∙ append_assoc (head generation body) (spell_records records) (closes.gate ∷ closes.rest);
+    rest = spell_records written records ++ closes.gate ∷ closes.rest;
+    parts = closes.parts ∙ append_assoc (head generation body) (spell_records written records) (closes.gate ∷ closes.rest);
     journal = record { gate = closes.gate; rest = closes.rest; parts = refl; closed = closes.closed; good = good };
   }
 
 -- One record more on a settled bank.
-module _ (generation : ℕ) (body : List ℕ) (records : List (List Deed)) (ds : List Deed) (end : ℕ) (old : View) (settled : IsSettled generation body records end old) (one : IsRecord ds) where
-  good : All IsRecord records
+module _ (generation : ℕ) (body : List ℕ) (records : List (List Deed)) (ds : List Deed) (end : ℕ) (old : View) (settled : IsSettled generation body records end old) (one : IsRecord written ds) where
+  good : All (IsRecord written) records
   good = settled.file.journal.good
 
   old_one : (file : List ℕ) → ClosesAfter (whole generation body records) file → IsOldOrMore generation body records ds file
   old_one file closes = inl (bank_of generation body records records old.seen file settled.file good closes)
 
-  more : (file : List ℕ) → ClosesAfter (whole generation body records ++ OPEN ∷ record_body ds) file → IsBank file generation body (records ++ ds ∷ [])
+  more : (file : List ℕ) → ClosesAfter (whole generation body records ++ OPEN ∷ record_body written ds) file → IsBank file generation body (records ++ ds ∷ [])
   more file closes =
-      bank_of generation body (records ++ ds ∷ []) records old.seen file settled.file (all_with IsRecord records ds good one) (subst (λ l. ClosesAfter l file) (whole_with generation body records ds) closes)
+      bank_of generation body (records ++ ds ∷ []) records old.seen file settled.file (all_with (IsRecord written) records ds good one) (subst (λ l. ClosesAfter l file) (whole_with generation body records ds) closes)
 
-  either_one : (file : List ℕ) → IsClosedOrOpened (whole generation body records) (record_body ds) file → IsOldOrMore generation body records ds file
+  either_one : (file : List ℕ) → IsClosedOrOpened (whole generation body records) (record_body written ds) file → IsOldOrMore generation body records ds file
   either_one file (inl closes) = old_one file closes
   either_one file (inr closes) = inr (more file closes)
 
@@ -76,17 +77,17 @@ module _ (generation : ℕ) (body : List ℕ) (records : List (List Deed)) (ds :
   staging mid run = weaker old mid (ClosesAfter (whole generation body records)) (IsOldOrMore generation body records ds) run old_one
 
   -- And while its gate is opened.
-  pub opening : (mid new : View) → LeavesOnly old mid (ClosesAfter (whole generation body records)) → LeavesOnly mid new (IsClosedOrOpened (whole generation body records) (record_body ds)) → LeavesOnly old new (IsOldOrMore generation body records ds)
+  pub opening : (mid new : View) → LeavesOnly old mid (ClosesAfter (whole generation body records)) → LeavesOnly mid new (IsClosedOrOpened (whole generation body records) (record_body written ds)) → LeavesOnly old new (IsOldOrMore generation body records ds)
   opening mid new first second =
-      joined old mid new (ClosesAfter (whole generation body records)) (IsClosedOrOpened (whole generation body records) (record_body ds)) (IsOldOrMore generation body records ds) first second old_one either_one
+      joined old mid new (ClosesAfter (whole generation body records)) (IsClosedOrOpened (whole generation body records) (record_body written ds)) (IsOldOrMore generation body records ds) first second old_one either_one
 
   -- When it is open.
-  pub settled_with : (new : View) (new_end : ℕ) → new_end ≡ end + length (spell_record ds) → IsShut (whole generation body records ++ OPEN ∷ record_body ds) (end + 1 + length (record_body ds)) new → IsSettled generation body (records ++ ds ∷ []) new_end new
+  pub settled_with : (new : View) (new_end : ℕ) → new_end ≡ end + length (spell_record written ds) → IsShut (whole generation body records ++ OPEN ∷ record_body written ds) (end + 1 + length (record_body written ds)) new → IsSettled generation body (records ++ ds ∷ []) new_end new
   settled_with new new_end end_is shut =
-      let place : length (whole generation body (records ++ ds ∷ [])) ≡ new_end = sym (ap length (whole_with generation body records ds)) ∙ shut.place ∙ sum end (length (record_body ds)) ∙ sym end_is in
+      let place : length (whole generation body (records ++ ds ∷ [])) ≡ new_end = sym (ap length (whole_with generation body records ds)) ∙ shut.place ∙ sum end (length (record_body written ds)) ∙ sym end_is in
       record {
         file = more new.seen shut.file;
-        place = sym (length-append (head generation body) (spell_records (records ++ ds ∷ []))) ∙ place;
+        place = sym (length-append (head generation body) (spell_records written (records ++ ds ∷ []))) ∙ place;
         durable = shut.durable;
       }
     where
@@ -108,7 +109,7 @@ new_one generation body file low fits short closes = record {
   short = short;
   rest = closes.gate ∷ closes.rest;
   parts = closes.parts;
-  journal = record { gate = closes.gate; rest = closes.rest; parts = refl; closed = closes.closed; good = All-nil IsRecord };
+  journal = record { gate = closes.gate; rest = closes.rest; parts = refl; closed = closes.closed; good = All-nil (IsRecord written) };
 }
 
 pub none_or_new : (generation : ℕ) (body : List ℕ) → 1 ≤ generation → generation < 2 ^ 64 → length body < 2 ^ 32 → (file : List ℕ) → IsLaid (behind_gate generation body) file → IsNoneOrNew generation body file

@@ -6,6 +6,7 @@ use Rattle.linda_codec.specs.Lawful.{IsBytes}
 use Rattle.linda_codec.proofs.FormatLaws.{short_number_is, number_is}
 use Rattle.linda_codec.proofs.Takes.{IsBytes-drop}
 use Rattle.linda_state.specs.declared.deed.Deed.{Deed}
+use Rattle.linda_state.specs.DeedFormat.{written}
 use Rattle.linda_journal.specs.declared.kinds.TheConstants.{OPEN}
 use Rattle.linda_journal.specs.declared.limits.TheConstants.{LENGTH_PLACE, MIN_BYTES}
 use Rattle.linda_journal.specs.declared.heading.Heading.TheVariants as headings
@@ -71,13 +72,13 @@ parts_of file rest g len behind fits heading told room =
     plain : (n : ℕ) → MIN_BYTES + n - MIN_BYTES ≡ n
     plain n = omega arith
 
-pub bank_there : (file rest : List ℕ) (g len : ℕ) (behind : List ℕ) (records : List (List Deed)) → IsBytes file → 1 ≤ g → g < 2 ^ 64 → file ≡ headed g rest → short_number.read (drop LENGTH_PLACE file) ≡ Ok (len, behind) → len < length behind → IsJournal (drop (MIN_BYTES + len) file) records
+pub bank_there : (file rest : List ℕ) (g len : ℕ) (behind : List ℕ) (records : List (List Deed)) → IsBytes file → 1 ≤ g → g < 2 ^ 64 → file ≡ headed g rest → short_number.read (drop LENGTH_PLACE file) ≡ Ok (len, behind) → len < length behind → IsJournal written (drop (MIN_BYTES + len) file) records
     → IsBank file g (take (MIN_BYTES + len - MIN_BYTES) (drop MIN_BYTES file)) records
 bank_there file rest g len behind records fits low high heading told room journal =
     let p = parts_of file rest g len behind fits heading told room in
-    subst (λ b. IsBank file g b records) (sym p.told) (record { low = low; fits = high; short = p.short; rest = p.rest; parts = p.parts; journal = subst (λ l. IsJournal l records) p.journal journal })
+    subst (λ b. IsBank file g b records) (sym p.told) (record { low = low; fits = high; short = p.short; rest = p.rest; parts = p.parts; journal = subst (λ l. IsJournal written l records) p.journal journal })
 
-pub broken_there : (file rest : List ℕ) (g len : ℕ) (behind : List ℕ) (offset place : ℕ) → IsBytes file → 1 ≤ g → g < 2 ^ 64 → file ≡ headed g rest → short_number.read (drop LENGTH_PLACE file) ≡ Ok (len, behind) → len < length behind → offset ≡ MIN_BYTES + len + place → IsDamaged (drop (MIN_BYTES + len) file) place
+pub broken_there : (file rest : List ℕ) (g len : ℕ) (behind : List ℕ) (offset place : ℕ) → IsBytes file → 1 ≤ g → g < 2 ^ 64 → file ≡ headed g rest → short_number.read (drop LENGTH_PLACE file) ≡ Ok (len, behind) → len < length behind → offset ≡ MIN_BYTES + len + place → IsDamaged written (drop (MIN_BYTES + len) file) place
     → IsFaultOfBank file (faults.Damaged offset)
 broken_there file rest g len behind offset place fits low high heading told room offset_is damaged =
     let p = parts_of file rest g len behind fits heading told room in
@@ -90,7 +91,7 @@ broken_there file rest g len behind offset place fits low high heading told room
       fits = high;
       short = p.short;
       parts = p.parts;
-      damaged = subst (λ l. IsDamaged l place) p.journal damaged;
+      damaged = subst (λ l. IsDamaged written l place) p.journal damaged;
       offset_is = offset_is ∙ ap (λ n. n + place) (sym p.place);
     })
 
@@ -111,13 +112,13 @@ heads_apart g h b c x y fits_g fits_h fits_b fits_c e =
 pub one_bank : (file : List ℕ) (g h : ℕ) (b c : List ℕ) (rs qs : List (List Deed)) → IsBank file g b rs → IsBank file h c qs → (g ≡ h) × (b ≡ c) × (rs ≡ qs)
 one_bank file g h b c rs qs one two =
     let same = heads_apart g h b c one.rest two.rest one.fits two.fits one.short two.short (sym one.parts ∙ two.parts) in
-    (same.0, same.1, one_journal two.rest rs qs (subst (λ l. IsJournal l rs) same.2 one.journal) two.journal)
+    (same.0, same.1, one_journal written two.rest rs qs (subst (λ l. IsJournal written l rs) same.2 one.journal) two.journal)
 
 -- or broken, and never both.
 pub not_broken : (file : List ℕ) (g : ℕ) (b : List ℕ) (rs : List (List Deed)) (offset : ℕ) → IsBank file g b rs → IsBroken file offset → ⊥
 not_broken file g b rs offset one two =
     let same = heads_apart g two.generation b two.body one.rest two.rest one.fits two.fits one.short two.short (sym one.parts ∙ two.parts) in
-    not_both two.rest rs two.place (subst (λ l. IsJournal l rs) same.2 one.journal) two.damaged
+    not_both written two.rest rs two.place (subst (λ l. IsJournal written l rs) same.2 one.journal) two.damaged
 
 -- A bank begins as one.
 pub is_candidate : (file : List ℕ) (g : ℕ) (b : List ℕ) (rs : List (List Deed)) → IsBank file g b rs → IsCandidate file
@@ -139,18 +140,18 @@ only_faults file g b rs (faults.Damaged offset) bank told =
     by (inl foreign) = absurd (foreign.0.1 g (short_number.spell (length b) ++ b ++ bank.rest) bank.low bank.fits (bank.parts))
     by (inr (inl cut)) =
         let journal = bank.journal in
-        let n : length bank.rest ≡ length (spell_records rs ++ journal.gate ∷ journal.rest) = ap length journal.parts in
-        absurd (cut.0.never g b bank.rest bank.short (omega (arith, n, length-append (spell_records rs) (journal.gate ∷ journal.rest))) bank.parts)
+        let n : length bank.rest ≡ length (spell_records written rs ++ journal.gate ∷ journal.rest) = ap length journal.parts in
+        absurd (cut.0.never g b bank.rest bank.short (omega (arith, n, length-append (spell_records written rs) (journal.gate ∷ journal.rest))) bank.parts)
     by (inr (inr broken)) = absurd (not_broken file g b rs offset bank broken)
 
 -- ---- a bank that was read from its disk
 
-record_some : (rs : List (List Deed)) → length rs ≤ length (spell_records rs)
+record_some : (rs : List (List Deed)) → length rs ≤ length (spell_records written rs)
 record_some [] = omega arith
-record_some (ds ∷ rs) = omega (arith, record_some rs, length-append (spell_record ds) (spell_records rs))
+record_some (ds ∷ rs) = omega (arith, record_some rs, length-append (spell_record written ds) (spell_records written rs))
 
 -- There are no more records than bytes before the end.
-pub counted : (rs : List Record) (at end : ℕ) → end ≡ at + length (spell_records (deeds_of rs)) → length rs ≤ end
+pub counted : (rs : List Record) (at end : ℕ) → end ≡ at + length (spell_records written (deeds_of rs)) → length rs ≤ end
 counted rs at end e = omega (arith, e, record_some (deeds_of rs), length-map rs (λ (r : Record). r.deeds.items))
 
 -- The end is within the file.
@@ -158,11 +159,11 @@ pub end_within : (g : ℕ) (body : List ℕ) (rs : List (List Deed)) (end : ℕ)
 end_within g body rs end v settled =
     let journal = settled.file.journal in
     let n : length v.seen ≡ length (head g body ++ settled.file.rest) = ap length settled.file.parts in
-    let m : length settled.file.rest ≡ length (spell_records rs ++ journal.gate ∷ journal.rest) = ap length journal.parts in
-    omega (arith, n, m, settled.place, length-append (head g body) settled.file.rest, length-append (spell_records rs) (journal.gate ∷ journal.rest))
+    let m : length settled.file.rest ≡ length (spell_records written rs ++ journal.gate ∷ journal.rest) = ap length journal.parts in
+    omega (arith, n, m, settled.place, length-append (head g body) settled.file.rest, length-append (spell_records written rs) (journal.gate ∷ journal.rest))
 
 -- What was read of it.
-pub settled_there : (bytes : List ℕ) (g at end : ℕ) (rs : List (List Deed)) (v : View) → IsBank bytes g (take (at - MIN_BYTES) (drop MIN_BYTES bytes)) rs → MIN_BYTES ≤ at → at < length bytes → end ≡ at + length (spell_records rs) → v.seen ≡ bytes → IsDurable v
+pub settled_there : (bytes : List ℕ) (g at end : ℕ) (rs : List (List Deed)) (v : View) → IsBank bytes g (take (at - MIN_BYTES) (drop MIN_BYTES bytes)) rs → MIN_BYTES ≤ at → at < length bytes → end ≡ at + length (spell_records written rs) → v.seen ≡ bytes → IsDurable v
     → IsSettled g (take (at - MIN_BYTES) (drop MIN_BYTES bytes)) rs end v
 settled_there bytes g at end rs v bank low room end_is same durable = record {
   file = subst (λ f. IsBank f g (take (at - MIN_BYTES) (drop MIN_BYTES bytes)) rs) (sym same) bank;

@@ -8,6 +8,7 @@ use Rattle.linda_codec.specs.Lawful.{IsBytes}
 use Rattle.linda_codec.specs.Steps.{Read, left_by}
 use Rattle.linda_codec.proofs.SkipLaws.{is_fault}
 use Rattle.linda_codec.proofs.Takes.{IsBytes-drop}
+use Rattle.linda_tuple.specs.declared.form.Form.{Form}
 use Rattle.linda_state.specs.declared.deed.Deed.{Deed}
 use Rattle.linda_journal.specs.declared.limits.TheConstants.{MAX_DEEDS}
 use Rattle.linda_journal.specs.Records.{deed, spell_deed, FitsDeed, payload, IsRecord, IsPayloadOf, IsNoPayload}
@@ -15,8 +16,8 @@ use Rattle.linda_journal.proofs.Apart.{IsApart, format_apart, first_ones}
 use Rattle.linda_journal.proofs.DeedLaws.{deed_is}
 use Rattle.linda_journal.proofs.SizeLaws.{deed_some}
 
-pub deeds_apart : IsApart spell_deed FitsDeed
-deeds_apart = format_apart deed_is
+pub deeds_apart : (form : Form) → IsApart (spell_deed form) (FitsDeed form)
+deeds_apart form = format_apart (deed_is form)
 
 -- One item more of a list, each of which has a fact.
 pub all_with : {A : Type 0} (P : A → Type 0) (xs : List A) (x : A) → All P xs → P x → All P (xs ++ x ∷ [])
@@ -29,38 +30,38 @@ all_up_to P xs i x lt is so_far one =
     subst (All P) (sym front) (all_with P (take i xs) x so_far one)
 
 -- The spelling of one deed more, appended.
-pub payload_up_to : (ds : List Deed) (i : ℕ) (d : Deed) (start so_far : List ℕ) → i < length ds → d ≡ get_or ds i d → so_far ≡ start ++ payload (take i ds) → so_far ++ spell_deed d ≡ start ++ payload (take (i + 1) ds)
-payload_up_to ds i d start so_far lt is before =
+pub payload_up_to : (form : Form) (ds : List Deed) (i : ℕ) (d : Deed) (start so_far : List ℕ) → i < length ds → d ≡ get_or ds i d → so_far ≡ start ++ payload form (take i ds) → so_far ++ spell_deed form d ≡ start ++ payload form (take (i + 1) ds)
+payload_up_to form ds i d start so_far lt is before =
     let front : take (i + 1) ds ≡ take i ds ++ d ∷ [] = take_more ds i d lt ∙ ap (λ y. take i ds ++ y ∷ []) (sym is) in
-    ap (λ l. l ++ spell_deed d) before
-    ∙ append_assoc start (payload (take i ds)) (spell_deed d)
-    ∙ ap (λ l. start ++ l) (flat_map_more spell_deed [] (take i ds) d)
-    ∙ ap (λ l. start ++ payload l) (sym front)
+    ap (λ l. l ++ spell_deed form d) before
+    ∙ append_assoc start (payload form (take i ds)) (spell_deed form d)
+    ∙ ap (λ l. start ++ l) (flat_map_more (spell_deed form) [] (take i ds) d)
+    ∙ ap (λ l. start ++ payload form l) (sym front)
 
 -- ---- while deeds are counted
 
 -- These deeds stand at the front of the bytes, and that is left.
-pub record IsReadTo (bytes : List ℕ) (ds : List Deed) (rest : List ℕ) : Type 0 where
-  pub parts : bytes ≡ payload ds ++ rest
-  pub fits : All FitsDeed ds
+pub record IsReadTo (form : Form) (bytes : List ℕ) (ds : List Deed) (rest : List ℕ) : Type 0 where
+  pub parts : bytes ≡ payload form ds ++ rest
+  pub fits : All (FitsDeed form) ds
   pub few : length ds ≤ MAX_DEEDS
 
 -- So many deeds do.
-pub record IsCountedTo (bytes : List ℕ) (count : ℕ) (rest : List ℕ) : Type 0 where
+pub record IsCountedTo (form : Form) (bytes : List ℕ) (count : ℕ) (rest : List ℕ) : Type 0 where
   pub deeds : List Deed
-  pub read : IsReadTo bytes deeds rest
+  pub read : IsReadTo form bytes deeds rest
   pub count_is : length deeds ≡ count
 
-pub none_counted : (bytes : List ℕ) → IsCountedTo bytes 0 bytes
-none_counted bytes = record { deeds = []; read = record { parts = refl; fits = All-nil FitsDeed; few = omega arith }; count_is = refl }
+pub none_counted : (form : Form) (bytes : List ℕ) → IsCountedTo form bytes 0 bytes
+none_counted form bytes = record { deeds = []; read = record { parts = refl; fits = All-nil (FitsDeed form); few = omega arith }; count_is = refl }
 
-one_deed_more : (bytes : List ℕ) (ds : List Deed) (rest : List ℕ) (d : Deed) (after : List ℕ) → IsReadTo bytes ds rest → IsBytes bytes → length ds < MAX_DEEDS → deed.read rest ≡ Ok (d, after) → IsReadTo bytes (ds ++ d ∷ []) after
-one_deed_more bytes ds rest d after so_far fits lt e =
-    let left : drop (length (payload ds)) bytes ≡ rest = ap (drop (length (payload ds))) so_far.parts ∙ drop_at (payload ds) rest (length (payload ds)) refl in
-    let t = deed_is.takes rest (d, after) (subst IsBytes left (IsBytes-drop (length (payload ds)) bytes fits)) e in
+one_deed_more : (form : Form) (bytes : List ℕ) (ds : List Deed) (rest : List ℕ) (d : Deed) (after : List ℕ) → IsReadTo form bytes ds rest → IsBytes bytes → length ds < MAX_DEEDS → (deed form).read rest ≡ Ok (d, after) → IsReadTo form bytes (ds ++ d ∷ []) after
+one_deed_more form bytes ds rest d after so_far fits lt e =
+    let left : drop (length (payload form ds)) bytes ≡ rest = ap (drop (length (payload form ds))) so_far.parts ∙ drop_at (payload form ds) rest (length (payload form ds)) refl in
+    let t = (deed_is form).takes rest (d, after) (subst IsBytes left (IsBytes-drop (length (payload form ds)) bytes fits)) e in
     record {
-      parts = so_far.parts ∙ ap (λ r. payload ds ++ r) t.0.parts ∙ sym (append_assoc (payload ds) (spell_deed d) after) ∙ ap (λ s. s ++ after) (flat_map_more spell_deed [] ds d);
-      fits = all_with FitsDeed ds d so_far.fits t.1;
+      parts = so_far.parts ∙ ap (λ r. payload form ds ++ r) t.0.parts ∙ sym (append_assoc (payload form ds) (spell_deed form d) after) ∙ ap (λ s. s ++ after) (flat_map_more (spell_deed form) [] ds d);
+      fits = all_with (FitsDeed form) ds d so_far.fits t.1;
       few = omega (arith, lt, length-append ds (d ∷ []));
     }
 
@@ -72,91 +73,91 @@ read_before : {A : Type 0} (read : Read A) (after : List ℕ) → left_by read �
 read_before {A = A} (Ok x) after e = (x.0, ap (λ (r : List ℕ). let a : Read A = Ok (x.0, r) in a) (same_bytes x.1 after e))
 read_before (Err fault) after e = absurd cc
 
-pub one_more_counted : (bytes : List ℕ) (count : ℕ) (rest after : List ℕ) → IsCountedTo bytes count rest → IsBytes bytes → count < MAX_DEEDS → left_by (deed.read rest) ≡ Ok after → IsCountedTo bytes (count + 1) after
-one_more_counted bytes count rest after so_far fits lt e =
-    let d = read_before (deed.read rest) after e in
+pub one_more_counted : (form : Form) (bytes : List ℕ) (count : ℕ) (rest after : List ℕ) → IsCountedTo form bytes count rest → IsBytes bytes → count < MAX_DEEDS → left_by ((deed form).read rest) ≡ Ok after → IsCountedTo form bytes (count + 1) after
+one_more_counted form bytes count rest after so_far fits lt e =
+    let d = read_before ((deed form).read rest) after e in
     record {
       deeds = so_far.deeds ++ d.0 ∷ [];
-      read = one_deed_more bytes so_far.deeds rest d.0 after so_far.read fits (omega (arith, lt, so_far.count_is)) d.1;
+      read = one_deed_more form bytes so_far.deeds rest d.0 after so_far.read fits (omega (arith, lt, so_far.count_is)) d.1;
       count_is = omega (arith, so_far.count_is, length-append so_far.deeds (d.0 ∷ []));
     }
 
 -- ---- when the counting ends
 
 -- All of it was counted.
-pub is_whole : (bytes : List ℕ) (count : ℕ) (rest : List ℕ) → IsCountedTo bytes count rest → length rest ≡ 0 → 1 ≤ count → IsPayloadOf bytes count
-is_whole bytes count [] so_far none some = record {
+pub is_whole : (form : Form) (bytes : List ℕ) (count : ℕ) (rest : List ℕ) → IsCountedTo form bytes count rest → length rest ≡ 0 → 1 ≤ count → IsPayloadOf form bytes count
+is_whole form bytes count [] so_far none some = record {
   deeds = so_far.deeds;
   good = record { some = omega (arith, some, so_far.count_is); few = so_far.read.few; fits = so_far.read.fits };
-  parts = so_far.read.parts ∙ append-nil (payload so_far.deeds);
+  parts = so_far.read.parts ∙ append-nil (payload form so_far.deeds);
   count_is = so_far.count_is;
 }
-is_whole bytes count (b ∷ rest) so_far none some = absurd (omega (arith, none))
+is_whole form bytes count (b ∷ rest) so_far none some = absurd (omega (arith, none))
 
 -- What is to be read yet of a record, whose first deeds were read.
-left_of : (bytes : List ℕ) (ds : List Deed) (rest : List ℕ) (es : List Deed) → IsReadTo bytes ds rest → IsRecord es → bytes ≡ payload es → (tail : List Deed) × (es ≡ ds ++ tail) × (rest ≡ payload tail)
-left_of bytes ds rest es so_far is e =
-    first_ones spell_deed FitsDeed deeds_apart deed_some ds es rest (recursion_from_All FitsDeed ds so_far.fits) (recursion_from_All FitsDeed es is.fits) (sym e ∙ so_far.parts)
+left_of : (form : Form) (bytes : List ℕ) (ds : List Deed) (rest : List ℕ) (es : List Deed) → IsReadTo form bytes ds rest → IsRecord form es → bytes ≡ payload form es → (tail : List Deed) × (es ≡ ds ++ tail) × (rest ≡ payload form tail)
+left_of form bytes ds rest es so_far is e =
+    first_ones (spell_deed form) (FitsDeed form) (deeds_apart form) (deed_some form) ds es rest (recursion_from_All (FitsDeed form) ds so_far.fits) (recursion_from_All (FitsDeed form) es is.fits) (sym e ∙ so_far.parts)
 
-fits_behind : (ds tail : List Deed) → AllByRecursion FitsDeed (ds ++ tail) → AllByRecursion FitsDeed tail
-fits_behind [] tail fits = fits
-fits_behind (d ∷ ds) tail fits = fits_behind ds tail fits.1
+fits_behind : (form : Form) (ds tail : List Deed) → AllByRecursion (FitsDeed form) (ds ++ tail) → AllByRecursion (FitsDeed form) tail
+fits_behind form [] tail fits = fits
+fits_behind form (d ∷ ds) tail fits = fits_behind form ds tail fits.1
 
-reads_on : (tail : List Deed) (rest : List ℕ) (fault : ReadFault) → AllByRecursion FitsDeed tail → rest ≡ payload tail → 0 < length rest → deed.read rest ≡ Err fault → ⊥
-reads_on [] rest fault fits e some bad = absurd (let n : length rest ≡ 0 = ap length e in omega (arith, n, some))
-reads_on (d ∷ tail) rest fault fits e some bad =
-    let again : deed.read rest ≡ Ok (d, payload tail) = ap deed.read e ∙ deed_is.again d (payload tail) fits.0 in
+reads_on : (form : Form) (tail : List Deed) (rest : List ℕ) (fault : ReadFault) → AllByRecursion (FitsDeed form) tail → rest ≡ payload form tail → 0 < length rest → (deed form).read rest ≡ Err fault → ⊥
+reads_on form [] rest fault fits e some bad = absurd (let n : length rest ≡ 0 = ap length e in omega (arith, n, some))
+reads_on form (d ∷ tail) rest fault fits e some bad =
+    let again : (deed form).read rest ≡ Ok (d, payload form tail) = ap (deed form).read e ∙ (deed_is form).again d (payload form tail) fits.0 in
     absurd cc
 
 -- No deed stands at the front of what is left.
-pub no_deed_there : (bytes : List ℕ) (count : ℕ) (rest : List ℕ) (fault : ReadFault) → IsCountedTo bytes count rest → 0 < length rest → left_by (deed.read rest) ≡ Err fault → IsNoPayload bytes
-no_deed_there bytes count rest fault so_far some bad es is e =
-    let t = left_of bytes so_far.deeds rest es so_far.read is e in
-    reads_on t.0 rest fault (fits_behind so_far.deeds t.0 (subst (AllByRecursion FitsDeed) t.1 (recursion_from_All FitsDeed es is.fits))) t.2 some (is_fault (deed.read rest) fault bad)
+pub no_deed_there : (form : Form) (bytes : List ℕ) (count : ℕ) (rest : List ℕ) (fault : ReadFault) → IsCountedTo form bytes count rest → 0 < length rest → left_by ((deed form).read rest) ≡ Err fault → IsNoPayload form bytes
+no_deed_there form bytes count rest fault so_far some bad es is e =
+    let t = left_of form bytes so_far.deeds rest es so_far.read is e in
+    reads_on form t.0 rest fault (fits_behind form so_far.deeds t.0 (subst (AllByRecursion (FitsDeed form)) t.1 (recursion_from_All (FitsDeed form) es is.fits))) t.2 some (is_fault ((deed form).read rest) fault bad)
 
-some_deeds : (tail : List Deed) (rest : List ℕ) → rest ≡ payload tail → 0 < length rest → 0 < length tail
-some_deeds [] rest e some = absurd (let n : length rest ≡ 0 = ap length e in omega (arith, n, some))
-some_deeds (d ∷ tail) rest e some = omega arith
+some_deeds : (form : Form) (tail : List Deed) (rest : List ℕ) → rest ≡ payload form tail → 0 < length rest → 0 < length tail
+some_deeds form [] rest e some = absurd (let n : length rest ≡ 0 = ap length e in omega (arith, n, some))
+some_deeds form (d ∷ tail) rest e some = omega arith
 
 -- Behind as many deeds as a record may have there is more.
-pub too_many : (bytes : List ℕ) (count : ℕ) (rest : List ℕ) → IsCountedTo bytes count rest → 0 < length rest → MAX_DEEDS ≤ count → IsNoPayload bytes
-too_many bytes count rest so_far some many es is e =
-    let t = left_of bytes so_far.deeds rest es so_far.read is e in
+pub too_many : (form : Form) (bytes : List ℕ) (count : ℕ) (rest : List ℕ) → IsCountedTo form bytes count rest → 0 < length rest → MAX_DEEDS ≤ count → IsNoPayload form bytes
+too_many form bytes count rest so_far some many es is e =
+    let t = left_of form bytes so_far.deeds rest es so_far.read is e in
     let n : length es ≡ length so_far.deeds + length t.0 = ap length t.1 ∙ length-append so_far.deeds t.0 in
-    omega (arith, n, many, so_far.count_is, is.few, some_deeds t.0 rest t.2 some)
+    omega (arith, n, many, so_far.count_is, is.few, some_deeds form t.0 rest t.2 some)
 
 -- There is no deed at all.
-pub no_deeds : (bytes : List ℕ) (count : ℕ) (rest : List ℕ) → IsCountedTo bytes count rest → length rest ≡ 0 → count ≡ 0 → IsNoPayload bytes
-no_deeds bytes count rest so_far none no_count es is e =
-    let t = left_of bytes so_far.deeds rest es so_far.read is e in
+pub no_deeds : (form : Form) (bytes : List ℕ) (count : ℕ) (rest : List ℕ) → IsCountedTo form bytes count rest → length rest ≡ 0 → count ≡ 0 → IsNoPayload form bytes
+no_deeds form bytes count rest so_far none no_count es is e =
+    let t = left_of form bytes so_far.deeds rest es so_far.read is e in
     by t.0 t.1 t.2
   where
-    by : (tail : List Deed) → es ≡ so_far.deeds ++ tail → rest ≡ payload tail → ⊥
+    by : (tail : List Deed) → es ≡ so_far.deeds ++ tail → rest ≡ payload form tail → ⊥
     by [] es_is rest_is = let n : length es ≡ length so_far.deeds + 0 = ap length es_is ∙ length-append so_far.deeds [] in omega (arith, n, no_count, so_far.count_is, is.some)
     by (d ∷ tail) es_is rest_is =
-        let n : length rest ≡ length (spell_deed d) + length (payload tail) = ap length rest_is ∙ length-append (spell_deed d) (payload tail) in
-        omega (arith, n, none, deed_some d)
+        let n : length rest ≡ length (spell_deed form d) + length (payload form tail) = ap length rest_is ∙ length-append (spell_deed form d) (payload form tail) in
+        omega (arith, n, none, deed_some form d)
 
 -- ---- while deeds are read
 
 -- The first of these deeds were read, and the others stand there.
-pub record IsReadOf (ds : List Deed) (i : ℕ) (front : List Deed) (rest : List ℕ) : Type 0 where
+pub record IsReadOf (form : Form) (ds : List Deed) (i : ℕ) (front : List Deed) (rest : List ℕ) : Type 0 where
   pub front_is : front ≡ take i ds
-  pub rest_is : rest ≡ payload (drop i ds)
+  pub rest_is : rest ≡ payload form (drop i ds)
 
-pub none_read : (ds front : List Deed) (bytes : List ℕ) → front ≡ [] → bytes ≡ payload ds → IsReadOf ds 0 front bytes
-none_read ds front bytes none is = record { front_is = none; rest_is = is }
+pub none_read : (form : Form) (ds front : List Deed) (bytes : List ℕ) → front ≡ [] → bytes ≡ payload form ds → IsReadOf form ds 0 front bytes
+none_read form ds front bytes none is = record { front_is = none; rest_is = is }
 
 same_pair : (x y : Deed × List ℕ) → (let a : Read Deed = Ok x in a) ≡ Ok y → x ≡ y
 same_pair x y e = cc
 
-pub one_more_read : (ds : List Deed) (i : ℕ) (front : List Deed) (rest : List ℕ) (d : Deed) (after : List ℕ) → IsRecord ds → i < length ds → IsReadOf ds i front rest → deed.read rest ≡ Ok (d, after) → IsReadOf ds (i + 1) (front ++ d ∷ []) after
-one_more_read ds i front rest d after is lt so_far e =
+pub one_more_read : (form : Form) (ds : List Deed) (i : ℕ) (front : List Deed) (rest : List ℕ) (d : Deed) (after : List ℕ) → IsRecord form ds → i < length ds → IsReadOf form ds i front rest → (deed form).read rest ≡ Ok (d, after) → IsReadOf form ds (i + 1) (front ++ d ∷ []) after
+one_more_read form ds i front rest d after is lt so_far e =
     let next = get_or ds i d in
-    let there : rest ≡ spell_deed next ++ payload (drop (i + 1) ds) = so_far.rest_is ∙ ap payload (drop_more ds i d lt) in
-    let again : deed.read rest ≡ Ok (next, payload (drop (i + 1) ds)) = ap deed.read there ∙ deed_is.again next (payload (drop (i + 1) ds)) (All-get_or FitsDeed ds i d lt is.fits) in
-    let same = same_pair (d, after) (next, payload (drop (i + 1) ds)) (sym e ∙ again) in
+    let there : rest ≡ spell_deed form next ++ payload form (drop (i + 1) ds) = so_far.rest_is ∙ ap (payload form) (drop_more ds i d lt) in
+    let again : (deed form).read rest ≡ Ok (next, payload form (drop (i + 1) ds)) = ap (deed form).read there ∙ (deed_is form).again next (payload form (drop (i + 1) ds)) (All-get_or (FitsDeed form) ds i d lt is.fits) in
+    let same = same_pair (d, after) (next, payload form (drop (i + 1) ds)) (sym e ∙ again) in
     record { front_is = ap (λ l. l ++ d ∷ []) so_far.front_is ∙ ap (λ (x : Deed × List ℕ). take i ds ++ x.0 ∷ []) same ∙ sym (take_more ds i d lt); rest_is = ap (λ (x : Deed × List ℕ). x.1) same }
 
-pub all_read : (ds : List Deed) (i : ℕ) (front : List Deed) (rest : List ℕ) → IsReadOf ds i front rest → length ds ≤ i → front ≡ ds
-all_read ds i front rest so_far le = so_far.front_is ∙ take_all i ds le
+pub all_read : (form : Form) (ds : List Deed) (i : ℕ) (front : List Deed) (rest : List ℕ) → IsReadOf form ds i front rest → length ds ≤ i → front ≡ ds
+all_read form ds i front rest so_far le = so_far.front_is ∙ take_all i ds le

@@ -2,6 +2,7 @@
 use Rattle.std.specs.Prelude.{◌≡◌, ℕ, ◌+◌, ◌<◌, ◌≤◌, ◌^◌, ◌⊎◌, List, [], ◌∷◌, ◌++◌, length}
 use Rattle.linda_codec.specs.Formats.{short_number, number}
 use Rattle.linda_state.specs.declared.deed.Deed.{Deed}
+use Rattle.linda_state.specs.DeedFormat.{written}
 use Rattle.linda_disk.specs.View.{View, IsDurable}
 use Rattle.linda_journal.specs.declared.kinds.TheConstants.{OPEN}
 use Rattle.linda_journal.specs.declared.limits.TheConstants.{MIN_BYTES}
@@ -35,12 +36,12 @@ pub record IsBank (file : List ℕ) (generation : ℕ) (body : List ℕ) (record
   pub short : length body < 2 ^ 32
   pub rest : List ℕ
   pub parts : file ≡ head generation body ++ rest
-  pub journal : IsJournal rest records
+  pub journal : IsJournal written rest records
 
 -- The disk holds that bank, whose journal ends at this offset, and a crash now leaves it so.
 pub record IsSettled (generation : ℕ) (body : List ℕ) (records : List (List Deed)) (end : ℕ) (v : View) : Type 0 where
   pub file : IsBank v.seen generation body records
-  pub place : length (head generation body) + length (spell_records records) ≡ end
+  pub place : length (head generation body) + length (spell_records written records) ≡ end
   pub durable : IsDurable v
 
 -- Bytes that are no bank, or the new one.

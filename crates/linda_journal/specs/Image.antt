@@ -1,5 +1,6 @@
 -- What the bytes of a disk say as a bank: what it holds, or why they are none.
 use Rattle.std.specs.Prelude.{◌≡◌, ℕ, ◌+◌, ◌<◌, ◌≤◌, ◌^◌, ◌⊎◌, List, ◌++◌, length}
+use Rattle.linda_state.specs.DeedFormat.{written}
 use Rattle.linda_journal.specs.declared.heading.Heading.TheVariants as headings
 use Rattle.linda_journal.specs.declared.limits.TheConstants.{MIN_BYTES}
 use Rattle.linda_journal.specs.declared.fault.BankFault.{BankFault}
@@ -25,7 +26,7 @@ pub record IsBroken (file : List ℕ) (offset : ℕ) : Type 0 where
   pub fits : generation < 2 ^ 64
   pub short : length body < 2 ^ 32
   pub parts : file ≡ head generation body ++ rest
-  pub damaged : IsDamaged rest place
+  pub damaged : IsDamaged written rest place
   pub offset_is : offset ≡ length (head generation body) + place
 
 -- What a fault says of the bytes.

@@ -3,6 +3,7 @@
 ghost use Rattle.std.specs.Prelude.{◌≡◌, ◌≢◌, ◌<◌, ◌≤◌, ◌+◌, ◌^◌, ◌++◌, ◌∷◌, [], ◌↔◌, ◌⊎◌, ℕ};
 ghost use Rattle.std.specs.Prelude.{List, length, IfOk, IfErr, OnOk, IsErrOf, true, false};
 ghost use Rattle.linda_state.specs.declared.deed.Deed as deed;
+ghost use Rattle.linda_state.specs.DeedFormat.{written};
 ghost use Rattle.linda_disk.specs.View.{IsDurable};
 ghost use Rattle.linda_disk.specs.Disk.{TellsFailures};
 ghost use Rattle.linda_disk.specs.Run.{LeavesOnly};
@@ -19,11 +20,12 @@ use crate::gate::{open_gate, stage};
 use crate::limits::MIN_BYTES;
 use crate::making::{inscribe, spell_front};
 use crate::opening::load;
+use crate::payload::deeds_fit;
 use crate::record::{Record, spell_body};
 use crate::size::record_len;
 use crate::whole::Whole;
 use linda_disk::{Disk, DiskFault, MemDisk};
-use linda_state::Deed;
+use linda_state::{BANK_FORM, Deed};
 use std::alloc::Global;
 
 /// A bank on a disk, as it was created or opened.
@@ -163,7 +165,7 @@ impl<D: Disk> Bank<D> {
             (deeds_of o.2.items) o.0.end (D.view o.0.disk)) }
         ensures seen { D.honest disk
             → IfOk result (λ o. (D.view o.0.disk).seen ≡ (D.view disk).seen) }
-        ensures gates { IfOk result (λ o. AreAt (MIN_BYTES + length o.1.items) o.2.items) }
+        ensures gates { IfOk result (λ o. AreAt written (MIN_BYTES + length o.1.items) o.2.items) }
         ensures new { IfOk result (λ o. (o.0.records ≡ length o.2.items) × (o.0.limit ≡ limit)
             × (o.0.is_spent ≡ false)) }
         // A fault is one of those bytes.
@@ -211,7 +213,7 @@ impl<D: Disk> Bank<D> {
             (deeds_of o.2.items) o.0.end (D.view o.0.disk)) }
         ensures seen { D.honest disk
             → IfOk result (λ o. (D.view o.0.disk).seen ≡ (D.view disk).seen) }
-        ensures gates { IfOk result (λ o. AreAt (MIN_BYTES + length o.1.items) o.2.items) }
+        ensures gates { IfOk result (λ o. AreAt written (MIN_BYTES + length o.1.items) o.2.items) }
         ensures new { IfOk result (λ o. (o.0.records ≡ length o.2.items) × (o.0.limit ≡ limit)
             × (o.0.is_spent ≡ false)) }
         // A fault is one of those bytes.
@@ -275,13 +277,13 @@ impl<D: Disk> Bank<D> {
             → IsSettled self.old.generation body records self.old.end (D.view self.old.disk)
             → OnOk result (IsSettled self.new.generation body (records ++ deeds.now ∷ [])
             self.new.end (D.view self.new.disk)) }
-        ensures place { OnOk result (self.new.end ≡ self.old.end + length (spell_record deeds.now)) }
+        ensures place { OnOk result (self.new.end ≡ self.old.end + length (spell_record written deeds.now)) }
         ensures count { OnOk result (self.new.records ≡ self.old.records + 1) }
         ensures ready { OnOk result (self.new.is_spent ≡ false) }
         // It is Full exactly where the closed gate after the new record would pass the limit; nothing changed then.
         ensures room { OnOk result (self.new.end < self.new.limit) }
         ensures full { IsErrOf result BankFault.Full ↔ (self.old.is_spent ≡ false)
-            × (self.old.limit ≤ self.old.end + length (spell_record deeds.now)) }
+            × (self.old.limit ≤ self.old.end + length (spell_record written deeds.now)) }
         ensures unfilled { IsErrOf result BankFault.Full → self.new ≡ self.old }
         ensures spent { IsErrOf result BankFault.Spent ↔ (self.old.is_spent ≡ true) }
         ensures unspent { self.old.is_spent ≡ true → self.new ≡ self.old }
@@ -305,11 +307,13 @@ impl<D: Disk> Bank<D> {
         if self.is_spent {
             return Err(BankFault::Spent);
         }
-        let len = record_len(deeds);
+        let len = record_len(BANK_FORM, deeds);
         if !has_room(self.limit, self.end, len) {
             return Err(BankFault::Full);
         }
-        let bytes = spell_body(alloc, deeds, len)?;
+        // Today every deed has a spelling, by the limits of its tuple.
+        deeds_fit(BANK_FORM, deeds);
+        let bytes = spell_body(alloc, BANK_FORM, deeds, len)?;
         self.is_spent = true;
         stage(&mut self.disk, self.end, &bytes)?;
         open_gate(&mut self.disk, self.end)?;

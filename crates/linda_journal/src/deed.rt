@@ -1,13 +1,15 @@
-//! A deed as bytes: a kind byte, the client, the number, and a tuple or its id.
+//! A deed as bytes: a kind byte, the client, the number, and a tuple in a form, or its id.
 
-ghost use Rattle.std.specs.Prelude.{◌≡◌, ◌∷◌, ◌++◌, ◌<◌, ◌^◌, OnOk};
+ghost use Rattle.std.specs.Prelude.{◌≡◌, ◌∷◌, ◌++◌, OnOk};
+ghost use Rattle.linda_tuple.specs.Tuple.{FitsIn};
 ghost use Rattle.linda_codec.specs.Steps.{Gives, GivesAlways, left_by};
 ghost use Rattle.linda_codec.specs.Formats.{made_at, short_number, number};
 ghost use Rattle.linda_state.specs.declared.deed.Deed.TheVariants.{Out, Take, Pass};
 ghost use Rattle.linda_state.specs.DeedFormat as format;
 
 use linda_codec::{ReadFault, put_tuple, read_tuple, read_u32, read_u64, skip_tuple};
-use linda_state::{BANK_FORM, Deed, OUT, PASS, TAKE};
+use linda_state::{Deed, OUT, PASS, TAKE};
+use linda_tuple::{Form, Tuple};
 use std::alloc::{AllocError, Global};
 
 /// Reads a deed, and gives the bytes after it.
@@ -15,25 +17,25 @@ use std::alloc::{AllocError, Global};
 /// # Errors
 ///
 /// The first fault from the left, given by the count of bytes left; `Memory` where a tuple finds none.
-pub(crate) fn read_deed(alloc: Global, bytes: &[u8]) -> Result<(Deed, &[u8]), ReadFault>
-    ensures { Gives (λ x. (x.0, x.1.now)) result (format.deed.read bytes.now) }
+pub(crate) fn read_deed(alloc: Global, form: Form, bytes: &[u8]) -> Result<(Deed, &[u8]), ReadFault>
+    ensures { Gives (λ x. (x.0, x.1.now)) result ((format.deed form).read bytes.now) }
 {
     match bytes {
         [] => Err(ReadFault::Short),
-        [OUT, body @ ..] => out_from(alloc, body),
+        [OUT, body @ ..] => out_from(alloc, form, body),
         [TAKE, body @ ..] => take_from(body),
         [PASS, body @ ..] => pass_from(body),
         [_, ..] => Err(ReadFault::BadKind(bytes.len())),
     }
 }
 
-fn out_from(alloc: Global, body: &[u8]) -> Result<(Deed, &[u8]), ReadFault>
+fn out_from(alloc: Global, form: Form, body: &[u8]) -> Result<(Deed, &[u8]), ReadFault>
     ensures { Gives (λ x. (x.0, x.1.now)) result
-        (made_at (λ p. Out p.0 p.1.0 p.1.1) format.out body.now) }
+        (made_at (λ p. Out p.0 p.1.0 p.1.1) (format.out form) body.now) }
 {
     let (client, rest) = read_u32(body)?;
     let (n, rest) = read_u64(rest)?;
-    let (tuple, rest) = read_tuple(alloc, BANK_FORM, rest)?;
+    let (tuple, rest) = read_tuple(alloc, form, rest)?;
     Ok((Deed::Out { client, n, tuple }, rest))
 }
 
@@ -62,12 +64,12 @@ fn pass_from(body: &[u8]) -> Result<(Deed, &[u8]), ReadFault>
 /// # Errors
 ///
 /// The first fault from the left, given by the count of bytes left; never `Memory`.
-pub(crate) fn skip_deed(bytes: &[u8]) -> Result<&[u8], ReadFault>
-    ensures { GivesAlways (λ rest. rest.now) result (left_by (format.deed.read bytes.now)) }
+pub(crate) fn skip_deed(form: Form, bytes: &[u8]) -> Result<&[u8], ReadFault>
+    ensures { GivesAlways (λ rest. rest.now) result (left_by ((format.deed form).read bytes.now)) }
 {
     match bytes {
         [] => Err(ReadFault::Short),
-        [OUT, body @ ..] => skip_out(body),
+        [OUT, body @ ..] => skip_out(form, body),
         [TAKE, body @ ..] => {
             let (_deed, rest) = take_from(body)?;
             Ok(rest)
@@ -80,25 +82,24 @@ pub(crate) fn skip_deed(bytes: &[u8]) -> Result<&[u8], ReadFault>
     }
 }
 
-fn skip_out(body: &[u8]) -> Result<&[u8], ReadFault>
+fn skip_out(form: Form, body: &[u8]) -> Result<&[u8], ReadFault>
     ensures { GivesAlways (λ rest. rest.now) result
-        (left_by (made_at (λ p. Out p.0 p.1.0 p.1.1) format.out body.now)) }
+        (left_by (made_at (λ p. Out p.0 p.1.0 p.1.1) (format.out form) body.now)) }
 {
     let (_client, rest) = read_u32(body)?;
     let (_n, rest) = read_u64(rest)?;
-    skip_tuple(BANK_FORM, rest)
+    skip_tuple(form, rest)
 }
 
 /// Appends the spelling of the deed. Where memory runs out, a part of it may stand after the old bytes.
-pub(crate) fn push_deed(out: &mut Vec<u8>, deed: &Deed) -> Result<(), AllocError>
-    ensures ok { OnOk result (out.new.items ≡ out.old.items ++ format.deed.spell deed.now) }
-    // It had a spelling, as every deed has.
-    ensures fits { OnOk result (format.deed.Fits deed.now) }
+pub(crate) fn push_deed(form: Form, out: &mut Vec<u8>, deed: &Deed) -> Result<(), AllocError>
+    requires { format.FitsDeed form deed.now }
+    ensures { OnOk result (out.new.items ≡ out.old.items ++ (format.deed form).spell deed.now) }
 {
     match deed {
         Deed::Out { client, n, tuple } => {
             push_head(out, OUT, *client, *n)?;
-            put_tuple(BANK_FORM, out, tuple)
+            put_tuple(form, out, tuple)
         }
         Deed::Take { client, n, id } => push_reference(out, TAKE, *client, *n, *id),
         Deed::Pass { client, n, id } => push_reference(out, PASS, *client, *n, *id),
@@ -113,9 +114,8 @@ fn push_reference(
     n: u64,
     id: u64,
 ) -> Result<(), AllocError>
-    ensures ok { OnOk result (out.new.items
+    ensures { OnOk result (out.new.items
         ≡ out.old.items ++ kind ∷ format.reference.spell (client, (n, id))) }
-    ensures fits { format.reference.Fits (client, (n, id)) }
 {
     push_head(out, kind, client, n)?;
     out.extend_from_slice(&id.to_be_bytes())
@@ -123,11 +123,36 @@ fn push_reference(
 
 // Appends a kind byte, the client and the number; likewise.
 fn push_head(out: &mut Vec<u8>, kind: u8, client: u32, n: u64) -> Result<(), AllocError>
-    ensures ok { OnOk result (out.new.items
+    ensures { OnOk result (out.new.items
         ≡ out.old.items ++ kind ∷ (short_number.spell client ++ number.spell n)) }
-    ensures fits { (client < 2 ^ 32) × (n < 2 ^ 64) }
 {
     out.push(kind)?;
     out.extend_from_slice(&client.to_be_bytes())?;
     out.extend_from_slice(&n.to_be_bytes())
+}
+
+/// The deed has a spelling in the form: today both forms have one for every deed, by the limits of its tuple. Where a
+/// tuple may be too long for one of them, the caller will have to test it.
+pub(crate) fn deed_fits(form: Form, deed: &Deed)
+    ensures { format.FitsDeed form deed.now }
+{
+    match deed {
+        Deed::Out { client, n, tuple } => {
+            let (_client, _n) = (*client, *n);
+            tuple_fits(form, tuple);
+        }
+        Deed::Take { client, n, id } => {
+            let (_client, _n, _id) = (*client, *n, *id);
+        }
+        Deed::Pass { client, n, id } => {
+            let (_client, _n, _id) = (*client, *n, *id);
+        }
+    }
+}
+
+// The tuple has a spelling in the form, likewise.
+fn tuple_fits(form: Form, tuple: &Tuple)
+    ensures { FitsIn form tuple.now }
+{
+    let _fields = tuple.fields();
 }

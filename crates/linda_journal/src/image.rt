@@ -1,6 +1,7 @@
 //! The bytes of a disk read as a bank.
 
 ghost use Rattle.std.specs.Prelude.{◌≡◌, ◌<◌, ◌≤◌, ◌+◌, ◌-◌, take, drop, length, IfOk, IfErr};
+ghost use Rattle.linda_state.specs.DeedFormat.{written};
 ghost use Rattle.linda_journal.specs.declared.limits.TheConstants.{MIN_BYTES};
 ghost use Rattle.linda_journal.specs.Records.{spell_records};
 ghost use Rattle.linda_journal.specs.Journal.{AreAt, deeds_of};
@@ -12,6 +13,7 @@ use crate::heading::{Heading, read_heading};
 use crate::journal::{Journal, JournalFault, read_journal};
 use crate::limits::{LENGTH_PLACE, MIN_BYTES};
 use linda_codec::read_u32;
+use linda_state::BANK_FORM;
 use std::alloc::Global;
 
 /// What a bank says.
@@ -31,9 +33,9 @@ pub(crate) struct Image {
 pub(crate) fn read_image(alloc: Global, bytes: &[u8]) -> Result<Image, BankFault>
     ensures found { IfOk result (λ i. IsBank bytes.now i.generation
         (take (i.at - MIN_BYTES) (drop MIN_BYTES bytes.now)) (deeds_of i.journal.records.items)) }
-    ensures places { IfOk result (λ i. AreAt i.at i.journal.records.items) }
+    ensures places { IfOk result (λ i. AreAt written i.at i.journal.records.items) }
     ensures end { IfOk result (λ i. i.journal.end
-        ≡ i.at + length (spell_records (deeds_of i.journal.records.items))) }
+        ≡ i.at + length (spell_records written (deeds_of i.journal.records.items))) }
     ensures room { IfOk result (λ i. (MIN_BYTES ≤ i.at) × (i.at < length bytes.now)) }
     ensures fault { IfErr result (IsFaultOfBank bytes.now) }
 {
@@ -50,7 +52,7 @@ pub(crate) fn read_image(alloc: Global, bytes: &[u8]) -> Result<Image, BankFault
                         return Err(BankFault::Damaged(MIN_BYTES));
                     }
                     let at = MIN_BYTES + len;
-                    match read_journal(alloc, bytes, at) {
+                    match read_journal(alloc, BANK_FORM, bytes, at) {
                         Ok(journal) => Ok(Image {
                             generation,
                             at,

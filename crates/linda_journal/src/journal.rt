@@ -1,4 +1,4 @@
-//! A journal: records one after the other, up to the first gate that is closed.
+//! A journal: records one after the other, in a form, up to the first gate that is closed.
 
 ghost use Rattle.std.specs.Prelude.{◌≡◌, ◌≢◌, ◌∷◌, ◌<◌, ◌+◌, ℕ, List, length, drop, IfOk, IfErr};
 ghost use Rattle.std.specs.Prelude.{IfSome, IfNone};
@@ -10,6 +10,7 @@ ghost use Rattle.linda_journal.specs.Journal.{IsJournal, IsDamaged, IsFaultOf, A
 
 use crate::kinds::OPEN;
 use crate::record::{Record, read_record};
+use linda_tuple::Form;
 use std::alloc::{AllocError, AllocFailed, Global};
 use thiserror::Error;
 
@@ -50,45 +51,50 @@ pub struct Journal {
     pub end: usize,
 }
 
-/// Reads the journal whose first gate is at this offset.
+/// Reads the journal whose first gate is at this offset, with its values in the form.
 ///
 /// # Errors
 ///
 /// `Damaged` with the offset of the first open gate with no record after it; `Memory`.
-pub fn read_journal(alloc: Global, bytes: &[u8], at: usize) -> Result<Journal, JournalFault>
+pub fn read_journal(
+    alloc: Global,
+    form: Form,
+    bytes: &[u8],
+    at: usize,
+) -> Result<Journal, JournalFault>
     requires { at < length bytes.now }
     // What is read stands there,
-    ensures found { IfOk result (λ j. IsJournal (drop at bytes.now) (deeds_of j.records.items)) }
+    ensures found { IfOk result (λ j. IsJournal form (drop at bytes.now) (deeds_of j.records.items)) }
     // each record at its offset.
-    ensures places { IfOk result (λ j. AreAt at j.records.items
-        × (j.end ≡ at + length (spell_records (deeds_of j.records.items)))) }
+    ensures places { IfOk result (λ j. AreAt form at j.records.items
+        × (j.end ≡ at + length (spell_records form (deeds_of j.records.items)))) }
     // It is damaged where it says so.
-    ensures fault { IfErr result (IsFaultOf (drop at bytes.now) at) }
+    ensures fault { IfErr result (IsFaultOf form (drop at bytes.now) at) }
     // Records that stand there are read, all of them, or memory runs out.
-    ensures only { (rs : List (List deed.Deed)) → IsJournal (drop at bytes.now) rs
+    ensures only { (rs : List (List deed.Deed)) → IsJournal form (drop at bytes.now) rs
         → IfOk result (λ j. deeds_of j.records.items ≡ rs)
         × IfErr result (λ f. f ≡ JournalFault.Memory) }
     // Where it is damaged, that offset is reported, or memory runs out.
-    ensures damaged { (place : ℕ) → IsDamaged (drop at bytes.now) place
+    ensures damaged { (place : ℕ) → IsDamaged form (drop at bytes.now) place
         → IfOk result (λ j. ⊥)
         × IfErr result (λ f. f ≢ JournalFault.Memory → f ≡ JournalFault.Damaged (at + place)) }
 {
-    collect(alloc, bytes, at)
+    collect(alloc, form, bytes, at)
 }
 
 // Reads record after record. The clauses on other readings follow from these.
-fn collect(alloc: Global, bytes: &[u8], at: usize) -> Result<Journal, JournalFault>
+fn collect(alloc: Global, form: Form, bytes: &[u8], at: usize) -> Result<Journal, JournalFault>
     requires { at < length bytes.now }
-    ensures found { IfOk result (λ j. IsJournal (drop at bytes.now) (deeds_of j.records.items)) }
-    ensures places { IfOk result (λ j. AreAt at j.records.items
-        × (j.end ≡ at + length (spell_records (deeds_of j.records.items)))) }
-    ensures fault { IfErr result (IsFaultOf (drop at bytes.now) at) }
+    ensures found { IfOk result (λ j. IsJournal form (drop at bytes.now) (deeds_of j.records.items)) }
+    ensures places { IfOk result (λ j. AreAt form at j.records.items
+        × (j.end ≡ at + length (spell_records form (deeds_of j.records.items)))) }
+    ensures fault { IfErr result (IsFaultOf form (drop at bytes.now) at) }
 {
     let mut records = Vec::new(alloc);
     let mut rest = &bytes[at..];
     while let Some(behind) = behind_open(rest) {
         let gate = bytes.len() - rest.len();
-        match read_record(alloc, behind)? {
+        match read_record(alloc, form, behind)? {
             None => return Err(JournalFault::Damaged(gate)),
             Some((deeds, after)) => {
                 records.push(Record { gate, deeds })?;

@@ -1,6 +1,7 @@
 //! A bank read from its disk.
 
 ghost use Rattle.std.specs.Prelude.{◌≡◌, ◌≢◌, ◌<◌, ◌≤◌, ◌+◌, ◌-◌, ◌↔◌, take, drop, length, IfOk, IfErr, OnOk};
+ghost use Rattle.linda_state.specs.DeedFormat.{written};
 ghost use Rattle.linda_disk.specs.View.{IsDurable};
 ghost use Rattle.linda_disk.specs.Disk.{TellsFailures};
 ghost use Rattle.linda_disk.specs.Run.{LeavesOnly};
@@ -35,7 +36,7 @@ pub(crate) fn load<D: Disk>(alloc: Global, disk: &mut D) -> Result<Contents, Ban
         (deeds_of o.journal.records.items) o.journal.end (D.view disk.new)) }
     ensures within { D.honest disk.old
         → IfOk result (λ o. o.journal.end < length (D.view disk.new).seen) }
-    ensures gates { IfOk result (λ o. AreAt (MIN_BYTES + length o.body.items) o.journal.records.items) }
+    ensures gates { IfOk result (λ o. AreAt written (MIN_BYTES + length o.body.items) o.journal.records.items) }
     ensures counted { IfOk result (λ o. length o.journal.records.items ≤ o.journal.end) }
     ensures seen { D.honest disk.old
         → OnOk result ((D.view disk.new).seen ≡ (D.view disk.old).seen) }

@@ -1,11 +1,11 @@
-//! A record: one deed or more that were done together, after one gate.
+//! A record: one deed or more that were done together, after one gate, in a form.
 
-ghost use Rattle.std.specs.Prelude.{◌≡◌, ◌∷◌, [], ◌++◌, ◌<◌, ◌≤◌, ◌^◌, ℕ, List, length, IfOk};
+ghost use Rattle.std.specs.Prelude.{◌≡◌, ◌∷◌, [], ◌++◌, ◌<◌, ◌≤◌, ◌^◌, ℕ, List, All, length, IfOk};
 ghost use Rattle.std.specs.Prelude.{IfSome, IfNone, OnOk};
 ghost use Rattle.linda_state.specs.declared.deed.Deed as deed;
 ghost use Rattle.linda_journal.specs.declared.kinds.TheConstants.{CLOSED};
 ghost use Rattle.linda_journal.specs.declared.limits.TheConstants.{MAX_DEEDS};
-ghost use Rattle.linda_journal.specs.Records.{IsRecord, record_body, spell_record};
+ghost use Rattle.linda_journal.specs.Records.{FitsDeed, IsRecord, record_body, spell_record};
 ghost use Rattle.linda_journal.specs.Journal.{IsNoRecord};
 
 use crate::kinds::CLOSED;
@@ -13,6 +13,7 @@ use crate::payload::{push_payload, read_payload};
 use crate::size::RECORD_HEAD;
 use linda_codec::read_u32;
 use linda_state::Deed;
+use linda_tuple::Form;
 use std::alloc::{AllocError, Global};
 
 /// A record of a journal.
@@ -28,11 +29,12 @@ pub struct Record {
 /// stands there with the byte of a gate after it.
 pub(crate) fn read_record(
     alloc: Global,
+    form: Form,
     behind: &[u8],
 ) -> Result<Option<(Vec<Deed>, &[u8])>, AllocError>
-    ensures found { IfOk result (λ o. IfSome o (λ x. IsRecord x.0.items
-        × (behind.now ≡ record_body x.0.items ++ x.1.now) × (0 < length x.1.now))) }
-    ensures none { IfOk result (λ o. IfNone o (IsNoRecord behind.now)) }
+    ensures found { IfOk result (λ o. IfSome o (λ x. IsRecord form x.0.items
+        × (behind.now ≡ record_body form x.0.items ++ x.1.now) × (0 < length x.1.now))) }
+    ensures none { IfOk result (λ o. IfNone o (IsNoRecord form behind.now)) }
 {
     match read_u32(behind) {
         Err(_) => Ok(None),
@@ -42,7 +44,7 @@ pub(crate) fn read_record(
                 return Ok(None);
             }
             let (payload, after) = rest.split_at(len);
-            match read_payload(alloc, payload)? {
+            match read_payload(alloc, form, payload)? {
                 None => Ok(None),
                 Some(deeds) => Ok(Some((deeds, after))),
             }
@@ -52,17 +54,23 @@ pub(crate) fn read_record(
 
 /// What is to stand after the gate of the record of these deeds, with a closed gate at its end: as many bytes as the
 /// record has, which are these.
-pub(crate) fn spell_body(alloc: Global, deeds: &[Deed], len: usize) -> Result<Vec<u8>, AllocError>
+pub(crate) fn spell_body(
+    alloc: Global,
+    form: Form,
+    deeds: &[Deed],
+    len: usize,
+) -> Result<Vec<u8>, AllocError>
     requires some { 1 ≤ length deeds.now }
     requires few { length deeds.now ≤ MAX_DEEDS }
-    requires long { len ≡ length (spell_record deeds.now) }
+    requires fits { All (FitsDeed form) deeds.now }
+    requires long { len ≡ length (spell_record form deeds.now) }
     requires short { len < 2 ^ 32 }
-    ensures bytes { IfOk result (λ v. v.items ≡ record_body deeds.now ++ CLOSED ∷ []) }
-    ensures good { OnOk result (IsRecord deeds.now) }
+    ensures bytes { IfOk result (λ v. v.items ≡ record_body form deeds.now ++ CLOSED ∷ []) }
+    ensures good { OnOk result (IsRecord form deeds.now) }
 {
     let mut out = Vec::with_capacity(alloc, len)?;
     out.extend_from_slice(&as_length(len - RECORD_HEAD).to_be_bytes())?;
-    push_payload(&mut out, deeds)?;
+    push_payload(form, &mut out, deeds)?;
     out.push(CLOSED)?;
     Ok(out)
 }

@@ -1,4 +1,4 @@
--- The format of deeds: the one spelling of each in bytes, which deeds have one, and the reader.
+-- The format of deeds in each of the two forms: the one spelling of each, which deeds have one, and the reader.
 use Rattle.std.specs.Prelude.{ℕ, List, [], ◌∷◌}
 use Rattle.std.specs.List.{flat_map}
 use Rattle.linda_tuple.specs.declared.form.Form.{Form}
@@ -11,40 +11,44 @@ use Rattle.linda_state.specs.declared.deed.Deed.{Deed}
 use Rattle.linda_state.specs.declared.deed.Deed.TheVariants.{Out, Take, Pass}
 use Rattle.linda_state.specs.declared.kinds.TheConstants as kind
 
--- The form in which a server's banks spell values.
+-- The form in which today's banks spell values.
 abbrev pub written : Form
 written = One
 
--- The client, the number, the tuple.
-abbrev pub out : Format (ℕ × (ℕ × Tuple))
-out = both short_number (both number (value.tuple written))
+-- The client, the number, the tuple in the form.
+abbrev pub out : Form → Format (ℕ × (ℕ × Tuple))
+out form = both short_number (both number (value.tuple form))
 
--- The client, the number, the id of a tuple.
+-- The client, the number, the id of a tuple: the same in both forms.
 abbrev pub reference : Format (ℕ × (ℕ × ℕ))
 reference = both short_number (both number number)
 
--- A deed's kind byte and body.
-abbrev pub spell_deed : Deed → List ℕ
-spell_deed (Out client n tuple) = kind.OUT ∷ out.spell (client, (n, tuple))
-spell_deed (Take client n id) = kind.TAKE ∷ reference.spell (client, (n, id))
-spell_deed (Pass client n id) = kind.PASS ∷ reference.spell (client, (n, id))
+-- A deed's kind byte and body, with its values in the form.
+abbrev pub spell_deed : Form → Deed → List ℕ
+spell_deed form (Out client n tuple) = kind.OUT ∷ (out form).spell (client, (n, tuple))
+spell_deed form (Take client n id) = kind.TAKE ∷ reference.spell (client, (n, id))
+spell_deed form (Pass client n id) = kind.PASS ∷ reference.spell (client, (n, id))
 
--- What has a spelling among deeds: numbers of their widths, and a tuple within its limits.
-abbrev pub FitsDeed : Deed → Type 0
-FitsDeed (Out client n tuple) = out.Fits (client, (n, tuple))
-FitsDeed (Take client n id) = reference.Fits (client, (n, id))
-FitsDeed (Pass client n id) = reference.Fits (client, (n, id))
+-- What has a spelling among deeds: numbers of their widths, and a tuple that fits in the form.
+abbrev pub FitsDeed : Form → Deed → Type 0
+FitsDeed form (Out client n tuple) = (out form).Fits (client, (n, tuple))
+FitsDeed form (Take client n id) = reference.Fits (client, (n, id))
+FitsDeed form (Pass client n id) = reference.Fits (client, (n, id))
 
 -- The kinds of deeds, each with its body.
-abbrev pub deed_kinds : List (ℕ × Reader Deed)
-deed_kinds =
-    (kind.OUT, made_at (λ p. Out p.0 p.1.0 p.1.1) out)
+abbrev pub deed_kinds : Form → List (ℕ × Reader Deed)
+deed_kinds form =
+    (kind.OUT, made_at (λ p. Out p.0 p.1.0 p.1.1) (out form))
     ∷ (kind.TAKE, made_at (λ p. Take p.0 p.1.0 p.1.1) reference)
     ∷ (kind.PASS, made_at (λ p. Pass p.0 p.1.0 p.1.1) reference) ∷ []
 
-abbrev pub deed : Format Deed
-deed = record { spell = spell_deed; Fits = FitsDeed; read = choice_at deed_kinds no_kind }
+abbrev pub deed : Form → Format Deed
+deed form = record {
+  spell = spell_deed form;
+  Fits = FitsDeed form;
+  read = choice_at (deed_kinds form) no_kind;
+}
 
 -- Deeds, one after the other.
-abbrev pub payload : List Deed → List ℕ
-payload ds = flat_map spell_deed ds
+abbrev pub payload : Form → List Deed → List ℕ
+payload form ds = flat_map (spell_deed form) ds

@@ -1,6 +1,6 @@
 //! How deeds are spelled: the form of their values, the bytes of their parts, and the most that there may be.
 
-use linda_tuple::Form;
+use linda_tuple::{Form, MAX_FIELDS, MAX_TEXT};
 
 /// The form in which a server's banks spell values.
 pub const BANK_FORM: Form = Form::One;
@@ -11,8 +11,11 @@ pub const HEAD_BYTES: usize = 13;
 /// The bytes of an id.
 pub const ID_BYTES: usize = 8;
 
-/// The most bytes that a tuple spells: a tag and 16 fields of 257 bytes, and a count.
-pub const MAX_TUPLE_BYTES: usize = 4370;
+/// The most bytes that an atom spells in either form: a kind, a length of two bytes, and the longest text.
+pub(crate) const ATOM_BYTES: usize = MAX_TEXT + 3;
 
-/// The most bytes that a deed spells: what stands before a tuple, and the tuple.
-pub const MAX_DEED_BYTES: usize = 4383;
+/// The most bytes that a tuple spells in either form: a tag and as many fields as there may be, and a count.
+pub const MAX_TUPLE_BYTES: usize = ATOM_BYTES * (MAX_FIELDS + 1) + 1;
+
+/// The most bytes that a deed spells in either form: what stands before a tuple, and the tuple.
+pub const MAX_DEED_BYTES: usize = HEAD_BYTES + MAX_TUPLE_BYTES;

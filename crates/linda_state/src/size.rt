@@ -1,53 +1,59 @@
-//! How many bytes tuples and deeds spell, counted without spelling them.
+//! How many bytes tuples and deeds spell in a form, counted without spelling them.
 
-ghost use Rattle.std.specs.Prelude.{◌≡◌, ◌≤◌, length};
+ghost use Rattle.std.specs.Prelude.{◌≡◌, ◌≤◌, ℕ, length};
 ghost use Rattle.linda_tuple.specs.Atom.{IsSound};
 ghost use Rattle.linda_codec.specs.Values as value;
-ghost use Rattle.linda_state.specs.declared.limits.TheConstants.{MAX_DEED_BYTES, MAX_TUPLE_BYTES};
-ghost use Rattle.linda_state.specs.declared.size.TheConstants.{ATOM_BYTES};
+ghost use Rattle.linda_state.specs.declared.limits.TheConstants.{ATOM_BYTES, MAX_DEED_BYTES, MAX_TUPLE_BYTES};
 ghost use Rattle.linda_state.specs.DeedFormat as format;
-ghost use Rattle.linda_state.specs.DeedFormat.{written};
 
 use crate::deed::Deed;
 use crate::limits::{HEAD_BYTES, ID_BYTES};
-use linda_tuple::{Atom, Tuple};
+use linda_tuple::{Atom, Form, Tuple};
 
-/// The most bytes that an atom spells: a kind, a length and a text.
-const ATOM_BYTES: usize = 257;
-
-/// How many bytes the tuple spells. Takes no memory.
-pub fn tuple_len(tuple: &Tuple) -> usize
-    ensures exact { result ≡ length ((value.tuple written).spell tuple.now) }
+/// How many bytes the tuple spells in the form. Takes no memory.
+pub fn tuple_len(form: Form, tuple: &Tuple) -> usize
+    ensures exact { result ≡ length ((value.tuple form).spell tuple.now) }
     ensures short { result ≤ MAX_TUPLE_BYTES }
 {
     let fields = tuple.fields();
-    let mut len = atom_len(tuple.tag()) + 1;
+    let mut len = atom_len(form, tuple.tag()) + 1;
     for field in fields {
-        len += atom_len(field);
+        len += atom_len(form, field);
     }
     len
 }
 
 // How many bytes the atom spells.
-fn atom_len(atom: &Atom) -> usize
+fn atom_len(form: Form, atom: &Atom) -> usize
     requires { IsSound atom.now }
-    ensures exact { result ≡ length ((value.atom written).spell atom.now) }
+    ensures exact { result ≡ length ((value.atom form).spell atom.now) }
     ensures short { result ≤ ATOM_BYTES }
 {
     match atom {
         Atom::Int(_) => 9,
-        Atom::Text(text) => 2 + text.len(),
+        Atom::Text(text) => 1 + width_of_length(form) + text.len(),
         Atom::Bool(_) => 2,
     }
 }
 
-/// How many bytes the deed spells. Takes no memory.
-pub fn deed_len(deed: &Deed) -> usize
-    ensures exact { result ≡ length (format.spell_deed deed.now) }
+// How many bytes the length of a text spells.
+fn width_of_length(form: Form) -> usize
+    ensures exact { (len : ℕ) → result ≡ length ((value.text_length form).spell len) }
+    ensures short { result ≤ 2 }
+{
+    match form {
+        Form::One => 1,
+        Form::Two => 2,
+    }
+}
+
+/// How many bytes the deed spells in the form. Takes no memory.
+pub fn deed_len(form: Form, deed: &Deed) -> usize
+    ensures exact { result ≡ length (format.spell_deed form deed.now) }
     ensures short { result ≤ MAX_DEED_BYTES }
 {
     match deed {
-        Deed::Out { tuple, .. } => HEAD_BYTES + tuple_len(tuple),
+        Deed::Out { tuple, .. } => HEAD_BYTES + tuple_len(form, tuple),
         Deed::Take { .. } => HEAD_BYTES + ID_BYTES,
         Deed::Pass { .. } => HEAD_BYTES + ID_BYTES,
     }

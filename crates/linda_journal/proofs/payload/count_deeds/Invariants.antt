@@ -5,7 +5,7 @@ use Rattle.linda_journal.proofs.payload.count_deeds.Given as goal
 
 -- So many deeds stand before what is left.
 abbrev pub invariant-loop-rest : goal.invariant-loop-rest
-invariant-loop-rest l = IsCountedTo l.payload l.count l.rest
+invariant-loop-rest l = IsCountedTo l.form l.payload l.count l.rest
 
 abbrev pub decreases-loop-rest : goal.decreases-loop-rest
 decreases-loop-rest l = MAX_DEEDS - l.count

@@ -6,4 +6,4 @@ use Rattle.linda_journal.proofs.payload.read_deeds.Given as goal
 
 -- Of the deeds that the payload spells, the first ones were read.
 abbrev pub invariant-loop : goal.invariant-loop
-invariant-loop l = (ds : List Deed) → IsRecord ds → l.payload ≡ payload ds → length ds ≡ l.count → IsReadOf ds l.counter l.deeds.items l.rest
+invariant-loop l = (ds : List Deed) → IsRecord l.form ds → l.payload ≡ payload l.form ds → length ds ≡ l.count → IsReadOf l.form ds l.counter l.deeds.items l.rest

@@ -7,5 +7,5 @@ use Rattle.linda_journal.proofs.size.record_len.Given as goal
 -- The gate, the length and the first deeds were counted.
 abbrev pub invariant-loop-deed : goal.invariant-loop-deed
 invariant-loop-deed l =
-    (l.len ≡ RECORD_HEAD + length (payload (take l.deed-index l.deeds)))
+    (l.len ≡ RECORD_HEAD + length (payload l.form (take l.deed-index l.deeds)))
     × (l.len ≤ RECORD_HEAD + MAX_DEED_BYTES * l.deed-index)
