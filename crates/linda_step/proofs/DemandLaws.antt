@@ -9,7 +9,7 @@ use Rattle.linda_state.specs.declared.deed.Deed.{Deed}
 use Rattle.linda_state.specs.declared.deed.Deed.TheVariants as deeds
 use Rattle.linda_wire.specs.declared.limits.TheConstants.{NUMBER_LIMIT}
 use Rattle.linda_state.specs.Deed.{client_of, number_of}
-use Rattle.linda_state.specs.DeedFormat.{spell_deed, payload}
+use Rattle.linda_state.specs.DeedFormat.{written, spell_deed, payload}
 use Rattle.linda_state.specs.State.{State, IsState}
 use Rattle.linda_state.specs.After.{IsAfter, reply_of_deed}
 use Rattle.linda_state.proofs.AfterLaws.{none_after, one_after}
@@ -48,7 +48,7 @@ record IsAsked (st : State) (c : ℕ) (m : Message) (d : Deed) (w : Demand) : Ty
   client : client_of d ≡ c
   number : number_of d ≡ w.n
   next : next_done st d ≡ st.next + cond w.is_out 1 0
-  size : length (spell_deed d) ≡ deed_bytes m
+  size : length (spell_deed written d) ≡ deed_bytes m
 
 -- What a step comes to: no deed, and none was to be done; or the one that was.
 data Outcome (st : State) (c : ℕ) (m : Message) (deed : Option Deed) : Type 0 where
@@ -70,20 +70,20 @@ outcome_of st c soft _ _ (passed n ticket id none held) =
 
 -- What is done of the message is told by the numbers of before: its bytes, and the numbers behind it.
 record IsTold (st : State) (c : ℕ) (m : Message) (deed : Option Deed) (new : State) : Type 0 where
-  bytes : length (payload (option_to_list deed)) ≡ bytes_of m (done_of (numbers_of st) c m)
+  bytes : length (payload written (option_to_list deed)) ≡ bytes_of m (done_of (numbers_of st) c m)
   numbers : numbers_of new ≡ numbers_after (numbers_of st) c (done_of (numbers_of st) c m)
 
 told_of : (st new : State) (c : ℕ) (m : Message) (deed : Option Deed) → IsState st → IsAfter st (option_to_list deed) new → Outcome st c m deed → IsTold st c m deed new
 told_of st new c m deed is after (nothing none undone) =
     let same : new ≡ st = one_after st [] new st (subst (λ d. IsAfter st (option_to_list d) new) none after) (none_after st is) in
     record {
-      bytes = ap (λ d. length (payload (option_to_list d))) none ∙ sym (ap (bytes_of m) undone);
+      bytes = ap (λ d. length (payload written (option_to_list d))) none ∙ sym (ap (bytes_of m) undone);
       numbers = ap numbers_of same ∙ sym (ap (numbers_after (numbers_of st) c) undone);
     }
 told_of st new c m deed is after (one d w some was_done asked) =
     let same : new ≡ done st d = one_after st (d ∷ []) new (done st d) (subst (λ d. IsAfter st (option_to_list d) new) some after) (done_after st d is) in
     record {
-      bytes = ap (λ d. length (payload (option_to_list d))) some ∙ ap length (append-nil (spell_deed d)) ∙ asked.size ∙ sym (ap (bytes_of m) was_done);
+      bytes = ap (λ d. length (payload written (option_to_list d))) some ∙ ap length (append-nil (spell_deed written d)) ∙ asked.size ∙ sym (ap (bytes_of m) was_done);
       numbers = ap numbers_of same ∙ numbers ∙ sym (ap (numbers_after (numbers_of st) c) was_done);
     }
   where
@@ -102,8 +102,8 @@ told_of st new c m deed is after (one d w some was_done asked) =
 -- ---- histories
 
 -- The bytes of all deeds that messages lead to.
-pub all_bytes : (st : State) (soft : Soft) (ms : List (ℕ × Message)) (all : History) → IsState st → Happens st soft (comings ms) all → length (payload all.deeds) ≡ bytes_from (numbers_of st) ms
-all_bytes st soft [] all is happens = ap (λ (h : History). length (payload h.deeds)) happens
+pub all_bytes : (st : State) (soft : Soft) (ms : List (ℕ × Message)) (all : History) → IsState st → Happens st soft (comings ms) all → length (payload written all.deeds) ≡ bytes_from (numbers_of st) ms
+all_bytes st soft [] all is happens = ap (λ (h : History). length (payload written h.deeds)) happens
 all_bytes st soft (m ∷ ms) all is happens =
     let first : Answer = happens.0 in
     let mid : State = happens.1.0 in
@@ -111,8 +111,8 @@ all_bytes st soft (m ∷ ms) all is happens =
     let step : IsStep st soft m.0 m.1 first mid = happens.1.1.1.0 in
     let told = told_of st mid m.0 m.1 first.deed is step.state_is (outcome_of st m.0 soft m.1 first (course_of st soft m.0 m.1 first step.answer)) in
     let rest = all_bytes mid first.soft ms later (step_state st mid soft m.0 m.1 first is step) happens.1.1.1.1.0 in
-    ap (λ (h : History). length (payload h.deeds)) happens.1.1.1.1.1
-    ∙ ap length (flat_map-append spell_deed (option_to_list first.deed) later.deeds)
-    ∙ length-append (payload (option_to_list first.deed)) (payload later.deeds)
-    ∙ ap (λ n. n + length (payload later.deeds)) told.bytes
+    ap (λ (h : History). length (payload written h.deeds)) happens.1.1.1.1.1
+    ∙ ap length (flat_map-append (spell_deed written) (option_to_list first.deed) later.deeds)
+    ∙ length-append (payload written (option_to_list first.deed)) (payload written later.deeds)
+    ∙ ap (λ n. n + length (payload written later.deeds)) told.bytes
     ∙ ap (λ n. bytes_of m.1 (done_of (numbers_of st) m.0 m.1) + n) (rest ∙ ap (λ ns. bytes_from ns ms) told.numbers)

@@ -12,7 +12,7 @@ ghost use Rattle.linda_step.specs.Size.{bytes_from, numbers_of};
 
 use crate::judge::{self, Demand, Standing, Verdict};
 use linda_bag::Bag;
-use linda_state::{HEAD_BYTES, ID_BYTES, State, tuple_len};
+use linda_state::{BANK_FORM, HEAD_BYTES, ID_BYTES, State, tuple_len};
 use linda_wire::Message;
 
 /// How many messages one call takes at most.
@@ -75,7 +75,7 @@ fn deed_bytes(message: &Message) -> usize
     ensures short { result ≤ MAX_DEED_BYTES }
 {
     match message {
-        Message::Out { tuple, .. } => HEAD_BYTES + tuple_len(tuple),
+        Message::Out { tuple, .. } => HEAD_BYTES + tuple_len(BANK_FORM, tuple),
         _ => HEAD_BYTES + ID_BYTES,
     }
 }

@@ -2,7 +2,7 @@
 
 ghost use Rattle.std.specs.Prelude.{◌≡◌, ◌≤◌, ◌++◌, ◌∷◌, [], true, false, length};
 ghost use Rattle.std.specs.Prelude.{IfOk, OnOk, OnErr, IsErr, option_to_list};
-ghost use Rattle.linda_state.specs.DeedFormat.{payload};
+ghost use Rattle.linda_state.specs.DeedFormat.{written, payload};
 ghost use Rattle.linda_state.specs.State.{IsState, empty_state};
 ghost use Rattle.linda_step.specs.Soft.{no_asks};
 ghost use Rattle.linda_step.specs.Dispatch.{on_close};
@@ -162,7 +162,7 @@ impl<B: Bag> Store<B> {
     pub fn size_of(&self, messages: &[(u32, Message)]) -> u64
         requires { length messages.now ≤ MAX_BATCH }
         ensures bytes { (all : History) → Answers self.now.state self.now.soft messages.now all
-            → result ≡ length (payload all.deeds) }
+            → result ≡ length (payload written all.deeds) }
         ensures orderly { IsOrderly self.now.state self.now.soft }
     {
         size::bytes_of(&self.state, messages) as u64
@@ -174,7 +174,7 @@ impl<B: Bag> Store<B> {
     pub fn size_of_one(&self, client: u32, message: &Message) -> u64
         ensures bytes { (all : History)
             → Answers self.now.state self.now.soft ((client, message.now) ∷ []) all
-            → result ≡ length (payload all.deeds) }
+            → result ≡ length (payload written all.deeds) }
         ensures orderly { IsOrderly self.now.state self.now.soft }
     {
         size::bytes_of_one(&self.state, client, message) as u64
