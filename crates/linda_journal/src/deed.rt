@@ -136,6 +136,7 @@ fn push_head(out: &mut Vec<u8>, kind: u8, client: u32, n: u64) -> Result<(), All
 pub(crate) fn deed_fits(form: Form, deed: &Deed)
     ensures { format.FitsDeed form deed.now }
 {
+    // The numbers are read because their ranges are known then.
     match deed {
         Deed::Out { client, n, tuple } => {
             let (_client, _n) = (*client, *n);

@@ -106,7 +106,7 @@ pub(crate) fn placed_len(tuple: &Tuple) -> usize
     ensures exact { result ≡ ID + length ((value.tuple written).spell tuple.now) }
     ensures short { result ≤ 65535 }
 {
-    ID + tuple_len(tuple)
+    ID + tuple_len(BANK_FORM, tuple)
 }
 
 /// The bytes of an id.
