@@ -9,7 +9,7 @@ use Rattle.linda_wire.specs.declared.message.Message.{Message}
 use Rattle.linda_state.specs.declared.deed.Deed.{Deed}
 use Rattle.linda_state.specs.State.{State, IsState}
 use Rattle.linda_state.specs.Proper.{AreDone}
-use Rattle.linda_state.specs.DeedFormat.{spell_deed, payload}
+use Rattle.linda_state.specs.DeedFormat.{written, spell_deed, payload}
 use Rattle.linda_state.proofs.ProperLaws.{none_done}
 use Rattle.linda_step.specs.Soft.{Soft}
 use Rattle.linda_step.specs.Answer.{Answer}
@@ -85,11 +85,11 @@ few st soft ms told new then most le served =
     let same = ap length served.tells.deeds in
     omega (arith, le, count, deeds, same)
 
-pub some_bytes : (ds : List Deed) → 0 < length ds → 0 < length (payload ds)
+pub some_bytes : (ds : List Deed) → 0 < length ds → 0 < length (payload written ds)
 some_bytes [] lt = absurd (omega (arith, lt))
 some_bytes (d ∷ ds) lt =
-    let first = deed_some d in
-    let all = length-append (spell_deed d) (payload ds) in
+    let first = deed_some written d in
+    let all = length-append (spell_deed written d) (payload written ds) in
     omega (arith, first, all)
 
 pub handled : (old new : Store) (ms : List (ℕ × Message)) (told : Served) → IsServed old.state old.soft ms told new.state new.soft → HasHandled old (comings ms) told.sends.items new

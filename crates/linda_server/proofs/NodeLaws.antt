@@ -4,7 +4,7 @@ use Rattle.std.proofs.lemmas.Bool.{cond-true, cond-false}
 use Rattle.std.specs.Global.{Vec}
 use Rattle.linda_wire.specs.declared.reply.Reply.{Reply}
 use Rattle.linda_state.specs.declared.deed.Deed.{Deed}
-use Rattle.linda_state.specs.DeedFormat.{payload}
+use Rattle.linda_state.specs.DeedFormat.{written, payload}
 use Rattle.linda_state.specs.State.{State}
 use Rattle.linda_state.specs.After.{IsAfter}
 use Rattle.linda_step.specs.Store.{Store}
@@ -74,12 +74,12 @@ module _ (before after : State) (old new : Store) (was_down is_down : Bool) (los
       (done : IfOk r (λ sends. HasHandled old xs sends.items new))
       (up : OnOk r ((was_down ≡ false) × (is_down ≡ false)))
       (full : IsErrOf r faults.Full → New ≡ Old)
-      (room : IsErrOf r faults.Full → (all : History) → Happens old.state old.soft xs all → 0 < length (payload all.deeds))
+      (room : IsErrOf r faults.Full → (all : History) → Happens old.state old.soft xs all → 0 < length (payload written all.deeds))
       (down : IsErrOf r faults.Down → is_down ≡ true)
       (stays : was_down ≡ true → IsErrOf r faults.Down × (New ≡ Old))
       (before_is : was_down ≡ false → is_down ≡ true → after ≡ old.state)
       (remains : was_down ≡ false → is_down ≡ true → MayRemain Old xs still_lost) where
-    some_deeds : (ds : List Deed) → 0 < length (payload ds) → ds ≢ []
+    some_deeds : (ds : List Deed) → 0 < length (payload written ds) → ds ≢ []
     some_deeds [] some none = absurd (omega (arith, some))
     some_deeds (d ∷ ds) some none = absurd (nothing_there d ds none)
       where

@@ -5,7 +5,7 @@ use Rattle.linda_wire.specs.declared.reply.Reply.{Reply}
 use Rattle.linda_state.specs.declared.deed.Deed.{Deed}
 use Rattle.linda_state.specs.State.{State, IsState}
 use Rattle.linda_state.specs.Proper.{AreDone}
-use Rattle.linda_state.specs.DeedFormat.{payload}
+use Rattle.linda_state.specs.DeedFormat.{written, payload}
 use Rattle.linda_step.specs.History.{Coming, History, Happens, Answers, history_of}
 use Rattle.linda_step.specs.Store.{Store}
 use Rattle.linda_journal.specs.Renewal.{IsNoBank}
@@ -64,7 +64,7 @@ IsNothingOr st left right = (IsNoBank left × IsNoBank right) ⊎ Stands left ri
 -- The messages would do deeds, and the record of them, after this end, would pass the limit.
 abbrev pub HasNoRoom : Store → List (ℕ × Message) → ℕ → ℕ → Type 0
 HasNoRoom old ms end limit = (all : History) → Answers old.state old.soft ms all
-    → (0 < length (payload all.deeds)) × (limit < end + RECORD_BYTES + length (payload all.deeds))
+    → (0 < length (payload written all.deeds)) × (limit < end + RECORD_BYTES + length (payload written all.deeds))
 
 -- The limit is one that a bank may have.
 abbrev pub IsLimit : ℕ → Type 0

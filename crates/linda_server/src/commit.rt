@@ -1,7 +1,7 @@
 //! How deeds come onto the bank in use.
 
 ghost use Rattle.std.specs.Prelude.{◌≡◌, ◌<◌, ◌≤◌, ◌+◌, ◌↔◌, ◌⊎◌, ◌≢◌, [], true, length, IfErr, OnOk, IsErrOf};
-ghost use Rattle.linda_state.specs.DeedFormat.{payload};
+ghost use Rattle.linda_state.specs.DeedFormat.{written, payload};
 ghost use Rattle.linda_state.specs.State as state;
 ghost use Rattle.linda_disk.specs.Disk.{TellsFailures};
 ghost use Rattle.linda_step.specs.declared.size.TheConstants.{MAX_BATCH};
@@ -32,7 +32,7 @@ pub(crate) fn commit<D: Disk>(
     requires few { length deeds.now ≤ MAX_BATCH }
     requires ready { is_ready (λ b. b.is_spent) disks.old ≡ true }
     requires room { 0 < length deeds.now
-        → number_of (λ b. b.end) disks.old + RECORD_BYTES + length (payload deeds.now)
+        → number_of (λ b. b.end) disks.old + RECORD_BYTES + length (payload written deeds.now)
         ≤ number_of (λ b. b.limit) disks.old }
     // At no moment crashes leave anything but the old state, or the one after all of these deeds;
     ensures any_moment { (st new : state.State)

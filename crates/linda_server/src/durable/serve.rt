@@ -20,7 +20,7 @@ use std::alloc::Global;
 
 impl<D: Disk> Durable<D> {
     ghost use Rattle.linda_state.specs.State.{IsState};
-    ghost use Rattle.linda_state.specs.DeedFormat.{payload};
+    ghost use Rattle.linda_state.specs.DeedFormat.{written, payload};
     ghost use Rattle.linda_step.specs.declared.size.TheConstants.{MAX_BATCH};
     ghost use Rattle.linda_step.specs.History.{says, comings};
     ghost use Rattle.linda_step.specs.Store.{IsOrderly};
@@ -200,7 +200,7 @@ impl<D: Disk> Durable<D> {
         requires few { length served.deeds.items ≤ MAX_BATCH }
         requires room { 0 < length served.deeds.items
             → number_of (λ b. b.end) self.old.disks + RECORD_BYTES
-            + length (payload served.deeds.items) ≤ self.old.limit }
+            + length (payload written served.deeds.items) ≤ self.old.limit }
         ensures any_moment { AlwaysLeave self.old.disks self.new.disks
             (IsEither self.old.before.value self.old.store.state) }
         ensures done { IfOk result (λ s. s ≡ served) }
