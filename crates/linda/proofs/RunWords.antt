@@ -1,11 +1,11 @@
 -- What the parser makes of the words behind `run`.
 use Rattle.std.proofs.Common.{◌≡◌, ◌⊎◌, ◌∙◌, ◌==◌, ◌++◌, ◌+◌, arith, ℕ, zero, suc, Bool, true, false, List, [], ◌∷◌, length, Option, Some, None, ap, ap₂, refl, sym, subst, inl, inr, codes}
-use Rattle.std.specs.Prelude.{fold, option_and_then, pos, slice_get, unwrap_or}
+use Rattle.std.specs.Prelude.{fold, is_some, option_and_then, pos, slice_get, unwrap_or}
 use Rattle.std.specs.List.{after_first, before_first, position_or_len}
 use Rattle.std.proofs.lemmas.Bool.{eqb-true, ne_eqb}
 use Rattle.std.specs.Str.{bytes_eq, chars}
 use Rattle.std.proofs.lemmas.Slice.Eq.{bytes_eq-Decides}
-use Rattle.clap.specs.Walk.{Held, Row, Rule, Step, Text, Waiting, Walk, idle, option, positional, after_step, arg_by_long, arg_by_short, long_or_other, plain_word, reacted, reading_by, settled, subcommand_met, used, walked, finished, one_of, bundle_met}
+use Rattle.clap.specs.Walk.{first_of, has_row, with_default, with_values, without, Held, Row, Rule, Step, Text, Waiting, Walk, idle, option, positional, after_step, arg_by_long, arg_by_short, long_or_other, plain_word, reacted, reading_by, settled, subcommand_met, used, walked, finished, one_of, bundle_met}
 use Rattle.clap.specs.Simple.{built, entered, help_rule, subcommand_of}
 use Rattle.clap.specs.Lexer.{has_byte, long_of, long_of_rest, name_and_value, short_of, strip_byte}
 use Rattle.clap.specs.ValueTests.{accepts}
@@ -13,6 +13,7 @@ use Rattle.clap.specs.Kinds.{Kinds, or_else, value_kinds}
 use Rattle.clap.specs.Faults.{fault_of, check_fault, defaults_fault, flag_word_fault, flags_fault, level_fault, long_fault, react_fault, settle_fault, short_fault, step_fault, turn_fault, use_fault, walk_fault}
 use Rattle.clap.specs.declared.builder.value_parser.ValueParser.TheVariants as parsers
 use Rattle.clap.specs.declared.error.kind.ErrorKind.TheVariants as kind
+use Rattle.clap.specs.declared.parser.matches.ValueSource.TheVariants.{CommandLine}
 use Rattle.clap.proofs.OnLiterals.{clap_on_literals}
 use Rattle.std.proofs.Common.{Result, Ok, Err}
 use Rattle.std.specs.Str.Parse.{IsNumeral, ParsesUnsigned, digits_value, without_leading_plus, starts_with_minus}
@@ -23,7 +24,7 @@ use Rattle.clap.specs.Values.{IsSignedIn}
 use Rattle.clap.specs.Matches.{ReadsOne}
 use Rattle.clap.proofs.KindLemmas.{value_kinds-ok, value_kinds-refused}
 use Rattle.clap.proofs.ValueTestLemmas.{accepts-Accepts}
-use Rattle.linda.specs.Commands.{IsRefusedRun, AsksForRun, Spells, IsEnd, IsOption, has_hyphen, linda, servers_rule}
+use Rattle.linda.specs.Commands.{IsRefusedRun, AsksForRun, Spells, IsEnd, IsOption, has_hyphen, linda, servers_rule, trace_rule}
 use Rattle.linda.specs.Marks.{hyphen, equals_sign, plus_sign, help_letter}
 use Rattle.linda_client.specs.declared.limits.TheConstants.{MAX_SERVERS}
 use Rattle.linda.proofs.Parsing.{first_is, AsksToRun, run_stops, first_empty, no_end, no_strip, past, second_empty, run_passes, run_walk, runner, top_fault}
@@ -32,15 +33,21 @@ use Rattle.linda.proofs.Parsing.{first_is, AsksToRun, run_stops, first_empty, no
 abbrev pub checks : List Rule
 checks = runner.rules
 
--- the option and the help flag, as building filled them in
+-- the options and the help flag, as building filled them in
 abbrev pub servers : Rule
 servers = unwrap_or (slice_get checks 0) servers_rule
 
+abbrev trace : Rule
+trace = unwrap_or (slice_get checks 1) trace_rule
+
 abbrev help : Rule
-help = unwrap_or (slice_get checks 1) help_rule
+help = unwrap_or (slice_get checks 2) help_rule
 
 abbrev the_name : Text
 the_name = codes "servers"
+
+abbrev trace_name : Text
+trace_name = codes "trace"
 
 -- ---- where the walk stands
 
@@ -57,6 +64,10 @@ trail k h = record { held = h; waiting = k; position = 1; is_trailing = true; st
 -- the option was met, and its number was not
 abbrev asking : List Row → Held
 asking rows = held rows (Some (the_name, []))
+
+-- the option of the trace was met, and its file was not
+abbrev asking_trace : List Row → Held
+asking_trace rows = held rows (Some (trace_name, []))
 
 -- and then a number
 abbrev told : List Row → Text → Held
@@ -95,13 +106,17 @@ trailing k h (x ∷ xs) e = let bad : kind.UnknownArgument ∷ [] ≡ [] = e in 
 
 -- ---- what a word comes to, where no fault comes of it
 
--- `--`; the option alone; the option with a number; a word that is no option
+-- `--`; the option alone; the option with a number; the option of the trace, alone or with its file; a word that is no option
 data Goes (k : Waiting) (rows : List Row) (pending : Option (Text × List Text)) (x : Text) : Walk → Type 0 where
   ends : x ≡ codes "--" → Goes k rows pending x (trail k (held rows pending))
   asks : long_of x ≡ Some (the_name, None) → settle_fault checks false (held rows pending) ≡ []
       → Goes k rows pending x (at (option the_name) (asking (settled checks (held rows pending)).rows))
   says : (v : Text) → long_of x ≡ Some (the_name, Some v) → react_fault checks false servers (v ∷ []) (held rows pending) ≡ []
       → Goes k rows pending x (at idle (held (reacted checks servers (v ∷ []) (held rows pending)).rows None))
+  asks_trace : long_of x ≡ Some (trace_name, None) → settle_fault checks false (held rows pending) ≡ []
+      → Goes k rows pending x (at (option trace_name) (asking_trace (settled checks (held rows pending)).rows))
+  says_trace : (v : Text) → long_of x ≡ Some (trace_name, Some v) → react_fault checks false trace (v ∷ []) (held rows pending) ≡ []
+      → Goes k rows pending x (at idle (held (reacted checks trace (v ∷ []) (held rows pending)).rows None))
   stays : step_fault runner 1 (plain_word checks k x (held rows pending)).0 (plain_word checks k x (held rows pending)).1 ≡ []
       → Goes k rows pending x (after_step checks x (at k (held rows pending)) (plain_word checks k x (held rows pending)).0 (plain_word checks k x (held rows pending)).1)
 
@@ -114,16 +129,27 @@ turn_of k h x o = or_else (flag_word_fault checks false o x h) (step_fault runne
 abbrev next_of : Waiting → Held → Text → Option (Text × Option Text) → Walk
 next_of k h x o = after_step checks x (at k h) (met_of k h x o).0 (met_of k h x o).1
 
-long_is : (name : Text) → ((the_name ≡ name) × (arg_by_long checks name ≡ Some servers)) ⊎ ((arg_by_long checks name ≡ Some help) ⊎ (arg_by_long checks name ≡ None))
+-- which argument a long name names: the number of servers, the trace, the help, or none
+abbrev Named : Text → Type 0
+Named name =
+    ((the_name ≡ name) × (arg_by_long checks name ≡ Some servers)) ⊎ (((trace_name ≡ name) × (arg_by_long checks name ≡ Some trace))
+    ⊎ ((arg_by_long checks name ≡ Some help) ⊎ (arg_by_long checks name ≡ None)))
+
+long_is : (name : Text) → Named name
 long_is name = go (bytes_eq the_name name) refl
   where
-    other : (b : Bool) → bytes_eq (codes "help") name ≡ b → bytes_eq the_name name ≡ false → (arg_by_long checks name ≡ Some help) ⊎ (arg_by_long checks name ≡ None)
-    other true t unlike = inl (rw (unlike, t) refl)
-    other false t unlike = inr (rw (unlike, t) refl)
+    other : (b : Bool) → bytes_eq (codes "help") name ≡ b → bytes_eq the_name name ≡ false → bytes_eq trace_name name ≡ false
+        → (arg_by_long checks name ≡ Some help) ⊎ (arg_by_long checks name ≡ None)
+    other true t unlike no_trace = inl (rw (unlike, no_trace, t) refl)
+    other false t unlike no_trace = inr (rw (unlike, no_trace, t) refl)
 
-    go : (b : Bool) → bytes_eq the_name name ≡ b → ((the_name ≡ name) × (arg_by_long checks name ≡ Some servers)) ⊎ ((arg_by_long checks name ≡ Some help) ⊎ (arg_by_long checks name ≡ None))
+    traced : (b : Bool) → bytes_eq trace_name name ≡ b → bytes_eq the_name name ≡ false → Named name
+    traced true t unlike = inr (inl ((bytes_eq-Decides trace_name name).0 t, rw (unlike, t) refl))
+    traced false t unlike = inr (inr (other (bytes_eq (codes "help") name) refl unlike t))
+
+    go : (b : Bool) → bytes_eq the_name name ≡ b → Named name
     go true t = inl ((bytes_eq-Decides the_name name).0 t, rw t refl)
-    go false t = inr (other (bytes_eq (codes "help") name) refl t)
+    go false t = traced (bytes_eq trace_name name) refl t
 
 short_is : (c : ℕ) → (arg_by_short checks c ≡ None) ⊎ (arg_by_short checks c ≡ Some help)
 short_is c = go (help_letter == c) refl
@@ -152,6 +178,16 @@ by_found k rows pending x name (Some v) is found e =
     let turn = rw found at e in
     rw found (says v is (first_empty _ _ turn))
 
+by_trace : (k : Waiting) (rows : List Row) (pending : Option (Text × List Text)) (x name : Text) (o : Option Text)
+    → long_of x ≡ Some (trace_name, o) → arg_by_long checks name ≡ Some trace → turn_of k (held rows pending) x (Some (name, o)) ≡ []
+    → Goes k rows pending x (next_of k (held rows pending) x (Some (name, o)))
+by_trace k rows pending x name None is found e =
+    let turn = rw found at e in
+    rw found (asks_trace is (first_empty _ _ turn))
+by_trace k rows pending x name (Some v) is found e =
+    let turn = rw found at e in
+    rw found (says_trace v is (first_empty _ _ turn))
+
 by_long : (k : Waiting) (rows : List Row) (pending : Option (Text × List Text)) (x name : Text) (o : Option Text)
     → long_of x ≡ Some (name, o) → turn_of k (held rows pending) x (Some (name, o)) ≡ []
     → Goes k rows pending x (next_of k (held rows pending) x (Some (name, o)))
@@ -161,13 +197,13 @@ by_long k rows pending x name o is e = go (long_is name)
     helps None t = help_refused (held rows pending) (first_empty _ _ t)
     helps (Some v) t = let bad : kind.TooManyValues ∷ [] ≡ [] = t in cc
 
-    go : ((the_name ≡ name) × (arg_by_long checks name ≡ Some servers)) ⊎ ((arg_by_long checks name ≡ Some help) ⊎ (arg_by_long checks name ≡ None))
-        → Goes k rows pending x (next_of k (held rows pending) x (Some (name, o)))
+    go : Named name → Goes k rows pending x (next_of k (held rows pending) x (Some (name, o)))
     go (inl h) = by_found k rows pending x name o (subst (λ (n : Text). long_of x ≡ Some (n, o)) (sym h.0) is) h.1 e
-    go (inr (inl h)) =
+    go (inr (inl h)) = by_trace k rows pending x name o (subst (λ (n : Text). long_of x ≡ Some (n, o)) (sym h.0) is) h.1 e
+    go (inr (inr (inl h))) =
         let at_help = ap (λ f. or_else (long_fault checks false f o (held rows pending)) (step_fault runner 1 (met_of k (held rows pending) x (Some (name, o))).0 (met_of k (held rows pending) x (Some (name, o))).1)) (sym h) in
         absurd (helps o (at_help ∙ e))
-    go (inr (inr h)) = let bad : kind.UnknownArgument ∷ [] ≡ [] = rw h at e in cc
+    go (inr (inr (inr h))) = let bad : kind.UnknownArgument ∷ [] ≡ [] = rw h at e in cc
 
 -- flags are refused, but where they have no character
 char_turn : (k : Waiting) (rows : List Row) (pending : Option (Text × List Text)) (x flags : Text) (n : ℕ) (o : Option ℕ) → slice_get (chars flags) 0 ≡ o
@@ -227,8 +263,8 @@ asking_refused rows e = let bad : kind.InvalidValue ∷ [] ≡ [] = e in cc
 settles : (h : Held) → end_fault h ≡ [] → settle_fault checks false h ≡ []
 settles h e = first_empty (settle_fault checks false h) (or_else (defaults_fault (settled checks h).rows checks) (check_fault runner (finished checks h) false)) e
 
-settles_first : (h : Held) (v : Text) → react_fault checks false servers (v ∷ []) h ≡ [] → settle_fault checks false h ≡ []
-settles_first h v e = first_empty (settle_fault checks false h) (use_fault false servers (v ∷ []) (settled checks h).rows) e
+settles_first : (a : Rule) (h : Held) (v : Text) → react_fault checks false a (v ∷ []) h ≡ [] → settle_fault checks false h ≡ []
+settles_first a h v e = first_empty (settle_fault checks false h) (use_fault false a (v ∷ []) (settled checks h).rows) e
 
 then_used : (h : Held) (v : Text) → react_fault checks false servers (v ∷ []) h ≡ [] → use_fault false servers (v ∷ []) (settled checks h).rows ≡ []
 then_used h v e = second_empty (settle_fault checks false h) (use_fault false servers (v ∷ []) (settled checks h).rows) e
@@ -253,7 +289,9 @@ from_asking rows (x ∷ xs) e =
     go : (w : Walk) → Goes (option the_name) rows (Some (the_name, [])) x w → from w xs ≡ [] → Told rows (x ∷ xs)
     go w (ends is) f = absurd (asking_refused rows (settles (asking rows) (trailing (option the_name) (asking rows) xs f).1))
     go w (asks is settle) f = absurd (asking_refused rows settle)
-    go w (says v is react) f = absurd (asking_refused rows (settles_first (asking rows) v react))
+    go w (says v is react) f = absurd (asking_refused rows (settles_first servers (asking rows) v react))
+    go w (asks_trace is settle) f = absurd (asking_refused rows settle)
+    go w (says_trace v is react) f = absurd (asking_refused rows (settles_first trace (asking rows) v react))
     go w (stays step) f = record { v = x; later = xs; spelled = refl; passes = f }
 
 -- the row of the option with its number
@@ -273,7 +311,9 @@ told_twice_refused u v (x ∷ xs) e =
     go : (w : Walk) → Goes idle (row u ∷ []) (Some (the_name, v ∷ [])) x w → from w xs ≡ [] → ⊥
     go w (ends is) f = twice_refused u v (settles (told (row u ∷ []) v) (trailing idle (told (row u ∷ []) v) xs f).1)
     go w (asks is settle) f = twice_refused u v settle
-    go w (says n is react) f = twice_refused u v (settles_first (told (row u ∷ []) v) n react)
+    go w (says n is react) f = twice_refused u v (settles_first servers (told (row u ∷ []) v) n react)
+    go w (asks_trace is settle) f = twice_refused u v settle
+    go w (says_trace n is react) f = twice_refused u v (settles_first trace (told (row u ∷ []) v) n react)
     go w (stays step) f = let bad : kind.UnknownArgument ∷ [] ≡ [] = step in cc
 
 asked_twice_refused : (u : Text) (xs : List Text) → from (at (option the_name) (asking (row u ∷ []))) xs ≡ [] → ⊥
@@ -281,37 +321,183 @@ asked_twice_refused u xs e =
     let t = from_asking (row u ∷ []) xs e in
     told_twice_refused u t.v t.later t.passes
 
+-- ---- a trace that is found stays found
+
+-- the rows at the end of these words
+abbrev ending : Walk → List Text → List Row
+ending w xs = finished checks (fold (walked checks []) w xs).held
+
+-- a file is found for the trace
+abbrev pub has_trace : List Row → Type 0
+has_trace rows = is_some (first_of trace_name rows) ≡ true
+
+-- a row of the other option
+no_trace_row : (r : Row) → bytes_eq r.id the_name ≡ true → bytes_eq r.id trace_name ≡ false
+no_trace_row r t = ap (λ (n : Text). bytes_eq n trace_name) ((bytes_eq-Decides r.id the_name).0 t)
+
+same_behind : (r : Row) (xs ys : List Row) → first_of trace_name xs ≡ first_of trace_name ys → first_of trace_name (r ∷ xs) ≡ first_of trace_name (r ∷ ys)
+same_behind r xs ys e = go (bytes_eq r.id trace_name) refl
+  where
+    go : (b : Bool) → bytes_eq r.id trace_name ≡ b → first_of trace_name (r ∷ xs) ≡ first_of trace_name (r ∷ ys)
+    go true t = rw t refl
+    go false t = rw t e
+
+number_dropped : (rows : List Row) → first_of trace_name (without the_name rows) ≡ first_of trace_name rows
+number_dropped [] = refl
+number_dropped (r ∷ rs) = go (bytes_eq r.id the_name) refl (number_dropped rs)
+  where
+    go : (b : Bool) → bytes_eq r.id the_name ≡ b → first_of trace_name (without the_name rs) ≡ first_of trace_name rs
+        → first_of trace_name (without the_name (r ∷ rs)) ≡ first_of trace_name (r ∷ rs)
+    go true t later = rw (t, no_trace_row r t) refl
+    go false t later = rw t (same_behind r (without the_name rs) rs later)
+
+number_put : (v : Text) (rows : List Row) → first_of trace_name (with_values the_name (reading_by servers) CommandLine (v ∷ []) rows) ≡ first_of trace_name rows
+number_put v [] = refl
+number_put v (r ∷ rs) = go (bytes_eq r.id the_name) refl (number_put v rs)
+  where
+    go : (b : Bool) → bytes_eq r.id the_name ≡ b → first_of trace_name (with_values the_name (reading_by servers) CommandLine (v ∷ []) rs) ≡ first_of trace_name rs
+        → first_of trace_name (with_values the_name (reading_by servers) CommandLine (v ∷ []) (r ∷ rs)) ≡ first_of trace_name (r ∷ rs)
+    go true t later = rw (t, no_trace_row r t) refl
+    go false t later = rw t (same_behind r (with_values the_name (reading_by servers) CommandLine (v ∷ []) rs) rs later)
+
+-- the number of servers is used, and the trace is there as before
+number_keeps : (v : Text) (rows : List Row) → has_trace rows → has_trace (used servers (v ∷ []) rows)
+number_keeps v rows h = ap is_some (number_put v (without the_name rows) ∙ number_dropped rows) ∙ h
+
+some_value : (vs : List Text) (v : Text) → is_some (slice_get (vs ++ v ∷ []) 0) ≡ true
+some_value [] v = refl
+some_value (x ∷ xs) v = refl
+
+trace_put : (v : Text) (rows : List Row) → has_trace (with_values trace_name (reading_by trace) CommandLine (v ∷ []) rows)
+trace_put v [] = refl
+trace_put v (r ∷ rs) = go (bytes_eq r.id trace_name) refl (trace_put v rs)
+  where
+    go : (b : Bool) → bytes_eq r.id trace_name ≡ b → has_trace (with_values trace_name (reading_by trace) CommandLine (v ∷ []) rs)
+        → has_trace (with_values trace_name (reading_by trace) CommandLine (v ∷ []) (r ∷ rs))
+    go true t later = rw (t, t) (some_value r.values v)
+    go false t later = rw (t, t) later
+
+-- the option of the trace is used with a file
+trace_used : (v : Text) (rows : List Row) → has_trace (used trace (v ∷ []) rows)
+trace_used v rows = trace_put v (without trace_name rows)
+
+no_default : (a : Rule) (rows : List Row) → a.defaults ≡ [] → with_default rows a ≡ rows
+no_default a rows e = go (has_row a.id rows) refl
+  where
+    go : (b : Bool) → has_row a.id rows ≡ b → with_default rows a ≡ rows
+    go true t = rw t refl
+    go false t = rw (t, e) refl
+
+no_defaults : (rows : List Row) → fold with_default rows checks ≡ rows
+no_defaults rows =
+    no_default help (with_default (with_default rows servers) trace) refl ∙ no_default trace (with_default rows servers) refl ∙ no_default servers rows refl
+
+finishes : (rows : List Row) → has_trace rows → has_trace (fold with_default rows checks)
+finishes rows h = subst has_trace (sym (no_defaults rows)) h
+
+asking_trace_refused : (rows : List Row) → settle_fault checks false (asking_trace rows) ≡ [] → ⊥
+asking_trace_refused rows e = let bad : kind.InvalidValue ∷ [] ≡ [] = e in cc
+
+-- whatever words come: where a trace was found, one is found at the end
+record Kept (xs : List Text) : Type 0 where
+  idly : (rows : List Row) (pending : Option (Text × List Text)) → has_trace (settled checks (held rows pending)).rows
+      → from (at idle (held rows pending)) xs ≡ [] → has_trace (ending (at idle (held rows pending)) xs)
+  number : (rows : List Row) → has_trace rows → from (at (option the_name) (asking rows)) xs ≡ [] → has_trace (ending (at (option the_name) (asking rows)) xs)
+  file : (rows : List Row) → from (at (option trace_name) (asking_trace rows)) xs ≡ [] → has_trace (ending (at (option trace_name) (asking_trace rows)) xs)
+
+kept_none : Kept []
+kept_none = record {
+  idly = λ rows pending h e. finishes (settled checks (held rows pending)).rows h;
+  number = λ rows h e. absurd (asking_refused rows (settles (asking rows) (sym (from_end (at (option the_name) (asking rows))) ∙ e)));
+  file = λ rows e. absurd (asking_trace_refused rows (settles (asking_trace rows) (sym (from_end (at (option trace_name) (asking_trace rows))) ∙ e)));
+}
+
+idly_more : (x : Text) (xs : List Text) → Kept xs → (rows : List Row) (pending : Option (Text × List Text)) → has_trace (settled checks (held rows pending)).rows
+    → from (at idle (held rows pending)) (x ∷ xs) ≡ [] → has_trace (ending (at idle (held rows pending)) (x ∷ xs))
+idly_more x xs k rows pending h e =
+    let s = stepped (at idle (held rows pending)) x xs e in
+    go _ (goes idle rows pending x s.0) s.1
+  where
+    go : (w : Walk) → Goes idle rows pending x w → from w xs ≡ [] → has_trace (ending w xs)
+    go w (ends is) f =
+        subst (λ (ys : List Text). has_trace (ending (trail idle (held rows pending)) ys)) (sym (trailing idle (held rows pending) xs f).0)
+        (finishes (settled checks (held rows pending)).rows h)
+    go w (asks is settle) f = k.number (settled checks (held rows pending)).rows h f
+    go w (says v is react) f =
+        k.idly (reacted checks servers (v ∷ []) (held rows pending)).rows None (number_keeps v (settled checks (held rows pending)).rows h) f
+    go w (asks_trace is settle) f = k.file (settled checks (held rows pending)).rows f
+    go w (says_trace v is react) f =
+        k.idly (reacted checks trace (v ∷ []) (held rows pending)).rows None (trace_used v (settled checks (held rows pending)).rows) f
+    go w (stays step) f = let bad : kind.UnknownArgument ∷ [] ≡ [] = step in cc
+
+number_more : (x : Text) (xs : List Text) → Kept xs → (rows : List Row) → has_trace rows → from (at (option the_name) (asking rows)) (x ∷ xs) ≡ []
+    → has_trace (ending (at (option the_name) (asking rows)) (x ∷ xs))
+number_more x xs k rows h e =
+    let s = stepped (at (option the_name) (asking rows)) x xs e in
+    go _ (goes (option the_name) rows (Some (the_name, [])) x s.0) s.1
+  where
+    go : (w : Walk) → Goes (option the_name) rows (Some (the_name, [])) x w → from w xs ≡ [] → has_trace (ending w xs)
+    go w (ends is) f = absurd (asking_refused rows (settles (asking rows) (trailing (option the_name) (asking rows) xs f).1))
+    go w (asks is settle) f = absurd (asking_refused rows settle)
+    go w (says v is react) f = absurd (asking_refused rows (settles_first servers (asking rows) v react))
+    go w (asks_trace is settle) f = absurd (asking_refused rows settle)
+    go w (says_trace v is react) f = absurd (asking_refused rows (settles_first trace (asking rows) v react))
+    go w (stays step) f = k.idly rows (Some (the_name, x ∷ [])) (number_keeps x rows h) f
+
+file_more : (x : Text) (xs : List Text) → Kept xs → (rows : List Row) → from (at (option trace_name) (asking_trace rows)) (x ∷ xs) ≡ []
+    → has_trace (ending (at (option trace_name) (asking_trace rows)) (x ∷ xs))
+file_more x xs k rows e =
+    let s = stepped (at (option trace_name) (asking_trace rows)) x xs e in
+    go _ (goes (option trace_name) rows (Some (trace_name, [])) x s.0) s.1
+  where
+    go : (w : Walk) → Goes (option trace_name) rows (Some (trace_name, [])) x w → from w xs ≡ [] → has_trace (ending w xs)
+    go w (ends is) f = absurd (asking_trace_refused rows (settles (asking_trace rows) (trailing (option trace_name) (asking_trace rows) xs f).1))
+    go w (asks is settle) f = absurd (asking_trace_refused rows settle)
+    go w (says v is react) f = absurd (asking_trace_refused rows (settles_first servers (asking_trace rows) v react))
+    go w (asks_trace is settle) f = absurd (asking_trace_refused rows settle)
+    go w (says_trace v is react) f = absurd (asking_trace_refused rows (settles_first trace (asking_trace rows) v react))
+    go w (stays step) f = k.idly rows (Some (trace_name, x ∷ [])) (trace_used x rows) f
+
+kept : (xs : List Text) → Kept xs
+kept [] = kept_none
+kept (x ∷ xs) = record { idly = idly_more x xs (kept xs); number = number_more x xs (kept xs); file = file_more x xs (kept xs) }
+
 -- the number passes its parser
 abbrev passes_as_number : Text → Type 0
 passes_as_number v = value_kinds false (parsers.Signed (pos 1) (pos MAX_SERVERS)) v ≡ []
 
-from_given : (u : Text) (xs : List Text) → from (at idle (held (row u ∷ []) None)) xs ≡ [] → IsEnd xs
-from_given u [] e = inl refl
+from_given : (u : Text) (xs : List Text) → from (at idle (held (row u ∷ []) None)) xs ≡ []
+    → IsEnd xs ⊎ has_trace (ending (at idle (held (row u ∷ []) None)) xs)
+from_given u [] e = inl (inl refl)
 from_given u (x ∷ xs) e =
     let s = stepped (at idle (held (row u ∷ []) None)) x xs e in
     go _ (goes idle (row u ∷ []) None x s.0) s.1
   where
-    go : (w : Walk) → Goes idle (row u ∷ []) None x w → from w xs ≡ [] → IsEnd (x ∷ xs)
-    go w (ends is) f = inr (rw (is, (trailing idle (held (row u ∷ []) None) xs f).0) refl)
+    go : (w : Walk) → Goes idle (row u ∷ []) None x w → from w xs ≡ [] → IsEnd (x ∷ xs) ⊎ has_trace (ending w xs)
+    go w (ends is) f = inl (inr (rw (is, (trailing idle (held (row u ∷ []) None) xs f).0) refl))
     go w (asks is settle) f = absurd (asked_twice_refused u xs f)
     go w (says n is react) f = let bad : kind.ArgumentConflict ∷ [] ≡ [] = react in cc
+    go w (asks_trace is settle) f = inr ((kept xs).file (row u ∷ []) f)
+    go w (says_trace n is react) f = inr ((kept xs).idly (used trace (n ∷ []) (row u ∷ [])) None (trace_used n (row u ∷ [])) f)
     go w (stays step) f = let bad : kind.UnknownArgument ∷ [] ≡ [] = step in cc
 
 number_passes : (v : Text) → use_fault false servers (v ∷ []) [] ≡ [] → passes_as_number v
 number_passes v e = first_empty (value_kinds false (parsers.Signed (pos 1) (pos MAX_SERVERS)) v) [] e
 
-from_told : (v : Text) (xs : List Text) → from (at idle (told [] v)) xs ≡ [] → passes_as_number v × IsEnd xs
-from_told v [] e = (number_passes v (settles (told [] v) (sym (from_end (at idle (told [] v))) ∙ e)), inl refl)
+from_told : (v : Text) (xs : List Text) → from (at idle (told [] v)) xs ≡ [] → (passes_as_number v × IsEnd xs) ⊎ has_trace (ending (at idle (told [] v)) xs)
+from_told v [] e = inl (number_passes v (settles (told [] v) (sym (from_end (at idle (told [] v))) ∙ e)), inl refl)
 from_told v (x ∷ xs) e =
     let s = stepped (at idle (told [] v)) x xs e in
     go _ (goes idle [] (Some (the_name, v ∷ [])) x s.0) s.1
   where
-    go : (w : Walk) → Goes idle [] (Some (the_name, v ∷ [])) x w → from w xs ≡ [] → passes_as_number v × IsEnd (x ∷ xs)
+    go : (w : Walk) → Goes idle [] (Some (the_name, v ∷ [])) x w → from w xs ≡ [] → (passes_as_number v × IsEnd (x ∷ xs)) ⊎ has_trace (ending w xs)
     go w (ends is) f =
         let t = trailing idle (told [] v) xs f in
-        (number_passes v (settles (told [] v) t.1), inr (rw (is, t.0) refl))
+        inl (number_passes v (settles (told [] v) t.1), inr (rw (is, t.0) refl))
     go w (asks is settle) f = absurd (asked_twice_refused v xs f)
     go w (says n is react) f = let bad : kind.ArgumentConflict ∷ [] ≡ [] = then_used (told [] v) n react in cc
+    go w (asks_trace is settle) f = inr ((kept xs).file (row v ∷ []) f)
+    go w (says_trace n is react) f = inr ((kept xs).idly (used trace (n ∷ []) (row v ∷ [])) None (trace_used n (row v ∷ [])) f)
     go w (stays step) f = let bad : kind.UnknownArgument ∷ [] ≡ [] = step in cc
 
 -- ---- how a long option is spelled
@@ -385,41 +571,65 @@ pub record Passed (words : List Text) : Type 0 where
   pub is_end : IsEnd end
   pub passes : value_kinds false (parsers.Signed (pos 1) (pos MAX_SERVERS)) number ≡ []
 
-pub passed : (words : List Text) → level_fault runner [] (held [] None) words false [] ≡ [] → Passed words
-passed [] e = absurd (nothing_refused (sym (from_end (at idle (held [] None))) ∙ e))
+abbrev begun : Walk
+begun = at idle (held [] None)
+
+two_pass : (x v : Text) (xs : List Text) → long_of x ≡ Some (the_name, None)
+    → (passes_as_number v × IsEnd xs) ⊎ has_trace (ending (at idle (told [] v)) xs) → Passed (x ∷ v ∷ xs) ⊎ has_trace (ending (at idle (told [] v)) xs)
+two_pass x v xs is (inl n) = inl (record {
+  number = v;
+  option = codes "--servers" ∷ v ∷ [];
+  end = xs;
+  spelled = ap (λ y. y ∷ v ∷ xs) (long_spelled x _ is);
+  is_option = inl refl;
+  is_end = n.1;
+  passes = n.0;
+})
+two_pass x v xs is (inr h) = inr h
+
+asked_on : (x : Text) (xs : List Text) → long_of x ≡ Some (the_name, None) → from (at (option the_name) (asking [])) xs ≡ []
+    → Passed (x ∷ xs) ⊎ has_trace (ending (at (option the_name) (asking [])) xs)
+asked_on x [] is e = absurd (asking_refused [] (settles (asking []) (sym (from_end (at (option the_name) (asking []))) ∙ e)))
+asked_on x (v ∷ xs) is e =
+    let s = stepped (at (option the_name) (asking [])) v xs e in
+    go _ (goes (option the_name) [] (Some (the_name, [])) v s.0) s.1
+  where
+    go : (w : Walk) → Goes (option the_name) [] (Some (the_name, [])) v w → from w xs ≡ [] → Passed (x ∷ v ∷ xs) ⊎ has_trace (ending w xs)
+    go w (ends at_end) f = absurd (asking_refused [] (settles (asking []) (trailing (option the_name) (asking []) xs f).1))
+    go w (asks other settle) f = absurd (asking_refused [] settle)
+    go w (says n other react) f = absurd (asking_refused [] (settles_first servers (asking []) n react))
+    go w (asks_trace other settle) f = absurd (asking_refused [] settle)
+    go w (says_trace n other react) f = absurd (asking_refused [] (settles_first trace (asking []) n react))
+    go w (stays step) f = two_pass x v xs is (from_told v xs f)
+
+given_passes : (x v : Text) (xs : List Text) → long_of x ≡ Some (the_name, Some v) → passes_as_number v
+    → IsEnd xs ⊎ has_trace (ending (at idle (held (row v ∷ []) None)) xs) → Passed (x ∷ xs) ⊎ has_trace (ending (at idle (held (row v ∷ []) None)) xs)
+given_passes x v xs is passes (inl end) = inl (record {
+  number = v;
+  option = (codes "--servers=" ++ v) ∷ [];
+  end = xs;
+  spelled = ap (λ y. y ∷ xs) (long_spelled x _ is);
+  is_option = inr refl;
+  is_end = end;
+  passes = passes;
+})
+given_passes x v xs is passes (inr h) = inr h
+
+pub passed : (words : List Text) → level_fault runner [] (held [] None) words false [] ≡ [] → Passed words ⊎ has_trace (ending begun words)
+passed [] e = absurd (nothing_refused (sym (from_end begun) ∙ e))
 passed (x ∷ xs) e =
-    let s = stepped (at idle (held [] None)) x xs e in
+    let s = stepped begun x xs e in
     go _ (goes idle [] None x s.0) s.1
   where
-    go : (w : Walk) → Goes idle [] None x w → from w xs ≡ [] → Passed (x ∷ xs)
+    go : (w : Walk) → Goes idle [] None x w → from w xs ≡ [] → Passed (x ∷ xs) ⊎ has_trace (ending w xs)
     go w (ends is) f = absurd (nothing_refused (trailing idle (held [] None) xs f).1)
-    go w (asks is settle) f =
-        let t = from_asking [] xs f in
-        let n = from_told t.v t.later t.passes in
-        record {
-          number = t.v;
-          option = codes "--servers" ∷ t.v ∷ [];
-          end = t.later;
-          spelled = rw (← t.spelled) (ap (λ y. y ∷ xs) (long_spelled x _ is));
-          is_option = inl refl;
-          is_end = n.1;
-          passes = n.0;
-        }
-    go w (says v is react) f = record {
-      number = v;
-      option = (codes "--servers=" ++ v) ∷ [];
-      end = xs;
-      spelled = ap (λ y. y ∷ xs) (long_spelled x _ is);
-      is_option = inr refl;
-      is_end = from_given v xs f;
-      passes = number_passes v (then_used (held [] None) v react);
-    }
+    go w (asks is settle) f = asked_on x xs is f
+    go w (says v is react) f = given_passes x v xs is (number_passes v (then_used (held [] None) v react)) (from_given v xs f)
+    go w (asks_trace is settle) f = inr ((kept xs).file [] f)
+    go w (says_trace v is react) f = inr ((kept xs).idly (used trace (v ∷ []) []) None (trace_used v []) f)
     go w (stays step) f = let bad : kind.UnknownArgument ∷ [] ≡ [] = step in cc
 
 -- ---- what is told of words that begin with the option
-
-abbrev begun : Walk
-begun = at idle (held [] None)
 
 abbrev number_kinds : Text → Kinds
 number_kinds = value_kinds false (parsers.Signed (pos 1) (pos MAX_SERVERS))
@@ -588,27 +798,54 @@ run_is_found words n a =
     ap (subcommand_of linda) a.spelled ∙ run_rows a.name (a.option ++ a.end)
     ∙ ap (λ (rows : List Row). Some (codes "run", rows)) (found a.number a.option a.end a.is_option a.is_end (no_hyphen a.number n a.spells))
 
--- words that begin with `run` and pass ask for a run
-pub runs : (words : List Text) → AsksToRun words → (n : ℕ) × AsksForRun words n
-runs words a =
-    let p = passed a.runs.rest a.runs.passes in
-    let n = spells p.number p.passes in (
-      n.0,
-      record {
-        name = a.name;
-        number = p.number;
-        option = p.option;
-        end = p.end;
-        spelled = a.spelled ∙ ap (λ (xs : List Text). a.name ∷ xs) (a.runs.spelled ∙ ap (λ (xs : List Text). codes "run" ∷ xs) p.spelled);
-        is_option = p.is_option;
-        is_end = p.is_end;
-        spells = n.1;
-      },
-    )
+-- the words are a program's name and `run`, and the parser finds a file for the trace
+pub record TracesRun (words : List Text) : Type 0 where
+  pub name : Text
+  pub later : List Text
+  pub rows : List Row
+  pub spelled : words ≡ name ∷ codes "run" ∷ later
+  pub found : subcommand_of linda words ≡ Some (codes "run", rows)
+  pub has : has_trace rows
+
+-- words that begin with `run` and pass ask for a run, or name a file for its trace
+pub runs : (words : List Text) → AsksToRun words → ((n : ℕ) × AsksForRun words n) ⊎ TracesRun words
+runs words a = go (passed a.runs.rest a.runs.passes)
+  where
+    spelled : words ≡ a.name ∷ codes "run" ∷ a.runs.rest
+    spelled = a.spelled ∙ ap (λ (xs : List Text). a.name ∷ xs) a.runs.spelled
+
+    go : Passed a.runs.rest ⊎ has_trace (ending begun a.runs.rest) → ((n : ℕ) × AsksForRun words n) ⊎ TracesRun words
+    go (inl p) =
+        let n = spells p.number p.passes in
+        inl (
+          n.0,
+          record {
+            name = a.name;
+            number = p.number;
+            option = p.option;
+            end = p.end;
+            spelled = spelled ∙ ap (λ (xs : List Text). a.name ∷ codes "run" ∷ xs) p.spelled;
+            is_option = p.is_option;
+            is_end = p.is_end;
+            spells = n.1;
+          },
+        )
+    go (inr h) = inr (record {
+      name = a.name;
+      later = a.runs.rest;
+      rows = ending begun a.runs.rest;
+      spelled = spelled;
+      found = ap (subcommand_of linda) spelled ∙ run_rows a.name a.runs.rest;
+      has = h;
+    })
 
 -- what the getter is given
 pub number_of_row : (v : Text) → one_of (codes "servers") (row v ∷ []) ≡ Some (without_minus v)
 number_of_row v = refl
+
+-- and no file
+pub no_file_of_row : (v : Text) → first_of (codes "trace") (row v ∷ []) ≡ None
+no_file_of_row v = refl
 
 -- ---- what is told of the words behind `run` that do not pass
 

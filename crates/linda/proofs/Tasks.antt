@@ -1,24 +1,24 @@
 -- What the parser finds, and the task that the words ask for.
-use Rattle.std.proofs.Common.{◌≡◌, ◌⊎◌, ◌∙◌, ℕ, List, [], ◌∷◌, Option, Some, ap, refl, sym, subst, inl, inr, codes, arith, slice_get, slice_index, unwrap_or, option_map}
-use Rattle.clap.specs.Walk.{Text, rows_of, one_of}
+use Rattle.std.proofs.Common.{◌≡◌, ◌⊎◌, ◌∙◌, ℕ, List, [], ◌∷◌, Option, Some, ap, refl, sym, subst, inl, inr, codes, arith, slice_get, slice_index, unwrap_or, option_map, true, false}
+use Rattle.clap.specs.Walk.{Text, first_of, rows_of, one_of}
 use Rattle.clap.specs.Lexer.{without_minus}
-use Rattle.clap.specs.Matches.{one_text, subcommand_name_of}
+use Rattle.clap.specs.Matches.{first_value, one_text, subcommand_name_of}
 use Rattle.clap.specs.Simple.{subcommand_of, subcommand_rows_of}
 use Rattle.clap.specs.Faults.{fault_of}
 use Rattle.clap.specs.Kinds.{Kinds, HasKind}
 use Rattle.clap.specs.Values.{kind_of}
 use Rattle.clap.specs.declared.error.Error.{Error}
 use Rattle.clap.specs.declared.error.kind.ErrorKind.TheVariants as kind
-use Rattle.std.specs.Prelude.{MatchResult, Result, Ok, Err, IfOk, IfSome, IsErrAnd, None}
+use Rattle.std.specs.Prelude.{is_some, MatchResult, Result, Ok, Err, IfOk, IfSome, IsErrAnd, None}
 use Rattle.clap.specs.declared.parser.matches.ArgMatches.{ArgMatches}
 use Rattle.clap.specs.declared.parser.matches.Found.{Found}
 use Rattle.clap.proofs.OnLiterals.{clap_on_literals}
-use Rattle.clap.proofs.WalkLemmas.{one_text-rows}
-use Rattle.linda.specs.Commands.{IsCall, IsInspect, IsServe, IsRefusedAs, AsksFor, AsksExactlyFor, AsksForPipe, AsksForRun, HasServers, Spells, linda}
+use Rattle.clap.proofs.WalkLemmas.{first_value-rows, one_text-rows}
+use Rattle.linda.specs.Commands.{IsCall, IsInspect, IsServe, IsTracedRun, IsRefusedAs, AsksFor, AsksExactlyFor, AsksForPipe, AsksForRun, HasServers, Spells, linda}
 use Rattle.linda.specs.declared.command.Task.{Task}
 use Rattle.linda.specs.declared.command.Task.TheVariants as tasks
 use Rattle.linda.proofs.Parsing.{many_kinds, missing_kinds, unknown_kinds, AsksToCall, AsksToInspect, AsksToRun, AsksToServe, asked, name_of_rows, named, named_call, named_inspect, named_serve}
-use Rattle.linda.proofs.RunWords.{run_kinds, run_refused_some, number_of_row, run_is_found, run_is_free, runs}
+use Rattle.linda.proofs.RunWords.{TracesRun, run_kinds, run_refused_some, no_file_of_row, number_of_row, run_is_found, run_is_free, runs}
 
 -- the parser's command is that of the words
 pub pipe_found : (m : ArgMatches) (words : List Text) → AsksForPipe words → subcommand_rows_of m ≡ subcommand_of linda words → subcommand_name_of m ≡ Some (codes "pipe")
@@ -26,6 +26,9 @@ pipe_found m words asks rows = name_of_rows m ∙ ap (λ o. option_map (λ p. p.
 
 pub run_found : (m : ArgMatches) (words : List Text) (n : ℕ) → AsksForRun words n → subcommand_rows_of m ≡ subcommand_of linda words → subcommand_name_of m ≡ Some (codes "run")
 run_found m words n asks rows = name_of_rows m ∙ ap (λ o. option_map (λ p. p.0) o) (rows ∙ run_is_found words n asks)
+
+pub traced_found : (m : ArgMatches) (words : List Text) → TracesRun words → subcommand_rows_of m ≡ subcommand_of linda words → subcommand_name_of m ≡ Some (codes "run")
+traced_found m words asks rows = name_of_rows m ∙ ap (λ o. option_map (λ p. p.0) o) (rows ∙ asks.found)
 
 pub call_found : (m : ArgMatches) (words : List Text) → AsksToCall words → subcommand_rows_of m ≡ subcommand_of linda words → subcommand_name_of m ≡ Some (codes "call")
 call_found m words asks rows = name_of_rows m ∙ ap (λ o. option_map (λ p. p.0) o) rows ∙ named_call words asks
@@ -93,14 +96,19 @@ no_inspect_serve o is as_other =
 pub data Asked (words : List Text) : Type 0 where
   to_pipe : AsksForPipe words → Asked words
   to_run : (n : ℕ) → AsksForRun words n → Asked words
+  to_traced : TracesRun words → Asked words
   to_call : AsksToCall words → Asked words
   to_serve : AsksToServe words → Asked words
   to_inspect : AsksToInspect words → Asked words
 
+run_or_traced : (words : List Text) → ((n : ℕ) × AsksForRun words n) ⊎ TracesRun words → Asked words
+run_or_traced words (inl r) = to_run r.0 r.1
+run_or_traced words (inr t) = to_traced t
+
 pub asked_for : (words : List Text) → fault_of linda words ≡ [] → Asked words
 asked_for words free = elim (asked words free) [
   | inl h ↦ to_pipe h
-  | inr (inl h) ↦ (let r = runs words h in to_run r.0 r.1)
+  | inr (inl h) ↦ run_or_traced words (runs words h)
   | inr (inr (inl h)) ↦ to_call h
   | inr (inr (inr (inl h))) ↦ to_serve h
   | inr (inr (inr (inr h))) ↦ to_inspect h
@@ -113,25 +121,48 @@ text_found m f words n a rows below =
     one_text-rows f (codes "servers") ∙ ap (λ o. one_of (codes "servers") (unwrap_or o [])) (sym below ∙ ap (λ o. option_map (λ p. p.1) o) (rows ∙ run_is_found words n a))
     ∙ number_of_row a.number
 
+-- no file is found for a trace
+no_file_found : (m : ArgMatches) (f : Found) (words : List Text) (n : ℕ) (a : AsksForRun words n) → subcommand_rows_of m ≡ subcommand_of linda words
+    → option_map (λ p. p.1) (subcommand_rows_of m) ≡ Some (rows_of f) → first_value f (codes "trace") ≡ None
+no_file_found m f words n a rows below =
+    first_value-rows f (codes "trace") ∙ ap (λ o. first_of (codes "trace") (unwrap_or o [])) (sym below ∙ ap (λ o. option_map (λ p. p.1) o) (rows ∙ run_is_found words n a))
+    ∙ no_file_of_row a.number
+
+-- a file is found for the trace
+file_found : (m : ArgMatches) (f : Found) (words : List Text) (t : TracesRun words) → subcommand_rows_of m ≡ subcommand_of linda words
+    → option_map (λ p. p.1) (subcommand_rows_of m) ≡ Some (rows_of f) → first_value f (codes "trace") ≡ None → ⊥
+file_found m f words t rows below none =
+    let found : first_value f (codes "trace") ≡ first_of (codes "trace") t.rows =
+    first_value-rows f (codes "trace") ∙ ap (λ o. first_of (codes "trace") (unwrap_or o [])) (sym below ∙ ap (λ o. option_map (λ p. p.1) o) (rows ∙ t.found)) in
+    let bad : false ≡ true = ap is_some (sym none ∙ found) ∙ t.has in
+    cc
+
 -- ---- what the parser finds, by the command that it met
 
 pub exactly_pipe : (m : ArgMatches) (words : List Text) (task : Task) → AsksExactlyFor words task → subcommand_rows_of m ≡ subcommand_of linda words
     → subcommand_name_of m ≡ Some (codes "pipe") → tasks.Pipe ≡ task
 exactly_pipe m words tasks.Pipe asks rows is = refl
 exactly_pipe m words (tasks.Run n) asks rows is = absurd (no_run_pipe (subcommand_name_of m) (run_found m words n asks rows) is)
+exactly_pipe m words (tasks.TracedRun n file) asks rows is = absurd asks
 exactly_pipe m words (tasks.Call client ports) asks rows is = absurd asks
 exactly_pipe m words (tasks.Serve port dir sessions) asks rows is = absurd asks
 exactly_pipe m words (tasks.Inspect dir lists) asks rows is = absurd asks
 
--- the parser reads the number of a run off this text
-abbrev pub Reads : Found → Option Task → Type 0
-Reads f result = (text : Text) (n : ℕ) → one_text f (codes "servers") ≡ Some (without_minus text) → Spells text n → result ≡ Some (tasks.Run n)
+-- what is found below `run`: the number off this text where there is no file, and else a run with a trace
+abbrev pub Reads : {E : Type 0} → Found → Result (Option Task) E → Type 0
+Reads f result = (text : Text) (n : ℕ) → first_value f (codes "trace") ≡ None → one_text f (codes "servers") ≡ Some (without_minus text) → Spells text n
+    → IfOk result (λ found. found ≡ Some (tasks.Run n))
 
-pub exactly_run : (m : ArgMatches) (f : Found) (words : List Text) (task : Task) (result : Option Task) → AsksExactlyFor words task
+abbrev pub Traces : {E : Type 0} → Found → Result (Option Task) E → Type 0
+Traces f result = (first_value f (codes "trace") ≡ None → ⊥) → IfOk result (λ found. IfSome found IsTracedRun)
+
+pub exactly_run : {E : Type 0} (m : ArgMatches) (f : Found) (words : List Text) (task : Task) (result : Result (Option Task) E) → AsksExactlyFor words task
     → subcommand_rows_of m ≡ subcommand_of linda words → subcommand_name_of m ≡ Some (codes "run")
-    → option_map (λ p. p.1) (subcommand_rows_of m) ≡ Some (rows_of f) → Reads f result → result ≡ Some task
+    → option_map (λ p. p.1) (subcommand_rows_of m) ≡ Some (rows_of f) → Reads f result → IfOk result (λ found. found ≡ Some task)
 exactly_run m f words tasks.Pipe result asks rows is below reads = absurd (no_run_pipe (subcommand_name_of m) is (pipe_found m words asks rows))
-exactly_run m f words (tasks.Run n) result asks rows is below reads = reads asks.number n (text_found m f words n asks rows below) asks.spells
+exactly_run m f words (tasks.Run n) result asks rows is below reads =
+    reads asks.number n (no_file_found m f words n asks rows below) (text_found m f words n asks rows below) asks.spells
+exactly_run m f words (tasks.TracedRun n file) result asks rows is below reads = absurd asks
 exactly_run m f words (tasks.Call client ports) result asks rows is below reads = absurd asks
 exactly_run m f words (tasks.Serve port dir sessions) result asks rows is below reads = absurd asks
 exactly_run m f words (tasks.Inspect dir lists) result asks rows is below reads = absurd asks
@@ -140,6 +171,7 @@ pub never_other : (m : ArgMatches) (words : List Text) (task : Task) → AsksExa
     → (subcommand_name_of m ≡ Some (codes "pipe") → ⊥) → (subcommand_name_of m ≡ Some (codes "run") → ⊥) → ⊥
 never_other m words tasks.Pipe asks rows no_pipe no_run = no_pipe (pipe_found m words asks rows)
 never_other m words (tasks.Run n) asks rows no_pipe no_run = no_run (run_found m words n asks rows)
+never_other m words (tasks.TracedRun n file) asks rows no_pipe no_run = asks
 never_other m words (tasks.Call client ports) asks rows no_pipe no_run = asks
 never_other m words (tasks.Serve port dir sessions) asks rows no_pipe no_run = asks
 never_other m words (tasks.Inspect dir lists) asks rows no_pipe no_run = asks
@@ -151,18 +183,40 @@ pipe_asked m words free rows is = go (asked_for words free)
     go : Asked words → AsksForPipe words
     go (to_pipe h) = h
     go (to_run n a) = absurd (no_run_pipe (subcommand_name_of m) (run_found m words n a rows) is)
+    go (to_traced a) = absurd (no_run_pipe (subcommand_name_of m) (traced_found m words a rows) is)
     go (to_call a) = absurd (no_call_pipe (subcommand_name_of m) (call_found m words a rows) is)
     go (to_serve a) = absurd (no_serve_pipe (subcommand_name_of m) (serve_found m words a rows) is)
     go (to_inspect a) = absurd (no_inspect_pipe (subcommand_name_of m) (inspect_found m words a rows) is)
 
-pub run_asked : (m : ArgMatches) (f : Found) (words : List Text) (result : Option Task) → fault_of linda words ≡ []
+traced_asks : (words : List Text) (task : Task) → TracesRun words → IsTracedRun task → AsksFor words task
+traced_asks words tasks.Pipe a h = absurd h
+traced_asks words (tasks.Run n) a h = absurd h
+traced_asks words (tasks.TracedRun n file) a h = record { name = a.name; later = a.later; spelled = a.spelled; some = h.0; most = h.1 }
+traced_asks words (tasks.Call client ports) a h = absurd h
+traced_asks words (tasks.Serve port dir sessions) a h = absurd h
+traced_asks words (tasks.Inspect dir lists) a h = absurd h
+
+traced_is_asked : {E : Type 0} (words : List Text) (result : Result (Option Task) E) → TracesRun words → IfOk result (λ found. IfSome found IsTracedRun)
+    → IfOk result (λ found. IfSome found (AsksFor words))
+traced_is_asked words (Err e) a h = tt
+traced_is_asked words (Ok None) a h = tt
+traced_is_asked words (Ok (Some task)) a h = traced_asks words task a h
+
+run_is_asked : {E : Type 0} (words : List Text) (n : ℕ) (result : Result (Option Task) E) → AsksForRun words n → IfOk result (λ found. found ≡ Some (tasks.Run n))
+    → IfOk result (λ found. IfSome found (AsksFor words))
+run_is_asked words n (Err e) a h = tt
+run_is_asked words n (Ok found) a h = subst (λ (o : Option Task). IfSome o (AsksFor words)) (sym h) a
+
+pub run_asked : {E : Type 0} (m : ArgMatches) (f : Found) (words : List Text) (result : Result (Option Task) E) → fault_of linda words ≡ []
     → subcommand_rows_of m ≡ subcommand_of linda words → subcommand_name_of m ≡ Some (codes "run")
-    → option_map (λ p. p.1) (subcommand_rows_of m) ≡ Some (rows_of f) → Reads f result → IfSome result (AsksFor words)
-run_asked m f words result free rows is below reads = go (asked_for words free)
+    → option_map (λ p. p.1) (subcommand_rows_of m) ≡ Some (rows_of f) → Reads f result → Traces f result → IfOk result (λ found. IfSome found (AsksFor words))
+run_asked m f words result free rows is below reads traces = go (asked_for words free)
   where
-    go : Asked words → IfSome result (AsksFor words)
+    go : Asked words → IfOk result (λ found. IfSome found (AsksFor words))
     go (to_pipe h) = absurd (no_run_pipe (subcommand_name_of m) is (pipe_found m words h rows))
-    go (to_run n a) = subst (λ (o : Option Task). IfSome o (AsksFor words)) (sym (reads a.number n (text_found m f words n a rows below) a.spells)) a
+    go (to_run n a) =
+        run_is_asked words n result a (reads a.number n (no_file_found m f words n a rows below) (text_found m f words n a rows below) a.spells)
+    go (to_traced a) = traced_is_asked words result a (traces (file_found m f words a rows below))
     go (to_call a) = absurd (no_call_run (subcommand_name_of m) (call_found m words a rows) is)
     go (to_serve a) = absurd (no_serve_run (subcommand_name_of m) (serve_found m words a rows) is)
     go (to_inspect a) = absurd (no_inspect_run (subcommand_name_of m) (inspect_found m words a rows) is)
@@ -170,6 +224,7 @@ run_asked m f words result free rows is below reads = go (asked_for words free)
 call_asks : (words : List Text) (task : Task) → AsksToCall words → IsCall task → AsksFor words task
 call_asks words tasks.Pipe a h = absurd h
 call_asks words (tasks.Run n) a h = absurd h
+call_asks words (tasks.TracedRun n file) a h = absurd h
 call_asks words (tasks.Call client ports) a h = record { name = a.name; later = a.later; spelled = a.spelled; is_client = h.0; are_ports = h.1 }
 call_asks words (tasks.Serve port dir sessions) a h = absurd h
 call_asks words (tasks.Inspect dir lists) a h = absurd h
@@ -177,6 +232,7 @@ call_asks words (tasks.Inspect dir lists) a h = absurd h
 serve_asks : (words : List Text) (task : Task) → AsksToServe words → IsServe task → AsksFor words task
 serve_asks words tasks.Pipe a h = absurd h
 serve_asks words (tasks.Run n) a h = absurd h
+serve_asks words (tasks.TracedRun n file) a h = absurd h
 serve_asks words (tasks.Call client ports) a h = absurd h
 serve_asks words (tasks.Serve port dir sessions) a h = record { name = a.name; later = a.later; spelled = a.spelled; is_port = h.0; are_sessions = h.1 }
 serve_asks words (tasks.Inspect dir lists) a h = absurd h
@@ -184,6 +240,7 @@ serve_asks words (tasks.Inspect dir lists) a h = absurd h
 inspect_asks : (words : List Text) (task : Task) → AsksToInspect words → IsInspect task → AsksFor words task
 inspect_asks words tasks.Pipe a h = absurd h
 inspect_asks words (tasks.Run n) a h = absurd h
+inspect_asks words (tasks.TracedRun n file) a h = absurd h
 inspect_asks words (tasks.Call client ports) a h = absurd h
 inspect_asks words (tasks.Serve port dir sessions) a h = absurd h
 inspect_asks words (tasks.Inspect dir lists) a h = record { name = a.name; later = a.later; spelled = a.spelled }
@@ -209,6 +266,7 @@ call_asked m words (Ok found) free rows is h = go (asked_for words free)
     go : Asked words → IfSome found (AsksFor words)
     go (to_pipe p) = absurd (no_call_pipe (subcommand_name_of m) is (pipe_found m words p rows))
     go (to_run n a) = absurd (no_call_run (subcommand_name_of m) is (run_found m words n a rows))
+    go (to_traced a) = absurd (no_call_run (subcommand_name_of m) is (traced_found m words a rows))
     go (to_call a) = call_is_asked words found a h
     go (to_serve a) = absurd (no_serve_call (subcommand_name_of m) (serve_found m words a rows) is)
     go (to_inspect a) = absurd (no_inspect_call (subcommand_name_of m) (inspect_found m words a rows) is)
@@ -222,6 +280,7 @@ serve_asked m words (Ok found) free rows is h = go (asked_for words free)
     go : Asked words → IfSome found (AsksFor words)
     go (to_pipe p) = absurd (no_serve_pipe (subcommand_name_of m) is (pipe_found m words p rows))
     go (to_run n a) = absurd (no_serve_run (subcommand_name_of m) is (run_found m words n a rows))
+    go (to_traced a) = absurd (no_serve_run (subcommand_name_of m) is (traced_found m words a rows))
     go (to_call a) = absurd (no_serve_call (subcommand_name_of m) is (call_found m words a rows))
     go (to_serve a) = serve_is_asked words found a h
     go (to_inspect a) = absurd (no_inspect_serve (subcommand_name_of m) (inspect_found m words a rows) is)
@@ -235,6 +294,7 @@ inspect_asked m words (Ok found) free rows is h = go (asked_for words free)
     go : Asked words → IfSome found (AsksFor words)
     go (to_pipe p) = absurd (no_inspect_pipe (subcommand_name_of m) is (pipe_found m words p rows))
     go (to_run n a) = absurd (no_inspect_run (subcommand_name_of m) is (run_found m words n a rows))
+    go (to_traced a) = absurd (no_inspect_run (subcommand_name_of m) is (traced_found m words a rows))
     go (to_call a) = absurd (no_inspect_call (subcommand_name_of m) is (call_found m words a rows))
     go (to_serve a) = absurd (no_inspect_serve (subcommand_name_of m) is (serve_found m words a rows))
     go (to_inspect a) = inspect_is_asked words found a h
@@ -254,6 +314,7 @@ pub task_is_free : (words : List Text) (task : Task) → AsksExactlyFor words ta
 task_is_free words tasks.Pipe (name, inl h) = ap (fault_of linda) h ∙ pipe_alone name
 task_is_free words tasks.Pipe (name, inr h) = ap (fault_of linda) h ∙ pipe_ended name
 task_is_free words (tasks.Run n) asks = run_is_free words n asks
+task_is_free words (tasks.TracedRun n file) asks = absurd asks
 task_is_free words (tasks.Call client ports) asks = absurd asks
 task_is_free words (tasks.Serve port dir sessions) asks = absurd asks
 task_is_free words (tasks.Inspect dir lists) asks = absurd asks
@@ -261,6 +322,7 @@ task_is_free words (tasks.Inspect dir lists) asks = absurd asks
 pub has_servers : (words : List Text) (task : Task) → AsksFor words task → HasServers task
 has_servers words tasks.Pipe asks = tt
 has_servers words (tasks.Run n) asks = (asks.spells.some, asks.spells.most)
+has_servers words (tasks.TracedRun n file) asks = (asks.some, asks.most)
 has_servers words (tasks.Call client ports) asks = (asks.are_ports.0, asks.are_ports.1.0)
 has_servers words (tasks.Serve port dir sessions) asks = tt
 has_servers words (tasks.Inspect dir lists) asks = tt

@@ -25,6 +25,14 @@ servers_rule = record (new_rule (codes "servers")) {
   parser = Some (parsers.Signed (pos 1) (pos MAX_SERVERS));
 }
 
+-- the option `--trace`, which may be there, with a text
+abbrev pub trace_rule : Rule
+trace_rule = record (new_rule (codes "trace")) {
+  long = Some (codes "trace");
+  value_names = 1;
+  action = Some Set;
+}
+
 -- the option `--client`, which must be there, with a number of 32 bits
 abbrev pub client_rule : Rule
 client_rule = record (new_rule (codes "client")) {
@@ -99,7 +107,7 @@ clients_rule = record (new_rule (codes "clients")) {
 abbrev pub linda : App
 linda = with_subcommand (with_subcommand (with_subcommand (with_subcommand (with_subcommand
     (on_top (λ s. record s { subcommand_required = true }) (new_app (codes "linda"))) (new_app (codes "pipe")).top)
-    (with_rule (new_app (codes "run")) servers_rule).top)
+    (with_rule (with_rule (new_app (codes "run")) servers_rule) trace_rule).top)
     (with_rule (with_rule (new_app (codes "call")) client_rule) ports_rule).top)
     (with_rule (with_rule (with_rule (new_app (codes "serve")) port_rule) dir_rule) sessions_rule).top)
     (with_rule (with_rule (with_rule (new_app (codes "inspect")) folder_rule) tuples_rule) clients_rule).top
@@ -138,6 +146,14 @@ pub record AsksForRun (words : List (List ℕ)) (n : ℕ) : Type 0 where
   pub is_end : IsEnd end
   pub spells : Spells number n
 
+-- The words are a program's name and `run`, and the number is such as may stand behind it.
+pub record AsksForTracedRun (words : List (List ℕ)) (n : ℕ) : Type 0 where
+  pub name : List ℕ
+  pub later : List (List ℕ)
+  pub spelled : words ≡ name ∷ codes "run" ∷ later
+  pub some : 1 ≤ n
+  pub most : n ≤ MAX_SERVERS
+
 -- The words are a program's name and `call`, and the numbers are such as may stand behind it.
 pub record AsksForCall (words : List (List ℕ)) (client : ℕ) (ports : List ℕ) : Type 0 where
   pub name : List ℕ
@@ -168,14 +184,25 @@ AsksForVersion words = (name : List ℕ) × (words ≡ name ∷ codes "--version
 abbrev pub AsksFor : List (List ℕ) → Task → Type 0
 AsksFor words tasks.Pipe = AsksForPipe words
 AsksFor words (tasks.Run n) = AsksForRun words n
+AsksFor words (tasks.TracedRun n file) = AsksForTracedRun words n
 AsksFor words (tasks.Call client ports) = AsksForCall words client ports
 AsksFor words (tasks.Serve port dir sessions) = AsksForServe words port sessions
 AsksFor words (tasks.Inspect dir lists) = AsksForInspect words
+
+-- it is a run with a trace, by such a number
+abbrev pub IsTracedRun : Task → Type 0
+IsTracedRun tasks.Pipe = ⊥
+IsTracedRun (tasks.Run n) = ⊥
+IsTracedRun (tasks.TracedRun n file) = (1 ≤ n) × (n ≤ MAX_SERVERS)
+IsTracedRun (tasks.Call client ports) = ⊥
+IsTracedRun (tasks.Serve port dir sessions) = ⊥
+IsTracedRun (tasks.Inspect dir lists) = ⊥
 
 -- it is a call, by such numbers
 abbrev pub IsCall : Task → Type 0
 IsCall tasks.Pipe = ⊥
 IsCall (tasks.Run n) = ⊥
+IsCall (tasks.TracedRun n file) = ⊥
 IsCall (tasks.Call client ports) = (client < 2 ^ 32) × ArePorts ports
 IsCall (tasks.Serve port dir sessions) = ⊥
 IsCall (tasks.Inspect dir lists) = ⊥
@@ -184,6 +211,7 @@ IsCall (tasks.Inspect dir lists) = ⊥
 abbrev pub IsServe : Task → Type 0
 IsServe tasks.Pipe = ⊥
 IsServe (tasks.Run n) = ⊥
+IsServe (tasks.TracedRun n file) = ⊥
 IsServe (tasks.Call client ports) = ⊥
 IsServe (tasks.Serve port dir sessions) = (port < 2 ^ 16) × IfSome sessions (λ k. k < 2 ^ 32)
 IsServe (tasks.Inspect dir lists) = ⊥
@@ -192,6 +220,7 @@ IsServe (tasks.Inspect dir lists) = ⊥
 abbrev pub IsInspect : Task → Type 0
 IsInspect tasks.Pipe = ⊥
 IsInspect (tasks.Run n) = ⊥
+IsInspect (tasks.TracedRun n file) = ⊥
 IsInspect (tasks.Call client ports) = ⊥
 IsInspect (tasks.Serve port dir sessions) = ⊥
 IsInspect (tasks.Inspect dir lists) = ⊤
@@ -200,6 +229,7 @@ IsInspect (tasks.Inspect dir lists) = ⊤
 abbrev pub AsksExactlyFor : List (List ℕ) → Task → Type 0
 AsksExactlyFor words tasks.Pipe = AsksForPipe words
 AsksExactlyFor words (tasks.Run n) = AsksForRun words n
+AsksExactlyFor words (tasks.TracedRun n file) = ⊥
 AsksExactlyFor words (tasks.Call client ports) = ⊥
 AsksExactlyFor words (tasks.Serve port dir sessions) = ⊥
 AsksExactlyFor words (tasks.Inspect dir lists) = ⊥
@@ -208,6 +238,7 @@ AsksExactlyFor words (tasks.Inspect dir lists) = ⊥
 abbrev pub HasServers : Task → Type 0
 HasServers tasks.Pipe = ⊤
 HasServers (tasks.Run n) = (1 ≤ n) × (n ≤ MAX_SERVERS)
+HasServers (tasks.TracedRun n file) = (1 ≤ n) × (n ≤ MAX_SERVERS)
 HasServers (tasks.Call client ports) = (1 ≤ length ports) × (length ports ≤ MAX_SERVERS)
 HasServers (tasks.Serve port dir sessions) = ⊤
 HasServers (tasks.Inspect dir lists) = ⊤

@@ -3,14 +3,15 @@
 mod ports;
 mod version;
 
-ghost use Rattle.std.specs.Prelude.{◌≡◌, ℕ, List, [], Some, false, map, codes, IfOk, IfSome, MatchResult};
+ghost use Rattle.std.specs.Prelude.{◌≡◌, ℕ, List, [], Some, None, false, map, codes, IfOk, IfSome, MatchResult};
 ghost use Rattle.std.specs.String.{string_bytes};
 ghost use Rattle.clap.specs.Lexer.{without_minus};
-ghost use Rattle.clap.specs.Matches.{one_text, subcommand_name_of};
+ghost use Rattle.clap.specs.Matches.{first_value, one_text, subcommand_name_of};
 ghost use Rattle.clap.specs.Words.{Kinds, app_of, fault_of, found_of, kind_of, rule_of};
 ghost use Rattle.clap.specs.Words.{subcommand_of, subcommand_rows_of};
 ghost use Rattle.linda.specs.Commands.{AsksExactlyFor, AsksFor, AsksForPipe, AsksForRun, HasServers, Spells};
-ghost use Rattle.linda.specs.Commands.{IsCall, IsInspect, IsRefusedAs, IsServe, Refuses, client_rule, clients_rule};
+ghost use Rattle.linda.specs.Commands.{IsCall, IsInspect, IsRefusedAs, IsServe, IsTracedRun, Refuses, client_rule};
+ghost use Rattle.linda.specs.Commands.{clients_rule, trace_rule};
 ghost use Rattle.linda.specs.Commands.{dir_rule, folder_rule, linda, port_rule, ports_rule, servers_rule};
 ghost use Rattle.linda.specs.Commands.{sessions_rule, tuples_rule};
 ghost use Rattle.linda.specs.declared.command.Task.TheVariants as tasks;
@@ -31,6 +32,11 @@ pub enum Task {
     /// A script from standard input, played with this many servers: from 1 to `MAX_SERVERS`.
     Run {
         servers: u32,
+    },
+    /// The same, with the trace of the run written to this file.
+    TracedRun {
+        servers: u32,
+        file: String,
     },
     /// Lines of a client from standard input, over servers that listen on ports of this machine.
     Call {
@@ -89,7 +95,7 @@ fn task_of(alloc: Global, matches: &ArgMatches) -> Result<Option<Task>, AllocErr
         return Ok(Some(Task::Pipe));
     }
     match matches.subcommand_matches(RUN) {
-        Some(below) => Ok(run_of(below)),
+        Some(below) => run_of(alloc, below),
         None => other_of(alloc, matches),
     }
 }
@@ -117,12 +123,31 @@ fn other_of(alloc: Global, matches: &ArgMatches) -> Result<Option<Task>, AllocEr
 }
 
 // What is found below `run`.
-fn run_of(below: &ArgMatches) -> Option<Task>
-    ensures { (text : List ℕ) (n : ℕ) → one_text (found_of below.now) (codes "servers") ≡ Some (without_minus text)
-        → Spells text n → result ≡ Some (tasks.Run n) }
+fn run_of(alloc: Global, below: &ArgMatches) -> Result<Option<Task>, AllocError>
+    ensures bare { (text : List ℕ) (n : ℕ) → first_value (found_of below.now) (codes "trace") ≡ None
+        → one_text (found_of below.now) (codes "servers") ≡ Some (without_minus text)
+        → Spells text n → IfOk result (λ found. found ≡ Some (tasks.Run n)) }
+    ensures traced { (first_value (found_of below.now) (codes "trace") ≡ None → ⊥)
+        → IfOk result (λ found. IfSome found IsTracedRun) }
 {
-    let servers = below.get_one::<u32>(SERVERS)?;
-    Some(Task::Run { servers })
+    let Some(servers) = below.get_one::<u32>(SERVERS) else {
+        return Ok(None);
+    };
+    match below.get_str(TRACE) {
+        None => Ok(Some(Task::Run { servers })),
+        Some(file) => traced_run(alloc, servers, file),
+    }
+}
+
+// A run with its trace; the parser has judged the number.
+fn traced_run(alloc: Global, servers: u32, file: &str) -> Result<Option<Task>, AllocError>
+    ensures { IfOk result (λ found. IfSome found IsTracedRun) }
+{
+    if servers < 1 || servers > MAX_SERVERS {
+        return Ok(None);
+    }
+    let file = String::from_str(alloc, file)?;
+    Ok(Some(Task::TracedRun { servers, file }))
 }
 
 // What is found below `call`.
@@ -181,7 +206,8 @@ fn command<'a>(alloc: Global) -> Result<Command<'a>, AllocError>
     let run = Command::new(alloc, RUN)
         .about("Play a script from standard input with servers in memory")
         .after_help(SCRIPT)
-        .arg(servers(alloc))?;
+        .arg(servers(alloc))?
+        .arg(trace_option(alloc))?;
     let call = Command::new(alloc, CALL)
         .about("Put and take tuples at servers that listen on ports of this machine")
         .after_help(LINES)
@@ -224,6 +250,18 @@ fn servers<'a>(alloc: Global) -> Arg<'a>
         .required(true)
         .action(ArgAction::Set)
         .value_parser(value_parser!(u32).range(1..=i64::from(MAX_SERVERS)))
+}
+
+// The option that names the file of the trace.
+fn trace_option<'a>(alloc: Global) -> Arg<'a>
+    ensures rule { rule_of result ≡ trace_rule }
+    ensures own { result.global ≡ false }
+{
+    Arg::new(alloc, TRACE)
+        .long(TRACE)
+        .value_name("FILE")
+        .help("Write what happened to this file, a line an event")
+        .action(ArgAction::Set)
 }
 
 // The option that says which client it is.
@@ -333,6 +371,8 @@ const PIPE: &str = "pipe";
 const RUN: &str = "run";
 
 const SERVERS: &str = "servers";
+
+const TRACE: &str = "trace";
 
 const CALL: &str = "call";
 

@@ -3,7 +3,8 @@
 //! `linda pipe` serves one connection to a new server in memory. Each line of standard input is a piece of
 //! the client's stream in hexadecimal digits; each reply is such a line on standard output.
 //!
-//! `linda run --servers N` plays a script from standard input with N servers on disks in memory, 1 to 16.
+//! `linda run --servers N [--trace FILE]` plays a script from standard input with N servers on disks in memory, 1 to
+//! 16, and writes the trace of the run to a file, which is made, or emptied where it is there.
 //!
 //! `linda call --client C PORT..` plays lines from standard input as client C, over the servers that listen on these
 //! ports of this machine.
@@ -50,8 +51,9 @@ use crate::piping::pipe;
 use crate::running::status_of_script;
 use crate::serving::serve_folder;
 use linda_inspect::Lists;
-use linda_shell::{ScriptFault, run_script};
+use linda_shell::{ScriptFault, run_script, trace_script};
 use std::fmt::Display;
+use std::fs::File;
 use std::io::{ErrorKind, Write};
 use std::net::{Net, TcpListener, TcpStream};
 use std::process::ExitCode;
@@ -79,6 +81,7 @@ fn main(rt: HostRuntime) -> ExitCode {
     match read_task(rt.alloc(), &words) {
         Ok(Task::Pipe) => run_pipe(&rt),
         Ok(Task::Run { servers }) => run_servers(&rt, servers),
+        Ok(Task::TracedRun { servers, file }) => run_traced(&rt, servers, &file),
         Ok(Task::Call { client, ports }) => run_call(&rt, &rt, client, &ports),
         Ok(
             Task::Serve {
@@ -125,6 +128,27 @@ fn run_servers(rt: &HostRuntime, servers: u32) -> ExitCode
     end_of_script(
         rt,
         run_script(rt.alloc(), &mut rt.stdin(), &mut rt.stdout(), servers),
+    )
+}
+
+// The same, with the trace of the run written to a file.
+fn run_traced(rt: &HostRuntime, servers: u32, file: &str) -> ExitCode
+    requires some { 1 ≤ servers }
+    requires few { servers ≤ MAX_SERVERS }
+    ensures { (exit_status result ≡ 0) ⊎ ((exit_status result ≡ 3) ⊎ (exit_status result ≡ 4)) }
+{
+    let Ok(mut file) = File::create(rt, file) else {
+        return end(rt, "io", REFUSED);
+    };
+    end_of_script(
+        rt,
+        trace_script(
+            rt.alloc(),
+            &mut rt.stdin(),
+            &mut rt.stdout(),
+            &mut file,
+            servers,
+        ),
     )
 }
 

@@ -35,7 +35,7 @@ impl Players {
             subject: Subject::Texts,
             events: Events::new(),
             clients: Clients::new(),
-            scripts: Scripts::new(alloc),
+            scripts: Scripts::new(alloc, false),
             worlds: Worlds::new(alloc),
         }
     }
@@ -53,7 +53,10 @@ impl Player for Players {
             self.subject = Subject::Texts;
         } else if subject == "script" {
             self.subject = Subject::Scripts;
-            self.scripts = Scripts::new(alloc);
+            self.scripts = Scripts::new(alloc, false);
+        } else if subject == "trace" {
+            self.subject = Subject::Scripts;
+            self.scripts = Scripts::new(alloc, true);
         } else if subject == "world" {
             self.subject = Subject::Worlds;
             self.worlds = Worlds::new(alloc);

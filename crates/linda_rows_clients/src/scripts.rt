@@ -1,11 +1,14 @@
-//! Scripts of `linda run`, and what they print.
+//! Scripts of `linda run`, and what they print, or their traces.
 //!
 //! A line is a line of the script, and what it prints comes after it: each time the script is run from its
 //! beginning, and what it printed before has to come again. Its fault, if it has one, comes after that. `servers N`
 //! begins a script over that many servers; where a row does not say so, it is over one. `script TEXT` runs a script
 //! that stands there as a string, since its blanks and line ends matter, and gives all that it prints. `times N LINE`
 //! is a line that stands there N times: how many lines that prints is written, and the last of them. A tilde in a line
-//! stands for a string of 255 letters.
+//! stands for a string of 255 letters. `skip N` is N lines that are passed over.
+//!
+//! In a row of traces each line gives the lines of the trace in place of what is printed, which has to be what is
+//! printed without a trace.
 
 mod lines;
 
@@ -13,23 +16,25 @@ use crate::number::small_number;
 use crate::words::string_at;
 use linda_client::MAX_SERVERS;
 use linda_script::{WordsFault, split_word};
-use linda_shell::{LineFault, ScriptFault, run_script};
-use lines::{push_line, push_lines, tell_last};
+use linda_shell::{LineFault, ScriptFault, run_script, trace_script};
+use lines::{push_line, push_lines, push_skipped, tell_last};
 use std::alloc::{AllocError, Global};
 
-/// The player of rows of scripts.
+/// The player of rows of scripts, or of their traces.
 #[derive(Drop)]
 pub struct Scripts {
+    are_traced: bool,
     servers: u32,
-    /// The lines so far, and what they printed.
+    /// The lines so far, and what they printed, or their trace.
     script: String,
     printed: String,
 }
 
 impl Scripts {
     /// An empty script over one server.
-    pub fn new(alloc: Global) -> Scripts {
+    pub fn new(alloc: Global, are_traced: bool) -> Scripts {
         Scripts {
+            are_traced,
             servers: 1,
             script: String::new(alloc),
             printed: String::new(alloc),
@@ -45,9 +50,12 @@ impl Scripts {
     ) -> Result<(), WordsFault> {
         let (verb, rest) = split_word(words);
         if verb == "servers" {
-            *self = Scripts::new(alloc);
+            *self = Scripts::new(alloc, self.are_traced);
             self.servers = small_number(rest)?;
             return Ok(());
+        }
+        if verb == "skip" {
+            return push_skipped(&mut self.script, rest);
         }
         if verb == "script" {
             let (script, _behind) = string_at(alloc, rest, 0)?;
@@ -65,7 +73,12 @@ impl Scripts {
     // Runs the script, and gives what it printed that it had not printed before: all of it, or only the last line where
     // there are many.
     fn run(&mut self, alloc: Global, came: &mut String, are_many: bool) -> Result<(), WordsFault> {
-        let (printed, end) = printed_by(alloc, self.script.as_str(), self.servers)?;
+        let script = self.script.as_str();
+        let (printed, end) = if self.are_traced {
+            traced_by(alloc, script, self.servers)?
+        } else {
+            printed_by(alloc, script, self.servers)?
+        };
         let Some(more) = printed.as_str().strip_prefix(self.printed.as_str()) else {
             return Ok(came.push_str("> ? what was printed before does not come again\n")?);
         };
@@ -110,8 +123,33 @@ fn printed_by(
     let mut reader = script.as_bytes();
     let mut printed = Vec::new(alloc);
     let end = run_script(alloc, &mut reader, &mut printed, servers);
-    match std::str::from_utf8(printed.as_slice()) {
-        Ok(text) => Ok((String::from_str(alloc, text)?, end)),
+    Ok((text_of(alloc, &printed)?, end))
+}
+
+// The trace of the script over so many servers, and how it ends. What it prints has to be what it prints without one.
+fn traced_by(
+    alloc: Global,
+    script: &str,
+    servers: u32,
+) -> Result<(String, Result<(), ScriptFault>), WordsFault> {
+    let (alone, ended) = printed_by(alloc, script, servers)?;
+    if servers < 1 || servers > MAX_SERVERS {
+        return Err(WordsFault::Unknown);
+    }
+    let mut reader = script.as_bytes();
+    let mut printed = Vec::new(alloc);
+    let mut trace = Vec::new(alloc);
+    let end = trace_script(alloc, &mut reader, &mut printed, &mut trace, servers);
+    if text_of(alloc, &printed)? != alone || end != ended {
+        return Err(WordsFault::Unknown);
+    }
+    Ok((text_of(alloc, &trace)?, end))
+}
+
+// The text of bytes that were written.
+fn text_of(alloc: Global, bytes: &[u8]) -> Result<String, WordsFault> {
+    match std::str::from_utf8(bytes) {
+        Ok(text) => Ok(String::from_str(alloc, text)?),
         Err(_) => Err(WordsFault::Unknown),
     }
 }

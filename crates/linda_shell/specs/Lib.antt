@@ -4,3 +4,4 @@ pub mod Limits
 pub mod Steps
 pub mod Reading
 pub mod Written
+pub mod TraceWords

@@ -4,7 +4,9 @@ mod command;
 mod fault;
 mod listing;
 mod outcome;
+mod output;
 mod run;
+mod trace;
 
 ghost use Rattle.std.specs.Prelude.{◌≡◌, ◌≤◌, All, IfOk, length, map};
 ghost use Rattle.linda_client.specs.declared.limits.TheConstants.{MAX_SERVERS};
@@ -21,7 +23,8 @@ use linda_world::{Seen, World, WorldEvent, WorldFault};
 use listing::list_state;
 use outcome::write_fault;
 pub use outcome::{write_outcome, write_refusal};
-pub use run::run_script;
+use output::Output;
+pub use run::{run_script, trace_script};
 use std::alloc::{AllocError, Global};
 
 /// The most clients of a script.
@@ -62,7 +65,7 @@ impl Script {
         })
     }
 
-    /// Does what a line says, delivers all packets, and appends what is printed, line by line.
+    /// Does what the line of this number says, delivers all packets, and appends what is printed, line by line.
     ///
     /// # Errors
     ///
@@ -70,13 +73,17 @@ impl Script {
     pub(crate) fn run_line(
         &mut self,
         alloc: Global,
+        number: u64,
         line: &[u8],
-        out: &mut String,
+        out: &mut Output,
     ) -> Result<(), LineFault> {
         match read_command(alloc, line)? {
             None => Ok(()),
             Some(None) => Err(LineFault::NotACommand),
             Some(Some(command)) => {
+                if let Some(trace) = out.trace() {
+                    trace.begin(number, line)?;
+                }
                 self.obey(alloc, command, out)?;
                 self.deliver_all(alloc, out)
             }
@@ -84,7 +91,7 @@ impl Script {
     }
 
     // Does what the command says.
-    fn obey(&mut self, alloc: Global, command: Command, out: &mut String) -> Result<(), LineFault> {
+    fn obey(&mut self, alloc: Global, command: Command, out: &mut Output) -> Result<(), LineFault> {
         match command {
             Command::Out { client, tuple } => {
                 self.meet(alloc, client)?;
@@ -106,7 +113,7 @@ impl Script {
                     at: 0,
                     torn: Torn::Kept,
                 };
-                self.stop(alloc, server, event, out)
+                self.stop(alloc, server, None, event, out)
             }
             Command::StopSnapshot { server, call, byte } => {
                 let server = self.server(server)?;
@@ -115,7 +122,7 @@ impl Script {
                     at: call,
                     torn: Torn::Filled(byte),
                 };
-                self.stop(alloc, server, event, out)
+                self.stop(alloc, server, Some(call), event, out)
             }
             Command::Repeat => self.repeat(alloc, out),
             Command::State(server) => self.show(alloc, self.server(server)?, out),
@@ -154,10 +161,15 @@ impl Script {
         alloc: Global,
         client: u32,
         event: WorldEvent,
-        out: &mut String,
+        out: &mut Output,
     ) -> Result<(), LineFault> {
         match self.world.step(alloc, event) {
-            Ok(seen) => print_seen(alloc, &seen, out),
+            Ok(seen) => {
+                if let Some(trace) = out.trace() {
+                    trace.send(alloc, self.world.packets())?;
+                }
+                print_seen(alloc, &seen, out)
+            }
             Err(WorldFault::Client(fault)) => print_refusal(alloc, client, fault, out),
             Err(WorldFault::Down(server)) => Err(LineFault::Down(server)),
             Err(_) => Err(LineFault::Memory),
@@ -165,14 +177,14 @@ impl Script {
     }
 
     // A client that was never named has nothing to give up.
-    fn abandon(&mut self, alloc: Global, client: u32, out: &mut String) -> Result<(), LineFault> {
+    fn abandon(&mut self, alloc: Global, client: u32, out: &mut Output) -> Result<(), LineFault> {
         if self.clients.binary_search(&client).is_err() {
             return print_refusal(alloc, client, ClientFault::Idle, out);
         }
         self.call(alloc, client, WorldEvent::Abandon(client), out)
     }
 
-    fn tick(&mut self, alloc: Global, now: u64, out: &mut String) -> Result<(), LineFault> {
+    fn tick(&mut self, alloc: Global, now: u64, out: &mut Output) -> Result<(), LineFault> {
         for place in 0..self.clients.len() {
             if let Some(client) = self.clients.get(place).copied() {
                 self.call(alloc, client, WorldEvent::Tick { client, now }, out)?;
@@ -181,28 +193,35 @@ impl Script {
         Ok(())
     }
 
-    fn snapshot(&mut self, alloc: Global, server: u32, out: &mut String) -> Result<(), LineFault> {
+    fn snapshot(&mut self, alloc: Global, server: u32, out: &mut Output) -> Result<(), LineFault> {
         let full = match self.world.step(alloc, WorldEvent::Snapshot(server)) {
             Ok(seen) => seen.full,
             Err(WorldFault::Down(server)) => return Err(LineFault::Down(server)),
             Err(_) => return Err(LineFault::Memory),
         };
+        if let Some(trace) = out.trace() {
+            trace.snapshot(server)?;
+        }
         let what = if full { "full" } else { "snapshot" };
         print_of_server(alloc, server, what, out)
     }
 
-    // Stops the server so, and tells each client that it was opened.
+    // Stops the server so, inside a device call or with nothing in hand, and tells each client that it was opened.
     fn stop(
         &mut self,
         alloc: Global,
         server: u32,
+        call: Option<u64>,
         event: WorldEvent,
-        out: &mut String,
+        out: &mut Output,
     ) -> Result<(), LineFault> {
         match self.world.step(alloc, event) {
             Ok(_) => {}
             Err(WorldFault::Down(server)) => return Err(LineFault::Down(server)),
             Err(_) => return Err(LineFault::Memory),
+        }
+        if let Some(trace) = out.trace() {
+            trace.stop(alloc, &self.world, server, call)?;
         }
         print_of_server(alloc, server, "opened", out)?;
         for place in 0..self.clients.len() {
@@ -214,7 +233,7 @@ impl Script {
     }
 
     // Delivers every packet that was sent before, again.
-    fn repeat(&mut self, alloc: Global, out: &mut String) -> Result<(), LineFault> {
+    fn repeat(&mut self, alloc: Global, out: &mut Output) -> Result<(), LineFault> {
         for packet in 0..self.delivered {
             self.deliver(alloc, packet, out)?;
         }
@@ -222,7 +241,7 @@ impl Script {
     }
 
     // Delivers the packets that were not delivered yet, in the order in which they were sent, until none is left.
-    fn deliver_all(&mut self, alloc: Global, out: &mut String) -> Result<(), LineFault> {
+    fn deliver_all(&mut self, alloc: Global, out: &mut Output) -> Result<(), LineFault> {
         for _ in 0..MAX_DELIVERIES {
             if self.delivered >= self.world.packets().len() {
                 return Ok(());
@@ -237,19 +256,24 @@ impl Script {
         Ok(())
     }
 
-    fn deliver(&mut self, alloc: Global, packet: usize, out: &mut String) -> Result<(), LineFault> {
+    fn deliver(&mut self, alloc: Global, packet: usize, out: &mut Output) -> Result<(), LineFault> {
         match self.world.step(alloc, WorldEvent::Deliver(packet)) {
-            Ok(seen) => print_seen(alloc, &seen, out),
+            Ok(seen) => {
+                if let Some(trace) = out.trace() {
+                    trace.deliver(alloc, &self.world, packet)?;
+                }
+                print_seen(alloc, &seen, out)
+            }
             Err(WorldFault::Down(server)) => Err(LineFault::Down(server)),
             Err(_) => Err(LineFault::Memory),
         }
     }
 
-    fn show(&mut self, alloc: Global, server: u32, out: &mut String) -> Result<(), LineFault> {
+    fn show(&mut self, alloc: Global, server: u32, out: &mut Output) -> Result<(), LineFault> {
         match self.world.node(server) {
             Some(node) => {
                 let lines = list_state(alloc, server, node.state(), node.holds())?;
-                out.push_str(&lines)?;
+                out.print(&lines)?;
                 Ok(())
             }
             None => Err(LineFault::NoServer),
@@ -281,15 +305,15 @@ fn unused_node(alloc: Global) -> Result<Durable<MemDisk>, AllocError>
 }
 
 // The lines of what was seen of an event.
-fn print_seen(alloc: Global, seen: &Seen, out: &mut String) -> Result<(), LineFault> {
+fn print_seen(alloc: Global, seen: &Seen, out: &mut Output) -> Result<(), LineFault> {
     let Some(client) = seen.client else {
         return Ok(());
     };
     if let Some(outcome) = &seen.outcome {
-        out.push_str(&write_outcome(alloc, client, outcome)?)?;
+        out.print(&write_outcome(alloc, client, outcome)?)?;
     }
     if let Some(fault) = seen.fault {
-        out.push_str(&write_fault(alloc, client, fault)?)?;
+        out.print(&write_fault(alloc, client, fault)?)?;
     }
     Ok(())
 }
@@ -299,11 +323,11 @@ fn print_refusal(
     alloc: Global,
     client: u32,
     fault: ClientFault,
-    out: &mut String,
+    out: &mut Output,
 ) -> Result<(), LineFault> {
     match write_refusal(alloc, client, fault)? {
         Some(line) => {
-            out.push_str(&line)?;
+            out.print(&line)?;
             Ok(())
         }
         None => Err(LineFault::Memory),
@@ -315,10 +339,10 @@ fn print_of_server(
     alloc: Global,
     server: u32,
     what: &str,
-    out: &mut String,
+    out: &mut Output,
 ) -> Result<(), LineFault> {
     let mut line = String::new(alloc);
     writeln!(line, "server {server} {what}")?;
-    out.push_str(&line)?;
+    out.print(&line)?;
     Ok(())
 }

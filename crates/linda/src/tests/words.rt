@@ -38,7 +38,7 @@ fn told(rt: &HostRuntime, words: &[&str]) -> Result<String, AllocError> {
 
 #[test]
 fn reads_the_command_line(rt: HostRuntime) -> Result<(), AllocError> {
-    let asked: [Asked<'_>; 18] = [
+    let asked: [Asked<'_>; 20] = [
         (&["linda", "pipe"], "Pipe"),
         (&["linda", "pipe", "--"], "Pipe"),
         (&["linda", "run", "--servers", "2"], "Run { servers: 2 }"),
@@ -49,6 +49,14 @@ fn reads_the_command_line(rt: HostRuntime) -> Result<(), AllocError> {
         (
             &["linda", "run", "--servers", "9", "--"],
             "Run { servers: 9 }",
+        ),
+        (
+            &["linda", "run", "--servers", "2", "--trace", "a b"],
+            "TracedRun { servers: 2, file: \"a b\" }",
+        ),
+        (
+            &["linda", "run", "--trace=f", "--servers=16", "--"],
+            "TracedRun { servers: 16, file: \"f\" }",
         ),
         (
             &["linda", "call", "--client", "7", "7001"],
@@ -115,7 +123,7 @@ fn reads_the_command_line(rt: HostRuntime) -> Result<(), AllocError> {
 
 #[test]
 fn tells_a_fault_of_the_command_line(rt: HostRuntime) -> Result<(), AllocError> {
-    let faults: [&[&str]; 42] = [
+    let faults: [&[&str]; 48] = [
         &["linda"],
         &["linda", "pip"],
         &["linda", "--", "pipe"],
@@ -131,6 +139,12 @@ fn tells_a_fault_of_the_command_line(rt: HostRuntime) -> Result<(), AllocError> 
         &["linda", "run", "--servers=-1"],
         &["linda", "run", "--servers", "2", "more"],
         &["linda", "run", "--servers=2", "--servers=2"],
+        &["linda", "run", "--trace", "f"],
+        &["linda", "run", "--servers=2", "--trace"],
+        &["linda", "run", "--servers=2", "--trace", "--"],
+        &["linda", "run", "--servers=2", "--trace=f", "--trace=g"],
+        &["linda", "run", "--servers=17", "--trace=f"],
+        &["linda", "run", "--servers=2", "--trace=f", "more"],
         &["linda", "serve"],
         &["linda", "serve", "--port", "0"],
         &["linda", "serve", "--dir", "d"],

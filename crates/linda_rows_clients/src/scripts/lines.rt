@@ -27,6 +27,14 @@ pub fn push_lines(script: &mut String, words: &str) -> Result<(), WordsFault> {
     Ok(())
 }
 
+/// Appends so many lines that are passed over.
+pub fn push_skipped(script: &mut String, words: &str) -> Result<(), WordsFault> {
+    for _ in 0..place(words)? {
+        script.push_str("# out\n")?;
+    }
+    Ok(())
+}
+
 /// Tells of many lines how many they are, and the last one.
 pub fn tell_last(printed: &str, came: &mut String) -> Result<(), AllocError> {
     let Some(lines) = printed.strip_suffix("\n") else {

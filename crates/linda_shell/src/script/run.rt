@@ -1,12 +1,13 @@
-//! A script from a reader, and what it prints to a writer.
+//! A script from a reader, what it prints to a writer, and its trace to another one where that is wanted.
 
 ghost use Rattle.std.specs.Prelude.{◌≤◌};
 ghost use Rattle.linda_client.specs.declared.limits.TheConstants.{MAX_SERVERS};
 
 use super::Script;
 use super::fault::{LineFault, ScriptFault};
+use super::output::Output;
 use std::alloc::Global;
-use std::io::{Read, Write};
+use std::io::{Read, Write, sink};
 
 // The most bytes of one read.
 const BUFFER: usize = 4096;
@@ -32,43 +33,101 @@ pub fn run_script<R: Read, W: Write>(
     let Ok(script) = Script::new(alloc, servers) else {
         return Err(ScriptFault::Memory);
     };
-    let mut lines = Lines {
-        script,
-        line: Vec::new(alloc),
-        number: 1,
+    let lines = Lines::new(alloc, script, Output::new(alloc));
+    play(alloc, reader, writer, &mut sink(), lines)
+}
+
+/// Runs a script as `run_script` does, and writes its trace too: of each line, after what the line printed.
+///
+/// # Errors
+///
+/// As `run_script`; `Write` also where the trace cannot be written. What happened up to the fault is written as far as
+/// it can be.
+pub fn trace_script<R: Read, W: Write, T: Write>(
+    alloc: Global,
+    reader: &mut R,
+    writer: &mut W,
+    tracer: &mut T,
+    servers: u32,
+) -> Result<(), ScriptFault>
+    requires some { 1 ≤ servers }
+    requires few { servers ≤ MAX_SERVERS }
+{
+    let Ok(script) = Script::new(alloc, servers) else {
+        return Err(ScriptFault::Memory);
     };
+    let Ok(out) = Output::traced(alloc, servers) else {
+        return Err(ScriptFault::Memory);
+    };
+    put(tracer, out.told())?;
+    let mut lines = Lines::new(alloc, script, out);
+    lines.out.clear();
+    play(alloc, reader, writer, tracer, lines)
+}
+
+// Plays the lines of a script to its end.
+fn play<R: Read, W: Write, T: Write>(
+    alloc: Global,
+    reader: &mut R,
+    writer: &mut W,
+    tracer: &mut T,
+    mut lines: Lines,
+) -> Result<(), ScriptFault> {
     let mut buffer = [0; BUFFER];
     for _turn in 0..u32::MAX {
         let Ok(count) = reader.read(&mut buffer) else {
             return Err(ScriptFault::Read);
         };
         if count == 0 {
-            return lines.end_line(alloc, writer);
+            return lines.end_line(alloc, writer, tracer);
         }
-        lines.take(alloc, &buffer[..count], writer)?;
+        lines.take(alloc, &buffer[..count], writer, tracer)?;
     }
     Err(ScriptFault::Turns)
 }
 
-// A script, the line that was begun, and its number.
+// Writes a text, if there is one, and flushes.
+fn put<W: Write>(writer: &mut W, text: &str) -> Result<(), ScriptFault> {
+    if text.is_empty() {
+        return Ok(());
+    }
+    if writer.write_all(text.as_bytes()).is_err() || writer.flush().is_err() {
+        return Err(ScriptFault::Write);
+    }
+    Ok(())
+}
+
+// A script, the line that was begun, its number, and what comes of it.
 #[derive(Drop)]
 struct Lines {
     script: Script,
     line: Vec<u8>,
     number: u64,
+    out: Output,
 }
 
 impl Lines {
+    // The first line of a script is still to come.
+    fn new(alloc: Global, script: Script, out: Output) -> Lines {
+        Lines {
+            script,
+            line: Vec::new(alloc),
+            number: 1,
+            out,
+        }
+    }
+
     // Takes a piece of the script, and does the lines that end in it.
-    fn take<W: Write>(
+    fn take<W: Write, T: Write>(
         &mut self,
         alloc: Global,
         piece: &[u8],
         writer: &mut W,
+        tracer: &mut T,
     ) -> Result<(), ScriptFault> {
         for byte in piece {
             if *byte == b'\n' {
-                self.end_line(alloc, writer)?;
+                self.end_line(alloc, writer, tracer)?;
             } else if self.line.push(*byte).is_err() {
                 return Err(ScriptFault::Line(self.number, LineFault::Memory));
             }
@@ -77,20 +136,22 @@ impl Lines {
     }
 
     // Does the line that was begun, and begins the next one.
-    fn end_line<W: Write>(&mut self, alloc: Global, writer: &mut W) -> Result<(), ScriptFault> {
-        let mut out = String::new(alloc);
+    fn end_line<W: Write, T: Write>(
+        &mut self,
+        alloc: Global,
+        writer: &mut W,
+        tracer: &mut T,
+    ) -> Result<(), ScriptFault> {
+        let line = without_return(&self.line);
         let done = self
             .script
-            .run_line(alloc, without_return(&self.line), &mut out);
-        if !out.is_empty() && writer.write_all(out.as_bytes()).is_err() {
-            return Err(ScriptFault::Write);
-        }
-        if !out.is_empty() && writer.flush().is_err() {
-            return Err(ScriptFault::Write);
-        }
+            .run_line(alloc, self.number, line, &mut self.out);
+        put(writer, self.out.printed())?;
+        put(tracer, self.out.told())?;
         if let Err(fault) = done {
             return Err(ScriptFault::Line(self.number, fault));
         }
+        self.out.clear();
         self.line.clear();
         self.number = self.number.saturating_add(1);
         Ok(())
