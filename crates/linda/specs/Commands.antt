@@ -73,6 +73,13 @@ sessions_rule = record (new_rule (codes "sessions")) {
   parser = Some (parsers.Signed (pos 0) (pos 4294967295));
 }
 
+-- the option `--log`, which may be there, and stands alone
+abbrev pub log_rule : Rule
+log_rule = record (new_rule (codes "log")) {
+  long = Some (codes "log");
+  action = Some SetTrue;
+}
+
 -- the word that names the folder of a store, which must be there
 abbrev pub folder_rule : Rule
 folder_rule = record (new_rule (codes "dir")) {
@@ -101,7 +108,8 @@ linda = with_subcommand (with_subcommand (with_subcommand (with_subcommand (with
     (on_top (λ s. record s { subcommand_required = true }) (new_app (codes "linda"))) (new_app (codes "pipe")).top)
     (with_rule (new_app (codes "run")) servers_rule).top)
     (with_rule (with_rule (new_app (codes "call")) client_rule) ports_rule).top)
-    (with_rule (with_rule (with_rule (new_app (codes "serve")) port_rule) dir_rule) sessions_rule).top)
+    (with_rule (with_rule (with_rule (with_rule (new_app (codes "serve")) port_rule) dir_rule) sessions_rule)
+    log_rule).top)
     (with_rule (with_rule (with_rule (new_app (codes "inspect")) folder_rule) tuples_rule) clients_rule).top
 
 -- no word, or the `--` that ends options
@@ -169,7 +177,7 @@ abbrev pub AsksFor : List (List ℕ) → Task → Type 0
 AsksFor words tasks.Pipe = AsksForPipe words
 AsksFor words (tasks.Run n) = AsksForRun words n
 AsksFor words (tasks.Call client ports) = AsksForCall words client ports
-AsksFor words (tasks.Serve port dir sessions) = AsksForServe words port sessions
+AsksFor words (tasks.Serve port dir sessions log) = AsksForServe words port sessions
 AsksFor words (tasks.Inspect dir lists) = AsksForInspect words
 
 -- it is a call, by such numbers
@@ -177,7 +185,7 @@ abbrev pub IsCall : Task → Type 0
 IsCall tasks.Pipe = ⊥
 IsCall (tasks.Run n) = ⊥
 IsCall (tasks.Call client ports) = (client < 2 ^ 32) × ArePorts ports
-IsCall (tasks.Serve port dir sessions) = ⊥
+IsCall (tasks.Serve port dir sessions log) = ⊥
 IsCall (tasks.Inspect dir lists) = ⊥
 
 -- it serves, by such numbers
@@ -185,7 +193,7 @@ abbrev pub IsServe : Task → Type 0
 IsServe tasks.Pipe = ⊥
 IsServe (tasks.Run n) = ⊥
 IsServe (tasks.Call client ports) = ⊥
-IsServe (tasks.Serve port dir sessions) = (port < 2 ^ 16) × IfSome sessions (λ k. k < 2 ^ 32)
+IsServe (tasks.Serve port dir sessions log) = (port < 2 ^ 16) × IfSome sessions (λ k. k < 2 ^ 32)
 IsServe (tasks.Inspect dir lists) = ⊥
 
 -- it inspects
@@ -193,7 +201,7 @@ abbrev pub IsInspect : Task → Type 0
 IsInspect tasks.Pipe = ⊥
 IsInspect (tasks.Run n) = ⊥
 IsInspect (tasks.Call client ports) = ⊥
-IsInspect (tasks.Serve port dir sessions) = ⊥
+IsInspect (tasks.Serve port dir sessions log) = ⊥
 IsInspect (tasks.Inspect dir lists) = ⊤
 
 -- what words ask for that are written out above to the letter: the pipe, or a run
@@ -201,7 +209,7 @@ abbrev pub AsksExactlyFor : List (List ℕ) → Task → Type 0
 AsksExactlyFor words tasks.Pipe = AsksForPipe words
 AsksExactlyFor words (tasks.Run n) = AsksForRun words n
 AsksExactlyFor words (tasks.Call client ports) = ⊥
-AsksExactlyFor words (tasks.Serve port dir sessions) = ⊥
+AsksExactlyFor words (tasks.Serve port dir sessions log) = ⊥
 AsksExactlyFor words (tasks.Inspect dir lists) = ⊥
 
 -- a run and a call have at least one server, and not more than there may be
@@ -209,7 +217,7 @@ abbrev pub HasServers : Task → Type 0
 HasServers tasks.Pipe = ⊤
 HasServers (tasks.Run n) = (1 ≤ n) × (n ≤ MAX_SERVERS)
 HasServers (tasks.Call client ports) = (1 ≤ length ports) × (length ports ≤ MAX_SERVERS)
-HasServers (tasks.Serve port dir sessions) = ⊤
+HasServers (tasks.Serve port dir sessions log) = ⊤
 HasServers (tasks.Inspect dir lists) = ⊤
 
 -- whether a word begins with a hyphen
