@@ -81,6 +81,13 @@ sessions_rule = record (new_rule (codes "sessions")) {
   parser = Some (parsers.Signed (pos 0) (pos 4294967295));
 }
 
+-- the option `--log`, which may be there, and stands alone
+abbrev pub log_rule : Rule
+log_rule = record (new_rule (codes "log")) {
+  long = Some (codes "log");
+  action = Some SetTrue;
+}
+
 -- the word that names the folder of a store, which must be there
 abbrev pub folder_rule : Rule
 folder_rule = record (new_rule (codes "dir")) {
@@ -109,7 +116,8 @@ linda = with_subcommand (with_subcommand (with_subcommand (with_subcommand (with
     (on_top (λ s. record s { subcommand_required = true }) (new_app (codes "linda"))) (new_app (codes "pipe")).top)
     (with_rule (with_rule (new_app (codes "run")) servers_rule) trace_rule).top)
     (with_rule (with_rule (new_app (codes "call")) client_rule) ports_rule).top)
-    (with_rule (with_rule (with_rule (new_app (codes "serve")) port_rule) dir_rule) sessions_rule).top)
+    (with_rule (with_rule (with_rule (with_rule (new_app (codes "serve")) port_rule) dir_rule) sessions_rule)
+    log_rule).top)
     (with_rule (with_rule (with_rule (new_app (codes "inspect")) folder_rule) tuples_rule) clients_rule).top
 
 -- no word, or the `--` that ends options
@@ -186,7 +194,7 @@ AsksFor words tasks.Pipe = AsksForPipe words
 AsksFor words (tasks.Run n) = AsksForRun words n
 AsksFor words (tasks.TracedRun n file) = AsksForTracedRun words n
 AsksFor words (tasks.Call client ports) = AsksForCall words client ports
-AsksFor words (tasks.Serve port dir sessions) = AsksForServe words port sessions
+AsksFor words (tasks.Serve port dir sessions log) = AsksForServe words port sessions
 AsksFor words (tasks.Inspect dir lists) = AsksForInspect words
 
 -- it is a run with a trace, by such a number
@@ -195,7 +203,7 @@ IsTracedRun tasks.Pipe = ⊥
 IsTracedRun (tasks.Run n) = ⊥
 IsTracedRun (tasks.TracedRun n file) = (1 ≤ n) × (n ≤ MAX_SERVERS)
 IsTracedRun (tasks.Call client ports) = ⊥
-IsTracedRun (tasks.Serve port dir sessions) = ⊥
+IsTracedRun (tasks.Serve port dir sessions log) = ⊥
 IsTracedRun (tasks.Inspect dir lists) = ⊥
 
 -- it is a call, by such numbers
@@ -204,7 +212,7 @@ IsCall tasks.Pipe = ⊥
 IsCall (tasks.Run n) = ⊥
 IsCall (tasks.TracedRun n file) = ⊥
 IsCall (tasks.Call client ports) = (client < 2 ^ 32) × ArePorts ports
-IsCall (tasks.Serve port dir sessions) = ⊥
+IsCall (tasks.Serve port dir sessions log) = ⊥
 IsCall (tasks.Inspect dir lists) = ⊥
 
 -- it serves, by such numbers
@@ -213,7 +221,7 @@ IsServe tasks.Pipe = ⊥
 IsServe (tasks.Run n) = ⊥
 IsServe (tasks.TracedRun n file) = ⊥
 IsServe (tasks.Call client ports) = ⊥
-IsServe (tasks.Serve port dir sessions) = (port < 2 ^ 16) × IfSome sessions (λ k. k < 2 ^ 32)
+IsServe (tasks.Serve port dir sessions log) = (port < 2 ^ 16) × IfSome sessions (λ k. k < 2 ^ 32)
 IsServe (tasks.Inspect dir lists) = ⊥
 
 -- it inspects
@@ -222,7 +230,7 @@ IsInspect tasks.Pipe = ⊥
 IsInspect (tasks.Run n) = ⊥
 IsInspect (tasks.TracedRun n file) = ⊥
 IsInspect (tasks.Call client ports) = ⊥
-IsInspect (tasks.Serve port dir sessions) = ⊥
+IsInspect (tasks.Serve port dir sessions log) = ⊥
 IsInspect (tasks.Inspect dir lists) = ⊤
 
 -- what words ask for that are written out above to the letter: the pipe, or a run
@@ -231,7 +239,7 @@ AsksExactlyFor words tasks.Pipe = AsksForPipe words
 AsksExactlyFor words (tasks.Run n) = AsksForRun words n
 AsksExactlyFor words (tasks.TracedRun n file) = ⊥
 AsksExactlyFor words (tasks.Call client ports) = ⊥
-AsksExactlyFor words (tasks.Serve port dir sessions) = ⊥
+AsksExactlyFor words (tasks.Serve port dir sessions log) = ⊥
 AsksExactlyFor words (tasks.Inspect dir lists) = ⊥
 
 -- a run and a call have at least one server, and not more than there may be
@@ -240,7 +248,7 @@ HasServers tasks.Pipe = ⊤
 HasServers (tasks.Run n) = (1 ≤ n) × (n ≤ MAX_SERVERS)
 HasServers (tasks.TracedRun n file) = (1 ≤ n) × (n ≤ MAX_SERVERS)
 HasServers (tasks.Call client ports) = (1 ≤ length ports) × (length ports ≤ MAX_SERVERS)
-HasServers (tasks.Serve port dir sessions) = ⊤
+HasServers (tasks.Serve port dir sessions log) = ⊤
 HasServers (tasks.Inspect dir lists) = ⊤
 
 -- whether a word begins with a hyphen

@@ -13,7 +13,7 @@ ghost use Rattle.linda.specs.Commands.{AsksExactlyFor, AsksFor, AsksForPipe, Ask
 ghost use Rattle.linda.specs.Commands.{IsCall, IsInspect, IsRefusedAs, IsServe, IsTracedRun, Refuses, client_rule};
 ghost use Rattle.linda.specs.Commands.{clients_rule, trace_rule};
 ghost use Rattle.linda.specs.Commands.{dir_rule, folder_rule, linda, port_rule, ports_rule, servers_rule};
-ghost use Rattle.linda.specs.Commands.{sessions_rule, tuples_rule};
+ghost use Rattle.linda.specs.Commands.{log_rule, sessions_rule, tuples_rule};
 ghost use Rattle.linda.specs.declared.command.Task.TheVariants as tasks;
 
 use clap::error::ErrorKind;
@@ -44,11 +44,12 @@ pub enum Task {
         ports: Ports,
     },
     /// The store in this folder, for clients that connect to this port, or to any where it is 0; so many connections
-    /// where a number is given.
+    /// where a number is given, with a log or without one.
     Serve {
         port: u16,
         dir: String,
         sessions: Option<u32>,
+        log: bool,
     },
     /// What the store in this folder comes to, with these lists.
     Inspect {
@@ -175,10 +176,12 @@ fn serve_of(alloc: Global, below: &ArgMatches) -> Result<Option<Task>, AllocErro
     };
     let dir = String::from_str(alloc, text)?;
     let sessions = below.get_one::<u32>(SESSIONS);
+    let log = below.get_flag(LOG);
     Ok(Some(Task::Serve {
         port,
         dir,
         sessions,
+        log,
     }))
 }
 
@@ -218,7 +221,8 @@ fn command<'a>(alloc: Global) -> Result<Command<'a>, AllocError>
         .after_help(SERVING)
         .arg(port_option(alloc))?
         .arg(dir_option(alloc))?
-        .arg(sessions_option(alloc))?;
+        .arg(sessions_option(alloc))?
+        .arg(log_flag(alloc))?;
     let inspect = Command::new(alloc, INSPECT)
         .about(
             "Tell what the store in a folder holds, and whether it would be served; nothing is written",
@@ -332,6 +336,17 @@ fn sessions_option<'a>(alloc: Global) -> Arg<'a>
         .value_parser(value_parser!(u32))
 }
 
+// The option that asks for a log.
+fn log_flag<'a>(alloc: Global) -> Arg<'a>
+    ensures rule { rule_of result ≡ log_rule }
+    ensures own { result.global ≡ false }
+{
+    Arg::new(alloc, LOG)
+        .long(LOG)
+        .help("Write a log to standard error: a line a minute, and one at each event")
+        .action(ArgAction::SetTrue)
+}
+
 // The word that names the folder of a store.
 fn folder_word<'a>(alloc: Global) -> Arg<'a>
     ensures rule { rule_of result ≡ folder_rule }
@@ -383,6 +398,8 @@ const PORT: &str = "port";
 const DIR: &str = "dir";
 
 const SESSIONS: &str = "sessions";
+
+const LOG: &str = "log";
 
 const INSPECT: &str = "inspect";
 

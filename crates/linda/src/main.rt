@@ -9,8 +9,8 @@
 //! `linda call --client C PORT..` plays lines from standard input as client C, over the servers that listen on these
 //! ports of this machine.
 //!
-//! `linda serve --port P --dir D [--sessions K]` serves the store in a folder to clients that connect to a port of this
-//! machine.
+//! `linda serve --port P --dir D [--sessions K] [--log]` serves the store in a folder to clients that connect to a port
+//! of this machine; with `--log` it tells on standard error what it does.
 //!
 //! `linda inspect DIR [--tuples] [--clients]` tells what the store in a folder holds, and whether it would be served.
 //!
@@ -49,7 +49,7 @@ use crate::faults::{PipeFault, REFUSED};
 use crate::inspecting::inspect_folder;
 use crate::piping::pipe;
 use crate::running::status_of_script;
-use crate::serving::serve_folder;
+use crate::serving::{serve_folder, serve_logged};
 use linda_inspect::Lists;
 use linda_shell::{ScriptFault, run_script, trace_script};
 use std::fmt::Display;
@@ -88,8 +88,9 @@ fn main(rt: HostRuntime) -> ExitCode {
                 port,
                 dir,
                 sessions,
+                log,
             },
-        ) => run_serve(&rt, &rt, port, &dir, sessions),
+        ) => run_serve(&rt, &rt, port, &dir, sessions, log),
         Ok(Task::Inspect { dir, lists }) => run_inspect(&rt, &dir, lists),
         Err(error) => show(&rt, &error),
     }
@@ -203,18 +204,17 @@ fn run_serve<S: Net<Listener = TcpListener, Stream = TcpStream> + Threads + Wait
     port: u16,
     dir: &str,
     sessions: Option<u32>,
+    log: bool,
 ) -> ExitCode
     ensures { (exit_status result ≡ 0) ⊎ (exit_status result ≡ 3) }
 {
-    let ended = serve_folder(
-        rt,
-        threads,
-        rt.alloc(),
-        &mut rt.stdout(),
-        port,
-        dir,
-        sessions,
-    );
+    let out = &mut rt.stdout();
+    let ended = if log {
+        let sink = &mut rt.stderr();
+        serve_logged(rt, threads, rt.alloc(), out, sink, port, dir, sessions)
+    } else {
+        serve_folder(rt, threads, rt.alloc(), out, port, dir, sessions)
+    };
     match ended {
         Ok(()) => ExitCode::SUCCESS,
         Err(cause) => end(rt, cause, REFUSED),

@@ -5,6 +5,7 @@ mod calls;
 mod cuts;
 mod flush;
 mod inspects;
+mod logs;
 mod peer;
 mod rows;
 mod serves;

@@ -8,6 +8,7 @@ mod finish;
 mod give_up;
 mod greet;
 mod leave;
+mod measure;
 mod serve;
 mod take;
 mod tell;

@@ -7,7 +7,9 @@
 #![tactic(auto)]
 
 mod crossing;
+mod gauge;
 mod held;
 mod pace;
 
+pub use gauge::Gauge;
 pub use held::{Held, Report};

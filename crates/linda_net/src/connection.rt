@@ -7,6 +7,7 @@ ghost use Rattle.linda_net.specs.Pumping.{IsOfIntake};
 
 use crate::intake::Intake;
 use crate::line::Line;
+use crate::marks::Marks;
 use crate::pumping::pump;
 use linda_disk::Disk;
 use linda_shared::{Greeted, Seat, Shared, SharedFault};
@@ -22,6 +23,7 @@ struct Connection<'a, D: Disk, L: Ledger, R: Wait> {
     rt: &'a R,
     alloc: Global,
     shared: &'a Shared<D, L>,
+    marks: Option<&'a Marks>,
     line: &'a Line<L>,
     seat: Option<Seat<L>>,
 }
@@ -40,7 +42,7 @@ impl<D: Disk, L: Ledger, R: Wait> Intake for Connection<'_, D, L, R> {
             return self.take_each(messages);
         }
         submit_all(self.rt, self.shared, seat, &messages)?;
-        self.line.flush(self.rt, self.alloc, None)
+        self.line.flush(self.rt, self.alloc, self.marks, None)
     }
 }
 
@@ -61,10 +63,11 @@ impl<D: Disk, L: Ledger, R: Wait> Connection<'_, D, L, R> {
     {
         if let Some(seat) = &mut self.seat {
             submit(self.rt, self.shared, seat, message)?;
-            return self.line.flush(self.rt, self.alloc, None);
+            return self.line.flush(self.rt, self.alloc, self.marks, None);
         }
         let reply = self.greet(message)?;
-        self.line.flush(self.rt, self.alloc, Some(reply))
+        self.line
+            .flush(self.rt, self.alloc, self.marks, Some(reply))
     }
 
     // Greets the client of a Hello. Says what it is to be told.
@@ -159,18 +162,20 @@ pub(crate) fn read_messages<D: Disk, L: Ledger, R: Wait>(
     rt: &R,
     alloc: Global,
     shared: &Shared<D, L>,
+    marks: Option<&Marks>,
     line: &Line<L>,
 ) {
     let mut connection = Connection {
         rt,
         alloc,
         shared,
+        marks,
         line,
         seat: None,
     };
     let end = pump(alloc, &mut line.stream(), &mut connection);
     if let Some(refusal) = last_word(end) {
-        let _ = line.flush(rt, alloc, Some(refusal.reply()));
+        let _ = line.flush(rt, alloc, marks, Some(refusal.reply()));
     }
     let Connection { seat, .. } = connection;
     leave(rt, shared, line, seat);

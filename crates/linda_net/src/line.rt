@@ -3,6 +3,7 @@
 ghost use Rattle.std.specs.Prelude.{IfErr};
 ghost use Rattle.linda_net.specs.Pumping.{IsOfIntake};
 
+use crate::marks::Marks;
 use linda_disk::Disk;
 use linda_shared::{Outlet, Shared};
 use linda_store::ConverseFault;
@@ -93,7 +94,7 @@ impl<L: Ledger> Line<L> {
         (!slot.is_over, slot.outlet.take())
     }
 
-    /// Writes the replies that are there now, and then this one, if there is one.
+    /// Writes the replies that are there now, and then this one, if there is one. Where it is watched they are counted.
     ///
     /// # Errors
     ///
@@ -102,6 +103,7 @@ impl<L: Ledger> Line<L> {
         &self,
         rt: &R,
         alloc: Global,
+        marks: Option<&Marks>,
         last: Option<Reply>,
     ) -> Result<(), ConverseFault>
         ensures { IfErr result IsOfIntake }
@@ -110,6 +112,7 @@ impl<L: Ledger> Line<L> {
         let pen = &mut *guard;
         if let Some(outlet) = &mut pen.outlet {
             let replies = outlet.drain(rt, alloc);
+            note(marks, &replies);
             for reply in replies.iter() {
                 spell(&mut pen.bytes, reply)?;
             }
@@ -130,6 +133,15 @@ impl<L: Ledger> Line<L> {
     /// The connection ends.
     pub(crate) fn shut(&self) {
         let _ = self.stream.shutdown(Shutdown::Both);
+    }
+}
+
+// Counts the replies, where it is watched.
+fn note(marks: Option<&Marks>, replies: &[Reply]) {
+    if let Some(marks) = marks {
+        for reply in replies {
+            marks.sends(reply);
+        }
     }
 }
 
@@ -162,12 +174,13 @@ pub(crate) fn write_news<D: Disk, L: Ledger, R: Wait + Clock>(
     rt: &R,
     alloc: Global,
     shared: &Shared<D, L>,
+    marks: Option<&Marks>,
     line: &Line<L>,
 ) {
     for _ in rt.forever() {
         match line.wait_outlet(rt) {
             (_, Some(outlet)) => {
-                follow(rt, alloc, line, &outlet);
+                follow(rt, alloc, marks, line, &outlet);
                 return;
             }
             (false, None) => return,
@@ -182,10 +195,16 @@ pub(crate) fn write_news<D: Disk, L: Ledger, R: Wait + Clock>(
 }
 
 // Writes the news of this outlet.
-fn follow<L: Ledger, R: Wait>(rt: &R, alloc: Global, line: &Line<L>, outlet: &Outlet<L>) {
+fn follow<L: Ledger, R: Wait>(
+    rt: &R,
+    alloc: Global,
+    marks: Option<&Marks>,
+    line: &Line<L>,
+    outlet: &Outlet<L>,
+) {
     for _ in rt.forever() {
         let goes_on = outlet.wait_news(rt);
-        if line.flush(rt, alloc, None).is_err() {
+        if line.flush(rt, alloc, marks, None).is_err() {
             line.shut();
             return;
         }

@@ -2,6 +2,8 @@
 
 use crate::connection::read_messages;
 use crate::line::{Line, write_news};
+use crate::marks::{Marks, Tally};
+use crate::watching::{Event, Watcher, take_marked, tell, watch};
 use linda_disk::Disk;
 use linda_shared::{Shared, SharedFault};
 use std::alloc::Global;
@@ -12,8 +14,8 @@ use std::thread;
 use std::thread::{Scope, Threads};
 use std::time::{Clock, Duration};
 
-/// How often it is looked whether a snapshot pays for itself, in milliseconds.
-const LOOK: u64 = 100;
+/// How often it is looked whether a snapshot pays for itself, and what happened, in milliseconds.
+pub(crate) const LOOK: u64 = 100;
 
 /// How long nobody is let in where a connection could not be had, as where no file is left for it, in milliseconds.
 const REST: u64 = 10;
@@ -39,11 +41,64 @@ pub fn serve<D: Disk + Send, L: Ledger + Send + Sync, R: Threads + Wait + Clock 
     let over = &is_over;
     thread::scope(thread::scope_env(), rt, |scope| {
         let _ = scope
-            .spawn(move || take_snapshots(rt, shared, over))
+            .spawn(move || take_snapshots(rt, shared, None, over))
             .is_err();
-        accept_all(scope, rt, alloc, listener, shared, sessions);
+        accept_all(scope, rt, alloc, listener, shared, None, sessions);
         *over.lock(rt) = true;
     });
+    ended(rt, shared)
+}
+
+/// The same, and a thread of its own tells whoever watches what happens, until all connections are over: nobody else
+/// waits for it. It ends as `serve` does, with how often what happened.
+pub fn serve_watched<
+    D: Disk + Send,
+    L: Ledger + Send + Sync,
+    R: Threads + Wait + Clock + Sync,
+    T: Watcher + Send,
+>(
+    rt: &R,
+    alloc: Global,
+    listener: &TcpListener,
+    shared: &Shared<D, L>,
+    sessions: Option<u32>,
+    watcher: &Mutex<T>,
+) -> (Result<(), SharedFault>, Tally) {
+    let is_over = Mutex::new(false);
+    let over = &is_over;
+    let counts = Marks::new();
+    let marks = &counts;
+    thread::scope(thread::scope_env(), rt, |scope| {
+        let watches = scope.spawn(move || watch(rt, shared, over, marks, watcher));
+        if watches.is_err() {
+            tell(rt, shared, marks, watcher, Event::Unwatched);
+        }
+        let renews = scope.spawn(move || take_snapshots(rt, shared, Some(marks), over));
+        if renews.is_err() {
+            tell(rt, shared, marks, watcher, Event::NoThread);
+        }
+        accept_marked(rt, alloc, listener, shared, marks, sessions);
+        *over.lock(rt) = true;
+    });
+    (ended(rt, shared), marks.tally())
+}
+
+// Serves the connections to their ends, and counts what happens.
+fn accept_marked<D: Disk + Send, L: Ledger + Send + Sync, R: Threads + Wait + Clock + Sync>(
+    rt: &R,
+    alloc: Global,
+    listener: &TcpListener,
+    shared: &Shared<D, L>,
+    marks: &Marks,
+    sessions: Option<u32>,
+) {
+    thread::scope(thread::scope_env(), rt, |scope| {
+        accept_all(scope, rt, alloc, listener, shared, Some(marks), sessions);
+    });
+}
+
+// How it ended.
+fn ended<D: Disk, L: Ledger, R: Wait>(rt: &R, shared: &Shared<D, L>) -> Result<(), SharedFault> {
     if shared.is_down(rt) {
         return Err(SharedFault::Down);
     }
@@ -57,6 +112,7 @@ fn accept_all<'s, E, D: Disk + Send, L: Ledger + Send + Sync, R: Threads + Wait 
     alloc: Global,
     listener: &TcpListener,
     shared: &'s Shared<D, L>,
+    marks: Option<&'s Marks>,
     sessions: Option<u32>,
 ) {
     let mut left = sessions;
@@ -69,10 +125,13 @@ fn accept_all<'s, E, D: Disk + Send, L: Ledger + Send + Sync, R: Threads + Wait 
         }
         match stream {
             Ok(stream) => {
-                begin(scope, rt, alloc, shared, stream);
+                begin(scope, rt, alloc, shared, marks, stream);
                 left = one_less(left);
             }
-            Err(_) => thread::sleep(rt, Duration::from_millis(REST)),
+            Err(_) => {
+                note_missed(marks);
+                thread::sleep(rt, Duration::from_millis(REST));
+            }
         }
         if left == Some(0) {
             return;
@@ -86,11 +145,38 @@ fn begin<'s, E, D: Disk + Send, L: Ledger + Send + Sync, R: Threads + Wait + Clo
     rt: &'s R,
     alloc: Global,
     shared: &'s Shared<D, L>,
+    marks: Option<&'s Marks>,
     stream: TcpStream,
 ) {
-    let _ = scope
-        .spawn(move || converse(rt, alloc, shared, stream))
-        .is_err();
+    if let Some(marks) = marks {
+        marks.comes();
+    }
+    let begun = scope.spawn(move || converse(rt, alloc, shared, marks, stream));
+    if begun.is_err() {
+        note_closed(marks);
+        note_end(marks);
+    }
+}
+
+// Counts a connection that is closed since no thread can be had, where it is watched.
+fn note_closed(marks: Option<&Marks>) {
+    if let Some(marks) = marks {
+        marks.closes();
+    }
+}
+
+// Counts a connection that cannot be had, where it is watched.
+fn note_missed(marks: Option<&Marks>) {
+    if let Some(marks) = marks {
+        marks.misses();
+    }
+}
+
+// Counts a connection that is over, where it is watched.
+fn note_end(marks: Option<&Marks>) {
+    if let Some(marks) = marks {
+        marks.ends();
+    }
 }
 
 // One connection fewer, where they are counted.
@@ -106,23 +192,28 @@ fn converse<D: Disk + Send, L: Ledger + Send + Sync, R: Threads + Wait + Clock +
     rt: &R,
     alloc: Global,
     shared: &Shared<D, L>,
+    marks: Option<&Marks>,
     stream: TcpStream,
 ) {
     let _ = stream.set_nodelay(true);
     let line = Line::new(alloc, stream);
     let lent = &line;
     thread::scope(thread::scope_env(), rt, |scope| {
-        let writer = move || write_news(rt, alloc, shared, lent);
+        let writer = move || write_news(rt, alloc, shared, marks, lent);
         if scope.spawn(writer).is_ok() {
-            read_messages(rt, alloc, shared, lent);
+            read_messages(rt, alloc, shared, marks, lent);
+        } else {
+            note_closed(marks);
         }
     });
+    note_end(marks);
 }
 
 // Takes a snapshot whenever one pays for itself, until it is over.
 fn take_snapshots<D: Disk, L: Ledger, R: Wait + Clock>(
     rt: &R,
     shared: &Shared<D, L>,
+    marks: Option<&Marks>,
     is_over: &Mutex<bool>,
 ) {
     for _ in rt.forever() {
@@ -130,8 +221,22 @@ fn take_snapshots<D: Disk, L: Ledger, R: Wait + Clock>(
             return;
         }
         if shared.pays(rt) {
-            let _ = shared.snapshot(rt);
+            take_one(rt, shared, marks);
         }
         thread::sleep(rt, Duration::from_millis(LOOK));
+    }
+}
+
+// Takes a snapshot, and notes what came of it where it is watched.
+fn take_one<D: Disk, L: Ledger, R: Wait + Clock>(
+    rt: &R,
+    shared: &Shared<D, L>,
+    marks: Option<&Marks>,
+) {
+    match marks {
+        Some(marks) => take_marked(rt, shared, marks),
+        None => {
+            let _ = shared.snapshot(rt);
+        }
     }
 }

@@ -20,7 +20,7 @@ mod workers;
 pub use crossing::{outlet_crosses, seat_crosses, shared_may_be_lent};
 pub use gate::Gate;
 pub use greeted::Greeted;
-pub use linda_desk::Report;
+pub use linda_desk::{Gauge, Report};
 pub use linda_mail::Outlet;
 pub use linda_receipt::{Receipt, SharedFault};
 pub use seat::Seat;

@@ -12,7 +12,7 @@ ghost use Rattle.linda_receipt.specs.declared.limits.TheConstants.{PARTS};
 
 use crate::desk::Desk;
 use crate::tray::Tray;
-use linda_desk::Held;
+use linda_desk::{Gauge, Held};
 use linda_disk::Disk;
 use linda_mail::{Office, Outlet, Queue};
 use linda_receipt::SharedFault;
@@ -83,6 +83,11 @@ impl<D: Disk, L: Ledger> Shared<D, L> {
     /// records more as make one due. For whoever serves, and takes them.
     pub fn pays<R: Wait>(&self, rt: &R) -> bool {
         self.desk.lock(rt).held.pays()
+    }
+
+    /// What the server comes to at a moment, in numbers, for whoever tells its operator. Takes no memory.
+    pub fn gauge<R: Wait>(&self, rt: &R) -> Gauge {
+        self.desk.lock(rt).held.gauge()
     }
 
     /// Takes a snapshot.

@@ -76,7 +76,7 @@ fn reads_the_command_line(rt: HostRuntime) -> Result<(), AllocError> {
         ),
         (
             &["linda", "serve", "--port", "0", "--dir", "d"],
-            "Serve { port: 0, dir: \"d\", sessions: None }",
+            "Serve { port: 0, dir: \"d\", sessions: None, log: false }",
         ),
         (
             &[
@@ -88,7 +88,7 @@ fn reads_the_command_line(rt: HostRuntime) -> Result<(), AllocError> {
                 "--port=65535",
                 "--",
             ],
-            "Serve { port: 65535, dir: \"a b\", sessions: Some(0) }",
+            "Serve { port: 65535, dir: \"a b\", sessions: Some(0), log: false }",
         ),
         (
             &[
@@ -98,9 +98,10 @@ fn reads_the_command_line(rt: HostRuntime) -> Result<(), AllocError> {
                 "d",
                 "--port",
                 "1",
+                "--log",
                 "--sessions=4294967295",
             ],
-            "Serve { port: 1, dir: \"d\", sessions: Some(4294967295) }",
+            "Serve { port: 1, dir: \"d\", sessions: Some(4294967295), log: true }",
         ),
         (
             &["linda", "inspect", "d"],
@@ -123,7 +124,7 @@ fn reads_the_command_line(rt: HostRuntime) -> Result<(), AllocError> {
 
 #[test]
 fn tells_a_fault_of_the_command_line(rt: HostRuntime) -> Result<(), AllocError> {
-    let faults: [&[&str]; 48] = [
+    let faults: [&[&str]; 49] = [
         &["linda"],
         &["linda", "pip"],
         &["linda", "--", "pipe"],
@@ -161,6 +162,7 @@ fn tells_a_fault_of_the_command_line(rt: HostRuntime) -> Result<(), AllocError> 
         ],
         &["linda", "serve", "--port", "0", "--dir", "d", "more"],
         &["linda", "serve", "--port", "0", "--dir", "d", "--dir", "e"],
+        &["linda", "serve", "--port", "0", "--dir", "d", "--log=yes"],
         &["linda", "call"],
         &["linda", "call", "--client", "7"],
         &["linda", "call", "7001"],

@@ -5,7 +5,7 @@ use Rattle.clap.specs.Simple.{app_of_fields, on_top}
 use Rattle.clap.specs.declared.builder.command.Command.{Command}
 use Rattle.clap.specs.declared.builder.command.Command.TheViews.{out-Command}
 use Rattle.clap.specs.declared.builder.command.Command.TheOpen.{Command-F}
-use Rattle.linda.specs.Commands.{client_rule, clients_rule, dir_rule, folder_rule, port_rule, ports_rule, servers_rule, sessions_rule, trace_rule, tuples_rule}
+use Rattle.linda.specs.Commands.{client_rule, clients_rule, dir_rule, folder_rule, log_rule, port_rule, ports_rule, servers_rule, sessions_rule, trace_rule, tuples_rule}
 use Rattle.linda.proofs.command.command.Goals as goal
 
 abbrev globals_of : Command-F Command → Bool
@@ -26,10 +26,11 @@ returns c =
     let bare_serve : app_of c.after_help-3.result ≡ new_app (codes "serve") = ap app_of_fields c.after_help-3.ensures ∙ ap app_of_fields c.about-3.ensures ∙ c.new-4.ensures.app in
     let port_is : app_of c.in_ok-arg-3.field-0 ≡ with_rule (new_app (codes "serve")) port_rule = c.in_ok-arg-3.ensures.shape c.port_option.ensures.own ∙ ap₂ with_rule bare_serve c.port_option.ensures.rule in
     let dir_is : app_of c.in_ok-arg-4.field-0 ≡ with_rule (with_rule (new_app (codes "serve")) port_rule) dir_rule = c.in_ok-arg-4.ensures.shape c.dir_option.ensures.own ∙ ap₂ with_rule port_is c.dir_option.ensures.rule in
-    let serve_is : app_of c.in_ok-serve.serve ≡ with_rule (with_rule (with_rule (new_app (codes "serve")) port_rule) dir_rule) sessions_rule = c.in_ok-serve.ensures.shape c.sessions_option.ensures.own ∙ ap₂ with_rule dir_is c.sessions_option.ensures.rule in
+    let sessions_is : app_of c.in_ok-arg-5.field-0 ≡ with_rule (with_rule (with_rule (new_app (codes "serve")) port_rule) dir_rule) sessions_rule = c.in_ok-arg-5.ensures.shape c.sessions_option.ensures.own ∙ ap₂ with_rule dir_is c.sessions_option.ensures.rule in
+    let serve_is : app_of c.in_ok-serve.serve ≡ with_rule (with_rule (with_rule (with_rule (new_app (codes "serve")) port_rule) dir_rule) sessions_rule) log_rule = c.in_ok-serve.ensures.shape c.log_flag.ensures.own ∙ ap₂ with_rule sessions_is c.log_flag.ensures.rule in
     let bare_inspect : app_of c.after_help-4.result ≡ new_app (codes "inspect") = ap app_of_fields c.after_help-4.ensures ∙ ap app_of_fields c.about-4.ensures ∙ c.new-5.ensures.app in
-    let folder_is : app_of c.in_ok-arg-5.field-0 ≡ with_rule (new_app (codes "inspect")) folder_rule = c.in_ok-arg-5.ensures.shape c.folder_word.ensures.own ∙ ap₂ with_rule bare_inspect c.folder_word.ensures.rule in
-    let tuples_is : app_of c.in_ok-arg-6.field-0 ≡ with_rule (with_rule (new_app (codes "inspect")) folder_rule) tuples_rule = c.in_ok-arg-6.ensures.shape c.tuples_flag.ensures.own ∙ ap₂ with_rule folder_is c.tuples_flag.ensures.rule in
+    let folder_is : app_of c.in_ok-arg-6.field-0 ≡ with_rule (new_app (codes "inspect")) folder_rule = c.in_ok-arg-6.ensures.shape c.folder_word.ensures.own ∙ ap₂ with_rule bare_inspect c.folder_word.ensures.rule in
+    let tuples_is : app_of c.in_ok-arg-7.field-0 ≡ with_rule (with_rule (new_app (codes "inspect")) folder_rule) tuples_rule = c.in_ok-arg-7.ensures.shape c.tuples_flag.ensures.own ∙ ap₂ with_rule folder_is c.tuples_flag.ensures.rule in
     let inspect_is : app_of c.in_ok-inspect.inspect ≡ with_rule (with_rule (with_rule (new_app (codes "inspect")) folder_rule) tuples_rule) clients_rule = c.in_ok-inspect.ensures.shape c.clients_flag.ensures.own ∙ ap₂ with_rule tuples_is c.clients_flag.ensures.rule in
     let bare_top : app_of c.after_help-5.result ≡ new_app (codes "linda") = ap app_of_fields c.after_help-5.ensures ∙ ap app_of_fields c.about-5.ensures ∙ c.new-6.ensures.app in
     let top_is : app_of c.subcommand_required.result ≡ on_top (λ s. record s { subcommand_required = true }) (new_app (codes "linda")) =
@@ -44,10 +45,11 @@ returns c =
     let port_local : (out-Command c.in_ok-arg-3.field-0).has_globals ≡ false = c.in_ok-arg-3.ensures.globals ∙ ap₂ either
     (ap globals_of c.after_help-3.ensures ∙ ap globals_of c.about-3.ensures ∙ c.new-4.ensures.local) c.port_option.ensures.own in
     let dir_local : (out-Command c.in_ok-arg-4.field-0).has_globals ≡ false = c.in_ok-arg-4.ensures.globals ∙ ap₂ either port_local c.dir_option.ensures.own in
-    let serve_local : (out-Command c.in_ok-serve.serve).has_globals ≡ false = c.in_ok-serve.ensures.globals ∙ ap₂ either dir_local c.sessions_option.ensures.own in
-    let folder_local : (out-Command c.in_ok-arg-5.field-0).has_globals ≡ false = c.in_ok-arg-5.ensures.globals ∙ ap₂ either
+    let sessions_local : (out-Command c.in_ok-arg-5.field-0).has_globals ≡ false = c.in_ok-arg-5.ensures.globals ∙ ap₂ either dir_local c.sessions_option.ensures.own in
+    let serve_local : (out-Command c.in_ok-serve.serve).has_globals ≡ false = c.in_ok-serve.ensures.globals ∙ ap₂ either sessions_local c.log_flag.ensures.own in
+    let folder_local : (out-Command c.in_ok-arg-6.field-0).has_globals ≡ false = c.in_ok-arg-6.ensures.globals ∙ ap₂ either
     (ap globals_of c.after_help-4.ensures ∙ ap globals_of c.about-4.ensures ∙ c.new-5.ensures.local) c.folder_word.ensures.own in
-    let tuples_local : (out-Command c.in_ok-arg-6.field-0).has_globals ≡ false = c.in_ok-arg-6.ensures.globals ∙ ap₂ either folder_local c.tuples_flag.ensures.own in
+    let tuples_local : (out-Command c.in_ok-arg-7.field-0).has_globals ≡ false = c.in_ok-arg-7.ensures.globals ∙ ap₂ either folder_local c.tuples_flag.ensures.own in
     let inspect_local : (out-Command c.in_ok-inspect.inspect).has_globals ≡ false = c.in_ok-inspect.ensures.globals ∙ ap₂ either tuples_local c.clients_flag.ensures.own in
     let piped_is = c.in_ok-subcommand.ensures.shape pipe_local ∙ ap₂ with_subcommand top_is (ap (λ (a : App). a.top) pipe_is) in
     let running_is = c.in_ok-subcommand-2.ensures.shape run_local ∙ ap₂ with_subcommand piped_is (ap (λ (a : App). a.top) run_is) in

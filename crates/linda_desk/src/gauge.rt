@@ -1,0 +1,22 @@
+//! What a server that sessions share comes to at one moment, in numbers.
+
+/// What a server that sessions share comes to at one moment, in numbers.
+#[derive(Clone, Copy, Debug, PartialEq, Eq)]
+pub struct Gauge {
+    /// How many tuples it keeps.
+    pub tuples: usize,
+    /// For how many clients it keeps a reply.
+    pub clients: usize,
+    /// The id that the next tuple gets.
+    pub next: u64,
+    /// How many deeds were done since it was shared.
+    pub deeds: u64,
+    /// How many records the bank in use has: those since the last snapshot.
+    pub records: usize,
+    /// How many bytes of that bank are taken.
+    pub used: usize,
+    /// The most bytes that a bank may take.
+    pub limit: usize,
+    /// Whether the server is down.
+    pub is_down: bool,
+}

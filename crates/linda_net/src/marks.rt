@@ -1,0 +1,116 @@
+//! What the threads of connections count, for the thread that watches.
+
+ghost use Rattle.std.specs.Prelude.{◌≡◌, ◌↔◌, IsTrue};
+ghost use Rattle.linda_wire.specs.declared.refusal.Refusal.TheVariants as refusals;
+ghost use Rattle.linda_wire.specs.Refusal.{refused};
+
+use crate::watching::Event;
+use linda_wire::{Refusal, Reply};
+use std::sync::atomic::{AtomicU64, Ordering};
+use std::sync::{Mutex, Wait};
+
+/// How often something happened since the connections began to be served.
+#[derive(Clone, Copy, Debug, PartialEq, Eq)]
+pub struct Tally {
+    /// How many connections came.
+    pub came: u64,
+    /// How many of them are over.
+    pub over: u64,
+    /// How many puts and takes were refused since the bank is full.
+    pub refused: u64,
+    /// How many connections were closed since no thread could be had.
+    pub closed: u64,
+    /// How often a connection could not be had.
+    pub missed: u64,
+}
+
+/// The counts, which threads share. Nobody waits for them.
+#[derive(Drop)]
+pub(crate) struct Marks {
+    came: AtomicU64,
+    over: AtomicU64,
+    refused: AtomicU64,
+    closed: AtomicU64,
+    missed: AtomicU64,
+    // What came of the last snapshot, until it is told.
+    snapshot: Mutex<Option<Event>>,
+}
+
+impl Marks {
+    /// Nothing happened yet.
+    pub(crate) fn new() -> Marks {
+        Marks {
+            came: AtomicU64::new(0),
+            over: AtomicU64::new(0),
+            refused: AtomicU64::new(0),
+            closed: AtomicU64::new(0),
+            missed: AtomicU64::new(0),
+            snapshot: Mutex::new(None),
+        }
+    }
+
+    /// A connection came.
+    pub(crate) fn comes(&self) {
+        let _ = self.came.fetch_add(1, Ordering::SeqCst);
+    }
+
+    /// A connection is over.
+    pub(crate) fn ends(&self) {
+        let _ = self.over.fetch_add(1, Ordering::SeqCst);
+    }
+
+    /// A connection is closed since no thread can be had.
+    pub(crate) fn closes(&self) {
+        let _ = self.closed.fetch_add(1, Ordering::SeqCst);
+    }
+
+    /// A connection cannot be had.
+    pub(crate) fn misses(&self) {
+        let _ = self.missed.fetch_add(1, Ordering::SeqCst);
+    }
+
+    /// This reply goes out: where it tells that the bank is full, that is counted.
+    pub(crate) fn sends(&self, reply: &Reply) {
+        if tells_full(reply) {
+            let _ = self.refused.fetch_add(1, Ordering::SeqCst);
+        }
+    }
+
+    /// This came of a snapshot.
+    pub(crate) fn keep_snapshot<R: Wait>(&self, rt: &R, event: Event) {
+        *self.snapshot.lock(rt) = Some(event);
+    }
+
+    /// What came of the last snapshot, if it was not told yet.
+    pub(crate) fn take_snapshot<R: Wait>(&self, rt: &R) -> Option<Event> {
+        self.snapshot.lock(rt).take()
+    }
+
+    /// The counts now.
+    pub(crate) fn tally(&self) -> Tally {
+        Tally {
+            came: self.came.load(Ordering::SeqCst),
+            over: self.over.load(Ordering::SeqCst),
+            refused: self.refused.load(Ordering::SeqCst),
+            closed: self.closed.load(Ordering::SeqCst),
+            missed: self.missed.load(Ordering::SeqCst),
+        }
+    }
+}
+
+// Whether the reply tells that the bank is full.
+fn tells_full(reply: &Reply) -> bool
+    ensures { IsTrue result ↔ (reply.now ≡ refused refusals.Full) }
+{
+    match reply {
+        Reply::Refused { code, detail } => {
+            *code == Refusal::Full.code() && *detail == Refusal::Full.detail()
+        }
+        Reply::Welcome { .. } => false,
+        Reply::Stored { .. } => false,
+        Reply::Offer { .. } => false,
+        Reply::Read { .. } => false,
+        Reply::Taken { .. } => false,
+        Reply::Gone { .. } => false,
+    }
+}

@@ -1,0 +1,137 @@
+//! What is told of a server while its connections are served.
+
+use crate::marks::{Marks, Tally};
+use crate::seen::Seen;
+use crate::serving::LOOK;
+use linda_disk::Disk;
+use linda_shared::{Gauge, Shared, SharedFault};
+use std::sync::ledger::Ledger;
+use std::sync::{Mutex, Wait};
+use std::thread;
+use std::time::{Clock, Duration, Instant};
+
+/// How long a minute is, in milliseconds.
+const MINUTE: u64 = 60_000;
+
+/// How many troubles there are that are told when they begin.
+const TROUBLES: u32 = 4;
+
+/// What happened.
+#[derive(Clone, Copy, Debug, PartialEq, Eq)]
+pub enum Event {
+    /// A minute went by.
+    Minute,
+    /// A snapshot was taken, in so many milliseconds.
+    Snapshot(u64),
+    /// A snapshot was refused after so many milliseconds, since the new bank would be full.
+    NoSnapshot(u64),
+    /// Puts or takes are refused since the bank is full: told once, and again only after a minute without.
+    Full,
+    /// A connection was closed since no thread could be had: told as `Full` is.
+    Closed,
+    /// A connection could not be had: told as `Full` is.
+    Missed,
+    /// No thread could be had for whoever watches: nothing more is told.
+    Unwatched,
+    /// No thread could be had for snapshots: none is taken.
+    NoThread,
+    /// The server went down.
+    Down,
+}
+
+/// Who is told what happens while connections are served.
+pub trait Watcher {
+    /// This happened; so much the server and its connections come to then.
+    fn tell<C: Clock>(&mut self, clock: &C, event: Event, gauge: &Gauge, tally: &Tally);
+}
+
+/// Looks ten times a second until it is over, and then once more, and tells what happened. Only this thread waits where
+/// whoever is told does not go on.
+pub(crate) fn watch<D: Disk, L: Ledger, R: Wait + Clock, T: Watcher>(
+    rt: &R,
+    shared: &Shared<D, L>,
+    is_over: &Mutex<bool>,
+    marks: &Marks,
+    watcher: &Mutex<T>,
+) {
+    let mut seen = Seen::new();
+    let mut begin = Instant::now(rt).ok();
+    for _ in rt.forever() {
+        let over = *is_over.lock(rt);
+        if let Some(event) = marks.take_snapshot(rt) {
+            tell(rt, shared, marks, watcher, event);
+        }
+        let tally = marks.tally();
+        tell_troubles(rt, shared, marks, watcher, &mut seen, &tally);
+        if over {
+            return;
+        }
+        if millis_since(rt, begin) >= MINUTE {
+            tell(rt, shared, marks, watcher, Event::Minute);
+            seen.end_minute(&tally);
+            begin = Instant::now(rt).ok();
+        }
+        thread::sleep(rt, Duration::from_millis(LOOK));
+    }
+}
+
+/// Takes a snapshot, and notes what came of it, unless the server is down.
+pub(crate) fn take_marked<D: Disk, L: Ledger, R: Wait + Clock>(
+    rt: &R,
+    shared: &Shared<D, L>,
+    marks: &Marks,
+) {
+    let begin = Instant::now(rt).ok();
+    match shared.snapshot(rt) {
+        Ok(()) => marks.keep_snapshot(rt, Event::Snapshot(millis_since(rt, begin))),
+        Err(SharedFault::Full) => {
+            marks.keep_snapshot(rt, Event::NoSnapshot(millis_since(rt, begin)));
+        }
+        Err(_) => {}
+    }
+}
+
+// Tells each trouble that began.
+fn tell_troubles<D: Disk, L: Ledger, R: Wait + Clock, T: Watcher>(
+    rt: &R,
+    shared: &Shared<D, L>,
+    marks: &Marks,
+    watcher: &Mutex<T>,
+    seen: &mut Seen,
+    tally: &Tally,
+) {
+    let is_down = shared.is_down(rt);
+    for _ in 0..TROUBLES {
+        let Some(event) = seen.next(tally, is_down) else {
+            return;
+        };
+        tell(rt, shared, marks, watcher, event);
+    }
+}
+
+/// Tells an event, with what the server and its connections come to.
+pub(crate) fn tell<D: Disk, L: Ledger, R: Wait + Clock, T: Watcher>(
+    rt: &R,
+    shared: &Shared<D, L>,
+    marks: &Marks,
+    watcher: &Mutex<T>,
+    event: Event,
+) {
+    let gauge = shared.gauge(rt);
+    let tally = marks.tally();
+    watcher.lock(rt).tell(rt, event, &gauge, &tally);
+}
+
+// How many milliseconds have gone by since then; 0 where the clock cannot be read.
+fn millis_since<R: Clock>(rt: &R, begin: Option<Instant>) -> u64 {
+    let Some(begin) = begin else {
+        return 0;
+    };
+    match begin.elapsed(rt) {
+        Ok(passed) => {
+            let millis = passed.as_secs().saturating_mul(1_000);
+            millis.saturating_add(u64::from(passed.subsec_millis()))
+        }
+        Err(_) => 0,
+    }
+}
