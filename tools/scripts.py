@@ -1,4 +1,4 @@
-"""Random scripts of `linda run`, each from its seed: tools/campaign plays them, and tools/trace. It is no tool by itself."""
+"""Random scripts of `linda run`, each from its seed: tools/campaign and tools/trace play them. It is no tool by itself."""
 
 import random
 
