@@ -9,6 +9,7 @@ mod words;
 use held::Held;
 use linda_disk::MemDisk;
 use linda_server::Durable;
+use linda_state::Deed;
 use linda_world::{Body, Packet, World};
 use std::alloc::{AllocError, Global};
 use words::{write_deed, write_message, write_reply};
@@ -111,9 +112,12 @@ impl Trace {
 
     /// The packets that were sent since they were last told.
     pub(crate) fn send(&mut self, alloc: Global, packets: &[Packet]) -> Result<(), AllocError> {
-        while self.packets < packets.len() {
-            push_packet(alloc, &mut self.lines, self.packets, &packets[self.packets])?;
-            self.packets += 1;
+        let Some(new) = packets.get(self.packets..) else {
+            return Ok(());
+        };
+        for packet in new {
+            push_packet(alloc, &mut self.lines, self.packets, packet)?;
+            self.packets = self.packets.saturating_add(1);
         }
         Ok(())
     }
@@ -137,17 +141,30 @@ impl Trace {
             return Ok(());
         };
         let deeds = world.deeds(server);
-        while told.deeds < deeds.len() {
-            let text = write_deed(alloc, &deeds[told.deeds])?;
-            writeln!(self.lines, "deed {server} {text}")?;
-            told.deeds += 1;
+        if let Some(new) = deeds.get(told.deeds..) {
+            push_deeds(alloc, &mut self.lines, server, new)?;
         }
+        told.deeds = deeds.len();
         let Some(node) = world.node(server) else {
             return Ok(());
         };
         told.held
             .change(alloc, &mut self.lines, server, node.holds())
     }
+}
+
+// The lines of deeds of a server.
+fn push_deeds(
+    alloc: Global,
+    lines: &mut String,
+    server: u32,
+    deeds: &[Deed],
+) -> Result<(), AllocError> {
+    for deed in deeds {
+        let text = write_deed(alloc, deed)?;
+        writeln!(lines, "deed {server} {text}")?;
+    }
+    Ok(())
 }
 
 // The server that a packet is a message to.
