@@ -1,23 +1,10 @@
-//! The lines of the log, worked by hand from docs/FORMATS.md, and what a full bank leads to.
+//! The lines of the log, worked by hand from docs/FORMATS.md.
 
-ghost use Rattle.std.specs.Prelude.{◌≡◌};
-ghost use Rattle.linda_receipt.specs.declared.limits.TheConstants.{PARTS};
-
-use crate::calling::{CallFault, call};
 use crate::serving::{Cause, InUse, Log, stamp_of};
-use linda_disk::MemDisk;
-use linda_net::{Event, Tally, Watcher, serve_watched};
-use linda_receipt::PARTS;
-use linda_server::{Durable, MIN_LIMIT};
-use linda_shared::{Gauge, Shared};
+use linda_net::{Event, Tally, Watcher};
+use linda_shared::Gauge;
 use std::alloc::{AllocError, Global};
-use std::marker::Brand;
-use std::net::{Ipv4Addr, Net, SocketAddr, TcpListener, TcpStream};
-use std::sync::ledger::{Blank, Ledger};
-use std::sync::{Mutex, Wait};
-use std::thread::Threads;
 use std::time::Clock;
-use std::{io, thread};
 
 /// Seconds since 1970 began, and the time.
 const STAMPS: [(u64, &str); 5] = [
@@ -124,69 +111,4 @@ fn without_times(alloc: Global, bytes: &[u8]) -> Result<String, AllocError> {
         told.push_str("\n")?;
     }
     Ok(told)
-}
-
-// A bank of 34 bytes at most has no room for a record: the bank of a new server ends at 33.
-#[test]
-fn tells_that_a_bank_is_full(rt: HostRuntime) -> io::Result<()> {
-    let alloc = rt.alloc();
-    let mut sink: Vec<u8> = Vec::new(alloc);
-    let told = put_into_a_full_bank(&rt, alloc, &mut sink)?;
-    assert_eq!(rt; told, Err(CallFault::Refused(0, 6, 0)));
-    assert_eq!(rt;
-        without_times(alloc, &sink)?.as_str(),
-        "full records 0 used 33 limit 34\n"
-    );
-    Ok(())
-}
-
-// What a call comes to that puts a tuple into such a bank, over a server that is watched by a log to this sink.
-fn put_into_a_full_bank<
-    S: Net<Listener = TcpListener, Stream = TcpStream> + Threads + Wait + Clock + Sync,
->(rt: &S, alloc: Global, sink: &mut Vec<u8>) -> io::Result<Result<(), CallFault>> {
-    let log = Log::new(alloc, sink)?;
-    let listener = TcpListener::bind(rt, SocketAddr::from((Ipv4Addr::LOCALHOST, 0)))?;
-    let port = listener.local_addr()?.port();
-    let called: Mutex<Result<(), CallFault>> = Mutex::new(Ok(()));
-    let place = &called;
-    thread::scope(thread::scope_env(), rt, |scope| {
-        let _ = scope
-            .spawn(move || put_one(rt, alloc, port, place))
-            .is_err();
-        serve_full::<Brand, S>(rt, alloc, Blank::new(PARTS), &listener, log);
-    });
-    Ok(called.into_inner())
-}
-
-// Puts a tuple by a call, and keeps how it ends.
-fn put_one<S: Net<Listener = TcpListener, Stream = TcpStream> + Threads + Wait + Clock + Sync>(
-    rt: &S,
-    alloc: Global,
-    port: u16,
-    place: &Mutex<Result<(), CallFault>>,
-) {
-    let mut text = "out (\"a\", 3)\n".as_bytes();
-    let mut out: Vec<u8> = Vec::new(alloc);
-    *place.lock(rt) = call(rt, alloc, &mut text, &mut out, 7, &[port]);
-}
-
-// Serves one connection on disks in memory, with the least limit of a bank.
-fn serve_full<L: Ledger + Send + Sync, S: Threads + Wait + Clock + Sync>(
-    rt: &S,
-    alloc: Global,
-    blank: Blank,
-    listener: &TcpListener,
-    log: Log<'_, Vec<u8>>,
-)
-    requires { (blank.name ≡ L.name) × (blank.parts ≡ L.parts) × (L.parts ≡ PARTS) }
-{
-    let (left, right) = (MemDisk::new(alloc), MemDisk::new(alloc));
-    let Ok(server) = Durable::create(alloc, left, right, MIN_LIMIT) else {
-        return;
-    };
-    let Ok(shared) = Shared::<MemDisk, L>::new(alloc, server, blank) else {
-        return;
-    };
-    let watcher = Mutex::new(log);
-    let _ = serve_watched(rt, alloc, listener, &shared, Some(1), &watcher);
 }
