@@ -1,6 +1,9 @@
 """Reads the two banks of a folder into the state that stands there, or into what is wrong and where: docs/FORMATS.md, "Banks", in Python.
 
 It is written from the documents alone and shares nothing with the program, so that the two can be compared. It is no tool by itself.
+
+A bank is in the first form (LND1) or in the second (LND2). The tuples of a state are the bytes that the first form has for them, whatever the form that
+they were read in, so that states can be compared; `in_form` spells a bank again in another form.
 """
 
 from dataclasses import dataclass, field, replace
@@ -9,6 +12,9 @@ from pathlib import Path
 NUMBERS = 2**63
 CLIENTS = 1_024
 SIDES = ("left", "right")
+LETTERS = {1: b"LND1", 2: b"LND2"}
+# By form: the bytes of a text's length, the longest text, the most fields.
+LIMITS = {1: (1, 255, 16), 2: (2, 255, 16)}
 
 
 class Bad(Exception):
@@ -31,16 +37,17 @@ class Verdict:
     state: State | None
     refusal: str = ""
     side: str = ""
+    form: int = 1
     generation: int = 0
     records: tuple[int, ...] = ()
     ends: tuple[int, ...] = ()
 
 
 class Bytes:
-    """Bytes that are read from the front."""
+    """Bytes that are read from the front, with values in a form."""
 
-    def __init__(self, data: bytes) -> None:
-        self.data, self.at = data, 0
+    def __init__(self, data: bytes, form: int = 1) -> None:
+        self.data, self.at, self.form = data, 0, form
 
     def take(self, size: int) -> bytes:
         if self.at + size > len(self.data):
@@ -51,28 +58,34 @@ class Bytes:
     def number(self, size: int = 8) -> int:
         return int.from_bytes(self.take(size), "big")
 
-    def atom(self) -> None:
+    def atom(self) -> bytes:
+        """An atom, as the bytes that the first form has for it."""
+        width, longest, _ = LIMITS[self.form]
         kind = self.number(1)
         if kind == 1:
-            self.take(8)
-        elif kind == 2:
+            return b"\1" + self.take(8)
+        if kind == 2:
+            size = self.number(width)
+            if size > longest:
+                raise Bad
+            text = self.take(size)
             try:
-                self.take(self.number(1)).decode()
+                text.decode()
             except UnicodeDecodeError:
                 raise Bad from None
-        elif kind != 3 or self.number(1) > 1:
+            return b"\2" + bytes([size]) + text
+        truth = self.number(1)
+        if kind != 3 or truth > 1:
             raise Bad
+        return bytes([3, truth])
 
     def tuple(self) -> bytes:
-        """A tuple, as its bytes, of which each tuple has one spelling."""
-        start = self.at
-        self.atom()
+        """A tuple, as the bytes that the first form has for it: each tuple has one spelling there."""
+        tag = self.atom()
         count = self.number(1)
-        if count > 16:
+        if count > LIMITS[self.form][2]:
             raise Bad
-        for _ in range(count):
-            self.atom()
-        return self.data[start:self.at]
+        return tag + bytes([count]) + b"".join([self.atom() for _ in range(count)])
 
     def reply(self) -> tuple:
         kind = self.number(1)
@@ -95,8 +108,8 @@ class Bytes:
         return self.at == len(self.data)
 
 
-def read_snapshot(data: bytes) -> State:
-    it = Bytes(data)
+def read_snapshot(data: bytes, form: int) -> State:
+    it = Bytes(data, form)
     following = it.number()
     bag: dict[int, bytes] = {}
     last = 0
@@ -119,7 +132,7 @@ def read_snapshot(data: bytes) -> State:
     return State(following, bag, book)
 
 
-def read_journal(data: bytes, at: int) -> tuple[list[tuple[int, list[tuple]]], int]:
+def read_journal(data: bytes, at: int, form: int) -> tuple[list[tuple[int, list[tuple]]], int]:
     """The records, each as the offset of its gate and its deeds, and the offset of the closed gate; Bad with the offset of the first bad one."""
     records = []
     while True:
@@ -130,7 +143,7 @@ def read_journal(data: bytes, at: int) -> tuple[list[tuple[int, list[tuple]]], i
         try:
             it = Bytes(data[at + 1:at + 5])
             size = it.number(4)
-            body = Bytes(data[at + 5:at + 5 + size])
+            body = Bytes(data[at + 5:at + 5 + size], form)
             if len(body.data) != size or at + 5 + size >= len(data):
                 raise Bad
             deeds = []
@@ -169,7 +182,12 @@ def heading(data: bytes) -> int | None:
     """The generation of a bank, 0 where it is a foreign one, None where there is none."""
     if len(data) < 17 or data[0] != 1:
         return None
-    return int.from_bytes(data[5:13], "big") if data[1:5] == b"LND1" else 0
+    return int.from_bytes(data[5:13], "big") if form_of(data) else 0
+
+
+def form_of(data: bytes) -> int:
+    """The form that the letters of a bank tell, 0 where they are others."""
+    return next((form for form, letters in LETTERS.items() if data[1:5] == letters), 0)
 
 
 def verdict(left: bytes, right: bytes) -> Verdict:
@@ -186,6 +204,7 @@ def verdict(left: bytes, right: bytes) -> Verdict:
         return Verdict(None, "store: damaged left 5")
     is_right = (generations[1] or 0) > (generations[0] or 0)
     side, data, generation = SIDES[is_right], (left, right)[is_right], generations[is_right] or 0
+    form = form_of(data)
 
     def damaged(offset: int) -> Verdict:
         return Verdict(None, f"store: damaged {side} {offset}")
@@ -194,11 +213,11 @@ def verdict(left: bytes, right: bytes) -> Verdict:
     if 17 + size >= len(data):
         return damaged(17)
     try:
-        records, end = read_journal(data, 17 + size)
+        records, end = read_journal(data, 17 + size, form)
     except Bad as fault:
         return damaged(fault.args[0])
     try:
-        state = read_snapshot(data[17:17 + size])
+        state = read_snapshot(data[17:17 + size], form)
     except Bad:
         return damaged(17)
     for gate, deeds in records:
@@ -208,7 +227,45 @@ def verdict(left: bytes, right: bytes) -> Verdict:
         except Bad:
             return damaged(gate)
     gates = tuple(gate for gate, _ in records)
-    return Verdict(state, "", side, generation, gates, gates[1:] + (end,))
+    return Verdict(state, "", side, form, generation, gates, gates[1:] + (end,))
+
+
+def spell_tuple(first: bytes, form: int) -> bytes:
+    """The bytes that a form has for the tuple that the first form spells so."""
+    it, width = Bytes(first), LIMITS[form][0]
+
+    def spelled() -> bytes:
+        atom = it.atom()
+        return b"\2" + (len(atom) - 2).to_bytes(width, "big") + atom[2:] if atom[0] == 2 else atom
+
+    tag, count = spelled(), it.number(1)
+    return tag + bytes([count]) + b"".join([spelled() for _ in range(count)])
+
+
+def in_form(data: bytes, form: int) -> bytes:
+    """A whole bank, spelled again in this form."""
+    def number(value: int, size: int = 8) -> bytes:
+        return value.to_bytes(size, "big")
+
+    def spell_reply(reply: tuple) -> bytes:
+        if reply[0] == "Gone":
+            return b"\3"
+        return b"\1" + number(reply[1]) if reply[0] == "Stored" else b"\2" + number(reply[1]) + spell_tuple(reply[2], form)
+
+    def spell_deed(deed: tuple) -> bytes:
+        kind, client, count, what = deed
+        return bytes([kind]) + number(client, 4) + number(count) + (spell_tuple(what, form) if kind == 1 else number(what))
+
+    size = int.from_bytes(data[13:17], "big")
+    state = read_snapshot(data[17:17 + size], form_of(data))
+    records, _ = read_journal(data, 17 + size, form_of(data))
+    snapshot = number(state.next) + number(len(state.bag), 4) + b"".join(number(place) + spell_tuple(state.bag[place], form) for place in sorted(state.bag))
+    snapshot += number(len(state.book), 4) + b"".join(number(client, 4) + number(last) + spell_reply(reply) for client, (last, reply) in sorted(state.book.items()))
+    out = b"\1" + LETTERS[form] + data[5:13] + number(len(snapshot), 4) + snapshot
+    for _, deeds in records:
+        payload = b"".join(map(spell_deed, deeds))
+        out += b"\1" + number(len(payload), 4) + payload
+    return out + b"\0"
 
 
 def folder_bytes(folder: Path) -> tuple[bytes, bytes]:

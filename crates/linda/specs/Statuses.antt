@@ -1,19 +1,11 @@
 -- Exit statuses.
 use Rattle.std.specs.Prelude.{ℕ, Result, Ok, Err}
-use Rattle.linda.specs.declared.faults.PipeFault.{PipeFault}
-use Rattle.linda.specs.declared.faults.PipeFault.TheVariants as faults
+use Rattle.linda_pipe.specs.Statuses.{status_of}
+use Rattle.linda_pipe.specs.declared.faults.PipeFault.{PipeFault}
 use Rattle.linda_shell.specs.declared.script.fault.ScriptFault.{ScriptFault}
 use Rattle.linda_shell.specs.declared.script.fault.ScriptFault.TheVariants as scripts
-use Rattle.linda.specs.declared.calling.fault.CallFault.{CallFault}
-use Rattle.linda.specs.declared.calling.fault.CallFault.TheVariants as calls
-
--- 4 for a fault of a line, 3 for one of the input or the output
-abbrev pub status_of : PipeFault → ℕ
-status_of (faults.NotHexadecimal n) = 4
-status_of (faults.Memory n) = 4
-status_of faults.Read = 3
-status_of faults.Write = 3
-status_of faults.Turns = 3
+use Rattle.linda_caller.specs.Statuses.{status_of_call}
+use Rattle.linda_caller.specs.declared.calling.fault.CallFault.{CallFault}
 
 -- 0 where the pipe ended well, else the status of its fault
 abbrev pub status_after : Result Unit PipeFault → ℕ
@@ -32,18 +24,6 @@ status_of_script scripts.Memory = 3
 abbrev pub status_after_script : Result Unit ScriptFault → ℕ
 status_after_script (Ok done) = 0
 status_after_script (Err fault) = status_of_script fault
-
--- 4 for a fault of a line of a client, 3 for one of a server, of the input, the output or the clock, or where memory
--- runs out outside of a line
-abbrev pub status_of_call : CallFault → ℕ
-status_of_call (calls.Line n fault) = 4
-status_of_call (calls.NoConnection server) = 3
-status_of_call (calls.Refused server code detail) = 3
-status_of_call calls.Memory = 3
-status_of_call calls.Read = 3
-status_of_call calls.Write = 3
-status_of_call calls.Turns = 3
-status_of_call calls.Clock = 3
 
 -- 0 where the call ended well, else the status of its fault
 abbrev pub status_after_call : Result Unit CallFault → ℕ

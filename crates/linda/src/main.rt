@@ -29,29 +29,15 @@ ghost use Rattle.clap.specs.Words.{kind_of};
 ghost use Rattle.linda.specs.Statuses.{status_after, status_after_call, status_after_script};
 ghost use Rattle.clap.specs.declared.error.kind.ErrorKind.TheVariants as kinds;
 
-mod calling;
-mod command;
-mod decoding;
-mod exchanges;
-mod faults;
-mod inspecting;
-mod lines;
-mod piping;
 mod running;
-mod serving;
-mod spelling;
-#[cfg(test)]
-mod tests;
 
-use crate::calling::{CallFault, call};
-use crate::command::{Ports, Task, VERSION_LINES, asks_for_version, read_task};
-use crate::faults::{PipeFault, REFUSED};
-use crate::inspecting::inspect_folder;
-use crate::piping::pipe;
-use crate::running::status_of_script;
-use crate::serving::{serve_folder, serve_logged};
+use linda_caller::{CallFault, call};
+use linda_command::{Ports, Task, VERSION_LINES, asks_for_version, read_task};
 use linda_inspect::Lists;
+use linda_pipe::{PipeFault, REFUSED, pipe};
+use linda_service::{inspect_folder, serve_folder, serve_logged};
 use linda_shell::{ScriptFault, run_script, trace_script};
+use running::status_of_script;
 use std::fmt::Display;
 use std::fs::File;
 use std::io::{ErrorKind, Write};

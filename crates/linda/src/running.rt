@@ -3,7 +3,7 @@
 ghost use Rattle.std.specs.Prelude.{◌≡◌};
 ghost use Rattle.linda.specs.Statuses as spec;
 
-use crate::faults::{BAD_LINE, REFUSED};
+use linda_pipe::{BAD_LINE, REFUSED};
 use linda_shell::ScriptFault;
 
 /// The exit status of a program whose script ends with this fault.

@@ -1,7 +1,7 @@
 //! When a snapshot pays for itself.
 
 ghost use Rattle.std.specs.Prelude.{◌≡◌, ◌+◌, ◌≤◌};
-ghost use Rattle.linda_desk.specs.Pace.{is_due};
+ghost use Rattle.linda_desk.specs.Pace.{is_due, pays};
 ghost use Rattle.linda_server.specs.declared.limits.TheConstants.{SNAPSHOT_RECORDS};
 
 use linda_server::SNAPSHOT_RECORDS;
@@ -32,12 +32,20 @@ impl Pace {
         self.not_before = records.saturating_add(SNAPSHOT_RECORDS);
     }
 
-    /// Whether a snapshot of a bank with so many records, of which so many bytes are taken, pays for itself.
-    pub(crate) fn is_due(&self, records: usize, used: usize, limit: usize) -> bool
-        ensures { result ≡ is_due self.now.base self.now.not_before records used limit }
+    /// Whether a snapshot of a bank with so many records, of which so many bytes are taken, pays for itself; or is to be
+    /// taken all the same, since the bank is not in the form of new banks.
+    pub(crate) fn is_due(&self, is_old: bool, records: usize, used: usize, limit: usize) -> bool
+        ensures { result ≡ is_due is_old self.now.base self.now.not_before records used limit }
+    {
+        records >= self.not_before && (is_old || self.pays(records, used, limit))
+    }
+
+    // Whether there are records enough, and they have at least as many bytes as the bank had when it was new, or half of
+    // the limit is taken.
+    fn pays(&self, records: usize, used: usize, limit: usize) -> bool
+        ensures { result ≡ pays self.now.base records used limit }
     {
         records >= SNAPSHOT_RECORDS
-            && records >= self.not_before
             && (used.saturating_sub(self.base) >= self.base || limit.saturating_sub(used) <= used)
     }
 }

@@ -8,7 +8,7 @@ ghost use Rattle.linda_inspect.specs.Faults.{IsFaultOf, IsOfOutput, MayStand};
 use crate::fault::{InspectFault, OutputFault, of_choice};
 use crate::listing::{Lists, list_state};
 use crate::output::write_lines;
-use crate::side::{are_two, side_line, side_name};
+use crate::side::{are_two, letters_of, side_line, side_name};
 use crate::whole::whole_before;
 use linda_bag::IndexBag;
 use linda_disk::MemDisk;
@@ -98,12 +98,13 @@ fn write_bank<W: Write>(
     chosen: &Chosen<IndexBag, MemDisk>,
     lists: Lists,
 ) -> Result<(), OutputFault> {
+    let letters = letters_of(chosen.bank.form());
     let generation = chosen.bank.generation();
     let records = chosen.bank.records();
     let used = chosen.bank.end();
     let limit = chosen.bank.limit();
     let line = format!(in alloc;
-        "bank LND1 generation {generation} records {records} used {used} of {limit}\n"
+        "bank {letters} generation {generation} records {records} used {used} of {limit}\n"
     )?;
     write_lines(writer, &line)?;
     list_state(alloc, writer, &chosen.state, lists)

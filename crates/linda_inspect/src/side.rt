@@ -1,6 +1,7 @@
 //! What the file of one bank begins with, in a line.
 
 use linda_journal::{Heading, read_heading};
+use linda_tuple::Form;
 use std::alloc::{AllocError, Global};
 
 /// The line of a file: whose it is, what it begins with, and how many bytes it has.
@@ -11,8 +12,9 @@ use std::alloc::{AllocError, Global};
 pub(crate) fn side_line(alloc: Global, side: &str, bytes: &[u8]) -> Result<String, AllocError> {
     let len = bytes.len();
     match read_heading(bytes) {
-        Heading::Bank(generation) => {
-            format!(in alloc; "{side} LND1 generation {generation} bytes {len}\n")
+        Heading::Bank { form, generation } => {
+            let letters = letters_of(form);
+            format!(in alloc; "{side} {letters} generation {generation} bytes {len}\n")
         }
         Heading::Foreign => format!(in alloc; "{side} foreign bytes {len}\n"),
         Heading::NoBank => {
@@ -30,9 +32,17 @@ pub(crate) fn are_two(left: &[u8], right: &[u8]) -> bool {
 // Whether the bytes begin as a bank does.
 fn is_bank(bytes: &[u8]) -> bool {
     match read_heading(bytes) {
-        Heading::Bank(_) => true,
+        Heading::Bank { .. } => true,
         Heading::Foreign => false,
         Heading::NoBank => false,
+    }
+}
+
+/// The letters that a bank in this form begins with, after its gate.
+pub(crate) fn letters_of(form: Form) -> &'static str {
+    match form {
+        Form::One => "LND1",
+        Form::Two => "LND2",
     }
 }
 

@@ -2,6 +2,7 @@
 use Rattle.std.proofs.Common.{◌≡◌, ℕ, zero, suc, ◌+◌, ◌*◌, ◌<◌, ◌≤◌, ◌⊎◌, inl, inr, List, [], ◌∷◌, ◌++◌, length, take, drop, refl, sym, ap, subst, ◌∙◌, append_assoc, length-append, arith}
 use Rattle.std.specs.Prelude.{Result, max}
 use Rattle.std.proofs.lemmas.List.{take_at, drop_at, drop-drop, length-take}
+use Rattle.linda_tuple.specs.declared.form.Form.{Form}
 use Rattle.linda_disk.specs.declared.fault.DiskFault.{DiskFault}
 use Rattle.linda_disk.specs.View.{View, IsDurable, IsTimed}
 use Rattle.linda_disk.specs.Image.{overlay, TornWrite}
@@ -140,8 +141,8 @@ pieces_counted bytes old now new at rest all whole (inl first) last next = omega
 pieces_counted bytes old now new at rest all whole (inr some) last next = omega (arith, all, whole, some, last, next)
 
 -- The bytes of a new bank behind its first gate.
-pub front_length : (generation : ℕ) (body : List ℕ) → length (behind_gate generation body ++ CLOSED ∷ []) ≡ MIN_BYTES + length body
-front_length generation body = omega (arith, length-append body (CLOSED ∷ []))
+pub front_length : (form : Form) (generation : ℕ) (body : List ℕ) → length (behind_gate form generation body ++ CLOSED ∷ []) ≡ MIN_BYTES + length body
+front_length form generation body = omega (arith, length-append body (CLOSED ∷ []))
 
 -- More calls after those that closed the first gate.
 pub then_calls : (calls more all : ℕ) (old mid new : View) → TakesCalls calls old mid → new.moment ≡ mid.moment + more → calls + more ≡ all → TakesCalls all old new
@@ -150,10 +151,10 @@ then_calls calls more all old mid new (inr x) next sum = inr (x.0, x.1, omega (a
 
 -- ---- opening
 
-pub unlocking : (generation : ℕ) (body : List ℕ) (end : ℕ) (old new : View) → IsWhole generation body end old → LeavesOnly old new (IsClosedOrOpened [] (behind_gate generation body)) → LeavesOnly old new (IsNoneOrNew generation body)
-unlocking generation body end old new whole run =
-    weaker old new (IsClosedOrOpened [] (behind_gate generation body)) (IsNoneOrNew generation body) run
-    (λ file is. none_or_new generation body whole.low whole.fits whole.short file (inr is))
+pub unlocking : (form : Form) (generation : ℕ) (body : List ℕ) (end : ℕ) (old new : View) → IsWhole form generation body end old → LeavesOnly old new (IsClosedOrOpened [] (behind_gate form generation body)) → LeavesOnly old new (IsNoneOrNew form generation body)
+unlocking form generation body end old new whole run =
+    weaker old new (IsClosedOrOpened [] (behind_gate form generation body)) (IsNoneOrNew form generation body) run
+    (λ file is. none_or_new form generation body whole.low whole.fits whole.short file (inr is))
 
-pub unlocked : (generation : ℕ) (body : List ℕ) (end : ℕ) (old new : View) → IsWhole generation body end old → IsShut (OPEN ∷ behind_gate generation body) (1 + length (behind_gate generation body)) new → IsSettled generation body [] end new
-unlocked generation body end old new whole shut = made generation body end new whole.low whole.fits whole.short whole.place shut
+pub unlocked : (form : Form) (generation : ℕ) (body : List ℕ) (end : ℕ) (old new : View) → IsWhole form generation body end old → IsShut (OPEN ∷ behind_gate form generation body) (1 + length (behind_gate form generation body)) new → IsSettled form generation body [] end new
+unlocked form generation body end old new whole shut = made form generation body end new whole.low whole.fits whole.short whole.place shut

@@ -1,6 +1,6 @@
 -- What the bytes of a disk say as a bank: what it holds, or why they are none.
 use Rattle.std.specs.Prelude.{◌≡◌, ℕ, ◌+◌, ◌<◌, ◌≤◌, ◌^◌, ◌⊎◌, List, ◌++◌, length}
-use Rattle.linda_state.specs.DeedFormat.{written}
+use Rattle.linda_tuple.specs.declared.form.Form.{Form}
 use Rattle.linda_journal.specs.declared.heading.Heading.TheVariants as headings
 use Rattle.linda_journal.specs.declared.limits.TheConstants.{MIN_BYTES}
 use Rattle.linda_journal.specs.declared.fault.BankFault.{BankFault}
@@ -11,13 +11,15 @@ use Rattle.linda_journal.specs.Heading.{IsHeading}
 
 -- It begins as a bank, but its body does not fit, or has no gate after it.
 pub record IsCutShort (file : List ℕ) : Type 0 where
+  pub form : Form
   pub generation : ℕ
-  pub heading : IsHeading file (headings.Bank generation)
-  pub never : (other : ℕ) (body rest : List ℕ)
-      → length body < 2 ^ 32 → 0 < length rest → file ≡ head other body ++ rest → ⊥
+  pub heading : IsHeading file (headings.Bank form generation)
+  pub never : (any : Form) (other : ℕ) (body rest : List ℕ)
+      → length body < 2 ^ 32 → 0 < length rest → file ≡ head any other body ++ rest → ⊥
 
 -- Its journal is damaged at this offset.
 pub record IsBroken (file : List ℕ) (offset : ℕ) : Type 0 where
+  pub form : Form
   pub generation : ℕ
   pub body : List ℕ
   pub rest : List ℕ
@@ -25,9 +27,9 @@ pub record IsBroken (file : List ℕ) (offset : ℕ) : Type 0 where
   pub low : 1 ≤ generation
   pub fits : generation < 2 ^ 64
   pub short : length body < 2 ^ 32
-  pub parts : file ≡ head generation body ++ rest
-  pub damaged : IsDamaged written rest place
-  pub offset_is : offset ≡ length (head generation body) + place
+  pub parts : file ≡ head form generation body ++ rest
+  pub damaged : IsDamaged form rest place
+  pub offset_is : offset ≡ length (head form generation body) + place
 
 -- What a fault says of the bytes.
 abbrev pub IsFaultOfBank : List ℕ → BankFault → Type 0

@@ -1,5 +1,6 @@
 -- How a disk that is not in use becomes a new bank: its gate is closed, then all stands after it, then it opens.
 use Rattle.std.specs.Prelude.{◌≡◌, ℕ, ◌+◌, ◌-◌, ◌/◌, ◌<◌, ◌≤◌, ◌^◌, ◌⊎◌, List, [], ◌∷◌, length}
+use Rattle.linda_tuple.specs.declared.form.Form.{Form}
 use Rattle.linda_disk.specs.View.{View}
 use Rattle.linda_journal.specs.declared.kinds.TheConstants.{OPEN}
 use Rattle.linda_journal.specs.declared.limits.TheConstants.{MIN_BYTES, PIECE}
@@ -22,14 +23,14 @@ IsOpenOrShort file = (length file < MIN_BYTES) ⊎ ((rest : List ℕ) × (file �
 abbrev pub IsSameOrNone : List ℕ → List ℕ → Type 0
 IsSameOrNone old file = (file ≡ old) ⊎ IsNoBank file
 
--- After a first gate that is still closed stands all of the new bank of this generation with this body, up to the
--- closed gate of its journal at this offset; and a crash now leaves it so.
-pub record IsWhole (generation : ℕ) (body : List ℕ) (end : ℕ) (v : View) : Type 0 where
+-- After a first gate that is still closed stands all of the new bank in this form, of this generation and with this
+-- body, up to the closed gate of its journal at this offset; and a crash now leaves it so.
+pub record IsWhole (form : Form) (generation : ℕ) (body : List ℕ) (end : ℕ) (v : View) : Type 0 where
   pub low : 1 ≤ generation
   pub fits : generation < 2 ^ 64
   pub short : length body < 2 ^ 32
   pub place : end ≡ MIN_BYTES + length body
-  pub ready : IsReady [] 0 (behind_gate generation body) v
+  pub ready : IsReady [] 0 (behind_gate form generation body) v
 
 -- In how many pieces so many bytes are written: all are whole but the last one, which has a byte where there is any.
 abbrev pub pieces : ℕ → ℕ

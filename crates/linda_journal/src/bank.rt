@@ -1,14 +1,16 @@
-//! A bank: what a server keeps on one disk, a body and then a journal.
+//! A bank: what a server keeps on one disk, a body and then a journal. Its first letters tell the form in which it
+//! spells values: one that is made is in `BANK_FORM`, one that is opened stays in its own.
 
 ghost use Rattle.std.specs.Prelude.{◌≡◌, ◌≢◌, ◌<◌, ◌≤◌, ◌+◌, ◌^◌, ◌++◌, ◌∷◌, [], ◌↔◌, ◌⊎◌, ℕ};
-ghost use Rattle.std.specs.Prelude.{List, length, IfOk, IfErr, OnOk, IsErrOf, true, false};
+ghost use Rattle.std.specs.Prelude.{List, All, length, IfOk, IfErr, OnOk, IsErrOf, true, false};
+ghost use Rattle.linda_tuple.specs.declared.form.Form as forms;
 ghost use Rattle.linda_state.specs.declared.deed.Deed as deed;
 ghost use Rattle.linda_state.specs.DeedFormat.{written};
 ghost use Rattle.linda_disk.specs.View.{IsDurable};
 ghost use Rattle.linda_disk.specs.Disk.{TellsFailures};
 ghost use Rattle.linda_disk.specs.Run.{LeavesOnly};
 ghost use Rattle.linda_journal.specs.declared.limits.TheConstants.{MAX_DEEDS};
-ghost use Rattle.linda_journal.specs.Records.{spell_record};
+ghost use Rattle.linda_journal.specs.Records.{spell_record, SuitsForm, IsUnspelled};
 ghost use Rattle.linda_journal.specs.declared.limits.TheConstants.{MIN_BYTES};
 ghost use Rattle.linda_journal.specs.Journal.{AreAt, deeds_of};
 ghost use Rattle.linda_journal.specs.Image.{IsFaultOfBank};
@@ -26,12 +28,14 @@ use crate::size::record_len;
 use crate::whole::Whole;
 use linda_disk::{Disk, DiskFault, MemDisk};
 use linda_state::{BANK_FORM, Deed};
+use linda_tuple::Form;
 use std::alloc::Global;
 
 /// A bank on a disk, as it was created or opened.
 #[derive(Drop)]
 pub struct Bank<D: Disk> {
     pub(crate) disk: D,
+    form: Form,
     generation: u64,
     limit: usize,
     end: usize,
@@ -42,6 +46,13 @@ pub struct Bank<D: Disk> {
 }
 
 impl<D: Disk> Bank<D> {
+    /// The form in which the bank spells values, which its first letters tell.
+    pub fn form(&self) -> Form
+        ensures { result ≡ self.now.form }
+    {
+        self.form
+    }
+
     /// The bank's generation.
     pub fn generation(&self) -> u64
         ensures { result ≡ self.now.generation }
@@ -74,9 +85,9 @@ impl<D: Disk> Bank<D> {
     /// is made.
     pub fn retire(&mut self)
         ensures spent { self.new.is_spent ≡ true }
-        ensures same { (self.new.disk ≡ self.old.disk) × (self.new.generation ≡ self.old.generation)
-            × (self.new.limit ≡ self.old.limit) × (self.new.end ≡ self.old.end)
-            × (self.new.records ≡ self.old.records) }
+        ensures same { (self.new.disk ≡ self.old.disk) × (self.new.form ≡ self.old.form)
+            × (self.new.generation ≡ self.old.generation) × (self.new.limit ≡ self.old.limit)
+            × (self.new.end ≡ self.old.end) × (self.new.records ≡ self.old.records) }
     {
         self.is_spent = true;
     }
@@ -90,7 +101,7 @@ impl<D: Disk> Bank<D> {
     }
 
     /// Makes a bank of this generation with this body, whose journal has no record, on an empty disk: a closed gate
-    /// and a sync, all that stands after it and a sync, the gate opened and a sync.
+    /// and a sync, all that stands after it and a sync, the gate opened and a sync. It is in `BANK_FORM`.
     ///
     /// # Errors
     ///
@@ -106,15 +117,15 @@ impl<D: Disk> Bank<D> {
         requires low { 1 ≤ generation }
         requires short { length body.now < 2 ^ 32 }
         ensures done { D.honest disk
-            → IfOk result (λ b. IsSettled generation body.now [] b.end (D.view b.disk)) }
-        ensures new { IfOk result (λ b. (b.generation ≡ generation) × (b.limit ≡ limit)
+            → IfOk result (λ b. IsSettled written generation body.now [] b.end (D.view b.disk)) }
+        ensures new { IfOk result (λ b. (b.form ≡ written) × (b.generation ≡ generation) × (b.limit ≡ limit)
             × (b.records ≡ 0) × (b.is_spent ≡ false)) }
         // At no moment a crash leaves another bank than the whole one.
         ensures any_moment { D.honest disk → IsDurable (D.view disk) → (D.view disk).seen ≡ []
             → IfOk result (λ b. LeavesOnly (D.view disk) (D.view b.disk)
-            (IsNoneOrNew generation body.now))
+            (IsNoneOrNew written generation body.now))
             × IfErr result (λ e. LeavesOnly (D.view disk) (D.view e.1)
-            (IsNoneOrNew generation body.now)) }
+            (IsNoneOrNew written generation body.now)) }
         // It is Full exactly where the bank is longer than its limit, and then the disk is as it was.
         ensures room { IfOk result (λ b. b.end < limit) }
         ensures full { IfErr result (λ e.
@@ -140,6 +151,7 @@ impl<D: Disk> Bank<D> {
             Err(fault) => Err((fault, disk)),
             Ok(()) => Ok(Bank {
                 disk,
+                form: BANK_FORM,
                 generation,
                 limit,
                 end: MIN_BYTES + body.len(),
@@ -149,8 +161,8 @@ impl<D: Disk> Bank<D> {
         }
     }
 
-    /// Opens the bank that the disk holds, and gives its body and the records of its journal. The disk is synced
-    /// first; nothing is written.
+    /// Opens the bank that the disk holds, and gives its body and the records of its journal, which is read in the
+    /// form that the bank's letters tell. The disk is synced first; nothing is written.
     ///
     /// # Errors
     ///
@@ -161,11 +173,11 @@ impl<D: Disk> Bank<D> {
         limit: usize,
     ) -> Result<(Bank<D>, Vec<u8>, Vec<Record>), (BankFault, D)>
         // What is opened is what the disk read at entry, all of it synced.
-        ensures found { D.honest disk → IfOk result (λ o. IsSettled o.0.generation o.1.items
+        ensures found { D.honest disk → IfOk result (λ o. IsSettled o.0.form o.0.generation o.1.items
             (deeds_of o.2.items) o.0.end (D.view o.0.disk)) }
         ensures seen { D.honest disk
             → IfOk result (λ o. (D.view o.0.disk).seen ≡ (D.view disk).seen) }
-        ensures gates { IfOk result (λ o. AreAt written (MIN_BYTES + length o.1.items) o.2.items) }
+        ensures gates { IfOk result (λ o. AreAt o.0.form (MIN_BYTES + length o.1.items) o.2.items) }
         ensures new { IfOk result (λ o. (o.0.records ≡ length o.2.items) × (o.0.limit ≡ limit)
             × (o.0.is_spent ≡ false)) }
         // A fault is one of those bytes.
@@ -178,9 +190,9 @@ impl<D: Disk> Bank<D> {
         ensures honest { IfOk result (λ o. D.honest disk ↔ D.honest o.0.disk)
             × IfErr result (λ e. D.honest disk ↔ D.honest e.1) }
         // A bank that stands there is opened, or the device failed, or memory ran out.
-        ensures only { (generation : ℕ) (body : List ℕ) (records : List (List deed.Deed))
-            → D.honest disk → IsBank (D.view disk).seen generation body records
-            → IfOk result (λ o. (o.0.generation ≡ generation) × (o.1.items ≡ body)
+        ensures only { (form : forms.Form) (generation : ℕ) (body : List ℕ) (records : List (List deed.Deed))
+            → D.honest disk → IsBank form (D.view disk).seen generation body records
+            → IfOk result (λ o. (o.0.form ≡ form) × (o.0.generation ≡ generation) × (o.1.items ≡ body)
             × (deeds_of o.2.items ≡ records))
             × IfErr result (λ e. (e.0 ≡ BankFault.Disk) ⊎ (e.0 ≡ BankFault.Memory)) }
         ensures cause { IfErr result (λ e. TellsFailures BankFault.Disk e.0
@@ -209,11 +221,11 @@ impl<D: Disk> Bank<D> {
     ) -> Result<(Bank<D>, Vec<u8>, Vec<Record>), (BankFault, D)>
         requires { D.honest disk → IsDurable (D.view disk) }
         // What is opened is what the disk read at entry, all of it synced.
-        ensures found { D.honest disk → IfOk result (λ o. IsSettled o.0.generation o.1.items
+        ensures found { D.honest disk → IfOk result (λ o. IsSettled o.0.form o.0.generation o.1.items
             (deeds_of o.2.items) o.0.end (D.view o.0.disk)) }
         ensures seen { D.honest disk
             → IfOk result (λ o. (D.view o.0.disk).seen ≡ (D.view disk).seen) }
-        ensures gates { IfOk result (λ o. AreAt written (MIN_BYTES + length o.1.items) o.2.items) }
+        ensures gates { IfOk result (λ o. AreAt o.0.form (MIN_BYTES + length o.1.items) o.2.items) }
         ensures new { IfOk result (λ o. (o.0.records ≡ length o.2.items) × (o.0.limit ≡ limit)
             × (o.0.is_spent ≡ false)) }
         // A fault is one of those bytes.
@@ -226,9 +238,9 @@ impl<D: Disk> Bank<D> {
         ensures honest { IfOk result (λ o. D.honest disk ↔ D.honest o.0.disk)
             × IfErr result (λ e. D.honest disk ↔ D.honest e.1) }
         // A bank that stands there is opened, or the device failed, or memory ran out.
-        ensures only { (generation : ℕ) (body : List ℕ) (records : List (List deed.Deed))
-            → D.honest disk → IsBank (D.view disk).seen generation body records
-            → IfOk result (λ o. (o.0.generation ≡ generation) × (o.1.items ≡ body)
+        ensures only { (form : forms.Form) (generation : ℕ) (body : List ℕ) (records : List (List deed.Deed))
+            → D.honest disk → IsBank form (D.view disk).seen generation body records
+            → IfOk result (λ o. (o.0.form ≡ form) × (o.0.generation ≡ generation) × (o.1.items ≡ body)
             × (deeds_of o.2.items ≡ records))
             × IfErr result (λ e. (e.0 ≡ BankFault.Disk) ⊎ (e.0 ≡ BankFault.Memory)) }
         ensures cause { IfErr result (λ e. TellsFailures BankFault.Disk e.0
@@ -243,6 +255,7 @@ impl<D: Disk> Bank<D> {
             Ok(contents) => {
                 let bank = Bank {
                     disk,
+                    form: contents.form,
                     generation: contents.generation,
                     limit,
                     end: contents.journal.end,
@@ -254,36 +267,41 @@ impl<D: Disk> Bank<D> {
         }
     }
 
-    /// Adds one record of these deeds to the journal: a write of all of it after the closed gate at the end,
-    /// a sync, a write that opens the gate, a sync.
+    /// Adds one record of these deeds to the journal, spelled in the bank's form: a write of all of it after the closed
+    /// gate at the end, a sync, a write that opens the gate, a sync.
     ///
     /// # Errors
     ///
-    /// `Spent` before all others, then `Full`, which is judged before the record is spelled, and then `Memory`: all
-    /// is as before. `Disk` where the device failed, and `Memory` where the disk found none: the record is there or
-    /// it is not, and the bank is spent.
+    /// `Spent` before all others, then `Full` where one of the deeds has no spelling in the bank's form or the record
+    /// would pass the limit, which is judged before the record is spelled, and then `Memory`: all is as before. `Disk`
+    /// where the device failed, and `Memory` where the disk found none: the record is there or it is not, and the bank
+    /// is spent.
     pub fn append(&mut self, alloc: Global, deeds: &[Deed]) -> Result<(), BankFault>
         requires some { 1 ≤ length deeds.now }
         requires few { length deeds.now ≤ MAX_DEEDS }
         // At no moment a crash leaves anything but the old records, or these and the new one;
         ensures any_moment { (body : List ℕ) (records : List (List deed.Deed))
             → D.honest self.old.disk
-            → IsSettled self.old.generation body records self.old.end (D.view self.old.disk)
+            → IsSettled self.old.form self.old.generation body records self.old.end (D.view self.old.disk)
             → LeavesOnly (D.view self.old.disk) (D.view self.new.disk)
-            (IsOldOrMore self.old.generation body records deeds.now) }
+            (IsOldOrMore self.old.form self.old.generation body records deeds.now) }
         // at Ok it leaves the new one.
         ensures done { (body : List ℕ) (records : List (List deed.Deed))
             → D.honest self.old.disk
-            → IsSettled self.old.generation body records self.old.end (D.view self.old.disk)
-            → OnOk result (IsSettled self.new.generation body (records ++ deeds.now ∷ [])
+            → IsSettled self.old.form self.old.generation body records self.old.end (D.view self.old.disk)
+            → OnOk result (IsSettled self.new.form self.new.generation body (records ++ deeds.now ∷ [])
             self.new.end (D.view self.new.disk)) }
-        ensures place { OnOk result (self.new.end ≡ self.old.end + length (spell_record written deeds.now)) }
+        ensures place { OnOk result
+            (self.new.end ≡ self.old.end + length (spell_record self.old.form deeds.now)) }
         ensures count { OnOk result (self.new.records ≡ self.old.records + 1) }
         ensures ready { OnOk result (self.new.is_spent ≡ false) }
-        // It is Full exactly where the closed gate after the new record would pass the limit; nothing changed then.
+        // It is Full exactly where one of the deeds has no spelling in the bank's form, or the closed gate after the
+        // new record would pass the limit; nothing changed then.
+        ensures fits { OnOk result (All (SuitsForm self.old.form) deeds.now) }
         ensures room { OnOk result (self.new.end < self.new.limit) }
         ensures full { IsErrOf result BankFault.Full ↔ (self.old.is_spent ≡ false)
-            × (self.old.limit ≤ self.old.end + length (spell_record written deeds.now)) }
+            × (IsUnspelled self.old.form deeds.now
+            ⊎ (self.old.limit ≤ self.old.end + length (spell_record self.old.form deeds.now))) }
         ensures unfilled { IsErrOf result BankFault.Full → self.new ≡ self.old }
         ensures spent { IsErrOf result BankFault.Spent ↔ (self.old.is_spent ≡ true) }
         ensures unspent { self.old.is_spent ≡ true → self.new ≡ self.old }
@@ -300,20 +318,18 @@ impl<D: Disk> Bank<D> {
             → (self.new ≡ self.old) ⊎ (self.new.is_spent ≡ true) }
         ensures known { (IsErrOf result BankFault.NoBank → ⊥)
             × ((offset : ℕ) → IsErrOf result (BankFault.Damaged offset) → ⊥) }
-        ensures same { (self.new.generation ≡ self.old.generation)
+        ensures same { (self.new.form ≡ self.old.form) × (self.new.generation ≡ self.old.generation)
             × (self.new.limit ≡ self.old.limit) }
         ensures honest { D.honest self.old.disk ↔ D.honest self.new.disk }
     {
         if self.is_spent {
             return Err(BankFault::Spent);
         }
-        let len = record_len(BANK_FORM, deeds);
-        if !has_room(self.limit, self.end, len) {
+        let len = record_len(self.form, deeds);
+        if !deeds_fit(self.form, deeds) || !has_room(self.limit, self.end, len) {
             return Err(BankFault::Full);
         }
-        // Today every deed has a spelling, by the limits of its tuple.
-        deeds_fit(BANK_FORM, deeds);
-        let bytes = spell_body(alloc, BANK_FORM, deeds, len)?;
+        let bytes = spell_body(alloc, self.form, deeds, len)?;
         self.is_spent = true;
         stage(&mut self.disk, self.end, &bytes)?;
         open_gate(&mut self.disk, self.end)?;
@@ -336,7 +352,7 @@ impl Bank<MemDisk> {
             ≡ record { power = OnFor passes; failing = (mem_disk.trouble self.old.disk).failing } }
         ensures history { mem_disk.history self.new.disk ≡ mem_disk.history self.old.disk }
         ensures failures { mem_disk.failures self.new.disk ≡ mem_disk.failures self.old.disk }
-        ensures same { (self.new.generation ≡ self.old.generation)
+        ensures same { (self.new.form ≡ self.old.form) × (self.new.generation ≡ self.old.generation)
             × (self.new.limit ≡ self.old.limit) × (self.new.end ≡ self.old.end)
             × (self.new.records ≡ self.old.records) × (self.new.is_spent ≡ self.old.is_spent) }
     {
@@ -344,7 +360,7 @@ impl Bank<MemDisk> {
     }
 }
 
-/// Opens the first gate of a disk on which all of a new bank stands: a write of that gate and a sync.
+/// Opens the first gate of a disk on which all of a new bank stands, in `BANK_FORM`: a write of that gate and a sync.
 ///
 /// # Errors
 ///
@@ -352,17 +368,17 @@ impl Bank<MemDisk> {
 /// may be open.
 pub fn unlock<D: Disk>(whole: Whole<D>, limit: usize) -> Result<Bank<D>, (DiskFault, D)>
     ensures done { (body : List ℕ) → D.honest whole.disk
-        → IsWhole whole.generation body whole.end (D.view whole.disk)
-        → IfOk result (λ b. IsSettled whole.generation body [] b.end (D.view b.disk)) }
-    ensures new { IfOk result (λ b. (b.generation ≡ whole.generation) × (b.limit ≡ limit)
+        → IsWhole written whole.generation body whole.end (D.view whole.disk)
+        → IfOk result (λ b. IsSettled written whole.generation body [] b.end (D.view b.disk)) }
+    ensures new { IfOk result (λ b. (b.form ≡ written) × (b.generation ≡ whole.generation) × (b.limit ≡ limit)
         × (b.end ≡ whole.end) × (b.records ≡ 0) × (b.is_spent ≡ false)) }
     // At no moment a crash leaves another bank than the whole new one.
     ensures any_moment { (body : List ℕ) → D.honest whole.disk
-        → IsWhole whole.generation body whole.end (D.view whole.disk)
+        → IsWhole written whole.generation body whole.end (D.view whole.disk)
         → IfOk result (λ b. LeavesOnly (D.view whole.disk) (D.view b.disk)
-        (IsNoneOrNew whole.generation body))
+        (IsNoneOrNew written whole.generation body))
         × IfErr result (λ e. LeavesOnly (D.view whole.disk) (D.view e.1)
-        (IsNoneOrNew whole.generation body)) }
+        (IsNoneOrNew written whole.generation body)) }
     ensures honest { IfOk result (λ b. D.honest whole.disk ↔ D.honest b.disk)
         × IfErr result (λ e. D.honest whole.disk ↔ D.honest e.1) }
     ensures cause { IfErr result (λ e. TellsFailures DiskFault.Device e.0
@@ -381,6 +397,7 @@ pub fn unlock<D: Disk>(whole: Whole<D>, limit: usize) -> Result<Bank<D>, (DiskFa
         Err(fault) => Err((fault, disk)),
         Ok(()) => Ok(Bank {
             disk,
+            form: BANK_FORM,
             generation,
             limit,
             end,

@@ -1,7 +1,6 @@
 //! A deed as bytes: a kind byte, the client, the number, and a tuple in a form, or its id.
 
-ghost use Rattle.std.specs.Prelude.{◌≡◌, ◌∷◌, ◌++◌, OnOk};
-ghost use Rattle.linda_tuple.specs.Tuple.{FitsIn};
+ghost use Rattle.std.specs.Prelude.{◌≡◌, ◌∷◌, ◌++◌, ◌↔◌, OnOk, IsTrue};
 ghost use Rattle.linda_codec.specs.Steps.{Gives, GivesAlways, left_by};
 ghost use Rattle.linda_codec.specs.Formats.{made_at, short_number, number};
 ghost use Rattle.linda_state.specs.declared.deed.Deed.TheVariants.{Out, Take, Pass};
@@ -9,7 +8,7 @@ ghost use Rattle.linda_state.specs.DeedFormat as format;
 
 use linda_codec::{ReadFault, put_tuple, read_tuple, read_u32, read_u64, skip_tuple};
 use linda_state::{Deed, OUT, PASS, TAKE};
-use linda_tuple::{Form, Tuple};
+use linda_tuple::{Form, fits};
 use std::alloc::{AllocError, Global};
 
 /// Reads a deed, and gives the bytes after it.
@@ -131,29 +130,25 @@ fn push_head(out: &mut Vec<u8>, kind: u8, client: u32, n: u64) -> Result<(), All
     out.extend_from_slice(&n.to_be_bytes())
 }
 
-/// The deed has a spelling in the form: today both forms have one for every deed, by the limits of its tuple. Where a
-/// tuple may be too long for one of them, the caller will have to test it.
-pub(crate) fn deed_fits(form: Form, deed: &Deed)
-    ensures { format.FitsDeed form deed.now }
+/// Whether the deed has a spelling in the form: the tuple that it puts has one, where it puts one. Takes no memory.
+pub(crate) fn deed_fits(form: Form, deed: &Deed) -> bool
+    ensures exact { IsTrue result ↔ format.SuitsForm form deed.now }
+    // The numbers of a deed in memory have their widths.
+    ensures spelled { IsTrue result → format.FitsDeed form deed.now }
 {
     // The numbers are read because their ranges are known then.
     match deed {
         Deed::Out { client, n, tuple } => {
             let (_client, _n) = (*client, *n);
-            tuple_fits(form, tuple);
+            fits(form, tuple)
         }
         Deed::Take { client, n, id } => {
             let (_client, _n, _id) = (*client, *n, *id);
+            true
         }
         Deed::Pass { client, n, id } => {
             let (_client, _n, _id) = (*client, *n, *id);
+            true
         }
     }
-}
-
-// The tuple has a spelling in the form, likewise.
-fn tuple_fits(form: Form, tuple: &Tuple)
-    ensures { FitsIn form tuple.now }
-{
-    let _fields = tuple.fields();
 }

@@ -15,7 +15,7 @@ pub enum BankFault {
     /// An earlier `append` was cut off by its disk, and the bank is to be opened again.
     #[error("the bank is to be opened again")]
     Spent,
-    /// The bank would grow beyond its limit.
+    /// The bank would pass its limit, or one of the record's deeds has no spelling in the bank's form.
     #[error("the bank is full")]
     Full,
     /// The disk holds no bank: fewer bytes than a bank has, or a first gate that is closed.

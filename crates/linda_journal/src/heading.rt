@@ -1,12 +1,14 @@
 //! What a bank begins with.
 
 ghost use Rattle.std.specs.Prelude.{◌≡◌, ◌∷◌, ◌++◌, ℕ, List, IfSome, IfNone};
+ghost use Rattle.linda_tuple.specs.declared.form.Form as forms;
 ghost use Rattle.linda_journal.specs.Bank.{magic};
 ghost use Rattle.linda_journal.specs.Heading.{IsHeading};
 
 use crate::journal::behind_open;
 use crate::limits::MIN_BYTES;
 use linda_codec::read_u64;
+use linda_tuple::Form;
 
 /// What the bytes of a disk begin with.
 #[derive(Clone, Copy, Debug, PartialEq, Eq)]
@@ -15,8 +17,12 @@ pub enum Heading {
     NoBank,
     /// The first gate is open, and other letters follow it, or generation 0.
     Foreign,
-    /// The first gate is open, and the letters and this generation follow it.
-    Bank(u64),
+    /// The first gate is open, and the letters of this form and this generation follow it.
+    Bank {
+        /// How all values of the bank are spelled.
+        form: Form,
+        generation: u64,
+    },
 }
 
 /// What the bytes begin with.
@@ -31,13 +37,13 @@ pub fn read_heading(bytes: &[u8]) -> Heading
             }
             match behind_magic(rest) {
                 None => Heading::Foreign,
-                Some(rest) => match read_u64(rest) {
+                Some((form, rest)) => match read_u64(rest) {
                     Err(_) => Heading::Foreign,
                     Ok((generation, _)) => {
                         if generation == 0 {
                             return Heading::Foreign;
                         }
-                        Heading::Bank(generation)
+                        Heading::Bank { form, generation }
                     }
                 },
             }
@@ -45,13 +51,14 @@ pub fn read_heading(bytes: &[u8]) -> Heading
     }
 }
 
-// What stands after the letters; None where others stand there.
-fn behind_magic(bytes: &[u8]) -> Option<&[u8]>
-    ensures found { IfSome result (λ rest. bytes.now ≡ magic ++ rest.now) }
-    ensures none { IfNone result ((rest : List ℕ) → bytes.now ≡ magic ++ rest → ⊥) }
+// The form that the letters tell, and what stands after them; None where others stand there.
+fn behind_magic(bytes: &[u8]) -> Option<(Form, &[u8])>
+    ensures found { IfSome result (λ o. bytes.now ≡ magic o.0 ++ o.1.now) }
+    ensures none { IfNone result ((form : forms.Form) (rest : List ℕ) → bytes.now ≡ magic form ++ rest → ⊥) }
 {
     match bytes {
-        [b'L', b'N', b'D', b'1', rest @ ..] => Some(rest),
+        [b'L', b'N', b'D', b'1', rest @ ..] => Some((Form::One, rest)),
+        [b'L', b'N', b'D', b'2', rest @ ..] => Some((Form::Two, rest)),
         _ => None,
     }
 }

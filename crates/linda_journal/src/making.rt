@@ -3,6 +3,7 @@
 ghost use Rattle.std.specs.Prelude.{◌≡◌, ◌<◌, ◌≤◌, ◌+◌, ◌^◌, ◌++◌, ◌∷◌, [], ◌↔◌, ℕ, List, length};
 ghost use Rattle.std.specs.Prelude.{IfOk, IfErr, OnOk, IsErrOf};
 ghost use Rattle.linda_codec.specs.Formats.{number};
+ghost use Rattle.linda_state.specs.DeedFormat.{written};
 ghost use Rattle.linda_disk.specs.View.{IsDurable};
 ghost use Rattle.linda_disk.specs.Disk.{TellsFailures};
 ghost use Rattle.linda_disk.specs.Run.{LeavesOnly};
@@ -15,31 +16,41 @@ use crate::gate::{lay_gate, open_gate, stage};
 use crate::kinds::CLOSED;
 use crate::record::as_length;
 use linda_disk::Disk;
+use linda_state::BANK_FORM;
+use linda_tuple::Form;
 use std::alloc::{AllocError, Global};
 
-/// The letters that every bank has after its first gate.
-const MAGIC: [u8; 4] = [b'L', b'N', b'D', b'1'];
-
-/// What is to stand after the first gate of a new bank, with the closed gate of its journal at its end.
+/// What is to stand after the first gate of a new bank, which is in `BANK_FORM`, with the closed gate of its journal at
+/// its end.
 pub fn spell_front(alloc: Global, generation: u64, body: &[u8]) -> Result<Vec<u8>, AllocError>
     requires { length body.now < 2 ^ 32 }
-    ensures { IfOk result (λ v. v.items ≡ behind_gate generation body.now ++ CLOSED ∷ []) }
+    ensures { IfOk result (λ v. v.items ≡ behind_gate written generation body.now ++ CLOSED ∷ []) }
 {
     let len = as_length(body.len());
     let mut out = Vec::new(alloc);
-    push_heading(&mut out, generation)?;
+    push_heading(BANK_FORM, &mut out, generation)?;
     out.extend_from_slice(&len.to_be_bytes())?;
     out.extend_from_slice(body)?;
     out.push(CLOSED)?;
     Ok(out)
 }
 
-// Appends the letters and the generation. Where memory runs out, a part of them may stand there.
-fn push_heading(out: &mut Vec<u8>, generation: u64) -> Result<(), AllocError>
-    ensures { OnOk result (out.new.items ≡ out.old.items ++ (magic ++ number.spell generation)) }
+// Appends the letters of the form and the generation. Where memory runs out, a part of them may stand there.
+fn push_heading(form: Form, out: &mut Vec<u8>, generation: u64) -> Result<(), AllocError>
+    ensures { OnOk result (out.new.items ≡ out.old.items ++ (magic form ++ number.spell generation)) }
 {
-    out.extend_from_slice(&MAGIC)?;
+    out.extend_from_slice(&letters(form))?;
     out.extend_from_slice(&generation.to_be_bytes())
+}
+
+// The letters that a bank in this form has after its first gate.
+fn letters(form: Form) -> [u8; 4]
+    ensures { result ≡ magic form }
+{
+    match form {
+        Form::One => [b'L', b'N', b'D', b'1'],
+        Form::Two => [b'L', b'N', b'D', b'2'],
+    }
 }
 
 /// Puts these bytes, with a closed gate at their end, after an open gate at the front of an empty disk.

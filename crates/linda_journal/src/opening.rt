@@ -1,7 +1,6 @@
 //! A bank read from its disk.
 
 ghost use Rattle.std.specs.Prelude.{◌≡◌, ◌≢◌, ◌<◌, ◌≤◌, ◌+◌, ◌-◌, ◌↔◌, take, drop, length, IfOk, IfErr, OnOk};
-ghost use Rattle.linda_state.specs.DeedFormat.{written};
 ghost use Rattle.linda_disk.specs.View.{IsDurable};
 ghost use Rattle.linda_disk.specs.Disk.{TellsFailures};
 ghost use Rattle.linda_disk.specs.Run.{LeavesOnly};
@@ -15,11 +14,13 @@ use crate::image::read_image;
 use crate::journal::Journal;
 use crate::limits::MIN_BYTES;
 use linda_disk::Disk;
+use linda_tuple::Form;
 use std::alloc::Global;
 
 /// What a disk holds as a bank.
 #[derive(Debug, Drop)]
 pub(crate) struct Contents {
+    pub form: Form,
     pub generation: u64,
     pub body: Vec<u8>,
     pub journal: Journal,
@@ -32,11 +33,11 @@ pub(crate) struct Contents {
 /// `NoBank`, `Damaged`, `Disk` where the device failed, `Memory`.
 pub(crate) fn load<D: Disk>(alloc: Global, disk: &mut D) -> Result<Contents, BankFault>
     requires { D.honest disk.old → IsDurable (D.view disk.old) }
-    ensures found { D.honest disk.old → IfOk result (λ o. IsSettled o.generation o.body.items
+    ensures found { D.honest disk.old → IfOk result (λ o. IsSettled o.form o.generation o.body.items
         (deeds_of o.journal.records.items) o.journal.end (D.view disk.new)) }
     ensures within { D.honest disk.old
         → IfOk result (λ o. o.journal.end < length (D.view disk.new).seen) }
-    ensures gates { IfOk result (λ o. AreAt written (MIN_BYTES + length o.body.items) o.journal.records.items) }
+    ensures gates { IfOk result (λ o. AreAt o.form (MIN_BYTES + length o.body.items) o.journal.records.items) }
     ensures counted { IfOk result (λ o. length o.journal.records.items ≤ o.journal.end) }
     ensures seen { D.honest disk.old
         → OnOk result ((D.view disk.new).seen ≡ (D.view disk.old).seen) }
@@ -54,6 +55,7 @@ pub(crate) fn load<D: Disk>(alloc: Global, disk: &mut D) -> Result<Contents, Ban
     let bytes = read_all(alloc, disk)?;
     let image = read_image(alloc, &bytes)?;
     Ok(Contents {
+        form: image.form,
         generation: image.generation,
         body: body_of(bytes, image.at),
         journal: image.journal,

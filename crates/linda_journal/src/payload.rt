@@ -1,7 +1,7 @@
 //! The payload of a record: its deeds, one after the other, in a form.
 
-ghost use Rattle.std.specs.Prelude.{◌≡◌, ◌++◌, ◌≤◌, ℕ, List, All, length, IfOk, IfSome, IfNone};
-ghost use Rattle.std.specs.Prelude.{OnOk, OnErr};
+ghost use Rattle.std.specs.Prelude.{◌≡◌, ◌++◌, ◌≤◌, ◌↔◌, ℕ, List, All, length, IfOk, IfSome, IfNone};
+ghost use Rattle.std.specs.Prelude.{OnOk, OnErr, IsTrue};
 ghost use Rattle.linda_state.specs.declared.deed.Deed as deed;
 ghost use Rattle.linda_journal.specs.declared.limits.TheConstants.{MAX_DEEDS};
 ghost use Rattle.linda_journal.specs.Records as format;
@@ -88,11 +88,10 @@ pub(crate) fn push_payload(form: Form, out: &mut Vec<u8>, deeds: &[Deed]) -> Res
     Ok(())
 }
 
-/// Each deed has a spelling in the form, as `deed_fits` says.
-pub(crate) fn deeds_fit(form: Form, deeds: &[Deed])
-    ensures { All (format.FitsDeed form) deeds.now }
+/// Whether each deed has a spelling in the form, as `deed_fits` says. Takes no memory.
+pub(crate) fn deeds_fit(form: Form, deeds: &[Deed]) -> bool
+    ensures exact { IsTrue result ↔ All (format.SuitsForm form) deeds.now }
+    ensures spelled { IsTrue result → All (format.FitsDeed form) deeds.now }
 {
-    for deed in deeds {
-        deed_fits(form, deed);
-    }
+    deeds.iter().all(|deed| deed_fits(form, deed))
 }

@@ -2,6 +2,7 @@
 
 ghost use Rattle.std.specs.Prelude.{◌≡◌, ◌∷◌, [], ◌++◌, ◌<◌, ◌≤◌, ◌+◌, ◌^◌, ◌↔◌, ℕ, List, length};
 ghost use Rattle.std.specs.Prelude.{IfOk, IfErr, OnOk};
+ghost use Rattle.linda_state.specs.DeedFormat.{written};
 ghost use Rattle.linda_disk.specs.View.{IsDurable};
 ghost use Rattle.linda_disk.specs.Image.{overlay};
 ghost use Rattle.linda_disk.specs.Disk.{CountsFailure, TellsFailures};
@@ -37,8 +38,8 @@ pub fn fill<D: Disk>(
 ) -> Result<Whole<D>, (DiskFault, D)>
     requires low { 1 ≤ generation }
     ensures whole { (body : List ℕ) → length body < 2 ^ 32
-        → bytes.now ≡ behind_gate generation body ++ CLOSED ∷ [] → D.honest closed.disk
-        → IfOk result (λ w. IsWhole generation body w.end (D.view w.disk)) }
+        → bytes.now ≡ behind_gate written generation body ++ CLOSED ∷ [] → D.honest closed.disk
+        → IfOk result (λ w. IsWhole written generation body w.end (D.view w.disk)) }
     ensures new { IfOk result (λ w. (w.generation ≡ generation) × (w.end ≡ length bytes.now)) }
     // At no moment a crash leaves a bank.
     ensures any_moment { D.honest closed.disk

@@ -4,7 +4,7 @@ use crate::bytes::pieces_of;
 use linda_bag::{Bag, ListBag};
 use linda_script::WordsFault;
 use linda_snap::{SnapshotFault, get_state, put_state};
-use linda_state::State;
+use linda_state::{BANK_FORM, State};
 use std::alloc::Global;
 
 /// More bytes than a snapshot may have.
@@ -18,7 +18,7 @@ pub(crate) fn play_state(
     came: &mut String,
 ) -> Result<(), WordsFault> {
     if word == "read" {
-        let told: Result<State<ListBag>, SnapshotFault> = get_state(alloc, bytes);
+        let told: Result<State<ListBag>, SnapshotFault> = get_state(alloc, BANK_FORM, bytes);
         match told {
             Ok(state) => tell_state(&state, came),
             Err(fault) => tell_fault(fault, came),
@@ -41,7 +41,7 @@ fn spelled(alloc: Global, bytes: &[u8]) -> Result<Vec<u8>, SnapshotFault> {
     if bytes.len() >= TOO_LONG {
         return Err(SnapshotFault::NoSnapshot);
     }
-    let state: State<ListBag> = get_state(alloc, bytes)?;
+    let state: State<ListBag> = get_state(alloc, BANK_FORM, bytes)?;
     let mut out = Vec::new(alloc);
     put_state(&mut out, &state)?;
     Ok(out)

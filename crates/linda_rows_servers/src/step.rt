@@ -7,7 +7,7 @@ use linda_script::{
     tell_tuple,
 };
 use linda_snap::{SnapshotFault, get_state};
-use linda_state::{Deed, State};
+use linda_state::{BANK_FORM, Deed, State};
 use linda_step::{MAX_BATCH, Step, Store};
 use linda_text::write_tuple;
 use std::alloc::{AllocError, Global};
@@ -42,7 +42,7 @@ impl StepRow {
     // Takes the store of the state that these bytes spell.
     fn take_state(&mut self, alloc: Global, digits: &str) -> Result<(), WordsFault> {
         let bytes = read_hex(alloc, digits)?;
-        let state: State<IndexBag> = match get_state(alloc, &bytes) {
+        let state: State<IndexBag> = match get_state(alloc, BANK_FORM, &bytes) {
             Ok(state) => state,
             Err(SnapshotFault::Memory) => return Err(WordsFault::Memory),
             Err(SnapshotFault::NoSnapshot) => return Err(WordsFault::Unknown),
@@ -130,7 +130,10 @@ fn tell_size<B: Bag>(
     if messages.len() > MAX_BATCH {
         return Err(WordsFault::Unknown);
     }
-    Ok(writeln!(came, "> {} bytes", store.size_of(&messages))?)
+    match store.size_of(BANK_FORM, &messages) {
+        Some(bytes) => Ok(writeln!(came, "> {bytes} bytes")?),
+        None => Ok(came.push_str("> no spelling\n")?),
+    }
 }
 
 // Appends a line for the deed, if there is one, and a line for each reply.

@@ -1,12 +1,17 @@
 //! Tuples, templates and atoms as people type them.
 //!
 //! `tuple TEXT` and `template TEXT` give what is read, as it is written, or why nothing is. `template-at AT TEXT`
-//! and `atom-at AT TEXT` read from an offset on, and give the offset after it too. `triples ATOM ..` gives how
-//! many of all tuples of three of these atoms are written, read again and the same.
+//! and `atom-at AT TEXT` read from an offset on, and give the offset after it too. `split BYTES` gives the template
+//! at the front of bytes, which need be no UTF-8, and the bytes after it; `skip BYTES` gives these alone.
+//! `triples ATOM ..` gives how many of all tuples of three of these atoms are written, read again and the same.
 
-use crate::told::{tell_alone, tell_placed};
+use crate::hexadecimal::bytes_of;
+use crate::told::{tell_alone, tell_front, tell_placed, tell_rest};
 use linda_script::{WordsFault, split_word};
-use linda_text::{read_atom_at, read_template, read_template_at, read_tuple, write_tuple};
+use linda_text::{
+    read_atom_at, read_template, read_template_at, read_tuple, skip_template, split_template,
+    write_tuple,
+};
 use linda_tuple::{Atom, Tuple};
 use std::alloc::Global;
 
@@ -27,6 +32,14 @@ pub(crate) fn play_texts(alloc: Global, words: &str, came: &mut String) -> Resul
         "atom-at" => {
             let (at, text) = split_offset(rest)?;
             Ok(tell_placed(alloc, came, read_atom_at(alloc, text, at))?)
+        }
+        "split" => {
+            let bytes = bytes_of(alloc, rest)?;
+            Ok(tell_front(alloc, came, split_template(alloc, bytes.as_slice()))?)
+        }
+        "skip" => {
+            let bytes = bytes_of(alloc, rest)?;
+            Ok(tell_rest(alloc, came, skip_template(bytes.as_slice()))?)
         }
         "triples" => tell_triples(alloc, came, &atoms_in(alloc, rest)?),
         _ => Err(WordsFault::Unknown),

@@ -1,15 +1,16 @@
 -- What crashes leave within a call of a server, where only that some bank is in use is known.
-use Rattle.std.proofs.Common.{◌≡◌, ℕ, Bool, true, false, sym, subst, ◌<◌, ◌≤◌, ◌⊎◌, inl, inr, List, [], ◌∷◌, length, Option, Some, None, option_to_list, ap, length-append, append-nil, refl, ◌++◌, ◌∙◌, true≢false, Result, Ok, Err, IfOk, OnOk, OnErr, arith}
+use Rattle.std.proofs.Common.{◌≡◌, ℕ, Bool, true, false, sym, subst, ◌<◌, ◌≤◌, ◌⊎◌, inl, inr, List, [], ◌∷◌, length, Option, Some, None, All, is_some, IfSome, IfNone, ◌+◌, option_to_list, ap, length-append, append-nil, refl, ◌++◌, ◌∙◌, true≢false, Result, Ok, Err, IfOk, OnOk, OnErr, arith}
 use Rattle.std.proofs.Math.Logic.{∥∥₁_map}
 use Rattle.std.proofs.lemmas.Grind.{not_there}
 use Rattle.std.proofs.lemmas.List.{length-map}
 use Rattle.std.proofs.lemmas.Bool.{cases_lt}
 use Rattle.std.specs.Vec.{vec_len}
+use Rattle.linda_tuple.specs.declared.form.Form.{Form}
 use Rattle.linda_wire.specs.declared.message.Message.{Message}
 use Rattle.linda_state.specs.declared.deed.Deed.{Deed}
 use Rattle.linda_state.specs.State.{State, IsState}
 use Rattle.linda_state.specs.Proper.{AreDone}
-use Rattle.linda_state.specs.DeedFormat.{written, spell_deed, payload}
+use Rattle.linda_state.specs.DeedFormat.{spell_deed, payload, SuitsForm, IsUnspelled}
 use Rattle.linda_state.proofs.ProperLaws.{none_done}
 use Rattle.linda_step.specs.Soft.{Soft}
 use Rattle.linda_step.specs.Answer.{Answer}
@@ -20,6 +21,7 @@ use Rattle.linda_step.proofs.HistoryLaws.{happened}
 use Rattle.linda_disk.specs.View.{View, IsTimed}
 use Rattle.linda_journal.proofs.SizeLaws.{deed_some}
 use Rattle.linda_snap.specs.Stands.{Stands}
+use Rattle.linda_server.specs.declared.limits.TheConstants.{RECORD_BYTES}
 use Rattle.linda_server.specs.declared.disks.Disks.{Disks}
 use Rattle.linda_server.specs.declared.disks.Disks.TheVariants.{InUse, Shut, Away}
 use Rattle.linda_server.specs.declared.fault.ServeFault.{ServeFault}
@@ -27,7 +29,7 @@ use Rattle.linda_server.specs.declared.served.Served.{Served}
 use Rattle.linda_server.specs.Pairs.{Both, PairsSince, PairsNow}
 use Rattle.linda_server.specs.Disks.{sides, both, AreHonest, IsUpOn, IsKeptOn}
 use Rattle.linda_server.specs.Served.{AreAnswered, deeds_of, share_of, IsServed}
-use Rattle.linda_server.specs.Calls.{LeadTo, IsOldOrNew, IsEither, IsWithOrWithout, StandsAfter, IsBeforeOrAfter, StandsFor, HasHandled}
+use Rattle.linda_server.specs.Calls.{LeadTo, IsOldOrNew, IsEither, IsWithOrWithout, StandsAfter, IsBeforeOrAfter, StandsFor, HasHandled, IsTooMuch}
 use Rattle.linda_server.specs.Node.{shown}
 use Rattle.linda_server.proofs.ServedLaws.{served_happens}
 use Rattle.linda_server.proofs.PairLaws.{still, stands_now, up_of}
@@ -85,12 +87,49 @@ few st soft ms told new then most le served =
     let same = ap length served.tells.deeds in
     omega (arith, le, count, deeds, same)
 
-pub some_bytes : (ds : List Deed) → 0 < length ds → 0 < length (payload written ds)
-some_bytes [] lt = absurd (omega (arith, lt))
-some_bytes (d ∷ ds) lt =
-    let first = deed_some written d in
-    let all = length-append (spell_deed written d) (payload written ds) in
+pub some_bytes : (form : Form) (ds : List Deed) → 0 < length ds → 0 < length (payload form ds)
+some_bytes form [] lt = absurd (omega (arith, lt))
+some_bytes form (d ∷ ds) lt =
+    let first = deed_some form d in
+    let all = length-append (spell_deed form d) (payload form ds) in
     omega (arith, first, all)
+
+-- What a size in a form says of deeds: how many bytes their record has, or that it has none.
+module _ (given form : Form) (same : given ≡ form) (end limit : ℕ) (size : Option ℕ) (ds : List Deed) where
+  -- They have a record that keeps within the limit,
+  pub room_of : IfSome size (λ s. s ≡ length (payload given ds)) → IfSome size (λ b. 0 < b → end + RECORD_BYTES + b ≤ limit) → is_some size ≡ true
+      → 0 < length (payload form ds) → end + RECORD_BYTES + length (payload form ds) ≤ limit
+  room_of = subst (λ f. IfSome size (λ s. s ≡ length (payload given ds)) → IfSome size (λ b. 0 < b → end + RECORD_BYTES + b ≤ limit) → is_some size ≡ true
+      → 0 < length (payload f ds) → end + RECORD_BYTES + length (payload f ds) ≤ limit) same (by size)
+    where
+      by : (o : Option ℕ) → IfSome o (λ s. s ≡ length (payload given ds)) → IfSome o (λ b. 0 < b → end + RECORD_BYTES + b ≤ limit) → is_some o ≡ true
+          → 0 < length (payload given ds) → end + RECORD_BYTES + length (payload given ds) ≤ limit
+      by None bytes room there some = absurd (true≢false (sym there))
+      by (Some b) bytes room there some = let fits = room (omega (arith, bytes, some)) in omega (arith, fits, bytes)
+
+  -- and each has a spelling;
+  pub suit_of : IfSome size (λ s. All (SuitsForm given) ds) → is_some size ≡ true → All (SuitsForm form) ds
+  suit_of = subst (λ f. IfSome size (λ s. All (SuitsForm given) ds) → is_some size ≡ true → All (SuitsForm f) ds) same (by size)
+    where
+      by : (o : Option ℕ) → IfSome o (λ s. All (SuitsForm given) ds) → is_some o ≡ true → All (SuitsForm given) ds
+      by None suit there = absurd (true≢false (sym there))
+      by (Some b) suit there = suit
+
+  -- or they are too much.
+  pub too_much : IfSome size (λ s. s ≡ length (payload given ds)) → IfNone size (IsUnspelled given ds)
+      → IfSome size (λ b. (0 < b) × (limit < end + RECORD_BYTES + b)) → IsTooMuch form end limit ds
+  too_much = subst (λ f. IfSome size (λ s. s ≡ length (payload given ds)) → IfNone size (IsUnspelled given ds)
+      → IfSome size (λ b. (0 < b) × (limit < end + RECORD_BYTES + b)) → IsTooMuch f end limit ds) same (by size)
+    where
+      by : (o : Option ℕ) → IfSome o (λ s. s ≡ length (payload given ds)) → IfNone o (IsUnspelled given ds)
+          → IfSome o (λ b. (0 < b) × (limit < end + RECORD_BYTES + b)) → IsTooMuch given end limit ds
+      by None bytes none past = inl none
+      by (Some b) bytes none past = inr (let some = past.0 in omega (arith, some, bytes), let over = past.1 in omega (arith, over, bytes))
+
+  pub not_too_much : IfSome size (λ s. s ≡ length (payload given ds)) → IfSome size (λ s. All (SuitsForm given) ds)
+      → IfSome size (λ b. 0 < b → end + RECORD_BYTES + b ≤ limit) → is_some size ≡ true → IsTooMuch form end limit ds → ⊥
+  not_too_much bytes suit room there (inl unspelled) = unspelled (suit_of suit there)
+  not_too_much bytes suit room there (inr past) = let some = past.0 in let over = past.1 in let fits = room_of bytes room there some in omega (arith, fits, over)
 
 pub handled : (old new : Store) (ms : List (ℕ × Message)) (told : Served) → IsServed old.state old.soft ms told new.state new.soft → HasHandled old (comings ms) told.sends.items new
 handled old new ms told served = record {
@@ -179,34 +218,34 @@ since_so old new P Q since goes = record {
 
 -- ---- the calls
 
-module _ {B D : Type 0} (generation end : B → ℕ) (bank : B → View) (disk : D → View) (honest_bank : B → Type 0) (honest : D → Type 0)
+module _ {B D : Type 0} (form : B → Form) (generation end : B → ℕ) (bank : B → View) (disk : D → View) (honest_bank : B → Type 0) (honest : D → Type 0)
     (timed_bank : (b : B) → honest_bank b → IsTimed (bank b)) (timed : (d : D) → honest d → IsTimed (disk d)) where
-  pub up_for : (disks : Disks B D) (st : State) → AreHonest honest_bank honest disks → ∥ IsKeptOn generation end bank disk honest_bank honest disks st ∥₁ → ∥ IsUpOn generation end bank disk disks st ∥₁
-  up_for disks st are kept = ∥∥₁_map kept (λ k. up_of generation end bank disk honest_bank honest timed_bank timed disks st k are)
+  pub up_for : (disks : Disks B D) (st : State) → AreHonest honest_bank honest disks → ∥ IsKeptOn form generation end bank disk honest_bank honest disks st ∥₁ → ∥ IsUpOn form generation end bank disk disks st ∥₁
+  up_for disks st are kept = ∥∥₁_map kept (λ k. up_of form generation end bank disk honest_bank honest timed_bank timed disks st k are)
 
   -- No disk was touched: the state stands as before.
-  pub still_so : (disks : Disks B D) (st : State) → AreHonest honest_bank honest disks → ∥ IsKeptOn generation end bank disk honest_bank honest disks st ∥₁
+  pub still_so : (disks : Disks B D) (st : State) → AreHonest honest_bank honest disks → ∥ IsKeptOn form generation end bank disk honest_bank honest disks st ∥₁
       → PairsSince (both bank disk disks) (both bank disk disks) (StandsFor st)
   still_so disks st are kept =
       from_some (both bank disk disks) (both bank disk disks) (λ left right. Stands left right st) (λ left right. Stands left right st) (up_for disks st are kept)
-      (still generation end bank disk honest_bank honest timed_bank timed disks st are) (λ left right x. x)
+      (still form generation end bank disk honest_bank honest timed_bank timed disks st are) (λ left right x. x)
 
-  pub still_before : (disks : Disks B D) (old : Store) (xs : List Coming) → AreHonest honest_bank honest disks → ∥ IsKeptOn generation end bank disk honest_bank honest disks old.state ∥₁
+  pub still_before : (disks : Disks B D) (old : Store) (xs : List Coming) → AreHonest honest_bank honest disks → ∥ IsKeptOn form generation end bank disk honest_bank honest disks old.state ∥₁
       → PairsSince (both bank disk disks) (both bank disk disks) (IsBeforeOrAfter old xs)
   still_before disks old xs are kept =
       from_some (both bank disk disks) (both bank disk disks) (λ left right. Stands left right old.state) (λ left right. Stands left right old.state ⊎ StandsAfter old xs left right)
-      (up_for disks old.state are kept) (still generation end bank disk honest_bank honest timed_bank timed disks old.state are) (λ left right x. inl x)
+      (up_for disks old.state are kept) (still form generation end bank disk honest_bank honest timed_bank timed disks old.state are) (λ left right x. inl x)
 
   -- Deeds went onto the bank in use.
-  pub put_either : (disks new : Disks B D) (st now : State) (deeds : List Deed) → LeadTo st deeds now → AreHonest honest_bank honest disks → ∥ IsKeptOn generation end bank disk honest_bank honest disks st ∥₁
-      → ((st now : State) → AreHonest honest_bank honest disks → IsUpOn generation end bank disk disks st → LeadTo st deeds now → PairsSince (both bank disk disks) (both bank disk new) (IsOldOrNew st now))
+  pub put_either : (disks new : Disks B D) (st now : State) (deeds : List Deed) → LeadTo st deeds now → AreHonest honest_bank honest disks → ∥ IsKeptOn form generation end bank disk honest_bank honest disks st ∥₁
+      → ((st now : State) → AreHonest honest_bank honest disks → IsUpOn form generation end bank disk disks st → LeadTo st deeds now → PairsSince (both bank disk disks) (both bank disk new) (IsOldOrNew st now))
       → PairsSince (both bank disk disks) (both bank disk new) (IsEither st now)
   put_either disks new st now deeds leads are kept put =
       from_some (both bank disk disks) (both bank disk new) (IsOldOrNew st now) (IsOldOrNew st now) (up_for disks st are kept) (λ u. put st now are u leads) (λ left right x. x)
 
-  pub kept_after : (disks new : Disks B D) (st now : State) (deeds : List Deed) → LeadTo st deeds now → ∥ IsKeptOn generation end bank disk honest_bank honest disks st ∥₁
-      → ((st now : State) → IsKeptOn generation end bank disk honest_bank honest disks st → LeadTo st deeds now → IsKeptOn generation end bank disk honest_bank honest new now)
-      → ∥ IsKeptOn generation end bank disk honest_bank honest new now ∥₁
+  pub kept_after : (disks new : Disks B D) (st now : State) (deeds : List Deed) → LeadTo st deeds now → ∥ IsKeptOn form generation end bank disk honest_bank honest disks st ∥₁
+      → ((st now : State) → IsKeptOn form generation end bank disk honest_bank honest disks st → LeadTo st deeds now → IsKeptOn form generation end bank disk honest_bank honest new now)
+      → ∥ IsKeptOn form generation end bank disk honest_bank honest new now ∥₁
   kept_after disks new st now deeds leads kept goes = ∥∥₁_map kept (λ k. goes st now k leads)
 
   -- What crashes since leave, they leave now.
@@ -218,13 +257,13 @@ module _ {B D : Type 0} (generation end : B → ℕ) (bank : B → View) (disk :
   now_since old Away P Q are since goes = absurd are
 
   -- The state stands now.
-  pub stands_so : (disks : Disks B D) (st : State) → AreHonest honest_bank honest disks → ∥ IsKeptOn generation end bank disk honest_bank honest disks st ∥₁
+  pub stands_so : (disks : Disks B D) (st : State) → AreHonest honest_bank honest disks → ∥ IsKeptOn form generation end bank disk honest_bank honest disks st ∥₁
       → PairsNow (both bank disk disks) (StandsFor st)
   stands_so disks st are kept left right l r =
-      ∥∥₁_map (up_for disks st are kept) (λ u. stands_now generation end bank disk honest_bank honest timed_bank timed disks st u left right l r)
+      ∥∥₁_map (up_for disks st are kept) (λ u. stands_now form generation end bank disk honest_bank honest timed_bank timed disks st u left right l r)
 
   pub stands_with : (disks : Disks B D) (st : State) (deeds : List Deed) → deeds ≡ [] → IsState st → AreHonest honest_bank honest disks
-      → ∥ IsKeptOn generation end bank disk honest_bank honest disks st ∥₁ → PairsNow (both bank disk disks) (IsWithOrWithout st deeds)
+      → ∥ IsKeptOn form generation end bank disk honest_bank honest disks st ∥₁ → PairsNow (both bank disk disks) (IsWithOrWithout st deeds)
   stands_with disks st deeds none is are kept left right l r =
       ∥∥₁_map (stands_so disks st are kept left right l r)
       (λ x. record { new = st; ranges = is; done = subst (λ ds. AreDone st ds st) (sym none) (none_done st is); stands = inl x })

@@ -2,6 +2,8 @@
 use Rattle.std.proofs.Common.{◌≡◌, ℕ, ◌<◌, ◌≤◌, ◌^◌, inl, inr, List, [], ◌∷◌, length, refl, sym, ap, subst, ◌∙◌, arith}
 use Rattle.std.specs.FinMap.{entries, empty, len-entries, len-empty}
 use Rattle.std.specs.Ordering.{nat_cmp}
+use Rattle.linda_state.specs.DeedFormat.{written}
+use Rattle.linda_tuple.specs.declared.form.Form.{Form}
 use Rattle.linda_state.specs.State.{State, IsState, empty_state}
 use Rattle.linda_state.proofs.StateLaws.{empty_is_state}
 use Rattle.linda_state.proofs.ProperLaws.{none_done}
@@ -26,15 +28,15 @@ no_entries {X} = no_items (entries (empty {K = ℕ} {X = X} {R = nat_cmp})) (sym
     no_items [] none = refl
     no_items (x ∷ xs) none = absurd (omega (arith, none))
 
-pub empty_short : length (spell_state empty_state) ≡ 16
-empty_short = ap (λ (p : Parts). length (snapshot.spell p)) (λ i. (1, (no_entries i, no_entries i)))
+pub empty_short : length (spell_state written empty_state) ≡ 16
+empty_short = ap (λ (p : Parts). length ((snapshot written).spell p)) (λ i. (1, (no_entries i, no_entries i)))
 
 pub is_empty_state : (st : State) → st ≡ empty_state → IsState st
 is_empty_state st same = subst IsState (sym same) empty_is_state
 
-pub short_state : (st : State) → st ≡ empty_state → length (spell_state st) < 2 ^ 32
+pub short_state : (st : State) → st ≡ empty_state → length (spell_state written st) < 2 ^ 32
 short_state st same =
-    let long = ap (λ s. length (spell_state s)) same ∙ empty_short in
+    let long = ap (λ s. length (spell_state written s)) same ∙ empty_short in
     omega (arith, long)
 
 -- ---- what crashes leave while it is made
@@ -63,15 +65,15 @@ gate_made left left_new right right_new l r = record {
 }
 
 -- A whole new bank stands for the empty state, where the other disk has none.
-new_stands : (left right : List ℕ) → FitsState empty_state → IsNoBank right → IsNoneOrNew 1 (spell_state empty_state) left → IsNothingOr empty_state left right
+new_stands : (left right : List ℕ) → FitsState written empty_state → IsNoBank right → IsNoneOrNew written 1 (spell_state written empty_state) left → IsNothingOr empty_state left right
 new_stands left right fits none (inl no_bank) = inl (no_bank, none)
 new_stands left right fits none (inr bank) = inr (inl record {
   generation = 1;
-  stands = record { opening = empty_state; ranges = empty_is_state; fits = fits; records = []; bank = bank; done = none_done empty_state empty_is_state };
+  stands = record { form = written; opening = empty_state; ranges = empty_is_state; fits = fits; records = []; bank = bank; done = none_done empty_state empty_is_state };
   lesser = inl none;
 })
 
-pub bank_made : (left left_new right right_new : View) → FitsState empty_state → LeavesOnly left left_new (IsNoneOrNew 1 (spell_state empty_state)) → LeavesOnly right right_new (λ image. length image ≤ 1)
+pub bank_made : (left left_new right right_new : View) → FitsState written empty_state → LeavesOnly left left_new (IsNoneOrNew written 1 (spell_state written empty_state)) → LeavesOnly right right_new (λ image. length image ≤ 1)
     → PairsSince (two left right) (two left_new right_new) (IsNothingOr empty_state)
 bank_made left left_new right right_new fits l r = record {
   left_later = l.later;
@@ -79,23 +81,24 @@ bank_made left left_new right right_new fits l r = record {
   each = λ a b x y. new_stands a b fits (few_none b (r.each b y)) (l.each a x);
 }
 
-pub made_up : (end : ℕ) (used other : View) → FitsState empty_state → IsSettled 1 (spell_state empty_state) [] end used → IsShut [] 0 other → IsUp 1 end used other empty_state
+pub made_up : (end : ℕ) (used other : View) → FitsState written empty_state → IsSettled written 1 (spell_state written empty_state) [] end used → IsShut [] 0 other → IsUp written 1 end used other empty_state
 made_up end used other fits settled shut = record {
   stored = record { opening = empty_state; ranges = empty_is_state; fits = fits; records = []; settled = settled; done = none_done empty_state empty_is_state };
   lesser = inl (no_candidate other.seen shut.file);
   durable = shut.durable;
 }
 
-pub up_as : (generation end : ℕ) (used other : View) (st : State) → generation ≡ 1 → st ≡ empty_state → IsUp 1 end used other empty_state → IsUp generation end used other st
-up_as generation end used other st first same up =
-    subst (λ s. IsUp generation end used other s) (sym same) (subst (λ g. IsUp g end used other empty_state) (sym first) up)
+pub up_as : (form : Form) (generation end : ℕ) (used other : View) (st : State) → form ≡ written → generation ≡ 1 → st ≡ empty_state → IsUp written 1 end used other empty_state → IsUp form generation end used other st
+up_as form generation end used other st new first same up =
+    subst (λ s. IsUp form generation end used other s) (sym same)
+    (subst (λ g. IsUp form g end used other empty_state) (sym first) (subst (λ f. IsUp f 1 end used other empty_state) (sym new) up))
 
-pub kept_as : (is_used_honest is_other_honest : Type 0) (generation end : ℕ) (used other : View) (st : State) → generation ≡ 1 → st ≡ empty_state → FitsState empty_state
-    → (is_used_honest → IsSettled 1 (spell_state empty_state) [] end used) → (is_other_honest → IsShut [] 0 other) → IsKept is_used_honest is_other_honest generation end used other st
-kept_as is_used_honest is_other_honest generation end used other st first same fits settled shut = record {
+pub kept_as : (is_used_honest is_other_honest : Type 0) (form : Form) (generation end : ℕ) (used other : View) (st : State) → form ≡ written → generation ≡ 1 → st ≡ empty_state → FitsState written empty_state
+    → (is_used_honest → IsSettled written 1 (spell_state written empty_state) [] end used) → (is_other_honest → IsShut [] 0 other) → IsKept is_used_honest is_other_honest form generation end used other st
+kept_as is_used_honest is_other_honest form generation end used other st new first same fits settled shut = record {
   stored = λ h.
-      subst (λ s. IsStored generation end used s) (sym same) (subst (λ g. IsStored g end used empty_state) (sym first)
-      (record { opening = empty_state; ranges = empty_is_state; fits = fits; records = []; settled = settled h; done = none_done empty_state empty_is_state }));
+      subst (λ s. IsStored form generation end used s) (sym same) (subst (λ g. IsStored form g end used empty_state) (sym first)
+      (subst (λ f. IsStored f 1 end used empty_state) (sym new) (record { opening = empty_state; ranges = empty_is_state; fits = fits; records = []; settled = settled h; done = none_done empty_state empty_is_state })));
   durable = λ h. (shut h).durable;
   lesser = λ _ h. inl (no_candidate other.seen (shut h).file);
 }
@@ -114,8 +117,8 @@ then_gate old mid new first second =
     joined old mid new (λ image. image ≡ []) (λ image. length image ≤ 1) (λ image. length image ≤ 1) first second
     (λ image none. let long = ap length none in omega (arith, long)) (λ image few. few)
 
-pub then_bank : (old mid new : View) (body : List ℕ) → body ≡ spell_state empty_state → LeavesOnly old mid (λ image. image ≡ []) → LeavesOnly mid new (IsNoneOrNew 1 body)
-    → LeavesOnly old new (IsNoneOrNew 1 (spell_state empty_state))
+pub then_bank : (old mid new : View) (body : List ℕ) → body ≡ spell_state written empty_state → LeavesOnly old mid (λ image. image ≡ []) → LeavesOnly mid new (IsNoneOrNew written 1 body)
+    → LeavesOnly old new (IsNoneOrNew written 1 (spell_state written empty_state))
 then_bank old mid new body same first second =
-    joined old mid new (λ image. image ≡ []) (IsNoneOrNew 1 body) (IsNoneOrNew 1 (spell_state empty_state)) first second
-    (λ image none. inl (void_none image none)) (λ image is. subst (λ b. IsNoneOrNew 1 b image) same is)
+    joined old mid new (λ image. image ≡ []) (IsNoneOrNew written 1 body) (IsNoneOrNew written 1 (spell_state written empty_state)) first second
+    (λ image none. inl (void_none image none)) (λ image is. subst (λ b. IsNoneOrNew written 1 b image) same is)

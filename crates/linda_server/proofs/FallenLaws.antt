@@ -2,6 +2,7 @@
 use Rattle.std.proofs.Common.{rules, ◌≡◌, ℕ, ◌⊎◌, inl, inr, Ok, IsErrOf, Bool, true, false, if◌then◌else◌, List, Some, sym, subst}
 use Rattle.std.proofs.Math.Logic.{∥∥₁_map}
 use Rattle.std.proofs.lemmas.Option.{same_Some, none-some}
+use Rattle.linda_tuple.specs.declared.form.Form.{Form}
 use Rattle.linda_state.specs.declared.deed.Deed.{Deed}
 use Rattle.linda_state.specs.State.{State, IsState}
 use Rattle.linda_state.specs.Proper.{AreDone}
@@ -91,21 +92,22 @@ module _ {B D : Type 0} (unbank : B → D) (disk : D → View) (honest : D → T
   honest_joined Away x same are = absurd (none-some x (sym same))
 
 -- Disks whose fuse is set hold what they held.
-module _ {B D H : Type 0} (generation end : B → ℕ) (held_bank : B → H) (held : D → H) (view : H → View) (honest_bank : B → Type 0) (honest : D → Type 0)
+module _ {B D H : Type 0} (form : B → Form) (generation end : B → ℕ) (held_bank : B → H) (held : D → H) (view : H → View) (honest_bank : B → Type 0) (honest : D → Type 0)
     (all_banks : (b c : B) → honest_bank b → honest_bank c) (all : (d e : D) → honest d → honest e) where
   abbrev Related : Disks B D → Disks B D → Type 0
-  Related old new = AreRelated (λ b c. (generation c ≡ generation b) × ((end c ≡ end b) × (held_bank c ≡ held_bank b))) (λ d e. held e ≡ held d) old new
+  Related old new = AreRelated (λ b c. (form c ≡ form b) × ((generation c ≡ generation b) × ((end c ≡ end b) × (held_bank c ≡ held_bank b)))) (λ d e. held e ≡ held d) old new
 
   abbrev Kept : Disks B D → State → Type 0
-  Kept disks st = IsKeptOn generation end (λ b. view (held_bank b)) (λ d. view (held d)) honest_bank honest disks st
+  Kept disks st = IsKeptOn form generation end (λ b. view (held_bank b)) (λ d. view (held d)) honest_bank honest disks st
 
   pub kept_same : (old new : Disks B D) (st : State) → Related old new → Kept old st → Kept new st
   kept_same (InUse p) (InUse q) st related kept =
-      let so : IsKept (honest_bank p.bank) (honest p.other) (generation q.bank) (end q.bank) (view (held_bank q.bank)) (view (held q.other)) st =
-      subst (λ g. IsKept (honest_bank p.bank) (honest p.other) g (end q.bank) (view (held_bank q.bank)) (view (held q.other)) st) (sym related.0.0)
-      (subst (λ e. IsKept (honest_bank p.bank) (honest p.other) (generation p.bank) e (view (held_bank q.bank)) (view (held q.other)) st) (sym related.0.1.0)
-      (subst (λ h. IsKept (honest_bank p.bank) (honest p.other) (generation p.bank) (end p.bank) (view h) (view (held q.other)) st) (sym related.0.1.1)
-      (subst (λ h. IsKept (honest_bank p.bank) (honest p.other) (generation p.bank) (end p.bank) (view (held_bank p.bank)) (view h) st) (sym related.1.0) kept))) in
+      let so : IsKept (honest_bank p.bank) (honest p.other) (form q.bank) (generation q.bank) (end q.bank) (view (held_bank q.bank)) (view (held q.other)) st =
+      subst (λ f. IsKept (honest_bank p.bank) (honest p.other) f (generation q.bank) (end q.bank) (view (held_bank q.bank)) (view (held q.other)) st) (sym related.0.0)
+      (subst (λ g. IsKept (honest_bank p.bank) (honest p.other) (form p.bank) g (end q.bank) (view (held_bank q.bank)) (view (held q.other)) st) (sym related.0.1.0)
+      (subst (λ e. IsKept (honest_bank p.bank) (honest p.other) (form p.bank) (generation p.bank) e (view (held_bank q.bank)) (view (held q.other)) st) (sym related.0.1.1.0)
+      (subst (λ h. IsKept (honest_bank p.bank) (honest p.other) (form p.bank) (generation p.bank) (end p.bank) (view h) (view (held q.other)) st) (sym related.0.1.1.1)
+      (subst (λ h. IsKept (honest_bank p.bank) (honest p.other) (form p.bank) (generation p.bank) (end p.bank) (view (held_bank p.bank)) (view h) st) (sym related.1.0) kept)))) in
       record {
         stored = λ h. so.stored (all_banks q.bank p.bank h);
         durable = λ h. so.durable (all q.other p.other h);

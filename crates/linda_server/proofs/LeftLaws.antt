@@ -24,8 +24,8 @@ use Rattle.linda_server.specs.Lives.{AreLeft}
 
 -- What stands is no bank's lack.
 not_none : (left right : List ℕ) (st : State) → Stands left right st → IsNoBank left × IsNoBank right → ⊥
-not_none left right st (inl first) none = none.0 (is_candidate left first.generation (spell_state first.stands.opening) first.stands.records first.stands.bank)
-not_none left right st (inr first) none = none.1 (is_candidate right first.generation (spell_state first.stands.opening) first.stands.records first.stands.bank)
+not_none left right st (inl first) none = none.0 (is_candidate first.stands.form left first.generation (spell_state first.stands.form first.stands.opening) first.stands.records first.stands.bank)
+not_none left right st (inr first) none = none.1 (is_candidate first.stands.form right first.generation (spell_state first.stands.form first.stands.opening) first.stands.records first.stands.bank)
 
 -- Where there is nothing or the empty state, what stands is that one.
 pub empty_stands : (left right : List ℕ) (st : State) → Stands left right st → IsNothingOr empty_state left right → st ≡ empty_state

@@ -12,3 +12,4 @@ mod AgainLaws
 mod LeftLaws
 mod LivesLaws
 mod GoingLaws
+mod CommitLaws

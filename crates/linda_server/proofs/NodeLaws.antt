@@ -1,10 +1,12 @@
 -- What a durable server answers as a node.
 use Rattle.std.proofs.Common.{◌≡◌, ◌≢◌, ℕ, ◌<◌, inl, inr, Bool, true, false, List, [], ◌∷◌, ◌++◌, length, Result, Ok, Err, IfOk, OnOk, OnErr, IsErrOf, None, refl, sym, ap, ◌∙◌, subst, append-nil, arith}
 use Rattle.std.proofs.lemmas.Bool.{cond-true, cond-false}
+use Rattle.std.proofs.lemmas.List.Elements.{All-nil}
+use Rattle.linda_tuple.specs.declared.form.Form.{Form}
 use Rattle.std.specs.Global.{Vec}
 use Rattle.linda_wire.specs.declared.reply.Reply.{Reply}
 use Rattle.linda_state.specs.declared.deed.Deed.{Deed}
-use Rattle.linda_state.specs.DeedFormat.{written, payload}
+use Rattle.linda_state.specs.DeedFormat.{payload, SuitsForm}
 use Rattle.linda_state.specs.State.{State}
 use Rattle.linda_state.specs.After.{IsAfter}
 use Rattle.linda_step.specs.Store.{Store}
@@ -15,7 +17,7 @@ use Rattle.linda_step.specs.History.{leaves, Coming, History, Happens, history_o
 use Rattle.linda_store.specs.declared.node.NodeFault.{NodeFault}
 use Rattle.linda_store.specs.declared.node.NodeFault.TheVariants as faults
 use Rattle.linda_store.specs.Node.{Node, node_answer, MayRemain, IsDone, HadNoRoom, WentDown, Works, Closes, Snaps, IsOpened, Stops}
-use Rattle.linda_server.specs.Calls.{HasHandled}
+use Rattle.linda_server.specs.Calls.{HasHandled, IsTooMuch}
 use Rattle.linda_server.specs.Node.{shown}
 use Rattle.linda_server.specs.Reopening.{IsReopened}
 use Rattle.linda_server.proofs.CallLaws.{none_remains}
@@ -70,18 +72,19 @@ module _ (before after : State) (old new : Store) (was_down is_down : Bool) (los
   }
 
   -- An answer to what came.
-  module _ (xs : List Coming) (r : Result (Vec (ℕ × Reply)) NodeFault)
+  module _ (form : Form) (end limit : ℕ) (xs : List Coming) (r : Result (Vec (ℕ × Reply)) NodeFault)
       (done : IfOk r (λ sends. HasHandled old xs sends.items new))
       (up : OnOk r ((was_down ≡ false) × (is_down ≡ false)))
       (full : IsErrOf r faults.Full → New ≡ Old)
-      (room : IsErrOf r faults.Full → (all : History) → Happens old.state old.soft xs all → 0 < length (payload written all.deeds))
+      (room : IsErrOf r faults.Full → (all : History) → Happens old.state old.soft xs all → IsTooMuch form end limit all.deeds)
       (down : IsErrOf r faults.Down → is_down ≡ true)
       (stays : was_down ≡ true → IsErrOf r faults.Down × (New ≡ Old))
       (before_is : was_down ≡ false → is_down ≡ true → after ≡ old.state)
       (remains : was_down ≡ false → is_down ≡ true → MayRemain Old xs still_lost) where
-    some_deeds : (ds : List Deed) → 0 < length (payload written ds) → ds ≢ []
-    some_deeds [] some none = absurd (omega (arith, some))
-    some_deeds (d ∷ ds) some none = absurd (nothing_there d ds none)
+    some_deeds : (ds : List Deed) → IsTooMuch form end limit ds → ds ≢ []
+    some_deeds [] (inl unspelled) none = unspelled (All-nil (SuitsForm form))
+    some_deeds [] (inr some) none = absurd (omega (arith, some.0))
+    some_deeds (d ∷ ds) much none = absurd (nothing_there d ds none)
       where
         nothing_there : (d : Deed) (ds : List Deed) → d ∷ ds ≡ [] → ⊥
         nothing_there d ds same = let long = ap length same in omega (arith, long)

@@ -1,6 +1,7 @@
 -- What crashes leave of two disks, where deeds go onto the one that holds the bank in use, or nothing does.
 use Rattle.std.proofs.Common.{◌≡◌, ℕ, ◌≤◌, ◌⊎◌, inl, inr, Bool, true, false, ◌==◌, length, List, [], ◌∷◌, ◌++◌, refl, sym, ap, subst, ◌∙◌, append-nil, arith}
 use Rattle.std.proofs.lemmas.Grind.{flat_map-append}
+use Rattle.linda_tuple.specs.declared.form.Form.{Form}
 use Rattle.linda_state.specs.declared.deed.Deed.{Deed}
 use Rattle.linda_state.specs.State.{State}
 use Rattle.linda_state.specs.Proper.{AreDone}
@@ -45,9 +46,9 @@ either_turned : (st now : State) (image beside : List ℕ) → IsUsedFor st now 
 either_turned st now image beside = λ x. elim x [ inl a ↦ inl (inr a) | inr b ↦ inr (inr b) ]
 
 -- What is left of the other disk is lesser.
-beside_lesser : (generation end : ℕ) (used other : View) (st : State) → IsUp generation end used other st → IsTimed other
+beside_lesser : (form : Form) (generation end : ℕ) (used other : View) (st : State) → IsUp form generation end used other st → IsTimed other
     → (beside : List ℕ) → other.left_since other.moment beside → IsLesser generation beside
-beside_lesser generation end used other st up timed beside left =
+beside_lesser form generation end used other st up timed beside left =
     subst (IsLesser generation) (sym (up.durable beside (timed.only_now beside left))) up.lesser
 
 -- ---- one record more
@@ -56,34 +57,34 @@ deeds_more : (opening : State) (records : List (List Deed)) (deeds : List Deed) 
 deeds_more opening records deeds now =
     subst (λ ds. AreDone opening ds now) (sym (flat_map-append (λ (ds : List Deed). ds) records (deeds ∷ []) ∙ ap (λ l. deeds_in records ++ l) (append-nil deeds)))
 
-module _ (generation end : ℕ) (used other : View) (st now : State) (deeds : List Deed) (up : IsUp generation end used other st) (leads : LeadTo st deeds now) where
+module _ (form : Form) (generation end : ℕ) (used other : View) (st now : State) (deeds : List Deed) (up : IsUp form generation end used other st) (leads : LeadTo st deeds now) where
   done_more : AreDone up.stored.opening (deeds_in (up.stored.records ++ deeds ∷ [])) now
   done_more =
       deeds_more up.stored.opening up.stored.records deeds now
       (leads up.stored.opening (deeds_in up.stored.records) up.stored.ranges up.stored.done)
 
-  used_for : (image beside : List ℕ) → IsLesser generation beside → IsOldOrMore generation (spell_state up.stored.opening) up.stored.records deeds image → IsUsedFor st now image beside
+  used_for : (image beside : List ℕ) → IsLesser generation beside → IsOldOrMore form generation (spell_state form up.stored.opening) up.stored.records deeds image → IsUsedFor st now image beside
   used_for image beside lesser (inl bank) = inl record {
     generation = generation;
-    stands = record { opening = up.stored.opening; ranges = up.stored.ranges; fits = up.stored.fits; records = up.stored.records; bank = bank; done = up.stored.done };
+    stands = record { form = form; opening = up.stored.opening; ranges = up.stored.ranges; fits = up.stored.fits; records = up.stored.records; bank = bank; done = up.stored.done };
     lesser = lesser;
   }
   used_for image beside lesser (inr bank) = inr record {
     generation = generation;
-    stands = record { opening = up.stored.opening; ranges = up.stored.ranges; fits = up.stored.fits; records = up.stored.records ++ deeds ∷ []; bank = bank; done = done_more };
+    stands = record { form = form; opening = up.stored.opening; ranges = up.stored.ranges; fits = up.stored.fits; records = up.stored.records ++ deeds ∷ []; bank = bank; done = done_more };
     lesser = lesser;
   }
 
-  one_more : (is_right : Bool) (new : View) → IsTimed other → LeavesOnly used new (IsOldOrMore generation (spell_state up.stored.opening) up.stored.records deeds)
+  one_more : (is_right : Bool) (new : View) → IsTimed other → LeavesOnly used new (IsOldOrMore form generation (spell_state form up.stored.opening) up.stored.records deeds)
       → PairsSince (sides is_right used other) (sides is_right new other) (IsOldOrNew st now)
   one_more is_right new timed run =
       on_sides is_right used new other (IsUsedFor st now) (IsOldOrNew st now) run.later
-      (λ image beside l o. used_for image beside (beside_lesser generation end used other st up timed beside o) (run.each image l))
+      (λ image beside l o. used_for image beside (beside_lesser form generation end used other st up timed beside o) (run.each image l))
       (either_same st now) (either_turned st now)
 
 -- No record more.
-pub stored_same : (generation end : ℕ) (used : View) (st now : State) → LeadTo st [] now → IsStored generation end used st → IsStored generation end used now
-stored_same generation end used st now leads stored = record {
+pub stored_same : (form : Form) (generation end : ℕ) (used : View) (st now : State) → LeadTo st [] now → IsStored form generation end used st → IsStored form generation end used now
+stored_same form generation end used st now leads stored = record {
   opening = stored.opening;
   ranges = stored.ranges;
   fits = stored.fits;
@@ -93,33 +94,34 @@ stored_same generation end used st now leads stored = record {
 }
 
 -- One record more.
-pub stored_more : (generation end : ℕ) (used : View) (st now : State) (deeds : List Deed) → (stored : IsStored generation end used st) → LeadTo st deeds now
-    → (new_generation new_end : ℕ) (new : View) → new_generation ≡ generation → IsSettled new_generation (spell_state stored.opening) (stored.records ++ deeds ∷ []) new_end new
-    → IsStored new_generation new_end new now
-stored_more generation end used st now deeds stored leads new_generation new_end new same settled = record {
-  opening = stored.opening;
-  ranges = stored.ranges;
-  fits = stored.fits;
-  records = stored.records ++ deeds ∷ [];
-  settled = settled;
-  done = deeds_more stored.opening stored.records deeds now (leads stored.opening (deeds_in stored.records) stored.ranges stored.done);
-}
+pub stored_more : (form : Form) (generation end : ℕ) (used : View) (st now : State) (deeds : List Deed) → (stored : IsStored form generation end used st) → LeadTo st deeds now
+    → (new_form : Form) (new_generation new_end : ℕ) (new : View) → new_form ≡ form → IsSettled new_form new_generation (spell_state form stored.opening) (stored.records ++ deeds ∷ []) new_end new
+    → IsStored new_form new_generation new_end new now
+stored_more form generation end used st now deeds stored leads new_form new_generation new_end new same settled =
+    subst (λ f. IsStored f new_generation new_end new now) (sym same) (record {
+      opening = stored.opening;
+      ranges = stored.ranges;
+      fits = stored.fits;
+      records = stored.records ++ deeds ∷ [];
+      settled = subst (λ f. IsSettled f new_generation (spell_state form stored.opening) (stored.records ++ deeds ∷ []) new_end new) same settled;
+      done = deeds_more stored.opening stored.records deeds now (leads stored.opening (deeds_in stored.records) stored.ranges stored.done);
+    })
 
 -- What stands now.
-pub left_for : (generation end : ℕ) (used other : View) (st : State) → IsUp generation end used other st
+pub left_for : (form : Form) (generation end : ℕ) (used other : View) (st : State) → IsUp form generation end used other st
     → (image beside : List ℕ) → used.may_leave image → other.may_leave beside → IsInUse image beside st
-left_for generation end used other st up image beside l o = record {
+left_for form generation end used other st up image beside l o = record {
   generation = generation;
   stands = subst (λ file. StandsOn file generation st) (sym (up.stored.settled.durable image l))
-      (record { opening = up.stored.opening; ranges = up.stored.ranges; fits = up.stored.fits; records = up.stored.records; bank = up.stored.settled.file; done = up.stored.done });
+      (record { form = form; opening = up.stored.opening; ranges = up.stored.ranges; fits = up.stored.fits; records = up.stored.records; bank = up.stored.settled.file; done = up.stored.done });
   lesser = subst (IsLesser generation) (sym (up.durable beside o)) up.lesser;
 }
 
 -- What stands, where no disk is touched.
-stands_for : (generation end : ℕ) (used other : View) (st : State) → IsUp generation end used other st → IsTimed used → IsTimed other
+stands_for : (form : Form) (generation end : ℕ) (used other : View) (st : State) → IsUp form generation end used other st → IsTimed used → IsTimed other
     → (image beside : List ℕ) → used.left_since used.moment image → other.left_since other.moment beside → IsInUse image beside st
-stands_for generation end used other st up timed_used timed image beside l o =
-    left_for generation end used other st up image beside (timed_used.only_now image l) (timed.only_now beside o)
+stands_for form generation end used other st up timed_used timed image beside l o =
+    left_for form generation end used other st up image beside (timed_used.only_now image l) (timed.only_now beside o)
 
 pub now_on_sides : (is_right : Bool) (used other : View) (st : State)
     → ((image beside : List ℕ) → used.may_leave image → other.may_leave beside → IsInUse image beside st)
@@ -129,41 +131,41 @@ now_on_sides false used other st each left right l r = inl (each left right l r)
 
 -- ---- the two disks of a server
 
-module _ {B D : Type 0} (generation end : B → ℕ) (bank : B → View) (disk : D → View) (honest_bank : B → Type 0) (honest : D → Type 0)
+module _ {B D : Type 0} (form : B → Form) (generation end : B → ℕ) (bank : B → View) (disk : D → View) (honest_bank : B → Type 0) (honest : D → Type 0)
     (timed_bank : (b : B) → honest_bank b → IsTimed (bank b)) (timed : (d : D) → honest d → IsTimed (disk d)) where
   -- Where no disk is touched, the same state stands.
-  pub still : (disks : Disks B D) (st : State) → AreHonest honest_bank honest disks → IsUpOn generation end bank disk disks st
+  pub still : (disks : Disks B D) (st : State) → AreHonest honest_bank honest disks → IsUpOn form generation end bank disk disks st
       → PairsSince (both bank disk disks) (both bank disk disks) (λ left right. Stands left right st)
   still (InUse pair) st are up =
       on_sides pair.is_right (bank pair.bank) (bank pair.bank) (disk pair.other) (λ image beside. IsInUse image beside st) (λ left right. Stands left right st) (omega arith)
-      (stands_for (generation pair.bank) (end pair.bank) (bank pair.bank) (disk pair.other) st up (timed_bank pair.bank are.0) (timed pair.other are.1))
+      (stands_for (form pair.bank) (generation pair.bank) (end pair.bank) (bank pair.bank) (disk pair.other) st up (timed_bank pair.bank are.0) (timed pair.other are.1))
       (λ image beside x. inl x) (λ image beside x. inr x)
   still (Shut left right) st are up = absurd up
   still Away st are up = absurd up
 
   -- Now it stands.
-  pub stands_now : (disks : Disks B D) (st : State) → IsUpOn generation end bank disk disks st → PairsNow (both bank disk disks) (λ left right. Stands left right st)
+  pub stands_now : (disks : Disks B D) (st : State) → IsUpOn form generation end bank disk disks st → PairsNow (both bank disk disks) (λ left right. Stands left right st)
   stands_now (InUse pair) st up =
-      now_on_sides pair.is_right (bank pair.bank) (disk pair.other) st (left_for (generation pair.bank) (end pair.bank) (bank pair.bank) (disk pair.other) st up)
+      now_on_sides pair.is_right (bank pair.bank) (disk pair.other) st (left_for (form pair.bank) (generation pair.bank) (end pair.bank) (bank pair.bank) (disk pair.other) st up)
   stands_now (Shut left right) st up = absurd up
   stands_now Away st up = absurd up
 
-  pub still_for : (disks : Disks B D) (st now : State) (deeds : List Deed) → deeds ≡ [] → AreHonest honest_bank honest disks → IsUpOn generation end bank disk disks st
+  pub still_for : (disks : Disks B D) (st now : State) (deeds : List Deed) → deeds ≡ [] → AreHonest honest_bank honest disks → IsUpOn form generation end bank disk disks st
       → LeadTo st deeds now → PairsSince (both bank disk disks) (both bank disk disks) (IsOldOrNew st now)
   still_for disks st now deeds none are up leads =
       let so = still disks st are up in
       record { left_later = so.left_later; right_later = so.right_later; each = λ left right l r. inl (so.each left right l r) }
 
   -- What is known of honest disks.
-  pub up_of : (disks : Disks B D) (st : State) → IsKeptOn generation end bank disk honest_bank honest disks st → AreHonest honest_bank honest disks → IsUpOn generation end bank disk disks st
+  pub up_of : (disks : Disks B D) (st : State) → IsKeptOn form generation end bank disk honest_bank honest disks st → AreHonest honest_bank honest disks → IsUpOn form generation end bank disk disks st
   up_of (InUse pair) st kept are = record { stored = kept.stored are.0; lesser = kept.lesser are.0 are.1; durable = kept.durable are.1 }
   up_of (Shut left right) st kept are = absurd kept
   up_of Away st kept are = absurd kept
 
-  pub kept_still : (disks : Disks B D) (st now : State) (deeds : List Deed) → deeds ≡ [] → IsKeptOn generation end bank disk honest_bank honest disks st → LeadTo st deeds now
-      → IsKeptOn generation end bank disk honest_bank honest disks now
+  pub kept_still : (disks : Disks B D) (st now : State) (deeds : List Deed) → deeds ≡ [] → IsKeptOn form generation end bank disk honest_bank honest disks st → LeadTo st deeds now
+      → IsKeptOn form generation end bank disk honest_bank honest disks now
   kept_still (InUse pair) st now deeds none kept leads = record {
-    stored = λ h. stored_same (generation pair.bank) (end pair.bank) (bank pair.bank) st now (subst (λ ds. LeadTo st ds now) none leads) (kept.stored h);
+    stored = λ h. stored_same (form pair.bank) (generation pair.bank) (end pair.bank) (bank pair.bank) st now (subst (λ ds. LeadTo st ds now) none leads) (kept.stored h);
     durable = kept.durable;
     lesser = kept.lesser;
   }
@@ -172,30 +174,31 @@ module _ {B D : Type 0} (generation end : B → ℕ) (bank : B → View) (disk :
 
   -- Deeds go onto the bank in use.
   pub put_on : (disks : Disks B D) (pair : Pair B D) (new : View) (deeds : List Deed) → disks ≡ InUse pair
-      → ((body : List ℕ) (records : List (List Deed)) → honest_bank pair.bank → IsSettled (generation pair.bank) body records (end pair.bank) (bank pair.bank)
-      → LeavesOnly (bank pair.bank) new (IsOldOrMore (generation pair.bank) body records deeds))
-      → (st now : State) → AreHonest honest_bank honest disks → IsUpOn generation end bank disk disks st → LeadTo st deeds now
+      → ((body : List ℕ) (records : List (List Deed)) → honest_bank pair.bank → IsSettled (form pair.bank) (generation pair.bank) body records (end pair.bank) (bank pair.bank)
+      → LeavesOnly (bank pair.bank) new (IsOldOrMore (form pair.bank) (generation pair.bank) body records deeds))
+      → (st now : State) → AreHonest honest_bank honest disks → IsUpOn form generation end bank disk disks st → LeadTo st deeds now
       → PairsSince (both bank disk disks) (sides pair.is_right new (disk pair.other)) (IsOldOrNew st now)
   put_on disks pair new deeds is any_moment st now are up leads =
       let are_so : AreHonest honest_bank honest (InUse pair) = subst (AreHonest honest_bank honest) is are in
-      let up_so : IsUpOn generation end bank disk (InUse pair) st = subst (λ d. IsUpOn generation end bank disk d st) is up in
+      let up_so : IsUpOn form generation end bank disk (InUse pair) st = subst (λ d. IsUpOn form generation end bank disk d st) is up in
       subst (λ d. PairsSince (both bank disk d) (sides pair.is_right new (disk pair.other)) (IsOldOrNew st now)) (sym is)
-      (one_more (generation pair.bank) (end pair.bank) (bank pair.bank) (disk pair.other) st now deeds up_so leads pair.is_right new (timed pair.other are_so.1)
-      (any_moment (spell_state up_so.stored.opening) up_so.stored.records are_so.0 up_so.stored.settled))
+      (one_more (form pair.bank) (generation pair.bank) (end pair.bank) (bank pair.bank) (disk pair.other) st now deeds up_so leads pair.is_right new (timed pair.other are_so.1)
+      (any_moment (spell_state (form pair.bank) up_so.stored.opening) up_so.stored.records are_so.0 up_so.stored.settled))
 
-  pub kept_on : (disks : Disks B D) (pair : Pair B D) (is_new_honest : Type 0) (new_generation new_end : ℕ) (new : View) (deeds : List Deed) → disks ≡ InUse pair → new_generation ≡ generation pair.bank
+  pub kept_on : (disks : Disks B D) (pair : Pair B D) (is_new_honest : Type 0) (new_form : Form) (new_generation new_end : ℕ) (new : View) (deeds : List Deed) → disks ≡ InUse pair
+      → new_form ≡ form pair.bank → new_generation ≡ generation pair.bank
       → (is_new_honest → honest_bank pair.bank)
-      → ((body : List ℕ) (records : List (List Deed)) → honest_bank pair.bank → IsSettled (generation pair.bank) body records (end pair.bank) (bank pair.bank)
-      → IsSettled new_generation body (records ++ deeds ∷ []) new_end new)
-      → (st now : State) → IsKeptOn generation end bank disk honest_bank honest disks st → LeadTo st deeds now
-      → IsKept is_new_honest (honest pair.other) new_generation new_end new (disk pair.other) now
-  kept_on disks pair is_new_honest new_generation new_end new deeds is same was done st now kept leads =
-      let so : IsKeptOn generation end bank disk honest_bank honest (InUse pair) st = subst (λ d. IsKeptOn generation end bank disk honest_bank honest d st) is kept in
+      → ((body : List ℕ) (records : List (List Deed)) → honest_bank pair.bank → IsSettled (form pair.bank) (generation pair.bank) body records (end pair.bank) (bank pair.bank)
+      → IsSettled new_form new_generation body (records ++ deeds ∷ []) new_end new)
+      → (st now : State) → IsKeptOn form generation end bank disk honest_bank honest disks st → LeadTo st deeds now
+      → IsKept is_new_honest (honest pair.other) new_form new_generation new_end new (disk pair.other) now
+  kept_on disks pair is_new_honest new_form new_generation new_end new deeds is same_form same was done st now kept leads =
+      let so : IsKeptOn form generation end bank disk honest_bank honest (InUse pair) st = subst (λ d. IsKeptOn form generation end bank disk honest_bank honest d st) is kept in
       record {
         stored = λ h.
             let stored = so.stored (was h) in
-            stored_more (generation pair.bank) (end pair.bank) (bank pair.bank) st now deeds stored leads new_generation new_end new same
-            (done (spell_state stored.opening) stored.records (was h) stored.settled);
+            stored_more (form pair.bank) (generation pair.bank) (end pair.bank) (bank pair.bank) st now deeds stored leads new_form new_generation new_end new same_form
+            (done (spell_state (form pair.bank) stored.opening) stored.records (was h) stored.settled);
         durable = so.durable;
         lesser = λ h o. subst (λ g. IsLesser g (disk pair.other).seen) (sym same) (so.lesser (was h) o);
       }

@@ -18,7 +18,7 @@ module _ (D : Type 0) (g : Ghosts D) (s : Durable D g) where
     pub ready : s.down ≡ false → is_ready (λ b. b.is_spent) disks ≡ true
     pub limited : s.down ≡ false → number_of (λ b. b.limit) disks ≡ s.limit
     pub none_lost : s.down ≡ false → s.lost.items ≡ []
-    pub kept : s.down ≡ false → ∥ IsKeptOn (λ b. b.generation) (λ b. b.end) (λ b. g.view b.disk) g.view (λ b. g.honest b.disk) g.honest disks s.store.state ∥₁
+    pub kept : s.down ≡ false → ∥ IsKeptOn (λ b. b.form) (λ b. b.generation) (λ b. b.end) (λ b. g.view b.disk) g.view (λ b. g.honest b.disk) g.honest disks s.store.state ∥₁
     pub fallen : s.down ≡ true → AreHonest (λ b. g.honest b.disk) g.honest disks → PairsNow (both (λ b. g.view b.disk) g.view disks) (IsWithOrWithout s.before.value s.lost.items)
 
   abbrev pub with_disks : (disks : Disks (Bank D g) D) → Keeps disks → Durable D g
@@ -70,7 +70,7 @@ module _ (D : Type 0) (g : Ghosts D) (s : Durable D g) where
       one_lost : IsProp (s.down ≡ false → s.lost.items ≡ [])
       one_lost = hlevel props
 
-      one_kept : IsProp (s.down ≡ false → ∥ IsKeptOn (λ (b : Bank D g). b.generation) (λ b. b.end) (λ b. g.view b.disk) g.view (λ b. g.honest b.disk) g.honest disks s.store.state ∥₁)
+      one_kept : IsProp (s.down ≡ false → ∥ IsKeptOn (λ (b : Bank D g). b.form) (λ b. b.generation) (λ b. b.end) (λ b. g.view b.disk) g.view (λ b. g.honest b.disk) g.honest disks s.store.state ∥₁)
       one_kept = hlevel props
 
       one_fallen : IsProp (s.down ≡ true → AreHonest (λ (b : Bank D g). g.honest b.disk) g.honest disks → PairsNow (both (λ (b : Bank D g). g.view b.disk) g.view disks) (IsWithOrWithout s.before.value s.lost.items))

@@ -1,11 +1,12 @@
 -- What a crash within a call of a server may leave of its two banks.
 use Rattle.std.specs.Prelude.{ℕ, ◌+◌, ◌<◌, ◌≤◌, ◌⊎◌, List, ◌++◌, length}
+use Rattle.linda_tuple.specs.declared.form.Form.{Form}
 use Rattle.linda_wire.specs.declared.message.Message.{Message}
 use Rattle.linda_wire.specs.declared.reply.Reply.{Reply}
 use Rattle.linda_state.specs.declared.deed.Deed.{Deed}
 use Rattle.linda_state.specs.State.{State, IsState}
 use Rattle.linda_state.specs.Proper.{AreDone}
-use Rattle.linda_state.specs.DeedFormat.{written, payload}
+use Rattle.linda_state.specs.DeedFormat.{payload, IsUnspelled}
 use Rattle.linda_step.specs.History.{Coming, History, Happens, Answers, history_of}
 use Rattle.linda_step.specs.Store.{Store}
 use Rattle.linda_journal.specs.Renewal.{IsNoBank}
@@ -61,10 +62,17 @@ StandsFor st left right = ∥ Stands left right st ∥₁
 abbrev pub IsNothingOr : State → List ℕ → List ℕ → Type 0
 IsNothingOr st left right = (IsNoBank left × IsNoBank right) ⊎ Stands left right st
 
--- The messages would do deeds, and the record of them, after this end, would pass the limit.
-abbrev pub HasNoRoom : Store → List (ℕ × Message) → ℕ → ℕ → Type 0
-HasNoRoom old ms end limit = (all : History) → Answers old.state old.soft ms all
-    → (0 < length (payload written all.deeds)) × (limit < end + RECORD_BYTES + length (payload written all.deeds))
+-- The deeds have no record on a bank in this form: one of them has no spelling there; or there are some, and their
+-- record, after this end, would pass the limit.
+abbrev pub IsTooMuch : Form → ℕ → ℕ → List Deed → Type 0
+IsTooMuch form end limit deeds =
+    IsUnspelled form deeds
+    ⊎ ((0 < length (payload form deeds)) × (limit < end + RECORD_BYTES + length (payload form deeds)))
+
+-- The deeds that the messages would do have no record there.
+abbrev pub HasNoRoom : Store → List (ℕ × Message) → Form → ℕ → ℕ → Type 0
+HasNoRoom old ms form end limit =
+    (all : History) → Answers old.state old.soft ms all → IsTooMuch form end limit all.deeds
 
 -- The limit is one that a bank may have.
 abbrev pub IsLimit : ℕ → Type 0

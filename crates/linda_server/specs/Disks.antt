@@ -1,7 +1,10 @@
 -- The two disks of a server: which is which, and the state that stands on them. What a bank and a
 -- disk say is handed in.
 use Rattle.std.specs.Prelude.{◌≡◌, ℕ, ◌+◌, Bool, true, false, not, [], if◌then◌else◌, Option, Some, None}
+use Rattle.linda_tuple.specs.declared.form.Form.{Form}
+use Rattle.linda_tuple.specs.declared.form.Form.TheVariants.{One, Two}
 use Rattle.linda_state.specs.State.{State}
+use Rattle.linda_state.specs.DeedFormat.{written}
 use Rattle.linda_disk.specs.View.{View, IsDurable}
 use Rattle.linda_snap.specs.Stands.{IsLesser, IsStored, IsUp}
 use Rattle.linda_server.specs.declared.disks.Disks.{Disks}
@@ -60,31 +63,48 @@ number_of number (InUse pair) = number pair.bank
 number_of number (Shut left right) = 0
 number_of number Away = 0
 
--- The bank in use, of this generation and with this end, stands for the state, and a crash now
+-- The form of the bank in use; where none is, that of new banks.
+abbrev pub form_of : {B D : Type 0} → (B → Form) → Disks B D → Form
+form_of form (InUse pair) = form pair.bank
+form_of form (Shut left right) = written
+form_of form Away = written
+
+-- Two forms are the same.
+abbrev pub are_same : Form → Form → Bool
+are_same One One = true
+are_same One Two = false
+are_same Two One = false
+are_same Two Two = true
+
+-- The form is another than that of new banks, which a snapshot writes.
+abbrev pub is_old : Form → Bool
+is_old form = not (are_same form written)
+
+-- The bank in use, in this form, of this generation and with this end, stands for the state, and a crash now
 -- leaves them so.
-abbrev pub IsUpOn : {B D : Type 0} → (B → ℕ) → (B → ℕ) → (B → View) → (D → View)
+abbrev pub IsUpOn : {B D : Type 0} → (B → Form) → (B → ℕ) → (B → ℕ) → (B → View) → (D → View)
     → Disks B D → State → Type 0
-IsUpOn generation end bank disk (InUse pair) st =
-    IsUp (generation pair.bank) (end pair.bank) (bank pair.bank) (disk pair.other) st
-IsUpOn generation end bank disk (Shut left right) st = ⊥
-IsUpOn generation end bank disk Away st = ⊥
+IsUpOn form generation end bank disk (InUse pair) st =
+    IsUp (form pair.bank) (generation pair.bank) (end pair.bank) (bank pair.bank) (disk pair.other) st
+IsUpOn form generation end bank disk (Shut left right) st = ⊥
+IsUpOn form generation end bank disk Away st = ⊥
 
 -- What is known of a bank in use and of the other disk, each as far as the disks are honest: the bank stands for the
 -- state, a crash leaves the other disk as it reads, and that one holds a lesser bank or none.
-pub record IsKept (is_used_honest is_other_honest : Type 0) (generation end : ℕ) (used other : View)
+pub record IsKept (is_used_honest is_other_honest : Type 0) (form : Form) (generation end : ℕ) (used other : View)
     (st : State) : Type 0 where
-  pub stored : is_used_honest → IsStored generation end used st
+  pub stored : is_used_honest → IsStored form generation end used st
   pub durable : is_other_honest → IsDurable other
   pub lesser : is_used_honest → is_other_honest → IsLesser generation other.seen
 
 -- So it is of the bank in use and the other disk.
-abbrev pub IsKeptOn : {B D : Type 0} → (B → ℕ) → (B → ℕ) → (B → View) → (D → View) → (B → Type 0)
+abbrev pub IsKeptOn : {B D : Type 0} → (B → Form) → (B → ℕ) → (B → ℕ) → (B → View) → (D → View) → (B → Type 0)
     → (D → Type 0) → Disks B D → State → Type 0
-IsKeptOn generation end bank disk honest_bank honest (InUse pair) st =
-    IsKept (honest_bank pair.bank) (honest pair.other) (generation pair.bank) (end pair.bank) (bank pair.bank)
-    (disk pair.other) st
-IsKeptOn generation end bank disk honest_bank honest (Shut left right) st = ⊥
-IsKeptOn generation end bank disk honest_bank honest Away st = ⊥
+IsKeptOn form generation end bank disk honest_bank honest (InUse pair) st =
+    IsKept (honest_bank pair.bank) (honest pair.other) (form pair.bank) (generation pair.bank) (end pair.bank)
+    (bank pair.bank) (disk pair.other) st
+IsKeptOn form generation end bank disk honest_bank honest (Shut left right) st = ⊥
+IsKeptOn form generation end bank disk honest_bank honest Away st = ⊥
 
 -- The same places hold what is related so.
 abbrev pub AreRelated : {B D : Type 0} → (B → B → Type 0) → (D → D → Type 0) → Disks B D → Disks B D → Type 0

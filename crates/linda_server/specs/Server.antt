@@ -24,12 +24,13 @@ module _ {D : Type 0} {g : Ghosts D} where
 
   -- The bank in use stands for the state, and a crash now leaves the two so.
   abbrev pub IsUpFor : Disks (Bank D g) D → State → Type 0
-  IsUpFor disks st = IsUpOn (λ b. b.generation) (λ b. b.end) (λ b. g.view b.disk) g.view disks st
+  IsUpFor disks st = IsUpOn (λ b. b.form) (λ b. b.generation) (λ b. b.end) (λ b. g.view b.disk) g.view disks st
 
   -- The same, each as far as the disks are honest.
   abbrev pub IsKeptFor : Disks (Bank D g) D → State → Type 0
   IsKeptFor disks st =
-      IsKeptOn (λ b. b.generation) (λ b. b.end) (λ b. g.view b.disk) g.view (λ b. g.honest b.disk) g.honest disks st
+      IsKeptOn (λ b. b.form) (λ b. b.generation) (λ b. b.end) (λ b. g.view b.disk) g.view (λ b. g.honest b.disk) g.honest
+      disks st
 
   -- Four calls changed or synced the disk of the bank in use, if it is honest, and the other disk is as it was.
   abbrev pub IsPutOn : Disks (Bank D g) D → Disks (Bank D g) D → Type 0

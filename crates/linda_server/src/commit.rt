@@ -1,14 +1,14 @@
 //! How deeds come onto the bank in use.
 
-ghost use Rattle.std.specs.Prelude.{◌≡◌, ◌<◌, ◌≤◌, ◌+◌, ◌↔◌, ◌⊎◌, ◌≢◌, [], true, length, IfErr, OnOk, IsErrOf};
-ghost use Rattle.linda_state.specs.DeedFormat.{written, payload};
+ghost use Rattle.std.specs.Prelude.{◌≡◌, ◌<◌, ◌≤◌, ◌+◌, ◌↔◌, ◌⊎◌, ◌≢◌, [], true, length, All, IfErr, OnOk, IsErrOf};
+ghost use Rattle.linda_state.specs.DeedFormat.{payload, SuitsForm};
 ghost use Rattle.linda_state.specs.State as state;
 ghost use Rattle.linda_disk.specs.Disk.{TellsFailures};
 ghost use Rattle.linda_step.specs.declared.size.TheConstants.{MAX_BATCH};
 ghost use Rattle.linda_server.specs.declared.limits.TheConstants.{RECORD_BYTES};
 ghost use Rattle.linda_server.specs.Pairs.{PairsSince};
 ghost use Rattle.linda_server.specs.Server.{both_of, BothHonest, failures_of, IsUpFor, IsKeptFor, IsPutOn};
-ghost use Rattle.linda_server.specs.Disks.{is_there, is_ready, number_of};
+ghost use Rattle.linda_server.specs.Disks.{is_there, is_ready, form_of, number_of};
 ghost use Rattle.linda_server.specs.Calls.{LeadTo, IsOldOrNew};
 
 use crate::disks::{Disks, Pair};
@@ -31,8 +31,10 @@ pub(crate) fn commit<D: Disk>(
 ) -> Result<(), ServeFault>
     requires few { length deeds.now ≤ MAX_BATCH }
     requires ready { is_ready (λ b. b.is_spent) disks.old ≡ true }
+    requires suit { All (SuitsForm (form_of (λ b. b.form) disks.old)) deeds.now }
     requires room { 0 < length deeds.now
-        → number_of (λ b. b.end) disks.old + RECORD_BYTES + length (payload written deeds.now)
+        → number_of (λ b. b.end) disks.old + RECORD_BYTES
+        + length (payload (form_of (λ b. b.form) disks.old) deeds.now)
         ≤ number_of (λ b. b.limit) disks.old }
     // At no moment crashes leave anything but the old state, or the one after all of these deeds;
     ensures any_moment { (st new : state.State)

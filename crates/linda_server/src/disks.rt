@@ -1,7 +1,12 @@
 //! The two disks of a server, of which one holds the bank in use.
 
+ghost use Rattle.std.specs.Prelude.{◌≡◌};
+ghost use Rattle.linda_server.specs.Disks as spec;
+
 use linda_disk::{Disk, MemDisk};
 use linda_journal::Bank;
+use linda_state::BANK_FORM;
+use linda_tuple::Form;
 
 /// The two disks of a server. What a bank and a disk are is left to who uses them.
 #[derive(Drop)]
@@ -19,6 +24,16 @@ pub(crate) enum Disks<B, D> {
     Away,
 }
 
+/// Whether the form is another than that of new banks, which a snapshot writes.
+pub(crate) fn is_old(form: Form) -> bool
+    ensures { result ≡ spec.is_old form }
+{
+    match (form, BANK_FORM) {
+        (Form::One, Form::One) | (Form::Two, Form::Two) => false,
+        (Form::One, Form::Two) | (Form::Two, Form::One) => true,
+    }
+}
+
 /// A bank in use, and the other disk.
 #[derive(Drop)]
 pub(crate) struct Pair<B, D> {
@@ -32,7 +47,17 @@ pub(crate) struct Pair<B, D> {
 
 impl<D: Disk> Disks<Bank<D>, D> {
     ghost use Rattle.std.specs.Prelude.{◌≡◌, true, Some};
-    ghost use Rattle.linda_server.specs.Disks.{disks_of, is_there, number_of};
+    ghost use Rattle.linda_server.specs.Disks.{disks_of, is_there, form_of, number_of};
+
+    /// The form of the bank in use; where none is in use, that of new banks.
+    pub(crate) fn form(&self) -> Form
+        ensures { result ≡ form_of (λ b. b.form) self.now }
+    {
+        match self {
+            Disks::InUse(pair) => pair.bank.form(),
+            Disks::Shut { .. } | Disks::Away => BANK_FORM,
+        }
+    }
 
     /// The offset of the closed gate at which the journal of the bank in use ends; 0 where none is
     /// in use.
@@ -87,8 +112,8 @@ impl Disks<Bank<MemDisk>, MemDisk> {
 
     /// Lets so many device calls more pass on each disk. Inside the next one the machine stops.
     pub(crate) fn fuse(&mut self, passes: u64)
-        ensures same { AreRelated (λ b c. (c.generation ≡ b.generation)
-            × ((c.end ≡ b.end) × (history c.disk ≡ history b.disk)))
+        ensures same { AreRelated (λ b c. (c.form ≡ b.form) × ((c.generation ≡ b.generation)
+            × ((c.end ≡ b.end) × (history c.disk ≡ history b.disk))))
             (λ d e. history e ≡ history d) self.old self.new }
         ensures there { is_there self.new ≡ is_there self.old }
         ensures ready { is_ready (λ b. b.is_spent) self.new ≡ is_ready (λ b. b.is_spent) self.old }

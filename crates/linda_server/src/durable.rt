@@ -9,15 +9,15 @@ mod snapshot;
 mod stop;
 mod trim;
 
-ghost use Rattle.std.specs.Prelude.{◌≡◌, ◌≤◌, [], nat_le, true, false, Some};
+ghost use Rattle.std.specs.Prelude.{◌≡◌, ◌≤◌, ◌||◌, [], nat_le, true, false, Some};
 ghost use Rattle.linda_server.specs.declared.limits.TheConstants.{SNAPSHOT_RECORDS};
 ghost use Rattle.linda_server.specs.Pairs.{PairsNow};
 ghost use Rattle.linda_server.specs.Disks.{disks_of};
 ghost use Rattle.linda_server.specs.Server.{both_of, BothHonest, IsKeptFor, StandNow};
-ghost use Rattle.linda_server.specs.Disks.{is_there, is_ready, number_of};
+ghost use Rattle.linda_server.specs.Disks.{is_there, is_ready, form_of, is_old, number_of};
 ghost use Rattle.linda_server.specs.Calls.{IsLimit, IsWithOrWithout};
 
-use crate::disks::Disks;
+use crate::disks::{Disks, is_old};
 use crate::limits::SNAPSHOT_RECORDS;
 use linda_bag::IndexBag;
 use linda_disk::Disk;
@@ -92,11 +92,20 @@ impl<D: Disk> Durable<D> {
         self.down
     }
 
-    /// Whether the bank in use has so many records that a snapshot is due.
+    /// Whether a snapshot is due: the bank in use has so many records, or is not in the form of new banks, which every
+    /// snapshot has.
     pub fn needs_snapshot(&self) -> bool
-        ensures { result ≡ nat_le SNAPSHOT_RECORDS (number_of (λ b. b.records) self.now.disks) }
+        ensures { result ≡ (is_old (form_of (λ b. b.form) self.now.disks)
+            || nat_le SNAPSHOT_RECORDS (number_of (λ b. b.records) self.now.disks)) }
     {
-        self.disks.records() >= SNAPSHOT_RECORDS
+        self.is_of_old_form() || self.disks.records() >= SNAPSHOT_RECORDS
+    }
+
+    /// Whether the bank in use is not in the form of new banks. A snapshot mends that.
+    pub fn is_of_old_form(&self) -> bool
+        ensures { result ≡ is_old (form_of (λ b. b.form) self.now.disks) }
+    {
+        is_old(self.disks.form())
     }
 
     /// How many records the bank in use has: those since the last snapshot.

@@ -3,6 +3,7 @@
 ghost use Rattle.std.specs.Prelude.{◌≡◌, ◌<◌, ◌≤◌, ◌+◌, ◌^◌, ◌⊎◌, ◌↔◌, []};
 ghost use Rattle.std.specs.Prelude.{true, false, length, IfOk, IfErr, OnOk, IsErrOf};
 ghost use Rattle.linda_state.specs.State.{empty_state};
+ghost use Rattle.linda_state.specs.DeedFormat.{written};
 ghost use Rattle.linda_disk.specs.Disk.{TellsFailures, TellsFailuresOfTwo};
 ghost use Rattle.linda_disk.specs.Run.{LeavesOnly};
 ghost use Rattle.linda_snap.specs.Snapshot.{spell_state, FitsState};
@@ -107,9 +108,9 @@ pub(crate) fn of_device(fault: DiskFault) -> OpenFault
 ///
 /// `AllocError` where memory runs out.
 pub(crate) fn spell_empty(alloc: Global) -> Result<Vec<u8>, AllocError>
-    ensures bytes { IfOk result (λ v. v.items ≡ spell_state empty_state) }
-    ensures fits { OnOk result (FitsState empty_state) }
-    ensures short { length (spell_state empty_state) ≡ 16 }
+    ensures bytes { IfOk result (λ v. v.items ≡ spell_state written empty_state) }
+    ensures fits { OnOk result (FitsState written empty_state) }
+    ensures short { length (spell_state written empty_state) ≡ 16 }
 {
     let state: State<IndexBag> = State::new(alloc);
     let mut body = Vec::new(alloc);

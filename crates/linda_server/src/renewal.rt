@@ -42,7 +42,7 @@ pub(crate) fn renew<B: Bag, D: Disk>(
     // at Ok the new bank is in use, and stands for it.
     ensures kept { IsKeptFor disks.old state.now
         → OnOk result (IsKeptFor disks.new state.now) }
-    ensures switched { OnOk result (IsSwitched (λ b. b.generation) (λ b. b.records) (λ b. b.disk)
+    ensures switched { OnOk result (IsSwitched (λ b. b.form) (λ b. b.generation) (λ b. b.records) (λ b. b.disk)
         disks.old disks.new) }
     // It is a write for each piece of the new bank, a sync, a write and a sync; and first a write and a sync, where the
     // disk's first gate is to be closed.

@@ -1,6 +1,7 @@
 -- One record more on the bank in use: what stands then.
 use Rattle.std.proofs.Common.{◌≡◌, ℕ, ◌⊎◌, inl, inr, List, [], ◌∷◌, ◌++◌, refl, sym, ap, subst, append_assoc, append-nil}
 use Rattle.std.proofs.lemmas.List.{flat_map_more}
+use Rattle.linda_tuple.specs.declared.form.Form.{Form}
 use Rattle.linda_state.specs.declared.deed.Deed.{Deed}
 use Rattle.linda_state.specs.State.{State, IsState}
 use Rattle.linda_state.specs.After.{IsAfter}
@@ -39,15 +40,16 @@ more_from opening st new records ds ranges first second =
     subst (λ l. AreDone opening l new) (deeds_more records ds) (joined_done opening st new (deeds_in records) ds ranges first second)
 
 -- What an append leaves of the bank in use stands for the old state, or for the new one.
-pub stands_with : (file other : List ℕ) (st new : State) (ds : List Deed) (used : IsInUse file other st) → AreDone st ds new → (image : List ℕ) → IsOldOrMore used.generation (spell_state used.stands.opening) used.stands.records ds image → IsInUse image other st ⊎ IsInUse image other new
+pub stands_with : (file other : List ℕ) (st new : State) (ds : List Deed) (used : IsInUse file other st) → AreDone st ds new → (image : List ℕ) → IsOldOrMore used.stands.form used.generation (spell_state used.stands.form used.stands.opening) used.stands.records ds image → IsInUse image other st ⊎ IsInUse image other new
 stands_with file other st new ds used done image (inl bank) = inl record {
   generation = used.generation;
-  stands = record { opening = used.stands.opening; ranges = used.stands.ranges; fits = used.stands.fits; records = used.stands.records; bank = bank; done = used.stands.done };
+  stands = record { form = used.stands.form; opening = used.stands.opening; ranges = used.stands.ranges; fits = used.stands.fits; records = used.stands.records; bank = bank; done = used.stands.done };
   lesser = used.lesser;
 }
 stands_with file other st new ds used done image (inr bank) = inr record {
   generation = used.generation;
   stands = record {
+    form = used.stands.form;
     opening = used.stands.opening;
     ranges = used.stands.ranges;
     fits = used.stands.fits;
@@ -59,8 +61,8 @@ stands_with file other st new ds used done image (inr bank) = inr record {
 }
 
 -- And once it is done, it is up for the new one.
-pub up_with : (generation end new_end : ℕ) (used other v : View) (st new : State) (ds : List Deed) (up : IsUp generation end used other st) → AreDone st ds new → IsSettled generation (spell_state up.stored.opening) (up.stored.records ++ ds ∷ []) new_end v → IsUp generation new_end v other new
-up_with generation end new_end used other v st new ds up done settled = record {
+pub up_with : (form : Form) (generation end new_end : ℕ) (used other v : View) (st new : State) (ds : List Deed) (up : IsUp form generation end used other st) → AreDone st ds new → IsSettled form generation (spell_state form up.stored.opening) (up.stored.records ++ ds ∷ []) new_end v → IsUp form generation new_end v other new
+up_with form generation end new_end used other v st new ds up done settled = record {
   stored = record {
     opening = up.stored.opening;
     ranges = up.stored.ranges;

@@ -3,9 +3,11 @@ use Rattle.std.proofs.Common.{◌≡◌, ◌≢◌, ℕ, ◌<◌, ◌≤◌, ◌
 use Rattle.std.specs.Prelude.{IfOk, IfErr}
 use Rattle.std.proofs.lemmas.Bool.{cases_lt, lt-ltb, le-ltb}
 use Rattle.std.proofs.lemmas.List.{take-append-drop, length-take}
+use Rattle.linda_tuple.specs.declared.form.Form.{Form}
 use Rattle.linda_journal.specs.declared.heading.Heading.{Heading}
 use Rattle.linda_journal.specs.declared.heading.Heading.TheVariants.{NoBank, Foreign, Bank}
 use Rattle.linda_journal.specs.Heading.{IsHeading}
+use Rattle.linda_codec.specs.Formats.{number}
 use Rattle.linda_codec.proofs.FormatLaws.{number_is}
 use Rattle.linda_state.specs.declared.deed.Deed.{Deed}
 use Rattle.linda_state.specs.State.{State}
@@ -20,7 +22,7 @@ use Rattle.linda_journal.specs.Journal.{deeds_of}
 use Rattle.linda_journal.specs.Bank.{IsCandidate, IsBank, IsSettled}
 use Rattle.linda_journal.specs.Image.{IsFaultOfBank}
 use Rattle.linda_journal.proofs.Apart.{format_apart}
-use Rattle.linda_journal.proofs.ImageLaws.{is_candidate, one_bank, only_faults}
+use Rattle.linda_journal.proofs.ImageLaws.{digits_apart, is_candidate, one_bank, only_faults}
 use Rattle.linda_snap.specs.declared.replay.ReplayFault.{ReplayFault}
 use Rattle.linda_snap.specs.declared.replay.ReplayFault.TheVariants as replays
 use Rattle.linda_snap.specs.declared.choice.ChoiceFault.{ChoiceFault}
@@ -39,36 +41,36 @@ heading_of_front file NoBank long is = λ candidate. is (omega (arith, long, len
 heading_of_front file Foreign long is =
     let split : take 17 file ++ drop 17 file ≡ file = take-append-drop 17 file in (
       (long, (is.0.1.0 ++ drop 17 file, sym split ∙ ap (λ l. l ++ drop 17 file) is.0.1.1)),
-      λ generation rest low high starts. is.1 generation (take 4 rest) low high (ap (take 17) starts),
+      λ form generation rest low high starts. is.1 form generation (take 4 rest) low high (ap (take 17) starts),
     )
-heading_of_front file (Bank generation) long is =
+heading_of_front file (Bank form generation) long is =
     let split : take 17 file ++ drop 17 file ≡ file = take-append-drop 17 file in
     (is.0, is.1, long, (is.3.0 ++ drop 17 file, sym split ∙ ap (λ l. l ++ drop 17 file) is.3.1))
 
 -- ---- one bank
 
-pub unrecovered : (body : List ℕ) (records : List Record) (opening : State) (fault : ReplayFault) → IsSnapshot body opening → IsReplayFault opening records fault → IsUnrecovered body records (fault_of_replay fault)
-unrecovered body records opening replays.Memory snapshot told = tt
-unrecovered body records opening (replays.Improper gate) snapshot told = inr (opening, snapshot, told)
+pub unrecovered : (form : Form) (body : List ℕ) (records : List Record) (opening : State) (fault : ReplayFault) → IsSnapshot form body opening → IsReplayFault opening records fault → IsUnrecovered form body records (fault_of_replay fault)
+unrecovered form body records opening replays.Memory snapshot told = tt
+unrecovered form body records opening (replays.Improper gate) snapshot told = inr (opening, snapshot, told)
 
-pub stored_there : (generation end : ℕ) (body : List ℕ) (records : List Record) (v : View) (st : State) → IsSettled generation body (deeds_of records) end v → IsRecovered body records st → IsStored generation end v st
-stored_there generation end body records v st settled recovered = record {
+pub stored_there : (form : Form) (generation end : ℕ) (body : List ℕ) (records : List Record) (v : View) (st : State) → IsSettled form generation body (deeds_of records) end v → IsRecovered form body records st → IsStored form generation end v st
+stored_there form generation end body records v st settled recovered = record {
   opening = recovered.opening;
   ranges = recovered.snapshot.ranges;
   fits = recovered.snapshot.fits;
   records = deeds_of records;
-  settled = subst (λ b. IsSettled generation b (deeds_of records) end v) recovered.snapshot.parts settled;
+  settled = subst (λ b. IsSettled form generation b (deeds_of records) end v) recovered.snapshot.parts settled;
   done = recovered.done;
 }
 
-pub fault_there : (file : List ℕ) (generation : ℕ) (body : List ℕ) (records : List Record) (fault : BankFault) → IsBank file generation body (deeds_of records) → IsUnrecovered body records fault → IsFaultOfFile file fault
-fault_there file generation body records (banks.Damaged offset) bank (inl none) = inr (inl (record { generation = generation; body = body; records = records; bank = bank; none = none.0 }, none.1))
-fault_there file generation body records (banks.Damaged offset) bank (inr one) = inr (inr record { generation = generation; body = body; opening = one.0; records = records; bank = bank; snapshot = one.1; improper = one.2 })
-fault_there file generation body records banks.NoBank bank told = absurd told
-fault_there file generation body records banks.Memory bank told = tt
-fault_there file generation body records banks.Spent bank told = told
-fault_there file generation body records banks.Full bank told = told
-fault_there file generation body records banks.Disk bank told = told
+pub fault_there : (form : Form) (file : List ℕ) (generation : ℕ) (body : List ℕ) (records : List Record) (fault : BankFault) → IsBank form file generation body (deeds_of records) → IsUnrecovered form body records fault → IsFaultOfFile file fault
+fault_there form file generation body records (banks.Damaged offset) bank (inl none) = inr (inl (record { form = form; generation = generation; body = body; records = records; bank = bank; none = none.0 }, none.1))
+fault_there form file generation body records (banks.Damaged offset) bank (inr one) = inr (inr record { form = form; generation = generation; body = body; opening = one.0; records = records; bank = bank; snapshot = one.1; improper = one.2 })
+fault_there form file generation body records banks.NoBank bank told = absurd told
+fault_there form file generation body records banks.Memory bank told = tt
+fault_there form file generation body records banks.Spent bank told = told
+fault_there form file generation body records banks.Full bank told = told
+fault_there form file generation body records banks.Disk bank told = told
 
 -- A fault of one bank alone.
 pub fault_of_bank : (file : List ℕ) (fault : BankFault) → IsFaultOfBank file fault → IsFaultOfFile file fault
@@ -79,53 +81,62 @@ fault_of_bank file banks.Spent told = told
 fault_of_bank file banks.Full told = told
 fault_of_bank file banks.Disk told = told
 
-same_body : (file : List ℕ) (g h : ℕ) (b c : List ℕ) (rs qs : List (List Deed)) → IsBank file g b rs → IsBank file h c qs → (b ≡ c) × (rs ≡ qs)
-same_body file g h b c rs qs one two = let same = one_bank file g h b c rs qs one two in (same.1, same.2)
+same_body : (file : List ℕ) (f k : Form) (g h : ℕ) (b c : List ℕ) (rs qs : List (List Deed)) → IsBank f file g b rs → IsBank k file h c qs → (f ≡ k) × (b ≡ c) × (rs ≡ qs)
+same_body file f k g h b c rs qs one two = let same = one_bank file f k g h b c rs qs one two in (same.0, same.2, same.3)
 
-snapshot_of : (file : List ℕ) (generation : ℕ) (st : State) (on : StandsOn file generation st) → IsSnapshot (spell_state on.opening) on.opening
+snapshot_of : (file : List ℕ) (generation : ℕ) (st : State) (on : StandsOn file generation st) → IsSnapshot on.form (spell_state on.form on.opening) on.opening
 snapshot_of file generation st on = record { parts = refl; fits = on.fits; ranges = on.ranges }
+
+-- Two snapshots of one form whose bytes are the same are of one state.
+same_opening : (f k : Form) (body other : List ℕ) (a b : State) → f ≡ k → body ≡ other → IsSnapshot f body a → IsSnapshot k other b → a ≡ b
+same_opening f k body other a b form same one two =
+    one_snapshot k other a b (subst (λ l. IsSnapshot k l a) same (subst (λ x. IsSnapshot x body a) form one)) two
 
 -- A bank stands for one state.
 one_state : (file : List ℕ) (g h : ℕ) (a b : State) → StandsOn file g a → StandsOn file h b → a ≡ b
 one_state file g h a b one two =
-    let same = same_body file g h (spell_state one.opening) (spell_state two.opening) one.records two.records one.bank two.bank in
-    let opening : one.opening ≡ two.opening = one_snapshot (spell_state two.opening) one.opening two.opening (subst (λ l. IsSnapshot l one.opening) same.0 (snapshot_of file g a one)) (snapshot_of file h b two) in
-    let after = subst (λ (st : State). IsAfter st (deeds_in two.records) a) opening (subst (λ rs. IsAfter one.opening (deeds_in rs) a) same.1 one.done.after) in
+    let same = same_body file one.form two.form g h (spell_state one.form one.opening) (spell_state two.form two.opening) one.records two.records one.bank two.bank in
+    let opening : one.opening ≡ two.opening =
+    same_opening one.form two.form (spell_state one.form one.opening) (spell_state two.form two.opening) one.opening two.opening same.0 same.1 (snapshot_of file g a one) (snapshot_of file h b two) in
+    let after = subst (λ (st : State). IsAfter st (deeds_in two.records) a) opening (subst (λ rs. IsAfter one.opening (deeds_in rs) a) same.2 one.done.after) in
     one_after two.opening (deeds_in two.records) a b after two.done.after
 
 -- A bank that stands has no fault.
 never_fault : (file : List ℕ) (generation : ℕ) (st : State) (offset : ℕ) → StandsOn file generation st → IsFaultOfFile file (banks.Damaged offset) → ⊥
 never_fault file generation st offset on (inl told) =
-    by (only_faults file generation (spell_state on.opening) on.records (banks.Damaged offset) on.bank (λ other. told))
+    by (only_faults on.form file generation (spell_state on.form on.opening) on.records (banks.Damaged offset) on.bank (λ other. told))
   where
     by : (banks.Damaged offset ≡ banks.Disk) ⊎ (banks.Damaged offset ≡ banks.Memory) → ⊥
     by (inl e) = absurd cc
     by (inr e) = absurd cc
 never_fault file generation st offset on (inr (inl none)) =
     let has = none.0 in
-    let same = same_body file generation has.generation (spell_state on.opening) has.body on.records (deeds_of has.records) on.bank has.bank in
-    has.none on.opening (subst (λ l. IsSnapshot l on.opening) same.0 (snapshot_of file generation st on))
+    let same = same_body file on.form has.form generation has.generation (spell_state on.form on.opening) has.body on.records (deeds_of has.records) on.bank has.bank in
+    has.none on.opening (subst (λ l. IsSnapshot has.form l on.opening) same.1 (subst (λ x. IsSnapshot x (spell_state on.form on.opening) on.opening) same.0 (snapshot_of file generation st on)))
 never_fault file generation st offset on (inr (inr has)) =
-    let same = same_body file generation has.generation (spell_state on.opening) has.body on.records (deeds_of has.records) on.bank has.bank in
-    let opening : on.opening ≡ has.opening = one_snapshot has.body on.opening has.opening (subst (λ l. IsSnapshot l on.opening) same.0 (snapshot_of file generation st on)) has.snapshot in
-    none_improper has.opening has.records offset has.improper (subst (λ (s : State). IsProper s (joined has.records)) opening (subst (λ rs. IsProper on.opening (deeds_in rs)) same.1 on.done.proper))
+    let same = same_body file on.form has.form generation has.generation (spell_state on.form on.opening) has.body on.records (deeds_of has.records) on.bank has.bank in
+    let opening : on.opening ≡ has.opening = same_opening on.form has.form (spell_state on.form on.opening) has.body on.opening has.opening same.0 same.1 (snapshot_of file generation st on) has.snapshot in
+    none_improper has.opening has.records offset has.improper (subst (λ (s : State). IsProper s (joined has.records)) opening (subst (λ rs. IsProper on.opening (deeds_in rs)) same.2 on.done.proper))
 
 -- ---- two banks
 
-opens : (file : List ℕ) (generation : ℕ) → IsHeading file (Bank generation) → IsCandidate file
-opens file generation is = (is.2, (_, is.3.1))
+opens : (file : List ℕ) (form : Form) (generation : ℕ) → IsHeading file (Bank form generation) → IsCandidate file
+opens file form generation is = (is.2, (_, is.3.1))
 
 one_heading : (file : List ℕ) (a b : Heading) → IsHeading file a → IsHeading file b → a ≡ b
 one_heading file NoBank NoBank one two = refl
 one_heading file NoBank Foreign one two = absurd (one two.0)
-one_heading file NoBank (Bank g) one two = absurd (one (opens file g two))
+one_heading file NoBank (Bank f g) one two = absurd (one (opens file f g two))
 one_heading file Foreign NoBank one two = absurd (two one.0)
 one_heading file Foreign Foreign one two = refl
-one_heading file Foreign (Bank g) one two = absurd (one.1 g two.3.0 two.0 two.1 two.3.1)
-one_heading file (Bank g) NoBank one two = absurd (two (opens file g one))
-one_heading file (Bank g) Foreign one two = absurd (two.1 g one.3.0 one.0 one.1 one.3.1)
-one_heading file (Bank g) (Bank h) one two =
-    ap (λ n. Bank n) (format_apart number_is g h one.3.0 two.3.0 one.1 two.1 (ap (drop 5) (sym one.3.1 ∙ two.3.1))).0
+one_heading file Foreign (Bank f g) one two = absurd (one.1 f g two.3.0 two.0 two.1 two.3.1)
+one_heading file (Bank f g) NoBank one two = absurd (two (opens file f g one))
+one_heading file (Bank f g) Foreign one two = absurd (two.1 f g one.3.0 one.0 one.1 one.3.1)
+one_heading file (Bank f g) (Bank k h) one two =
+    let whole = sym one.3.1 ∙ two.3.1 in
+    let forms : f ≡ k = digits_apart f k (number.spell g ++ one.3.0) (number.spell h ++ two.3.0) (ap (drop 4) whole) in
+    let generations : g ≡ h = (format_apart number_is g h one.3.0 two.3.0 one.1 two.1 (ap (drop 5) whole)).0 in
+    ap (λ x. Bank x g) forms ∙ ap (λ n. Bank k n) generations
 
 one_choice : (left right : List ℕ) (a b : Result Bool ChoiceFault) → IsChoice left right a → IsChoice left right b → a ≡ b
 one_choice left right a b one two =
@@ -133,35 +144,35 @@ one_choice left right a b one two =
     let r = one_heading right one.right_heading two.right_heading one.right_is two.right_is in
     sym one.told_is ∙ ap (λ h. choice h one.right_heading) l ∙ ap (choice two.left_heading) r ∙ two.told_is
 
-greater_left : (a b : ℕ) → b < a → choice (Bank a) (Bank b) ≡ Ok false
-greater_left a b lt =
+greater_left : (f k : Form) (a b : ℕ) → b < a → choice (Bank f a) (Bank k b) ≡ Ok false
+greater_left f k a b lt =
     ap (λ t. cond t (Err (Damaged false 5)) (cond (ltb b a) (Ok false) (Ok true))) (ne_eqb a b (λ same. omega (arith, same, lt)))
     ∙ ap (λ t. cond t (Ok false) (Ok true)) (lt-ltb b a lt)
 
-greater_right : (a b : ℕ) → a < b → choice (Bank a) (Bank b) ≡ Ok true
-greater_right a b lt =
+greater_right : (f k : Form) (a b : ℕ) → a < b → choice (Bank f a) (Bank k b) ≡ Ok true
+greater_right f k a b lt =
     ap (λ t. cond t (Err (Damaged false 5)) (cond (ltb b a) (Ok false) (Ok true))) (ne_eqb a b (λ same. omega (arith, same, lt)))
     ∙ ap (λ t. cond t (Ok false) (Ok true)) (le-ltb b a (omega (arith, lt)))
 
 on_left : (left right : List ℕ) (st : State) → IsInUse left right st → IsChoice left right (Ok false)
 on_left left right st used = by used.lesser
   where
-    here : IsHeading left (Bank used.generation)
-    here = heading_of left used.generation (spell_state used.stands.opening) used.stands.records used.stands.bank
+    here : IsHeading left (Bank used.stands.form used.generation)
+    here = heading_of used.stands.form left used.generation (spell_state used.stands.form used.stands.opening) used.stands.records used.stands.bank
 
     by : IsLesser used.generation right → IsChoice left right (Ok false)
-    by (inl none) = record { left_heading = Bank used.generation; right_heading = NoBank; left_is = here; right_is = none; told_is = refl }
-    by (inr (lesser, is, lt)) = record { left_heading = Bank used.generation; right_heading = Bank lesser; left_is = here; right_is = is; told_is = greater_left used.generation lesser lt }
+    by (inl none) = record { left_heading = Bank used.stands.form used.generation; right_heading = NoBank; left_is = here; right_is = none; told_is = refl }
+    by (inr (form, lesser, is, lt)) = record { left_heading = Bank used.stands.form used.generation; right_heading = Bank form lesser; left_is = here; right_is = is; told_is = greater_left used.stands.form form used.generation lesser lt }
 
 on_right : (left right : List ℕ) (st : State) → IsInUse right left st → IsChoice left right (Ok true)
 on_right left right st used = by used.lesser
   where
-    here : IsHeading right (Bank used.generation)
-    here = heading_of right used.generation (spell_state used.stands.opening) used.stands.records used.stands.bank
+    here : IsHeading right (Bank used.stands.form used.generation)
+    here = heading_of used.stands.form right used.generation (spell_state used.stands.form used.stands.opening) used.stands.records used.stands.bank
 
     by : IsLesser used.generation left → IsChoice left right (Ok true)
-    by (inl none) = record { left_heading = NoBank; right_heading = Bank used.generation; left_is = none; right_is = here; told_is = refl }
-    by (inr (lesser, is, lt)) = record { left_heading = Bank lesser; right_heading = Bank used.generation; left_is = is; right_is = here; told_is = greater_right lesser used.generation lt }
+    by (inl none) = record { left_heading = NoBank; right_heading = Bank used.stands.form used.generation; left_is = none; right_is = here; told_is = refl }
+    by (inr (form, lesser, is, lt)) = record { left_heading = Bank form lesser; right_heading = Bank used.stands.form used.generation; left_is = is; right_is = here; told_is = greater_right form used.stands.form lesser used.generation lt }
 
 abbrev on_side : Bool → Result Bool ChoiceFault
 on_side right = Ok right
@@ -199,7 +210,7 @@ never_told left right f st stands disk memory (inr is) =
   where
     by : (fault : BankFault) → f ≡ fault_on is.side fault → IsFaultOfFile (chosen is.side left right) fault → {g : ℕ} → StandsOn (chosen is.side left right) g st → ⊥
     by (banks.Damaged offset) told file {g} on = never_fault (chosen is.side left right) g st offset on file
-    by banks.NoBank told file {g} on = file (is_candidate (chosen is.side left right) g (spell_state on.opening) on.records on.bank)
+    by banks.NoBank told file {g} on = file (is_candidate on.form (chosen is.side left right) g (spell_state on.form on.opening) on.records on.bank)
     by banks.Memory told file on = memory told
     by banks.Disk told file on = disk told
     by banks.Spent told file on = file
@@ -224,89 +235,89 @@ module _ {X E : Type 0} (left right : List ℕ) (state_of : X → State) (fault_
 chosen_lesser_left : (left right : List ℕ) (generation : ℕ) (st : State) → IsChoice left right (Ok false) → StandsOn left generation st → IsLesser generation right
 chosen_lesser_left left right generation st is on = by is.left_heading is.right_heading is.left_is is.right_is is.told_is
   where
-    here : IsHeading left (Bank generation)
-    here = heading_of left generation (spell_state on.opening) on.records on.bank
+    here : IsHeading left (Bank on.form generation)
+    here = heading_of on.form left generation (spell_state on.form on.opening) on.records on.bank
 
-    lesser : (a b : ℕ) → choice (Bank a) (Bank b) ≡ Ok false → b < a
-    lesser a b e =
+    lesser : (f k : Form) (a b : ℕ) → choice (Bank f a) (Bank k b) ≡ Ok false → b < a
+    lesser f k a b e =
         elim (cases_lt b a) [
           | inl lt ↦ lt
           | inr le ↦ elim (cases_lt a b) [
-            | inl lt ↦ absurd (sides_differ (sym e ∙ greater_right a b lt))
+            | inl lt ↦ absurd (sides_differ (sym e ∙ greater_right f k a b lt))
             | inr ge ↦
                 let same : a ≡ b = omega (arith, le, ge) in
                 absurd (never_err (Damaged false 5) false (sym (ap (λ t. cond t (Err (Damaged false 5)) (cond (ltb b a) (Ok false) (Ok true))) (eq-eqb a b same)) ∙ e))
           ]
         ]
 
-    same_generation : (a : ℕ) → IsHeading left (Bank a) → a ≡ generation
-    same_generation a is = bank_is a generation (one_heading left (Bank a) (Bank generation) is here)
+    same_generation : (f : Form) (a : ℕ) → IsHeading left (Bank f a) → a ≡ generation
+    same_generation f a is = bank_is f on.form a generation (one_heading left (Bank f a) (Bank on.form generation) is here)
       where
-        bank_is : (x y : ℕ) → Bank x ≡ Bank y → x ≡ y
-        bank_is x y e = cc
+        bank_is : (f k : Form) (x y : ℕ) → Bank f x ≡ Bank k y → x ≡ y
+        bank_is f k x y e = cc
 
     by : (l r : Heading) → IsHeading left l → IsHeading right r → choice l r ≡ Ok false → IsLesser generation right
     by Foreign r one two e = absurd (never_err (Damaged false 1) false e)
     by NoBank Foreign one two e = absurd (never_err (Damaged true 1) false e)
     by NoBank NoBank one two e = absurd (never_err NoStore false e)
-    by NoBank (Bank b) one two e = absurd (one (opens left generation here))
-    by (Bank a) Foreign one two e = absurd (never_err (Damaged true 1) false e)
-    by (Bank a) NoBank one two e = inl two
-    by (Bank a) (Bank b) one two e = inr (b, two, subst (λ n. b < n) (same_generation a one) (lesser a b e))
+    by NoBank (Bank k b) one two e = absurd (one (opens left on.form generation here))
+    by (Bank f a) Foreign one two e = absurd (never_err (Damaged true 1) false e)
+    by (Bank f a) NoBank one two e = inl two
+    by (Bank f a) (Bank k b) one two e = inr (k, b, two, subst (λ n. b < n) (same_generation f a one) (lesser f k a b e))
 
 chosen_lesser_right : (left right : List ℕ) (generation : ℕ) (st : State) → IsChoice left right (Ok true) → StandsOn right generation st → IsLesser generation left
 chosen_lesser_right left right generation st is on = by is.left_heading is.right_heading is.left_is is.right_is is.told_is
   where
-    here : IsHeading right (Bank generation)
-    here = heading_of right generation (spell_state on.opening) on.records on.bank
+    here : IsHeading right (Bank on.form generation)
+    here = heading_of on.form right generation (spell_state on.form on.opening) on.records on.bank
 
-    lesser : (a b : ℕ) → choice (Bank a) (Bank b) ≡ Ok true → a < b
-    lesser a b e =
+    lesser : (f k : Form) (a b : ℕ) → choice (Bank f a) (Bank k b) ≡ Ok true → a < b
+    lesser f k a b e =
         elim (cases_lt a b) [
           | inl lt ↦ lt
           | inr le ↦ elim (cases_lt b a) [
-            | inl lt ↦ absurd (sides_differ (sym (greater_left a b lt) ∙ e))
+            | inl lt ↦ absurd (sides_differ (sym (greater_left f k a b lt) ∙ e))
             | inr ge ↦
                 let same : a ≡ b = omega (arith, le, ge) in
                 absurd (never_err (Damaged false 5) true (sym (ap (λ t. cond t (Err (Damaged false 5)) (cond (ltb b a) (Ok false) (Ok true))) (eq-eqb a b same)) ∙ e))
           ]
         ]
 
-    same_generation : (b : ℕ) → IsHeading right (Bank b) → b ≡ generation
-    same_generation b is = bank_is b generation (one_heading right (Bank b) (Bank generation) is here)
+    same_generation : (f : Form) (b : ℕ) → IsHeading right (Bank f b) → b ≡ generation
+    same_generation f b is = bank_is f on.form b generation (one_heading right (Bank f b) (Bank on.form generation) is here)
       where
-        bank_is : (x y : ℕ) → Bank x ≡ Bank y → x ≡ y
-        bank_is x y e = cc
+        bank_is : (f k : Form) (x y : ℕ) → Bank f x ≡ Bank k y → x ≡ y
+        bank_is f k x y e = cc
 
     by : (l r : Heading) → IsHeading left l → IsHeading right r → choice l r ≡ Ok true → IsLesser generation left
     by Foreign r one two e = absurd (never_err (Damaged false 1) true e)
     by NoBank Foreign one two e = absurd (never_err (Damaged true 1) true e)
     by NoBank NoBank one two e = absurd (never_err NoStore true e)
-    by NoBank (Bank b) one two e = inl one
-    by (Bank a) Foreign one two e = absurd (never_err (Damaged true 1) true e)
-    by (Bank a) NoBank one two e = absurd (sides_differ e)
-    by (Bank a) (Bank b) one two e = inr (a, one, subst (λ n. a < n) (same_generation b two) (lesser a b e))
+    by NoBank (Bank k b) one two e = inl one
+    by (Bank f a) Foreign one two e = absurd (never_err (Damaged true 1) true e)
+    by (Bank f a) NoBank one two e = absurd (sides_differ e)
+    by (Bank f a) (Bank k b) one two e = inr (f, a, one, subst (λ n. a < n) (same_generation k b two) (lesser f k a b e))
 
 -- What was chosen is up,
-pub up_left : (left right : List ℕ) (generation end : ℕ) (used other : View) (st : State) → IsChoice left right (Ok false) → IsStored generation end used st → used.seen ≡ left → other.seen ≡ right → IsDurable other → IsUp generation end used other st
-up_left left right generation end used other st is stored here there durable = record {
+pub up_left : (left right : List ℕ) (form : Form) (generation end : ℕ) (used other : View) (st : State) → IsChoice left right (Ok false) → IsStored form generation end used st → used.seen ≡ left → other.seen ≡ right → IsDurable other → IsUp form generation end used other st
+up_left left right form generation end used other st is stored here there durable = record {
   stored = stored;
-  lesser = subst (IsLesser generation) (sym there) (chosen_lesser_left left right generation st is (subst (λ l. StandsOn l generation st) here (stands_on generation end used st stored)));
+  lesser = subst (IsLesser generation) (sym there) (chosen_lesser_left left right generation st is (subst (λ l. StandsOn l generation st) here (stands_on form generation end used st stored)));
   durable = durable;
 }
 
-pub up_right : (left right : List ℕ) (generation end : ℕ) (used other : View) (st : State) → IsChoice left right (Ok true) → IsStored generation end used st → used.seen ≡ right → other.seen ≡ left → IsDurable other → IsUp generation end used other st
-up_right left right generation end used other st is stored here there durable = record {
+pub up_right : (left right : List ℕ) (form : Form) (generation end : ℕ) (used other : View) (st : State) → IsChoice left right (Ok true) → IsStored form generation end used st → used.seen ≡ right → other.seen ≡ left → IsDurable other → IsUp form generation end used other st
+up_right left right form generation end used other st is stored here there durable = record {
   stored = stored;
-  lesser = subst (IsLesser generation) (sym there) (chosen_lesser_right left right generation st is (subst (λ l. StandsOn l generation st) here (stands_on generation end used st stored)));
+  lesser = subst (IsLesser generation) (sym there) (chosen_lesser_right left right generation st is (subst (λ l. StandsOn l generation st) here (stands_on form generation end used st stored)));
   durable = durable;
 }
 
 -- and stands.
-pub used_here : (used_file other_file : List ℕ) (generation end : ℕ) (used other : View) (st : State) → IsUp generation end used other st → used.seen ≡ used_file → other.seen ≡ other_file → IsInUse used_file other_file st
-used_here used_file other_file generation end used other st up here there = record {
+pub used_here : (used_file other_file : List ℕ) (form : Form) (generation end : ℕ) (used other : View) (st : State) → IsUp form generation end used other st → used.seen ≡ used_file → other.seen ≡ other_file → IsInUse used_file other_file st
+used_here used_file other_file form generation end used other st up here there = record {
   generation = generation;
-  stands = subst (λ l. StandsOn l generation st) here (stands_on generation end used st up.stored);
+  stands = subst (λ l. StandsOn l generation st) here (stands_on form generation end used st up.stored);
   lesser = subst (IsLesser generation) there up.lesser;
 }
 

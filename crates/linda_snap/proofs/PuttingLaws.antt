@@ -4,6 +4,7 @@ use Rattle.std.specs.List.{flat_map, AllByRecursion}
 use Rattle.std.specs.Ordering.{nat_cmp}
 use Rattle.std.specs.FinMap.{FinMap, entries}
 use Rattle.std.proofs.lemmas.List.Elements.{All-from_recursion}
+use Rattle.linda_state.specs.DeedFormat.{written}
 use Rattle.linda_codec.specs.Formats.{Format, short_number}
 use Rattle.linda_state.specs.State.{State}
 use Rattle.linda_snap.specs.Snapshot as format
@@ -80,15 +81,15 @@ few_entries : {A : Type 0} (spell : A → List ℕ) → ((a : A) → 0 < length 
 few_entries spell some [] = omega arith
 few_entries spell some (x ∷ xs) = omega (arith, some x, few_entries spell some xs, length-append (spell x) (flat_map spell xs))
 
-pub few_tuples : (st : State) → length (spell_state st) < 2 ^ 32 → length (entries st.bag) < 2 ^ 32
+pub few_tuples : (st : State) → length (spell_state written st) < 2 ^ 32 → length (entries st.bag) < 2 ^ 32
 few_tuples st short =
-    let tuples : List ℕ = (listed format.placed).spell (entries st.bag) in
-    omega (arith, short, few_entries format.placed.spell (λ e. omega arith) (entries st.bag), length-append tuples ((listed format.kept).spell (entries st.book)))
+    let tuples : List ℕ = (listed (format.placed written)).spell (entries st.bag) in
+    omega (arith, short, few_entries (format.placed written).spell (λ e. omega arith) (entries st.bag), length-append tuples ((listed (format.kept written)).spell (entries st.book)))
 
-pub few_clients : (st : State) → length (spell_state st) < 2 ^ 32 → length (entries st.book) < 2 ^ 32
+pub few_clients : (st : State) → length (spell_state written st) < 2 ^ 32 → length (entries st.book) < 2 ^ 32
 few_clients st short =
-    let tuples : List ℕ = (listed format.placed).spell (entries st.bag) in
-    omega (arith, short, few_entries format.kept.spell (λ e. omega arith) (entries st.book), length-append tuples ((listed format.kept).spell (entries st.book)))
+    let tuples : List ℕ = (listed (format.placed written)).spell (entries st.bag) in
+    omega (arith, short, few_entries (format.kept written).spell (λ e. omega arith) (entries st.book), length-append tuples ((listed (format.kept written)).spell (entries st.book)))
 
 pub put_in_row : (start a b c one two three : List ℕ) → one ≡ start ++ a → two ≡ one ++ b → three ≡ two ++ c → three ≡ start ++ (a ++ (b ++ c))
 put_in_row start a b c one two three first second third =

@@ -2,6 +2,7 @@
 use Rattle.std.proofs.Common.{◌≡◌, ℕ, ◌^◌, ◌<◌, List, [], ◌∷◌, ◌++◌, All, Ok, length, refl, sym, ap, subst, ◌∙◌, append_assoc}
 use Rattle.std.specs.List.{flat_map}
 use Rattle.std.specs.FinMap.{same_entries_map}
+use Rattle.linda_tuple.specs.declared.form.Form.{Form}
 use Rattle.linda_codec.specs.Steps.{many_at}
 use Rattle.linda_codec.specs.Formats.{Format, short_number, no_kind}
 use Rattle.linda_codec.specs.Lawful.{Takes, IsFormat}
@@ -10,7 +11,6 @@ use Rattle.linda_codec.proofs.Many.{many_takes, many_again}
 use Rattle.linda_codec.proofs.Bounds.{bounded_then, many_bounded}
 use Rattle.linda_codec.proofs.FormatLaws.{short_number_is, number_is, nothing_is, both_is, body_is, made_again, no_kind_is, AreBodies, choice_is}
 use Rattle.linda_codec.proofs.ValueLaws.{tuple_is}
-use Rattle.linda_state.specs.DeedFormat.{written}
 use Rattle.linda_book.specs.declared.kept.KeptReply.{KeptReply}
 use Rattle.linda_book.specs.declared.kept.KeptReply.TheVariants.{Stored, Taken, Gone}
 use Rattle.linda_state.specs.State.{State}
@@ -19,28 +19,28 @@ use Rattle.linda_snap.specs.declared.kinds.TheConstants as kind
 use Rattle.linda_snap.specs.Snapshot as format
 use Rattle.linda_snap.specs.Snapshot.{listed, Parts, parts_of, spell_state, IsSnapshot}
 
-pub placed_is : IsFormat format.placed
-placed_is = both_is number_is (tuple_is written)
+pub placed_is : (form : Form) → IsFormat (format.placed form)
+placed_is form = both_is number_is (tuple_is form)
 
-reply_bodies : AreBodies format.spell_reply format.FitsReply format.reply_kinds
-reply_bodies = (
-  body_is number_is format.spell_reply format.FitsReply (kind.STORED ∷ []) (λ id. Stored id) (λ id. refl) (λ id fits. fits),
+reply_bodies : (form : Form) → AreBodies (format.spell_reply form) (format.FitsReply form) (format.reply_kinds form)
+reply_bodies form = (
+  body_is number_is (format.spell_reply form) (format.FitsReply form) (kind.STORED ∷ []) (λ id. Stored id) (λ id. refl) (λ id fits. fits),
   (
-    body_is placed_is format.spell_reply format.FitsReply (kind.TAKEN ∷ []) (λ p. Taken p.0 p.1) (λ p. refl) (λ p fits. fits),
-    (body_is nothing_is format.spell_reply format.FitsReply (kind.GONE ∷ []) (λ _. Gone) (λ n. refl) (λ n fits. tt), tt),
+    body_is (placed_is form) (format.spell_reply form) (format.FitsReply form) (kind.TAKEN ∷ []) (λ p. Taken p.0 p.1) (λ p. refl) (λ p fits. fits),
+    (body_is nothing_is (format.spell_reply form) (format.FitsReply form) (kind.GONE ∷ []) (λ _. Gone) (λ n. refl) (λ n fits. tt), tt),
   ),
 )
 
-reply_again : (r : KeptReply) (rest : List ℕ) → format.FitsReply r → format.reply.read (format.spell_reply r ++ rest) ≡ Ok (r, rest)
-reply_again (Stored id) rest fits = made_again number_is (λ id. Stored id) id rest fits
-reply_again (Taken id tuple) rest fits = made_again placed_is (λ p. Taken p.0 p.1) (id, tuple) rest fits
-reply_again Gone rest fits = refl
+reply_again : (form : Form) (r : KeptReply) (rest : List ℕ) → format.FitsReply form r → (format.reply form).read (format.spell_reply form r ++ rest) ≡ Ok (r, rest)
+reply_again form (Stored id) rest fits = made_again number_is (λ id. Stored id) id rest fits
+reply_again form (Taken id tuple) rest fits = made_again (placed_is form) (λ p. Taken p.0 p.1) (id, tuple) rest fits
+reply_again form Gone rest fits = refl
 
-reply_is : IsFormat format.reply
-reply_is = choice_is format.spell_reply format.FitsReply format.reply_kinds no_kind reply_bodies (no_kind_is format.spell_reply format.FitsReply) reply_again
+reply_is : (form : Form) → IsFormat (format.reply form)
+reply_is form = choice_is (format.spell_reply form) (format.FitsReply form) (format.reply_kinds form) no_kind (reply_bodies form) (no_kind_is (format.spell_reply form) (format.FitsReply form)) (reply_again form)
 
-pub kept_is : IsFormat format.kept
-kept_is = both_is short_number_is (both_is number_is reply_is)
+pub kept_is : (form : Form) → IsFormat (format.kept form)
+kept_is form = both_is short_number_is (both_is number_is (reply_is form))
 
 pub listed_is : {A : Type 0} {f : Format A} → IsFormat f → IsFormat (listed f)
 listed_is {A = A} {f = f} is = record {
@@ -56,8 +56,8 @@ listed_is {A = A} {f = f} is = record {
   bounded = λ bytes. bounded_then (length bytes) (short_number.read bytes) (λ count. many_at f.read count.0 count.1) (short_number_is.bounded bytes) (λ count. many_bounded f.read is.bounded count.0 count.1);
 }
 
-pub snapshot_is : IsFormat format.snapshot
-snapshot_is = both_is number_is (both_is (listed_is placed_is) (listed_is kept_is))
+pub snapshot_is : (form : Form) → IsFormat (format.snapshot form)
+snapshot_is form = both_is number_is (both_is (listed_is (placed_is form)) (listed_is (kept_is form)))
 
 same_state : (a b : State) → parts_of a ≡ parts_of b → a ≡ b
 same_state a b e =
@@ -67,7 +67,7 @@ same_state a b e =
     λ i. record { bag = bag i; book = book i; next = next i }
 
 -- Bytes are a snapshot of one state at most.
-pub one_snapshot : (bytes : List ℕ) (a b : State) → IsSnapshot bytes a → IsSnapshot bytes b → a ≡ b
-one_snapshot bytes a b one two =
-    let same : spell_state a ++ [] ≡ spell_state b ++ [] = ap (λ l. l ++ []) (sym one.parts ∙ two.parts) in
-    same_state a b (format_apart snapshot_is (parts_of a) (parts_of b) [] [] one.fits two.fits same).0
+pub one_snapshot : (form : Form) (bytes : List ℕ) (a b : State) → IsSnapshot form bytes a → IsSnapshot form bytes b → a ≡ b
+one_snapshot form bytes a b one two =
+    let same : spell_state form a ++ [] ≡ spell_state form b ++ [] = ap (λ l. l ++ []) (sym one.parts ∙ two.parts) in
+    same_state a b (format_apart (snapshot_is form) (parts_of a) (parts_of b) [] [] one.fits two.fits same).0

@@ -1,5 +1,7 @@
 -- Which state stands on two banks, while one of them becomes a new one.
 use Rattle.std.proofs.Common.{ℕ, ◌+◌, inl, inr, List, [], sym, subst, arith}
+use Rattle.linda_state.specs.DeedFormat.{written}
+use Rattle.linda_tuple.specs.declared.form.Form.{Form}
 use Rattle.linda_state.specs.State.{State, IsState}
 use Rattle.linda_state.proofs.ProperLaws.{none_done}
 use Rattle.linda_state.specs.declared.deed.Deed.{Deed}
@@ -26,27 +28,27 @@ module _ (generation : ℕ) (body : List ℕ) (old mid : View) where
       shut image (inl is) = inl is
       shut image (inr is) = inr (inl is)
 
-  pub opening : (new : View) → LeavesOnly old mid (IsOldNoneOrNew old.seen generation body) → LeavesOnly mid new (IsNoneOrNew generation body) → LeavesOnly old new (IsOldNoneOrNew old.seen generation body)
+  pub opening : (new : View) → LeavesOnly old mid (IsOldNoneOrNew old.seen generation body) → LeavesOnly mid new (IsNoneOrNew written generation body) → LeavesOnly old new (IsOldNoneOrNew old.seen generation body)
   opening new first second =
-      joined old mid new (IsOldNoneOrNew old.seen generation body) (IsNoneOrNew generation body) (IsOldNoneOrNew old.seen generation body) first second (λ image is. is) (λ image is. inr is)
+      joined old mid new (IsOldNoneOrNew old.seen generation body) (IsNoneOrNew written generation body) (IsOldNoneOrNew old.seen generation body) first second (λ image is. is) (λ image is. inr is)
 
 -- ---- what stands
 
 -- A bank begins with its generation.
-pub heading_of : (file : List ℕ) (generation : ℕ) (body : List ℕ) (records : List (List Deed)) → IsBank file generation body records → IsHeading file (headings.Bank generation)
-heading_of file generation body records bank = (bank.low, bank.fits, (is_candidate file generation body records bank).0, (_, bank.parts))
+pub heading_of : (form : Form) (file : List ℕ) (generation : ℕ) (body : List ℕ) (records : List (List Deed)) → IsBank form file generation body records → IsHeading file (headings.Bank form generation)
+heading_of form file generation body records bank = (bank.low, bank.fits, (is_candidate form file generation body records bank).0, (_, bank.parts))
 
 -- What is stored on a disk stands there.
-pub stands_on : (generation end : ℕ) (v : View) (st : State) → IsStored generation end v st → StandsOn v.seen generation st
-stands_on generation end v st stored = record { opening = stored.opening; ranges = stored.ranges; fits = stored.fits; records = stored.records; bank = stored.settled.file; done = stored.done }
+pub stands_on : (form : Form) (generation end : ℕ) (v : View) (st : State) → IsStored form generation end v st → StandsOn v.seen generation st
+stands_on form generation end v st stored = record { form = form; opening = stored.opening; ranges = stored.ranges; fits = stored.fits; records = stored.records; bank = stored.settled.file; done = stored.done }
 
 -- So is a new bank whose body is a snapshot of the state.
-pub new_stored : (generation end : ℕ) (v : View) (st : State) → IsState st → FitsState st → IsSettled generation (spell_state st) [] end v → IsStored generation end v st
-new_stored generation end v st ranges fits settled = record { opening = st; ranges = ranges; fits = fits; records = []; settled = settled; done = none_done st ranges }
+pub new_stored : (form : Form) (generation end : ℕ) (v : View) (st : State) → IsState st → FitsState form st → IsSettled form generation (spell_state form st) [] end v → IsStored form generation end v st
+new_stored form generation end v st ranges fits settled = record { opening = st; ranges = ranges; fits = fits; records = []; settled = settled; done = none_done st ranges }
 
-module _ (generation end : ℕ) (used other : View) (st : State) (up : IsUp generation end used other st) where
+module _ (form : Form) (generation end : ℕ) (used other : View) (st : State) (up : IsUp form generation end used other st) where
   on_used : StandsOn used.seen generation st
-  on_used = stands_on generation end used st up.stored
+  on_used = stands_on form generation end used st up.stored
 
   -- A crash now leaves what stands for the state.
   pub stands_now : StandsBeside used.seen st other.seen
@@ -57,25 +59,25 @@ module _ (generation end : ℕ) (used other : View) (st : State) (up : IsUp gene
 
   -- The bank in use is lesser than one of the next generation.
   lesser_next : IsLesser (generation + 1) used.seen
-  lesser_next = inr (generation, heading_of used.seen generation (spell_state up.stored.opening) up.stored.records up.stored.settled.file, omega arith)
+  lesser_next = inr (form, generation, heading_of form used.seen generation (spell_state form up.stored.opening) up.stored.records up.stored.settled.file, omega arith)
 
   -- So does a crash while the other disk becomes a new bank,
-  pub stands_beside : IsState st → FitsState st → (image : List ℕ) → IsOldNoneOrNew other.seen (generation + 1) (spell_state st) image → StandsBeside used.seen st image
+  pub stands_beside : IsState st → FitsState written st → (image : List ℕ) → IsOldNoneOrNew other.seen (generation + 1) (spell_state written st) image → StandsBeside used.seen st image
   stands_beside ranges fits image (inl same) = subst (StandsBeside used.seen st) (sym same) stands_now
   stands_beside ranges fits image (inr (inl none)) = inl record { generation = generation; stands = on_used; lesser = inl none }
   stands_beside ranges fits image (inr (inr bank)) = inr record {
     generation = generation + 1;
-    stands = record { opening = st; ranges = ranges; fits = fits; records = []; bank = bank; done = none_done st ranges };
+    stands = record { form = written; opening = st; ranges = ranges; fits = fits; records = []; bank = bank; done = none_done st ranges };
     lesser = lesser_next;
   }
 
-  pub switching : (new : View) → IsState st → FitsState st → LeavesOnly other new (IsOldNoneOrNew other.seen (generation + 1) (spell_state st)) → LeavesOnly other new (StandsBeside used.seen st)
-  switching new ranges fits run = weaker other new (IsOldNoneOrNew other.seen (generation + 1) (spell_state st)) (StandsBeside used.seen st) run (stands_beside ranges fits)
+  pub switching : (new : View) → IsState st → FitsState written st → LeavesOnly other new (IsOldNoneOrNew other.seen (generation + 1) (spell_state written st)) → LeavesOnly other new (StandsBeside used.seen st)
+  switching new ranges fits run = weaker other new (IsOldNoneOrNew other.seen (generation + 1) (spell_state written st)) (StandsBeside used.seen st) run (stands_beside ranges fits)
 
   -- and once it is one.
-  pub switched : (new_end : ℕ) (new : View) → IsState st → FitsState st → IsSettled (generation + 1) (spell_state st) [] new_end new → IsUp (generation + 1) new_end new used st
+  pub switched : (new_end : ℕ) (new : View) → IsState st → FitsState written st → IsSettled written (generation + 1) (spell_state written st) [] new_end new → IsUp written (generation + 1) new_end new used st
   switched new_end new ranges fits settled = record {
-    stored = new_stored (generation + 1) new_end new st ranges fits settled;
+    stored = new_stored written (generation + 1) new_end new st ranges fits settled;
     lesser = lesser_next;
     durable = up.stored.settled.durable;
   }

@@ -4,6 +4,7 @@ use Rattle.std.specs.Prelude.{IfOk, IfErr}
 use Rattle.std.specs.List.{flat_map, AllByRecursion}
 use Rattle.std.specs.FinMap.{FinMap, entries, len-entries}
 use Rattle.std.proofs.lemmas.List.Elements.{All-from_recursion, recursion_from_All}
+use Rattle.linda_tuple.specs.declared.form.Form.{Form}
 use Rattle.linda_tuple.specs.Tuple.{Tuple}
 use Rattle.linda_wire.specs.declared.limits.TheConstants.{MAX_CLIENTS}
 use Rattle.linda_codec.specs.declared.fault.ReadFault.{ReadFault}
@@ -74,19 +75,19 @@ module _ {X : Type 0} (f : Format (ℕ × X)) (Good : ℕ × X → Type 0) (limi
 
 -- ---- the state
 
-abbrev IsTuples : ℕ → List ℕ → List (ℕ × Tuple) → List ℕ → Type 0
-IsTuples next bytes es rest = IsListed format.placed (IsPlacedBelow next) ANY_COUNT bytes es rest
+abbrev IsTuples : Form → ℕ → List ℕ → List (ℕ × Tuple) → List ℕ → Type 0
+IsTuples form next bytes es rest = IsListed (format.placed form) (IsPlacedBelow next) ANY_COUNT bytes es rest
 
-abbrev IsClients : List ℕ → List (ℕ × Entry) → List ℕ → Type 0
-IsClients bytes es rest = IsListed format.kept IsNumbered MAX_CLIENTS bytes es rest
+abbrev IsClients : Form → List ℕ → List (ℕ × Entry) → List ℕ → Type 0
+IsClients form bytes es rest = IsListed (format.kept form) IsNumbered MAX_CLIENTS bytes es rest
 
 -- What stands there is the snapshot of the state of these parts.
-pub state_there : (bytes behind rest : List ℕ) (next : ℕ) (bag : FinMap nat_cmp Tuple) (book : FinMap nat_cmp Entry) → IsBytes bytes → number.read bytes ≡ Ok (next, behind) → 1 ≤ next → next ≤ NUMBER_LIMIT → IsTuples next behind (entries bag) rest → IsClients rest (entries book) []
-    → IsSnapshot bytes record { bag = bag; book = book; next = next }
-state_there bytes behind rest next bag book fits told low high tuples clients =
+pub state_there : (form : Form) (bytes behind rest : List ℕ) (next : ℕ) (bag : FinMap nat_cmp Tuple) (book : FinMap nat_cmp Entry) → IsBytes bytes → number.read bytes ≡ Ok (next, behind) → 1 ≤ next → next ≤ NUMBER_LIMIT → IsTuples form next behind (entries bag) rest → IsClients form rest (entries book) []
+    → IsSnapshot form bytes record { bag = bag; book = book; next = next }
+state_there form bytes behind rest next bag book fits told low high tuples clients =
     let t = number_is.takes bytes (next, behind) fits told in
     record {
-      parts = t.0.parts ∙ ap (λ l. number.spell next ++ l) (tuples.parts ∙ ap (λ l. (listed format.placed).spell (entries bag) ++ l) (clients.parts ∙ append-nil ((listed format.kept).spell (entries book))));
+      parts = t.0.parts ∙ ap (λ l. number.spell next ++ l) (tuples.parts ∙ ap (λ l. (listed (format.placed form)).spell (entries bag) ++ l) (clients.parts ∙ append-nil ((listed (format.kept form)).spell (entries book))));
       fits = (t.1, (tuples.fits, clients.fits));
       ranges = record {
         next_low = low;
@@ -98,20 +99,20 @@ state_there bytes behind rest next bag book fits told low high tuples clients =
     }
 
 -- What is told of a snapshot that stands there.
-next_of : (bytes : List ℕ) (st : State) → IsSnapshot bytes st → number.read bytes ≡ Ok (st.next, (listed format.placed).spell (entries st.bag) ++ (listed format.kept).spell (entries st.book))
-next_of bytes st is = ap number.read is.parts ∙ number_is.again st.next ((listed format.placed).spell (entries st.bag) ++ (listed format.kept).spell (entries st.book)) is.fits.0
+next_of : (form : Form) (bytes : List ℕ) (st : State) → IsSnapshot form bytes st → number.read bytes ≡ Ok (st.next, (listed (format.placed form)).spell (entries st.bag) ++ (listed (format.kept form)).spell (entries st.book))
+next_of form bytes st is = ap number.read is.parts ∙ number_is.again st.next ((listed (format.placed form)).spell (entries st.bag) ++ (listed (format.kept form)).spell (entries st.book)) is.fits.0
 
-pub no_next : (bytes : List ℕ) (fault : ReadFault) → number.read bytes ≡ Err fault → IsNoSnapshot bytes
-no_next bytes fault told st is = no_value (st.next, (listed format.placed).spell (entries st.bag) ++ (listed format.kept).spell (entries st.book)) fault (sym (next_of bytes st is) ∙ told)
+pub no_next : (form : Form) (bytes : List ℕ) (fault : ReadFault) → number.read bytes ≡ Err fault → IsNoSnapshot form bytes
+no_next form bytes fault told st is = no_value (st.next, (listed (format.placed form)).spell (entries st.bag) ++ (listed (format.kept form)).spell (entries st.book)) fault (sym (next_of form bytes st is) ∙ told)
 
-pub bad_next : (bytes : List ℕ) (next : ℕ) (behind : List ℕ) → number.read bytes ≡ Ok (next, behind) → (1 ≤ next → next ≤ NUMBER_LIMIT → ⊥) → IsNoSnapshot bytes
-bad_next bytes next behind told bad st is =
-    let same = both_read (number.read bytes) next st.next behind ((listed format.placed).spell (entries st.bag) ++ (listed format.kept).spell (entries st.book)) told (next_of bytes st is) in
+pub bad_next : (form : Form) (bytes : List ℕ) (next : ℕ) (behind : List ℕ) → number.read bytes ≡ Ok (next, behind) → (1 ≤ next → next ≤ NUMBER_LIMIT → ⊥) → IsNoSnapshot form bytes
+bad_next form bytes next behind told bad st is =
+    let same = both_read (number.read bytes) next st.next behind ((listed (format.placed form)).spell (entries st.bag) ++ (listed (format.kept form)).spell (entries st.book)) told (next_of form bytes st is) in
     bad (subst (λ n. 1 ≤ n) (sym same.0) is.ranges.next_low) (subst (λ n. n ≤ NUMBER_LIMIT) (sym same.0) is.ranges.next_high)
 
-tuples_there : (bytes : List ℕ) (next : ℕ) (behind : List ℕ) (st : State) → number.read bytes ≡ Ok (next, behind) → IsSnapshot bytes st → IsTuples next behind (entries st.bag) ((listed format.kept).spell (entries st.book))
-tuples_there bytes next behind st told is =
-    let same = both_read (number.read bytes) next st.next behind ((listed format.placed).spell (entries st.bag) ++ (listed format.kept).spell (entries st.book)) told (next_of bytes st is) in
+tuples_there : (form : Form) (bytes : List ℕ) (next : ℕ) (behind : List ℕ) (st : State) → number.read bytes ≡ Ok (next, behind) → IsSnapshot form bytes st → IsTuples form next behind (entries st.bag) ((listed (format.kept form)).spell (entries st.book))
+tuples_there form bytes next behind st told is =
+    let same = both_read (number.read bytes) next st.next behind ((listed (format.placed form)).spell (entries st.bag) ++ (listed (format.kept form)).spell (entries st.book)) told (next_of form bytes st is) in
     record {
       parts = same.1;
       fits = is.fits.1.0;
@@ -119,25 +120,25 @@ tuples_there bytes next behind st told is =
       good = subst (λ n. AllByRecursion (IsPlacedBelow n) (entries st.bag)) (sym same.0) (all_got (IsPlacedBelow st.next) st.bag is.ranges.ids);
     }
 
-pub no_tuples : (bytes : List ℕ) (next : ℕ) (behind : List ℕ) → number.read bytes ≡ Ok (next, behind) → ((m : FinMap nat_cmp Tuple) (rest : List ℕ) → IsTuples next behind (entries m) rest → ⊥) → IsNoSnapshot bytes
-no_tuples bytes next behind told none st is = none st.bag ((listed format.kept).spell (entries st.book)) (tuples_there bytes next behind st told is)
+pub no_tuples : (form : Form) (bytes : List ℕ) (next : ℕ) (behind : List ℕ) → number.read bytes ≡ Ok (next, behind) → ((m : FinMap nat_cmp Tuple) (rest : List ℕ) → IsTuples form next behind (entries m) rest → ⊥) → IsNoSnapshot form bytes
+no_tuples form bytes next behind told none st is = none st.bag ((listed (format.kept form)).spell (entries st.book)) (tuples_there form bytes next behind st told is)
 
-clients_there : (bytes : List ℕ) (next : ℕ) (behind rest : List ℕ) (es : List (ℕ × Tuple)) (st : State) → number.read bytes ≡ Ok (next, behind) → IsTuples next behind es rest → IsSnapshot bytes st → IsClients rest (entries st.book) []
-clients_there bytes next behind rest es st told tuples is =
-    let same = one_listed format.placed (IsPlacedBelow next) ANY_COUNT behind es (entries st.bag) rest ((listed format.kept).spell (entries st.book)) placed_is tuples (tuples_there bytes next behind st told is) in
+clients_there : (form : Form) (bytes : List ℕ) (next : ℕ) (behind rest : List ℕ) (es : List (ℕ × Tuple)) (st : State) → number.read bytes ≡ Ok (next, behind) → IsTuples form next behind es rest → IsSnapshot form bytes st → IsClients form rest (entries st.book) []
+clients_there form bytes next behind rest es st told tuples is =
+    let same = one_listed (format.placed form) (IsPlacedBelow next) ANY_COUNT behind es (entries st.bag) rest ((listed (format.kept form)).spell (entries st.book)) (placed_is form) tuples (tuples_there form bytes next behind st told is) in
     record {
-      parts = same.1 ∙ sym (append-nil ((listed format.kept).spell (entries st.book)));
+      parts = same.1 ∙ sym (append-nil ((listed (format.kept form)).spell (entries st.book)));
       fits = is.fits.1.1;
       few = subst (λ n. n ≤ MAX_CLIENTS) (len-entries st.book) is.ranges.clients;
       good = all_got IsNumbered st.book is.ranges.numbers;
     }
 
-pub no_clients : (bytes : List ℕ) (next : ℕ) (behind rest : List ℕ) (es : List (ℕ × Tuple)) → number.read bytes ≡ Ok (next, behind) → IsTuples next behind es rest → ((m : FinMap nat_cmp Entry) (rest' : List ℕ) → IsClients rest (entries m) rest' → ⊥) → IsNoSnapshot bytes
-no_clients bytes next behind rest es told tuples none st is = none st.book [] (clients_there bytes next behind rest es st told tuples is)
+pub no_clients : (form : Form) (bytes : List ℕ) (next : ℕ) (behind rest : List ℕ) (es : List (ℕ × Tuple)) → number.read bytes ≡ Ok (next, behind) → IsTuples form next behind es rest → ((m : FinMap nat_cmp Entry) (rest' : List ℕ) → IsClients form rest (entries m) rest' → ⊥) → IsNoSnapshot form bytes
+no_clients form bytes next behind rest es told tuples none st is = none st.book [] (clients_there form bytes next behind rest es st told tuples is)
 
-pub bytes_left : (bytes : List ℕ) (next : ℕ) (behind rest left : List ℕ) (es : List (ℕ × Tuple)) (ds : List (ℕ × Entry)) → number.read bytes ≡ Ok (next, behind) → IsTuples next behind es rest → IsClients rest ds left → (left ≡ [] → ⊥) → IsNoSnapshot bytes
-bytes_left bytes next behind rest left es ds told tuples clients some st is =
-    some (one_listed format.kept IsNumbered MAX_CLIENTS rest ds (entries st.book) left [] kept_is clients (clients_there bytes next behind rest es st told tuples is)).1
+pub bytes_left : (form : Form) (bytes : List ℕ) (next : ℕ) (behind rest left : List ℕ) (es : List (ℕ × Tuple)) (ds : List (ℕ × Entry)) → number.read bytes ≡ Ok (next, behind) → IsTuples form next behind es rest → IsClients form rest ds left → (left ≡ [] → ⊥) → IsNoSnapshot form bytes
+bytes_left form bytes next behind rest left es ds told tuples clients some st is =
+    some (one_listed (format.kept form) IsNumbered MAX_CLIENTS rest ds (entries st.book) left [] (kept_is form) clients (clients_there form bytes next behind rest es st told tuples is)).1
 
 pub none_left : {A : Type 0} (xs : List A) → length xs ≡ 0 → xs ≡ []
 none_left [] e = refl
@@ -145,7 +146,7 @@ none_left (x ∷ xs) e = absurd (omega (arith, e))
 
 -- ---- no other state
 
-pub only_this : (bytes : List ℕ) (result : Result State SnapshotFault) → IfOk result (IsSnapshot bytes) → IfErr result (λ f. f ≢ Memory → IsNoSnapshot bytes) → (st : State) → IsSnapshot bytes st → IfOk result (λ s. s ≡ st) × IfErr result (λ f. f ≡ Memory)
-only_this bytes (Ok s) found fault st is = (one_snapshot bytes s st found is, tt)
-only_this bytes (Err Memory) found fault st is = (tt, refl)
-only_this bytes (Err NoSnapshot) found fault st is = absurd (fault (λ e. absurd cc) st is)
+pub only_this : (form : Form) (bytes : List ℕ) (result : Result State SnapshotFault) → IfOk result (IsSnapshot form bytes) → IfErr result (λ f. f ≢ Memory → IsNoSnapshot form bytes) → (st : State) → IsSnapshot form bytes st → IfOk result (λ s. s ≡ st) × IfErr result (λ f. f ≡ Memory)
+only_this form bytes (Ok s) found fault st is = (one_snapshot form bytes s st found is, tt)
+only_this form bytes (Err Memory) found fault st is = (tt, refl)
+only_this form bytes (Err NoSnapshot) found fault st is = absurd (fault (λ e. absurd cc) st is)

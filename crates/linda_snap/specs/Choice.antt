@@ -1,6 +1,7 @@
 -- Which of two banks is chosen, and why none is.
 use Rattle.std.specs.Prelude.{◌≡◌, ℕ, ◌==◌, ◌⊎◌, nat_lt, Bool, true, false, if◌then◌else◌, List}
 use Rattle.std.specs.Prelude.{Result, Ok, Err}
+use Rattle.linda_tuple.specs.declared.form.Form.{Form}
 use Rattle.linda_state.specs.State.{State}
 use Rattle.linda_state.specs.Proper.{AreDone}
 use Rattle.linda_disk.specs.View.{View}
@@ -25,15 +26,16 @@ use Rattle.linda_snap.specs.Snapshot.{IsSnapshot}
 use Rattle.linda_snap.specs.Reading.{IsNoSnapshot}
 use Rattle.linda_snap.specs.Replay.{joined, IsImproper}
 
--- Which of two is chosen by what they begin with: true is the right one. The left one is looked at first.
+-- Which of two is chosen by what they begin with: true is the right one. The left one is looked at first. Generations
+-- are compared whatever the forms are.
 abbrev pub choice : Heading → Heading → Result Bool ChoiceFault
 choice Foreign right = Err (Damaged false 1)
 choice NoBank Foreign = Err (Damaged true 1)
-choice (Bank a) Foreign = Err (Damaged true 1)
+choice (Bank form a) Foreign = Err (Damaged true 1)
 choice NoBank NoBank = Err NoStore
-choice NoBank (Bank b) = Ok true
-choice (Bank a) NoBank = Ok false
-choice (Bank a) (Bank b) = if a == b then Err (Damaged false 5) else (if nat_lt b a then Ok false else Ok true)
+choice NoBank (Bank form b) = Ok true
+choice (Bank form a) NoBank = Ok false
+choice (Bank form a) (Bank other b) = if a == b then Err (Damaged false 5) else (if nat_lt b a then Ok false else Ok true)
 
 -- What two files begin with makes that choice.
 pub record IsChoice (left right : List ℕ) (told : Result Bool ChoiceFault) : Type 0 where
@@ -47,38 +49,40 @@ pub record IsChoice (left right : List ℕ) (told : Result Bool ChoiceFault) : T
 
 -- The bank is well spelled, but its body is no snapshot.
 pub record HasNoSnapshot (file : List ℕ) : Type 0 where
+  pub form : Form
   pub generation : ℕ
   pub body : List ℕ
   pub records : List Record
-  pub bank : IsBank file generation body (deeds_of records)
-  pub none : IsNoSnapshot body
+  pub bank : IsBank form file generation body (deeds_of records)
+  pub none : IsNoSnapshot form body
 
 -- The bank and its snapshot are well spelled, but the record with this gate has a deed that is not allowed.
 pub record HasImproper (file : List ℕ) (gate : ℕ) : Type 0 where
+  pub form : Form
   pub generation : ℕ
   pub body : List ℕ
   pub opening : State
   pub records : List Record
-  pub bank : IsBank file generation body (deeds_of records)
-  pub snapshot : IsSnapshot body opening
+  pub bank : IsBank form file generation body (deeds_of records)
+  pub snapshot : IsSnapshot form body opening
   pub improper : IsImproper opening records gate
 
--- The body is a snapshot of a state, from which the deeds of the records lead to that one.
-pub record IsRecovered (body : List ℕ) (records : List Record) (st : State) : Type 0 where
+-- The body is a snapshot, in the form, of a state from which the deeds of the records lead to that one.
+pub record IsRecovered (form : Form) (body : List ℕ) (records : List Record) (st : State) : Type 0 where
   pub opening : State
-  pub snapshot : IsSnapshot body opening
+  pub snapshot : IsSnapshot form body opening
   pub done : AreDone opening (joined records) st
 
 -- What a fault says of a body and of the records after it.
-abbrev pub IsUnrecovered : List ℕ → List Record → BankFault → Type 0
-IsUnrecovered body records (banks.Damaged offset) =
-    (IsNoSnapshot body × (offset ≡ MIN_BYTES))
-    ⊎ ((opening : State) × IsSnapshot body opening × IsImproper opening records offset)
-IsUnrecovered body records banks.NoBank = ⊥
-IsUnrecovered body records banks.Memory = Unit {0}
-IsUnrecovered body records banks.Spent = ⊥
-IsUnrecovered body records banks.Full = ⊥
-IsUnrecovered body records banks.Disk = ⊥
+abbrev pub IsUnrecovered : Form → List ℕ → List Record → BankFault → Type 0
+IsUnrecovered form body records (banks.Damaged offset) =
+    (IsNoSnapshot form body × (offset ≡ MIN_BYTES))
+    ⊎ ((opening : State) × IsSnapshot form body opening × IsImproper opening records offset)
+IsUnrecovered form body records banks.NoBank = ⊥
+IsUnrecovered form body records banks.Memory = Unit {0}
+IsUnrecovered form body records banks.Spent = ⊥
+IsUnrecovered form body records banks.Full = ⊥
+IsUnrecovered form body records banks.Disk = ⊥
 
 -- What a fault of a replay is returned as.
 abbrev pub fault_of_replay : ReplayFault → BankFault

@@ -3,6 +3,7 @@ use Rattle.std.specs.Prelude.{◌≡◌, ℕ, ◌<◌, ◌≤◌, ◌^◌, List,
 use Rattle.std.specs.List.{flat_map, AllByRecursion}
 use Rattle.std.specs.Ordering.{nat_cmp}
 use Rattle.std.specs.FinMap.{FinMap, entries}
+use Rattle.linda_tuple.specs.declared.form.Form.{Form}
 use Rattle.linda_tuple.specs.Tuple.{Tuple}
 use Rattle.linda_codec.specs.Formats.{Format}
 use Rattle.linda_codec.specs.declared.fault.ReadFault.{ReadFault}
@@ -40,9 +41,9 @@ abbrev pub IsNotListed : {X : Type 0} → Format (ℕ × X) → (ℕ × X → Ty
 IsNotListed {X = X} f Good limit bytes =
     (m : FinMap nat_cmp X) (rest : List ℕ) → IsListed f Good limit bytes (entries m) rest → ⊥
 
--- The bytes are a snapshot of no state.
-abbrev pub IsNoSnapshot : List ℕ → Type 0
-IsNoSnapshot bytes = (st : State) → IsSnapshot bytes st → ⊥
+-- The bytes are a snapshot of no state in the form.
+abbrev pub IsNoSnapshot : Form → List ℕ → Type 0
+IsNoSnapshot form bytes = (st : State) → IsSnapshot form bytes st → ⊥
 
 -- A count of four bytes has no other limit.
 abbrev pub ANY_COUNT : ℕ

@@ -1,7 +1,8 @@
--- The format of a state: a snapshot.
+-- The format of a state in each of the two forms of values: a snapshot.
 use Rattle.std.specs.Prelude.{◌≡◌, ℕ, List, [], ◌∷◌, ◌++◌, All, length}
 use Rattle.std.specs.List.{flat_map}
 use Rattle.std.specs.FinMap.{entries}
+use Rattle.linda_tuple.specs.declared.form.Form.{Form}
 use Rattle.linda_tuple.specs.Tuple.{Tuple}
 use Rattle.linda_codec.specs.Steps.{Reader, ◌>>=◌, many_at}
 use Rattle.linda_codec.specs.Formats.{Format, short_number, number}
@@ -11,39 +12,38 @@ use Rattle.linda_book.specs.declared.kept.KeptReply.{KeptReply}
 use Rattle.linda_book.specs.declared.kept.KeptReply.TheVariants.{Stored, Taken, Gone}
 use Rattle.linda_book.specs.Entries.{Entry}
 use Rattle.linda_state.specs.State.{State, IsState}
-use Rattle.linda_state.specs.DeedFormat.{written}
 use Rattle.linda_snap.specs.declared.kinds.TheConstants as kind
 
 -- ---- entries
 
--- The id of a tuple, and the tuple.
-abbrev pub placed : Format (ℕ × Tuple)
-placed = both number (value.tuple written)
+-- The id of a tuple, and the tuple in the form.
+abbrev pub placed : Form → Format (ℕ × Tuple)
+placed form = both number (value.tuple form)
 
 -- A kept reply's kind byte and body.
-abbrev pub spell_reply : KeptReply → List ℕ
-spell_reply (Stored id) = kind.STORED ∷ number.spell id
-spell_reply (Taken id tuple) = kind.TAKEN ∷ placed.spell (id, tuple)
-spell_reply Gone = kind.GONE ∷ []
+abbrev pub spell_reply : Form → KeptReply → List ℕ
+spell_reply form (Stored id) = kind.STORED ∷ number.spell id
+spell_reply form (Taken id tuple) = kind.TAKEN ∷ (placed form).spell (id, tuple)
+spell_reply form Gone = kind.GONE ∷ []
 
 -- What has a spelling among kept replies.
-abbrev pub FitsReply : KeptReply → Type 0
-FitsReply (Stored id) = number.Fits id
-FitsReply (Taken id tuple) = placed.Fits (id, tuple)
-FitsReply Gone = Unit {0}
+abbrev pub FitsReply : Form → KeptReply → Type 0
+FitsReply form (Stored id) = number.Fits id
+FitsReply form (Taken id tuple) = (placed form).Fits (id, tuple)
+FitsReply form Gone = Unit {0}
 
 -- The kinds of kept replies, each with its body.
-abbrev pub reply_kinds : List (ℕ × Reader KeptReply)
-reply_kinds =
-    (kind.STORED, made_at (λ id. Stored id) number) ∷ (kind.TAKEN, made_at (λ p. Taken p.0 p.1) placed)
+abbrev pub reply_kinds : Form → List (ℕ × Reader KeptReply)
+reply_kinds form =
+    (kind.STORED, made_at (λ id. Stored id) number) ∷ (kind.TAKEN, made_at (λ p. Taken p.0 p.1) (placed form))
     ∷ (kind.GONE, made_at (λ _. Gone) nothing) ∷ []
 
-abbrev pub reply : Format KeptReply
-reply = record { spell = spell_reply; Fits = FitsReply; read = choice_at reply_kinds no_kind }
+abbrev pub reply : Form → Format KeptReply
+reply form = record { spell = spell_reply form; Fits = FitsReply form; read = choice_at (reply_kinds form) no_kind }
 
 -- A client, its last number, and the reply to it.
-abbrev pub kept : Format (ℕ × Entry)
-kept = both short_number (both number reply)
+abbrev pub kept : Form → Format (ℕ × Entry)
+kept form = both short_number (both number (reply form))
 
 -- ---- states
 
@@ -59,23 +59,23 @@ listed f = record {
 abbrev pub Parts : Type 0
 Parts = ℕ × (List (ℕ × Tuple) × List (ℕ × Entry))
 
-abbrev pub snapshot : Format Parts
-snapshot = both number (both (listed placed) (listed kept))
+abbrev pub snapshot : Form → Format Parts
+snapshot form = both number (both (listed (placed form)) (listed (kept form)))
 
 -- The parts of a state: its tuples by rising id, its clients by rising number.
 abbrev pub parts_of : State → Parts
 parts_of st = (st.next, (entries st.bag, entries st.book))
 
--- The one spelling of a state.
-abbrev pub spell_state : State → List ℕ
-spell_state st = snapshot.spell (parts_of st)
+-- The one spelling of a state in the form.
+abbrev pub spell_state : Form → State → List ℕ
+spell_state form st = (snapshot form).spell (parts_of st)
 
--- The state has a spelling.
-abbrev pub FitsState : State → Type 0
-FitsState st = snapshot.Fits (parts_of st)
+-- The state has a spelling in the form.
+abbrev pub FitsState : Form → State → Type 0
+FitsState form st = (snapshot form).Fits (parts_of st)
 
--- The bytes, all of them, are the spelling of the state, which is in its ranges.
-pub record IsSnapshot (bytes : List ℕ) (st : State) : Type 0 where
-  pub parts : bytes ≡ spell_state st
-  pub fits : FitsState st
+-- The bytes, all of them, are the spelling in this form of the state, which is in its ranges.
+pub record IsSnapshot (form : Form) (bytes : List ℕ) (st : State) : Type 0 where
+  pub parts : bytes ≡ spell_state form st
+  pub fits : FitsState form st
   pub ranges : IsState st

@@ -1,6 +1,7 @@
 -- Which state stands on two banks.
 use Rattle.std.specs.Prelude.{ℕ, ◌<◌, ◌⊎◌, List}
 use Rattle.std.specs.List.{flat_map}
+use Rattle.linda_tuple.specs.declared.form.Form.{Form}
 use Rattle.linda_state.specs.declared.deed.Deed.{Deed}
 use Rattle.linda_state.specs.State.{State, IsState}
 use Rattle.linda_state.specs.Proper.{AreDone}
@@ -15,20 +16,21 @@ use Rattle.linda_snap.specs.Snapshot.{spell_state, FitsState}
 abbrev pub deeds_in : List (List Deed) → List Deed
 deeds_in records = flat_map (λ ds. ds) records
 
--- The bytes are a bank of this generation, with a snapshot of a state from which the deeds of its records lead to
--- that one.
+-- The bytes are a bank of this generation, in either form, with a snapshot of a state from which the deeds of its
+-- records lead to that one.
 pub record StandsOn (file : List ℕ) (generation : ℕ) (st : State) : Type 0 where
+  pub form : Form
   pub opening : State
   pub ranges : IsState opening
-  pub fits : FitsState opening
+  pub fits : FitsState form opening
   pub records : List (List Deed)
-  pub bank : IsBank file generation (spell_state opening) records
+  pub bank : IsBank form file generation (spell_state form opening) records
   pub done : AreDone opening (deeds_in records) st
 
--- The bytes are no bank, or one of a lesser generation.
+-- The bytes are no bank, or one of a lesser generation, in either form.
 abbrev pub IsLesser : ℕ → List ℕ → Type 0
 IsLesser generation file =
-    IsNoBank file ⊎ ((lesser : ℕ) × IsHeading file (headings.Bank lesser) × (lesser < generation))
+    IsNoBank file ⊎ ((form : Form) × (lesser : ℕ) × IsHeading file (headings.Bank form lesser) × (lesser < generation))
 
 -- Of two banks, the first is in use and stands for the state, and the other is lesser.
 pub record IsInUse (file other : List ℕ) (st : State) : Type 0 where
@@ -40,19 +42,20 @@ pub record IsInUse (file other : List ℕ) (st : State) : Type 0 where
 abbrev pub Stands : List ℕ → List ℕ → State → Type 0
 Stands left right st = IsInUse left right st ⊎ IsInUse right left st
 
--- On a disk the bank of this generation, which ends at this offset, stands for the state, and a crash now leaves it so.
-pub record IsStored (generation end : ℕ) (v : View) (st : State) : Type 0 where
+-- On a disk the bank in this form, of this generation, which ends at this offset, stands for the state, and a crash now
+-- leaves it so.
+pub record IsStored (form : Form) (generation end : ℕ) (v : View) (st : State) : Type 0 where
   pub opening : State
   pub ranges : IsState opening
-  pub fits : FitsState opening
+  pub fits : FitsState form opening
   pub records : List (List Deed)
-  pub settled : IsSettled generation (spell_state opening) records end v
+  pub settled : IsSettled form generation (spell_state form opening) records end v
   pub done : AreDone opening (deeds_in records) st
 
 -- So it is of the one of two disks that is in use; and the other one holds a lesser bank or none, and a crash leaves
 -- it so.
-pub record IsUp (generation end : ℕ) (used other : View) (st : State) : Type 0 where
-  pub stored : IsStored generation end used st
+pub record IsUp (form : Form) (generation end : ℕ) (used other : View) (st : State) : Type 0 where
+  pub stored : IsStored form generation end used st
   pub lesser : IsLesser generation other.seen
   pub durable : IsDurable other
 

@@ -20,6 +20,7 @@ use linda_bag::Bag;
 use linda_disk::{Disk, DiskFault};
 use linda_journal::{Bank, BankFault, Heading, MIN_BYTES, Record, read_heading};
 use linda_state::State;
+use linda_tuple::Form;
 use std::alloc::Global;
 use thiserror::Error;
 
@@ -83,7 +84,7 @@ pub fn choose_bank<B: Bag, D: Disk>(
         → IfOk result (λ c. Stands (D.view left).seen (D.view right).seen c.state) }
     // and a crash now leaves them so;
     ensures up { D.honest left → D.honest right
-        → IfOk result (λ c. IsUp c.bank.generation c.bank.end (D.view c.bank.disk)
+        → IfOk result (λ c. IsUp c.bank.form c.bank.generation c.bank.end (D.view c.bank.disk)
         (D.view c.other) c.state) }
     // the disks read as they did at entry.
     ensures sides { D.honest left → D.honest right → IfOk result (λ c.
@@ -109,7 +110,7 @@ pub fn choose_bank<B: Bag, D: Disk>(
     // and a crash leaves of the other disk what a read gives.
     ensures ranges { IfOk result (λ c. IsState c.state) }
     ensures stored { IfOk result (λ c. D.honest c.bank.disk
-        → IsStored c.bank.generation c.bank.end (D.view c.bank.disk) c.state) }
+        → IsStored c.bank.form c.bank.generation c.bank.end (D.view c.bank.disk) c.state) }
     ensures durable { IfOk result (λ c. D.honest c.other → IsDurable (D.view c.other)) }
     ensures honest { IfOk result (λ c. (D.honest left × D.honest right)
         ↔ (D.honest c.bank.disk × D.honest c.other))
@@ -140,7 +141,7 @@ fn choose_among<B: Bag, D: Disk>(
     ensures found { D.honest left → D.honest right
         → IfOk result (λ c. Stands (D.view left).seen (D.view right).seen c.state) }
     ensures up { D.honest left → D.honest right
-        → IfOk result (λ c. IsUp c.bank.generation c.bank.end (D.view c.bank.disk)
+        → IfOk result (λ c. IsUp c.bank.form c.bank.generation c.bank.end (D.view c.bank.disk)
         (D.view c.other) c.state) }
     ensures sides { D.honest left → D.honest right → IfOk result (λ c.
         ((D.view c.bank.disk).seen ≡ chosen c.is_right (D.view left).seen (D.view right).seen)
@@ -156,7 +157,7 @@ fn choose_among<B: Bag, D: Disk>(
     ensures new { IfOk result (λ c. (c.bank.limit ≡ limit) × (c.bank.is_spent ≡ false)) }
     ensures ranges { IfOk result (λ c. IsState c.state) }
     ensures stored { IfOk result (λ c. D.honest c.bank.disk
-        → IsStored c.bank.generation c.bank.end (D.view c.bank.disk) c.state) }
+        → IsStored c.bank.form c.bank.generation c.bank.end (D.view c.bank.disk) c.state) }
     ensures durable { IfOk result (λ c. D.honest c.other → IsDurable (D.view c.other)) }
     ensures honest { IfOk result (λ c. (D.honest left × D.honest right)
         ↔ (D.honest c.bank.disk × D.honest c.other))
@@ -253,7 +254,7 @@ fn open_file<B: Bag, D: Disk>(
 ) -> Result<(State<B>, Bank<D>), (BankFault, D)>
     requires { D.honest disk → IsDurable (D.view disk) }
     ensures found { D.honest disk → IfOk result (λ x.
-        IsStored x.1.generation x.1.end (D.view x.1.disk) x.0) }
+        IsStored x.1.form x.1.generation x.1.end (D.view x.1.disk) x.0) }
     ensures seen { D.honest disk
         → IfOk result (λ x. (D.view x.1.disk).seen ≡ (D.view disk).seen) }
     ensures fault { D.honest disk → IfErr result (λ e. e.0 ≢ BankFault.Disk
@@ -273,7 +274,7 @@ fn open_file<B: Bag, D: Disk>(
 {
     match Bank::open_synced(alloc, disk, limit) {
         Err((fault, disk)) => Err((fault, disk)),
-        Ok((bank, body, records)) => match recover(alloc, body, records) {
+        Ok((bank, body, records)) => match recover(alloc, bank.form(), body, records) {
             Ok(state) => Ok((state, bank)),
             Err(fault) => Err((fault, bank.into_disk())),
         },
@@ -312,16 +313,16 @@ fn choose(left: Heading, right: Heading) -> Result<bool, ChoiceFault>
             right: false,
             offset: 1,
         }),
-        (Heading::NoBank, Heading::Foreign) | (Heading::Bank(_), Heading::Foreign) => {
+        (Heading::NoBank, Heading::Foreign) | (Heading::Bank { .. }, Heading::Foreign) => {
             Err(ChoiceFault::Damaged {
                 right: true,
                 offset: 1,
             })
         }
         (Heading::NoBank, Heading::NoBank) => Err(ChoiceFault::NoStore),
-        (Heading::NoBank, Heading::Bank(_)) => Ok(true),
-        (Heading::Bank(_), Heading::NoBank) => Ok(false),
-        (Heading::Bank(a), Heading::Bank(b)) => {
+        (Heading::NoBank, Heading::Bank { .. }) => Ok(true),
+        (Heading::Bank { .. }, Heading::NoBank) => Ok(false),
+        (Heading::Bank { generation: a, .. }, Heading::Bank { generation: b, .. }) => {
             if a == b {
                 return Err(ChoiceFault::Damaged {
                     right: false,
@@ -333,17 +334,18 @@ fn choose(left: Heading, right: Heading) -> Result<bool, ChoiceFault>
     }
 }
 
-// The state that a body and the records after it come to. The memory of the body is given back before they are done.
+// The state that a body in the form and the records after it come to. The memory of the body is given back before they are done.
 fn recover<B: Bag>(
     alloc: Global,
+    form: Form,
     body: Vec<u8>,
     records: Vec<Record>,
 ) -> Result<State<B>, BankFault>
-    ensures found { IfOk result (λ st. IsRecovered body.items records.items st) }
+    ensures found { IfOk result (λ st. IsRecovered form body.items records.items st) }
     ensures ranges { IfOk result IsState }
-    ensures fault { IfErr result (IsUnrecovered body.items records.items) }
+    ensures fault { IfErr result (IsUnrecovered form body.items records.items) }
 {
-    let read = get_state(alloc, &body);
+    let read = get_state(alloc, form, &body);
     drop(body);
     match read {
         Err(SnapshotFault::NoSnapshot) => Err(BankFault::Damaged(MIN_BYTES)),

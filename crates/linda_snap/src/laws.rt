@@ -19,6 +19,6 @@ pub fn two_banks_stand_for_one_state()
 pub fn an_append_leaves_the_old_state_or_the_new()
     ensures { (file other : List ℕ) (st new : State) (ds : List Deed)
         → (used : IsInUse file other st) → AreDone st ds new → (image : List ℕ)
-        → IsOldOrMore used.generation (spell_state used.stands.opening) used.stands.records ds image
+        → IsOldOrMore used.stands.form used.generation (spell_state used.stands.form used.stands.opening) used.stands.records ds image
         → IsInUse image other st ⊎ IsInUse image other new }
 {}

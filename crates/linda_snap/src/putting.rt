@@ -1,4 +1,4 @@
-//! Writing a state as a snapshot, and how many bytes that takes.
+//! Writing a state as a snapshot in the form of new banks, and how many bytes that takes.
 
 ghost use Rattle.std.specs.Prelude.{◌≡◌, ◌++◌, ◌<◌, ◌≤◌, ◌+◌, ◌^◌, ℕ, All, length, OnOk, IfSome};
 ghost use Rattle.std.specs.Prelude.{IfNone};
@@ -6,6 +6,7 @@ ghost use Rattle.std.specs.List.{flat_map};
 ghost use Rattle.std.specs.FinMap.{entries};
 ghost use Rattle.linda_codec.specs.Formats.{short_number};
 ghost use Rattle.linda_state.specs.State.{IsState};
+ghost use Rattle.linda_state.specs.DeedFormat.{written};
 ghost use Rattle.linda_snap.specs.Snapshot as format;
 ghost use Rattle.linda_snap.specs.Snapshot.{listed, spell_state, FitsState};
 
@@ -25,17 +26,17 @@ const NEXT: usize = 8;
 /// The bytes of a client and its number.
 const CLIENT: usize = 12;
 
-/// Appends the spelling of the state. Where memory runs out, a part of it may stand after the old bytes.
+/// Appends the spelling of the state in the form of new banks. Where memory runs out, a part of it may stand after the old bytes.
 ///
 /// # Errors
 ///
 /// `AllocError` where memory runs out.
 pub fn put_state<B: Bag>(out: &mut Vec<u8>, state: &State<B>) -> Result<(), AllocError>
     requires ranges { IsState state.now }
-    requires short { length (spell_state state.now) < 2 ^ 32 }
-    ensures ok { OnOk result (out.new.items ≡ out.old.items ++ spell_state state.now) }
+    requires short { length (spell_state written state.now) < 2 ^ 32 }
+    ensures ok { OnOk result (out.new.items ≡ out.old.items ++ spell_state written state.now) }
     // It had a spelling, as every state has that is in its ranges and so short.
-    ensures fits { OnOk result (FitsState state.now) }
+    ensures fits { OnOk result (FitsState written state.now) }
 {
     out.extend_from_slice(&state.next.to_be_bytes())?;
     push_tuples(out, state)?;
@@ -48,8 +49,8 @@ fn push_tuples<B: Bag>(out: &mut Vec<u8>, state: &State<B>) -> Result<(), AllocE
     requires ranges { IsState state.now }
     requires short { length (entries state.now.bag) < 2 ^ 32 }
     ensures ok { OnOk result (out.new.items
-        ≡ out.old.items ++ (listed format.placed).spell (entries state.now.bag)) }
-    ensures fits { OnOk result ((listed format.placed).Fits (entries state.now.bag)) }
+        ≡ out.old.items ++ (listed (format.placed written)).spell (entries state.now.bag)) }
+    ensures fits { OnOk result ((listed (format.placed written)).Fits (entries state.now.bag)) }
 {
     push_count(out, state.bag.len())?;
     let mut from = 0;
@@ -64,8 +65,8 @@ fn push_tuples<B: Bag>(out: &mut Vec<u8>, state: &State<B>) -> Result<(), AllocE
 fn push_book(out: &mut Vec<u8>, book: &Book) -> Result<(), AllocError>
     requires { length (entries book.now) < 2 ^ 32 }
     ensures ok { OnOk result (out.new.items
-        ≡ out.old.items ++ (listed format.kept).spell (entries book.now)) }
-    ensures fits { OnOk result ((listed format.kept).Fits (entries book.now)) }
+        ≡ out.old.items ++ (listed (format.kept written)).spell (entries book.now)) }
+    ensures fits { OnOk result ((listed (format.kept written)).Fits (entries book.now)) }
 {
     push_count(out, book.len())?;
     let mut last = None;
@@ -79,8 +80,8 @@ fn push_book(out: &mut Vec<u8>, book: &Book) -> Result<(), AllocError>
 // Appends a client, its last number, and the reply to it; likewise.
 fn push_kept(out: &mut Vec<u8>, client: u32, n: u64, reply: &KeptReply) -> Result<(), AllocError>
     ensures ok { OnOk result (out.new.items
-        ≡ out.old.items ++ format.kept.spell (client, (n, reply.now))) }
-    ensures fits { OnOk result (format.kept.Fits (client, (n, reply.now))) }
+        ≡ out.old.items ++ (format.kept written).spell (client, (n, reply.now))) }
+    ensures fits { OnOk result ((format.kept written).Fits (client, (n, reply.now))) }
 {
     out.extend_from_slice(&client.to_be_bytes())?;
     out.extend_from_slice(&n.to_be_bytes())?;
@@ -99,8 +100,8 @@ fn push_count(out: &mut Vec<u8>, count: usize) -> Result<(), AllocError>
 /// What is left of so many bytes once the state is spelled in them; None where it spells more. No memory is taken.
 pub(crate) fn room_after<B: Bag>(state: &State<B>, room: usize) -> Option<usize>
     requires { IsState state.now }
-    ensures some { IfSome result (λ left. left + length (spell_state state.now) ≡ room) }
-    ensures none { IfNone result (room < length (spell_state state.now)) }
+    ensures some { IfSome result (λ left. left + length (spell_state written state.now) ≡ room) }
+    ensures none { IfNone result (room < length (spell_state written state.now)) }
 {
     let room = room.checked_sub(NEXT)?;
     let room = room_after_tuples(state, room)?;
@@ -111,8 +112,8 @@ pub(crate) fn room_after<B: Bag>(state: &State<B>, room: usize) -> Option<usize>
 fn room_after_tuples<B: Bag>(state: &State<B>, room: usize) -> Option<usize>
     requires { IsState state.now }
     ensures some { IfSome result (λ left.
-        left + length ((listed format.placed).spell (entries state.now.bag)) ≡ room) }
-    ensures none { IfNone result (room < length ((listed format.placed).spell (entries state.now.bag))) }
+        left + length ((listed (format.placed written)).spell (entries state.now.bag)) ≡ room) }
+    ensures none { IfNone result (room < length ((listed (format.placed written)).spell (entries state.now.bag))) }
 {
     let mut left = room.checked_sub(COUNT)?;
     let mut from = 0;
@@ -126,8 +127,8 @@ fn room_after_tuples<B: Bag>(state: &State<B>, room: usize) -> Option<usize>
 // The same of the book.
 fn room_after_book(book: &Book, room: usize) -> Option<usize>
     ensures some { IfSome result (λ left.
-        left + length ((listed format.kept).spell (entries book.now)) ≡ room) }
-    ensures none { IfNone result (room < length ((listed format.kept).spell (entries book.now))) }
+        left + length ((listed (format.kept written)).spell (entries book.now)) ≡ room) }
+    ensures none { IfNone result (room < length ((listed (format.kept written)).spell (entries book.now))) }
 {
     let mut left = room.checked_sub(COUNT)?;
     let mut last = None;

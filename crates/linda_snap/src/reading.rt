@@ -18,6 +18,7 @@ use linda_bag::Bag;
 use linda_book::{Book, KeptReply};
 use linda_codec::{ReadFault, read_u32, read_u64};
 use linda_state::{NUMBER_LIMIT, State};
+use linda_tuple::Form;
 use linda_wire::MAX_CLIENTS;
 use std::alloc::{AllocError, AllocFailed, Global};
 use thiserror::Error;
@@ -57,34 +58,34 @@ impl From<ReadFault> for SnapshotFault {
     }
 }
 
-/// Reads the state that all of the bytes spell.
+/// Reads the state that all of the bytes spell in the form.
 ///
 /// # Errors
 ///
 /// `NoSnapshot` where they spell none that is in its ranges; `Memory`.
-pub fn get_state<B: Bag>(alloc: Global, bytes: &[u8]) -> Result<State<B>, SnapshotFault>
+pub fn get_state<B: Bag>(alloc: Global, form: Form, bytes: &[u8]) -> Result<State<B>, SnapshotFault>
     // What is read is spelled so, and in its ranges.
-    ensures found { IfOk result (λ st. IsSnapshot bytes.now st) }
+    ensures found { IfOk result (λ st. IsSnapshot form bytes.now st) }
     // A state that is spelled so is read, or memory runs out.
-    ensures only { (st : states.State) → IsSnapshot bytes.now st
+    ensures only { (st : states.State) → IsSnapshot form bytes.now st
         → IfOk result (λ s. s ≡ st) × IfErr result (λ f. f ≡ SnapshotFault.Memory) }
     // It is refused only where the bytes spell no state.
-    ensures fault { IfErr result (λ f. f ≢ SnapshotFault.Memory → IsNoSnapshot bytes.now) }
+    ensures fault { IfErr result (λ f. f ≢ SnapshotFault.Memory → IsNoSnapshot form bytes.now) }
 {
-    read_state(alloc, bytes)
+    read_state(alloc, form, bytes)
 }
 
 // Reads the state. The clause on other states follows from these.
-fn read_state<B: Bag>(alloc: Global, bytes: &[u8]) -> Result<State<B>, SnapshotFault>
-    ensures found { IfOk result (λ st. IsSnapshot bytes.now st) }
-    ensures fault { IfErr result (λ f. f ≢ SnapshotFault.Memory → IsNoSnapshot bytes.now) }
+fn read_state<B: Bag>(alloc: Global, form: Form, bytes: &[u8]) -> Result<State<B>, SnapshotFault>
+    ensures found { IfOk result (λ st. IsSnapshot form bytes.now st) }
+    ensures fault { IfErr result (λ f. f ≢ SnapshotFault.Memory → IsNoSnapshot form bytes.now) }
 {
     let (next, rest) = read_u64(bytes)?;
     if next == 0 || next > NUMBER_LIMIT {
         return Err(SnapshotFault::NoSnapshot);
     }
-    let (bag, rest) = listed_tuples(alloc, rest, next)?;
-    let (book, rest) = listed_clients(alloc, rest)?;
+    let (bag, rest) = listed_tuples(alloc, form, rest, next)?;
+    let (book, rest) = listed_clients(alloc, form, rest)?;
     if !rest.is_empty() {
         return Err(SnapshotFault::NoSnapshot);
     }
@@ -94,51 +95,53 @@ fn read_state<B: Bag>(alloc: Global, bytes: &[u8]) -> Result<State<B>, SnapshotF
 // Reads the count of the tuples, and the tuples.
 fn listed_tuples<B: Bag>(
     alloc: Global,
+    form: Form,
     bytes: &[u8],
     next: u64,
 ) -> Result<(B, &[u8]), SnapshotFault>
-    ensures found { IfOk result (λ x. IsListed format.placed (IsPlacedBelow next) ANY_COUNT bytes.now
+    ensures found { IfOk result (λ x. IsListed (format.placed form) (IsPlacedBelow next) ANY_COUNT bytes.now
         (entries (B.contents x.0)) x.1.now) }
     ensures fault { IfErr result (λ f. f ≢ SnapshotFault.Memory
-        → IsNotListed format.placed (IsPlacedBelow next) ANY_COUNT bytes.now) }
+        → IsNotListed (format.placed form) (IsPlacedBelow next) ANY_COUNT bytes.now) }
 {
     let (count, rest) = read_u32(bytes)?;
-    let (bag, rest) = read_tuples(alloc, rest, count, next)?;
+    let (bag, rest) = read_tuples(alloc, form, rest, count, next)?;
     Ok((bag, rest))
 }
 
 // Reads the count of the clients, and the clients with what is kept for them.
-fn listed_clients(alloc: Global, bytes: &[u8]) -> Result<(Book, &[u8]), SnapshotFault>
-    ensures found { IfOk result (λ x. IsListed format.kept IsNumbered MAX_CLIENTS bytes.now
+fn listed_clients(alloc: Global, form: Form, bytes: &[u8]) -> Result<(Book, &[u8]), SnapshotFault>
+    ensures found { IfOk result (λ x. IsListed (format.kept form) IsNumbered MAX_CLIENTS bytes.now
         (entries x.0) x.1.now) }
     ensures fault { IfErr result (λ f. f ≢ SnapshotFault.Memory
-        → IsNotListed format.kept IsNumbered MAX_CLIENTS bytes.now) }
+        → IsNotListed (format.kept form) IsNumbered MAX_CLIENTS bytes.now) }
 {
     let (count, rest) = read_u32(bytes)?;
     if count as usize > MAX_CLIENTS {
         return Err(SnapshotFault::NoSnapshot);
     }
-    let (book, rest) = read_clients(alloc, rest, count)?;
+    let (book, rest) = read_clients(alloc, form, rest, count)?;
     Ok((book, rest))
 }
 
 // Reads so many tuples with their ids, which rise and are below the next one.
 fn read_tuples<B: Bag>(
     alloc: Global,
+    form: Form,
     bytes: &[u8],
     count: u32,
     next: u64,
 ) -> Result<(B, &[u8]), SnapshotFault>
-    ensures found { IfOk result (λ x. IsRun format.placed (IsPlacedBelow next) count bytes.now
+    ensures found { IfOk result (λ x. IsRun (format.placed form) (IsPlacedBelow next) count bytes.now
         (entries (B.contents x.0)) x.1.now) }
     ensures fault { IfErr result (λ f. f ≢ SnapshotFault.Memory
-        → IsNoRun format.placed (IsPlacedBelow next) count bytes.now) }
+        → IsNoRun (format.placed form) (IsPlacedBelow next) count bytes.now) }
 {
     let mut bag = B::empty(alloc);
     let mut low = 0;
     let mut rest = bytes;
     for _ in 0..count {
-        let (id, tuple, after) = read_placed(alloc, rest)?;
+        let (id, tuple, after) = read_placed(alloc, form, rest)?;
         if !is_place(low, id, next) {
             return Err(SnapshotFault::NoSnapshot);
         }
@@ -158,17 +161,22 @@ fn is_place(low: u64, id: u64, next: u64) -> bool
 }
 
 // Reads so many clients with what is kept for them; the clients rise.
-fn read_clients(alloc: Global, bytes: &[u8], count: u32) -> Result<(Book, &[u8]), SnapshotFault>
-    ensures found { IfOk result (λ x. IsRun format.kept IsNumbered count bytes.now
+fn read_clients(
+    alloc: Global,
+    form: Form,
+    bytes: &[u8],
+    count: u32,
+) -> Result<(Book, &[u8]), SnapshotFault>
+    ensures found { IfOk result (λ x. IsRun (format.kept form) IsNumbered count bytes.now
         (entries x.0) x.1.now) }
     ensures fault { IfErr result (λ f. f ≢ SnapshotFault.Memory
-        → IsNoRun format.kept IsNumbered count bytes.now) }
+        → IsNoRun (format.kept form) IsNumbered count bytes.now) }
 {
     let mut book = Book::new(alloc);
     let mut low = 0;
     let mut rest = bytes;
     for _ in 0..count {
-        let (client, entry, after) = read_kept(alloc, rest)?;
+        let (client, entry, after) = read_kept(alloc, form, rest)?;
         if !is_kept(low, client, entry.0) {
             return Err(SnapshotFault::NoSnapshot);
         }
@@ -180,12 +188,16 @@ fn read_clients(alloc: Global, bytes: &[u8], count: u32) -> Result<(Book, &[u8])
 }
 
 // Reads a client, its last number, and the reply to it.
-fn read_kept(alloc: Global, bytes: &[u8]) -> Result<(u32, (u64, KeptReply), &[u8]), ReadFault>
-    ensures { Gives (λ x. ((x.0, x.1), x.2.now)) result (format.kept.read bytes.now) }
+fn read_kept(
+    alloc: Global,
+    form: Form,
+    bytes: &[u8],
+) -> Result<(u32, (u64, KeptReply), &[u8]), ReadFault>
+    ensures { Gives (λ x. ((x.0, x.1), x.2.now)) result ((format.kept form).read bytes.now) }
 {
     let (client, rest) = read_u32(bytes)?;
     let (n, rest) = read_u64(rest)?;
-    let (reply, rest) = read_reply(alloc, rest)?;
+    let (reply, rest) = read_reply(alloc, form, rest)?;
     Ok((client, (n, reply), rest))
 }
 

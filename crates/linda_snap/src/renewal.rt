@@ -3,6 +3,7 @@
 ghost use Rattle.std.specs.Prelude.{◌≡◌, ◌∷◌, [], ◌++◌, ◌<◌, ◌≤◌, ◌+◌, ◌^◌, ◌↔◌, ◌⊎◌, ℕ, List};
 ghost use Rattle.std.specs.Prelude.{true, false, length, IfOk, IfErr, OnOk};
 ghost use Rattle.linda_state.specs.State.{IsState};
+ghost use Rattle.linda_state.specs.DeedFormat.{written};
 ghost use Rattle.linda_disk.specs.View.{IsDurable};
 ghost use Rattle.linda_disk.specs.Disk.{TellsFailures};
 ghost use Rattle.linda_disk.specs.Run.{LeavesOnly};
@@ -51,7 +52,8 @@ impl From<DiskFault> for SwitchFault {
 }
 
 /// Makes a new bank of the next generation on the disk that is not in use, whose body is a snapshot of the state and
-/// whose journal is empty; and gives it, with the disk of the bank that was in use. That disk is not touched.
+/// whose journal is empty; and gives it, with the disk of the bank that was in use. That disk is not touched. The new bank
+/// is in the form of new banks, whatever the form of the one in use is.
 ///
 /// # Errors
 ///
@@ -69,31 +71,31 @@ pub fn switch<B: Bag, D: Disk>(
     requires durable { D.honest other → IsDurable (D.view other) }
     // At no moment a crash leaves anything on the other disk but what stands, beside the bank in use, for the state;
     ensures any_moment { D.honest current.disk → D.honest other
-        → IsUp current.generation current.end (D.view current.disk) (D.view other) state.now
+        → IsUp current.form current.generation current.end (D.view current.disk) (D.view other) state.now
         → IfOk result (λ x. LeavesOnly (D.view other) (D.view x.0.disk)
         (StandsBeside (D.view current.disk).seen state.now))
         × IfErr result (λ e. LeavesOnly (D.view other) (D.view e.2)
         (StandsBeside (D.view current.disk).seen state.now)) }
     // at Ok the new bank is in use, and stands for it.
     ensures done { D.honest current.disk → D.honest other
-        → IsUp current.generation current.end (D.view current.disk) (D.view other) state.now
-        → IfOk result (λ x. IsUp x.0.generation x.0.end (D.view x.0.disk) (D.view x.1) state.now) }
+        → IsUp current.form current.generation current.end (D.view current.disk) (D.view other) state.now
+        → IfOk result (λ x. IsUp x.0.form x.0.generation x.0.end (D.view x.0.disk) (D.view x.1) state.now) }
     // It stands for it on its own disk, whatever the disk is that was in use.
     ensures stored { IfOk result (λ x. D.honest x.0.disk
-        → IsStored x.0.generation x.0.end (D.view x.0.disk) state.now) }
-    ensures new { IfOk result (λ x. (x.0.generation ≡ current.generation + 1)
+        → IsStored x.0.form x.0.generation x.0.end (D.view x.0.disk) state.now) }
+    ensures new { IfOk result (λ x. (x.0.form ≡ written) × (x.0.generation ≡ current.generation + 1)
         × (x.0.limit ≡ current.limit) × (x.0.records ≡ 0) × (x.0.is_spent ≡ false)) }
     // The disk that was in use is not touched.
     ensures same { IfOk result (λ x. x.1 ≡ current.disk)
         × IfErr result (λ e. e.1.disk ≡ current.disk) }
     // It is BankFull exactly where the new bank would be longer than the limit,
     ensures full { IfErr result (λ e. e.0 ≡ SwitchFault.BankFull
-        ↔ (current.limit < MIN_BYTES + 1 + length (spell_state state.now))) }
-    ensures room { OnOk result (MIN_BYTES + 1 + length (spell_state state.now) ≤ current.limit) }
+        ↔ (current.limit < MIN_BYTES + 1 + length (spell_state written state.now))) }
+    ensures room { OnOk result (MIN_BYTES + 1 + length (spell_state written state.now) ≤ current.limit) }
     // and GenerationsSpent else, exactly where no generation is left.
     ensures next { OnOk result (current.generation + 1 < 2 ^ 64) }
     ensures last { IfErr result (λ e. e.0 ≡ SwitchFault.GenerationsSpent
-        ↔ (MIN_BYTES + 1 + length (spell_state state.now) ≤ current.limit)
+        ↔ (MIN_BYTES + 1 + length (spell_state written state.now) ≤ current.limit)
         × (2 ^ 64 ≤ current.generation + 1)) }
     // All is handed back as it was, or a device call was cut off and the bank is spent.
     ensures refused { IfErr result (λ e. (e.0 ≡ SwitchFault.BankFull → (e.1 ≡ current) × (e.2 ≡ other))
@@ -109,7 +111,7 @@ pub fn switch<B: Bag, D: Disk>(
     // It is a write for each piece of the new bank, a sync, a write and a sync; and first a write and a sync, where the
     // disk's first gate is to be closed.
     ensures clock { D.honest other → IfOk result (λ x.
-        TakesCalls (3 + pieces (MIN_BYTES + length (spell_state state.now)))
+        TakesCalls (3 + pieces (MIN_BYTES + length (spell_state written state.now)))
         (D.view other) (D.view x.0.disk)) }
 {
     let limit = current.limit();
@@ -142,15 +144,15 @@ fn renew<D: Disk>(
     requires low { 1 ≤ generation }
     requires durable { D.honest other → IsDurable (D.view other) }
     ensures done { (body : List ℕ) → length body < 2 ^ 32
-        → bytes.now ≡ behind_gate generation body ++ CLOSED ∷ [] → D.honest other
-        → IfOk result (λ b. IsSettled generation body [] b.end (D.view b.disk)) }
+        → bytes.now ≡ behind_gate written generation body ++ CLOSED ∷ [] → D.honest other
+        → IfOk result (λ b. IsSettled written generation body [] b.end (D.view b.disk)) }
     ensures any_moment { (body : List ℕ) → length body < 2 ^ 32
-        → bytes.now ≡ behind_gate generation body ++ CLOSED ∷ [] → D.honest other
+        → bytes.now ≡ behind_gate written generation body ++ CLOSED ∷ [] → D.honest other
         → IfOk result (λ b. LeavesOnly (D.view other) (D.view b.disk)
         (IsOldNoneOrNew (D.view other).seen generation body))
         × IfErr result (λ e. LeavesOnly (D.view other) (D.view e.1)
         (IsOldNoneOrNew (D.view other).seen generation body)) }
-    ensures new { IfOk result (λ b. (b.generation ≡ generation) × (b.limit ≡ limit)
+    ensures new { IfOk result (λ b. (b.form ≡ written) × (b.generation ≡ generation) × (b.limit ≡ limit)
         × (b.records ≡ 0) × (b.is_spent ≡ false)) }
     ensures honest { IfOk result (λ b. D.honest other ↔ D.honest b.disk)
         × IfErr result (λ e. D.honest other ↔ D.honest e.1) }
@@ -175,8 +177,8 @@ fn renew<D: Disk>(
 // Whether a new bank for the state is within the limit.
 fn has_room<B: Bag>(state: &State<B>, limit: usize) -> bool
     requires { IsState state.now }
-    ensures yes { result ≡ true → MIN_BYTES + 1 + length (spell_state state.now) ≤ limit }
-    ensures no { result ≡ false → limit < MIN_BYTES + 1 + length (spell_state state.now) }
+    ensures yes { result ≡ true → MIN_BYTES + 1 + length (spell_state written state.now) ≤ limit }
+    ensures no { result ≡ false → limit < MIN_BYTES + 1 + length (spell_state written state.now) }
 {
     match limit.checked_sub(MIN_BYTES + 1) {
         None => false,
@@ -191,10 +193,10 @@ fn spell_bank<B: Bag>(
     state: &State<B>,
 ) -> Result<Vec<u8>, AllocError>
     requires ranges { IsState state.now }
-    requires short { length (spell_state state.now) < 2 ^ 32 }
+    requires short { length (spell_state written state.now) < 2 ^ 32 }
     ensures bytes { IfOk result (λ v. v.items
-        ≡ behind_gate generation (spell_state state.now) ++ CLOSED ∷ []) }
-    ensures fits { OnOk result (FitsState state.now) }
+        ≡ behind_gate written generation (spell_state written state.now) ++ CLOSED ∷ []) }
+    ensures fits { OnOk result (FitsState written state.now) }
 {
     let mut body = Vec::new(alloc);
     put_state(&mut body, state)?;

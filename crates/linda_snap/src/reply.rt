@@ -1,4 +1,5 @@
-//! A kept reply as bytes: a kind byte, and the id and the tuple that it gives.
+//! A kept reply as bytes: a kind byte, and the id and the tuple that it gives. It is read in either form, and written in
+//! that of new banks.
 
 ghost use Rattle.std.specs.Prelude.{◌≡◌, ◌++◌, ◌≤◌, ◌+◌, length, OnOk};
 ghost use Rattle.linda_codec.specs.Steps.{Gives, GivesAlways};
@@ -6,14 +7,14 @@ ghost use Rattle.linda_codec.specs.Formats.{made_at, number};
 ghost use Rattle.linda_book.specs.declared.kept.KeptReply.TheVariants.{Stored, Taken};
 ghost use Rattle.linda_codec.specs.Values as value;
 ghost use Rattle.linda_state.specs.DeedFormat.{written};
-ghost use Rattle.linda_snap.specs.declared.reply.TheConstants.{ID};
+ghost use Rattle.linda_snap.specs.declared.reply.TheConstants.{ID, PLACED_BYTES, REPLY_BYTES};
 ghost use Rattle.linda_snap.specs.Snapshot as format;
 
 use crate::kinds::{GONE, STORED, TAKEN};
 use linda_book::KeptReply;
 use linda_codec::{ReadFault, put_tuple, read_tuple, read_u64};
-use linda_state::{BANK_FORM, tuple_len};
-use linda_tuple::Tuple;
+use linda_state::{BANK_FORM, MAX_TUPLE_BYTES, tuple_len};
+use linda_tuple::{Form, Tuple};
 use std::alloc::{AllocError, Global};
 
 /// Reads a kept reply, and gives the bytes after it.
@@ -21,13 +22,17 @@ use std::alloc::{AllocError, Global};
 /// # Errors
 ///
 /// The first fault from the left, given by the count of bytes left; `Memory` where a tuple finds none.
-pub(crate) fn read_reply(alloc: Global, bytes: &[u8]) -> Result<(KeptReply, &[u8]), ReadFault>
-    ensures { Gives (λ x. (x.0, x.1.now)) result (format.reply.read bytes.now) }
+pub(crate) fn read_reply(
+    alloc: Global,
+    form: Form,
+    bytes: &[u8],
+) -> Result<(KeptReply, &[u8]), ReadFault>
+    ensures { Gives (λ x. (x.0, x.1.now)) result ((format.reply form).read bytes.now) }
 {
     match bytes {
         [] => Err(ReadFault::Short),
         [STORED, body @ ..] => stored_from(body),
-        [TAKEN, body @ ..] => taken_from(alloc, body),
+        [TAKEN, body @ ..] => taken_from(alloc, form, body),
         [GONE, rest @ ..] => Ok((KeptReply::Gone, rest)),
         [_, ..] => Err(ReadFault::BadKind(bytes.len())),
     }
@@ -41,27 +46,31 @@ fn stored_from(body: &[u8]) -> Result<(KeptReply, &[u8]), ReadFault>
     Ok((KeptReply::Stored(id), rest))
 }
 
-fn taken_from(alloc: Global, body: &[u8]) -> Result<(KeptReply, &[u8]), ReadFault>
+fn taken_from(alloc: Global, form: Form, body: &[u8]) -> Result<(KeptReply, &[u8]), ReadFault>
     ensures { Gives (λ x. (x.0, x.1.now)) result
-        (made_at (λ p. Taken p.0 p.1) format.placed body.now) }
+        (made_at (λ p. Taken p.0 p.1) (format.placed form) body.now) }
 {
-    let (id, tuple, rest) = read_placed(alloc, body)?;
+    let (id, tuple, rest) = read_placed(alloc, form, body)?;
     Ok((KeptReply::Taken(id, tuple), rest))
 }
 
 /// Reads an id and a tuple, and gives the bytes after them; likewise.
-pub(crate) fn read_placed(alloc: Global, bytes: &[u8]) -> Result<(u64, Tuple, &[u8]), ReadFault>
-    ensures { Gives (λ x. ((x.0, x.1), x.2.now)) result (format.placed.read bytes.now) }
+pub(crate) fn read_placed(
+    alloc: Global,
+    form: Form,
+    bytes: &[u8],
+) -> Result<(u64, Tuple, &[u8]), ReadFault>
+    ensures { Gives (λ x. ((x.0, x.1), x.2.now)) result ((format.placed form).read bytes.now) }
 {
     let (id, rest) = read_u64(bytes)?;
-    let (tuple, rest) = read_tuple(alloc, BANK_FORM, rest)?;
+    let (tuple, rest) = read_tuple(alloc, form, rest)?;
     Ok((id, tuple, rest))
 }
 
 /// Appends the spelling of the kept reply. Where memory runs out, a part of it may stand after the old bytes.
 pub(crate) fn push_reply(out: &mut Vec<u8>, reply: &KeptReply) -> Result<(), AllocError>
-    ensures ok { OnOk result (out.new.items ≡ out.old.items ++ format.spell_reply reply.now) }
-    ensures fits { OnOk result (format.FitsReply reply.now) }
+    ensures ok { OnOk result (out.new.items ≡ out.old.items ++ format.spell_reply written reply.now) }
+    ensures fits { OnOk result (format.FitsReply written reply.now) }
 {
     match reply {
         KeptReply::Stored(id) => {
@@ -82,8 +91,8 @@ pub(crate) fn push_reply(out: &mut Vec<u8>, reply: &KeptReply) -> Result<(), All
 /// Appends the spelling of an id and a tuple; likewise.
 pub(crate) fn push_placed(out: &mut Vec<u8>, id: u64, tuple: &Tuple) -> Result<(), AllocError>
     ensures ok { OnOk result (out.new.items
-        ≡ out.old.items ++ format.placed.spell (id, tuple.now)) }
-    ensures fits { OnOk result (format.placed.Fits (id, tuple.now)) }
+        ≡ out.old.items ++ (format.placed written).spell (id, tuple.now)) }
+    ensures fits { OnOk result ((format.placed written).Fits (id, tuple.now)) }
 {
     out.extend_from_slice(&id.to_be_bytes())?;
     put_tuple(BANK_FORM, out, tuple)
@@ -91,8 +100,8 @@ pub(crate) fn push_placed(out: &mut Vec<u8>, id: u64, tuple: &Tuple) -> Result<(
 
 /// How many bytes the kept reply spells.
 pub(crate) fn reply_len(reply: &KeptReply) -> usize
-    ensures exact { result ≡ length (format.spell_reply reply.now) }
-    ensures short { result ≤ 65536 }
+    ensures exact { result ≡ length (format.spell_reply written reply.now) }
+    ensures short { result ≤ REPLY_BYTES }
 {
     match reply {
         KeptReply::Stored(_) => 1 + ID,
@@ -104,10 +113,16 @@ pub(crate) fn reply_len(reply: &KeptReply) -> usize
 /// How many bytes an id and the tuple spell.
 pub(crate) fn placed_len(tuple: &Tuple) -> usize
     ensures exact { result ≡ ID + length ((value.tuple written).spell tuple.now) }
-    ensures short { result ≤ 65535 }
+    ensures short { result ≤ PLACED_BYTES }
 {
     ID + tuple_len(BANK_FORM, tuple)
 }
 
 /// The bytes of an id.
 const ID: usize = 8;
+
+/// The most bytes that an id and a tuple spell.
+const PLACED_BYTES: usize = ID + MAX_TUPLE_BYTES;
+
+/// The most bytes that a kept reply spells: a kind, and an id and a tuple.
+const REPLY_BYTES: usize = 1 + PLACED_BYTES;

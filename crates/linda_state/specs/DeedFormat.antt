@@ -1,9 +1,9 @@
 -- The format of deeds in each of the two forms: the one spelling of each, which deeds have one, and the reader.
-use Rattle.std.specs.Prelude.{ℕ, List, [], ◌∷◌}
+use Rattle.std.specs.Prelude.{ℕ, List, [], ◌∷◌, All}
 use Rattle.std.specs.List.{flat_map}
 use Rattle.linda_tuple.specs.declared.form.Form.{Form}
 use Rattle.linda_tuple.specs.declared.form.Form.TheVariants.{One}
-use Rattle.linda_tuple.specs.Tuple.{Tuple}
+use Rattle.linda_tuple.specs.Tuple.{Tuple, FitsIn}
 use Rattle.linda_codec.specs.Steps.{Reader}
 use Rattle.linda_codec.specs.Formats.{Format, short_number, number, both, made_at, no_kind, choice_at}
 use Rattle.linda_codec.specs.Values as value
@@ -52,3 +52,15 @@ deed form = record {
 -- Deeds, one after the other.
 abbrev pub payload : Form → List Deed → List ℕ
 payload form ds = flat_map (spell_deed form) ds
+
+-- ---- whether there is a spelling
+
+-- The tuple that the deed puts, where it puts one, has a spelling in the form. Nothing else of a deed hangs on the form.
+abbrev pub SuitsForm : Form → Deed → Type 0
+SuitsForm form (Out client n tuple) = FitsIn form tuple
+SuitsForm form (Take client n id) = Unit {0}
+SuitsForm form (Pass client n id) = Unit {0}
+
+-- One of the deeds puts a tuple that has no spelling in the form.
+abbrev pub IsUnspelled : Form → List Deed → Type 0
+IsUnspelled form ds = All (SuitsForm form) ds → ⊥

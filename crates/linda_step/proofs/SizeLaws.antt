@@ -3,6 +3,7 @@ use Rattle.std.proofs.Common.{◌≡◌, ℕ, ◌+◌, ◌<◌, ◌≤◌, Bool,
 use Rattle.std.proofs.lemmas.Bool.{cond-true, cond-false, cases_eq, eqb-false, or_parts}
 use mir.Val.{bool_byte}
 use Rattle.std.proofs.lemmas.Option.{none-some, same_Some}
+use Rattle.linda_tuple.specs.declared.form.Form.{Form}
 use Rattle.linda_wire.specs.declared.limits.TheConstants.{MAX_CLIENTS}
 use Rattle.linda_wire.specs.declared.message.Message.{Message}
 use Rattle.linda_wire.specs.declared.limits.TheConstants.{NUMBER_LIMIT}
@@ -14,7 +15,7 @@ use Rattle.linda_step.specs.declared.judge.Verdict.TheVariants.{Refused, Repeate
 use Rattle.linda_step.specs.Judge.{demand_of, judge}
 use Rattle.linda_step.proofs.JudgeLaws.{IsFresh, IsVerdict, verdict_means}
 use Rattle.linda_step.specs.Answer.{last_number}
-use Rattle.linda_step.specs.Size.{Numbers, if_done, done_by, done_of, deed_bytes, numbers_after, bytes_of, bytes_from, last_behind}
+use Rattle.linda_step.specs.Size.{Numbers, if_done, done_by, done_of, deed_bytes, numbers_after, bytes_of, bytes_from, SuitsIfDone, Suits, AllSuit, last_behind}
 
 -- ---- what was counted so far
 
@@ -54,7 +55,7 @@ at_most_next next n limit true low unspent =
 at_most_next next n limit false low unspent = omega arith
 
 -- One more message was counted, which does a deed.
-module _ (st : State) (es fs : List (ℕ × ℕ)) (c : ℕ) (m : Message) (last clients next k x bytes total : ℕ) (d : Demand) (ms : List (ℕ × Message))
+module _ (form : Form) (st : State) (es fs : List (ℕ × ℕ)) (c : ℕ) (m : Message) (last clients next k x bytes total : ℕ) (d : Demand) (ms : List (ℕ × Message))
     (last_is : last ≡ last_behind es c (last_number st c)) (done : Some d ≡ done_by (demand_of m) (record { last = last; clients = clients; next = next })) (fs_is : fs ≡ es ++ (c, d.n) ∷ [])
     (k_is : k ≡ clients + cond (last == 0) 1 0) (x_is : x ≡ next + cond d.is_out 1 0) where
   found : IsFresh d (record { last = last; clients = clients; next = next })
@@ -76,14 +77,25 @@ module _ (st : State) (es fs : List (ℕ × ℕ)) (c : ℕ) (m : Message) (last 
     next = sym x_is i;
   }
 
-  pub counted_on : (size : ℕ) → size ≡ deed_bytes m → total ≡ bytes + bytes_from (numbers_behind st es clients next) ((c, m) ∷ ms)
-      → total ≡ bytes + size + bytes_from (numbers_behind st fs k x) ms
+  pub counted_on : (size : ℕ) → size ≡ deed_bytes form m → total ≡ bytes + bytes_from form (numbers_behind st es clients next) ((c, m) ∷ ms)
+      → total ≡ bytes + size + bytes_from form (numbers_behind st fs k x) ms
   counted_on size size_is all =
       all
-      ∙ ap (λ o. bytes + (bytes_of m o + bytes_from (numbers_after (numbers_behind st es clients next) c o) ms)) same_done
-      ∙ ap (λ ns. bytes + (deed_bytes m + bytes_from ns ms)) same_numbers
-      ∙ sym (add_assoc bytes (deed_bytes m) (bytes_from (numbers_behind st fs k x) ms))
-      ∙ ap (λ s. bytes + s + bytes_from (numbers_behind st fs k x) ms) (sym size_is)
+      ∙ ap (λ o. bytes + (bytes_of form m o + bytes_from form (numbers_after (numbers_behind st es clients next) c o) ms)) same_done
+      ∙ ap (λ ns. bytes + (deed_bytes form m + bytes_from form ns ms)) same_numbers
+      ∙ sym (add_assoc bytes (deed_bytes form m) (bytes_from form (numbers_behind st fs k x) ms))
+      ∙ ap (λ s. bytes + s + bytes_from form (numbers_behind st fs k x) ms) (sym size_is)
+
+  -- All suit from here on exactly where this one does and the others do.
+  pub suit_on : AllSuit form (numbers_behind st es clients next) ((c, m) ∷ ms) → Suits form m × AllSuit form (numbers_behind st fs k x) ms
+  suit_on suit =
+      let this = subst (λ o. SuitsIfDone form m o × AllSuit form (numbers_after (numbers_behind st es clients next) c o) ms) same_done suit in
+      (this.0, subst (λ ns. AllSuit form ns ms) same_numbers this.1)
+
+  pub suit_back : Suits form m → AllSuit form (numbers_behind st fs k x) ms → AllSuit form (numbers_behind st es clients next) ((c, m) ∷ ms)
+  suit_back this rest =
+      subst (λ o. SuitsIfDone form m o × AllSuit form (numbers_after (numbers_behind st es clients next) c o) ms) (sym same_done)
+      (this, subst (λ ns. AllSuit form ns ms) (sym same_numbers) rest)
 
 -- The items from one on.
 pub first_of : {A : Type 0} (xs : List A) (i : ℕ) (x : A) → i < length xs → x ≡ get_or xs i x → drop i xs ≡ x ∷ drop (i + 1) xs

@@ -1,14 +1,15 @@
--- Which messages do a deed, and how many bytes it spells: that hangs on numbers alone, so it can be told before
--- anything is done.
+-- Which messages do a deed, whether it has a spelling in a form, and how many bytes: that hangs on numbers and tuples
+-- alone, so it can be told before anything is done.
 use Rattle.std.specs.Prelude.{ℕ, ◌+◌, ◌==◌, if◌then◌else◌}
 use Rattle.std.specs.Prelude.{List, [], ◌∷◌, length, Option, Some, None}
 use Rattle.std.specs.FinMap as map
+use Rattle.linda_tuple.specs.declared.form.Form.{Form}
+use Rattle.linda_tuple.specs.Tuple.{FitsIn}
 use Rattle.linda_codec.specs.Values as value
 use Rattle.linda_wire.specs.declared.message.Message.{Message}
 use Rattle.linda_wire.specs.declared.message.Message.TheVariants as messages
 use Rattle.linda_state.specs.declared.limits.TheConstants.{HEAD_BYTES, ID_BYTES}
 use Rattle.linda_state.specs.State.{State}
-use Rattle.linda_state.specs.DeedFormat.{written}
 use Rattle.linda_step.specs.declared.judge.Demand.{Demand}
 use Rattle.linda_step.specs.declared.judge.Standing.{Standing}
 use Rattle.linda_step.specs.declared.judge.Verdict.{Verdict}
@@ -52,21 +53,37 @@ numbers_after ns c (Some d) = record {
   next = ns.next + (if d.is_out then 1 else 0);
 }
 
--- the bytes of a message's deed, where it does one
-abbrev pub deed_bytes : Message → ℕ
-deed_bytes (messages.Out n tuple) = HEAD_BYTES + length ((value.tuple written).spell tuple)
-deed_bytes _ = HEAD_BYTES + ID_BYTES
+-- the bytes of a message's deed in the form, where it does one
+abbrev pub deed_bytes : Form → Message → ℕ
+deed_bytes form (messages.Out n tuple) = HEAD_BYTES + length ((value.tuple form).spell tuple)
+deed_bytes form _ = HEAD_BYTES + ID_BYTES
 
 -- the bytes of what is done of a message
-abbrev pub bytes_of : Message → Option Demand → ℕ
-bytes_of m None = 0
-bytes_of m (Some d) = deed_bytes m
+abbrev pub bytes_of : Form → Message → Option Demand → ℕ
+bytes_of form m None = 0
+bytes_of form m (Some d) = deed_bytes form m
 
 -- the bytes of what is done of messages, one after another
-abbrev pub bytes_from : Numbers → List (ℕ × Message) → ℕ
-bytes_from ns [] = 0
-bytes_from ns (m ∷ ms) =
-    bytes_of m.1 (done_of ns m.0 m.1) + bytes_from (numbers_after ns m.0 (done_of ns m.0 m.1)) ms
+abbrev pub bytes_from : Form → Numbers → List (ℕ × Message) → ℕ
+bytes_from form ns [] = 0
+bytes_from form ns (m ∷ ms) =
+    bytes_of form m.1 (done_of ns m.0 m.1) + bytes_from form (numbers_after ns m.0 (done_of ns m.0 m.1)) ms
+
+-- The tuple that a message brings, where it brings one, has a spelling in the form.
+abbrev pub Suits : Form → Message → Type 0
+Suits form (messages.Out n tuple) = FitsIn form tuple
+Suits form _ = Unit {0}
+
+-- What is done of a message, where anything is, has a spelling in the form.
+abbrev pub SuitsIfDone : Form → Message → Option Demand → Type 0
+SuitsIfDone form m None = Unit {0}
+SuitsIfDone form m (Some d) = Suits form m
+
+-- So it is of all that is done of messages, one after another.
+abbrev pub AllSuit : Form → Numbers → List (ℕ × Message) → Type 0
+AllSuit form ns [] = Unit {0}
+AllSuit form ns (m ∷ ms) =
+    SuitsIfDone form m.1 (done_of ns m.0 m.1) × AllSuit form (numbers_after ns m.0 (done_of ns m.0 m.1)) ms
 
 -- the last number of a client behind these, each a client with its number; or else this one
 abbrev pub last_behind : List (ℕ × ℕ) → ℕ → ℕ → ℕ

@@ -1,28 +1,37 @@
-//! How many bytes the deeds of messages will spell, counted without doing them.
+//! How many bytes the deeds of messages will spell in a form, and whether each has a spelling there, told without doing
+//! them.
 //!
 //! Whether a message does a deed hangs on numbers alone: the last number of its client, how many clients are
 //! kept, and the next id. So these are counted on from message to message.
 
-ghost use Rattle.std.specs.Prelude.{◌≡◌, ◌≤◌, ◌∷◌, [], length};
+ghost use Rattle.std.specs.Prelude.{◌≡◌, ◌≤◌, ◌∷◌, [], length, IfSome, IfNone};
 ghost use Rattle.linda_state.specs.declared.limits.TheConstants.{MAX_DEED_BYTES};
 ghost use Rattle.linda_state.specs.State.{IsState};
 ghost use Rattle.linda_step.specs.Judge.{demand_of};
 ghost use Rattle.linda_step.specs.Size as spec;
-ghost use Rattle.linda_step.specs.Size.{bytes_from, numbers_of};
+ghost use Rattle.linda_step.specs.Size.{bytes_from, numbers_of, AllSuit, Suits};
 
 use crate::judge::{self, Demand, Standing, Verdict};
 use linda_bag::Bag;
-use linda_state::{BANK_FORM, HEAD_BYTES, ID_BYTES, State, tuple_len};
+use linda_state::{HEAD_BYTES, ID_BYTES, State, tuple_len};
+use linda_tuple::{Form, fits};
 use linda_wire::Message;
 
 /// How many messages one call takes at most.
 pub const MAX_BATCH: usize = 64;
 
-/// How many bytes the deeds of the messages spell, each of its client, one after another.
-pub(crate) fn bytes_of<B: Bag>(state: &State<B>, messages: &[(u32, Message)]) -> usize
+/// How many bytes the deeds of the messages spell in the form, each of its client, one after another; None where one of
+/// them has no spelling there.
+pub(crate) fn bytes_of<B: Bag>(
+    form: Form,
+    state: &State<B>,
+    messages: &[(u32, Message)],
+) -> Option<usize>
     requires ranges { IsState state.now }
     requires few { length messages.now ≤ MAX_BATCH }
-    ensures { result ≡ bytes_from (numbers_of state.now) messages.now }
+    ensures bytes { IfSome result (λ bytes. bytes ≡ bytes_from form (numbers_of state.now) messages.now) }
+    ensures suit { IfSome result (λ bytes. AllSuit form (numbers_of state.now) messages.now) }
+    ensures none { IfNone result (AllSuit form (numbers_of state.now) messages.now → ⊥) }
 {
     let mut lasts = [(0, 0); MAX_BATCH];
     let mut count = 0;
@@ -39,22 +48,31 @@ pub(crate) fn bytes_of<B: Bag>(state: &State<B>, messages: &[(u32, Message)]) ->
         let Some(done) = done_of(message, at) else {
             continue;
         };
+        let size = deed_bytes(form, message)?;
         lasts[count] = (*client, done.n);
         count += 1;
         clients += usize::from(last == 0);
         next += u64::from(done.is_out);
-        bytes += deed_bytes(message);
+        bytes += size;
     }
-    bytes
+    Some(bytes)
 }
 
-/// How many bytes the deed of the client's message spells, and 0 where it does none.
-pub(crate) fn bytes_of_one<B: Bag>(state: &State<B>, client: u32, message: &Message) -> usize
-    ensures { result ≡ bytes_from (numbers_of state.now) ((client, message.now) ∷ []) }
+/// How many bytes the deed of the client's message spells in the form, and 0 where it does none; None where it has no
+/// spelling there.
+pub(crate) fn bytes_of_one<B: Bag>(
+    form: Form,
+    state: &State<B>,
+    client: u32,
+    message: &Message,
+) -> Option<usize>
+    ensures bytes { IfSome result (λ bytes. bytes ≡ bytes_from form (numbers_of state.now) ((client, message.now) ∷ [])) }
+    ensures suit { IfSome result (λ bytes. AllSuit form (numbers_of state.now) ((client, message.now) ∷ [])) }
+    ensures none { IfNone result (AllSuit form (numbers_of state.now) ((client, message.now) ∷ []) → ⊥) }
 {
     match done_of(message, Standing::of(state, client)) {
-        Some(_) => deed_bytes(message),
-        None => 0,
+        Some(_) => deed_bytes(form, message),
+        None => Some(0),
     }
 }
 
@@ -69,14 +87,21 @@ fn done_of(message: &Message, at: Standing) -> Option<Demand>
     }
 }
 
-// How many bytes the deed of the message spells, where it does one.
-fn deed_bytes(message: &Message) -> usize
-    ensures exact { result ≡ spec.deed_bytes message.now }
-    ensures short { result ≤ MAX_DEED_BYTES }
+// How many bytes the deed of the message spells in the form, where it does one; None where it has no spelling there.
+fn deed_bytes(form: Form, message: &Message) -> Option<usize>
+    ensures exact { IfSome result (λ bytes. bytes ≡ spec.deed_bytes form message.now) }
+    ensures short { IfSome result (λ bytes. bytes ≤ MAX_DEED_BYTES) }
+    ensures suits { IfSome result (λ bytes. Suits form message.now) }
+    ensures none { IfNone result (Suits form message.now → ⊥) }
 {
     match message {
-        Message::Out { tuple, .. } => HEAD_BYTES + tuple_len(BANK_FORM, tuple),
-        _ => HEAD_BYTES + ID_BYTES,
+        Message::Out { tuple, .. } => {
+            if !fits(form, tuple) {
+                return None;
+            }
+            Some(HEAD_BYTES + tuple_len(form, tuple))
+        }
+        _ => Some(HEAD_BYTES + ID_BYTES),
     }
 }
 

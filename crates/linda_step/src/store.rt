@@ -1,8 +1,8 @@
 //! The store of a server: a state that keeps its ranges, changed by one message after another.
 
 ghost use Rattle.std.specs.Prelude.{◌≡◌, ◌≤◌, ◌++◌, ◌∷◌, [], true, false, length};
-ghost use Rattle.std.specs.Prelude.{IfOk, OnOk, OnErr, IsErr, option_to_list};
-ghost use Rattle.linda_state.specs.DeedFormat.{written, payload};
+ghost use Rattle.std.specs.Prelude.{All, IfOk, IfSome, IfNone, OnOk, OnErr, IsErr, option_to_list};
+ghost use Rattle.linda_state.specs.DeedFormat.{payload, SuitsForm, IsUnspelled};
 ghost use Rattle.linda_state.specs.State.{IsState, empty_state};
 ghost use Rattle.linda_step.specs.Soft.{no_asks};
 ghost use Rattle.linda_step.specs.Dispatch.{on_close};
@@ -16,6 +16,7 @@ use crate::step::{Step, Steps, answer_message};
 use linda_bag::{Bag, Starts};
 use linda_hold::{Holds, Waits};
 use linda_state::{Deed, State};
+use linda_tuple::Form;
 use linda_wire::{Message, Reply};
 use std::alloc::{AllocError, Global};
 use std::marker::Model;
@@ -156,28 +157,42 @@ impl<B: Bag> Store<B> {
         Ok(steps)
     }
 
-    /// How many bytes the deeds of the messages will spell, each of its client, one after another, as
-    /// `step_all` does them. Takes no memory, and changes nothing.
-    #[tactic(auto, using(crate::proofs::DemandLaws::all_bytes))]
-    pub fn size_of(&self, messages: &[(u32, Message)]) -> u64
+    /// How many bytes the deeds of the messages will spell in the form, each of its client, one after another, as
+    /// `step_all` does them; None where one of them will have no spelling there. Takes no memory, and changes nothing.
+    pub fn size_of(&self, form: Form, messages: &[(u32, Message)]) -> Option<u64>
         requires { length messages.now ≤ MAX_BATCH }
         ensures bytes { (all : History) → Answers self.now.state self.now.soft messages.now all
-            → result ≡ length (payload written all.deeds) }
+            → IfSome result (λ size. size ≡ length (payload form all.deeds)) }
+        ensures suit { (all : History) → Answers self.now.state self.now.soft messages.now all
+            → IfSome result (λ size. All (SuitsForm form) all.deeds) }
+        ensures none { (all : History) → Answers self.now.state self.now.soft messages.now all
+            → IfNone result (IsUnspelled form all.deeds) }
         ensures orderly { IsOrderly self.now.state self.now.soft }
     {
-        size::bytes_of(&self.state, messages) as u64
+        match size::bytes_of(form, &self.state, messages) {
+            Some(bytes) => Some(bytes as u64),
+            None => None,
+        }
     }
 
-    /// How many bytes the deed of the client's message will spell, as `step` does it, and 0 where it will do
-    /// none. Takes no memory, and changes nothing.
-    #[tactic(auto, using(crate::proofs::DemandLaws::all_bytes))]
-    pub fn size_of_one(&self, client: u32, message: &Message) -> u64
+    /// How many bytes the deed of the client's message will spell in the form, as `step` does it, and 0 where it will
+    /// do none; None where it will have no spelling there. Takes no memory, and changes nothing.
+    pub fn size_of_one(&self, form: Form, client: u32, message: &Message) -> Option<u64>
         ensures bytes { (all : History)
             → Answers self.now.state self.now.soft ((client, message.now) ∷ []) all
-            → result ≡ length (payload written all.deeds) }
+            → IfSome result (λ size. size ≡ length (payload form all.deeds)) }
+        ensures suit { (all : History)
+            → Answers self.now.state self.now.soft ((client, message.now) ∷ []) all
+            → IfSome result (λ size. All (SuitsForm form) all.deeds) }
+        ensures none { (all : History)
+            → Answers self.now.state self.now.soft ((client, message.now) ∷ []) all
+            → IfNone result (IsUnspelled form all.deeds) }
         ensures orderly { IsOrderly self.now.state self.now.soft }
     {
-        size::bytes_of_one(&self.state, client, message) as u64
+        match size::bytes_of_one(form, &self.state, client, message) {
+            Some(bytes) => Some(bytes as u64),
+            None => None,
+        }
     }
 
     // Does one message more.

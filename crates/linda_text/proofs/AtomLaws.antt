@@ -57,12 +57,12 @@ named_takes {A = A} a word bytes x e =
 -- ---- strings
 
 -- In an escape, the backslash stands before the bytes.
-abbrev slashed : Bool → List ℕ → List ℕ
+abbrev pub slashed : Bool → List ℕ → List ℕ
 slashed true bytes = mark.BACKSLASH ∷ bytes
 slashed false bytes = bytes
 
 -- What stands up to the closing quote says these bytes.
-abbrev Says : Bool → List ℕ → List ℕ × List ℕ → Type 0
+abbrev pub Says : Bool → List ℕ → List ℕ × List ℕ → Type 0
 Says in_escape bytes x = (content : List ℕ) × IsContent x.0 (slashed in_escape content) × (bytes ≡ content ++ mark.QUOTE ∷ x.1)
 
 escape_says : (o : Option ℕ) (e : ℕ) (rest : List ℕ) (x : List ℕ × List ℕ) → escaped e ≡ o → ((y : List ℕ × List ℕ) → content_at false rest ≡ Ok y → Says false rest y)
@@ -94,7 +94,7 @@ byte_says false false false b rest x q s p escapes others read =
     subst (λ (z : List ℕ × List ℕ). Says false (b ∷ rest) z) {x = found} (ok_is found x y.2)
     (b ∷ c.0, (b ∷ [], c.0, inl (p, refl), c.1, refl), ap (λ (t : List ℕ). b ∷ t) c.2)
 
-content_takes : (in_escape : Bool) (bytes : List ℕ) (x : List ℕ × List ℕ) → content_at in_escape bytes ≡ Ok x → Says in_escape bytes x
+pub content_takes : (in_escape : Bool) (bytes : List ℕ) (x : List ℕ × List ℕ) → content_at in_escape bytes ≡ Ok x → Says in_escape bytes x
 unfolding content_at
 content_takes true [] x e = absurd cc
 content_takes false [] x e = absurd cc

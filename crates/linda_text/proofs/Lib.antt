@@ -1,10 +1,11 @@
 pub mod Steps
 pub mod Loop
 pub mod SkipLaws
-pub mod Contents
 pub mod Numerals
 pub mod Blanks
 pub mod AtomLaws
+pub mod Utf8Laws
+pub mod Contents
 pub mod RowLaws
 pub mod PlaceLaws
 pub mod WrittenLaws

@@ -1,11 +1,11 @@
 //! Strings between quotes: each character stands as itself or as an escape.
 //!
-//! What a string says is put into an array first, so that a fault of it is reported without taking
-//! memory.
+//! A string is judged first, which takes no memory, and then read into room for as many bytes as it
+//! says. Whether it says UTF-8 is judged by its bytes as they stand: an escape is of ASCII and stands
+//! for a byte of ASCII, and each other byte stands for itself.
 
-ghost use Rattle.std.specs.Prelude.{◌≡◌, ◌<◌, ◌≤◌, false, length, take, IfOk, IsOk, IsErrOf};
-ghost use Rattle.linda_tuple.specs.declared.limits.TheConstants.{MAX_TEXT};
-ghost use Rattle.linda_text.specs.Reading.{content_at, short_at, said_at, escape_at, string_at};
+ghost use Rattle.std.specs.Prelude.{◌≡◌, ◌<◌, false, length, IfOk, IsOk, IsErrOf};
+ghost use Rattle.linda_text.specs.Reading.{content_at, short_at, said_at, escape_at, string_at, made};
 ghost use Rattle.linda_text.specs.Steps.{Gives, GivesAlways, left_by};
 
 use crate::fault::TextFault;
@@ -16,54 +16,70 @@ use linda_tuple::{MAX_TEXT, Text};
 use std::alloc::Global;
 
 /// What the string says whose quote was opened, and the bytes after its closing quote.
-#[tactic(auto, unfolding(crate::specs::Reading::string_at))]
 pub(crate) fn read_string(alloc: Global, bytes: &[u8]) -> Result<(Text, &[u8]), TextFault>
     ensures value { Gives (λ x. (x.0, x.1.now)) result (string_at bytes.now) }
     ensures memory { IsErrOf result TextFault.Memory → IsOk (string_at bytes.now) }
 {
-    let mut buffer = [0; MAX_TEXT];
-    let (count, rest) = fill(bytes, &mut buffer)?;
-    match std::str::from_utf8(&buffer[..count]) {
-        Ok(text) => {
-            let string = String::from_str(alloc, text)?;
-            Ok((Text::new(string), rest))
-        }
-        Err(_) => Err(TextFault::SyntaxAt(rest.len())),
-    }
+    let (count, _) = judge(bytes)?;
+    let (said, rest) = read_content(alloc, bytes, count)?;
+    let Ok(string) = String::from_utf8(said) else {
+        unreachable!();
+    };
+    Ok((Text::new(string), rest))
 }
 
 /// The bytes after the closing quote of the string whose quote was opened.
-#[tactic(auto, unfolding(crate::specs::Reading::string_at))]
 pub(crate) fn skip_string(bytes: &[u8]) -> Result<&[u8], TextFault>
     ensures { GivesAlways (λ rest. rest.now) result (left_by (string_at bytes.now)) }
 {
-    let mut buffer = [0; MAX_TEXT];
-    let (count, rest) = fill(bytes, &mut buffer)?;
-    match std::str::from_utf8(&buffer[..count]) {
-        Ok(_) => Ok(rest),
+    let (_, rest) = judge(bytes)?;
+    Ok(rest)
+}
+
+// How many bytes the string says, and those after its closing quote; or what is wrong with it.
+fn judge(bytes: &[u8]) -> Result<(usize, &[u8]), TextFault>
+    ensures { GivesAlways (λ x. (x.0, x.1.now)) result (made length (string_at bytes.now)) }
+{
+    let (count, rest) = measure(bytes)?;
+    match std::str::from_utf8(&bytes[..bytes.len() - rest.len()]) {
+        Ok(_) => Ok((count, rest)),
         Err(_) => Err(TextFault::SyntaxAt(rest.len())),
     }
 }
 
-// Puts what the string says into the buffer; gives how many bytes that are, and those after the
-// closing quote.
-fn fill<'a>(bytes: &'a [u8], buffer: &mut [u8; MAX_TEXT]) -> Result<(usize, &'a [u8]), TextFault>
-    ensures value { GivesAlways (λ x. (take x.0 buffer.new, x.1.now)) result (short_at bytes.now) }
-    ensures within { IfOk result (λ x. x.0 ≤ MAX_TEXT) }
+// How many bytes the string says, of UTF-8 or not, and those after its closing quote.
+fn measure(bytes: &[u8]) -> Result<(usize, &[u8]), TextFault>
+    ensures value { GivesAlways (λ x. (x.0, x.1.now)) result (made length (short_at bytes.now)) }
+    ensures shorter { IfOk result (λ x. length x.1.now < length bytes.now) }
 {
     let mut count: usize = 0;
     let mut rest = bytes;
     loop {
         let (said, after) = read_said(rest)?;
-        let Some(byte) = said else {
+        if said.is_none() {
             return Ok((count, after));
-        };
+        }
         if count == MAX_TEXT {
             skip_content(after)?;
             return Err(TextFault::TextTooLong);
         }
-        buffer[count] = byte;
         count += 1;
+        rest = after;
+    }
+}
+
+// What the string says, read into room for so many bytes, and the bytes after its closing quote.
+fn read_content(alloc: Global, bytes: &[u8], count: usize) -> Result<(Vec<u8>, &[u8]), TextFault>
+    ensures { Gives (λ x. (x.0.items, x.1.now)) result (content_at false bytes.now) }
+{
+    let mut content = Vec::with_capacity(alloc, count)?;
+    let mut rest = bytes;
+    loop {
+        let (said, after) = read_said(rest)?;
+        let Some(byte) = said else {
+            return Ok((content, after));
+        };
+        content.push(byte)?;
         rest = after;
     }
 }

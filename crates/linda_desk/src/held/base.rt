@@ -1,9 +1,9 @@
 //! What is always so, and the base, which a snapshot moves.
 
-ghost use Rattle.std.specs.Prelude.{◌≡◌, ◌+◌, nat_le, [], false, true, OnOk, OnErr};
+ghost use Rattle.std.specs.Prelude.{◌≡◌, ◌+◌, ◌||◌, nat_le, [], false, true, OnOk, OnErr};
 ghost use Rattle.linda_step.specs.Store.{IsOrderly};
 ghost use Rattle.linda_server.specs.declared.limits.TheConstants.{SNAPSHOT_RECORDS};
-ghost use Rattle.linda_server.specs.Disks.{number_of};
+ghost use Rattle.linda_server.specs.Disks.{form_of, is_old, number_of};
 ghost use Rattle.linda_server.specs.Pairs.{PairsNow};
 ghost use Rattle.linda_server.specs.Server.{both_of, BothHonest, StandNow};
 ghost use Rattle.linda_desk.specs.Order.{known, IsReplayed, CountsDeeds, StandsBehind};
@@ -49,24 +49,31 @@ impl<D: Disk, L: Ledger> Held<D, L> {
         self.server.is_down()
     }
 
-    /// Whether a snapshot is due.
+    /// Whether a snapshot is due: there are so many records since the last one, or the bank in use is not in the form of
+    /// new banks.
     pub fn needs_snapshot(&self) -> bool
-        ensures { result ≡ nat_le SNAPSHOT_RECORDS (number_of (λ b. b.records) self.now.server.disks) }
+        ensures { result ≡ (is_old (form_of (λ b. b.form) self.now.server.disks)
+            || nat_le SNAPSHOT_RECORDS (number_of (λ b. b.records) self.now.server.disks)) }
     {
         self.server.needs_snapshot()
     }
 
     /// Whether a snapshot pays for itself: it is due, and the records since the last one have at least as many bytes
-    /// as that one left in the bank, or half of the limit is taken; after one that was refused, once there are as many
-    /// records more as make one due. A server that was opened counts from an empty bank on.
+    /// as that one left in the bank, or half of the limit is taken; or the bank in use is not in the form of new banks.
+    /// After one that was refused, once there are as many records more as make one due. A server that was opened counts
+    /// from an empty bank on.
     pub fn pays(&self) -> bool
-        ensures is { result ≡ is_due self.now.pace.base self.now.pace.not_before
+        ensures is { result ≡ is_due (is_old (form_of (λ b. b.form) self.now.server.disks)) self.now.pace.base self.now.pace.not_before
             (number_of (λ b. b.records) self.now.server.disks) (number_of (λ b. b.end) self.now.server.disks)
             self.now.server.limit }
     {
         let server = &self.server;
-        self.pace
-            .is_due(server.records(), server.used(), server.limit())
+        self.pace.is_due(
+            server.is_of_old_form(),
+            server.records(),
+            server.used(),
+            server.limit(),
+        )
     }
 
     /// Takes a snapshot, from which on the receipts begin anew. It alone moves the base.

@@ -2,7 +2,7 @@
 
 ghost use Rattle.std.specs.Prelude.{◌≡◌, ◌∷◌, [], ◌≤◌, ◌↔◌, true, false, length};
 ghost use Rattle.std.specs.Prelude.{IfOk, OnOk, OnErr, IsErrOf};
-ghost use Rattle.linda_server.specs.Disks.{number_of};
+ghost use Rattle.linda_server.specs.Disks.{form_of, number_of};
 ghost use Rattle.linda_server.specs.Server.{BothHonest, AlwaysLeave, StandNow};
 
 use super::Durable;
@@ -43,9 +43,11 @@ impl<D: Disk> Durable<D> {
         ensures up { OnOk result ((self.old.down ≡ false) × (self.new.down ≡ false)) }
         ensures full { IsErrOf result NodeFault.Full → (self.new ≡ self.old)
             × HasNoRoom self.old.store ((client, message.now) ∷ [])
-            (number_of (λ b. b.end) self.old.disks) self.old.limit }
+            (form_of (λ b. b.form) self.old.disks) (number_of (λ b. b.end) self.old.disks)
+            self.old.limit }
         ensures room { OnOk result (HasNoRoom self.old.store ((client, message.now) ∷ [])
-            (number_of (λ b. b.end) self.old.disks) self.old.limit → ⊥) }
+            (form_of (λ b. b.form) self.old.disks) (number_of (λ b. b.end) self.old.disks)
+            self.old.limit → ⊥) }
         ensures down { IsErrOf result NodeFault.Down → self.new.down ≡ true }
         ensures stays_down { self.old.down ≡ true
             → IsErrOf result NodeFault.Down × (self.new ≡ self.old) }
@@ -86,9 +88,11 @@ impl<D: Disk> Durable<D> {
         ensures up { OnOk result ((self.old.down ≡ false) × (self.new.down ≡ false)) }
         ensures full { IsErrOf result NodeFault.Full → (self.new ≡ self.old)
             × HasNoRoom self.old.store messages.now
-            (number_of (λ b. b.end) self.old.disks) self.old.limit }
+            (form_of (λ b. b.form) self.old.disks) (number_of (λ b. b.end) self.old.disks)
+            self.old.limit }
         ensures room { OnOk result (HasNoRoom self.old.store messages.now
-            (number_of (λ b. b.end) self.old.disks) self.old.limit → ⊥) }
+            (form_of (λ b. b.form) self.old.disks) (number_of (λ b. b.end) self.old.disks)
+            self.old.limit → ⊥) }
         ensures down { IsErrOf result NodeFault.Down → self.new.down ≡ true }
         ensures stays_down { self.old.down ≡ true
             → IsErrOf result NodeFault.Down × (self.new ≡ self.old) }

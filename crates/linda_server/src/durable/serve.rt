@@ -1,11 +1,12 @@
 //! Serving messages: judged, done, and put onto the bank in use before anything is answered.
 
 ghost use Rattle.std.specs.Prelude.{◌≡◌, ◌∷◌, [], ◌<◌, ◌≤◌, ◌+◌, ◌^◌, ◌⊎◌, ◌↔◌};
-ghost use Rattle.std.specs.Prelude.{true, false, length, vec_len, IfOk, IfErr, OnOk, OnErr, IsErrOf};
+ghost use Rattle.std.specs.Prelude.{true, false, length, vec_len, All, IfOk, IfErr, IfSome, IfNone, OnOk, OnErr};
+ghost use Rattle.std.specs.Prelude.{IsErrOf, is_some};
 ghost use Rattle.linda_disk.specs.Disk.{TellsFailures};
 ghost use Rattle.linda_server.specs.declared.limits.TheConstants.{RECORD_BYTES};
 ghost use Rattle.linda_server.specs.Server.{BothHonest, failures_of, IsKeptFor, IsPutOn, AlwaysLeave, StandNow};
-ghost use Rattle.linda_server.specs.Disks.{is_ready, number_of};
+ghost use Rattle.linda_server.specs.Disks.{is_ready, form_of, number_of};
 
 use super::Durable;
 use crate::commit::commit;
@@ -20,9 +21,9 @@ use std::alloc::Global;
 
 impl<D: Disk> Durable<D> {
     ghost use Rattle.linda_state.specs.State.{IsState};
-    ghost use Rattle.linda_state.specs.DeedFormat.{written, payload};
+    ghost use Rattle.linda_state.specs.DeedFormat.{payload, SuitsForm, IsUnspelled};
     ghost use Rattle.linda_step.specs.declared.size.TheConstants.{MAX_BATCH};
-    ghost use Rattle.linda_step.specs.History.{says, comings};
+    ghost use Rattle.linda_step.specs.History.{History, Answers, says, comings};
     ghost use Rattle.linda_step.specs.Store.{IsOrderly};
     ghost use Rattle.linda_store.specs.Node.{MayRemain};
     ghost use Rattle.linda_server.specs.Served.{IsServed};
@@ -57,12 +58,14 @@ impl<D: Disk> Durable<D> {
         ensures now { OnOk result (StandNow self.new.disks self.new.store.state) }
         ensures up { OnOk result ((self.old.down ≡ false) × (self.new.down ≡ false)) }
         // It is Full exactly where the record of the deeds, and the gate after it, would pass the
-        // limit; nothing changed then.
+        // limit, or a deed has no spelling in the form of the bank in use; nothing changed then.
         ensures full { IsErrOf result ServeFault.Full → (self.new ≡ self.old)
             × HasNoRoom self.old.store messages.now
-            (number_of (λ b. b.end) self.old.disks) self.old.limit }
+            (form_of (λ b. b.form) self.old.disks) (number_of (λ b. b.end) self.old.disks)
+            self.old.limit }
         ensures room { OnOk result (HasNoRoom self.old.store messages.now
-            (number_of (λ b. b.end) self.old.disks) self.old.limit → ⊥) }
+            (form_of (λ b. b.form) self.old.disks) (number_of (λ b. b.end) self.old.disks)
+            self.old.limit → ⊥) }
         // It is down exactly where it was, and goes down only where a device failed or memory ran
         // out.
         ensures was_down { IsErrOf result ServeFault.Down ↔ (self.old.down ≡ true) }
@@ -86,7 +89,7 @@ impl<D: Disk> Durable<D> {
         ensures before { self.old.down ≡ false
             → IsErrOf result ServeFault.Full ⊎ (self.new.before.value ≡ self.old.store.state) }
     {
-        let size = self.store.size_of(messages);
+        let size = self.size_of(messages);
         self.admit(size)?;
         self.begin();
         let Ok(served) = serve_each(&mut self.store, alloc, messages) else {
@@ -117,9 +120,11 @@ impl<D: Disk> Durable<D> {
         ensures up { OnOk result ((self.old.down ≡ false) × (self.new.down ≡ false)) }
         ensures full { IsErrOf result ServeFault.Full → (self.new ≡ self.old)
             × HasNoRoom self.old.store ((client, message.now) ∷ [])
-            (number_of (λ b. b.end) self.old.disks) self.old.limit }
+            (form_of (λ b. b.form) self.old.disks) (number_of (λ b. b.end) self.old.disks)
+            self.old.limit }
         ensures room { OnOk result (HasNoRoom self.old.store ((client, message.now) ∷ [])
-            (number_of (λ b. b.end) self.old.disks) self.old.limit → ⊥) }
+            (form_of (λ b. b.form) self.old.disks) (number_of (λ b. b.end) self.old.disks)
+            self.old.limit → ⊥) }
         ensures was_down { IsErrOf result ServeFault.Down ↔ (self.old.down ≡ true) }
         ensures stays_down { self.old.down ≡ true → self.new ≡ self.old }
         ensures goes_down { (IsErrOf result ServeFault.Disk → self.new.down ≡ true)
@@ -141,7 +146,7 @@ impl<D: Disk> Durable<D> {
         ensures before { self.old.down ≡ false
             → IsErrOf result ServeFault.Full ⊎ (self.new.before.value ≡ self.old.store.state) }
     {
-        let size = self.store.size_of_one(client, message);
+        let size = self.size_of_one(client, message);
         self.admit(size)?;
         self.begin();
         let Ok(served) = serve_one(&mut self.store, alloc, client, message) else {
@@ -150,19 +155,55 @@ impl<D: Disk> Durable<D> {
         self.settle(alloc, served)
     }
 
-    // Whether it may do deeds of this size.
-    fn admit(&self, size: u64) -> Result<(), ServeFault>
+    // How many bytes the deeds of the messages will spell in the form of the bank in use; None where one of them will have
+    // no spelling there.
+    fn size_of(&self, messages: &[(u32, Message)]) -> Option<u64>
+        requires { length messages.now ≤ MAX_BATCH }
+        ensures bytes { (all : History) → Answers self.now.store.state self.now.store.soft messages.now all
+            → IfSome result (λ size. size ≡ length (payload (form_of (λ b. b.form) self.now.disks) all.deeds)) }
+        ensures suit { (all : History) → Answers self.now.store.state self.now.store.soft messages.now all
+            → IfSome result (λ size. All (SuitsForm (form_of (λ b. b.form) self.now.disks)) all.deeds) }
+        ensures none { (all : History) → Answers self.now.store.state self.now.store.soft messages.now all
+            → IfNone result (IsUnspelled (form_of (λ b. b.form) self.now.disks) all.deeds) }
+        ensures orderly { IsOrderly self.now.store.state self.now.store.soft }
+    {
+        self.store.size_of(self.disks.form(), messages)
+    }
+
+    // The same of one message.
+    fn size_of_one(&self, client: u32, message: &Message) -> Option<u64>
+        ensures bytes { (all : History)
+            → Answers self.now.store.state self.now.store.soft ((client, message.now) ∷ []) all
+            → IfSome result (λ size. size ≡ length (payload (form_of (λ b. b.form) self.now.disks) all.deeds)) }
+        ensures suit { (all : History)
+            → Answers self.now.store.state self.now.store.soft ((client, message.now) ∷ []) all
+            → IfSome result (λ size. All (SuitsForm (form_of (λ b. b.form) self.now.disks)) all.deeds) }
+        ensures none { (all : History)
+            → Answers self.now.store.state self.now.store.soft ((client, message.now) ∷ []) all
+            → IfNone result (IsUnspelled (form_of (λ b. b.form) self.now.disks) all.deeds) }
+        ensures orderly { IsOrderly self.now.store.state self.now.store.soft }
+    {
+        self.store.size_of_one(self.disks.form(), client, message)
+    }
+
+    // Whether it may do deeds of this size, which is None where one of them has no spelling in the form of the bank in
+    // use.
+    fn admit(&self, size: Option<u64>) -> Result<(), ServeFault>
         ensures was_down { IsErrOf result ServeFault.Down ↔ (self.now.down ≡ true) }
-        ensures full { IsErrOf result ServeFault.Full → (0 < size)
-            × (self.now.limit < number_of (λ b. b.end) self.now.disks + RECORD_BYTES + size) }
-        ensures room { OnOk result (0 < size
-            → number_of (λ b. b.end) self.now.disks + RECORD_BYTES + size ≤ self.now.limit) }
+        ensures full { IsErrOf result ServeFault.Full → IfSome size (λ bytes. (0 < bytes)
+            × (self.now.limit < number_of (λ b. b.end) self.now.disks + RECORD_BYTES + bytes)) }
+        ensures room { OnOk result (IfSome size (λ bytes. 0 < bytes
+            → number_of (λ b. b.end) self.now.disks + RECORD_BYTES + bytes ≤ self.now.limit)) }
+        ensures spelled { OnOk result (is_some size ≡ true) }
         ensures known { (IsErrOf result ServeFault.Disk → ⊥)
             × (IsErrOf result ServeFault.Memory → ⊥) }
     {
         if self.down {
             return Err(ServeFault::Down);
         }
+        let Some(size) = size else {
+            return Err(ServeFault::Full);
+        };
         if !has_room(self.limit, self.disks.end(), size) {
             return Err(ServeFault::Full);
         }
@@ -198,9 +239,10 @@ impl<D: Disk> Durable<D> {
         requires kept { ∥ IsKeptFor self.old.disks self.old.before.value ∥₁ }
         requires leads { LeadTo self.old.before.value served.deeds.items self.old.store.state }
         requires few { length served.deeds.items ≤ MAX_BATCH }
+        requires suit { All (SuitsForm (form_of (λ b. b.form) self.old.disks)) served.deeds.items }
         requires room { 0 < length served.deeds.items
             → number_of (λ b. b.end) self.old.disks + RECORD_BYTES
-            + length (payload written served.deeds.items) ≤ self.old.limit }
+            + length (payload (form_of (λ b. b.form) self.old.disks) served.deeds.items) ≤ self.old.limit }
         ensures any_moment { AlwaysLeave self.old.disks self.new.disks
             (IsEither self.old.before.value self.old.store.state) }
         ensures done { IfOk result (λ s. s ≡ served) }

@@ -32,7 +32,7 @@ impl<D: Disk> Durable<D> {
             → AlwaysLeave self.old.disks self.new.disks (StandsFor self.old.store.state) }
         ensures now { OnOk result (StandNow self.new.disks self.new.store.state) }
         // At Ok the other disk holds the bank in use, of the next generation and without a record.
-        ensures switched { OnOk result (IsSwitched (λ b. b.generation) (λ b. b.records)
+        ensures switched { OnOk result (IsSwitched (λ b. b.form) (λ b. b.generation) (λ b. b.records)
             (λ b. b.disk) self.old.disks self.new.disks) }
         // It is five device calls, and one for each piece in which the new bank is written; two fewer
         // where the disk's first gate was closed already.
@@ -87,7 +87,7 @@ impl<D: Disk> Durable<D> {
             → AlwaysLeave self.old.disks self.new.disks (StandsFor self.old.store.state) }
         ensures now { OnOk result (StandNow self.new.disks self.new.store.state) }
         // At Ok the other disk holds the bank in use, of the next generation and without a record.
-        ensures switched { OnOk result (IsSwitched (λ b. b.generation) (λ b. b.records)
+        ensures switched { OnOk result (IsSwitched (λ b. b.form) (λ b. b.generation) (λ b. b.records)
             (λ b. b.disk) self.old.disks self.new.disks) }
         ensures same { (self.new.store ≡ self.old.store) × (self.new.limit ≡ self.old.limit) }
         ensures up { OnOk result ((self.old.down ≡ false) × (self.new.down ≡ false)) }

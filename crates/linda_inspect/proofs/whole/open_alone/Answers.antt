@@ -12,5 +12,5 @@ pub returns-in-Ok : goal.returns-in-Ok
 returns-in-Ok c =
     let found = c.in-Ok.chosen in
     let sides = c.in-Ok.ensures.sides tt tt in
-    alone c.args.bytes.items found.is_right found.bank.generation found.bank.end (view found.bank.disk) found.state (c.in-Ok.ensures.stored tt)
+    alone c.args.bytes.items found.is_right found.bank.form found.bank.generation found.bank.end (view found.bank.disk) found.state (c.in-Ok.ensures.stored tt)
     (sides.0 ∙ ap₂ (chosen found.is_right) (ap seen_of c.in_ok-disk.ensures.history) (ap seen_of c.new.ensures.history))

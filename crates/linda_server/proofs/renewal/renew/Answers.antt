@@ -12,7 +12,7 @@ returns-in-Ok-clause-any_moment g c are up =
     let pair = c.in-InUse.pair in
     let new = view c.in-Ok.bank.disk in
     subst (λ d. PairsSince (both (λ b. view b.disk) view c.args.disks.now) (sides (not pair.is_right) new (view d)) (λ left right. Stands left right c.args.state.now)) (sym c.in-Ok.ensures.same.0)
-    (taken (λ b. b.generation) (λ b. b.end) (λ b. view b.disk) view (λ b. g.D.Disk.honest b.disk) g.D.Disk.honest (λ b h. g.met.D.Disk.timed b.disk h)
+    (taken (λ b. b.form) (λ b. b.generation) (λ b. b.end) (λ b. view b.disk) view (λ b. g.D.Disk.honest b.disk) g.D.Disk.honest (λ b h. g.met.D.Disk.timed b.disk h)
     c.args.disks.now pair (sym c.in-InUse.ensures.value) c.args.state.now new (λ used other was. (c.in-Ok.ensures.any_moment used other was).0) are up)
 
 pub returns-in-Ok-clause-kept : goal.returns-in-Ok-clause-kept
@@ -21,11 +21,11 @@ returns-in-Ok-clause-kept g c kept =
     let pair = c.in-InUse.pair in
     let bank = c.in-Ok.bank in
     let st = c.args.state.now in
-    subst (λ d. IsKept (g.D.Disk.honest bank.disk) (g.D.Disk.honest d) bank.generation bank.end (view bank.disk) (view d) st) (sym c.in-Ok.ensures.same.0)
-    (kept_taken (λ b. b.generation) (λ b. b.end) (λ b. view b.disk) view (λ b. g.D.Disk.honest b.disk) g.D.Disk.honest (λ b h. g.met.D.Disk.timed b.disk h)
-    c.args.disks.now pair (sym c.in-InUse.ensures.value) st (g.D.Disk.honest bank.disk) bank.generation bank.end (view bank.disk)
+    subst (λ d. IsKept (g.D.Disk.honest bank.disk) (g.D.Disk.honest d) bank.form bank.generation bank.end (view bank.disk) (view d) st) (sym c.in-Ok.ensures.same.0)
+    (kept_taken (λ b. b.form) (λ b. b.generation) (λ b. b.end) (λ b. view b.disk) view (λ b. g.D.Disk.honest b.disk) g.D.Disk.honest (λ b h. g.met.D.Disk.timed b.disk h)
+    c.args.disks.now pair (sym c.in-InUse.ensures.value) st (g.D.Disk.honest bank.disk) bank.form bank.generation bank.end (view bank.disk)
     c.in-Ok.ensures.honest.0.1 c.in-Ok.ensures.stored
-    (λ used other was. subst (λ d. IsUp bank.generation bank.end (view bank.disk) (view d) st) c.in-Ok.ensures.same.0 (c.in-Ok.ensures.done used other was)) kept)
+    (λ used other was. subst (λ d. IsUp bank.form bank.generation bank.end (view bank.disk) (view d) st) c.in-Ok.ensures.same.0 (c.in-Ok.ensures.done used other was)) kept)
 
 pub returns-in-Err-clause-any_moment : goal.returns-in-Err-clause-any_moment
 returns-in-Err-clause-any_moment g c are up =
@@ -33,5 +33,5 @@ returns-in-Err-clause-any_moment g c are up =
     let pair = c.in-InUse.pair in
     let new = view c.in-Err.other in
     subst (λ d. PairsSince (both (λ b. view b.disk) view c.args.disks.now) (sides pair.is_right (view d) new) (λ left right. Stands left right c.args.state.now)) (sym c.in-Err.ensures.same.1)
-    (changed (λ b. b.generation) (λ b. b.end) (λ b. view b.disk) view (λ b. g.D.Disk.honest b.disk) g.D.Disk.honest (λ b h. g.met.D.Disk.timed b.disk h)
+    (changed (λ b. b.form) (λ b. b.generation) (λ b. b.end) (λ b. view b.disk) view (λ b. g.D.Disk.honest b.disk) g.D.Disk.honest (λ b h. g.met.D.Disk.timed b.disk h)
     c.args.disks.now pair (sym c.in-InUse.ensures.value) c.args.state.now new (λ used other was. (c.in-Err.ensures.any_moment used other was).1) are up)

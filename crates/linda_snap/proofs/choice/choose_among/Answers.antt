@@ -23,8 +23,8 @@ returns-in-Ok-clause-found g c left right =
     let w = g.D.Disk.view c.look_at_both.new.left in
     let here = c.in-Ok.ensures.seen still ∙ read in
     let there = c.in-Ok-true.ensures.left_seen left in
-    let up = up_right l r c.in-Ok.bank.generation c.in-Ok.bank.end v w c.in-Ok.state is (c.in-Ok.ensures.found still) here there (c.in-Ok-true.ensures.left_durable left) in
-    inr (used_here r l c.in-Ok.bank.generation c.in-Ok.bank.end v w c.in-Ok.state up here there)
+    let up = up_right l r c.in-Ok.bank.form c.in-Ok.bank.generation c.in-Ok.bank.end v w c.in-Ok.state is (c.in-Ok.ensures.found still) here there (c.in-Ok-true.ensures.left_durable left) in
+    inr (used_here r l c.in-Ok.bank.form c.in-Ok.bank.generation c.in-Ok.bank.end v w c.in-Ok.state up here there)
 
 pub returns-in-Ok-clause-up : goal.returns-in-Ok-clause-up
 returns-in-Ok-clause-up g c left right =
@@ -37,7 +37,7 @@ returns-in-Ok-clause-up g c left right =
     let w = g.D.Disk.view c.look_at_both.new.left in
     let here = c.in-Ok.ensures.seen still ∙ read in
     let there = c.in-Ok-true.ensures.left_seen left in
-    let up = up_right l r c.in-Ok.bank.generation c.in-Ok.bank.end v w c.in-Ok.state is (c.in-Ok.ensures.found still) here there (c.in-Ok-true.ensures.left_durable left) in
+    let up = up_right l r c.in-Ok.bank.form c.in-Ok.bank.generation c.in-Ok.bank.end v w c.in-Ok.state is (c.in-Ok.ensures.found still) here there (c.in-Ok-true.ensures.left_durable left) in
     up
 
 pub returns-in-Err-open_file-2-clause-fault : goal.returns-in-Err-open_file-2-clause-fault
@@ -60,8 +60,8 @@ returns-in-Ok-open_file-clause-found g c left right =
     let w = g.D.Disk.view c.look_at_both.new.right in
     let here = c.in-Ok-open_file.ensures.seen still ∙ read in
     let there = c.in-Ok-false.ensures.right_seen right in
-    let up = up_left l r c.in-Ok-open_file.bank.generation c.in-Ok-open_file.bank.end v w c.in-Ok-open_file.state is (c.in-Ok-open_file.ensures.found still) here there (c.in-Ok-false.ensures.right_durable right) in
-    inl (used_here l r c.in-Ok-open_file.bank.generation c.in-Ok-open_file.bank.end v w c.in-Ok-open_file.state up here there)
+    let up = up_left l r c.in-Ok-open_file.bank.form c.in-Ok-open_file.bank.generation c.in-Ok-open_file.bank.end v w c.in-Ok-open_file.state is (c.in-Ok-open_file.ensures.found still) here there (c.in-Ok-false.ensures.right_durable right) in
+    inl (used_here l r c.in-Ok-open_file.bank.form c.in-Ok-open_file.bank.generation c.in-Ok-open_file.bank.end v w c.in-Ok-open_file.state up here there)
 
 pub returns-in-Ok-open_file-clause-up : goal.returns-in-Ok-open_file-clause-up
 returns-in-Ok-open_file-clause-up g c left right =
@@ -74,7 +74,7 @@ returns-in-Ok-open_file-clause-up g c left right =
     let w = g.D.Disk.view c.look_at_both.new.right in
     let here = c.in-Ok-open_file.ensures.seen still ∙ read in
     let there = c.in-Ok-false.ensures.right_seen right in
-    let up = up_left l r c.in-Ok-open_file.bank.generation c.in-Ok-open_file.bank.end v w c.in-Ok-open_file.state is (c.in-Ok-open_file.ensures.found still) here there (c.in-Ok-false.ensures.right_durable right) in
+    let up = up_left l r c.in-Ok-open_file.bank.form c.in-Ok-open_file.bank.generation c.in-Ok-open_file.bank.end v w c.in-Ok-open_file.state is (c.in-Ok-open_file.ensures.found still) here there (c.in-Ok-false.ensures.right_durable right) in
     up
 
 pub returns-in-Ok-clause-stored : goal.returns-in-Ok-clause-stored

@@ -1,17 +1,20 @@
 use Rattle.std.proofs.Common.{subst}
 use Rattle.linda_journal.specs.Journal.{deeds_of}
 use Rattle.linda_journal.specs.Bank.{IsBank}
+use Rattle.linda_snap.specs.Choice.{IsRecovered, IsUnrecovered}
 use Rattle.linda_snap.proofs.ChoiceLaws.{stored_there, fault_there, fault_of_bank}
 use Rattle.linda_snap.proofs.choice.open_file.Goals as goal
 
 pub returns-in-Ok-recover-clause-found : goal.returns-in-Ok-recover-clause-found
 returns-in-Ok-recover-clause-found g c honest =
-    stored_there c.in-Ok.bank.generation c.in-Ok.bank.end c.in-Ok.body.items c.in-Ok.records.items (g.D.Disk.view c.in-Ok.bank.disk) c.in-Ok-recover.state (c.in-Ok.ensures.found honest) c.in-Ok-recover.ensures.found
+    stored_there c.in-Ok.bank.form c.in-Ok.bank.generation c.in-Ok.bank.end c.in-Ok.body.items c.in-Ok.records.items (g.D.Disk.view c.in-Ok.bank.disk) c.in-Ok-recover.state (c.in-Ok.ensures.found honest)
+    (subst (λ f. IsRecovered f c.in-Ok.body.items c.in-Ok.records.items c.in-Ok-recover.state) c.form.ensures c.in-Ok-recover.ensures.found)
 
 pub returns-in-Err-clause-fault : goal.returns-in-Err-clause-fault
 returns-in-Err-clause-fault g c honest other = fault_of_bank (g.D.Disk.view c.args.disk).seen c.in-Err.fault (c.in-Err.ensures.fault honest other)
 
 pub returns-in-Err-recover-clause-fault : goal.returns-in-Err-recover-clause-fault
 returns-in-Err-recover-clause-fault g c honest other =
-    fault_there (g.D.Disk.view c.args.disk).seen c.in-Ok.bank.generation c.in-Ok.body.items c.in-Ok.records.items c.in-Err-recover.fault
-    (subst (λ file. IsBank file c.in-Ok.bank.generation c.in-Ok.body.items (deeds_of c.in-Ok.records.items)) (c.in-Ok.ensures.seen honest) (c.in-Ok.ensures.found honest).file) c.in-Err-recover.ensures.fault
+    fault_there c.in-Ok.bank.form (g.D.Disk.view c.args.disk).seen c.in-Ok.bank.generation c.in-Ok.body.items c.in-Ok.records.items c.in-Err-recover.fault
+    (subst (λ file. IsBank c.in-Ok.bank.form file c.in-Ok.bank.generation c.in-Ok.body.items (deeds_of c.in-Ok.records.items)) (c.in-Ok.ensures.seen honest) (c.in-Ok.ensures.found honest).file)
+    (subst (λ f. IsUnrecovered f c.in-Ok.body.items c.in-Ok.records.items c.in-Err-recover.fault) c.form.ensures c.in-Err-recover.ensures.fault)

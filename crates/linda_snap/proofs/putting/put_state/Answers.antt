@@ -1,5 +1,6 @@
 use Rattle.std.proofs.Common.{◌<◌, ◌^◌, ◌++◌, ap, ◌∙◌, length, subst, sym}
 use Rattle.std.specs.FinMap.{entries}
+use Rattle.linda_state.specs.DeedFormat.{written}
 use Rattle.linda_codec.specs.Formats.{number}
 use Rattle.linda_state.specs.State.{State}
 use Rattle.linda_snap.specs.Snapshot as format
@@ -16,6 +17,6 @@ push_book-requires g c = subst (λ b. length (entries b) < 2 ^ 32) (sym (ap (λ 
 pub returns-clause-ok : goal.returns-clause-ok
 returns-clause-ok g c =
     let st = c.args.state.now in
-    let last = c.in_ok-push_book.ensures.ok ∙ ap (λ b. c.push_tuples.new.out.items ++ (listed format.kept).spell (entries b)) (ap (λ (s : State). s.book) c.state.view_is) in
-    put_in_row c.args.out.now.items (number.spell st.next) ((listed format.placed).spell (entries st.bag)) ((listed format.kept).spell (entries st.book)) c.extend_from_slice.new.self.items c.push_tuples.new.out.items c.push_book.new.out.items
+    let last = c.in_ok-push_book.ensures.ok ∙ ap (λ b. c.push_tuples.new.out.items ++ (listed (format.kept written)).spell (entries b)) (ap (λ (s : State). s.book) c.state.view_is) in
+    put_in_row c.args.out.now.items (number.spell st.next) ((listed (format.placed written)).spell (entries st.bag)) ((listed (format.kept written)).spell (entries st.book)) c.extend_from_slice.new.self.items c.push_tuples.new.out.items c.push_book.new.out.items
     (c.in_ok-extend_from_slice.ensures.items ∙ ap (λ b. c.args.out.now.items ++ b) (c.to_be_bytes.ensures ∙ ap (λ (s : State). number.spell s.next) c.state.view_is)) c.in_ok-push_tuples.ensures.ok last

@@ -5,4 +5,4 @@ use Rattle.linda_snap.proofs.reading.read_clients.Given as goal
 
 -- The entries of the book were read.
 abbrev pub invariant-loop : goal.invariant-loop
-invariant-loop l = IsReadSo format.kept IsNumbered l.bytes l.book l.low l.counter l.rest
+invariant-loop l = IsReadSo (format.kept l.form) IsNumbered l.bytes l.book l.low l.counter l.rest

@@ -5,4 +5,4 @@ use Rattle.linda_snap.proofs.reading.read_tuples.Given as goal
 
 -- The entries of the bag were read.
 abbrev pub invariant-loop : goal.invariant-loop
-invariant-loop g l = IsReadSo format.placed (IsPlacedBelow l.next) l.bytes (g.B.Bag.contents l.bag) l.low l.counter l.rest
+invariant-loop g l = IsReadSo (format.placed l.form) (IsPlacedBelow l.next) l.bytes (g.B.Bag.contents l.bag) l.low l.counter l.rest

@@ -1,4 +1,5 @@
 use Rattle.std.proofs.Common.{◌+◌, [], length, subst, sym, arith}
+use Rattle.linda_state.specs.DeedFormat.{written}
 use Rattle.linda_disk.specs.Run.{LeavesOnly}
 use Rattle.linda_journal.specs.Bank.{IsSettled, IsNoneOrNew}
 use Rattle.linda_journal.specs.Renewal.{IsWhole, pieces}
@@ -11,11 +12,11 @@ returns-in-Err-unlock-clause-any_moment g c body short is honest =
     let one = c.in-Ok.ensures.honest.0.0 honest in
     let two = c.in-Ok-fill.ensures.honest.0.0 one in
     let w = c.in-Ok-fill.whole in
-    let whole = subst (λ n. IsWhole n body w.end (g.D.Disk.view w.disk)) (sym c.in-Ok-fill.ensures.new.0) (c.in-Ok-fill.ensures.whole body short is one) in (
+    let whole = subst (λ n. IsWhole written n body w.end (g.D.Disk.view w.disk)) (sym c.in-Ok-fill.ensures.new.0) (c.in-Ok-fill.ensures.whole body short is one) in (
       tt,
       opening c.args.generation body (g.D.Disk.view c.args.other) (g.D.Disk.view w.disk) (g.D.Disk.view c.in-Err-unlock.other)
           (filling c.args.generation body (g.D.Disk.view c.args.other) (g.D.Disk.view c.in-Ok.closed.disk) (g.D.Disk.view w.disk) (c.in-Ok.ensures.any_moment honest).0 (c.in-Ok-fill.ensures.any_moment one).0)
-          (subst (λ n. LeavesOnly (g.D.Disk.view w.disk) (g.D.Disk.view c.in-Err-unlock.other) (IsNoneOrNew n body)) c.in-Ok-fill.ensures.new.0 (c.in-Err-unlock.ensures.any_moment body two whole).1),
+          (subst (λ n. LeavesOnly (g.D.Disk.view w.disk) (g.D.Disk.view c.in-Err-unlock.other) (IsNoneOrNew written n body)) c.in-Ok-fill.ensures.new.0 (c.in-Err-unlock.ensures.any_moment body two whole).1),
     )
 
 pub returns-in-Ok-unlock-clause-done : goal.returns-in-Ok-unlock-clause-done
@@ -23,18 +24,18 @@ returns-in-Ok-unlock-clause-done g c body short is honest =
     let one = c.in-Ok.ensures.honest.0.0 honest in
     let two = c.in-Ok-fill.ensures.honest.0.0 one in
     let w = c.in-Ok-fill.whole in
-    let whole = subst (λ n. IsWhole n body w.end (g.D.Disk.view w.disk)) (sym c.in-Ok-fill.ensures.new.0) (c.in-Ok-fill.ensures.whole body short is one) in
-    subst (λ n. IsSettled n body [] c.in-Ok-unlock.bank.end (g.D.Disk.view c.in-Ok-unlock.bank.disk)) c.in-Ok-fill.ensures.new.0 (c.in-Ok-unlock.ensures.done body two whole)
+    let whole = subst (λ n. IsWhole written n body w.end (g.D.Disk.view w.disk)) (sym c.in-Ok-fill.ensures.new.0) (c.in-Ok-fill.ensures.whole body short is one) in
+    subst (λ n. IsSettled written n body [] c.in-Ok-unlock.bank.end (g.D.Disk.view c.in-Ok-unlock.bank.disk)) c.in-Ok-fill.ensures.new.0 (c.in-Ok-unlock.ensures.done body two whole)
 
 pub returns-in-Ok-unlock-clause-any_moment : goal.returns-in-Ok-unlock-clause-any_moment
 returns-in-Ok-unlock-clause-any_moment g c body short is honest =
     let one = c.in-Ok.ensures.honest.0.0 honest in
     let two = c.in-Ok-fill.ensures.honest.0.0 one in
     let w = c.in-Ok-fill.whole in
-    let whole = subst (λ n. IsWhole n body w.end (g.D.Disk.view w.disk)) (sym c.in-Ok-fill.ensures.new.0) (c.in-Ok-fill.ensures.whole body short is one) in (
+    let whole = subst (λ n. IsWhole written n body w.end (g.D.Disk.view w.disk)) (sym c.in-Ok-fill.ensures.new.0) (c.in-Ok-fill.ensures.whole body short is one) in (
       opening c.args.generation body (g.D.Disk.view c.args.other) (g.D.Disk.view w.disk) (g.D.Disk.view c.in-Ok-unlock.bank.disk)
           (filling c.args.generation body (g.D.Disk.view c.args.other) (g.D.Disk.view c.in-Ok.closed.disk) (g.D.Disk.view w.disk) (c.in-Ok.ensures.any_moment honest).0 (c.in-Ok-fill.ensures.any_moment one).0)
-          (subst (λ n. LeavesOnly (g.D.Disk.view w.disk) (g.D.Disk.view c.in-Ok-unlock.bank.disk) (IsNoneOrNew n body)) c.in-Ok-fill.ensures.new.0 (c.in-Ok-unlock.ensures.any_moment body two whole).0),
+          (subst (λ n. LeavesOnly (g.D.Disk.view w.disk) (g.D.Disk.view c.in-Ok-unlock.bank.disk) (IsNoneOrNew written n body)) c.in-Ok-fill.ensures.new.0 (c.in-Ok-unlock.ensures.any_moment body two whole).0),
       tt,
     )
 

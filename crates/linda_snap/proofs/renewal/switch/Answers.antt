@@ -1,35 +1,36 @@
 use Rattle.std.proofs.Common.{◌≡◌, ◌+◌, ◌<◌, ◌^◌, [], length, ap, subst, sym, ◌∙◌, arith, rules}
+use Rattle.linda_state.specs.DeedFormat.{written}
 use Rattle.linda_disk.specs.Run.{LeavesOnly}
 use Rattle.linda_journal.specs.Bank.{IsSettled}
 use Rattle.linda_journal.specs.Renewal.{pieces, TakesCalls}
 use Rattle.linda_journal.proofs.RenewalLaws.{front_length}
 use Rattle.linda_snap.specs.Snapshot.{spell_state}
-use Rattle.linda_snap.specs.Stands.{IsUp}
+use Rattle.linda_snap.specs.Stands.{IsStored, IsUp}
 use Rattle.linda_snap.specs.Switch.{IsOldNoneOrNew}
 use Rattle.linda_snap.proofs.StandsLaws.{stays_so, switching, switched, new_stored}
 use Rattle.linda_snap.proofs.renewal.switch.Goals as goal
 
 pub returns-then-not-has_room-clause-any_moment : goal.returns-then-not-has_room-clause-any_moment
 returns-then-not-has_room-clause-any_moment g c used honest up =
-    (tt, stays_so c.args.current.generation c.args.current.end (g.D.Disk.view c.args.current.disk) (g.D.Disk.view c.args.other) c.args.state.now up (g.met.D.Disk.timed c.args.other honest))
+    (tt, stays_so c.args.current.form c.args.current.generation c.args.current.end (g.D.Disk.view c.args.current.disk) (g.D.Disk.view c.args.other) c.args.state.now up (g.met.D.Disk.timed c.args.other honest))
 
 pub returns-in_default-clause-any_moment : goal.returns-in_default-clause-any_moment
 returns-in_default-clause-any_moment g c used honest up =
-    (tt, stays_so c.args.current.generation c.args.current.end (g.D.Disk.view c.args.current.disk) (g.D.Disk.view c.args.other) c.args.state.now up (g.met.D.Disk.timed c.args.other honest))
+    (tt, stays_so c.args.current.form c.args.current.generation c.args.current.end (g.D.Disk.view c.args.current.disk) (g.D.Disk.view c.args.other) c.args.state.now up (g.met.D.Disk.timed c.args.other honest))
 
 pub returns-in_default-spell_bank-clause-any_moment : goal.returns-in_default-spell_bank-clause-any_moment
 returns-in_default-spell_bank-clause-any_moment g c used honest up =
-    (tt, stays_so c.args.current.generation c.args.current.end (g.D.Disk.view c.args.current.disk) (g.D.Disk.view c.args.other) c.args.state.now up (g.met.D.Disk.timed c.args.other honest))
+    (tt, stays_so c.args.current.form c.args.current.generation c.args.current.end (g.D.Disk.view c.args.current.disk) (g.D.Disk.view c.args.other) c.args.state.now up (g.met.D.Disk.timed c.args.other honest))
 
 pub returns-in-Ok-renew-clause-any_moment : goal.returns-in-Ok-renew-clause-any_moment
 returns-in-Ok-renew-clause-any_moment g c used honest up =
     let st = c.args.state.now in
     let next : c.in-Some.generation ≡ c.args.current.generation + 1 = grind (arith, c.in-Some.ensures, c.generation.ensures) in
     let room = c.if-not-has_room.ensures.yes (search rules) in
-    let short : length (spell_state st) < 2 ^ 32 = omega (arith, room, c.limit-limit.ensures, c.requires.short) in
+    let short : length (spell_state written st) < 2 ^ 32 = omega (arith, room, c.limit-limit.ensures, c.requires.short) in
     let bytes = c.deref.ensures.value ∙ c.in-Ok.ensures.bytes in (
-      switching c.args.current.generation c.args.current.end (g.D.Disk.view c.args.current.disk) (g.D.Disk.view c.args.other) st up (g.D.Disk.view c.in-Ok-renew.bank.disk) c.requires.ranges c.in-Ok.ensures.fits
-          (subst (λ n. LeavesOnly (g.D.Disk.view c.args.other) (g.D.Disk.view c.in-Ok-renew.bank.disk) (IsOldNoneOrNew (g.D.Disk.view c.args.other).seen n (spell_state st))) next (c.in-Ok-renew.ensures.any_moment (spell_state st) short bytes honest).0),
+      switching c.args.current.form c.args.current.generation c.args.current.end (g.D.Disk.view c.args.current.disk) (g.D.Disk.view c.args.other) st up (g.D.Disk.view c.in-Ok-renew.bank.disk) c.requires.ranges c.in-Ok.ensures.fits
+          (subst (λ n. LeavesOnly (g.D.Disk.view c.args.other) (g.D.Disk.view c.in-Ok-renew.bank.disk) (IsOldNoneOrNew (g.D.Disk.view c.args.other).seen n (spell_state written st))) next (c.in-Ok-renew.ensures.any_moment (spell_state written st) short bytes honest).0),
       tt,
     )
 
@@ -38,39 +39,41 @@ returns-in-Ok-renew-clause-done g c used honest up =
     let st = c.args.state.now in
     let next : c.in-Some.generation ≡ c.args.current.generation + 1 = grind (arith, c.in-Some.ensures, c.generation.ensures) in
     let room = c.if-not-has_room.ensures.yes (search rules) in
-    let short : length (spell_state st) < 2 ^ 32 = omega (arith, room, c.limit-limit.ensures, c.requires.short) in
+    let short : length (spell_state written st) < 2 ^ 32 = omega (arith, room, c.limit-limit.ensures, c.requires.short) in
     let bytes = c.deref.ensures.value ∙ c.in-Ok.ensures.bytes in
     let bank = c.in-Ok-renew.bank in
-    let up_next = switched c.args.current.generation c.args.current.end (g.D.Disk.view c.args.current.disk) (g.D.Disk.view c.args.other) st up bank.end (g.D.Disk.view bank.disk) c.requires.ranges c.in-Ok.ensures.fits
-    (subst (λ n. IsSettled n (spell_state st) [] bank.end (g.D.Disk.view bank.disk)) next (c.in-Ok-renew.ensures.done (spell_state st) short bytes honest)) in
-    let same : bank.generation ≡ c.args.current.generation + 1 = c.in-Ok-renew.ensures.new.0 ∙ next in
-    subst (λ n. IsUp n bank.end (g.D.Disk.view bank.disk) (g.D.Disk.view c.into_disk.result) st) (sym same)
-    (subst (λ d. IsUp (c.args.current.generation + 1) bank.end (g.D.Disk.view bank.disk) (g.D.Disk.view d) st) (sym c.into_disk.ensures) up_next)
+    let up_next = switched c.args.current.form c.args.current.generation c.args.current.end (g.D.Disk.view c.args.current.disk) (g.D.Disk.view c.args.other) st up bank.end (g.D.Disk.view bank.disk) c.requires.ranges c.in-Ok.ensures.fits
+    (subst (λ n. IsSettled written n (spell_state written st) [] bank.end (g.D.Disk.view bank.disk)) next (c.in-Ok-renew.ensures.done (spell_state written st) short bytes honest)) in
+    let same : bank.generation ≡ c.args.current.generation + 1 = c.in-Ok-renew.ensures.new.1 ∙ next in
+    subst (λ f. IsUp f bank.generation bank.end (g.D.Disk.view bank.disk) (g.D.Disk.view c.into_disk.result) st) (sym c.in-Ok-renew.ensures.new.0)
+    (subst (λ n. IsUp written n bank.end (g.D.Disk.view bank.disk) (g.D.Disk.view c.into_disk.result) st) (sym same)
+    (subst (λ d. IsUp written (c.args.current.generation + 1) bank.end (g.D.Disk.view bank.disk) (g.D.Disk.view d) st) (sym c.into_disk.ensures) up_next))
 
 pub returns-clause-any_moment : goal.returns-clause-any_moment
 returns-clause-any_moment g c used honest up =
     let st = c.args.state.now in
     let next : c.in-Some.generation ≡ c.args.current.generation + 1 = grind (arith, c.in-Some.ensures, c.generation.ensures) in
     let room = c.if-not-has_room.ensures.yes (search rules) in
-    let short : length (spell_state st) < 2 ^ 32 = omega (arith, room, c.limit-limit.ensures, c.requires.short) in
+    let short : length (spell_state written st) < 2 ^ 32 = omega (arith, room, c.limit-limit.ensures, c.requires.short) in
     let bytes = c.deref.ensures.value ∙ c.in-Ok.ensures.bytes in (
       tt,
-      switching c.args.current.generation c.args.current.end (g.D.Disk.view c.args.current.disk) (g.D.Disk.view c.args.other) st up (g.D.Disk.view c.in-Err.other) c.requires.ranges c.in-Ok.ensures.fits
-          (subst (λ n. LeavesOnly (g.D.Disk.view c.args.other) (g.D.Disk.view c.in-Err.other) (IsOldNoneOrNew (g.D.Disk.view c.args.other).seen n (spell_state st))) next (c.in-Err.ensures.any_moment (spell_state st) short bytes honest).1),
+      switching c.args.current.form c.args.current.generation c.args.current.end (g.D.Disk.view c.args.current.disk) (g.D.Disk.view c.args.other) st up (g.D.Disk.view c.in-Err.other) c.requires.ranges c.in-Ok.ensures.fits
+          (subst (λ n. LeavesOnly (g.D.Disk.view c.args.other) (g.D.Disk.view c.in-Err.other) (IsOldNoneOrNew (g.D.Disk.view c.args.other).seen n (spell_state written st))) next (c.in-Err.ensures.any_moment (spell_state written st) short bytes honest).1),
     )
 
 pub returns-in-Ok-renew-clause-stored : goal.returns-in-Ok-renew-clause-stored
 returns-in-Ok-renew-clause-stored g c honest =
     let st = c.args.state.now in
     let room = c.if-not-has_room.ensures.yes (search rules) in
-    let short : length (spell_state st) < 2 ^ 32 = omega (arith, room, c.limit-limit.ensures, c.requires.short) in
+    let short : length (spell_state written st) < 2 ^ 32 = omega (arith, room, c.limit-limit.ensures, c.requires.short) in
     let bytes = c.deref.ensures.value ∙ c.in-Ok.ensures.bytes in
     let bank = c.in-Ok-renew.bank in
-    new_stored bank.generation bank.end (g.D.Disk.view bank.disk) st c.requires.ranges c.in-Ok.ensures.fits
-    (subst (λ n. IsSettled n (spell_state st) [] bank.end (g.D.Disk.view bank.disk)) (sym c.in-Ok-renew.ensures.new.0) (c.in-Ok-renew.ensures.done (spell_state st) short bytes (c.in-Ok-renew.ensures.honest.0.1 honest)))
+    subst (λ f. IsStored f bank.generation bank.end (g.D.Disk.view bank.disk) st) (sym c.in-Ok-renew.ensures.new.0)
+    (new_stored written bank.generation bank.end (g.D.Disk.view bank.disk) st c.requires.ranges c.in-Ok.ensures.fits
+    (subst (λ n. IsSettled written n (spell_state written st) [] bank.end (g.D.Disk.view bank.disk)) (sym c.in-Ok-renew.ensures.new.1) (c.in-Ok-renew.ensures.done (spell_state written st) short bytes (c.in-Ok-renew.ensures.honest.0.1 honest))))
 
 pub returns-in-Ok-renew-clause-clock : goal.returns-in-Ok-renew-clause-clock
 returns-in-Ok-renew-clause-clock g c honest =
     let bytes = c.deref.ensures.value ∙ c.in-Ok.ensures.bytes in
-    let count = ap length bytes ∙ front_length c.in-Some.generation (spell_state c.args.state.now) in
+    let count = ap length bytes ∙ front_length written c.in-Some.generation (spell_state written c.args.state.now) in
     subst (λ n. TakesCalls (3 + pieces n) (g.D.Disk.view c.args.other) (g.D.Disk.view c.in-Ok-renew.bank.disk)) count (c.in-Ok-renew.ensures.clock honest)

@@ -1,11 +1,11 @@
 -- With each turn one message more is counted.
-use Rattle.std.proofs.Common.{◌≡◌, ◌+◌, ◌==◌, take, drop, ◌∷◌, ap, ◌∙◌, arith}
+use Rattle.std.proofs.Common.{◌≡◌, ◌+◌, ◌==◌, take, drop, ◌∷◌, ap, sym, ◌∙◌, subst, arith}
 use Rattle.std.proofs.lemmas.List.{take_more_set}
 use Rattle.std.specs.FinMap.{get}
 use Rattle.linda_book.specs.Entries.{number_in}
 use Rattle.linda_state.specs.State.{State}
-use Rattle.linda_step.specs.Size.{bytes_from, last_behind}
-use Rattle.linda_step.proofs.SizeLaws.{numbers_behind, first_of, as_number, clients_few, next_low, counted_on}
+use Rattle.linda_step.specs.Size.{bytes_from, last_behind, AllSuit}
+use Rattle.linda_step.proofs.SizeLaws.{numbers_behind, first_of, as_number, clients_few, next_low, counted_on, suit_on, suit_back}
 use Rattle.linda_step.proofs.size.bytes_of.Goals as goal
 
 pub loop-client-preserved : goal.loop-client-preserved
@@ -24,11 +24,17 @@ loop-client-preserved g c =
     let fs_is = take_more_set l.lasts l.count (m.0, d.n) (omega arith) in
     let i = l.client-index in
     let rest : drop i ms ≡ m ∷ drop (i + 1) ms = first_of ms i m c.loop-client-test.true c.loop-client-item.is in
-    let all = l.invariant.all ∙ ap (λ xs. l.bytes + bytes_from (numbers_behind st (take l.count l.lasts) l.clients l.next) xs) rest in
+    let form = c.args.form in
+    let here = numbers_behind st (take l.count l.lasts) l.clients l.next in
+    let all = l.invariant.all ∙ ap (λ xs. l.bytes + bytes_from form here xs) rest in
     record {
-      all = counted_on st _ _ m.0 m.1 _ l.clients l.next _ _ l.bytes _ d (drop (i + 1) ms) last_is c.in-Some.ensures fs_is k_is x_is c.deed_bytes-bytes.result c.deed_bytes-bytes.ensures.exact all;
+      all = counted_on form st _ _ m.0 m.1 _ l.clients l.next _ _ l.bytes _ d (drop (i + 1) ms) last_is c.in-Some.ensures fs_is k_is x_is c.in_ok-size.size c.in_ok-size.ensures.exact all;
+      suit = (
+        λ every. (suit_on form st _ _ m.0 m.1 _ l.clients l.next _ _ l.bytes 0 d (drop (i + 1) ms) last_is c.in-Some.ensures fs_is k_is x_is (subst (AllSuit form here) rest (l.invariant.suit.0 every))).1,
+        λ later. l.invariant.suit.1 (subst (AllSuit form here) (sym rest) (suit_back form st _ _ m.0 m.1 _ l.clients l.next _ _ l.bytes 0 d (drop (i + 1) ms) last_is c.in-Some.ensures fs_is k_is x_is c.in_ok-size.ensures.suits later)),
+      );
       count_few = omega (arith, l.invariant.count_few);
-      clients_few = clients_few st _ _ m.0 m.1 _ l.clients l.next _ _ l.bytes 0 d ms last_is c.in-Some.ensures fs_is k_is x_is l.invariant.clients_few;
-      next_low = next_low st _ _ m.0 m.1 _ l.clients l.next _ _ l.bytes 0 d ms last_is c.in-Some.ensures fs_is k_is x_is l.invariant.next_low;
-      bytes_few = omega (arith, l.invariant.bytes_few, c.deed_bytes-bytes.ensures.short);
+      clients_few = clients_few form st _ _ m.0 m.1 _ l.clients l.next _ _ l.bytes 0 d ms last_is c.in-Some.ensures fs_is k_is x_is l.invariant.clients_few;
+      next_low = next_low form st _ _ m.0 m.1 _ l.clients l.next _ _ l.bytes 0 d ms last_is c.in-Some.ensures fs_is k_is x_is l.invariant.next_low;
+      bytes_few = omega (arith, l.invariant.bytes_few, c.in_ok-size.ensures.short);
     }

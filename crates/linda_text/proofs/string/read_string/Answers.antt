@@ -1,13 +1,22 @@
-use Rattle.std.proofs.Common.{refl}
-use Rattle.linda_text.proofs.Contents.{is_string, is_no_text}
+use Rattle.std.proofs.Common.{rules}
+use Rattle.std.specs.Prelude.{IsOk}
+use Rattle.std.proofs.lemmas.Result.{err_from_is_err_and}
+use Rattle.linda_text.proofs.Contents.{is_read, read_fails}
 use Rattle.linda_text.proofs.string.read_string.Goals as goal
 
-pub returns-in_err-string-in-Ok-clause-memory : goal.returns-in_err-string-in-Ok-clause-memory
-returns-in_err-string-in-Ok-clause-memory c = λ _. rw (is_string c.args.bytes.now _ c.in_ok-count.rest.now c.in_ok-count.ensures.value c.in-Ok.ensures.cases.1) refl
+pub returns-in_err-said-clause-value : goal.returns-in_err-said-clause-value
+returns-in_err-said-clause-value c =
+    let p = err_from_is_err_and c.from_residual-in_err-said.result c.from_residual-in_err-said.ensures.1 in
+    rw (p.1, p.2) (λ other. read_fails c.args.bytes.now c.in_err-said.field-0.0 (c.in_err-said.ensures other))
 
-pub returns-in_ok-string-in-Ok-clause-value : goal.returns-in_ok-string-in-Ok-clause-value
-returns-in_ok-string-in-Ok-clause-value c =
-    rw (c.new.ensures, c.in_ok-string-in-Ok.ensures.ok, c.in-Ok.ensures.cases.0) (is_string c.args.bytes.now _ c.in_ok-count.rest.now c.in_ok-count.ensures.value c.in-Ok.ensures.cases.1)
+-- What was judged is UTF-8.
+pub unreachable-requires : goal.unreachable-requires
+unreachable-requires c =
+    let read = is_read c.args.bytes.now c.in_ok-said.said.items c.in_ok-said.rest.now c.in_ok-count.field-0-1.now c.in_ok-count.count c.in_ok-count.ensures c.in_ok-said.ensures in
+    let made_one : IsOk c.from_utf8.result = c.from_utf8.ensures.succeeds read.1 in
+    search (rules, made_one, c.in_default.is)
 
-pub returns-in-Err-clause-value : goal.returns-in-Err-clause-value
-returns-in-Err-clause-value c = λ _. is_no_text c.args.bytes.now _ c.in_ok-count.rest.now c.in_ok-count.ensures.value c.in-Err.ensures.cases.0
+pub returns-clause-value : goal.returns-clause-value
+returns-clause-value c =
+    let read = is_read c.args.bytes.now c.in_ok-said.said.items c.in_ok-said.rest.now c.in_ok-count.field-0-1.now c.in_ok-count.count c.in_ok-count.ensures c.in_ok-said.ensures in
+    rw (c.new.ensures, c.in-Ok.ensures.ok) read.0

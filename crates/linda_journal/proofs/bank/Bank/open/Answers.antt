@@ -20,9 +20,9 @@ returns-in-Ok-clause-fault g c honest =
     subst (λ file. IfErr c.open_synced.result (λ e. (e.0 ≡ Disk → ⊥) → IsFaultOfBank file e.0)) (c.in-Ok.ensures.syncs honest).seen (c.open_synced.ensures.fault still)
 
 pub returns-in-Ok-clause-only : goal.returns-in-Ok-clause-only
-returns-in-Ok-clause-only g c generation body records honest bank =
+returns-in-Ok-clause-only g c form generation body records honest bank =
     let still = c.sync.ensures.honest.0 honest in
-    c.open_synced.ensures.only generation body records still (subst (λ file. IsBank file generation body records) (sym (c.in-Ok.ensures.syncs honest).seen) bank)
+    c.open_synced.ensures.only form generation body records still (subst (λ file. IsBank form file generation body records) (sym (c.in-Ok.ensures.syncs honest).seen) bank)
 
 pub returns-in-Ok-clause-cause : goal.returns-in-Ok-clause-cause
 returns-in-Ok-clause-cause g c =

@@ -12,5 +12,5 @@ invariant_of-self-clause-fallen g c _ are =
     let s = c.args.self.now in
     let same = c.of.ensures ∙ c.state.ensures.state in
     subst (λ st. PairsNow (both (λ b. g.D.Disk.view b.disk) g.D.Disk.view s.disks) (IsWithOrWithout st s.lost.items)) (sym same)
-    (stands_with (λ b. b.generation) (λ b. b.end) (λ b. g.D.Disk.view b.disk) g.D.Disk.view (λ b. g.D.Disk.honest b.disk) g.D.Disk.honest
+    (stands_with (λ b. b.form) (λ b. b.generation) (λ b. b.end) (λ b. g.D.Disk.view b.disk) g.D.Disk.view (λ b. g.D.Disk.honest b.disk) g.D.Disk.honest
     (λ b h. g.met.D.Disk.timed b.disk h) (λ d h. g.met.D.Disk.timed d h) s.disks s.store.state s.lost.items (s.none_lost c.requires) (subst IsState c.state.ensures.state c.state.ensures.ranges) are (s.kept c.requires))

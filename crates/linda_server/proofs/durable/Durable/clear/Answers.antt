@@ -11,42 +11,42 @@ use Rattle.linda_server.proofs.durable.Durable.clear.Goals as goal
 pub clear-requires-clause-durable : goal.clear-requires-clause-durable
 clear-requires-clause-durable g c =
     let s = c.args.self.now in
-    other_durable (λ b. b.generation) (λ b. b.end) (λ b. g.D.Disk.view b.disk) g.D.Disk.view (λ b. g.D.Disk.honest b.disk) g.D.Disk.honest
+    other_durable (λ b. b.form) (λ b. b.generation) (λ b. b.end) (λ b. g.D.Disk.view b.disk) g.D.Disk.view (λ b. g.D.Disk.honest b.disk) g.D.Disk.honest
     (λ b h. g.met.D.Disk.timed b.disk h) (λ d h. g.met.D.Disk.timed d h) s.disks s.store.state (s.kept c.if-self.false)
 
 pub invariant_of-self-clause-kept : goal.invariant_of-self-clause-kept
 invariant_of-self-clause-kept g c _ =
     let s = c.args.self.now in
-    kept_since (λ b. b.generation) (λ b. b.end) (λ b. g.D.Disk.view b.disk) g.D.Disk.view (λ b. g.D.Disk.honest b.disk) g.D.Disk.honest
+    kept_since (λ b. b.form) (λ b. b.generation) (λ b. b.end) (λ b. g.D.Disk.view b.disk) g.D.Disk.view (λ b. g.D.Disk.honest b.disk) g.D.Disk.honest
     (λ b h. g.met.D.Disk.timed b.disk h) (λ d h. g.met.D.Disk.timed d h) s.disks c.clear.new.disks s.store.state s.store.state refl (s.kept c.if-self.false) (c.in-Ok.ensures.kept s.store.state)
 
 pub invariant_of-self-in-Err-clause-fallen : goal.invariant_of-self-in-Err-clause-fallen
 invariant_of-self-in-Err-clause-fallen g c _ are =
     let s = c.args.self.now in
     let same = c.of.ensures ∙ c.state.ensures.state in
-    let since = stands_since (λ b. b.generation) (λ b. b.end) (λ b. g.D.Disk.view b.disk) g.D.Disk.view (λ b. g.D.Disk.honest b.disk) g.D.Disk.honest
+    let since = stands_since (λ b. b.form) (λ b. b.generation) (λ b. b.end) (λ b. g.D.Disk.view b.disk) g.D.Disk.view (λ b. g.D.Disk.honest b.disk) g.D.Disk.honest
     (λ b h. g.met.D.Disk.timed b.disk h) (λ d h. g.met.D.Disk.timed d h) s.disks c.clear.new.disks s.store.state s.store.state refl (c.clear.ensures.honest.1 are) (s.kept c.if-self.false) (c.clear.ensures.any_moment s.store.state) in
     subst (λ st. PairsNow (both (λ b. g.D.Disk.view b.disk) g.D.Disk.view c.clear.new.disks) (IsWithOrWithout st s.lost.items)) (sym same)
-    (now_since (λ b. b.generation) (λ b. b.end) (λ b. g.D.Disk.view b.disk) g.D.Disk.view (λ b. g.D.Disk.honest b.disk) g.D.Disk.honest
+    (now_since (λ b. b.form) (λ b. b.generation) (λ b. b.end) (λ b. g.D.Disk.view b.disk) g.D.Disk.view (λ b. g.D.Disk.honest b.disk) g.D.Disk.honest
     (λ b h. g.met.D.Disk.timed b.disk h) (λ d h. g.met.D.Disk.timed d h) s.disks c.clear.new.disks (StandsFor s.store.state) (IsWithOrWithout s.store.state s.lost.items) are since
     (with_none s.store.state s.lost.items (s.none_lost c.if-self.false) (subst IsState c.state.ensures.state c.state.ensures.ranges)))
 
 pub returns-in-Ok-clause-any_moment : goal.returns-in-Ok-clause-any_moment
 returns-in-Ok-clause-any_moment g c is_up are =
     let s = c.args.self.now in
-    stands_since (λ b. b.generation) (λ b. b.end) (λ b. g.D.Disk.view b.disk) g.D.Disk.view (λ b. g.D.Disk.honest b.disk) g.D.Disk.honest
+    stands_since (λ b. b.form) (λ b. b.generation) (λ b. b.end) (λ b. g.D.Disk.view b.disk) g.D.Disk.view (λ b. g.D.Disk.honest b.disk) g.D.Disk.honest
     (λ b h. g.met.D.Disk.timed b.disk h) (λ d h. g.met.D.Disk.timed d h) s.disks c.clear.new.disks s.store.state s.store.state refl are (s.kept is_up) (c.clear.ensures.any_moment s.store.state)
 
 pub returns-in-Ok-clause-now : goal.returns-in-Ok-clause-now
 returns-in-Ok-clause-now g c are =
     let s = c.args.self.now in
-    stands_so (λ b. b.generation) (λ b. b.end) (λ b. g.D.Disk.view b.disk) g.D.Disk.view (λ b. g.D.Disk.honest b.disk) g.D.Disk.honest
+    stands_so (λ b. b.form) (λ b. b.generation) (λ b. b.end) (λ b. g.D.Disk.view b.disk) g.D.Disk.view (λ b. g.D.Disk.honest b.disk) g.D.Disk.honest
     (λ b h. g.met.D.Disk.timed b.disk h) (λ d h. g.met.D.Disk.timed d h) c.clear.new.disks s.store.state are
-    (kept_since (λ b. b.generation) (λ b. b.end) (λ b. g.D.Disk.view b.disk) g.D.Disk.view (λ b. g.D.Disk.honest b.disk) g.D.Disk.honest
+    (kept_since (λ b. b.form) (λ b. b.generation) (λ b. b.end) (λ b. g.D.Disk.view b.disk) g.D.Disk.view (λ b. g.D.Disk.honest b.disk) g.D.Disk.honest
     (λ b h. g.met.D.Disk.timed b.disk h) (λ d h. g.met.D.Disk.timed d h) s.disks c.clear.new.disks s.store.state s.store.state refl (s.kept c.if-self.false) (c.in-Ok.ensures.kept s.store.state))
 
 pub returns-in-Err-clause-any_moment : goal.returns-in-Err-clause-any_moment
 returns-in-Err-clause-any_moment g c is_up are =
     let s = c.args.self.now in
-    stands_since (λ b. b.generation) (λ b. b.end) (λ b. g.D.Disk.view b.disk) g.D.Disk.view (λ b. g.D.Disk.honest b.disk) g.D.Disk.honest
+    stands_since (λ b. b.form) (λ b. b.generation) (λ b. b.end) (λ b. g.D.Disk.view b.disk) g.D.Disk.view (λ b. g.D.Disk.honest b.disk) g.D.Disk.honest
     (λ b h. g.met.D.Disk.timed b.disk h) (λ d h. g.met.D.Disk.timed d h) s.disks c.clear.new.disks s.store.state s.store.state refl are (s.kept is_up) (c.clear.ensures.any_moment s.store.state)

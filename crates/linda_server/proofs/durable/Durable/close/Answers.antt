@@ -19,14 +19,14 @@ pub returns-in_default-clause-any_moment : goal.returns-in_default-clause-any_mo
 returns-in_default-clause-any_moment g c is_up are =
     let s = c.args.self.now in
     subst (λ d. PairsSince (both (λ b. g.D.Disk.view b.disk) g.D.Disk.view s.disks) (both (λ b. g.D.Disk.view b.disk) g.D.Disk.view d) (StandsFor s.store.state)) (sym c.begin.ensures.same.1)
-    (still_so (λ b. b.generation) (λ b. b.end) (λ b. g.D.Disk.view b.disk) g.D.Disk.view (λ b. g.D.Disk.honest b.disk) g.D.Disk.honest
+    (still_so (λ b. b.form) (λ b. b.generation) (λ b. b.end) (λ b. g.D.Disk.view b.disk) g.D.Disk.view (λ b. g.D.Disk.honest b.disk) g.D.Disk.honest
     (λ b h. g.met.D.Disk.timed b.disk h) (λ d h. g.met.D.Disk.timed d h) s.disks s.store.state are (s.kept is_up))
 
 pub returns-clause-any_moment : goal.returns-clause-any_moment
 returns-clause-any_moment g c is_up are =
     let s = c.args.self.now in
     subst (λ d. PairsSince (both (λ b. g.D.Disk.view b.disk) g.D.Disk.view s.disks) (both (λ b. g.D.Disk.view b.disk) g.D.Disk.view d) (StandsFor s.store.state)) (sym c.begin.ensures.same.1)
-    (still_so (λ b. b.generation) (λ b. b.end) (λ b. g.D.Disk.view b.disk) g.D.Disk.view (λ b. g.D.Disk.honest b.disk) g.D.Disk.honest
+    (still_so (λ b. b.form) (λ b. b.generation) (λ b. b.end) (λ b. g.D.Disk.view b.disk) g.D.Disk.view (λ b. g.D.Disk.honest b.disk) g.D.Disk.honest
     (λ b h. g.met.D.Disk.timed b.disk h) (λ d h. g.met.D.Disk.timed d h) s.disks s.store.state are (s.kept is_up))
 
 pub returns-in_default-clause-lost : goal.returns-in_default-clause-lost

@@ -1,6 +1,7 @@
 -- Each step of making a new server leaves no bank, or the whole new one.
 use Rattle.std.proofs.Common.{◌≡◌, ◌∙◌, [], inl, refl, ap, subst}
 use Rattle.linda_state.specs.State.{empty_state}
+use Rattle.linda_state.specs.DeedFormat.{written}
 use Rattle.linda_journal.specs.Bank.{IsSettled}
 use Rattle.linda_step.specs.Store.{Store}
 use Rattle.linda_server.proofs.PairLaws.{left_for}
@@ -49,9 +50,9 @@ invariant_of-result-clause-kept g c _ =
     let view = g.D.Disk.view in
     let st = c.new-store.result.state in
     let empty : st ≡ empty_state = ap (λ (s : Store). s.state) c.new-store.ensures in
-    ∣ kept_as (g.D.Disk.honest c.in-Ok-create.bank.disk) (g.D.Disk.honest c.lay_gate.new.disk) c.in-Ok-create.bank.generation c.in-Ok-create.bank.end (view c.in-Ok-create.bank.disk) (view c.lay_gate.new.disk) st
-    c.in-Ok-create.ensures.new.0 empty c.in-Ok.ensures.fits
-    (λ h. subst (λ body. IsSettled 1 body [] c.in-Ok-create.bank.end (view c.in-Ok-create.bank.disk)) same (c.in-Ok-create.ensures.done (c.in-Ok-create.ensures.honest.0.1 h)))
+    ∣ kept_as (g.D.Disk.honest c.in-Ok-create.bank.disk) (g.D.Disk.honest c.lay_gate.new.disk) c.in-Ok-create.bank.form c.in-Ok-create.bank.generation c.in-Ok-create.bank.end (view c.in-Ok-create.bank.disk) (view c.lay_gate.new.disk) st
+    c.in-Ok-create.ensures.new.0 c.in-Ok-create.ensures.new.1 empty c.in-Ok.ensures.fits
+    (λ h. subst (λ body. IsSettled written 1 body [] c.in-Ok-create.bank.end (view c.in-Ok-create.bank.disk)) same (c.in-Ok-create.ensures.done (c.in-Ok-create.ensures.honest.0.1 h)))
     (λ h. c.in_default-lay_gate.ensures.shut (c.lay_gate.ensures.honest.1 h)) ∣₁
 
 pub returns-clause-now : goal.returns-clause-now
@@ -60,8 +61,8 @@ returns-clause-now g c are left right l r =
     let view = g.D.Disk.view in
     let left_so = c.in-Ok-create.ensures.honest.0.1 are.0 in
     let right_so = c.lay_gate.ensures.honest.1 are.1 in
-    let settled = subst (λ body. IsSettled 1 body [] c.in-Ok-create.bank.end (view c.in-Ok-create.bank.disk)) same (c.in-Ok-create.ensures.done left_so) in
+    let settled = subst (λ body. IsSettled written 1 body [] c.in-Ok-create.bank.end (view c.in-Ok-create.bank.disk)) same (c.in-Ok-create.ensures.done left_so) in
     let shut = c.in_default-lay_gate.ensures.shut right_so in
-    let up = up_as c.in-Ok-create.bank.generation c.in-Ok-create.bank.end (view c.in-Ok-create.bank.disk) (view c.lay_gate.new.disk) empty_state c.in-Ok-create.ensures.new.0 refl
+    let up = up_as c.in-Ok-create.bank.form c.in-Ok-create.bank.generation c.in-Ok-create.bank.end (view c.in-Ok-create.bank.disk) (view c.lay_gate.new.disk) empty_state c.in-Ok-create.ensures.new.0 c.in-Ok-create.ensures.new.1 refl
     (made_up c.in-Ok-create.bank.end (view c.in-Ok-create.bank.disk) (view c.lay_gate.new.disk) c.in-Ok.ensures.fits settled shut) in
-    ∣ inl (left_for c.in-Ok-create.bank.generation c.in-Ok-create.bank.end (view c.in-Ok-create.bank.disk) (view c.lay_gate.new.disk) empty_state up left right l r) ∣₁
+    ∣ inl (left_for c.in-Ok-create.bank.form c.in-Ok-create.bank.generation c.in-Ok-create.bank.end (view c.in-Ok-create.bank.disk) (view c.lay_gate.new.disk) empty_state up left right l r) ∣₁

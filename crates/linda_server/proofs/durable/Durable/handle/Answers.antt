@@ -1,5 +1,6 @@
 -- What was served was done and sent.
-use Rattle.std.proofs.Common.{◌≡◌, ℕ, [], ◌∷◌, ap, sym, subst}
+use Rattle.std.proofs.Common.{◌≡◌, ℕ, [], ◌∷◌, ap, sym, subst, Err, rules}
+use Rattle.linda_store.specs.declared.node.NodeFault.TheVariants as nodes
 use Rattle.std.specs.Global.{Vec}
 use Rattle.linda_wire.specs.declared.reply.Reply.{Reply}
 use Rattle.linda_step.specs.History.{says}
@@ -36,3 +37,8 @@ returns-in-Err-clause-life g c =
     (how_of old new c.in-Err.fault (λ full. (so.full full).0) so.was_down so.stays_down so.goes_down
     (λ not_full up down. at_work (says c.args.client c.args.message.now ∷ []) (other c.in-Err.fault (new.before.value ≡ old.store.state) not_full (so.before up)) (so.lost up down)))
     (λ up. cut_at_work g.met.D.Disk.timed old new (says c.args.client c.args.message.now ∷ []) (so.any_moment up))
+
+pub returns-in-Err-clause-full : goal.returns-in-Err-clause-full
+returns-in-Err-clause-full g c full =
+    let same : c.node_fault.result ≡ nodes.Full = search (rules, full) in
+    c.in-Err.ensures.full (ap Err (c.node_fault.ensures.full.0 same))

@@ -32,8 +32,8 @@ returns-in-Ok-clause-now g c are left right l r =
     let were = c.in-Ok.ensures.honest.0.1 are in
     let st = c.from_state-store.result.state in
     let same = ap (λ (s : Store). s.state) c.from_state-store.ensures in
-    let up = subst (λ s. IsUp x.bank.generation x.bank.end (view x.bank.disk) (view x.other) s) (sym same) (c.in-Ok.ensures.up were.0 were.1) in
-    ∣ now_on_sides x.is_right (view x.bank.disk) (view x.other) st (left_for x.bank.generation x.bank.end (view x.bank.disk) (view x.other) st up) left right l r ∣₁
+    let up = subst (λ s. IsUp x.bank.form x.bank.generation x.bank.end (view x.bank.disk) (view x.other) s) (sym same) (c.in-Ok.ensures.up were.0 were.1) in
+    ∣ now_on_sides x.is_right (view x.bank.disk) (view x.other) st (left_for x.bank.form x.bank.generation x.bank.end (view x.bank.disk) (view x.other) st up) left right l r ∣₁
 
 pub invariant_of-result-clause-kept : goal.invariant_of-result-clause-kept
 invariant_of-result-clause-kept g c _ =
@@ -42,7 +42,7 @@ invariant_of-result-clause-kept g c _ =
     let st = c.from_state-store.result.state in
     let same = ap (λ (s : Store). s.state) c.from_state-store.ensures in
     ∣ record {
-      stored = λ h. subst (λ s. IsStored x.bank.generation x.bank.end (view x.bank.disk) s) (sym same) (c.in-Ok.ensures.stored h);
+      stored = λ h. subst (λ s. IsStored x.bank.form x.bank.generation x.bank.end (view x.bank.disk) s) (sym same) (c.in-Ok.ensures.stored h);
       durable = c.in-Ok.ensures.durable;
       lesser = λ hu ho. let were = c.in-Ok.ensures.honest.0.1 (hu, ho) in (c.in-Ok.ensures.up were.0 were.1).lesser;
     } ∣₁

@@ -8,5 +8,5 @@ use Rattle.linda_server.proofs.durable.stop.Durable+MemDisk.fuse.Goals as goal
 pub invariant_of-self-clause-kept : goal.invariant_of-self-clause-kept
 invariant_of-self-clause-kept c _ =
     let s = c.args.self.now in
-    ∥∥₁_map (s.kept c.requires) (λ k. kept_same (λ b. b.generation) (λ b. b.end) (λ b. history b.disk) history view_of (λ b. Unit {0}) (λ d. Unit {0}) (λ b c h. h) (λ d e h. h)
+    ∥∥₁_map (s.kept c.requires) (λ k. kept_same (λ b. b.form) (λ b. b.generation) (λ b. b.end) (λ b. history b.disk) history view_of (λ b. Unit {0}) (λ d. Unit {0}) (λ b c h. h) (λ d e h. h)
     s.disks c.fuse.new.self s.store.state c.fuse.ensures.same k)

@@ -1,0 +1,333 @@
+-- What the command line asks for, and how words that ask for nothing are refused.
+use Rattle.std.specs.Prelude.{◌≡◌, ◌≢◌, ◌<◌, ◌≤◌, ◌⊎◌, ◌==◌, ◌^◌, ⊤, ℕ, Bool, true, false}
+use Rattle.std.specs.Prelude.{List, [], ◌∷◌, ◌++◌, length, Option, Some, IfSome, pos}
+use Rattle.std.specs.Prelude.{codes, Result, IsErrAnd}
+use Rattle.std.specs.Str.Parse.{IsNumeral, digits_value, without_leading_plus}
+use Rattle.clap.specs.Words.{App, Kinds, Rule, HasKind, new_app, new_rule, with_rule, with_subcommand}
+use Rattle.clap.specs.Simple.{on_top}
+use Rattle.clap.specs.declared.builder.action.ArgAction.TheVariants.{Set, SetTrue}
+use Rattle.clap.specs.declared.builder.value_parser.ValueParser.TheVariants as parsers
+use Rattle.clap.specs.declared.error.Error.{Error}
+use Rattle.clap.specs.declared.error.kind.ErrorKind.TheVariants as kinds
+use Rattle.linda_command.specs.Marks.{hyphen}
+use Rattle.linda_command.specs.Ports.{ArePorts}
+use Rattle.linda_command.specs.declared.command.Task.{Task}
+use Rattle.linda_command.specs.declared.command.Task.TheVariants as tasks
+use Rattle.linda_client.specs.declared.limits.TheConstants.{MAX_SERVERS}
+
+-- the option `--servers`, which must be there, with a number from 1 to the most servers
+abbrev pub servers_rule : Rule
+servers_rule = record (new_rule (codes "servers")) {
+  long = Some (codes "servers");
+  value_names = 1;
+  required = true;
+  action = Some Set;
+  parser = Some (parsers.Signed (pos 1) (pos MAX_SERVERS));
+}
+
+-- the option `--trace`, which may be there, with a text
+abbrev pub trace_rule : Rule
+trace_rule = record (new_rule (codes "trace")) {
+  long = Some (codes "trace");
+  value_names = 1;
+  action = Some Set;
+}
+
+-- the option `--client`, which must be there, with a number of 32 bits
+abbrev pub client_rule : Rule
+client_rule = record (new_rule (codes "client")) {
+  long = Some (codes "client");
+  value_names = 1;
+  required = true;
+  action = Some Set;
+  parser = Some (parsers.Signed (pos 0) (pos 4294967295));
+}
+
+-- the words that name ports, of which there must be as many as servers there may be, and one at least
+abbrev pub ports_rule : Rule
+ports_rule = record (new_rule (codes "ports")) {
+  value_names = 1;
+  required = true;
+  action = Some Set;
+  range = Some (record { start_inclusive = 1; end_inclusive = MAX_SERVERS });
+  parser = Some (parsers.Signed (pos 1) (pos 65535));
+}
+
+-- the option `--port`, which must be there, with a number of 16 bits
+abbrev pub port_rule : Rule
+port_rule = record (new_rule (codes "port")) {
+  long = Some (codes "port");
+  value_names = 1;
+  required = true;
+  action = Some Set;
+  parser = Some (parsers.Signed (pos 0) (pos 65535));
+}
+
+-- the option `--dir`, which must be there, with a text
+abbrev pub dir_rule : Rule
+dir_rule = record (new_rule (codes "dir")) {
+  long = Some (codes "dir");
+  value_names = 1;
+  required = true;
+  action = Some Set;
+}
+
+-- the option `--sessions`, which may be there, with a number of 32 bits
+abbrev pub sessions_rule : Rule
+sessions_rule = record (new_rule (codes "sessions")) {
+  long = Some (codes "sessions");
+  value_names = 1;
+  action = Some Set;
+  parser = Some (parsers.Signed (pos 0) (pos 4294967295));
+}
+
+-- the option `--log`, which may be there, and stands alone
+abbrev pub log_rule : Rule
+log_rule = record (new_rule (codes "log")) {
+  long = Some (codes "log");
+  action = Some SetTrue;
+}
+
+-- the word that names the folder of a store, which must be there
+abbrev pub folder_rule : Rule
+folder_rule = record (new_rule (codes "dir")) {
+  value_names = 1;
+  required = true;
+  action = Some Set;
+}
+
+-- the option `--tuples`, which may be there, and stands alone
+abbrev pub tuples_rule : Rule
+tuples_rule = record (new_rule (codes "tuples")) {
+  long = Some (codes "tuples");
+  action = Some SetTrue;
+}
+
+-- the option `--clients`, which may be there, and stands alone
+abbrev pub clients_rule : Rule
+clients_rule = record (new_rule (codes "clients")) {
+  long = Some (codes "clients");
+  action = Some SetTrue;
+}
+
+-- The program's command as the parser has it: it wants a command below it, `pipe`, `run`, `call`, `serve` or `inspect`.
+abbrev pub linda : App
+linda = with_subcommand (with_subcommand (with_subcommand (with_subcommand (with_subcommand
+    (on_top (λ s. record s { subcommand_required = true }) (new_app (codes "linda"))) (new_app (codes "pipe")).top)
+    (with_rule (with_rule (new_app (codes "run")) servers_rule) trace_rule).top)
+    (with_rule (with_rule (new_app (codes "call")) client_rule) ports_rule).top)
+    (with_rule (with_rule (with_rule (with_rule (new_app (codes "serve")) port_rule) dir_rule) sessions_rule)
+    log_rule).top)
+    (with_rule (with_rule (with_rule (new_app (codes "inspect")) folder_rule) tuples_rule) clients_rule).top
+
+-- no word, or the `--` that ends options
+abbrev pub IsEnd : List (List ℕ) → Type 0
+IsEnd words = (words ≡ []) ⊎ (words ≡ codes "--" ∷ [])
+
+-- The words are a program's name and `pipe`; the `--` that ends options may stand behind.
+abbrev pub AsksForPipe : List (List ℕ) → Type 0
+AsksForPipe words = (name : List ℕ)
+    × ((words ≡ name ∷ codes "pipe" ∷ []) ⊎ (words ≡ name ∷ codes "pipe" ∷ codes "--" ∷ []))
+
+-- The text is a number of servers in decimal digits. As the parser reads every whole number, a plus may
+-- stand before them, and zeros.
+pub record Spells (text : List ℕ) (n : ℕ) : Type 0 where
+  pub numeral : IsNumeral 10 (without_leading_plus text)
+  pub value : n ≡ digits_value 10 (without_leading_plus text)
+  pub some : 1 ≤ n
+  pub most : n ≤ MAX_SERVERS
+
+-- the option with its number, as two words or as one
+abbrev pub IsOption : List (List ℕ) → List ℕ → Type 0
+IsOption words number = (words ≡ codes "--servers" ∷ number ∷ [])
+    ⊎ (words ≡ (codes "--servers=" ++ number) ∷ [])
+
+-- The words are a program's name, `run` and the option with this number; the `--` that ends options may
+-- stand behind.
+pub record AsksForRun (words : List (List ℕ)) (n : ℕ) : Type 0 where
+  pub name : List ℕ
+  pub number : List ℕ
+  pub option : List (List ℕ)
+  pub end : List (List ℕ)
+  pub spelled : words ≡ name ∷ codes "run" ∷ (option ++ end)
+  pub is_option : IsOption option number
+  pub is_end : IsEnd end
+  pub spells : Spells number n
+
+-- The words are a program's name and `run`, and the number is such as may stand behind it.
+pub record AsksForTracedRun (words : List (List ℕ)) (n : ℕ) : Type 0 where
+  pub name : List ℕ
+  pub later : List (List ℕ)
+  pub spelled : words ≡ name ∷ codes "run" ∷ later
+  pub some : 1 ≤ n
+  pub most : n ≤ MAX_SERVERS
+
+-- The words are a program's name and `call`, and the numbers are such as may stand behind it.
+pub record AsksForCall (words : List (List ℕ)) (client : ℕ) (ports : List ℕ) : Type 0 where
+  pub name : List ℕ
+  pub later : List (List ℕ)
+  pub spelled : words ≡ name ∷ codes "call" ∷ later
+  pub is_client : client < 2 ^ 32
+  pub are_ports : ArePorts ports
+
+-- The words are a program's name and `serve`, and the numbers are such as may stand behind it.
+pub record AsksForServe (words : List (List ℕ)) (port : ℕ) (sessions : Option ℕ) : Type 0 where
+  pub name : List ℕ
+  pub later : List (List ℕ)
+  pub spelled : words ≡ name ∷ codes "serve" ∷ later
+  pub is_port : port < 2 ^ 16
+  pub are_sessions : IfSome sessions (λ k. k < 2 ^ 32)
+
+-- The words are a program's name and `inspect`.
+pub record AsksForInspect (words : List (List ℕ)) : Type 0 where
+  pub name : List ℕ
+  pub later : List (List ℕ)
+  pub spelled : words ≡ name ∷ codes "inspect" ∷ later
+
+-- The words are a program's name and `--version`.
+abbrev pub AsksForVersion : List (List ℕ) → Type 0
+AsksForVersion words = (name : List ℕ) × (words ≡ name ∷ codes "--version" ∷ [])
+
+-- what the words ask for
+abbrev pub AsksFor : List (List ℕ) → Task → Type 0
+AsksFor words tasks.Pipe = AsksForPipe words
+AsksFor words (tasks.Run n) = AsksForRun words n
+AsksFor words (tasks.TracedRun n file) = AsksForTracedRun words n
+AsksFor words (tasks.Call client ports) = AsksForCall words client ports
+AsksFor words (tasks.Serve port dir sessions log) = AsksForServe words port sessions
+AsksFor words (tasks.Inspect dir lists) = AsksForInspect words
+
+-- it is a run with a trace, by such a number
+abbrev pub IsTracedRun : Task → Type 0
+IsTracedRun tasks.Pipe = ⊥
+IsTracedRun (tasks.Run n) = ⊥
+IsTracedRun (tasks.TracedRun n file) = (1 ≤ n) × (n ≤ MAX_SERVERS)
+IsTracedRun (tasks.Call client ports) = ⊥
+IsTracedRun (tasks.Serve port dir sessions log) = ⊥
+IsTracedRun (tasks.Inspect dir lists) = ⊥
+
+-- it is a call, by such numbers
+abbrev pub IsCall : Task → Type 0
+IsCall tasks.Pipe = ⊥
+IsCall (tasks.Run n) = ⊥
+IsCall (tasks.TracedRun n file) = ⊥
+IsCall (tasks.Call client ports) = (client < 2 ^ 32) × ArePorts ports
+IsCall (tasks.Serve port dir sessions log) = ⊥
+IsCall (tasks.Inspect dir lists) = ⊥
+
+-- it serves, by such numbers
+abbrev pub IsServe : Task → Type 0
+IsServe tasks.Pipe = ⊥
+IsServe (tasks.Run n) = ⊥
+IsServe (tasks.TracedRun n file) = ⊥
+IsServe (tasks.Call client ports) = ⊥
+IsServe (tasks.Serve port dir sessions log) = (port < 2 ^ 16) × IfSome sessions (λ k. k < 2 ^ 32)
+IsServe (tasks.Inspect dir lists) = ⊥
+
+-- it inspects
+abbrev pub IsInspect : Task → Type 0
+IsInspect tasks.Pipe = ⊥
+IsInspect (tasks.Run n) = ⊥
+IsInspect (tasks.TracedRun n file) = ⊥
+IsInspect (tasks.Call client ports) = ⊥
+IsInspect (tasks.Serve port dir sessions log) = ⊥
+IsInspect (tasks.Inspect dir lists) = ⊤
+
+-- what words ask for that are written out above to the letter: the pipe, or a run
+abbrev pub AsksExactlyFor : List (List ℕ) → Task → Type 0
+AsksExactlyFor words tasks.Pipe = AsksForPipe words
+AsksExactlyFor words (tasks.Run n) = AsksForRun words n
+AsksExactlyFor words (tasks.TracedRun n file) = ⊥
+AsksExactlyFor words (tasks.Call client ports) = ⊥
+AsksExactlyFor words (tasks.Serve port dir sessions log) = ⊥
+AsksExactlyFor words (tasks.Inspect dir lists) = ⊥
+
+-- a run and a call have at least one server, and not more than there may be
+abbrev pub HasServers : Task → Type 0
+HasServers tasks.Pipe = ⊤
+HasServers (tasks.Run n) = (1 ≤ n) × (n ≤ MAX_SERVERS)
+HasServers (tasks.TracedRun n file) = (1 ≤ n) × (n ≤ MAX_SERVERS)
+HasServers (tasks.Call client ports) = (1 ≤ length ports) × (length ports ≤ MAX_SERVERS)
+HasServers (tasks.Serve port dir sessions log) = ⊤
+HasServers (tasks.Inspect dir lists) = ⊤
+
+-- whether a word begins with a hyphen
+abbrev pub has_hyphen : List ℕ → Bool
+has_hyphen [] = false
+has_hyphen (b ∷ bs) = b == hyphen
+
+-- The words are a program's name and then a word that is no option, and none of `pipe`, `run`, `call`,
+-- `serve`, `inspect`, `help`.
+pub record HasUnknown (words : List (List ℕ)) : Type 0 where
+  pub name : List ℕ
+  pub word : List ℕ
+  pub later : List (List ℕ)
+  pub spelled : words ≡ name ∷ word ∷ later
+  pub no_option : has_hyphen word ≡ false
+  pub no_pipe : word ≢ codes "pipe"
+  pub no_run : word ≢ codes "run"
+  pub no_call : word ≢ codes "call"
+  pub no_serve : word ≢ codes "serve"
+  pub no_inspect : word ≢ codes "inspect"
+  pub no_help : word ≢ codes "help"
+
+-- The words are a program's name, `pipe`, and then a word that is no option.
+pub record HasOneTooMany (words : List (List ℕ)) : Type 0 where
+  pub name : List ℕ
+  pub word : List ℕ
+  pub later : List (List ℕ)
+  pub spelled : words ≡ name ∷ codes "pipe" ∷ word ∷ later
+  pub no_option : has_hyphen word ≡ false
+
+-- It is refused: memory ran out, or the fault is of one of these kinds.
+abbrev pub Refuses : {T : Type 0} → Kinds → Result T Error → Type 0
+Refuses kinds result = IsErrAnd result (HasKind kinds)
+
+-- The words are a program's name and `run`.
+abbrev pub LacksOption : List (List ℕ) → Type 0
+LacksOption words = (name : List ℕ) × (words ≡ name ∷ codes "run" ∷ [])
+
+-- The words are a program's name, `run` and `--servers`.
+abbrev pub LacksNumber : List (List ℕ) → Type 0
+LacksNumber words = (name : List ℕ) × (words ≡ name ∷ codes "run" ∷ codes "--servers" ∷ [])
+
+-- The words are a program's name, `run` and the option with a text that is no number of servers.
+pub record HasBadNumber (words : List (List ℕ)) : Type 0 where
+  pub name : List ℕ
+  pub number : List ℕ
+  pub option : List (List ℕ)
+  pub end : List (List ℕ)
+  pub spelled : words ≡ name ∷ codes "run" ∷ (option ++ end)
+  pub is_option : IsOption option number
+  pub is_end : IsEnd end
+  pub no_option : has_hyphen number ≡ false
+  pub no_number : (n : ℕ) → Spells number n → ⊥
+
+-- The words are a program's name, `run`, the option with its number, and then a word that is no option.
+pub record HasOneTooManyToRun (words : List (List ℕ)) : Type 0 where
+  pub name : List ℕ
+  pub number : List ℕ
+  pub n : ℕ
+  pub option : List (List ℕ)
+  pub word : List ℕ
+  pub later : List (List ℕ)
+  pub spelled : words ≡ name ∷ codes "run" ∷ (option ++ word ∷ later)
+  pub is_option : IsOption option number
+  pub spells : Spells number n
+  pub no_option : has_hyphen word ≡ false
+
+-- behind `run`: no option; no number; a bad one; a word too many
+abbrev pub IsRefusedRun : List (List ℕ) → Kinds → Type 0
+IsRefusedRun words told =
+    (LacksOption words × (told ≡ kinds.MissingRequiredArgument ∷ []))
+    ⊎ ((LacksNumber words × (told ≡ kinds.InvalidValue ∷ []))
+    ⊎ ((HasBadNumber words × (told ≡ kinds.ValueValidation ∷ []))
+    ⊎ (HasOneTooManyToRun words × (told ≡ kinds.UnknownArgument ∷ []))))
+
+-- no word behind the program's name; an unknown one; one too many; a fault behind `run`
+abbrev pub IsRefusedAs : List (List ℕ) → Kinds → Type 0
+IsRefusedAs words told =
+    ((length words ≤ 1) × (told ≡ kinds.MissingSubcommand ∷ []))
+    ⊎ ((HasUnknown words × (told ≡ kinds.UnknownArgument ∷ kinds.InvalidSubcommand ∷ []))
+    ⊎ ((HasOneTooMany words × (told ≡ kinds.UnknownArgument ∷ []))
+    ⊎ IsRefusedRun words told))

@@ -1,0 +1,23 @@
+//! `linda --version`.
+
+ghost use Rattle.std.specs.Prelude.{◌≡◌, true, map};
+ghost use Rattle.std.specs.String.{string_bytes};
+ghost use Rattle.linda_command.specs.Commands.{AsksForVersion};
+
+/// What is told of the program: its version, the forms of banks and frames that it reads and writes, and the kit that
+/// it is proved with.
+pub const VERSION_LINES: &str =
+    "linda 0.4.0\nbank LND1\nframe 1\nkit rattle-kit-13f logic dac8208d650f15bf\n";
+
+/// Whether the words of the command line, of which the first names the program, ask for the version.
+pub fn asks_for_version(words: &[String]) -> bool
+    ensures yes { result ≡ true → AsksForVersion (map string_bytes words.now) }
+    ensures exact { AsksForVersion (map string_bytes words.now) → result ≡ true }
+{
+    match words {
+        [_, word] => word.as_str() == VERSION,
+        _ => false,
+    }
+}
+
+const VERSION: &str = "--version";

@@ -1,0 +1,5 @@
+pub mod Exchanges
+pub mod Hex
+pub mod Lines
+pub mod Piping
+pub mod Statuses

@@ -1,0 +1,218 @@
+//! `linda serve`: the store in a folder, for clients that connect to a port of this machine.
+
+mod fault;
+mod heads;
+mod log;
+mod stamp;
+mod store;
+
+ghost use Rattle.std.specs.Prelude.{◌≡◌, ◌<◌, false, OnErr, OnOk};
+ghost use Rattle.linda_receipt.specs.declared.limits.TheConstants.{PARTS};
+
+pub use fault::ServingFault;
+pub use heads::InUse;
+use heads::bank_in_use;
+use linda_disk::FileDisk;
+use linda_net::{Tally, serve, serve_watched};
+use linda_receipt::PARTS;
+use linda_server::Durable;
+use linda_shared::{Shared, SharedFault};
+pub use log::{Cause, Log};
+pub use stamp::stamp_of;
+use std::alloc::Global;
+use std::fs::{File, Files};
+use std::io::Write;
+use std::marker::Brand;
+use std::net::{Ipv4Addr, Net, SocketAddr, TcpListener, TcpStream};
+use std::sync::ledger::{Blank, Ledger};
+use std::sync::{Mutex, Wait};
+use std::thread::Threads;
+use std::time::Clock;
+pub use store::open_store;
+pub(crate) use store::{LEFT, RIGHT};
+
+/// Serves the store in a folder to clients that connect to a port of this machine, and writes `ready PORT` once it
+/// listens: any free port where 0 is asked for. Where a number is given it ends after so many connections.
+///
+/// # Errors
+///
+/// As `open_store` tells them, and then `Io` where the port cannot be listened on, or the output fails. `Down` where
+/// the server went down, at the next connection or at the end. `Memory`.
+pub fn serve_folder<
+    F: Files<File = File>,
+    S: Net<Listener = TcpListener, Stream = TcpStream> + Threads + Wait + Clock + Sync,
+    W: Write,
+>(
+    files: &F,
+    rt: &S,
+    alloc: Global,
+    writer: &mut W,
+    port: u16,
+    folder: &str,
+    sessions: Option<u32>,
+) -> Result<(), ServingFault> {
+    let server = open_store(files, alloc, folder)?;
+    share::<Brand, S, W>(rt, alloc, writer, server, Blank::new(PARTS), port, sessions)
+}
+
+// Listens, says so, and serves.
+fn share<
+    L: Ledger + Send + Sync,
+    S: Net<Listener = TcpListener, Stream = TcpStream> + Threads + Wait + Clock + Sync,
+    W: Write,
+>(
+    rt: &S,
+    alloc: Global,
+    writer: &mut W,
+    server: Durable<FileDisk>,
+    blank: Blank,
+    port: u16,
+    sessions: Option<u32>,
+) -> Result<(), ServingFault>
+    requires up { server.down ≡ false }
+    requires blank { (blank.name ≡ L.name) × (blank.parts ≡ L.parts) × (L.parts ≡ PARTS) }
+{
+    let shared: Shared<FileDisk, L> = Shared::new(alloc, server, blank)?;
+    let listener = listen(rt, port)?;
+    tell_ready(alloc, writer, &listener)?;
+    match serve(rt, alloc, &listener, &shared, sessions) {
+        Ok(()) => Ok(()),
+        Err(_) => Err(ServingFault::Down),
+    }
+}
+
+/// The same, and writes a log to a sink of its own, as docs/FORMATS.md has it. A line that cannot be written is lost.
+///
+/// # Errors
+///
+/// As those of `serve_folder`.
+pub fn serve_logged<
+    F: Files<File = File>,
+    S: Net<Listener = TcpListener, Stream = TcpStream> + Threads + Wait + Clock + Sync,
+    W: Write,
+    E: Write + Send,
+>(
+    files: &F,
+    rt: &S,
+    alloc: Global,
+    writer: &mut W,
+    sink: &mut E,
+    port: u16,
+    folder: &str,
+    sessions: Option<u32>,
+) -> Result<(), ServingFault> {
+    let server = open_store(files, alloc, folder)?;
+    let bank = bank_in_use(files, alloc, folder);
+    let log = Log::new(alloc, sink)?;
+    share_logged::<Brand, S, W, E>(
+        rt,
+        alloc,
+        writer,
+        log,
+        bank,
+        server,
+        Blank::new(PARTS),
+        port,
+        sessions,
+    )
+}
+
+// Listens, says so, and serves, with a log.
+fn share_logged<
+    L: Ledger + Send + Sync,
+    S: Net<Listener = TcpListener, Stream = TcpStream> + Threads + Wait + Clock + Sync,
+    W: Write,
+    E: Write + Send,
+>(
+    rt: &S,
+    alloc: Global,
+    writer: &mut W,
+    log: Log<'_, E>,
+    bank: Option<InUse>,
+    server: Durable<FileDisk>,
+    blank: Blank,
+    port: u16,
+    sessions: Option<u32>,
+) -> Result<(), ServingFault>
+    requires up { server.down ≡ false }
+    requires blank { (blank.name ≡ L.name) × (blank.parts ≡ L.parts) × (L.parts ≡ PARTS) }
+{
+    let mut log = log;
+    let shared: Shared<FileDisk, L> = Shared::new(alloc, server, blank)?;
+    let listener = listen(rt, port)?;
+    log.tell_opened(rt, port_of(&listener)?, bank, &shared.gauge(rt));
+    tell_ready(alloc, writer, &listener)?;
+    let watcher = Mutex::new(log);
+    let (ended, tally) = serve_watched(rt, alloc, &listener, &shared, sessions, &watcher);
+    tell_end(rt, watcher.into_inner(), shared, ended, &tally)
+}
+
+// Writes the last line of the log: how it ended, and why.
+fn tell_end<L: Ledger, S: Wait + Clock, E: Write>(
+    rt: &S,
+    log: Log<'_, E>,
+    shared: Shared<FileDisk, L>,
+    ended: Result<(), SharedFault>,
+    tally: &Tally,
+) -> Result<(), ServingFault> {
+    let mut log = log;
+    let gauge = shared.gauge(rt);
+    let (left, right) = shared.into_server().into_disks();
+    let failures = left.failures().saturating_add(right.failures());
+    log.tell_end(rt, cause_of(&ended, failures), tally.came, &gauge);
+    match ended {
+        Ok(()) => Ok(()),
+        Err(_) => Err(ServingFault::Down),
+    }
+}
+
+// Why a server ended whose disks failed so often.
+fn cause_of(ended: &Result<(), SharedFault>, failures: u64) -> Cause
+    ensures sessions { OnOk ended.now (result ≡ Cause.Sessions) }
+    ensures device { OnErr ended.now (0 < failures → result ≡ Cause.Device) }
+    ensures memory { OnErr ended.now (failures ≡ 0 → result ≡ Cause.Memory) }
+{
+    match ended {
+        Ok(()) => Cause::Sessions,
+        Err(_) => {
+            if failures > 0 {
+                return Cause::Device;
+            }
+            Cause::Memory
+        }
+    }
+}
+
+// Listens on a port of this machine.
+fn listen<S: Net<Listener = TcpListener, Stream = TcpStream>>(
+    rt: &S,
+    port: u16,
+) -> Result<TcpListener, ServingFault> {
+    let address = SocketAddr::from((Ipv4Addr::LOCALHOST, port));
+    match TcpListener::bind(rt, address) {
+        Ok(listener) => Ok(listener),
+        Err(_) => Err(ServingFault::Io),
+    }
+}
+
+// On which port it listens.
+fn port_of(listener: &TcpListener) -> Result<u16, ServingFault> {
+    match listener.local_addr() {
+        Ok(address) => Ok(address.port()),
+        Err(_) => Err(ServingFault::Io),
+    }
+}
+
+// Writes on which port it listens.
+fn tell_ready<W: Write>(
+    alloc: Global,
+    writer: &mut W,
+    listener: &TcpListener,
+) -> Result<(), ServingFault> {
+    let port = port_of(listener)?;
+    let line = format!(in alloc; "ready {port}\n")?;
+    if writer.write_all(line.as_bytes()).is_err() || writer.flush().is_err() {
+        return Err(ServingFault::Io);
+    }
+    Ok(())
+}

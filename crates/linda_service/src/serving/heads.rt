@@ -1,0 +1,74 @@
+//! Which bank of a folder is in use, told from what both files begin with.
+
+use super::store::{LEFT, RIGHT};
+use linda_journal::{Heading, MIN_BYTES, read_heading};
+use std::alloc::{AllocError, Global};
+use std::fs::{File, Files};
+use std::io::Read;
+
+/// The bank in use.
+#[derive(Clone, Copy, Debug, PartialEq, Eq)]
+pub struct InUse {
+    /// Whether it is the right one.
+    pub is_right: bool,
+    /// Its generation.
+    pub generation: u64,
+}
+
+/// The bank in use of a folder in which a server was just opened; nothing where its files cannot be read. They are
+/// opened for reading alone.
+pub(crate) fn bank_in_use<F: Files<File = File>>(
+    files: &F,
+    alloc: Global,
+    folder: &str,
+) -> Option<InUse> {
+    let left = heading_of(files, alloc, folder, LEFT).ok()?;
+    let right = heading_of(files, alloc, folder, RIGHT).ok()?;
+    in_use(left, right)
+}
+
+/// The bank of the greater generation.
+pub(crate) fn in_use(left: Heading, right: Heading) -> Option<InUse> {
+    match (left, right) {
+        (
+            Heading::Bank {
+                generation: left,
+                ..
+            },
+            Heading::Bank {
+                generation: right,
+                ..
+            },
+        ) => Some(InUse {
+            is_right: right > left,
+            generation: left.max(right),
+        }),
+        (Heading::Bank { generation, .. }, _) => Some(InUse {
+            is_right: false,
+            generation,
+        }),
+        (_, Heading::Bank { generation, .. }) => Some(InUse {
+            is_right: true,
+            generation,
+        }),
+        _ => None,
+    }
+}
+
+// What a file of the folder begins with.
+fn heading_of<F: Files<File = File>>(
+    files: &F,
+    alloc: Global,
+    folder: &str,
+    name: &str,
+) -> Result<Heading, AllocError> {
+    let path = format!(in alloc; "{folder}/{name}")?;
+    let mut front = [0; MIN_BYTES];
+    let Ok(mut file) = File::open(files, path.as_str()) else {
+        return Ok(Heading::NoBank);
+    };
+    match file.read(&mut front) {
+        Ok(count) => Ok(read_heading(&front[..count])),
+        Err(_) => Ok(Heading::NoBank),
+    }
+}

@@ -1,0 +1,100 @@
+//! The store in a folder.
+
+ghost use Rattle.std.specs.Prelude.{◌≡◌, false, IfOk};
+
+use super::fault::ServingFault;
+use linda_disk::FileDisk;
+use linda_server::{Durable, MAX_LIMIT, OpenFault};
+use std::alloc::Global;
+use std::fs::{File, Files, OpenOptions, TryLockError};
+
+/// The file of the left bank.
+pub(crate) const LEFT: &str = "left.bank";
+
+/// The file of the right bank.
+pub(crate) const RIGHT: &str = "right.bank";
+
+/// Opens the store in a folder, which nobody else has open. Where both of its files are missing or empty a new one is
+/// created. What it created is there after a power cut.
+///
+/// # Errors
+///
+/// `InUse`; `NoStore`, `Damaged`, `Disk` as the banks are; `Memory`. Files that were missing may be there.
+pub fn open_store<R: Files<File = File>>(
+    rt: &R,
+    alloc: Global,
+    folder: &str,
+) -> Result<Durable<FileDisk>, ServingFault>
+    ensures { IfOk result (λ s. s.down ≡ false) }
+{
+    let left = open_bank(rt, alloc, folder, LEFT)?;
+    lock(&left)?;
+    let right = open_bank(rt, alloc, folder, RIGHT)?;
+    let server = create_or_open(alloc, FileDisk::new(left), FileDisk::new(right))?;
+    sync_folder(rt, folder)?;
+    Ok(server)
+}
+
+// Creates a store where both banks are empty, and opens it where one is not.
+fn create_or_open(
+    alloc: Global,
+    left: FileDisk,
+    right: FileDisk,
+) -> Result<Durable<FileDisk>, OpenFault>
+    ensures { IfOk result (λ s. s.down ≡ false) }
+{
+    match Durable::create(alloc, left, right, MAX_LIMIT) {
+        Ok(server) => Ok(server),
+        Err((OpenFault::NotEmpty, left, right)) => open(alloc, left, right),
+        Err((fault, _, _)) => Err(fault),
+    }
+}
+
+// Opens a store.
+fn open(alloc: Global, left: FileDisk, right: FileDisk) -> Result<Durable<FileDisk>, OpenFault>
+    ensures { IfOk result (λ s. s.down ≡ false) }
+{
+    match Durable::open(alloc, left, right, MAX_LIMIT) {
+        Ok(server) => Ok(server),
+        Err((fault, _, _)) => Err(fault),
+    }
+}
+
+// The file of a bank, which is created where it is missing.
+fn open_bank<R: Files<File = File>>(
+    rt: &R,
+    alloc: Global,
+    folder: &str,
+    name: &str,
+) -> Result<File, ServingFault> {
+    let path = format!(in alloc; "{folder}/{name}")?;
+    let opened = OpenOptions::new()
+        .read(true)
+        .write(true)
+        .create(true)
+        .open(rt, path.as_str());
+    match opened {
+        Ok(file) => Ok(file),
+        Err(_) => Err(ServingFault::Disk),
+    }
+}
+
+// Nobody else has this file until it is closed.
+fn lock(file: &File) -> Result<(), ServingFault> {
+    match file.try_lock() {
+        Ok(()) => Ok(()),
+        Err(TryLockError::WouldBlock) => Err(ServingFault::InUse),
+        Err(TryLockError::Error(_)) => Err(ServingFault::Disk),
+    }
+}
+
+// The names of the files in the folder are there after a power cut.
+fn sync_folder<R: Files<File = File>>(rt: &R, folder: &str) -> Result<(), ServingFault> {
+    let Ok(opened) = File::open(rt, folder) else {
+        return Err(ServingFault::Disk);
+    };
+    match opened.sync_all() {
+        Ok(()) => Ok(()),
+        Err(_) => Err(ServingFault::Disk),
+    }
+}
