@@ -129,36 +129,3 @@ template_within form t fits = record {
   tag = sound_within form t.tag fits.tag;
   fields = λ k d lt. pattern_within form _ (fits.fields k d lt);
 }
-
--- ---- what is within the limits has a spelling in either form
-
-atom_fits : (form : Form) (a : Atom) → IsSound a → IsSoundIn form a
-atom_fits One (atoms.Int n) sound = sound
-atom_fits One (atoms.Text t) sound = (omega (arith, sound.0), sound.1)
-atom_fits One (atoms.Bool b) sound = sound
-atom_fits Two a sound = sound
-
-pattern_fits : (form : Form) (p : Pattern) → IsSoundPattern p → IsSoundPatternIn form p
-pattern_fits form (patterns.Value v) sound = atom_fits form v sound
-pattern_fits form patterns.IntFormal sound = sound
-pattern_fits form patterns.TextFormal sound = sound
-pattern_fits form patterns.BoolFormal sound = sound
-pattern_fits form patterns.Any sound = sound
-
-few_fit : (form : Form) (n : ℕ) → n ≤ most_fields Two → n ≤ most_fields form
-few_fit One n few = omega (arith, few)
-few_fit Two n few = few
-
-pub tuple_fits : (form : Form) (t : Tuple) → IsWithin t → FitsIn form t
-tuple_fits form t within = record {
-  count = few_fit form (length t.fields) within.count;
-  tag = atom_fits form t.tag within.tag;
-  fields = λ k d lt. atom_fits form _ (within.fields k d lt);
-}
-
-pub template_fits : (form : Form) (t : Template) → IsWithinTemplate t → FitsTemplateIn form t
-template_fits form t within = record {
-  count = few_fit form (length t.fields) within.count;
-  tag = atom_fits form t.tag within.tag;
-  fields = λ k d lt. pattern_fits form _ (within.fields k d lt);
-}

@@ -27,50 +27,34 @@ pub fn put_atom(form: Form, out: &mut Vec<u8>, atom: &Atom) -> Result<(), AllocE
     kept_or_cut(out, len, pushed)
 }
 
-/// Appends the spelling of the tuple.
+/// Appends the spelling of the tuple, which is one that has a spelling in the form: `fits` tells.
 ///
 /// # Errors
 ///
 /// Where memory runs out, `out` is left as it was.
 pub fn put_tuple(form: Form, out: &mut Vec<u8>, tuple: &Tuple) -> Result<(), AllocError>
+    requires { FitsIn form tuple.now }
     ensures ok { OnOk result (out.new.items ≡ out.old.items ++ (format.tuple form).spell tuple.now) }
     ensures err { OnErr result (out.new.items ≡ out.old.items) }
-    ensures fits { FitsIn form tuple.now }
 {
-    tuple_fits(form, tuple);
     let len = out.len();
     let pushed = push_tuple(form, out, tuple);
     kept_or_cut(out, len, pushed)
 }
 
-/// Appends the spelling of the template.
+/// Appends the spelling of the template, which is one that has a spelling in the form: in the second all have one.
 ///
 /// # Errors
 ///
 /// Where memory runs out, `out` is left as it was.
 pub fn put_template(form: Form, out: &mut Vec<u8>, template: &Template) -> Result<(), AllocError>
+    requires { FitsTemplateIn form template.now }
     ensures ok { OnOk result (out.new.items ≡ out.old.items ++ (format.template form).spell template.now) }
     ensures err { OnErr result (out.new.items ≡ out.old.items) }
-    ensures fits { FitsTemplateIn form template.now }
 {
-    template_fits(form, template);
     let len = out.len();
     let pushed = push_template(form, out, template);
     kept_or_cut(out, len, pushed)
-}
-
-// The tuple has a spelling in the form: today both have one for every tuple.
-fn tuple_fits(form: Form, tuple: &Tuple)
-    ensures { FitsIn form tuple.now }
-{
-    let _fields = tuple.fields();
-}
-
-// The template has a spelling in the form, likewise.
-fn template_fits(form: Form, template: &Template)
-    ensures { FitsTemplateIn form template.now }
-{
-    let _patterns = template.fields();
 }
 
 // Cuts the bytes back to that length where what was pushed is not whole.

@@ -94,6 +94,8 @@ pub(crate) fn push_placed(out: &mut Vec<u8>, id: u64, tuple: &Tuple) -> Result<(
         ≡ out.old.items ++ (format.placed written).spell (id, tuple.now)) }
     ensures fits { OnOk result ((format.placed written).Fits (id, tuple.now)) }
 {
+    // Every tuple has a spelling in the form of new banks, and says so when its fields are asked for.
+    let _fields = tuple.fields();
     out.extend_from_slice(&id.to_be_bytes())?;
     put_tuple(BANK_FORM, out, tuple)
 }

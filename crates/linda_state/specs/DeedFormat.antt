@@ -2,7 +2,7 @@
 use Rattle.std.specs.Prelude.{ℕ, List, [], ◌∷◌, All}
 use Rattle.std.specs.List.{flat_map}
 use Rattle.linda_tuple.specs.declared.form.Form.{Form}
-use Rattle.linda_tuple.specs.declared.form.Form.TheVariants.{One}
+use Rattle.linda_tuple.specs.declared.form.Form.TheVariants.{Two}
 use Rattle.linda_tuple.specs.Tuple.{Tuple, FitsIn}
 use Rattle.linda_codec.specs.Steps.{Reader}
 use Rattle.linda_codec.specs.Formats.{Format, short_number, number, both, made_at, no_kind, choice_at}
@@ -11,9 +11,9 @@ use Rattle.linda_state.specs.declared.deed.Deed.{Deed}
 use Rattle.linda_state.specs.declared.deed.Deed.TheVariants.{Out, Take, Pass}
 use Rattle.linda_state.specs.declared.kinds.TheConstants as kind
 
--- The form in which today's banks spell values.
+-- The form in which new banks spell values.
 abbrev pub written : Form
-written = One
+written = Two
 
 -- The client, the number, the tuple in the form.
 abbrev pub out : Form → Format (ℕ × (ℕ × Tuple))

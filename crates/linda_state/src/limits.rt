@@ -2,8 +2,8 @@
 
 use linda_tuple::{Form, MAX_FIELDS, MAX_TEXT};
 
-/// The form in which a server's banks spell values.
-pub const BANK_FORM: Form = Form::One;
+/// The form in which new banks spell values.
+pub const BANK_FORM: Form = Form::Two;
 
 /// The bytes of a deed before its tuple or id: its kind, the client and the number.
 pub const HEAD_BYTES: usize = 13;

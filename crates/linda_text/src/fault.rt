@@ -17,10 +17,10 @@ pub enum TextFault {
     #[error("no text goes on at {0}")]
     SyntaxAt(usize),
     /// A comma stands after the 16th field.
-    #[error("more than 16 fields")]
+    #[error("more than 32 fields")]
     TooManyFields,
-    /// A string says more than 255 bytes.
-    #[error("a text of more than 255 bytes")]
+    /// A string says more than 4,095 bytes.
+    #[error("a text of more than 4,095 bytes")]
     TextTooLong,
     /// An integer needs more than 64 bits.
     #[error("an integer out of range")]

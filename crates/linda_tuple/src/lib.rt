@@ -1,6 +1,6 @@
 //! The values of the tuple space: atoms, tuples and templates, within their limits.
 //!
-//! A tuple is a tag and at most 16 fields; each of them is a 64-bit integer, a text of at most 255
+//! A tuple is a tag and at most 32 fields; each of them is a 64-bit integer, a text of at most 4,095
 //! bytes of UTF-8, or a truth value. A template has patterns in place of the fields. Every `Tuple`
 //! and every `Template` keeps these limits, so whoever holds one need not test them again.
 //! `matches` says which tuples a template asks for, and `bindings` what its formals bind there.

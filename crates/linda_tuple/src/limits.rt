@@ -1,10 +1,10 @@
 //! How large a value may be.
 
 /// The longest text of a tuple or a template, in bytes.
-pub const MAX_TEXT: usize = 255;
+pub const MAX_TEXT: usize = 4095;
 
 /// The most fields, or patterns, that may follow a tag.
-pub const MAX_FIELDS: usize = 16;
+pub const MAX_FIELDS: usize = 32;
 
 /// The longest text that the first form spells, in bytes.
 pub const ONE_MAX_TEXT: usize = 255;

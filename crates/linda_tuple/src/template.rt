@@ -12,7 +12,7 @@ use crate::tuple::copies;
 use std::alloc::{AllocError, Global};
 use std::marker::Model;
 
-/// A tag and the patterns that follow it: at most 16, with texts of at most 255 bytes.
+/// A tag and the patterns that follow it: at most 32, with texts of at most 4,095 bytes.
 #[derive(Debug, Drop)]
 pub struct Template {
     tag: Atom,
@@ -35,8 +35,8 @@ impl Template {
     ///
     /// # Errors
     ///
-    /// `TooManyFields` where more than 16 patterns follow the tag, else `TextTooLong` where the tag
-    /// or a value among the patterns is a text of more than 255 bytes.
+    /// `TooManyFields` where more than 32 patterns follow the tag, else `TextTooLong` where the tag
+    /// or a value among the patterns is a text of more than 4,095 bytes.
     pub fn new(tag: Atom, fields: Vec<Pattern>) -> Result<Template, ValueFault>
         ensures made { IfOk result (λ t. t ≡ record { tag = tag; fields = fields.items }) }
         ensures within { IsOk result ↔ IsWithinTemplate (record { tag = tag; fields = fields.items }) }
@@ -68,7 +68,7 @@ impl Template {
         &self.tag
     }
 
-    /// The patterns after the tag, in order; at most 16.
+    /// The patterns after the tag, in order; at most 32.
     pub fn fields(&self) -> &[Pattern]
         ensures value { result.now ≡ self.now.fields }
         ensures within { IsWithinTemplate self.now }

@@ -10,7 +10,7 @@ use crate::limits::MAX_FIELDS;
 use std::alloc::{AllocError, Global};
 use std::marker::Model;
 
-/// A tag and the fields that follow it: at most 16, with texts of at most 255 bytes.
+/// A tag and the fields that follow it: at most 32, with texts of at most 4,095 bytes.
 #[derive(Debug, Drop)]
 pub struct Tuple {
     tag: Atom,
@@ -33,8 +33,8 @@ impl Tuple {
     ///
     /// # Errors
     ///
-    /// `TooManyFields` where more than 16 fields follow the tag, else `TextTooLong` where the tag or
-    /// a field is a text of more than 255 bytes.
+    /// `TooManyFields` where more than 32 fields follow the tag, else `TextTooLong` where the tag or
+    /// a field is a text of more than 4,095 bytes.
     pub fn new(tag: Atom, fields: Vec<Atom>) -> Result<Tuple, ValueFault>
         ensures made { IfOk result (λ t. t ≡ record { tag = tag; fields = fields.items }) }
         ensures within { IsOk result ↔ IsWithin (record { tag = tag; fields = fields.items }) }
@@ -66,7 +66,7 @@ impl Tuple {
         &self.tag
     }
 
-    /// The values after the tag, in order; at most 16.
+    /// The values after the tag, in order; at most 32.
     pub fn fields(&self) -> &[Atom]
         ensures value { result.now ≡ self.now.fields }
         ensures within { IsWithin self.now }

@@ -2,7 +2,7 @@
 use Rattle.std.specs.Prelude.{ℕ, Bool, List, [], ◌∷◌, ◌++◌, length, take}
 use Rattle.std.specs.Int.{w32, to_be_bytes, from_be_bytes}
 use Rattle.linda_tuple.specs.declared.form.Form.{Form}
-use Rattle.linda_tuple.specs.declared.form.Form.TheVariants.{One}
+use Rattle.linda_tuple.specs.declared.form.Form.TheVariants.{Two}
 use Rattle.linda_tuple.specs.Tuple.{Tuple}
 use Rattle.linda_tuple.specs.Template.{Template}
 use Rattle.linda_codec.specs.Steps.{Reader}
@@ -19,7 +19,7 @@ use Rattle.linda_wire.specs.declared.reply.Reply.TheVariants.{Welcome, Stored, O
 
 -- The form in which frames spell values.
 abbrev pub spoken : Form
-spoken = One
+spoken = Two
 
 -- ---- frames
 

@@ -15,7 +15,7 @@ pub enum FrameFault {
     /// The length of the frame is 0.
     #[error("an empty frame")]
     EmptyFrame,
-    /// The frame's length, in bytes, is above 65,535.
+    /// The frame's length, in bytes, is above 262,144.
     #[error("a frame of {0} bytes")]
     FrameTooLong(u32),
     /// The frame spells nothing: the offset of the first byte at fault, counted from the frame's first

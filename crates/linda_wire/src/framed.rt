@@ -1,14 +1,18 @@
 //! What frames are made of, and how a value is written as a frame.
 
 ghost use Rattle.std.specs.Prelude.{◌≡◌, ◌+◌, ◌≤◌, ◌++◌, length, take, drop, OnOk, OnErr};
+ghost use Rattle.linda_tuple.specs.Tuple.{FitsIn};
+ghost use Rattle.linda_tuple.specs.Template.{FitsTemplateIn};
 ghost use Rattle.linda_codec.specs.Steps.{Gives, GivesAlways, left_by};
 ghost use Rattle.linda_codec.specs.Formats.{Format, number};
+ghost use Rattle.linda_codec.specs.Values as value;
 ghost use Rattle.linda_wire.specs.declared.limits.TheConstants.{LENGTH_BYTES, MAX_PAYLOAD};
-ghost use Rattle.linda_wire.specs.Frames.{frame};
+ghost use Rattle.linda_wire.specs.Frames.{frame, spoken};
 ghost use Rattle.linda_wire.specs.Stream.{IsFramed};
 
-use crate::limits::LENGTH_BYTES;
-use linda_codec::ReadFault;
+use crate::limits::{FORM, LENGTH_BYTES};
+use linda_codec::{ReadFault, put_template, put_tuple};
+use linda_tuple::{Template, Tuple};
 use std::alloc::{AllocError, Global};
 
 /// A value that stands in a frame: a kind byte and a body, by a lawful format.
@@ -52,6 +56,27 @@ pub(crate) fn push_pair(out: &mut Vec<u8>, first: u64, second: u64) -> Result<()
 {
     out.extend_from_slice(&first.to_be_bytes())?;
     out.extend_from_slice(&second.to_be_bytes())
+}
+
+/// Appends the tuple in the form of frames, in which every tuple has a spelling; where memory runs out, `out` is left as
+/// it was.
+pub(crate) fn push_tuple(out: &mut Vec<u8>, tuple: &Tuple) -> Result<(), AllocError>
+    ensures ok { OnOk result (out.new.items ≡ out.old.items ++ (value.tuple spoken).spell tuple.now) }
+    ensures err { OnErr result (out.new.items ≡ out.old.items) }
+    ensures within { FitsIn spoken tuple.now }
+{
+    let _fields = tuple.fields();
+    put_tuple(FORM, out, tuple)
+}
+
+/// Appends the template in the form of frames; likewise.
+pub(crate) fn push_template(out: &mut Vec<u8>, template: &Template) -> Result<(), AllocError>
+    ensures ok { OnOk result (out.new.items ≡ out.old.items ++ (value.template spoken).spell template.now) }
+    ensures err { OnErr result (out.new.items ≡ out.old.items) }
+    ensures within { FitsTemplateIn spoken template.now }
+{
+    let _patterns = template.fields();
+    put_template(FORM, out, template)
 }
 
 /// Appends the value's frame; where memory runs out, `out` is left as it was.

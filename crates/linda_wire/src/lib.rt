@@ -1,6 +1,6 @@
 //! Frames: the messages and replies that go over a connection.
 //!
-//! A frame is a length of four bytes, 1 to 65,535, then a kind byte and a body, which the length
+//! A frame is a length of four bytes, 1 to 262,144, then a kind byte and a body, which the length
 //! counts; numbers are big-endian. Each message and each reply has one spelling. A `Feed` takes the
 //! bytes of a stream in any pieces and gives its messages: these and no others, whatever the pieces,
 //! up to the first frame that spells nothing, whose fault it returns from then on. A `ReplyFeed` does so

@@ -6,13 +6,13 @@ use linda_tuple::Form;
 pub const LENGTH_BYTES: usize = 4;
 
 /// The most bytes of a frame's kind and body.
-pub const MAX_PAYLOAD: usize = 65535;
+pub const MAX_PAYLOAD: usize = 262144;
 
 /// The form in which frames spell values.
-pub(crate) const FORM: Form = Form::One;
+pub(crate) const FORM: Form = Form::Two;
 
 /// The version of the protocol that is spoken here.
-pub const VERSION: u8 = 1;
+pub const VERSION: u8 = 2;
 
 /// Ids, and the numbers and tickets of a client, stay below this.
 pub const NUMBER_LIMIT: u64 = 1 << 63;

@@ -6,13 +6,13 @@ ghost use Rattle.linda_codec.specs.Formats.{made_at, number};
 ghost use Rattle.linda_wire.specs.Frames as format;
 ghost use Rattle.linda_wire.specs.declared.message.Message.TheVariants.{Hello, Out, Ask, Accept, Cancel};
 
-use crate::framed::{Framed, push_pair};
+use crate::framed::{Framed, push_pair, push_template, push_tuple};
 use crate::kinds::{ACCEPT, ASK, CANCEL, HELLO, OUT};
 use crate::limits::FORM;
 use crate::message::Message;
 use linda_codec::{
-    ReadFault, put_template, put_tuple, read_bool, read_template, read_tuple, read_u8, read_u32,
-    read_u64, skip_template, skip_tuple,
+    ReadFault, read_bool, read_template, read_tuple, read_u8, read_u32, read_u64, skip_template,
+    skip_tuple,
 };
 use std::alloc::{AllocError, Global};
 
@@ -73,7 +73,7 @@ impl Framed for Message {
             Message::Out { n, tuple } => {
                 out.push(OUT)?;
                 out.extend_from_slice(&n.to_be_bytes())?;
-                put_tuple(FORM, out, tuple)
+                push_tuple(out, tuple)
             }
             Message::Ask {
                 ticket,
@@ -83,7 +83,7 @@ impl Framed for Message {
                 out.push(ASK)?;
                 out.extend_from_slice(&ticket.to_be_bytes())?;
                 out.push(u8::from(*remove))?;
-                put_template(FORM, out, template)
+                push_template(out, template)
             }
             Message::Accept { n, ticket, id } => {
                 out.push(ACCEPT)?;

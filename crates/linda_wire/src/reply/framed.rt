@@ -8,11 +8,11 @@ ghost use Rattle.linda_wire.specs.Frames as format;
 ghost use Rattle.linda_wire.specs.Frames.{spoken};
 ghost use Rattle.linda_wire.specs.declared.reply.Reply.TheVariants as replies;
 
-use crate::framed::{Framed, push_pair};
+use crate::framed::{Framed, push_pair, push_tuple};
 use crate::kinds::{GONE, OFFER, READ, REFUSED, STORED, TAKEN, WELCOME};
 use crate::limits::FORM;
 use crate::reply::Reply;
-use linda_codec::{ReadFault, put_tuple, read_tuple, read_u8, read_u64, skip_tuple};
+use linda_codec::{ReadFault, read_tuple, read_u8, read_u64, skip_tuple};
 use linda_tuple::Tuple;
 use std::alloc::{AllocError, Global};
 
@@ -164,5 +164,5 @@ fn push_entry(
     out.push(kind)?;
     out.extend_from_slice(&number.to_be_bytes())?;
     out.extend_from_slice(&id.to_be_bytes())?;
-    put_tuple(FORM, out, tuple)
+    push_tuple(out, tuple)
 }
