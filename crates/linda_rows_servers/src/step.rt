@@ -10,6 +10,7 @@ use linda_snap::{SnapshotFault, get_state};
 use linda_state::{BANK_FORM, Deed, State};
 use linda_step::{MAX_BATCH, Step, Store};
 use linda_text::write_tuple;
+use linda_tuple::Form;
 use std::alloc::{AllocError, Global};
 
 /// A store over the bag with an index.
@@ -119,18 +120,27 @@ fn passes<B: Bag>(alloc: Global, store: &mut Store<B>, clients: &str) -> Result<
     Ok(())
 }
 
-// Tells how many bytes the deeds of these messages will spell.
+// The form that is asked for, which is that of new banks where none is, and the words after it.
+fn split_form(words: &str) -> (Form, &str) {
+    match words.strip_prefix("one ") {
+        Some(rest) => (Form::One, rest),
+        None => (BANK_FORM, words),
+    }
+}
+
+// Tells how many bytes the deeds of these messages will spell, or that one has no spelling in the form.
 fn tell_size<B: Bag>(
     alloc: Global,
     store: &Store<B>,
     words: &str,
     came: &mut String,
 ) -> Result<(), WordsFault> {
+    let (form, words) = split_form(words);
     let messages = read_batch(alloc, words)?;
     if messages.len() > MAX_BATCH {
         return Err(WordsFault::Unknown);
     }
-    match store.size_of(BANK_FORM, &messages) {
+    match store.size_of(form, &messages) {
         Some(bytes) => Ok(writeln!(came, "> {bytes} bytes")?),
         None => Ok(came.push_str("> no spelling\n")?),
     }

@@ -1,11 +1,12 @@
 //! Values as bytes.
 //!
-//! `spell tuple TUPLE` and `spell template TEMPLATE` give the bytes; `put BYTES ATOM ..` gives these bytes with
-//! the atoms' after them. `get tuple AT BYTES`, and so `template` and `atom`, reads from an offset on, and gives
-//! the value and the offset after it. `read tuple BYTES`, and so `template`, `atom`, `u8`, `u32`, `u64` and `bool`,
-//! gives the value and the bytes after it. `skip tuple BYTES` and `skip template BYTES` give the bytes after it
+//! `spell tuple TUPLE` gives the bytes; `put BYTES ATOM ..` gives these bytes with the atoms' after them; where the
+//! form has no spelling, they say so. `get tuple AT BYTES`, and so `template` and `atom`, reads from an offset on, and
+//! gives the value and the offset after it. `read tuple BYTES`, and so `template`, `atom`, `u8`, `u32`, `u64` and
+//! `bool`, gives the value and the bytes after it. `skip tuple BYTES` and `skip template BYTES` give the bytes after it
 //! alone. Each gives the fault where nothing is read. Values are in the first form; with `two` after the verb, as in
-//! `spell two tuple TUPLE`, they are in the second one.
+//! `spell two tuple TUPLE`, they are in the second one. A template is spelled in the second one alone, where each has a
+//! spelling: `spell two template TEMPLATE`.
 
 use crate::hexadecimal::{bytes_of, tell_bytes};
 use crate::texts::{atoms_in, split_offset};
@@ -16,8 +17,11 @@ use linda_codec::{
 };
 use linda_script::{WordsFault, split_word};
 use linda_text::{read_template as typed_template, read_tuple as typed_tuple};
-use linda_tuple::Form;
-use std::alloc::Global;
+use linda_tuple::{Form, Template, Tuple, fits};
+use std::alloc::{AllocError, Global};
+
+// The line for a value that the form has no spelling for.
+const NO_SPELLING: &str = "> no spelling\n";
 
 /// Plays a line of a row about bytes.
 ///
@@ -65,12 +69,40 @@ fn spell(
     kind: &str,
     text: &str,
 ) -> Result<(), WordsFault> {
-    let mut bytes = Vec::new(alloc);
     match kind {
-        "tuple" => put_tuple(form, &mut bytes, &typed_tuple(alloc, text)?)?,
-        "template" => put_template(form, &mut bytes, &typed_template(alloc, text)?)?,
-        _ => return Err(WordsFault::Unknown),
+        "tuple" => Ok(spell_tuple(alloc, form, came, &typed_tuple(alloc, text)?)?),
+        "template" => spell_template(alloc, form, came, &typed_template(alloc, text)?),
+        _ => Err(WordsFault::Unknown),
     }
+}
+
+fn spell_tuple(
+    alloc: Global,
+    form: Form,
+    came: &mut String,
+    tuple: &Tuple,
+) -> Result<(), AllocError> {
+    if !fits(form, tuple) {
+        return came.push_str(NO_SPELLING);
+    }
+    let mut bytes = Vec::new(alloc);
+    put_tuple(form, &mut bytes, tuple)?;
+    tell_bytes(alloc, came, bytes.as_slice())
+}
+
+// Templates are put in the second form alone, in which each has a spelling: its patterns are within the limits.
+fn spell_template(
+    alloc: Global,
+    form: Form,
+    came: &mut String,
+    template: &Template,
+) -> Result<(), WordsFault> {
+    if form == Form::One {
+        return Err(WordsFault::Unknown);
+    }
+    let _patterns = template.fields();
+    let mut bytes = Vec::new(alloc);
+    put_template(Form::Two, &mut bytes, template)?;
     Ok(tell_bytes(alloc, came, bytes.as_slice())?)
 }
 
@@ -84,7 +116,7 @@ fn put(
     let mut bytes = bytes_of(alloc, front)?;
     for atom in &atoms_in(alloc, atoms)? {
         if !atom.fits(form) {
-            return Err(WordsFault::Unknown);
+            return Ok(came.push_str(NO_SPELLING)?);
         }
         put_atom(form, &mut bytes, atom)?;
     }

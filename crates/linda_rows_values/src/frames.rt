@@ -1,6 +1,6 @@
 //! Messages and replies: what a stream of frames is made of.
 
-use crate::notation::tell;
+use crate::notation::{push_written, tell};
 use crate::told::tell_fault;
 use linda_script::{WordsFault, read_message, read_reply, write_message, write_reply};
 use linda_wire::{Framed, Message, Reply, encode_message, encode_reply};
@@ -68,7 +68,7 @@ pub(crate) fn push_words_of_copy<T: Spoken>(
     value: &T,
 ) -> Result<(), AllocError> {
     let copy = value.copied(alloc)?;
-    came.push_str(copy.words(alloc)?.as_str())
+    push_written(came, copy.words(alloc)?.as_str())
 }
 
 /// The frame of what the words say.
