@@ -1,13 +1,14 @@
 #!/usr/bin/env python3
 """Times a bank on a file: appends of records of 64 deeds, and opening it, beside a plain copy of the same bytes.
 
-It proves and builds `main.rt.txt` (so named since the gate reads each `.rt` file) over the crates of this repository, in a folder of its own,
-and runs it at some 1,000, 100,000 and 1,000,000 deeds (whole records of 64) `("job", i)` of 28 bytes, and at 1,000,000 records of one.
+It proves and builds `main.rt.txt` (so named since CI reads each `.rt` file) over the crates of this repository, in a folder of its own,
+and runs it at some 1,000, 100,000 and 1,000,000 deeds (whole records of 64) `("job", i)`, and at 1,000,000 records of one, on a bank of each
+form: a deed has 28 bytes in LND1 and 29 in LND2. The two forms go in turn, so that both have the same noise.
 The files lie in memory where /dev/shm is there, so that a sync costs little and the work of the program is seen. A time is the least of
 five runs. It prints a line for each size with the time of a deed, the growth of that time from the first size to the last with records
 of 64, and the greatest memory in use of a process that opens the bank, also for each byte of the bank; the program itself is among it. Of the
 smallest bank none is told: it is that of this script, which the process is when it starts. It fails where the time of a deed in an append or
-an opening grows more than twice.
+an opening grows more than twice, or is more than 1.05 times as long in LND2 as in LND1 at 1,000,000 deeds.
 
 `run.py PROGRAM [FOLDER]` runs a program that is built already; the files are made in FOLDER.
 """
@@ -22,6 +23,8 @@ import tempfile
 SIZES = [(16, 64), (1_563, 64), (15_625, 64), (1_000_000, 1)]
 RUNS = 5
 MOST_GROWTH = 2.0
+MOST_BESIDE_ONE = 1.05
+FORMS = ["LND1", "LND2"]
 HERE = os.path.dirname(os.path.abspath(__file__))
 TOP = os.path.join(HERE, "..", "..")
 NEEDED = ["linda_tuple", "linda_codec", "linda_wire", "linda_bag", "linda_book", "linda_state", "linda_disk", "linda_journal"]
@@ -54,27 +57,34 @@ def run(*words):
     return int(number), usage.ru_maxrss * 1024
 
 
-def empty(path):
-    with open(path, "wb"):
-        pass
+def holds(path, content):
+    """The path, whose file now has this content."""
+    with open(path, "wb") as file:
+        file.write(content)
     return path
 
 
+def bank_of(form):
+    """A bank of generation 1 with the empty state and no record."""
+    state = (1).to_bytes(8, "big") + bytes(8)
+    return b"\1" + form.encode() + (1).to_bytes(8, "big") + len(state).to_bytes(4, "big") + state + b"\0"
+
+
 def times_of(program, folder, records, each):
-    """The least microseconds of an append of all, of an opening and of a copy, the bytes of the bank, and the least of the greatest
-    memory in use of an opening."""
+    """For each form the least microseconds of an append of all, of an opening and of a copy, the bytes of the bank, and the least of the
+    greatest memory in use of an opening."""
     bank, other = os.path.join(folder, "bank"), os.path.join(folder, "other")
-    deeds = str(records * each)
-    times = [
-        [
-            run(program, "append", empty(bank), deeds, str(each)),
-            run(program, "open", bank, deeds),
-            run(program, "copy", bank, empty(other)),
-        ]
-        for _ in range(RUNS)
-    ]
-    least = [min(time for time, _ in column) / 1000 for column in zip(*times)]
-    return least, os.path.getsize(bank), min(memory for _, (_, memory), _ in times)
+    deeds, times, sizes = str(records * each), {form: [] for form in FORMS}, {}
+    for _ in range(RUNS):
+        for form in FORMS:
+            append = run(program, "append", holds(bank, bank_of(form)), deeds, str(each))
+            opening = run(program, "open", bank, deeds)
+            times[form].append([append, opening, run(program, "copy", bank, holds(other, b""))])
+            sizes[form] = os.path.getsize(bank)
+    return {
+        form: ([min(time for time, _ in column) / 1000 for column in zip(*runs)], sizes[form], min(memory for _, (_, memory), _ in runs))
+        for form, runs in times.items()
+    }
 
 
 def main():
@@ -82,19 +92,35 @@ def main():
         program = sys.argv[1] if len(sys.argv) > 1 else build(built)
         place = sys.argv[2] if len(sys.argv) > 2 else "/dev/shm" if os.path.isdir("/dev/shm") else None
         with tempfile.TemporaryDirectory(dir=place) as folder:
-            rows = [(records, records * each, *times_of(program, folder, records, each)) for records, each in SIZES]
-    print("| deeds | records | bytes | append, a deed | open, a deed | copy, a deed | append / copy | open / copy |")
-    print("|---|---|---|---|---|---|---|---|")
-    for records, deeds, (append, opening, copy), size, _ in rows:
-        each = " | ".join(f"{time / deeds:.3f} us" for time in (append, opening, copy))
-        print(f"| {deeds:,} | {records:,} | {size:,} | {each} | {append / copy:.1f} | {opening / copy:.1f} |")
-    (_, few, first, *_), (_, many, last, *_) = rows[0], rows[2]
-    growths = [(after / many) / (before / few) for before, after in zip(first, last)]
-    print("growth of the time of a deed: " + ", ".join(f"{name} {growth:.2f}" for name, growth in zip(("append", "open", "copy"), growths)))
-    for records, deeds, _, size, memory in rows[1:]:
-        print(f"opening {deeds:,} deeds in {records:,} records: at most {memory / 2**20:.1f} MiB in use, {memory / size:.1f} bytes a byte")
-    if max(growths[:2]) > MOST_GROWTH:
-        sys.exit(f"more than {MOST_GROWTH}")
+            rows = [(records, records * each, times_of(program, folder, records, each)) for records, each in SIZES]
+    print("| form | deeds | records | bytes | append, a deed | open, a deed | copy, a deed | append / copy | open / copy |")
+    print("|---|---|---|---|---|---|---|---|---|")
+    for form in FORMS:
+        for records, deeds, forms in rows:
+            (append, opening, copy), size, _ = forms[form]
+            each = " | ".join(f"{time / deeds:.3f} us" for time in (append, opening, copy))
+            print(f"| {form} | {deeds:,} | {records:,} | {size:,} | {each} | {append / copy:.1f} | {opening / copy:.1f} |")
+    worst = max(growth for form in FORMS for growth in print_growths(form, rows))
+    for records, deeds, forms in rows[1:]:
+        for form in FORMS:
+            _, size, memory = forms[form]
+            print(f"opening {deeds:,} deeds of {form} in {records:,} records: at most {memory / 2**20:.1f} MiB in use, {memory / size:.1f} bytes a byte")
+    slower = [[now / before for before, now in zip(forms["LND1"][0], forms["LND2"][0])] for _, _, forms in rows]
+    for (records, deeds, _), ratios in zip(rows, slower):
+        print(f"LND2 to LND1, {deeds:,} deeds in {records:,} records: append {ratios[0]:.2f}, open {ratios[1]:.2f}, copy {ratios[2]:.2f}")
+    if worst > MOST_GROWTH:
+        sys.exit(f"a growth of more than {MOST_GROWTH}")
+    if max(slower[2][:2]) > MOST_BESIDE_ONE:
+        sys.exit(f"LND2 takes more than {MOST_BESIDE_ONE} times as long as LND1")
+
+
+def print_growths(form, rows):
+    """Tells how the time of a deed grows from the first size to the last with records of 64; the growths of an append and of an opening."""
+    (_, few, first), (_, many, last) = rows[0], rows[2]
+    growths = [(after / many) / (before / few) for before, after in zip(first[form][0], last[form][0])]
+    told = ", ".join(f"{name} {growth:.2f}" for name, growth in zip(("append", "open", "copy"), growths))
+    print(f"growth of the time of a deed in {form}: {told}")
+    return growths[:2]
 
 
 main()
