@@ -2,7 +2,7 @@
 """Times a bank on a file: appends of records of 64 deeds, and opening it, beside a plain copy of the same bytes.
 
 It proves and builds `main.rt.txt` (so named since the gate reads each `.rt` file) over the crates of this repository, in a folder of its own,
-and runs it at some 1,000, 100,000 and 1,000,000 deeds (whole records of 64) `("job", i)` of 28 bytes, and at 1,000,000 records of one.
+and runs it at some 1,000, 100,000 and 1,000,000 deeds (whole records of 64) `("job", i)` of 29 bytes, and at 1,000,000 records of one.
 The files lie in memory where /dev/shm is there, so that a sync costs little and the work of the program is seen. A time is the least of
 five runs. It prints a line for each size with the time of a deed, the growth of that time from the first size to the last with records
 of 64, and the greatest memory in use of a process that opens the bank, also for each byte of the bank; the program itself is among it. Of the
