@@ -14,7 +14,7 @@ import subprocess
 import sys
 from pathlib import Path
 
-VERSION = 1
+VERSION = 2
 INT, TEXT, BOOL, ANY = (object() for _ in range(4))
 FORMALS = {INT: 4, TEXT: 5, BOOL: 6, ANY: 7}
 NAMES = {4: "?i", 5: "?s", 6: "?b", 7: "_"}
@@ -34,7 +34,7 @@ def spell_atom(value):
     if isinstance(value, int):
         return b"\x01" + value.to_bytes(8, "big", signed=True)
     content = value.encode()
-    return bytes([2, len(content)]) + content
+    return b"\x02" + spell_number(len(content), 2) + content
 
 
 def spell_items(tag, items):
@@ -88,7 +88,7 @@ class Reader:
         if kind == 1:
             return int.from_bytes(self.take(8), "big", signed=True)
         if kind == 2:
-            return self.take(self.number(1)).decode()
+            return self.take(self.number(2)).decode()
         if kind == 3:
             return bool(self.number(1))
         return next(formal for formal, byte in FORMALS.items() if byte == kind)

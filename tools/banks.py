@@ -2,7 +2,7 @@
 
 It is written from the documents alone and shares nothing with the program, so that the two can be compared. It is no tool by itself.
 
-A bank is in the first form (LND1) or in the second (LND2). The tuples of a state are the bytes that the first form has for them, whatever the form that
+A bank is in the first form (LND1) or in the second (LND2). The tuples of a state are the bytes that the second form has for them, whatever the form that
 they were read in, so that states can be compared; `in_form` spells a bank again in another form.
 """
 
@@ -14,7 +14,9 @@ CLIENTS = 1_024
 SIDES = ("left", "right")
 LETTERS = {1: b"LND1", 2: b"LND2"}
 # By form: the bytes of a text's length, the longest text, the most fields.
-LIMITS = {1: (1, 255, 16), 2: (2, 255, 16)}
+LIMITS = {1: (1, 255, 16), 2: (2, 4_095, 32)}
+# The form of new banks.
+NEW = 2
 
 
 class Bad(Exception):
@@ -37,7 +39,7 @@ class Verdict:
     state: State | None
     refusal: str = ""
     side: str = ""
-    form: int = 1
+    form: int = NEW
     generation: int = 0
     records: tuple[int, ...] = ()
     ends: tuple[int, ...] = ()
@@ -46,7 +48,7 @@ class Verdict:
 class Bytes:
     """Bytes that are read from the front, with values in a form."""
 
-    def __init__(self, data: bytes, form: int = 1) -> None:
+    def __init__(self, data: bytes, form: int = NEW) -> None:
         self.data, self.at, self.form = data, 0, form
 
     def take(self, size: int) -> bytes:
@@ -59,7 +61,7 @@ class Bytes:
         return int.from_bytes(self.take(size), "big")
 
     def atom(self) -> bytes:
-        """An atom, as the bytes that the first form has for it."""
+        """An atom, as the bytes that the second form has for it."""
         width, longest, _ = LIMITS[self.form]
         kind = self.number(1)
         if kind == 1:
@@ -73,14 +75,14 @@ class Bytes:
                 text.decode()
             except UnicodeDecodeError:
                 raise Bad from None
-            return b"\2" + bytes([size]) + text
+            return b"\2" + size.to_bytes(2, "big") + text
         truth = self.number(1)
         if kind != 3 or truth > 1:
             raise Bad
         return bytes([3, truth])
 
     def tuple(self) -> bytes:
-        """A tuple, as the bytes that the first form has for it: each tuple has one spelling there."""
+        """A tuple, as the bytes that the second form has for it: each tuple has one spelling there."""
         tag = self.atom()
         count = self.number(1)
         if count > LIMITS[self.form][2]:
@@ -230,20 +232,27 @@ def verdict(left: bytes, right: bytes) -> Verdict:
     return Verdict(state, "", side, form, generation, gates, gates[1:] + (end,))
 
 
-def spell_tuple(first: bytes, form: int) -> bytes:
-    """The bytes that a form has for the tuple that the first form spells so."""
-    it, width = Bytes(first), LIMITS[form][0]
+def spell_tuple(second: bytes, form: int) -> bytes:
+    """The bytes that a form has for the tuple that the second form spells so; Bad where it has none."""
+    it, (width, longest, most) = Bytes(second), LIMITS[form]
 
     def spelled() -> bytes:
         atom = it.atom()
-        return b"\2" + (len(atom) - 2).to_bytes(width, "big") + atom[2:] if atom[0] == 2 else atom
+        if atom[0] != 2:
+            return atom
+        text = atom[3:]
+        if len(text) > longest:
+            raise Bad
+        return b"\2" + len(text).to_bytes(width, "big") + text
 
     tag, count = spelled(), it.number(1)
+    if count > most:
+        raise Bad
     return tag + bytes([count]) + b"".join([spelled() for _ in range(count)])
 
 
 def in_form(data: bytes, form: int) -> bytes:
-    """A whole bank, spelled again in this form."""
+    """A whole bank, spelled again in this form; Bad where it has a tuple without a spelling there."""
     def number(value: int, size: int = 8) -> bytes:
         return value.to_bytes(size, "big")
 

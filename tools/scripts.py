@@ -4,6 +4,11 @@ import random
 
 from world import Formal, bases_and_nacks, command_text
 
+# The limits of values: bytes of a text, and fields after the tag.
+MOST_TEXT, MOST_FIELDS = 4_095, 32
+# So many bytes of texts a script puts at most: far fewer than a bank of `linda run` has room for.
+MOST_BYTES = 200_000
+
 
 class Script:
     """A random script, and what its choices are made of."""
@@ -14,7 +19,7 @@ class Script:
         self.clients = range(1, self.random.randint(2, 8) + 1)
         self.commands: list[tuple] = []
         self.members: dict[int, list[int]] = {}
-        self.number = self.time = 0
+        self.number = self.time = self.bytes = 0
         for _ in range(80):
             self.commands.append(self.command())
 
@@ -31,9 +36,22 @@ class Script:
         return self.number
 
     def value(self) -> tuple:
-        if self.random.random() < 0.7:
+        way = self.random.random()
+        if way < 0.7:
             return "job", self.random.randint(1, 4)
-        return "two", self.random.randint(-2, 2), self.random.choice(["a", 'b "c"\t']), self.random.random() < 0.5
+        if way < 0.95:
+            return "two", self.random.randint(-2, 2), self.random.choice(["a", 'b "c"\t']), self.random.random() < 0.5
+        return self.large()
+
+    def large(self) -> tuple:
+        """A tuple up to the limits: a long text, many fields, or at times both, if there is room for it in the script."""
+        count = self.random.choice([1, 1, 2, 17, MOST_FIELDS])
+        size = self.random.choice([255, 256, MOST_TEXT - 1, MOST_TEXT] if count < 3 or self.random.random() < 0.1 else [0, 1, 8])
+        if self.bytes + count * size > MOST_BYTES:
+            return "job", 1
+        self.bytes += count * size
+        text = self.random.choice(["x", "é", '"'])
+        return f"large{count}", *([text * (size // len(text.encode()))] * count)
 
     def template(self) -> tuple:
         tag, *fields = self.value()

@@ -19,7 +19,7 @@ import tempfile
 RUNS = 5
 RECORDS = {1: 1_000, 64: 500}
 # the bytes of a deed, of ("job", i) put and of a tuple taken, and what a record has beside its deeds: the gate, four bytes of length
-DEEDS = {"put": 28, "take": 21}
+DEEDS = {"put": 29, "take": 21}
 FRAME = 5
 TUPLES = 1_000_000
 LEAST_RATIO = 0.8

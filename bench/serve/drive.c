@@ -21,7 +21,7 @@
 #include <time.h>
 #include <unistd.h>
 
-enum { HELLO = 1, OUT = 2, ASK = 3, ACCEPT = 4, WELCOME = 0x11, STORED = 0x12, OFFER = 0x13, TAKEN = 0x15 };
+enum { VERSION = 2, HELLO = 1, OUT = 2, ASK = 3, ACCEPT = 4, WELCOME = 0x11, STORED = 0x12, OFFER = 0x13, TAKEN = 0x15 };
 enum { ROOM = 1 << 16, MOST = 4096, SLICE = 50000000 };
 
 struct connection {
@@ -70,17 +70,17 @@ static void flush(struct connection *c) {
 
 static void say_out(struct connection *c) {
     unsigned char *at = c->going + c->to_go;
-    at = put(at, 24, 4), at = put(at, OUT, 1), at = put(at, ++c->number, 8);
-    memcpy(at, "\2\3job\1\1", 7);
-    at = put(at + 7, job++, 8);
+    at = put(at, 25, 4), at = put(at, OUT, 1), at = put(at, ++c->number, 8);
+    memcpy(at, "\2\0\3job\1\1", 8);
+    at = put(at + 8, job++, 8);
     c->to_go = (size_t)(at - c->going);
 }
 
 static void say_ask(struct connection *c) {
     unsigned char *at = c->going + c->to_go;
-    at = put(at, 17, 4), at = put(at, ASK, 1), at = put(at, ++c->ticket, 8), at = put(at, 1, 1);
-    memcpy(at, "\2\3job\1\4", 7);
-    c->to_go = (size_t)(at + 7 - c->going);
+    at = put(at, 18, 4), at = put(at, ASK, 1), at = put(at, ++c->ticket, 8), at = put(at, 1, 1);
+    memcpy(at, "\2\0\3job\1\4", 8);
+    c->to_go = (size_t)(at + 8 - c->going);
 }
 
 static void say_accept(struct connection *c, uint64_t id) {
@@ -122,7 +122,7 @@ static struct connection *greet(int port) {
     c->stream = socket(AF_INET, SOCK_STREAM, 0);
     if (connect(c->stream, (struct sockaddr *)&to, sizeof to) < 0) stop("connect");
     setsockopt(c->stream, IPPROTO_TCP, TCP_NODELAY, &one, sizeof one);
-    unsigned char *at = put(put(put(put(put(c->going, 7, 4), HELLO, 1), 1, 1), (uint64_t)count + 1, 4), 1, 1);
+    unsigned char *at = put(put(put(put(put(c->going, 7, 4), HELLO, 1), VERSION, 1), (uint64_t)count + 1, 4), 1, 1);
     c->to_go = (size_t)(at - c->going);
     flush(c);
     for (welcomed = 0; !welcomed;) hear(c, expect_welcome);

@@ -17,7 +17,7 @@ import tempfile
 
 RUNS = 3
 JOBS = {1: 1_000, 4: 1_000, 16: 500, 64: 250}
-PLAIN_BYTES = 33
+PLAIN_BYTES = 34
 PLAIN_ROUNDS = 1_000
 HERE = os.path.dirname(os.path.abspath(__file__))
 TOP = os.path.join(HERE, "..", "..")

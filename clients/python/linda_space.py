@@ -8,11 +8,11 @@
         space.take("job", INT, timeout=2.5)                # ("job", 1), which nobody else gets; None after 2.5 seconds
         space.choose(In("job", ANY).wrap(5), Rd("stop").nack(9), timeout=2.5)
 
-A value is an int of 64 bits with a sign, a str of at most 255 bytes of UTF-8, or a bool. A tuple is a value, its tag, and at most 16 more, its fields. A
+A value is an int of 64 bits with a sign, a str of at most 4,095 bytes of UTF-8, or a bool. A tuple is a value, its tag, and at most 32 more, its fields. A
 pattern is a value, which fits itself (True is not 1), or a formal: INT, TEXT and BOOL fit each value of their kind, ANY each value. A template is a tag and at
-most 16 patterns.
+most 32 patterns.
 
-What it says to servers is docs/FORMATS.md, and when it says it docs/EVENTS.md. A `Space` is for one thread at a time. Nothing it does needs attention between
+What it says to servers is version 2 of docs/FORMATS.md, and when it says it docs/EVENTS.md. A `Space` is for one thread at a time. Nothing it does needs attention between
 two calls.
 """
 
@@ -30,12 +30,12 @@ from typing import Callable, Deque, Dict, FrozenSet, List, Optional, Sequence, T
 
 # ---- the version and the limits of the frames (docs/FORMATS.md), of events and clients (docs/EVENTS.md), and of greeting again
 
-VERSION = 1
-MOST_TEXT = 255                         # bytes of UTF-8 in a text
-MOST_FIELDS = 16                        # fields of a tuple, and patterns of a template, beside the tag
+VERSION = 2
+MOST_TEXT = 4_095                       # bytes of UTF-8 in a text
+MOST_FIELDS = 32                        # fields of a tuple, and patterns of a template, beside the tag
 LEAST_INTEGER, MOST_INTEGER = -(1 << 63), (1 << 63) - 1
-MOST_FRAME = 65_535                     # bytes of a frame behind its length
-FRAME_SIZE, TEXT_SIZE, COUNT_SIZE = 4, 1, 1     # bytes of the length of a frame, of the length of a text, of a count of fields
+MOST_FRAME = 262_144                    # bytes of a frame behind its length
+FRAME_SIZE, TEXT_SIZE, COUNT_SIZE = 4, 2, 1     # bytes of the length of a frame, of the length of a text, of a count of fields
 NUMBER_LIMIT = 1 << 63                  # numbers of messages, tickets and the count of outs stay below it
 MOST_CLIENT = (1 << 32) - 1
 MOST_SERVERS = 16
@@ -389,7 +389,10 @@ class _Reader:
         if kind == 1:
             return int.from_bytes(self.take(8), "big", signed=True)
         if kind == 2:
-            return self.take(self.number(TEXT_SIZE)).decode()
+            size = self.number(TEXT_SIZE)
+            if size > MOST_TEXT:
+                raise ValueError("a frame has a text that is too long")
+            return self.take(size).decode()
         if kind == 3:
             truth = self.number(1)
             if truth <= 1:

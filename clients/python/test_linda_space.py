@@ -222,8 +222,9 @@ class OverServers(unittest.TestCase):
         with Space([left.port, right.port], 7, fresh=True) as space:
             space.out("a")
             self.refused(lambda: Space([right.port], 7, fresh=True), 0, "Busy", 0)
-        with mock.patch.object(linda_space, "VERSION", 2):
-            self.refused(lambda: self.space(left, client=8), 0, "Version", 1)
+        for version in (1, 3):
+            with mock.patch.object(linda_space, "VERSION", version):
+                self.refused(lambda: self.space(left, client=8), 0, "Version", 2)
         self.refused(self.not_busy(lambda: Space([left.port, right.port], 7, fresh=True)), 1, "Known", 1)
         self.assertEqual(self.space(left, right).out("b"), (1, 2))
 
@@ -337,8 +338,8 @@ class OverServers(unittest.TestCase):
 
     def test_values_at_their_limits(self) -> None:
         space = self.space(self.serve())
-        values = [(-(1 << 63), (1 << 63) - 1, 0, -1, True, False, "", "x" * 255, "é" * 127, "\U0001f600" * 63, "\0\n\t\"\\"),
-                  ("x" * 255, *["y" * 255] * 16), (True,), (0,), ("",)]
+        values = [(-(1 << 63), (1 << 63) - 1, 0, -1, True, False, "", "x" * 255, "x" * 256, "é" * 2_047, "\U0001f600" * 1_023, "\0\n\t\"\\"),
+                  ("x" * 4_095, *["y" * 4_095] * 32), (True,), (0,), ("",)]
         for place, (tag, *fields) in enumerate(values):
             self.assertEqual(space.out(tag, *fields), (0, place + 1))
             for call in (space.read, space.take):
@@ -349,11 +350,11 @@ class OverServers(unittest.TestCase):
 
     def test_nothing_is_sent_after_a_wrong_value(self) -> None:
         space = self.space(self.serve())
-        wrong = [1 << 63, -(1 << 63) - 1, "x" * 256, "é" * 128, "\ud800", 1.5, None, b"x", ("a",), ["a"]]
+        wrong = [1 << 63, -(1 << 63) - 1, "x" * 4_096, "é" * 2_048, "\ud800", 1.5, None, b"x", ("a",), ["a"]]
         calls: List[Callable[[], Any]] = [lambda tag=tag: space.out(tag) for tag in [*wrong, INT, ANY]]
         calls += [lambda item=item: space.out("a", item) for item in [*wrong, INT]]
         calls += [lambda item=item, call=call: call("a", item) for item in wrong for call in (space.take, space.read)]
-        calls += [lambda call=call: call("a", *range(17)) for call in (space.out, space.take, space.read)]
+        calls += [lambda call=call: call("a", *range(33)) for call in (space.out, space.take, space.read)]
         calls += [lambda seconds=seconds: space.take("a", timeout=seconds) for seconds in (-1, float("nan"), float("inf"), 1e30, "1")]
         calls += [lambda: space.take(INT), lambda: space.choose("a"), lambda: space.sync(("in", "a")), lambda: Wrap(1, "a"), lambda: Nack(1, None)]
         calls += [lambda: Alarm(-1), lambda: Alarm(1 << 64), lambda: Wrap(-1, Never()), lambda: Nack(1 << 64, Never()), lambda: Always(1 << 63)]
@@ -420,8 +421,9 @@ class OverPairs(unittest.TestCase):
     def test_no_frames_of_a_server(self) -> None:
         item, offer = frames.spell_atom("a"), b"\x13" + bytes(16)
         framed = [b"\x18", b"\x01", b"\x11" + bytes(7), b"\x11" + bytes(9), offer + item + b"\0\0", offer + b"\x04\0", offer + b"\x03\2\0",
-                  offer + b"\2\1\xff\0", offer + item + b"\x11" + b"\3\0" * 17, offer + item + b"\1\7", offer + item]
-        for data in (bytes(4), b"\0\1\0\0", b"\xff" * 4, *map(frames.frame, framed)):
+                  offer + b"\2\0\1\xff\0", offer + b"\2\x10\0" + b"x" * 4_096 + b"\0", offer + b"\2\x10\0", offer + b"\2\0", offer + b"\2\0\2x",
+                  offer + item + b"\x21" + b"\3\0" * 33, offer + item + b"\1\7", offer + item]
+        for data in (bytes(4), b"\0\4\0\1", b"\xff" * 4, *map(frames.frame, framed)):
             with self.subTest(data=data.hex()):
                 space = self.space(data)
                 with self.assertRaises(BadReply):
