@@ -8,7 +8,7 @@
 //! | `world 2 in memory` | makes a world over two servers in memory, or over one |
 //! | `world 1 on disks` | makes one over durable servers on disks in memory |
 //! | `world 1 on disks, 9 times` | makes nine of them |
-//! | `world 1 on disks, room 65` | a bank of the first server has room for so many bytes |
+//! | `world 1 on disks, room 66` | a bank of the first server has room for so many bytes |
 //! | `world 1 on disks, left fails at 7` | this call of its left device fails, from 0; or of its right one |
 //! | `7 out`, `8 in`, `8 rd` | a client puts `("a", 3)`, takes `("a", ?i)`, or reads that |
 //! | `7 sync EVENT`, `7 abandon` | a client waits for an event, and gives up |

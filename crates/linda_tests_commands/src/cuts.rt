@@ -37,7 +37,7 @@ fn front(bytes: &[u8], len: usize) -> &[u8] {
 }
 
 /// The lines that end a message, with the replies.
-const LINES: Ends = &[(0, 0), (24, 27), (77, 70), (130, 113), (183, 142)];
+const LINES: Ends = &[(0, 0), (24, 27), (79, 70), (134, 113), (189, 142)];
 
 #[test]
 fn a_pipe_writes_a_front_where_its_writer_fails(rt: HostRuntime) {
@@ -78,10 +78,10 @@ fn a_pipe_answers_the_lines_before_its_reader_fails(rt: HostRuntime) {
 }
 
 /// The messages of the same stream, as bytes.
-const MESSAGES: &[u8] = b"\0\0\0\x07\x01\x01\0\0\0\x07\x01\
-    \0\0\0\x16\x02\0\0\0\0\0\0\0\x01\x02\x01\x61\x01\x01\0\0\0\0\0\0\0\x03\
-    \0\0\0\x16\x02\0\0\0\0\0\0\0\x01\x02\x01\x61\x01\x01\0\0\0\0\0\0\0\x03\
-    \0\0\0\x16\x02\0\0\0\0\0\0\0\x03\x02\x01\x61\x01\x01\0\0\0\0\0\0\0\x03";
+const MESSAGES: &[u8] = b"\0\0\0\x07\x01\x02\0\0\0\x07\x01\
+    \0\0\0\x17\x02\0\0\0\0\0\0\0\x01\x02\0\x01\x61\x01\x01\0\0\0\0\0\0\0\x03\
+    \0\0\0\x17\x02\0\0\0\0\0\0\0\x01\x02\0\x01\x61\x01\x01\0\0\0\0\0\0\0\x03\
+    \0\0\0\x17\x02\0\0\0\0\0\0\0\x03\x02\0\x01\x61\x01\x01\0\0\0\0\0\0\0\x03";
 
 /// The replies to them.
 const ANSWERS: &[u8] = b"\0\0\0\x09\x11\0\0\0\0\0\0\0\0\
@@ -89,7 +89,7 @@ const ANSWERS: &[u8] = b"\0\0\0\x09\x11\0\0\0\0\0\0\0\0\
     \0\0\0\x11\x12\0\0\0\0\0\0\0\x01\0\0\0\0\0\0\0\x01\
     \0\0\0\x0a\x17\x05\0\0\0\0\0\0\0\x01";
 
-const FRAMES: Ends = &[(0, 0), (11, 13), (37, 34), (63, 55), (89, 69)];
+const FRAMES: Ends = &[(0, 0), (11, 13), (38, 34), (65, 55), (92, 69)];
 
 #[test]
 fn a_conversation_writes_a_front_where_its_writer_fails(rt: HostRuntime) {

@@ -15,18 +15,18 @@ const NEW: Kept = (1, 0, 0);
 
 /// With just room enough for both in one record.
 const ENOUGH: Stand = Stand {
-    limit: 91,
+    limit: 93,
     stops_in: None,
 };
 
 /// With room for the first alone, and for nothing after it.
 const TOO_LITTLE: Stand = Stand {
-    limit: 90,
+    limit: 92,
     stops_in: None,
 };
 
 const AT_ONCE: &[Step] = &[
-    ("greet hello 1 7 fresh", "> 7 welcome 0\n", NEW),
+    ("greet hello 2 7 fresh", "> 7 welcome 0\n", NEW),
     (
         "all 7 out 1 (\"a\", 3); 7 out 2 (\"a\", 4)",
         "> 7 did 1\n> 7 did 2\n> 7 stored 1 1\n> 7 stored 2 2\n",
@@ -35,7 +35,7 @@ const AT_ONCE: &[Step] = &[
 ];
 
 const ONE_BY_ONE: &[Step] = &[
-    ("greet hello 1 7 fresh", "> 7 welcome 0\n", NEW),
+    ("greet hello 2 7 fresh", "> 7 welcome 0\n", NEW),
     (
         "all 7 out 1 (\"a\", 3); 7 out 2 (\"a\", 4)",
         "> 7 did 1\n> 7 stored 1 1\n> 7 refused 6 0\n",
@@ -89,8 +89,8 @@ impl Scene for Bank {
 fn messages_that_go_at_once_are_one_record(rt: HostRuntime) -> Result<(), Fail> {
     let bank = Bank {
         steps: AT_ONCE,
-        len: 91,
-        record: 0x34,
+        len: 93,
+        record: 0x36,
     };
     play(&rt, rt.alloc(), ENOUGH, &bank)
 }
@@ -99,8 +99,8 @@ fn messages_that_go_at_once_are_one_record(rt: HostRuntime) -> Result<(), Fail> 
 fn messages_that_do_not_fit_at_once_go_one_by_one(rt: HostRuntime) -> Result<(), Fail> {
     let bank = Bank {
         steps: ONE_BY_ONE,
-        len: 65,
-        record: 0x1a,
+        len: 66,
+        record: 0x1b,
     };
     play(&rt, rt.alloc(), TOO_LITTLE, &bank)
 }
@@ -108,7 +108,7 @@ fn messages_that_do_not_fit_at_once_go_one_by_one(rt: HostRuntime) -> Result<(),
 #[test]
 fn without_memory_all_go_at_once_or_none(rt: HostRuntime) -> Result<(), Fail> {
     let scene = AsFarAsMemoryGoes {
-        limit: 91,
+        limit: 93,
         steps: AT_ONCE,
         cut_short: None,
     };
@@ -118,7 +118,7 @@ fn without_memory_all_go_at_once_or_none(rt: HostRuntime) -> Result<(), Fail> {
 #[test]
 fn without_memory_some_go_one_by_one(rt: HostRuntime) -> Result<(), Fail> {
     let scene = AsFarAsMemoryGoes {
-        limit: 90,
+        limit: 92,
         steps: ONE_BY_ONE,
         cut_short: Some("> down\n> 7 stored 1 1\n"),
     };

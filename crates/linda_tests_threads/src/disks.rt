@@ -19,8 +19,8 @@ const BEHIND: Kept = (3, 2, 1);
 
 /// Two messages at once, in which the server goes down, and all that comes later.
 const STEPS: &[Step] = &[
-    ("greet hello 1 7 fresh", "> 7 welcome 0\n", BEFORE),
-    ("greet hello 1 8 fresh", "> 8 welcome 0\n", BEFORE),
+    ("greet hello 2 7 fresh", "> 7 welcome 0\n", BEFORE),
+    ("greet hello 2 8 fresh", "> 8 welcome 0\n", BEFORE),
     (
         "all 7 out 1 (\"a\", 3); 7 out 2 (\"a\", 4)",
         "> down\n",
@@ -28,9 +28,9 @@ const STEPS: &[Step] = &[
     ),
     ("7 out 1 (\"a\", 3)", "> down\n", BEFORE),
     ("8 in 1 (\"a\", ?i)", "> down\n", BEFORE),
-    ("8 hello 1 8 known", "> down\n", BEFORE),
+    ("8 hello 2 8 known", "> down\n", BEFORE),
     ("all 8 out 1 (\"a\", 5); 8 cancel 1", "> down\n", BEFORE),
-    ("greet hello 1 9 fresh", "> down\n", BEFORE),
+    ("greet hello 2 9 fresh", "> down\n", BEFORE),
     ("snapshot", "> down\n", BEFORE),
     ("leave 8", "> down\n", BEFORE),
     ("finish 7", "> down\n", BEFORE),

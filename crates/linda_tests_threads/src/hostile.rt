@@ -13,27 +13,28 @@ const TAKEN: Kept = (2, 0, 2);
 
 /// 7 is offered its tuple twice and leaves with the second offer; 8, which waits, is offered it then, and takes it.
 const STEPS: &[Step] = &[
-    ("greet hello 1 7 fresh", "> 7 welcome 0\n", NEW),
+    ("greet hello 1 7 fresh", "> refused 1 2\n", NEW),
+    ("greet hello 2 7 fresh", "> 7 welcome 0\n", NEW),
     ("7 out 1 (\"a\", 3)", "> 7 did 1\n> 7 stored 1 1\n", PUT),
     ("7 in 1 (\"a\", ?i)", "> 7 offer 1 1 (\"a\", 3)\n", PUT),
     ("7 cancel 1", "", PUT),
     ("7 in 2 (\"a\", ?i)", "> 7 offer 2 1 (\"a\", 3)\n", PUT),
-    ("greet hello 1 8 fresh", "> 8 welcome 0\n", PUT),
+    ("greet hello 2 8 fresh", "> 8 welcome 0\n", PUT),
     ("8 in 1 (\"a\", ?i)", "", PUT),
     ("leave 7", "> 8 offer 1 1 (\"a\", 3)\n", PUT),
-    ("greet hello 1 7 fresh", "> refused 2 1\n", PUT),
-    ("greet hello 1 7 known", "> 7 welcome 1\n", PUT),
+    ("greet hello 2 7 fresh", "> refused 2 1\n", PUT),
+    ("greet hello 2 7 known", "> 7 welcome 1\n", PUT),
     ("7 accept 2 1 1", "> 7 did 2\n> 7 gone 2\n", PUT),
     (
         "8 accept 1 1 1",
         "> 8 did 1\n> 8 taken 1 1 (\"a\", 3)\n",
         TAKEN,
     ),
-    ("greet hello 1 8 known", "> refused 3 0\n", TAKEN),
-    ("8 hello 1 8 known", "> 8 refused 3 0\n", TAKEN),
+    ("greet hello 2 8 known", "> refused 3 0\n", TAKEN),
+    ("8 hello 2 8 known", "> 8 refused 3 0\n", TAKEN),
     ("finish 8", "> a seat is missing\n", TAKEN),
     ("finish 7", "> 3 deeds, 1 ids\n", TAKEN),
-    ("greet hello 1 7 known", "> refused 3 0\n", TAKEN),
+    ("greet hello 2 7 known", "> refused 3 0\n", TAKEN),
 ];
 
 #[test]

@@ -1,6 +1,6 @@
 //! Sessions in one thread, line by line.
 //!
-//! `greet hello 1 7 fresh` greets; `7 out 1 ("a", 3)` submits a message of client 7, and
+//! `greet hello 2 7 fresh` greets; `7 out 1 ("a", 3)` submits a message of client 7, and
 //! `all 7 out 1 ("a", 3); 7 cancel 2` several at once; `leave 7`, `snapshot`, and `finish 7 8`, which gives both seats
 //! back. What comes of a line is told: `7 did 1` of a receipt for message 1, a fault in words, and then all replies
 //! that are there, session by session.

@@ -4,7 +4,7 @@ use crate::number::place;
 use linda_script::{WordsFault, split_word};
 use std::alloc::{AllocError, Global};
 
-/// How long the string is that a tilde stands for: as long as one may be.
+/// How long the string is that a tilde stands for.
 const LONG: usize = 255;
 
 /// Appends a line of a script. A tilde in it stands for a string of 255 letters, in its quotation marks.

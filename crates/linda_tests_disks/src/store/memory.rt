@@ -22,11 +22,11 @@ impl Write for Taking {
     }
 }
 
-/// Refused, as malformed at 17.
-const REFUSED: [u8; 14] = [0, 0, 0, 0xa, 0x17, 9, 0, 0, 0, 0, 0, 0, 0, 17];
+/// Refused, as malformed at 18.
+const REFUSED: [u8; 14] = [0, 0, 0, 0xa, 0x17, 9, 0, 0, 0, 0, 0, 0, 0, 18];
 
-/// Out 1 of a tuple with a text for its tag and a byte that is no atom for its field, at 17.
-const BAD_FIELD: [u8; 18] = [0, 0, 0, 0xe, 2, 0, 0, 0, 0, 0, 0, 0, 1, 2, 1, 0x61, 1, 9];
+/// Out 1 of a tuple with a text for its tag and a byte that is no atom for its field, at 18.
+const BAD_FIELD: [u8; 19] = [0, 0, 0, 0xf, 2, 0, 0, 0, 0, 0, 0, 0, 1, 2, 0, 1, 0x61, 1, 9];
 
 // The first allocation holds the stream's bytes, the second the text of the tag and the third the row of fields,
 // neither of which is needed to report the fault; the others hold the reply. So the test passes too where the second
@@ -39,6 +39,6 @@ fn a_bad_frame_is_told_where_there_is_no_memory_for_its_text(rt: HostRuntime) {
     };
     let mut reader: &[u8] = &BAD_FIELD;
     let end = converse(rt.alloc(), &mut node, &mut reader, &mut taking);
-    assert_eq!(rt; end, Ok(End::Malformed(17)));
+    assert_eq!(rt; end, Ok(End::Malformed(18)));
     assert_eq!(rt; taking.taken.as_slice(), REFUSED.as_slice());
 }
