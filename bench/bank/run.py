@@ -5,7 +5,7 @@ It proves and builds `main.rt.txt` (so named since CI reads each `.rt` file) ove
 and runs it at some 1,000, 100,000 and 1,000,000 deeds (whole records of 64) `("job", i)`, and at 1,000,000 records of one, on a bank of each
 form: a deed has 28 bytes in LND1 and 29 in LND2. The two forms go in turn, so that both have the same noise.
 The files lie in memory where /dev/shm is there, so that a sync costs little and the work of the program is seen. A time is the least of
-five runs. It prints a line for each size with the time of a deed, the growth of that time from the first size to the last with records
+seventeen runs. It prints a line for each size with the time of a deed, the growth of that time from the first size to the last with records
 of 64, and the greatest memory in use of a process that opens the bank, also for each byte of the bank; the program itself is among it. Of the
 smallest bank none is told: it is that of this script, which the process is when it starts. It fails where the time of a deed in an append or
 an opening grows more than twice, or is more than 1.05 times as long in LND2 as in LND1 at 1,000,000 deeds.
@@ -21,7 +21,7 @@ import tempfile
 
 # how many records, and the deeds of each; the first is the smallest, the last but one is as large as the last
 SIZES = [(16, 64), (1_563, 64), (15_625, 64), (1_000_000, 1)]
-RUNS = 5
+RUNS = 17
 MOST_GROWTH = 2.0
 MOST_BESIDE_ONE = 1.05
 FORMS = ["LND1", "LND2"]
