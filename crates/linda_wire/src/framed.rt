@@ -58,8 +58,8 @@ pub(crate) fn push_pair(out: &mut Vec<u8>, first: u64, second: u64) -> Result<()
     out.extend_from_slice(&second.to_be_bytes())
 }
 
-/// Appends the tuple in the form of frames, in which every tuple has a spelling; where memory runs out, `out` is left as
-/// it was.
+/// Appends the tuple in the form of frames, in which every tuple has a spelling; where memory runs out, `out` is
+/// left as it was.
 pub(crate) fn push_tuple(out: &mut Vec<u8>, tuple: &Tuple) -> Result<(), AllocError>
     ensures ok { OnOk result (out.new.items ≡ out.old.items ++ (value.tuple spoken).spell tuple.now) }
     ensures err { OnErr result (out.new.items ≡ out.old.items) }
