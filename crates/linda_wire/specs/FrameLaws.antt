@@ -20,9 +20,9 @@ use Rattle.linda_codec.proofs.ValueLaws.{tuple_is, template_is}
 use Rattle.linda_wire.specs.declared.kinds.TheConstants as kind
 use Rattle.linda_wire.specs.declared.limits.TheConstants.{MAX_PAYLOAD}
 use Rattle.linda_wire.specs.declared.message.Message.{Message}
-use Rattle.linda_wire.specs.declared.message.Message.TheVariants.{Hello, Out, Ask, Accept, Cancel}
+use Rattle.linda_wire.specs.declared.message.Message.TheVariants.{Hello, Out, Ask, Accept, Cancel, Leave}
 use Rattle.linda_wire.specs.declared.reply.Reply.{Reply}
-use Rattle.linda_wire.specs.declared.reply.Reply.TheVariants.{Welcome, Stored, Offer, Read, Taken, Gone, Refused}
+use Rattle.linda_wire.specs.declared.reply.Reply.TheVariants.{Welcome, Stored, Offer, Read, Taken, Gone, Refused, Left}
 use Rattle.linda_wire.specs.Frames as format
 use Rattle.linda_wire.specs.Frames.{spoken}
 
@@ -57,7 +57,10 @@ message_bodies = (
       message_body ask_is kind.ASK format.ask_of (λ p. refl) (λ p fits. fits),
       (
         message_body accept_is kind.ACCEPT format.accept_of (λ p. refl) (λ p fits. fits),
-        (message_body number_is kind.CANCEL format.cancel_of (λ n. refl) (λ n fits. fits), tt),
+        (
+          message_body number_is kind.CANCEL format.cancel_of (λ n. refl) (λ n fits. fits),
+          (message_body number_is kind.LEAVE format.leave_of (λ n. refl) (λ n fits. fits), tt),
+        ),
       ),
     ),
   ),
@@ -72,6 +75,7 @@ message_again (Ask ticket remove template) rest fits =
     made_again ask_is format.ask_of (ticket, (remove, template)) rest fits
 message_again (Accept n ticket id) rest fits = made_again accept_is format.accept_of (n, (ticket, id)) rest fits
 message_again (Cancel ticket) rest fits = made_again number_is format.cancel_of ticket rest fits
+message_again (Leave n) rest fits = made_again number_is format.leave_of n rest fits
 
 pub message_is : IsFormat format.message
 message_is =
@@ -110,7 +114,10 @@ reply_bodies = (
           reply_body entry_is kind.TAKEN format.taken_of (λ p. refl) (λ p fits. fits),
           (
             reply_body number_is kind.GONE format.gone_of (λ n. refl) (λ n fits. fits),
-            (reply_body refusal_is kind.REFUSED format.refused_of (λ p. refl) (λ p fits. fits), tt),
+            (
+              reply_body refusal_is kind.REFUSED format.refused_of (λ p. refl) (λ p fits. fits),
+              (reply_body number_is kind.LEFT format.left_of (λ n. refl) (λ n fits. fits), tt),
+            ),
           ),
         ),
       ),
@@ -127,6 +134,7 @@ reply_again (Read ticket id tuple) rest fits = made_again entry_is format.read_o
 reply_again (Taken n id tuple) rest fits = made_again entry_is format.taken_of (n, (id, tuple)) rest fits
 reply_again (Gone n) rest fits = made_again number_is format.gone_of n rest fits
 reply_again (Refused code detail) rest fits = made_again refusal_is format.refused_of (code, detail) rest fits
+reply_again (Left n) rest fits = made_again number_is format.left_of n rest fits
 
 pub reply_is : IsFormat format.reply
 reply_is =
@@ -205,6 +213,7 @@ message_size (Ask ticket remove template) fits =
     record { some = omega arith; short = omega (arith, template_short template fits.1.1) }
 message_size (Accept n ticket id) fits = record { some = omega arith; short = omega arith }
 message_size (Cancel ticket) fits = record { some = omega arith; short = omega arith }
+message_size (Leave n) fits = record { some = omega arith; short = omega arith }
 
 pub reply_size : (r : Reply) → format.FitsReply r → IsPayload (format.spell_reply r)
 reply_size (Welcome last) fits = record { some = omega arith; short = omega arith }
@@ -217,3 +226,4 @@ reply_size (Taken n id tuple) fits =
     record { some = omega arith; short = omega (arith, tuple_short tuple fits.1.1) }
 reply_size (Gone n) fits = record { some = omega arith; short = omega arith }
 reply_size (Refused code detail) fits = record { some = omega arith; short = omega arith }
+reply_size (Left n) fits = record { some = omega arith; short = omega arith }

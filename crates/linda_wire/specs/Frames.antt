@@ -11,9 +11,9 @@ use Rattle.linda_codec.specs.Values as value
 use Rattle.linda_wire.specs.declared.kinds.TheConstants as kind
 use Rattle.linda_wire.specs.declared.limits.TheConstants.{LENGTH_BYTES}
 use Rattle.linda_wire.specs.declared.message.Message.{Message}
-use Rattle.linda_wire.specs.declared.message.Message.TheVariants.{Hello, Out, Ask, Accept, Cancel}
+use Rattle.linda_wire.specs.declared.message.Message.TheVariants.{Hello, Out, Ask, Accept, Cancel, Leave}
 use Rattle.linda_wire.specs.declared.reply.Reply.{Reply}
-use Rattle.linda_wire.specs.declared.reply.Reply.TheVariants.{Welcome, Stored, Offer, Read, Taken, Gone, Refused}
+use Rattle.linda_wire.specs.declared.reply.Reply.TheVariants.{Welcome, Stored, Offer, Read, Taken, Gone, Refused, Left}
 
 -- ---- values
 
@@ -69,6 +69,9 @@ accept_of p = Accept p.0 p.1.0 p.1.1
 abbrev pub cancel_of : ℕ → Message
 cancel_of ticket = Cancel ticket
 
+abbrev pub leave_of : ℕ → Message
+leave_of n = Leave n
+
 -- A message's kind byte and body.
 abbrev pub spell_message : Message → List ℕ
 spell_message (Hello version client fresh) = kind.HELLO ∷ hello.spell (version, (client, fresh))
@@ -76,6 +79,7 @@ spell_message (Out n tuple) = kind.OUT ∷ out.spell (n, tuple)
 spell_message (Ask ticket remove template) = kind.ASK ∷ ask.spell (ticket, (remove, template))
 spell_message (Accept n ticket id) = kind.ACCEPT ∷ accept.spell (n, (ticket, id))
 spell_message (Cancel ticket) = kind.CANCEL ∷ number.spell ticket
+spell_message (Leave n) = kind.LEAVE ∷ number.spell n
 
 -- What has a spelling among messages: numbers of their widths, and a tuple or template within its limits.
 abbrev pub FitsMessage : Message → Type 0
@@ -84,13 +88,14 @@ FitsMessage (Out n tuple) = out.Fits (n, tuple)
 FitsMessage (Ask ticket remove template) = ask.Fits (ticket, (remove, template))
 FitsMessage (Accept n ticket id) = accept.Fits (n, (ticket, id))
 FitsMessage (Cancel ticket) = number.Fits ticket
+FitsMessage (Leave n) = number.Fits n
 
 -- The kinds of messages, each with its body.
 abbrev pub message_kinds : List (ℕ × Reader Message)
 message_kinds =
     (kind.HELLO, made_at hello_of hello) ∷ (kind.OUT, made_at out_of out)
     ∷ (kind.ASK, made_at ask_of ask) ∷ (kind.ACCEPT, made_at accept_of accept)
-    ∷ (kind.CANCEL, made_at cancel_of number) ∷ []
+    ∷ (kind.CANCEL, made_at cancel_of number) ∷ (kind.LEAVE, made_at leave_of number) ∷ []
 
 abbrev pub message : Format Message
 message = record { spell = spell_message; Fits = FitsMessage; read = choice_at message_kinds no_kind }
@@ -135,6 +140,9 @@ gone_of n = Gone n
 abbrev pub refused_of : ℕ × ℕ → Reply
 refused_of p = Refused p.0 p.1
 
+abbrev pub left_of : ℕ → Reply
+left_of n = Left n
+
 -- A reply's kind byte and body.
 abbrev pub spell_reply : Reply → List ℕ
 spell_reply (Welcome last) = kind.WELCOME ∷ number.spell last
@@ -144,6 +152,7 @@ spell_reply (Read ticket id tuple) = kind.READ ∷ entry.spell (ticket, (id, tup
 spell_reply (Taken n id tuple) = kind.TAKEN ∷ entry.spell (n, (id, tuple))
 spell_reply (Gone n) = kind.GONE ∷ number.spell n
 spell_reply (Refused code detail) = kind.REFUSED ∷ refusal.spell (code, detail)
+spell_reply (Left n) = kind.LEFT ∷ number.spell n
 
 -- What has a spelling among replies: numbers of their widths, and a tuple within its limits.
 abbrev pub FitsReply : Reply → Type 0
@@ -154,6 +163,7 @@ FitsReply (Read ticket id tuple) = entry.Fits (ticket, (id, tuple))
 FitsReply (Taken n id tuple) = entry.Fits (n, (id, tuple))
 FitsReply (Gone n) = number.Fits n
 FitsReply (Refused code detail) = refusal.Fits (code, detail)
+FitsReply (Left n) = number.Fits n
 
 -- The kinds of replies, each with its body.
 abbrev pub reply_kinds : List (ℕ × Reader Reply)
@@ -161,7 +171,7 @@ reply_kinds =
     (kind.WELCOME, made_at welcome_of number) ∷ (kind.STORED, made_at stored_of stored)
     ∷ (kind.OFFER, made_at offer_of entry) ∷ (kind.READ, made_at read_of entry)
     ∷ (kind.TAKEN, made_at taken_of entry) ∷ (kind.GONE, made_at gone_of number)
-    ∷ (kind.REFUSED, made_at refused_of refusal) ∷ []
+    ∷ (kind.REFUSED, made_at refused_of refusal) ∷ (kind.LEFT, made_at left_of number) ∷ []
 
 abbrev pub reply : Format Reply
 reply = record { spell = spell_reply; Fits = FitsReply; read = choice_at reply_kinds no_kind }

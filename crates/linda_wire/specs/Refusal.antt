@@ -3,13 +3,13 @@ use Rattle.std.specs.Prelude.{ℕ}
 use Rattle.linda_wire.specs.declared.codes.TheConstants.{WRONG_VERSION, KNOWN_CLIENT, BUSY}
 use Rattle.linda_wire.specs.declared.codes.TheConstants.{OLD_NUMBER, NUMBER_GAP, NO_ROOM}
 use Rattle.linda_wire.specs.declared.codes.TheConstants.{TOO_MANY_CLIENTS, SERVER_DOWN, MALFORMED}
-use Rattle.linda_wire.specs.declared.codes.TheConstants.{TOO_MANY_ASKS, NO_HELLO, STORE_FULL}
+use Rattle.linda_wire.specs.declared.codes.TheConstants.{TOO_MANY_ASKS, CLIENT_LEFT, NO_HELLO, STORE_FULL}
 use Rattle.linda_wire.specs.declared.codes.TheConstants.{NUMBERS_SPENT}
 use Rattle.linda_wire.specs.declared.limits.TheConstants.{MAX_CLIENTS, VERSION}
 use Rattle.linda_wire.specs.declared.refusal.Refusal.{Refusal}
 use Rattle.linda_wire.specs.declared.refusal.Refusal.TheVariants.{Version, Known, Busy, Old, Gap}
 use Rattle.linda_wire.specs.declared.refusal.Refusal.TheVariants.{Full, Spent, TooManyClients, Down}
-use Rattle.linda_wire.specs.declared.refusal.Refusal.TheVariants.{Malformed, TooManyAsks, NoHello}
+use Rattle.linda_wire.specs.declared.refusal.Refusal.TheVariants.{Malformed, TooManyAsks, Left, NoHello}
 use Rattle.linda_wire.specs.declared.reply.Reply.{Reply}
 use Rattle.linda_wire.specs.declared.reply.Reply.TheVariants.{Refused}
 
@@ -26,6 +26,7 @@ code_of TooManyClients = TOO_MANY_CLIENTS
 code_of Down = SERVER_DOWN
 code_of (Malformed offset) = MALFORMED
 code_of (TooManyAsks ticket) = TOO_MANY_ASKS
+code_of (Left last) = CLIENT_LEFT
 code_of NoHello = NO_HELLO
 
 -- A refusal's detail; 0 where there is none.
@@ -41,6 +42,7 @@ detail_of TooManyClients = MAX_CLIENTS
 detail_of Down = 0
 detail_of (Malformed offset) = offset
 detail_of (TooManyAsks ticket) = ticket
+detail_of (Left last) = last
 detail_of NoHello = 0
 
 -- The reply that reports a refusal.

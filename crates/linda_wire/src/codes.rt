@@ -1,4 +1,4 @@
-//! The codes of refusals. The code 11 is not used.
+//! The codes of refusals.
 
 pub const WRONG_VERSION: u8 = 1;
 
@@ -19,6 +19,8 @@ pub const SERVER_DOWN: u8 = 8;
 pub const MALFORMED: u8 = 9;
 
 pub const TOO_MANY_ASKS: u8 = 10;
+
+pub const CLIENT_LEFT: u8 = 11;
 
 pub const NO_HELLO: u8 = 12;
 

@@ -10,6 +10,8 @@ pub const ACCEPT: u8 = 0x04;
 
 pub const CANCEL: u8 = 0x05;
 
+pub const LEAVE: u8 = 0x06;
+
 pub const WELCOME: u8 = 0x11;
 
 pub const STORED: u8 = 0x12;
@@ -23,3 +25,5 @@ pub const TAKEN: u8 = 0x15;
 pub const GONE: u8 = 0x16;
 
 pub const REFUSED: u8 = 0x17;
+
+pub const LEFT: u8 = 0x18;

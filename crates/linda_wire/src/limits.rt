@@ -20,5 +20,5 @@ pub const NUMBER_LIMIT: u64 = 1 << 63;
 /// The most asks that a client may have open at a server.
 pub const MAX_ASKS: usize = 64;
 
-/// The most clients for which a server keeps a reply.
-pub const MAX_CLIENTS: usize = 1024;
+/// The most clients for which a server keeps a reply, those that left among them.
+pub const MAX_CLIENTS: usize = 65536;

@@ -42,6 +42,11 @@ pub enum Message {
     Cancel {
         ticket: u64,
     },
+    /// The client gives up its number for good: from here on it holds nothing, waits for nothing and puts nothing. It
+    /// is the last of the client's numbered messages.
+    Leave {
+        n: u64,
+    },
 }
 
 impl Message {
@@ -78,6 +83,7 @@ impl Message {
                 id: *id,
             }),
             Message::Cancel { ticket } => Ok(Message::Cancel { ticket: *ticket }),
+            Message::Leave { n } => Ok(Message::Leave { n: *n }),
         }
     }
 }

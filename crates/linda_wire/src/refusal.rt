@@ -4,7 +4,7 @@ ghost use Rattle.std.specs.Prelude.{◌≡◌};
 ghost use Rattle.linda_wire.specs.Refusal.{code_of, detail_of, refused};
 
 use crate::codes::{
-    BUSY, KNOWN_CLIENT, MALFORMED, NO_HELLO, NO_ROOM, NUMBER_GAP, NUMBERS_SPENT, OLD_NUMBER,
+    BUSY, CLIENT_LEFT, KNOWN_CLIENT, MALFORMED, NO_HELLO, NO_ROOM, NUMBER_GAP, NUMBERS_SPENT, OLD_NUMBER,
     SERVER_DOWN, STORE_FULL, TOO_MANY_ASKS, TOO_MANY_CLIENTS, WRONG_VERSION,
 };
 use crate::limits::{MAX_CLIENTS, VERSION};
@@ -35,6 +35,8 @@ pub enum Refusal {
     Malformed(u32),
     /// The client has as many open asks as it may have: the ticket of this one is reported.
     TooManyAsks(u64),
+    /// The client has left: the number of its Leave is reported.
+    Left(u64),
     /// A connection begins with a Hello.
     NoHello,
 }
@@ -55,6 +57,7 @@ impl Refusal {
             Refusal::Down => SERVER_DOWN,
             Refusal::Malformed(_) => MALFORMED,
             Refusal::TooManyAsks(_) => TOO_MANY_ASKS,
+            Refusal::Left(_) => CLIENT_LEFT,
             Refusal::NoHello => NO_HELLO,
         }
     }
@@ -74,6 +77,7 @@ impl Refusal {
             Refusal::Down => 0,
             Refusal::Malformed(offset) => u64::from(offset),
             Refusal::TooManyAsks(ticket) => ticket,
+            Refusal::Left(last) => last,
             Refusal::NoHello => 0,
         }
     }

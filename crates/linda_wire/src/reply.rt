@@ -29,6 +29,8 @@ pub enum Reply {
     Gone { n: u64 },
     /// The message was refused, and changed nothing. The detail depends on the code.
     Refused { code: u8, detail: u64 },
+    /// The client has left, by its message `n`.
+    Left { n: u64 },
 }
 
 impl Reply {
@@ -59,6 +61,7 @@ impl Reply {
                 code: *code,
                 detail: *detail,
             }),
+            Reply::Left { n } => Ok(Reply::Left { n: *n }),
         }
     }
 }

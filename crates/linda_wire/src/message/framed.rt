@@ -4,10 +4,10 @@ ghost use Rattle.std.specs.Prelude.{◌≡◌, ◌++◌, length, take, OnOk};
 ghost use Rattle.linda_codec.specs.Steps.{Gives, GivesAlways, left_by};
 ghost use Rattle.linda_codec.specs.Formats.{made_at, number};
 ghost use Rattle.linda_wire.specs.Frames as format;
-ghost use Rattle.linda_wire.specs.declared.message.Message.TheVariants.{Hello, Out, Ask, Accept, Cancel};
+ghost use Rattle.linda_wire.specs.declared.message.Message.TheVariants.{Hello, Out, Ask, Accept, Cancel, Leave};
 
 use crate::framed::{Framed, push_pair, push_template, push_tuple};
-use crate::kinds::{ACCEPT, ASK, CANCEL, HELLO, OUT};
+use crate::kinds::{ACCEPT, ASK, CANCEL, HELLO, LEAVE, OUT};
 use crate::limits::FORM;
 use crate::message::Message;
 use linda_codec::{
@@ -32,6 +32,7 @@ impl Framed for Message {
             [ASK, body @ ..] => ask_from(alloc, body),
             [ACCEPT, body @ ..] => accept_from(body),
             [CANCEL, body @ ..] => cancel_from(body),
+            [LEAVE, body @ ..] => leave_from(body),
             [_, ..] => Err(ReadFault::BadKind(payload.len())),
         }
     }
@@ -51,6 +52,10 @@ impl Framed for Message {
             }
             [CANCEL, body @ ..] => {
                 let (_cancel, rest) = cancel_from(body)?;
+                Ok(rest)
+            }
+            [LEAVE, body @ ..] => {
+                let (_leave, rest) = leave_from(body)?;
                 Ok(rest)
             }
             [_, ..] => Err(ReadFault::BadKind(payload.len())),
@@ -93,6 +98,10 @@ impl Framed for Message {
             Message::Cancel { ticket } => {
                 out.push(CANCEL)?;
                 out.extend_from_slice(&ticket.to_be_bytes())
+            }
+            Message::Leave { n } => {
+                out.push(LEAVE)?;
+                out.extend_from_slice(&n.to_be_bytes())
             }
         }
     }
@@ -163,4 +172,11 @@ fn cancel_from(body: &[u8]) -> Result<(Message, &[u8]), ReadFault>
 {
     let (ticket, rest) = read_u64(body)?;
     Ok((Message::Cancel { ticket }, rest))
+}
+
+fn leave_from(body: &[u8]) -> Result<(Message, &[u8]), ReadFault>
+    ensures { GivesAlways (λ x. (x.0, x.1.now)) result (made_at format.leave_of number body.now) }
+{
+    let (n, rest) = read_u64(body)?;
+    Ok((Message::Leave { n }, rest))
 }

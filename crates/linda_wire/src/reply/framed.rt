@@ -9,7 +9,7 @@ ghost use Rattle.linda_wire.specs.Frames.{spoken};
 ghost use Rattle.linda_wire.specs.declared.reply.Reply.TheVariants as replies;
 
 use crate::framed::{Framed, push_pair, push_tuple};
-use crate::kinds::{GONE, OFFER, READ, REFUSED, STORED, TAKEN, WELCOME};
+use crate::kinds::{GONE, LEFT, OFFER, READ, REFUSED, STORED, TAKEN, WELCOME};
 use crate::limits::FORM;
 use crate::reply::Reply;
 use linda_codec::{ReadFault, read_tuple, read_u8, read_u64, skip_tuple};
@@ -43,6 +43,7 @@ impl Framed for Reply {
             }
             [GONE, body @ ..] => gone_from(body),
             [REFUSED, body @ ..] => refused_from(body),
+            [LEFT, body @ ..] => left_from(body),
             [_, ..] => Err(ReadFault::BadKind(payload.len())),
         }
     }
@@ -67,6 +68,10 @@ impl Framed for Reply {
             }
             [REFUSED, body @ ..] => {
                 let (_refused, rest) = refused_from(body)?;
+                Ok(rest)
+            }
+            [LEFT, body @ ..] => {
+                let (_left, rest) = left_from(body)?;
                 Ok(rest)
             }
             [_, ..] => Err(ReadFault::BadKind(payload.len())),
@@ -94,6 +99,10 @@ impl Framed for Reply {
                 out.push(REFUSED)?;
                 out.push(*code)?;
                 out.extend_from_slice(&detail.to_be_bytes())
+            }
+            Reply::Left { n } => {
+                out.push(LEFT)?;
+                out.extend_from_slice(&n.to_be_bytes())
             }
         }
     }
@@ -127,6 +136,13 @@ fn refused_from(body: &[u8]) -> Result<(Reply, &[u8]), ReadFault>
     let (code, rest) = read_u8(body)?;
     let (detail, rest) = read_u64(rest)?;
     Ok((Reply::Refused { code, detail }, rest))
+}
+
+fn left_from(body: &[u8]) -> Result<(Reply, &[u8]), ReadFault>
+    ensures { GivesAlways (λ x. (x.0, x.1.now)) result (made_at format.left_of number body.now) }
+{
+    let (n, rest) = read_u64(body)?;
+    Ok((Reply::Left { n }, rest))
 }
 
 // Two numbers and a tuple, and the bytes after them.
