@@ -1,6 +1,6 @@
 -- How a book is stored where a model's value holds one.
-use Rattle.std.specs.Prelude.{◌≡◌, ℕ, ◌⊎◌, Option, Some, None, refl}
-use Rattle.std.specs.Coded.{Coded, code_by, coded×, coded⊎, coded_ℕ, coded_option}
+use Rattle.std.specs.Prelude.{◌≡◌, ℕ, ◌⊎◌, Bool, true, false, Option, Some, None, refl}
+use Rattle.std.specs.Coded.{Coded, code_by, coded×, coded⊎, coded_ℕ, coded_bool}
 use Rattle.std.specs.FinMap as map
 use Rattle.std.specs.Ordering.{nat_cmp}
 use Rattle.std.proofs.Common.{inl, inr}
@@ -10,25 +10,32 @@ use Rattle.linda_book.specs.declared.kept.KeptReply.{KeptReply}
 use Rattle.linda_book.specs.declared.kept.KeptReply.TheVariants as kept
 use Rattle.linda_book.specs.Entries.{Entry}
 
-abbrev pub kept_parts : KeptReply → Option (ℕ ⊎ (ℕ × Tuple))
-kept_parts (kept.Stored id) = Some (inl id)
-kept_parts (kept.Taken id tuple) = Some (inr (id, tuple))
-kept_parts kept.Gone = None
+-- a kept reply in parts: a reply of no values, Gone (false) or Left (true), or one of these
+abbrev pub KeptParts : Type 0
+KeptParts = Bool ⊎ (ℕ ⊎ (ℕ × Tuple))
 
-abbrev pub kept_of_parts : Option (ℕ ⊎ (ℕ × Tuple)) → KeptReply
-kept_of_parts (Some (inl id)) = kept.Stored id
-kept_of_parts (Some (inr taken)) = kept.Taken taken.0 taken.1
-kept_of_parts None = kept.Gone
+abbrev pub kept_parts : KeptReply → KeptParts
+kept_parts (kept.Stored id) = inr (inl id)
+kept_parts (kept.Taken id tuple) = inr (inr (id, tuple))
+kept_parts kept.Gone = inl false
+kept_parts kept.Left = inl true
+
+abbrev pub kept_of_parts : KeptParts → KeptReply
+kept_of_parts (inr (inl id)) = kept.Stored id
+kept_of_parts (inr (inr taken)) = kept.Taken taken.0 taken.1
+kept_of_parts (inl false) = kept.Gone
+kept_of_parts (inl true) = kept.Left
 
 abbrev pub kept_again : (k : KeptReply) → kept_of_parts (kept_parts k) ≡ k
 kept_again (kept.Stored id) = refl
 kept_again (kept.Taken id tuple) = refl
 kept_again kept.Gone = refl
+kept_again kept.Left = refl
 
 -- the code of a kept reply
 abbrev pub kept_code : Coded KeptReply
 kept_code =
-    code_by (Option (ℕ ⊎ (ℕ × Tuple))) (coded_option (coded⊎ coded_ℕ (coded× coded_ℕ tuple_code)))
+    code_by KeptParts (coded⊎ coded_bool (coded⊎ coded_ℕ (coded× coded_ℕ tuple_code)))
     kept_parts kept_of_parts kept_again
 
 -- the code of a book

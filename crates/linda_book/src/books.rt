@@ -3,7 +3,7 @@
 ghost use Rattle.std.specs.Prelude.{◌≡◌, ◌≤◌, ◌<◌, ℕ, None, IfNone, IfSome, IsSome, OnOk, OnErr};
 ghost use Rattle.std.specs.Option.{option_map};
 ghost use Rattle.std.specs.FinMap as map;
-ghost use Rattle.linda_book.specs.Entries.{number_in};
+ghost use Rattle.linda_book.specs.Entries.{left_in, number_in};
 ghost use Rattle.linda_book.specs.Classes.{class_of, IsClass};
 
 use crate::classes::{self, Class};
@@ -53,13 +53,26 @@ impl Book {
         }
     }
 
+    /// The number that is kept for the client, 0 if there is none, and whether the client left by that. Takes no
+    /// memory.
+    pub fn standing(&self, client: u32) -> (u64, bool)
+        ensures last { result.0 ≡ number_in (map.get self.now client) }
+        ensures left { result.1 ≡ left_in (map.get self.now client) }
+    {
+        match self.entries.get(&client) {
+            Some(entry) => (entry.0, entry.1.is_left()),
+            None => (0, false),
+        }
+    }
+
     /// How the number of a message stands to the last one that is kept for the client. Takes no memory.
     #[tactic(auto, using(crate::proofs::Meaning::class_means))]
     pub fn classify(&self, client: u32, n: u64) -> Class
-        ensures class { result ≡ class_of (number_in (map.get self.now client)) n }
-        ensures means { IsClass (number_in (map.get self.now client)) n result }
+        ensures class { result ≡ class_of (number_in (map.get self.now client)) (left_in (map.get self.now client)) n }
+        ensures means { IsClass (number_in (map.get self.now client)) (left_in (map.get self.now client)) n result }
     {
-        classes::class_of(self.last(client), n)
+        let (last, left) = self.standing(client);
+        classes::class_of(last, left, n)
     }
 
     /// The number and the reply that are kept for the client. Takes no memory.

@@ -1,7 +1,7 @@
 //! The reply to a client's last numbered message, kept so that a repeated message gets it again.
 
 ghost use Rattle.std.specs.Prelude.{◌≡◌, ◌↔◌, true, IfOk, OnErr};
-ghost use Rattle.linda_book.specs.Entries.{HasTuple};
+ghost use Rattle.linda_book.specs.Entries.{HasTuple, is_left};
 
 use linda_tuple::Tuple;
 use std::alloc::{AllocError, Global};
@@ -15,9 +15,23 @@ pub enum KeptReply {
     Taken(u64, Tuple),
     /// The offer was gone, and nothing was taken.
     Gone,
+    /// The client left: this is its last reply.
+    Left,
 }
 
 impl KeptReply {
+    /// Whether it answers a Leave.
+    pub fn is_left(&self) -> bool
+        ensures { result ≡ is_left self.now }
+    {
+        match self {
+            KeptReply::Stored(_) => false,
+            KeptReply::Taken(_, _) => false,
+            KeptReply::Gone => false,
+            KeptReply::Left => true,
+        }
+    }
+
     /// A copy with memory of its own.
     ///
     /// # Errors
@@ -31,6 +45,7 @@ impl KeptReply {
             KeptReply::Stored(id) => Ok(KeptReply::Stored(*id)),
             KeptReply::Taken(id, tuple) => Ok(KeptReply::Taken(*id, tuple.try_clone(alloc)?)),
             KeptReply::Gone => Ok(KeptReply::Gone),
+            KeptReply::Left => Ok(KeptReply::Left),
         }
     }
 }
@@ -54,6 +69,7 @@ impl PartialEq for KeptReply {
                 *id == *taken && *tuple == *row
             }
             (KeptReply::Gone, KeptReply::Gone) => true,
+            (KeptReply::Left, KeptReply::Left) => true,
             _ => false,
         }
     }
