@@ -7,7 +7,7 @@ use Rattle.std.specs.FinMap.{get, insert}
 use Rattle.linda_tuple.specs.Tuple.{Tuple}
 use Rattle.linda_bag.proofs.Maps.{get_inserted, same_map}
 use Rattle.linda_state.specs.declared.deed.Deed.{Deed}
-use Rattle.linda_state.specs.declared.deed.Deed.TheVariants.{Out, Take, Pass}
+use Rattle.linda_state.specs.declared.deed.Deed.TheVariants.{Out, Take, Pass, Leave}
 use Rattle.linda_book.specs.declared.kept.KeptReply.TheVariants as kept
 use Rattle.linda_state.specs.Deed.{client_of, number_of, outs_of, is_taken, last_of}
 use Rattle.linda_state.specs.State.{State, IsState}
@@ -127,6 +127,7 @@ reply_later : (st mid : State) (ds before : List Deed) (d : Deed) → IsAfter st
 reply_later st mid ds before (Out c n tuple) after below = ap kept.Stored (outs_later st mid ds before after.next)
 reply_later st mid ds before (Take c n id) after below = ap (taken_reply id) (bag_later st mid ds before after below id)
 reply_later st mid ds before (Pass c n id) after below = refl
+reply_later st mid ds before (Leave c n) after below = refl
 
 -- What comes after two lists of deeds in turn comes after both as one list.
 pub joined_after : (st mid new : State) (ds es : List Deed) → IsAfter st ds mid → IsAfter mid es new → TakesBelow st ds → IsAfter st (ds ++ es) new

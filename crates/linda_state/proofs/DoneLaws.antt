@@ -1,5 +1,5 @@
 -- One deed that is allowed: the state that it leads to, which keeps the ranges of states.
-use Rattle.std.proofs.Common.{◌≡◌, ◌≢◌, ℕ, ◌+◌, ◌<◌, ◌≤◌, Bool, true, false, cond, ◌||◌, ◌==◌, List, [], ◌∷◌, Option, Some, None, IfSome, IsSome, is_some, map, option_to_list, Result, Ok, Err, OnOk, inl, inr, refl, ap, sym, ◌∙◌, subst, arith, eq-eqb, ne_eqb, nat_cmp}
+use Rattle.std.proofs.Common.{◌≡◌, ◌≢◌, ℕ, ◌+◌, ◌-◌, ◌<◌, ◌≤◌, Bool, true, false, cond, ◌||◌, ◌==◌, List, [], ◌∷◌, Option, Some, None, IfSome, IsSome, is_some, map, option_to_list, Result, Ok, Err, OnOk, inl, inr, refl, ap, sym, ◌∙◌, subst, arith, eq-eqb, ne_eqb, nat_cmp, slice_get}
 use Rattle.std.proofs.lemmas.Bool.{cond-true, cases_lt, cases_eq}
 use Rattle.std.specs.FinMap.{FinMap, get, insert, remove, len}
 use Rattle.linda_wire.specs.declared.limits.TheConstants.{MAX_CLIENTS}
@@ -7,7 +7,7 @@ use Rattle.linda_wire.specs.declared.limits.TheConstants.{NUMBER_LIMIT}
 use Rattle.linda_tuple.specs.Tuple.{Tuple}
 use Rattle.linda_bag.proofs.Maps.{get_inserted, get_same, get_other, get_removed, get_removed_same, get_removed_other, len_new, len_old}
 use Rattle.linda_state.specs.declared.deed.Deed.{Deed}
-use Rattle.linda_state.specs.declared.deed.Deed.TheVariants.{Out, Take, Pass}
+use Rattle.linda_state.specs.declared.deed.Deed.TheVariants.{Out, Take, Pass, Leave}
 use Rattle.linda_book.specs.declared.kept.KeptReply.TheVariants as kept
 use Rattle.linda_state.specs.Deed.{client_of, number_of, put_by, taken_by, outs_of, is_taken}
 use Rattle.linda_book.specs.Entries.{Entry, number_in}
@@ -52,11 +52,12 @@ tuple_after_take st c n taken is id =
           | inr from ↦ none_from_next st is id from ∙ sym (new_id st (Take c n taken ∷ []) id free from)
         ]
 
-tuple_after_pass : (st : State) (c n passed : ℕ) → IsState st → (id : ℕ) → get st.bag id ≡ bag_after st (Pass c n passed ∷ []) id
-tuple_after_pass st c n passed is id =
+-- A deed that neither puts nor takes leaves the bag as it is.
+tuple_after_none : (st : State) (d : Deed) → IsState st → ((id : ℕ) → is_taken id (d ∷ []) ≡ false) → outs_of (d ∷ []) ≡ [] → (id : ℕ) → get st.bag id ≡ bag_after st (d ∷ []) id
+tuple_after_none st d is free none id =
     elim (cases_lt id st.next) [
-      | inl below ↦ sym (old_id st (Pass c n passed ∷ []) id refl below)
-      | inr from ↦ none_from_next st is id from ∙ sym (new_id st (Pass c n passed ∷ []) id refl from)
+      | inl below ↦ sym (old_id st (d ∷ []) id (free id) below)
+      | inr from ↦ none_from_next st is id from ∙ sym (new_id st (d ∷ []) id (free id) from ∙ ap (λ l. slice_get l (id - st.next)) none)
     ]
 
 -- It is the state after the deed.
@@ -67,12 +68,14 @@ done_after st d is =
     bag : (d : Deed) (id : ℕ) → get (bag_done st d) id ≡ bag_after st (d ∷ []) id
     bag (Out c n tuple) id = get_inserted st.bag st.next tuple id ∙ tuple_after_put st c n tuple is id
     bag (Take c n taken) id = tuple_after_take st c n taken is id
-    bag (Pass c n passed) id = tuple_after_pass st c n passed is id
+    bag (Pass c n passed) id = tuple_after_none st (Pass c n passed) is (λ i. refl) refl id
+    bag (Leave c n) id = tuple_after_none st (Leave c n) is (λ i. refl) refl id
 
     next : (d : Deed) → (done st d).next ≡ st.next + Rattle.std.proofs.Common.length (outs_of (d ∷ []))
     next (Out c n tuple) = refl
     next (Take c n taken) = omega arith
     next (Pass c n passed) = omega arith
+    next (Leave c n) = omega arith
 
 if_some : {X : Type 0} (o : Option X) (P Q : Type 0) → IfSome o (λ _. P) → (P → Q) → IfSome o (λ _. Q)
 if_some None P Q none f = tt
@@ -148,7 +151,7 @@ pub put_at : (old st new : State) (c n : ℕ) (tuple : Tuple) → old ≡ st →
 put_at old st new c n tuple same is bag book next =
     subst (λ s. IsAfter s (Out c n tuple ∷ []) new) same (put_after old new c n tuple (subst IsState (sym same) is) bag book next)
 
--- A Take and a Pass as changes of maps, where the old state is known by another name.
+-- A Take, a Pass and a Leave as changes of maps, where the old state is known by another name.
 taken_kept : (st : State) (id : ℕ) (row : Tuple) → IsState st → get st.bag id ≡ Some row → taken_reply id (bag_after st [] id) ≡ kept.Taken id row
 taken_kept st id row is there = ap (taken_reply id) (sym ((none_after st is).bag id) ∙ there)
 
@@ -169,6 +172,16 @@ pub pass_at : (old st new : State) (c n id : ℕ) → old ≡ st → IsState st 
 pass_at old st new c n id same is bag book next =
     subst (λ s. IsAfter s (Pass c n id ∷ []) new) same
     (let d = done_after old (Pass c n id) (subst IsState (sym same) is) in
+    record {
+      bag = λ k. ap (λ m. get m k) bag ∙ d.bag k;
+      book = λ q. ap (λ m. get m q) book ∙ d.book q;
+      next = next ∙ d.next;
+    })
+
+pub leave_at : (old st new : State) (c n : ℕ) → old ≡ st → IsState st → new.bag ≡ old.bag → new.book ≡ insert old.book c (n, kept.Left) → new.next ≡ old.next → IsAfter st (Leave c n ∷ []) new
+leave_at old st new c n same is bag book next =
+    subst (λ s. IsAfter s (Leave c n ∷ []) new) same
+    (let d = done_after old (Leave c n) (subst IsState (sym same) is) in
     record {
       bag = λ k. ap (λ m. get m k) bag ∙ d.bag k;
       book = λ q. ap (λ m. get m q) book ∙ d.book q;

@@ -7,3 +7,4 @@ pub mod OnceLaws
 pub mod JoinLaws
 pub mod SumLaws
 pub mod ReplyLaws
+pub mod LeftLaws

@@ -5,7 +5,7 @@ use Rattle.std.specs.FinMap.{get}
 use Rattle.linda_book.specs.declared.kept.KeptReply.TheVariants as kept
 use Rattle.linda_book.specs.Entries.{Entry}
 use Rattle.linda_state.specs.declared.deed.Deed.{Deed}
-use Rattle.linda_state.specs.declared.deed.Deed.TheVariants.{Out, Take, Pass}
+use Rattle.linda_state.specs.declared.deed.Deed.TheVariants.{Out, Take, Pass, Leave}
 use Rattle.linda_state.specs.Deed.{client_of, number_of, outs_of}
 use Rattle.linda_state.specs.State.{State, IsState}
 use Rattle.linda_state.specs.After.{IsAfter, entry_after, taken_reply, reply_of_deed}
@@ -19,6 +19,7 @@ reply_behind st mid ds (Out c n tuple) is after =
     ap kept.Stored same
 reply_behind st mid ds (Take c n id) is after = ap (taken_reply id) (sym ((none_after mid is).bag id) ∙ after.bag id)
 reply_behind st mid ds (Pass c n id) is after = refl
+reply_behind st mid ds (Leave c n) is after = refl
 
 -- Behind a deed the book has its number and its reply for its client.
 pub kept_behind : (st new : State) (d : Deed) → IsAfter st (d ∷ []) new → get new.book (client_of d) ≡ Some (number_of d, reply_of_deed st [] d)

@@ -8,7 +8,7 @@ use Rattle.linda_book.specs.declared.kept.KeptReply.{KeptReply}
 use Rattle.linda_book.specs.declared.kept.KeptReply.TheVariants as kept
 use Rattle.linda_book.specs.Entries.{Entry}
 use Rattle.linda_state.specs.declared.deed.Deed.{Deed}
-use Rattle.linda_state.specs.declared.deed.Deed.TheVariants.{Out, Take, Pass}
+use Rattle.linda_state.specs.declared.deed.Deed.TheVariants.{Out, Take, Pass, Leave}
 use Rattle.linda_state.specs.Deed.{outs_of, is_taken, last_of, number_of}
 use Rattle.linda_state.specs.State.{State}
 
@@ -29,6 +29,7 @@ abbrev pub reply_of_deed : State → List Deed → Deed → KeptReply
 reply_of_deed st before (Out client n tuple) = kept.Stored (st.next + length (outs_of before))
 reply_of_deed st before (Take client n id) = taken_reply id (bag_after st before id)
 reply_of_deed st before (Pass client n id) = kept.Gone
+reply_of_deed st before (Leave client n) = kept.Left
 
 -- a client's entry, given its last deed, if there is one, with the deeds before it
 abbrev pub entry_after : State → ℕ → Option (List Deed × Deed) → Option Entry

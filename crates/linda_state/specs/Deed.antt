@@ -4,31 +4,35 @@ use Rattle.std.specs.Prelude.{List, [], ◌∷◌, Option, Some, None, IsSome}
 use Rattle.std.specs.List.{filter_map, list_any}
 use Rattle.linda_tuple.specs.Tuple.{Tuple}
 use Rattle.linda_state.specs.declared.deed.Deed.{Deed}
-use Rattle.linda_state.specs.declared.deed.Deed.TheVariants.{Out, Take, Pass}
+use Rattle.linda_state.specs.declared.deed.Deed.TheVariants.{Out, Take, Pass, Leave}
 
 -- the client that did the deed
 abbrev pub client_of : Deed → ℕ
 client_of (Out client n tuple) = client
 client_of (Take client n id) = client
 client_of (Pass client n id) = client
+client_of (Leave client n) = client
 
 -- the number of the message that the deed answers
 abbrev pub number_of : Deed → ℕ
 number_of (Out client n tuple) = n
 number_of (Take client n id) = n
 number_of (Pass client n id) = n
+number_of (Leave client n) = n
 
 -- the tuple that the deed puts, if it puts one
 abbrev pub put_by : Deed → Option Tuple
 put_by (Out client n tuple) = Some tuple
 put_by (Take client n id) = None
 put_by (Pass client n id) = None
+put_by (Leave client n) = None
 
 -- the id of the tuple that the deed takes, if it takes one
 abbrev pub taken_by : Deed → Option ℕ
 taken_by (Out client n tuple) = None
 taken_by (Take client n id) = Some id
 taken_by (Pass client n id) = None
+taken_by (Leave client n) = None
 
 -- The deed puts a tuple.
 abbrev pub PutsTuple : Deed → Type 0

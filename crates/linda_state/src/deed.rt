@@ -15,6 +15,8 @@ pub enum Deed {
     Take { client: u32, n: u64, id: u64 },
     /// The client wanted the tuple of this id, and did not get it.
     Pass { client: u32, n: u64, id: u64 },
+    /// The client gave up its number for good.
+    Leave { client: u32, n: u64 },
 }
 
 impl Deed {
@@ -26,6 +28,7 @@ impl Deed {
             Deed::Out { client, .. } => *client,
             Deed::Take { client, .. } => *client,
             Deed::Pass { client, .. } => *client,
+            Deed::Leave { client, .. } => *client,
         }
     }
 
@@ -37,6 +40,7 @@ impl Deed {
             Deed::Out { n, .. } => *n,
             Deed::Take { n, .. } => *n,
             Deed::Pass { n, .. } => *n,
+            Deed::Leave { n, .. } => *n,
         }
     }
 
@@ -64,6 +68,10 @@ impl Deed {
                 client: *client,
                 n: *n,
                 id: *id,
+            }),
+            Deed::Leave { client, n } => Ok(Deed::Leave {
+                client: *client,
+                n: *n,
             }),
         }
     }
@@ -107,6 +115,9 @@ impl PartialEq for Deed {
                     id: passed,
                 },
             ) => { *client == *c && *n == *m && *id == *passed }
+            (Deed::Leave { client, n }, Deed::Leave { client: c, n: m }) => {
+                *client == *c && *n == *m
+            }
             _ => false,
         }
     }

@@ -1,8 +1,10 @@
 //! What the definitions of states and deeds come to, each stated by the contract of a function that does nothing.
 
-ghost use Rattle.std.specs.Prelude.{◌≡◌, ◌+◌, ◌∷◌, ◌++◌, [], List, length, Some};
+ghost use Rattle.std.specs.Prelude.{◌≡◌, ◌≢◌, ℕ, ◌+◌, ◌∷◌, ◌++◌, [], true, List, All, length, Some};
 ghost use Rattle.std.specs.FinMap as map;
+ghost use Rattle.linda_book.specs.Entries.{left_in};
 ghost use Rattle.linda_state.specs.declared.deed.Deed.{Deed};
+ghost use Rattle.linda_state.specs.declared.deed.Deed.TheVariants as deeds;
 ghost use Rattle.linda_state.specs.Deed.{client_of, number_of};
 ghost use Rattle.linda_state.specs.State.{State, IsState};
 ghost use Rattle.linda_state.specs.After.{IsAfter, reply_of_deed};
@@ -13,6 +15,16 @@ ghost use Rattle.linda_state.specs.Once.{IsTakenOnce};
 /// Over every proper list of deeds no tuple is taken by two of them.
 pub fn no_tuple_is_taken_twice()
     ensures { (st : State) (ds : List Deed) → IsState st → IsProper st ds → IsTakenOnce ds }
+{}
+
+/// In a proper list of deeds none of a client comes after its Leave; and what is kept for a client that left stays.
+pub fn nothing_follows_a_leave()
+    ensures others { (st : State) (front later : List Deed) (c n : ℕ)
+        → IsState st → IsProper st (front ++ deeds.Leave c n ∷ later)
+        → All (λ (d : Deed). client_of d ≢ c) later }
+    ensures stays { (st new : State) (ds : List Deed) (c : ℕ)
+        → IsState st → AreDone st ds new → left_in (map.get st.book c) ≡ true
+        → map.get new.book c ≡ map.get st.book c }
 {}
 
 /// The state after a proper list of deeds is in its ranges: so the ids of its bag are below its next id.

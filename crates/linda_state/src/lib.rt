@@ -2,7 +2,7 @@
 //!
 //! - A `State` is a bag of tuples, a book with the last reply to each client, and the next id: what a
 //!   server keeps over a restart.
-//! - A `Deed` is one change of it. `State::put`, `State::take` and `State::pass` do one each, and
+//! - A `Deed` is one change of it. `State::put`, `State::take`, `State::pass` and `State::leave` do one each, and
 //!   `State::redo` does one again that was written down; the state after a list of deeds is what
 //!   `specs/After` says, whatever the code did to get there.
 //! - `specs/Proper` says which lists of deeds a server can do. What follows for these lists is stated by
@@ -17,10 +17,10 @@ mod size;
 mod state;
 
 pub use deed::Deed;
-pub use kinds::{OUT, PASS, TAKE};
+pub use kinds::{LEAVE, OUT, PASS, TAKE, has_leaves};
 pub use laws::{
     deeds_are_done_one_by_one, kept_numbers_count_deeds, lists_are_done_one_after_another,
-    no_tuple_is_taken_twice, proper_lists_keep_the_ranges, replies_look_back,
+    no_tuple_is_taken_twice, nothing_follows_a_leave, proper_lists_keep_the_ranges, replies_look_back,
 };
 pub use limits::{BANK_FORM, HEAD_BYTES, ID_BYTES, MAX_DEED_BYTES, MAX_TUPLE_BYTES};
 pub use linda_book::{Book, Class, KeptReply};

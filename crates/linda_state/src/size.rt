@@ -56,5 +56,6 @@ pub fn deed_len(form: Form, deed: &Deed) -> usize
         Deed::Out { tuple, .. } => HEAD_BYTES + tuple_len(form, tuple),
         Deed::Take { .. } => HEAD_BYTES + ID_BYTES,
         Deed::Pass { .. } => HEAD_BYTES + ID_BYTES,
+        Deed::Leave { .. } => HEAD_BYTES,
     }
 }

@@ -116,6 +116,19 @@ impl<B: Bag> State<B> {
         self.book.keep(client, n, KeptReply::Gone)
     }
 
+    /// The client leaves by its message `n`: the book keeps that it left.
+    ///
+    /// # Errors
+    ///
+    /// `AllocError` where memory runs out, and then the state is as before.
+    pub fn leave(&mut self, client: u32, n: u64) -> Result<(), AllocError>
+        requires { IsState self.old }
+        ensures after { OnOk result (IsAfter self.old (deeds.Leave client n ∷ []) self.new) }
+        ensures err { OnErr result (self.new ≡ self.old) }
+    {
+        self.book.keep(client, n, KeptReply::Left)
+    }
+
     /// Does the deed, where it is allowed in this state, and says whether it is. Where it is not, the
     /// state is as before. So a list of deeds is done again by one call for each. A tuple that is put is
     /// the deed's own.
@@ -155,6 +168,7 @@ impl<B: Bag> State<B> {
                 Ok(())
             }
             Deed::Pass { client, n, .. } => self.pass(client, n),
+            Deed::Leave { client, n } => self.leave(client, n),
         }
     }
 
@@ -165,8 +179,10 @@ impl<B: Bag> State<B> {
     {
         let client = deed.client();
         let n = deed.number();
+        let (last, left) = self.book.standing(client);
         n > 0
-            && n - 1 == self.book.last(client)
+            && n - 1 == last
+            && !left
             && n < NUMBER_LIMIT
             && (self.book.len() < MAX_CLIENTS || self.book.kept(client).is_some())
             && self.has_room(deed)
@@ -181,6 +197,7 @@ impl<B: Bag> State<B> {
             Deed::Out { .. } => self.next < NUMBER_LIMIT,
             Deed::Take { id, .. } => self.bag.get(*id).is_some(),
             Deed::Pass { .. } => true,
+            Deed::Leave { .. } => true,
         }
     }
 }
