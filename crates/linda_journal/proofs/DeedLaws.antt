@@ -5,8 +5,9 @@ use Rattle.linda_codec.specs.Lawful.{IsFormat}
 use Rattle.linda_codec.proofs.FormatLaws.{short_number_is, number_is, both_is, body_is, made_again, no_kind_is, AreBodies, choice_is}
 use Rattle.linda_codec.proofs.ValueLaws.{tuple_is}
 use Rattle.linda_tuple.specs.declared.form.Form.{Form}
+use Rattle.linda_tuple.specs.declared.form.Form.TheVariants.{One, Two}
 use Rattle.linda_state.specs.declared.deed.Deed.{Deed}
-use Rattle.linda_state.specs.declared.deed.Deed.TheVariants.{Out, Take, Pass}
+use Rattle.linda_state.specs.declared.deed.Deed.TheVariants.{Out, Take, Pass, Leave}
 use Rattle.linda_state.specs.declared.kinds.TheConstants as kind
 use Rattle.linda_state.specs.DeedFormat as format
 
@@ -16,12 +17,19 @@ out_is form = both_is short_number_is (both_is number_is (tuple_is form))
 reference_is : IsFormat format.reference
 reference_is = both_is short_number_is (both_is number_is number_is)
 
+leave_is : IsFormat format.leave
+leave_is = both_is short_number_is number_is
+
+leave_bodies : (form : Form) → AreBodies (format.spell_deed form) (format.FitsDeed form) (format.leave_kinds form)
+leave_bodies One = tt
+leave_bodies Two = (body_is leave_is (format.spell_deed Two) (format.FitsDeed Two) (kind.LEAVE ∷ []) format.leave_of (λ p. refl) (λ p fits. (tt, fits)), tt)
+
 deed_bodies : (form : Form) → AreBodies (format.spell_deed form) (format.FitsDeed form) (format.deed_kinds form)
 deed_bodies form = (
   body_is (out_is form) (format.spell_deed form) (format.FitsDeed form) (kind.OUT ∷ []) (λ p. Out p.0 p.1.0 p.1.1) (λ p. refl) (λ p fits. fits),
   (
     body_is reference_is (format.spell_deed form) (format.FitsDeed form) (kind.TAKE ∷ []) (λ p. Take p.0 p.1.0 p.1.1) (λ p. refl) (λ p fits. fits),
-    (body_is reference_is (format.spell_deed form) (format.FitsDeed form) (kind.PASS ∷ []) (λ p. Pass p.0 p.1.0 p.1.1) (λ p. refl) (λ p fits. fits), tt),
+    (body_is reference_is (format.spell_deed form) (format.FitsDeed form) (kind.PASS ∷ []) (λ p. Pass p.0 p.1.0 p.1.1) (λ p. refl) (λ p fits. fits), leave_bodies form),
   ),
 )
 
@@ -29,6 +37,8 @@ deed_again : (form : Form) (d : Deed) (rest : List ℕ) → format.FitsDeed form
 deed_again form (Out client n tuple) rest fits = made_again (out_is form) (λ p. Out p.0 p.1.0 p.1.1) (client, (n, tuple)) rest fits
 deed_again form (Take client n id) rest fits = made_again reference_is (λ p. Take p.0 p.1.0 p.1.1) (client, (n, id)) rest fits
 deed_again form (Pass client n id) rest fits = made_again reference_is (λ p. Pass p.0 p.1.0 p.1.1) (client, (n, id)) rest fits
+deed_again One (Leave client n) rest fits = absurd fits.0
+deed_again Two (Leave client n) rest fits = made_again leave_is format.leave_of (client, n) rest fits.1
 
 pub deed_is : (form : Form) → IsFormat (format.deed form)
 deed_is form = choice_is (format.spell_deed form) (format.FitsDeed form) (format.deed_kinds form) no_kind (deed_bodies form) (no_kind_is (format.spell_deed form) (format.FitsDeed form)) (deed_again form)

@@ -13,13 +13,14 @@ use Rattle.linda_codec.proofs.ValueLaws.{tuple_within}
 use Rattle.linda_state.specs.declared.limits.TheConstants.{MAX_TUPLE_BYTES, MAX_DEED_BYTES}
 use Rattle.linda_tuple.specs.declared.form.Form.{Form}
 use Rattle.linda_state.specs.declared.deed.Deed.{Deed}
-use Rattle.linda_state.specs.declared.deed.Deed.TheVariants.{Out, Take, Pass}
+use Rattle.linda_state.specs.declared.deed.Deed.TheVariants.{Out, Take, Pass, Leave}
 use Rattle.linda_journal.specs.Records.{spell_deed, FitsDeed, payload, IsRecord}
 
 pub deed_some : (form : Form) (d : Deed) → 0 < length (spell_deed form d)
 deed_some form (Out client n tuple) = omega arith
 deed_some form (Take client n id) = omega arith
 deed_some form (Pass client n id) = omega arith
+deed_some form (Leave client n) = omega arith
 
 -- An atom spells no more than a kind, a length of two bytes and the longest text.
 abbrev ATOM_BYTES : ℕ
@@ -50,6 +51,7 @@ deed_short : (form : Form) (d : Deed) → FitsDeed form d → length (spell_deed
 deed_short form (Out client n tuple) fits = omega (arith, tuple_short form tuple fits.1.1)
 deed_short form (Take client n id) fits = omega arith
 deed_short form (Pass client n id) fits = omega arith
+deed_short form (Leave client n) fits = omega arith
 
 deeds_short : (form : Form) (ds : List Deed) → AllByRecursion (FitsDeed form) ds → length (payload form ds) ≤ MAX_DEED_BYTES * length ds
 deeds_short form [] fits = omega arith

@@ -1,13 +1,13 @@
-//! A deed as bytes: a kind byte, the client, the number, and a tuple in a form, or its id.
+//! A deed as bytes: a kind byte, the client, the number, and a tuple in a form, or its id, or nothing more.
 
 ghost use Rattle.std.specs.Prelude.{◌≡◌, ◌∷◌, ◌++◌, ◌↔◌, OnOk, IsTrue};
 ghost use Rattle.linda_codec.specs.Steps.{Gives, GivesAlways, left_by};
-ghost use Rattle.linda_codec.specs.Formats.{made_at, short_number, number};
+ghost use Rattle.linda_codec.specs.Formats.{choice_at, made_at, no_kind, short_number, number};
 ghost use Rattle.linda_state.specs.declared.deed.Deed.TheVariants.{Out, Take, Pass};
 ghost use Rattle.linda_state.specs.DeedFormat as format;
 
 use linda_codec::{ReadFault, put_tuple, read_tuple, read_u32, read_u64, skip_tuple};
-use linda_state::{Deed, OUT, PASS, TAKE};
+use linda_state::{Deed, LEAVE, OUT, PASS, TAKE, has_leaves};
 use linda_tuple::{Form, fits};
 use std::alloc::{AllocError, Global};
 
@@ -24,7 +24,7 @@ pub(crate) fn read_deed(alloc: Global, form: Form, bytes: &[u8]) -> Result<(Deed
         [OUT, body @ ..] => out_from(alloc, form, body),
         [TAKE, body @ ..] => take_from(body),
         [PASS, body @ ..] => pass_from(body),
-        [_, ..] => Err(ReadFault::BadKind(bytes.len())),
+        [kind, body @ ..] => other_from(form, *kind, body),
     }
 }
 
@@ -58,6 +58,31 @@ fn pass_from(body: &[u8]) -> Result<(Deed, &[u8]), ReadFault>
     Ok((Deed::Pass { client, n, id }, rest))
 }
 
+// What stands after a kind byte that not every form has: a Leave, where the form has them.
+fn other_from(form: Form, kind: u8, body: &[u8]) -> Result<(Deed, &[u8]), ReadFault>
+    ensures { GivesAlways (λ x. (x.0, x.1.now)) result
+        (choice_at (format.leave_kinds form) no_kind (kind ∷ body.now)) }
+{
+    match form {
+        Form::One => Err(ReadFault::BadKind(1 + body.len())),
+        Form::Two => {
+            if kind == LEAVE {
+                leave_from(body)
+            } else {
+                Err(ReadFault::BadKind(1 + body.len()))
+            }
+        }
+    }
+}
+
+fn leave_from(body: &[u8]) -> Result<(Deed, &[u8]), ReadFault>
+    ensures { GivesAlways (λ x. (x.0, x.1.now)) result (made_at format.leave_of format.leave body.now) }
+{
+    let (client, rest) = read_u32(body)?;
+    let (n, rest) = read_u64(rest)?;
+    Ok((Deed::Leave { client, n }, rest))
+}
+
 /// The bytes after the deed at the front. Takes no memory.
 ///
 /// # Errors
@@ -77,7 +102,10 @@ pub(crate) fn skip_deed(form: Form, bytes: &[u8]) -> Result<&[u8], ReadFault>
             let (_deed, rest) = pass_from(body)?;
             Ok(rest)
         }
-        [_, ..] => Err(ReadFault::BadKind(bytes.len())),
+        [kind, body @ ..] => {
+            let (_deed, rest) = other_from(form, *kind, body)?;
+            Ok(rest)
+        }
     }
 }
 
@@ -102,6 +130,7 @@ pub(crate) fn push_deed(form: Form, out: &mut Vec<u8>, deed: &Deed) -> Result<()
         }
         Deed::Take { client, n, id } => push_reference(out, TAKE, *client, *n, *id),
         Deed::Pass { client, n, id } => push_reference(out, PASS, *client, *n, *id),
+        Deed::Leave { client, n } => push_head(out, LEAVE, *client, *n),
     }
 }
 
@@ -130,7 +159,8 @@ fn push_head(out: &mut Vec<u8>, kind: u8, client: u32, n: u64) -> Result<(), All
     out.extend_from_slice(&n.to_be_bytes())
 }
 
-/// Whether the deed has a spelling in the form: the tuple that it puts has one, where it puts one. Takes no memory.
+/// Whether the deed has a spelling in the form: the tuple that it puts has one, where it puts one, and a Leave has one
+/// where the form has them. Takes no memory.
 pub(crate) fn deed_fits(form: Form, deed: &Deed) -> bool
     ensures exact { IsTrue result ↔ format.SuitsForm form deed.now }
     // The numbers of a deed in memory have their widths.
@@ -149,6 +179,10 @@ pub(crate) fn deed_fits(form: Form, deed: &Deed) -> bool
         Deed::Pass { client, n, id } => {
             let (_client, _n, _id) = (*client, *n, *id);
             true
+        }
+        Deed::Leave { client, n } => {
+            let (_client, _n) = (*client, *n);
+            has_leaves(form)
         }
     }
 }

@@ -8,3 +8,6 @@ pub const TAKEN: u8 = 0x02;
 
 /// Of a Gone.
 pub const GONE: u8 = 0x03;
+
+/// Of a Left, which only banks of the second form have.
+pub const LEFT: u8 = 0x04;

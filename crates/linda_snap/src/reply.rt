@@ -1,16 +1,16 @@
 //! A kept reply as bytes: a kind byte, and the id and the tuple that it gives. It is read in either form, and written in
 //! that of new banks.
 
-ghost use Rattle.std.specs.Prelude.{◌≡◌, ◌++◌, ◌≤◌, ◌+◌, length, OnOk};
+ghost use Rattle.std.specs.Prelude.{◌≡◌, ◌∷◌, ◌++◌, ◌≤◌, ◌+◌, length, OnOk};
 ghost use Rattle.linda_codec.specs.Steps.{Gives, GivesAlways};
-ghost use Rattle.linda_codec.specs.Formats.{made_at, number};
+ghost use Rattle.linda_codec.specs.Formats.{choice_at, made_at, no_kind, number};
 ghost use Rattle.linda_book.specs.declared.kept.KeptReply.TheVariants.{Stored, Taken};
 ghost use Rattle.linda_codec.specs.Values as value;
 ghost use Rattle.linda_state.specs.DeedFormat.{written};
 ghost use Rattle.linda_snap.specs.declared.reply.TheConstants.{ID, PLACED_BYTES, REPLY_BYTES};
 ghost use Rattle.linda_snap.specs.Snapshot as format;
 
-use crate::kinds::{GONE, STORED, TAKEN};
+use crate::kinds::{GONE, LEFT, STORED, TAKEN};
 use linda_book::KeptReply;
 use linda_codec::{ReadFault, put_tuple, read_tuple, read_u64};
 use linda_state::{BANK_FORM, MAX_TUPLE_BYTES, tuple_len};
@@ -34,7 +34,24 @@ pub(crate) fn read_reply(
         [STORED, body @ ..] => stored_from(body),
         [TAKEN, body @ ..] => taken_from(alloc, form, body),
         [GONE, rest @ ..] => Ok((KeptReply::Gone, rest)),
-        [_, ..] => Err(ReadFault::BadKind(bytes.len())),
+        [kind, rest @ ..] => other_from(form, *kind, rest),
+    }
+}
+
+// What stands after a kind byte that not every form has: the reply to a Leave, where the form has Leaves.
+fn other_from(form: Form, kind: u8, rest: &[u8]) -> Result<(KeptReply, &[u8]), ReadFault>
+    ensures { GivesAlways (λ x. (x.0, x.1.now)) result
+        (choice_at (format.left_kinds form) no_kind (kind ∷ rest.now)) }
+{
+    match form {
+        Form::One => Err(ReadFault::BadKind(1 + rest.len())),
+        Form::Two => {
+            if kind == LEFT {
+                Ok((KeptReply::Left, rest))
+            } else {
+                Err(ReadFault::BadKind(1 + rest.len()))
+            }
+        }
     }
 }
 
@@ -85,6 +102,10 @@ pub(crate) fn push_reply(out: &mut Vec<u8>, reply: &KeptReply) -> Result<(), All
             out.push(GONE)?;
             Ok(())
         }
+        KeptReply::Left => {
+            out.push(LEFT)?;
+            Ok(())
+        }
     }
 }
 
@@ -109,6 +130,7 @@ pub(crate) fn reply_len(reply: &KeptReply) -> usize
         KeptReply::Stored(_) => 1 + ID,
         KeptReply::Taken(_, tuple) => 1 + placed_len(tuple),
         KeptReply::Gone => 1,
+        KeptReply::Left => 1,
     }
 }
 
