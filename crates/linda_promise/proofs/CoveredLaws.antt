@@ -16,7 +16,7 @@ use Rattle.linda_state.specs.Proper.{IsAllowed}
 use Rattle.linda_step.specs.Soft.{Soft, Bagged}
 use Rattle.linda_step.specs.Dispatch.{on_close}
 use Rattle.linda_step.specs.Answer.{Answer, reply_of_kept, last_number, IsStep}
-use Rattle.linda_step.specs.History.{Coming, says, leaves, Comes, History, Happens, first_then}
+use Rattle.linda_step.specs.History.{Coming, says, hangs_up, Comes, History, Happens, first_then}
 use Rattle.linda_step.proofs.AnswerLaws.{answer_allowed, step_state}
 use Rattle.linda_promise.specs.Replies.{reports_deed, KeepsReply, KeepsReports}
 use Rattle.linda_promise.specs.Covered.{number_in_reply, IsCovered}
@@ -26,6 +26,7 @@ kept_number : (n : ℕ) (reply : KeptReply) → number_in_reply (reply_of_kept n
 kept_number n (kept.Stored id) = refl
 kept_number n (kept.Taken id tuple) = refl
 kept_number n kept.Gone = refl
+kept_number n kept.Left = refl
 
 -- Nothing changes for a client whose entry stays.
 same_entry : (st mid : State) (send : ℕ × Reply) → get mid.book send.0 ≡ get st.book send.0 → IsCovered st send → IsCovered mid send
@@ -89,7 +90,7 @@ coming_covers st mid soft (says c m) first is comes = record {
   stays = step_covered st mid soft c m first is comes;
   sent = step_sends st mid soft c m first is comes;
 }
-coming_covers st mid soft (leaves c) first is comes = record {
+coming_covers st mid soft (hangs_up c) first is comes = record {
   ranges = subst IsState (sym comes.1) is;
   stays = λ send covered. subst (λ s. IsCovered s send) (sym comes.1) covered;
   sent = subst (λ l. All (IsCovered mid) l) (sym (ap (λ (a : Answer). a.sends) comes.0)) (close_sends mid st.bag c soft);

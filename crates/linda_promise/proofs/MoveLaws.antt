@@ -33,7 +33,7 @@ use Rattle.linda_step.specs.Dispatch.{Sends, no_sends, dispatch, release, releas
 use Rattle.linda_step.specs.Asking.{offer_of, read_of, only_sent, wait_of, serve, on_ask, AnswersAsk, AnswersCancel}
 use Rattle.linda_step.specs.Answer.{Answer, only_sends, greeting, reply_of_kept, last_number, is_one_too_many, IsAnswer, IsStep}
 use Rattle.linda_step.specs.History.{Coming, says}
-use Rattle.linda_step.proofs.AnswerCourse.{Course, unnumbered, turned_down, told_again, stored, taken, passed, course_of}
+use Rattle.linda_step.proofs.AnswerCourse.{Course, unnumbered, turned_down, told_again, stored, taken, passed, left, course_of}
 use Rattle.linda_step.proofs.AnswerLaws.{held_there}
 use Rattle.linda_step.proofs.ApartLaws.{held_before}
 use Rattle.linda_step.proofs.KeptLaws.{IsKeptFor, stored_kept, taken_kept, passed_kept}
@@ -138,6 +138,7 @@ kept_is_no_offer : (n : ℕ) (k : KeptReply) → is_offer (reply_of_kept n k) �
 kept_is_no_offer n (kept.Stored id) = refl
 kept_is_no_offer n (kept.Taken id tuple) = refl
 kept_is_no_offer n kept.Gone = refl
+kept_is_no_offer n kept.Left = refl
 
 -- ---- steps
 
@@ -172,6 +173,10 @@ module _ (st new : State) (c : ℕ) (old : Soft) (is : IsState st) where
       let low : st.next ≤ st.next = omega arith in
       after.bag st.next ∙ new_id st (deeds.Out c n tuple ∷ []) st.next refl low ∙ ap (slice_get (tuple ∷ [])) none_before
 
+  -- a Leave leaves the bag as it was
+  same_bag : (n : ℕ) → IsAfter st (deeds.Leave c n ∷ []) new → new.bag ≡ st.bag
+  same_bag n after = ap (λ (s : State). s.bag) (one_after st (deeds.Leave c n ∷ []) new (done st (deeds.Leave c n)) after (done_after st (deeds.Leave c n) is))
+
   -- what changes nothing is told over the old state, which is the new one
   same_known : (r : Reply) → KnownIn st c r → IsAfter st [] new → KnownIn new c r
   same_known r known after reports = subst (λ s. KeepsReply s c r) (same_state after) (known reports)
@@ -180,21 +185,29 @@ module _ (st new : State) (c : ℕ) (old : Soft) (is : IsState st) where
   told_move : (m : Message) (told : Sends) → Move (KnownIn new) st.bag (says c m) old told → IsAfter st [] new → Move (KnownIn new) new.bag (says c m) old told
   told_move m told move after = subst (λ (s : State). Move (KnownIn new) s.bag (says c m) old told) (same_state after) move
 
+  said_move : (gone : Bool) (ticket : ℕ) (remove : Bool) (shape : Template) (told : Sends) → SaysAsk gone st c ticket remove shape old told → Move (KnownIn new) st.bag (says c (messages.Ask ticket remove shape)) old told
+  said_move true ticket remove shape told same =
+      let r = refused (refusals.Left (last_number st c)) in
+      subst (Move (KnownIn new) st.bag (says c (messages.Ask ticket remove shape)) old) (sym same) (tells old c r refl (plain_known r (refl, refl)))
+  said_move false ticket remove shape told asked =
+      subst (Move (KnownIn new) st.bag (says c (messages.Ask ticket remove shape)) old) (sym asked.told_is)
+      (ask_move (KnownIn new) st.bag _ c ticket remove shape refl (plain_known (refused (refusals.TooManyAsks ticket)) (refl, refl)) old asked.held asked.least asked.is_held asked.is_least)
+
   sent_move : (m : Message) (told : Sends) → demand_of m ≡ None → IsAnswer st old c m (only_sends told) → Move (KnownIn new) st.bag (says c m) old told
   sent_move (messages.Hello version client fresh) told none answer =
       let plain = plain_greeting st c version fresh in
       subst (λ (a : Answer). Move (KnownIn new) st.bag (says c (messages.Hello version client fresh)) old (record { sends = a.sends; soft = a.soft })) (sym answer)
       (tells old c (greeting st c version fresh) plain.0 (plain_known (greeting st c version fresh) plain))
   sent_move (messages.Ask ticket remove shape) told none answer =
-      let asked : AnswersAsk st.bag (request_of c ticket) remove shape old answer.0 = answer.1.0 in
-      subst (λ (a : Answer). Move (KnownIn new) st.bag (says c (messages.Ask ticket remove shape)) old (record { sends = a.sends; soft = a.soft })) (sym (answer.1.1 ∙ ap only_sends asked.told_is))
-      (ask_move (KnownIn new) st.bag _ c ticket remove shape refl (plain_known (refused (refusals.TooManyAsks ticket)) (refl, refl)) old asked.held asked.least asked.is_held asked.is_least)
+      subst (λ (a : Answer). Move (KnownIn new) st.bag (says c (messages.Ask ticket remove shape)) old (record { sends = a.sends; soft = a.soft })) (sym answer.1.1)
+      (said_move (has_left st c) ticket remove shape answer.0 answer.1.0)
   sent_move (messages.Cancel ticket) told none answer =
       let asked : AnswersCancel st.bag (request_of c ticket) old answer.0 = answer.1.0 in
       subst (λ (a : Answer). Move (KnownIn new) st.bag (says c (messages.Cancel ticket)) old (record { sends = a.sends; soft = a.soft })) (sym (answer.1.1 ∙ ap only_sends asked.told_is))
       (cancel_move (KnownIn new) st.bag _ (request_of c ticket) asked.held old)
   sent_move (messages.Out n tuple) told some answer = absurd (none-some (to_put n) (sym some))
   sent_move (messages.Accept n ticket id) told some answer = absurd (none-some (to_take n) (sym some))
+  sent_move (messages.Leave n) told some answer = absurd (none-some (to_leave n) (sym some))
 
   moved : (m : Message) (a : Answer) → Course st old c m a → IsAfter st (option_to_list a.deed) new → MoveOf m a
   moved _ _ (unnumbered m told none answer) after = told_move m told (sent_move m told none answer) after
@@ -211,6 +224,10 @@ module _ (st new : State) (c : ℕ) (old : Soft) (is : IsState st) where
       (gives_up old mid (record { holds = held_before old.holds id; waits = All-contains_itself old.waits }))
       (tells mid c (replies.Taken n id row) refl (first_known n (replies.Taken n id row) [] (taken_kept st new c is n id row (held_there st (request_of c ticket) id old row held) after)))
   moved _ _ (passed n ticket id none held) after = tells old c (replies.Gone n) refl (first_known n (replies.Gone n) [] (passed_kept st new c is n id after))
+  moved _ _ (left n none) after =
+      goes_on old (only_sent ((c, replies.Left n) ∷ []) old) (on_close st.bag c old)
+      (tells old c (replies.Left n) refl (first_known n (replies.Left n) _ (left_kept st new c is n old after)))
+      (subst (λ bag. Move (KnownIn new) new.bag (says c (messages.Leave n)) old (on_close bag c old)) (same_bag n after) (close_move (KnownIn new) new.bag (says c (messages.Leave n)) c old))
 
   -- Each step is a move.
   pub step_move : (m : Message) (answered : Answer) → IsStep st old c m answered new → MoveOf m answered

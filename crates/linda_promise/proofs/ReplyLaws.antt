@@ -17,7 +17,7 @@ use Rattle.linda_state.specs.After.{IsAfter, entry_after, reply_of_deed}
 use Rattle.linda_step.specs.Soft.{Soft, Bagged}
 use Rattle.linda_step.specs.Dispatch.{Sends, read_to, offer_to, on_close}
 use Rattle.linda_step.specs.Answer.{Answer, reply_of_kept, IsStep}
-use Rattle.linda_step.specs.History.{Coming, leaves}
+use Rattle.linda_step.specs.History.{Coming, hangs_up}
 use Rattle.linda_promise.specs.Replies.{reports_deed, KeepsReply, KeepsReports, ReportsOne}
 use Rattle.linda_promise.proofs.MoveLaws.{Move, gives_up, tells, dispatches, repeats, reads, offers, waits, goes_on, KnownIn, step_move, close_move}
 
@@ -47,7 +47,7 @@ step_backed st new old c m answered is step = backed new new.bag _ old _ (step_m
 
 -- A closing reports nothing.
 pub close_backed : (st : State) (bag : Bagged) (client : ℕ) (old : Soft) → KeepsReports st (on_close bag client old).sends
-close_backed st bag client old = backed st bag (leaves client) old (on_close bag client old) (close_move (KnownIn st) bag (leaves client) client old)
+close_backed st bag client old = backed st bag (hangs_up client) old (on_close bag client old) (close_move (KnownIn st) bag (hangs_up client) client old)
 
 -- ---- the book
 

@@ -18,10 +18,10 @@ use Rattle.linda_state.specs.State.{State, IsState}
 use Rattle.linda_book.specs.Entries.{number_in}
 use Rattle.linda_step.specs.Judge.{number_asked}
 use Rattle.linda_step.specs.Soft.{Soft}
-use Rattle.linda_step.specs.Answer.{Answer, reply_of_kept, last_number, on_out, held_tuple, is_for, IsStep}
+use Rattle.linda_step.specs.Answer.{Answer, reply_of_kept, last_number, on_out, on_leave, held_tuple, is_for, IsStep}
 use Rattle.linda_step.proofs.ApartLaws.{same_request_yes}
-use Rattle.linda_step.proofs.AnswerCourse.{Course, unnumbered, turned_down, told_again, stored, taken, passed, course_of}
-use Rattle.linda_step.proofs.NumberLaws.{allowed_out, allowed_pass}
+use Rattle.linda_step.proofs.AnswerCourse.{Course, unnumbered, turned_down, told_again, stored, taken, passed, left, course_of}
+use Rattle.linda_step.proofs.NumberLaws.{allowed_out, allowed_pass, allowed_leave}
 use Rattle.linda_promise.specs.Steps.{HoldsWhatIsThere, DoesAsAsked, comes_next, deed_behind, number_of_message, reported_deed}
 
 module _ (st : State) (c : ℕ) (old : Soft) where
@@ -49,6 +49,9 @@ module _ (st : State) (c : ℕ) (old : Soft) where
   asked there _ _ (passed n ticket id none held) d is =
       let same = same_Some (deeds.Pass c n id) d is in
       record { client = ap client_of (sym same); number = ap (λ x. Some (number_of x)) same; let_go = not_held ticket id there held }
+  asked there _ _ (left n none) d is =
+      let same = same_Some (deeds.Leave c n) d is in
+      record { client = ap client_of (sym same); number = ap (λ x. Some (number_of x)) same; let_go = tt }
 
 -- A step does no deed but the one that is asked for.
 pub step_asked : (st new : State) (c : ℕ) (old : Soft) (m : Message) (answered : Answer) (d : Deed) → HoldsWhatIsThere st old → IsStep st old c m answered new → answered.deed ≡ Some d → DoesAsAsked c m answered.soft d
@@ -63,6 +66,7 @@ refused_behind c (messages.Out n tuple) why = refl
 refused_behind c (messages.Ask ticket remove shape) why = refl
 refused_behind c (messages.Accept n ticket id) why = refl
 refused_behind c (messages.Cancel ticket) why = refl
+refused_behind c (messages.Leave n) why = refl
 
 either_none : {X : Type 0} (b : Bool) (o : Option X) → o ≡ None → None ≡ cond b o None
 either_none true o none = sym none
@@ -87,6 +91,7 @@ module _ (st : State) (c : ℕ) (old : Soft) (is : IsState st) where
   reported _ _ (stored n tuple none) = told (messages.Out n tuple) n (on_out st c n tuple None old).sends (allowed_out st c n is tuple none).number
   reported _ _ (taken n ticket id row none held) = told (messages.Accept n ticket id) n ((c, replies.Taken n id row) ∷ []) (allowed_pass st c n is none id).number
   reported _ _ (passed n ticket id none held) = told (messages.Accept n ticket id) n ((c, replies.Gone n) ∷ []) (allowed_pass st c n is none id).number
+  reported _ _ (left n none) = told (messages.Leave n) n (on_leave st c n None old).sends (allowed_leave st c n is none).number
 
 -- The deed of a step is the one that is reported.
 pub step_reported : (st new : State) (c : ℕ) (old : Soft) (m : Message) (answered : Answer) → IsState st → IsStep st old c m answered new → answered.deed ≡ reported_deed c m (last_number st c) answered.sends

@@ -9,7 +9,7 @@ use Rattle.linda_bag.proofs.Maps.{get_empty}
 use Rattle.linda_tuple.specs.Tuple.{Tuple}
 use Rattle.linda_wire.specs.declared.reply.Reply.TheVariants as replies
 use Rattle.linda_state.specs.declared.deed.Deed.{Deed}
-use Rattle.linda_state.specs.declared.deed.Deed.TheVariants.{Out, Take, Pass}
+use Rattle.linda_state.specs.declared.deed.Deed.TheVariants.{Out, Take, Pass, Leave}
 use Rattle.linda_state.specs.Deed.{client_of, number_of, takes, outs_of, is_taken}
 use Rattle.linda_state.specs.State.{empty_state}
 use Rattle.linda_state.specs.After.{bag_after, taken_reply, reply_of_deed}
@@ -136,6 +136,7 @@ taken_reports : (before : List Deed) (d : Deed) (n id : ℕ) (tuple : Tuple) →
     → (d ≡ Take (client_of d) n id) × (bag_after empty_state before id ≡ Some tuple)
 taken_reports before (Out c m t) n id tuple e = absurd (cc)
 taken_reports before (Pass c m i) n id tuple e = absurd (cc)
+taken_reports before (Leave c m) n id tuple e = absurd (cc)
 taken_reports before (Take c m i) n id tuple e = by (bag_after empty_state before i) refl e
   where
     by : (o : Option Tuple) → bag_after empty_state before i ≡ o → replies.Taken n id tuple ≡ reply_of_kept m (taken_reply i o) → (Take c m i ≡ Take c n id) × (bag_after empty_state before id ≡ Some tuple)
@@ -163,6 +164,7 @@ module _ (ds : List Deed) (c n : ℕ) where
   gone_reports : (before later : List Deed) (d : Deed) → IsProper empty_state (before ++ d ∷ later) → replies.Gone n ≡ reply_of_kept (number_of d) (reply_of_deed empty_state before d) → (id : ℕ) × (d ≡ Pass (client_of d) n id)
   gone_reports before later (Out d m t) proper e = absurd (cc)
   gone_reports before later (Pass d m i) proper e = (i, cc)
+  gone_reports before later (Leave d m) proper e = absurd (cc)
   gone_reports before later (Take d m i) proper e = by (bag_after empty_state before i) refl e
     where
       by : (o : Option Tuple) → bag_after empty_state before i ≡ o → replies.Gone n ≡ reply_of_kept m (taken_reply i o) → (id : ℕ) × (Take d m i ≡ Pass d n id)

@@ -1,4 +1,4 @@
--- Replies that report a deed: Stored, Taken and Gone; where they are kept, and of which deed they tell.
+-- Replies that report a deed: Stored, Taken, Gone and Left; where they are kept, and of which deed they tell.
 use Rattle.std.specs.Prelude.{◌≡◌, ℕ, Bool, true, List, ◌∷◌, ◌++◌, All, Option, Some, None, is_some}
 use Rattle.std.specs.FinMap as map
 use Rattle.linda_wire.specs.declared.reply.Reply.{Reply}
@@ -16,6 +16,7 @@ abbrev pub kept_in : Reply → Option Entry
 kept_in (replies.Stored n id) = Some (n, kept.Stored id)
 kept_in (replies.Taken n id tuple) = Some (n, kept.Taken id tuple)
 kept_in (replies.Gone n) = Some (n, kept.Gone)
+kept_in (replies.Left n) = Some (n, kept.Left)
 kept_in _ = None
 
 -- whether the reply reports a deed

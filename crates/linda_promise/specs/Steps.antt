@@ -27,11 +27,12 @@ pub record DoesAsAsked (c : ℕ) (m : Message) (soft : Soft) (d : Deed) : Type 0
   pub let_go : LetsGo c m soft
 
 -- The deed is one that the client's message asks for: the client's, by the message's number; an Out puts its tuple, an
--- Accept takes the tuple of its id or passes it.
+-- Accept takes the tuple of its id or passes it, and a Leave leaves.
 abbrev pub IsDeedOf : ℕ → Message → Deed → Type 0
 IsDeedOf c (messages.Out n tuple) (deeds.Out client m put) = (client ≡ c) × (m ≡ n) × (put ≡ tuple)
 IsDeedOf c (messages.Accept n ticket id) (deeds.Take client m taken) = (client ≡ c) × (m ≡ n) × (taken ≡ id)
 IsDeedOf c (messages.Accept n ticket id) (deeds.Pass client m passed) = (client ≡ c) × (m ≡ n) × (passed ≡ id)
+IsDeedOf c (messages.Leave n) (deeds.Leave client m) = (client ≡ c) × (m ≡ n)
 IsDeedOf c _ _ = ⊥
 
 -- All that is held is in the bag.
@@ -43,6 +44,7 @@ abbrev pub deed_behind : ℕ → Message → List (ℕ × Reply) → Option Deed
 deed_behind c (messages.Out n tuple) ((to, replies.Stored m id) ∷ sends) = Some (deeds.Out c n tuple)
 deed_behind c (messages.Accept n ticket id) ((to, replies.Taken m other row) ∷ sends) = Some (deeds.Take c n id)
 deed_behind c (messages.Accept n ticket id) ((to, replies.Gone m) ∷ sends) = Some (deeds.Pass c n id)
+deed_behind c (messages.Leave n) ((to, replies.Left m) ∷ sends) = Some (deeds.Leave c n)
 deed_behind c _ _ = None
 
 -- whether this is a number, and the one after the last

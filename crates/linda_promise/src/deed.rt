@@ -89,6 +89,7 @@ fn comes_next(message: &Message, last: u64) -> bool
     match message {
         Message::Out { n, .. } => last.checked_add(1) == Some(*n),
         Message::Accept { n, .. } => last.checked_add(1) == Some(*n),
+        Message::Leave { n } => last.checked_add(1) == Some(*n),
         _ => false,
     }
 }
@@ -107,6 +108,7 @@ fn deed_behind(client: u32, message: Message, sends: &[(u32, Reply)]) -> Option<
         (Message::Accept { n, id, .. }, [(_, Reply::Gone { .. }), ..]) => {
             Some(Deed::Pass { client, n, id })
         }
+        (Message::Leave { n }, [(_, Reply::Left { .. }), ..]) => Some(Deed::Leave { client, n }),
         _ => None,
     }
 }

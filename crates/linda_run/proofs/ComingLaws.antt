@@ -21,7 +21,7 @@ use Rattle.linda_state.specs.After.{IsAfter}
 use Rattle.linda_state.proofs.AfterLaws.{none_after, old_id, taken_id}
 use Rattle.linda_step.specs.Soft.{Soft}
 use Rattle.linda_step.specs.Answer.{Answer, IsStep}
-use Rattle.linda_step.specs.History.{Coming, says, leaves, Comes, History, nothing_yet, first_then, Happens}
+use Rattle.linda_step.specs.History.{Coming, says, hangs_up, Comes, History, nothing_yet, first_then, Happens}
 use Rattle.linda_step.specs.Course.{IsFront}
 use Rattle.linda_step.specs.Store.{IsOrderly}
 use Rattle.linda_step.proofs.OrderLaws.{step_orderly, close_orderly}
@@ -48,7 +48,7 @@ use Rattle.linda_run.proofs.PutLaws.{put_under}
 -- A client that comes with a message did say it.
 abbrev pub IsSpoken : Members → ℕ → Coming → Type 0
 IsSpoken ms s (says c m) = OfMember ms c (IsSaid s m)
-IsSpoken ms s (leaves c) = Unit {0}
+IsSpoken ms s (hangs_up c) = Unit {0}
 
 -- a numbered message was sent under its number
 said_numbered : (s n : ℕ) (m : Message) (c : Client) → number_of_message m ≡ Some n → IsSaid s m c → HasSent s n m c
@@ -68,7 +68,7 @@ module _ (laws : OfSteps) (ms : Members) (s : ℕ) where
   }
 
   used_first : (st new : State) (soft : Soft) (x : Coming) (a : Answer) → IsOrderly st soft → IsSpoken ms s x → Comes st soft x a new → All (IsUsedBy ms s) (option_to_list a.deed)
-  used_first st new soft (leaves c) a orderly spoken comes = subst (λ (b : Answer). All (IsUsedBy ms s) (option_to_list b.deed)) (sym comes.0) (All-nil (IsUsedBy ms s))
+  used_first st new soft (hangs_up c) a orderly spoken comes = subst (λ (b : Answer). All (IsUsedBy ms s) (option_to_list b.deed)) (sym comes.0) (All-nil (IsUsedBy ms s))
   used_first st new soft (says c m) a orderly spoken comes = by a.deed refl
     where
       by : (o : Option Deed) → a.deed ≡ o → All (IsUsedBy ms s) (option_to_list o)
@@ -77,7 +77,7 @@ module _ (laws : OfSteps) (ms : Members) (s : ℕ) where
 
   orderly_then : (st new : State) (soft : Soft) (x : Coming) (a : Answer) → IsOrderly st soft → Comes st soft x a new → IsOrderly new a.soft
   orderly_then st new soft (says c m) a orderly comes = step_orderly st new soft c orderly m a comes
-  orderly_then st new soft (leaves c) a orderly comes =
+  orderly_then st new soft (hangs_up c) a orderly comes =
       subst (λ (t : State). IsOrderly t a.soft) (sym comes.1) (subst (λ (b : Answer). IsOrderly st b.soft) (sym comes.0) (close_orderly st soft c orderly))
 
   used_all : (st : State) (soft : Soft) (xs : List Coming) (all : History) → IsOrderly st soft → All (IsSpoken ms s) xs → Happens st soft xs all → All (IsUsedBy ms s) all.deeds
@@ -142,16 +142,16 @@ module _ (laws : OfSteps) (ms : Members) (ps : List Sent) (s : ℕ) (ds es : Lis
 
   spreads_by : (y : Coming) (a : Answer) (t : State) → Comes old.state old.soft y a t → OffersWhatIsSought t.bag y old.soft a.sends a.soft
   spreads_by (says c m) a t comes = laws.step_spreads old.state t old.soft c m a orderly.state_is comes
-  spreads_by (leaves c) a t comes =
-      subst (λ (u : State). OffersWhatIsSought u.bag (leaves c) old.soft a.sends a.soft) (sym comes.1)
-      (subst (λ (b : Answer). OffersWhatIsSought old.state.bag (leaves c) old.soft b.sends b.soft) (sym comes.0) (laws.close_spreads old.state.bag (leaves c) c old.soft))
+  spreads_by (hangs_up c) a t comes =
+      subst (λ (u : State). OffersWhatIsSought u.bag (hangs_up c) old.soft a.sends a.soft) (sym comes.1)
+      (subst (λ (b : Answer). OffersWhatIsSought old.state.bag (hangs_up c) old.soft b.sends b.soft) (sym comes.0) (laws.close_spreads old.state.bag (hangs_up c) c old.soft))
 
   spreads : OffersWhatIsSought new.state.bag x old.soft sends new.soft
   spreads = spreads_by x (record { deed = one.deed; sends = sends; soft = new.soft }) new.state one.comes
 
   after_by : (y : Coming) (a : Answer) (t : State) → Comes old.state old.soft y a t → IsAfter old.state (option_to_list a.deed) t
   after_by (says c m) a t comes = comes.state_is
-  after_by (leaves c) a t comes =
+  after_by (hangs_up c) a t comes =
       subst (λ (b : Answer). IsAfter old.state (option_to_list b.deed) t) (sym comes.0) (subst (IsAfter old.state []) (sym comes.1) (none_after old.state orderly.state_is))
 
   -- what asks is of a client that asks so
@@ -255,7 +255,7 @@ module _ (laws : OfSteps) (ms : Members) (ps : List Sent) (s : ℕ) (ds es : Lis
 
         by : (y : Coming) → x ≡ y → (o : Option Deed) → one.deed ≡ o → last_number (ds ++ es) c < a.n
         by y x_is None e = none (one.deeds_are ∙ ap option_to_list e)
-        by (leaves d) x_is (Some deed) e =
+        by (hangs_up d) x_is (Some deed) e =
             let closed = subst (λ z. Comes old.state old.soft z (record { deed = one.deed; sends = sends; soft = new.soft }) new.state) x_is one.comes in
             absurd (none-some deed (sym (ap (λ (b : Answer). b.deed) closed.0) ∙ e))
         by (says y m) x_is (Some d) e =

@@ -15,7 +15,7 @@ use Rattle.linda_run.specs.declared.packet.Body.{Body}
 use Rattle.linda_run.specs.declared.packet.Body.TheVariants as bodies
 use Rattle.linda_run.specs.declared.packet.Packet.{Packet}
 use Rattle.linda_run.specs.World.{World, delivered}
-use Rattle.linda_run.specs.Steps.{Told, Task, Takes, Leaves, Saves, Halts, HasReacted, HasServed, AreMessagesAt, Carries, Delivers, Steps}
+use Rattle.linda_run.specs.Steps.{Told, Task, Takes, HangsUp, Saves, Halts, HasReacted, HasServed, AreMessagesAt, Carries, Delivers, Steps}
 use Rattle.linda_run.specs.Promises.{OfPackets, OfServer, IsBacked}
 use Rattle.linda_run.proofs.DeliverLaws.{of_one, same_or_delivered}
 
@@ -27,7 +27,7 @@ pub data IsCalled (w : World) : Call → ℕ → List ℕ → Type 0 where
 -- Why a server is asked for something: a message is delivered to it, or it is stopped at work on such, or neither.
 pub data IsAsked (w : World) : Task → ℕ → List ℕ → Type 0 where
   takes : (k : ℕ) (p : Packet) (m : Message) → slice_get w.packets k ≡ Some p → p.body ≡ bodies.Message m → IsAsked w (Takes p.client m) p.server (k ∷ [])
-  leaves : (c s : ℕ) → IsAsked w (Leaves c) s []
+  hangs_up : (c s : ℕ) → IsAsked w (HangsUp c) s []
   saves : (s : ℕ) → IsAsked w Saves s []
   halts : (s : ℕ) (ks : List ℕ) (ms : List (ℕ × Message)) → AreMessagesAt w.packets s ks ms → IsAsked w (Halts (comings ms)) s ks
 
@@ -51,7 +51,7 @@ course w new (events.Deliver k) told step = delivers w new told k (slice_get w.p
 course w new (events.Tick c now) told step = reacts (calls.Tick now) c [] (own (calls.Tick now) c (λ s r e. cc)) step
 course w new (events.Resend c) told step = reacts Resend c [] (own Resend c (λ s r e. cc)) step
 course w new (events.Reconnect c s) told step = reacts (calls.Reconnected s) c [] (own (calls.Reconnected s) c (λ t r e. cc)) step
-course w new (events.Close s c) told step = serves (Leaves c) s [] (leaves c s) step
+course w new (events.Close s c) told step = serves (HangsUp c) s [] (hangs_up c s) step
 course w new (events.Snapshot s) told step = serves Saves s [] (saves s) step
 course w new (events.Stop s packets at torn) told step = serves (Halts (comings step.messages)) s packets.items (halts s packets.items step.messages step.in_hand) step.halted
 course w new (events.StopSnapshot s at torn) told step = serves (Halts []) s [] (halts s [] [] refl) step

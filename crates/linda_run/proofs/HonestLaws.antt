@@ -41,7 +41,7 @@ use Rattle.linda_run.specs.declared.packet.Body.TheVariants as bodies
 use Rattle.linda_run.specs.declared.packet.Packet.{Packet}
 use Rattle.linda_run.specs.World.{Server, Member, World, handed_by, place_of, given_by, member_then, sent_by, sent_from}
 use Rattle.linda_run.specs.declared.seen.Seen.{Seen}
-use Rattle.linda_run.specs.Steps.{Told, Task, Takes, Leaves, Saves, Halts, served, silent, Does, sends_of, HasReacted, HasServed, HasJoined, Steps}
+use Rattle.linda_run.specs.Steps.{Told, Task, Takes, HangsUp, Saves, Halts, served, silent, Does, sends_of, HasReacted, HasServed, HasJoined, Steps}
 use Rattle.linda_run.specs.Reached.{IsNew, IsStart, IsReached, begins, joins, goes}
 use Rattle.linda_run.specs.Promises.{OfEach, IsOnce, OfServer, DeedsStay, IsRightful, IsBacked, IsGone, OfPackets, IsSafe, IsHanded}
 use Rattle.linda_run.specs.Honest.{IsEarned, IsHonest}
@@ -67,7 +67,7 @@ silent_sends task (Err faults.Down) none = refl
 module _ (laws : OfSound) (ds es : List Deed) (old new : Node) (answer : NodeAnswer) (sound : IsSound ds old) where
   pub does_sound : (task : Task) → Does task old answer es new → IsSound (ds ++ es) new
   does_sound (Takes c m) does = laws.works ds es old new (says c m ∷ []) answer sound does
-  does_sound (Leaves c) does = subst (λ l. IsSound l new) (sym (ap (λ l. ds ++ l) does.1 ∙ append-nil ds)) (laws.closes ds old new c answer sound does.0)
+  does_sound (HangsUp c) does = subst (λ l. IsSound l new) (sym (ap (λ l. ds ++ l) does.1 ∙ append-nil ds)) (laws.closes ds old new c answer sound does.0)
   does_sound Saves does = subst (λ l. IsSound l new) (sym (ap (λ l. ds ++ l) does.1.1.1 ∙ append-nil ds)) (laws.snaps ds old new does.0 sound does.1.0)
   does_sound (Halts xs) does = subst (λ l. IsSound (ds ++ l) new) (sym does.1.1.1) (laws.stops ds old new xs does.0 sound does.1.0)
 
@@ -81,9 +81,9 @@ module _ (laws : OfSound) (ds es : List Deed) (old new : Node) (answer : NodeAns
       by (Sent sends) done = laws.works_backed ds es old new (says c m ∷ []) sends sound done
       by IsFull none = backed_full (ds ++ es) c
       by IsDown went = backed_none (ds ++ es)
-  does_backed (Leaves c) does = by answer does.0
+  does_backed (HangsUp c) does = by answer does.0
     where
-      by : (a : NodeAnswer) → Closes old c a new → AreBacked (ds ++ es) (sends_of (Leaves c) a)
+      by : (a : NodeAnswer) → Closes old c a new → AreBacked (ds ++ es) (sends_of (HangsUp c) a)
       by (Sent sends) done = subst (λ l. AreBacked l sends) (sym (ap (λ l. ds ++ l) does.1 ∙ append-nil ds)) (laws.closes_backed ds old new c sends sound done)
       by IsFull never = absurd never
       by IsDown went = backed_none (ds ++ es)

@@ -16,7 +16,7 @@ use Rattle.linda_wire.specs.declared.refusal.Refusal.TheVariants as refusals
 use Rattle.linda_wire.specs.Refusal.{refused}
 use Rattle.linda_state.specs.declared.deed.Deed.{Deed}
 use Rattle.linda_step.specs.Soft.{Soft}
-use Rattle.linda_step.specs.History.{Coming, says, leaves, comings}
+use Rattle.linda_step.specs.History.{Coming, says, hangs_up, comings}
 use Rattle.linda_store.specs.declared.node.NodeFault.{NodeFault}
 use Rattle.linda_store.specs.declared.node.NodeFault.TheVariants as faults
 use Rattle.linda_store.specs.Node.{Node, NodeAnswer, Sent, IsFull, IsDown, IsDone, WentDown, IsOpened, Works, Closes, Snaps, Stops}
@@ -27,7 +27,7 @@ use Rattle.linda_run.specs.declared.packet.Body.{Body}
 use Rattle.linda_run.specs.declared.packet.Body.TheVariants as bodies
 use Rattle.linda_run.specs.declared.packet.Packet.{Packet}
 use Rattle.linda_run.specs.World.{Server, Member, Members, World, sent_by, sent_from, delivered}
-use Rattle.linda_run.specs.Steps.{Told, Task, Takes, Leaves, Saves, Halts, silent, Does, without_room, sends_of, HasServed, AreMessagesAt}
+use Rattle.linda_run.specs.Steps.{Told, Task, Takes, HangsUp, Saves, Halts, silent, Does, without_room, sends_of, HasServed, AreMessagesAt}
 use Rattle.linda_run.specs.Promises.{OfPackets, HasCancel, HasOffer, IsPut}
 use Rattle.linda_run.specs.Honest.{IsHonest}
 use Rattle.linda_run.specs.Reasons.{OfMember, OfTicket, Asks, Suits, IsSaid, IsReplied, IsSane, IsUsedBy, IsWaitOf, HasReason, IsWaitedFor, IsReasoned, HasReasons}
@@ -99,7 +99,7 @@ module _ {X : Type 0} (f : X → Packet) (ks : List ℕ) (ps new : List Packet) 
 -- What a task lets come to its server.
 abbrev comings_of : Task → List Coming
 comings_of (Takes c m) = says c m ∷ []
-comings_of (Leaves c) = leaves c ∷ []
+comings_of (HangsUp c) = hangs_up c ∷ []
 comings_of Saves = []
 comings_of (Halts xs) = xs
 
@@ -119,7 +119,7 @@ spoken : (w : World) (task : Task) (s : ℕ) (ks : List ℕ) → HasReasons w �
 spoken w task s ks reasons (takes k p m there body) =
     All-cons (IsSpoken w.members p.server) (says p.client m) [] (message_spoken w.members p.server p m body (of_one (IsSane w.members) w.packets k p reasons.sane there) refl p.client refl)
     (All-nil (IsSpoken w.members p.server))
-spoken w task s ks reasons (closes c _) = All-cons (IsSpoken w.members s) (leaves c) [] tt (All-nil (IsSpoken w.members s))
+spoken w task s ks reasons (closes c _) = All-cons (IsSpoken w.members s) (hangs_up c) [] tt (All-nil (IsSpoken w.members s))
 spoken w task s ks reasons (saves _) = All-nil (IsSpoken w.members s)
 spoken w task s ks reasons (halts _ _ ms are) = in_hand_spoken w.members w.packets s ks ms reasons.sane are
 
@@ -135,7 +135,7 @@ offer_unmoved w task s ks (halts _ _ ms are) p apart there = unmoved w.packets s
 
 suits_full : (ms : Members) (task : Task) → All (λ (r : ℕ × Reply). IsReplied ms r.0 r.1) (without_room task)
 suits_full ms (Takes c m) = All-cons (λ (r : ℕ × Reply). IsReplied ms r.0 r.1) (c, refused refusals.Full) [] tt (All-nil (λ (r : ℕ × Reply). IsReplied ms r.0 r.1))
-suits_full ms (Leaves c) = All-nil (λ (r : ℕ × Reply). IsReplied ms r.0 r.1)
+suits_full ms (HangsUp c) = All-nil (λ (r : ℕ × Reply). IsReplied ms r.0 r.1)
 suits_full ms Saves = All-nil (λ (r : ℕ × Reply). IsReplied ms r.0 r.1)
 suits_full ms (Halts xs) = All-nil (λ (r : ℕ × Reply). IsReplied ms r.0 r.1)
 
@@ -275,10 +275,10 @@ module _ (of_sound : OfSound) (of_steps : OfSteps) (task : Task) (s : ℕ) (ks :
       taking c m e IsFull f is = (unchanged is.1 is.0.unchanged, full_at f)
       taking c m e IsDown f is = (went_down (comings_of (Takes c m)) (heard (Takes c m) e) is.1 is.0, down_at f)
 
-      leaving : (c : ℕ) → task ≡ Leaves c → served.deeds ≡ [] → (a : NodeAnswer) → served.answer ≡ a → Closes old c a served.node → IsGood
-      leaving c e none (Sent sends) f is = done (leaves c) sends (heard_one (Leaves c) (leaves c) e refl) (ap (sends_of task) f) (subst (λ l. IsDone old (leaves c ∷ []) l sends served.node) (sym none) is)
+      leaving : (c : ℕ) → task ≡ HangsUp c → served.deeds ≡ [] → (a : NodeAnswer) → served.answer ≡ a → Closes old c a served.node → IsGood
+      leaving c e none (Sent sends) f is = done (hangs_up c) sends (heard_one (HangsUp c) (hangs_up c) e refl) (ap (sends_of task) f) (subst (λ l. IsDone old (hangs_up c ∷ []) l sends served.node) (sym none) is)
       leaving c e none IsFull f never = absurd never
-      leaving c e none IsDown f is = (went_down (comings_of (Leaves c)) (heard (Leaves c) e) none is, down_at f)
+      leaving c e none IsDown f is = (went_down (comings_of (HangsUp c)) (heard (HangsUp c) e) none is, down_at f)
 
       saving : task ≡ Saves → served.deeds ≡ [] → (result : Result (Unit {0}) NodeFault) → served.answer ≡ silent result → Snaps old result served.node → IsGood
       saving e none (Ok _) f is = (unchanged none is.1, suits_none (ap (sends_of task) f))
@@ -292,7 +292,7 @@ module _ (of_sound : OfSound) (of_steps : OfSteps) (task : Task) (s : ℕ) (ks :
 
       by : (t : Task) → task ≡ t → Does t old served.answer served.deeds served.node → IsGood
       by (Takes c m) e is = taking c m e served.answer refl is
-      by (Leaves c) e is = leaving c e is.1 served.answer refl is.0
+      by (HangsUp c) e is = leaving c e is.1 served.answer refl is.0
       by Saves e is = saving e is.1.1.1 is.0 is.1.1.0 is.1.0
       by (Halts xs) e is = halting xs e is.0 is.1.1.1 is.1.1.0 is.1.0
 

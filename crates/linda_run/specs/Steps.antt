@@ -55,7 +55,7 @@ pub record HasReacted (call : Call) (c : ℕ) (ks : List ℕ) (w : World) (told 
 -- stopped with this in hand.
 pub data Task : Type 0 where
   Takes : ℕ → Message → Task
-  Leaves : ℕ → Task
+  HangsUp : ℕ → Task
   Saves : Task
   Halts : List Coming → Task
 
@@ -68,7 +68,7 @@ silent (Err faults.Down) = IsDown
 -- A node was asked this: what it answers, the deeds that it adds, and where that leaves it.
 abbrev pub Does : Task → Node → NodeAnswer → List Deed → Node → Type 0
 Does (Takes c m) old answer ds new = Works old (says c m ∷ []) answer ds new
-Does (Leaves c) old answer ds new = Closes old c answer new × (ds ≡ [])
+Does (HangsUp c) old answer ds new = Closes old c answer new × (ds ≡ [])
 Does Saves old answer ds new =
     (result : Result (Unit {0}) NodeFault) × (Snaps old result new × ((answer ≡ silent result) × (ds ≡ [])))
 Does (Halts xs) old answer ds new =
@@ -138,7 +138,7 @@ Steps w (events.Deliver k) told new = Delivers (slice_get w.packets k) k w told 
 Steps w (events.Tick c now) told new = HasReacted (calls.Tick now) c [] w told new
 Steps w (events.Resend c) told new = HasReacted Resend c [] w told new
 Steps w (events.Reconnect c s) told new = HasReacted (calls.Reconnected s) c [] w told new
-Steps w (events.Close s c) told new = HasServed (Leaves c) s [] w told new
+Steps w (events.Close s c) told new = HasServed (HangsUp c) s [] w told new
 Steps w (events.Snapshot s) told new = HasServed Saves s [] w told new
 Steps w (events.Stop s packets at torn) told new = IsStopped s packets.items w told new
 Steps w (events.StopSnapshot s at torn) told new = HasServed (Halts []) s [] w told new

@@ -5,7 +5,7 @@ use Rattle.std.specs.FinMap.{get}
 use Rattle.linda_tuple.specs.Tuple.{Tuple}
 use Rattle.linda_hold.specs.Request.{request_of}
 use Rattle.linda_wire.specs.declared.message.Message.{Message}
-use Rattle.linda_wire.specs.declared.message.Message.TheVariants.{Hello, Out, Ask, Accept, Cancel}
+use Rattle.linda_wire.specs.declared.message.Message.TheVariants.{Hello, Out, Ask, Accept, Cancel, Leave}
 use Rattle.linda_wire.specs.declared.refusal.Refusal.{Refusal}
 use Rattle.linda_wire.specs.declared.reply.Reply.{Reply}
 use Rattle.linda_wire.specs.Refusal.{refused}
@@ -15,14 +15,15 @@ use Rattle.linda_state.specs.State.{State}
 use Rattle.linda_step.specs.declared.judge.Demand.{Demand}
 use Rattle.linda_step.specs.declared.judge.Verdict.{Verdict}
 use Rattle.linda_step.specs.declared.judge.Verdict.TheVariants.{Refused, Repeated, Done}
-use Rattle.linda_step.specs.Judge.{to_put, to_take, demand_of, judge}
+use Rattle.linda_step.specs.Judge.{to_put, to_take, to_leave, demand_of, judge}
 use Rattle.linda_step.specs.Soft.{Soft}
 use Rattle.linda_step.specs.Dispatch.{Sends}
-use Rattle.linda_step.specs.Answer.{Answer, only_sends, only_reply, greeting, reply_of_kept, standing_of, reply_by, without_deed, out_without_deed, accept_without_deed, on_out, on_accept, held_tuple, take_or_pass, IsAnswer}
+use Rattle.linda_step.specs.Answer.{Answer, only_sends, only_reply, greeting, reply_of_kept, standing_of, reply_by, without_deed, out_without_deed, accept_without_deed, leave_without_deed, on_out, on_accept, on_leave, held_tuple, take_or_pass, IsAnswer}
 use Rattle.linda_step.proofs.JudgeLaws.{IsVerdict, verdict_means}
 
 -- A message without a number is only answered. One with a number is refused; or it is the last one come again, and gets
--- the reply that is kept; or it does its deed: an Out stores its tuple, an Accept takes the one held for it or passes.
+-- the reply that is kept; or it does its deed: an Out stores its tuple, an Accept takes the one held for it or passes, and
+-- by a Leave the client is gone.
 pub data Course (st : State) (soft : Soft) (c : ℕ) : Message → Answer → Type 0 where
   unnumbered : (m : Message) (told : Sends) → demand_of m ≡ None → IsAnswer st soft c m (only_sends told) → Course st soft c m (only_sends told)
   turned_down : (m : Message) (d : Demand) (why : Refusal) → demand_of m ≡ Some d → judge d (standing_of st c) ≡ Refused why → Course st soft c m (only_reply c (refused why) soft)
@@ -33,6 +34,7 @@ pub data Course (st : State) (soft : Soft) (c : ℕ) : Message → Answer → Ty
       → Course st soft c (Accept n ticket id) (take_or_pass c n id (Some row) soft)
   passed : (n ticket id : ℕ) → accept_without_deed st c n ≡ None → held_tuple st (request_of c ticket) id soft ≡ None
       → Course st soft c (Accept n ticket id) (take_or_pass c n id None soft)
+  left : (n : ℕ) → leave_without_deed st c n ≡ None → Course st soft c (Leave n) (on_leave st c n None soft)
 
 module _ (st : State) (soft : Soft) (c : ℕ) where
   undone_course : (m : Message) (d : Demand) (r : Reply) → demand_of m ≡ Some d → without_deed st c d ≡ Some r → Course st soft c m (only_reply c r soft)
@@ -63,6 +65,10 @@ module _ (st : State) (soft : Soft) (c : ℕ) where
   accept_course n ticket id (Some r) e = undone_course (Accept n ticket id) (to_take n) r refl e
   accept_course n ticket id None e = held_course n ticket id (held_tuple st (request_of c ticket) id soft) refl e
 
+  leave_course : (n : ℕ) (o : Option Reply) → leave_without_deed st c n ≡ o → Course st soft c (Leave n) (on_leave st c n o soft)
+  leave_course n (Some r) e = undone_course (Leave n) (to_leave n) r refl e
+  leave_course n None e = left n e
+
   -- Each answer takes a course.
   pub course_of : (m : Message) (a : Answer) → IsAnswer st soft c m a → Course st soft c m a
   course_of (Hello version client fresh) a answer =
@@ -75,10 +81,13 @@ module _ (st : State) (soft : Soft) (c : ℕ) where
   course_of (Cancel ticket) a answer =
       subst (Course st soft c (Cancel ticket)) (sym answer.1.1) (unnumbered (Cancel ticket) answer.0 refl (answer.0, (answer.1.0, refl)))
 
+  course_of (Leave n) a answer = subst (Course st soft c (Leave n)) (sym answer) (leave_course n (leave_without_deed st c n) refl)
+
   -- Where there is a reply without a deed, it is all that is answered.
   pub undone_answer : (m : Message) (a : Answer) (d : Demand) (r : Reply) → demand_of m ≡ Some d → without_deed st c d ≡ Some r → IsAnswer st soft c m a → a ≡ only_reply c r soft
   undone_answer (Out n tuple) a d r asked e answer = answer ∙ ap (λ o. on_out st c n tuple o soft) (ap (without_deed st c) (same_Some (to_put n) d asked) ∙ e)
   undone_answer (Accept n ticket id) a d r asked e answer = answer ∙ ap (λ o. on_accept st c n ticket id o soft) (ap (without_deed st c) (same_Some (to_take n) d asked) ∙ e)
+  undone_answer (Leave n) a d r asked e answer = answer ∙ ap (λ o. on_leave st c n o soft) (ap (without_deed st c) (same_Some (to_leave n) d asked) ∙ e)
   undone_answer (Hello version client fresh) a d r none e answer = absurd (none-some d none)
   undone_answer (Ask ticket remove template) a d r none e answer = absurd (none-some d none)
   undone_answer (Cancel ticket) a d r none e answer = absurd (none-some d none)

@@ -1,5 +1,5 @@
 -- Steps of a server: their deeds are allowed, so a run of steps does a proper list of deeds; and a message has one answer.
-use Rattle.std.proofs.Common.{◌≡◌, ℕ, Bool, true, false, cond, List, [], ◌++◌, Option, Some, None, is_some, option_to_list, refl, sym, ap, ◌∙◌, subst, append-nil}
+use Rattle.std.proofs.Common.{◌≡◌, ℕ, Bool, true, false, cond, List, [], ◌∷◌, ◌++◌, Option, Some, None, is_some, option_to_list, refl, sym, ap, ◌∙◌, subst, append-nil}
 use Rattle.std.proofs.lemmas.Option.{none-some, same_Some}
 use Rattle.std.specs.FinMap.{get}
 use Rattle.linda_tuple.specs.Tuple.{Tuple}
@@ -8,23 +8,25 @@ use Rattle.linda_hold.specs.declared.request.Request.{Request}
 use Rattle.linda_hold.specs.Request.{request_of}
 use Rattle.linda_hold.specs.Holds.{IsOneEach}
 use Rattle.linda_wire.specs.declared.message.Message.{Message}
-use Rattle.linda_wire.specs.declared.message.Message.TheVariants.{Hello, Out, Ask, Accept, Cancel}
+use Rattle.linda_wire.specs.declared.message.Message.TheVariants.{Hello, Out, Ask, Accept, Cancel, Leave}
 use Rattle.linda_wire.specs.declared.reply.Reply.{Reply}
+use Rattle.linda_wire.specs.Refusal.{refused}
+use Rattle.linda_wire.specs.declared.refusal.Refusal.TheVariants as refusals
 use Rattle.linda_state.specs.declared.deed.Deed.{Deed}
 use Rattle.linda_state.specs.declared.deed.Deed.TheVariants as deeds
 use Rattle.linda_state.specs.State.{State, IsState}
 use Rattle.linda_step.specs.Soft.{Soft, Bagged}
 use Rattle.linda_step.specs.Looking.{passed_over}
 use Rattle.linda_step.specs.Dispatch.{Sends, on_cancel}
-use Rattle.linda_step.specs.Asking.{on_ask, AnswersAsk, AnswersCancel}
+use Rattle.linda_step.specs.Asking.{on_ask, only_sent, AnswersAsk, AnswersCancel}
 use Rattle.linda_state.specs.After.{IsAfter}
 use Rattle.linda_state.specs.Proper.{IsAllowed, IsProper}
-use Rattle.linda_step.specs.Answer.{Answer, only_sends, is_for, held_tuple, Tells, IsAnswer, IsStep}
+use Rattle.linda_step.specs.Answer.{Answer, only_sends, is_for, held_tuple, has_left, last_number, SaysAsk, Tells, IsAnswer, IsStep}
 use Rattle.linda_state.proofs.AfterLaws.{none_after, one_after, more_after}
 use Rattle.linda_state.proofs.DoneLaws.{one_state}
 use Rattle.linda_step.proofs.LookingLaws.{one_least, one_held}
-use Rattle.linda_step.proofs.AnswerCourse.{Course, unnumbered, turned_down, told_again, stored, taken, passed, course_of}
-use Rattle.linda_step.proofs.NumberLaws.{allowed_out, allowed_take, allowed_pass}
+use Rattle.linda_step.proofs.AnswerCourse.{Course, unnumbered, turned_down, told_again, stored, taken, passed, left, course_of}
+use Rattle.linda_step.proofs.NumberLaws.{allowed_out, allowed_take, allowed_pass, allowed_leave}
 use Rattle.linda_state.proofs.ProperLaws.{more_proper, takes_below, proper_state}
 
 -- A held tuple is in the bag.
@@ -47,6 +49,7 @@ answer_allowed st soft c m answered d ranges answer = by m answered (course_of s
     by _ _ (taken n ticket id row none held) is =
         subst (IsAllowed st) (same_Some (deeds.Take c n id) d is) (allowed_take st c n ranges none id (ap is_some (held_there st (request_of c ticket) id soft row held)))
     by _ _ (passed n ticket id none held) is = subst (IsAllowed st) (same_Some (deeds.Pass c n id) d is) (allowed_pass st c n ranges none id)
+    by _ _ (left n none) is = subst (IsAllowed st) (same_Some (deeds.Leave c n) d is) (allowed_leave st c n ranges none)
 
 -- A step keeps the ranges of states.
 pub step_state : (st new : State) (soft : Soft) (c : ℕ) (m : Message) (answered : Answer) → IsState st → IsStep st soft c m answered new → IsState new
@@ -64,6 +67,10 @@ one_ask st request remove soft shape a b one_each first second =
     ∙ ap (λ least. on_ask st.bag request remove shape second.held least soft) (one_least st.bag shape (passed_over remove soft.holds) first.least second.least first.is_least second.is_least)
     ∙ sym second.told_is
 
+one_said : (gone : Bool) (st : State) (c ticket : ℕ) (remove : Bool) (shape : Template) (soft : Soft) (a b : Sends) → IsOneEach soft.holds → SaysAsk gone st c ticket remove shape soft a → SaysAsk gone st c ticket remove shape soft b → a ≡ b
+one_said true st c ticket remove shape soft a b one_each first second = first ∙ sym second
+one_said false st c ticket remove shape soft a b one_each first second = one_ask st (request_of c ticket) remove soft shape a b one_each first second
+
 one_cancel : (st : State) (request : Request) (soft : Soft) (a b : Sends) → IsOneEach soft.holds → AnswersCancel st.bag request soft a → AnswersCancel st.bag request soft b → a ≡ b
 one_cancel st request soft a b one_each first second =
     first.told_is
@@ -76,9 +83,10 @@ one_answer st soft c (Hello version client fresh) a b one_each first second = fi
 one_answer st soft c (Out n tuple) a b one_each first second = first ∙ sym second
 one_answer st soft c (Accept n ticket id) a b one_each first second = first ∙ sym second
 one_answer st soft c (Ask ticket remove template) a b one_each first second =
-    first.1.1 ∙ ap only_sends (one_ask st (request_of c ticket) remove soft template first.0 second.0 one_each first.1.0 second.1.0) ∙ sym second.1.1
+    first.1.1 ∙ ap only_sends (one_said (has_left st c) st c ticket remove template soft first.0 second.0 one_each first.1.0 second.1.0) ∙ sym second.1.1
 one_answer st soft c (Cancel ticket) a b one_each first second =
     first.1.1 ∙ ap only_sends (one_cancel st (request_of c ticket) soft first.0 second.0 one_each first.1.0 second.1.0) ∙ sym second.1.1
+one_answer st soft c (Leave n) a b one_each first second = first ∙ sym second
 
 -- The deed of a step, if it has one, makes a proper list longer, and the new state is the state after that.
 pub step_proper : (st mid new : State) (soft : Soft) (ds : List Deed) (c : ℕ) (m : Message) (answered : Answer) → IsState st → IsProper st ds → IsAfter st ds mid → IsStep mid soft c m answered new
@@ -94,6 +102,18 @@ step_proper st mid new soft ds c m answered ranges proper after step = by answer
         let done = subst (λ d. IsAfter mid (option_to_list d) new) e step.state_is in
         (more_proper st mid ds d proper after (answer_allowed mid soft c m answered d middle step.answer e), more_after st mid new ds d after done (takes_below st ds ranges proper))
 
+-- So is the refusal of an Ask to a client that left.
+pub left_step : (st : State) (soft : Soft) (c ticket : ℕ) (remove : Bool) (shape : Template) (m : Message) (deed : Option Deed) (sends : List (ℕ × Reply))
+    → IsState st → has_left st c ≡ true → m ≡ Ask ticket remove shape → deed ≡ None → sends ≡ (c, refused (refusals.Left (last_number st c))) ∷ [] → IsStep st soft c m (record { deed = deed; sends = sends; soft = soft }) st
+left_step st soft c ticket remove shape m deed sends is gone m_is deed_is sends_is =
+    let told : Sends = only_sent sends soft in
+    let said : SaysAsk true st c ticket remove shape soft told = ap (λ l. only_sent l soft) sends_is in
+    record {
+      answer = subst (λ (a : Answer → Type 0). a (record { deed = deed; sends = sends; soft = soft })) (sym (ap (IsAnswer st soft c) m_is ∙ ap (λ b. Tells (SaysAsk b st c ticket remove shape soft)) gone))
+          (told, (said, λ i. record { deed = deed_is i; sends = sends; soft = soft }));
+      state_is = subst (λ d. IsAfter st (option_to_list d) st) (sym deed_is) (none_after st is);
+    }
+
 -- What is told for an Ask, and for a Cancel, is a step that leaves the state as it was.
 module _ (bag : Bagged) (st : State) (soft : Soft) (c ticket : ℕ) (m : Message) (deed : Option Deed) (sends items : List (ℕ × Reply)) (new : Soft)
     (is : IsState st) (bag_is : bag ≡ st.bag) (deed_is : deed ≡ None) (sends_is : sends ≡ items) where
@@ -106,9 +126,10 @@ module _ (bag : Bagged) (st : State) (soft : Soft) (c ticket : ℕ) (m : Message
         state_is = subst (λ d. IsAfter st (option_to_list d) st) (sym deed_is) (none_after st is);
       }
 
-  pub ask_step : (remove : Bool) (shape : Template) → m ≡ Ask ticket remove shape → AnswersAsk bag (request_of c ticket) remove shape soft (record { sends = items; soft = new })
+  pub ask_step : (remove : Bool) (shape : Template) → has_left st c ≡ false → m ≡ Ask ticket remove shape → AnswersAsk bag (request_of c ticket) remove shape soft (record { sends = items; soft = new })
       → IsStep st soft c m (record { deed = deed; sends = sends; soft = new }) st
-  ask_step remove shape m_is told = told_step (λ b. AnswersAsk b (request_of c ticket) remove shape soft) told (ap (IsAnswer st soft c) m_is)
+  ask_step remove shape here m_is told =
+      told_step (λ b. AnswersAsk b (request_of c ticket) remove shape soft) told (ap (IsAnswer st soft c) m_is ∙ ap (λ gone. Tells (SaysAsk gone st c ticket remove shape soft)) here)
 
   pub cancel_step : m ≡ Cancel ticket → AnswersCancel bag (request_of c ticket) soft (record { sends = items; soft = new })
       → IsStep st soft c m (record { deed = deed; sends = sends; soft = new }) st

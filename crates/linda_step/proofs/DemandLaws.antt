@@ -5,33 +5,34 @@ use Rattle.std.proofs.lemmas.Grind.{flat_map-append}
 use Rattle.std.proofs.lemmas.List.Elements.{All-nil, All-cons, All-head, All-tail}
 use Rattle.std.specs.FinMap.{get, insert, len}
 use Rattle.linda_bag.proofs.Maps.{get_inserted, len_new, len_old}
+use Rattle.linda_tuple.specs.Tuple.{Tuple}
 use Rattle.linda_tuple.specs.declared.form.Form.{Form}
 use Rattle.linda_wire.specs.declared.message.Message.{Message}
-use Rattle.linda_book.specs.Entries.{Entry, number_in}
+use Rattle.linda_book.specs.Entries.{Entry, number_in, left_in, is_left}
 use Rattle.linda_state.specs.declared.deed.Deed.{Deed}
 use Rattle.linda_state.specs.declared.deed.Deed.TheVariants as deeds
 use Rattle.linda_wire.specs.declared.limits.TheConstants.{NUMBER_LIMIT}
 use Rattle.linda_state.specs.Deed.{client_of, number_of}
 use Rattle.linda_state.specs.DeedFormat.{spell_deed, payload, SuitsForm}
 use Rattle.linda_state.specs.State.{State, IsState}
-use Rattle.linda_state.specs.After.{IsAfter, reply_of_deed}
+use Rattle.linda_state.specs.After.{IsAfter, bag_after, reply_of_deed, taken_reply}
 use Rattle.linda_state.proofs.AfterLaws.{none_after, one_after}
 use Rattle.linda_state.proofs.DoneLaws.{done, done_after, next_done}
 use Rattle.linda_step.specs.declared.judge.Demand.{Demand}
-use Rattle.linda_step.specs.Judge.{to_put, to_take}
+use Rattle.linda_step.specs.Judge.{to_put, to_take, to_leave}
 use Rattle.linda_step.specs.Soft.{Soft}
 use Rattle.linda_step.specs.Answer.{Answer, last_number, standing_of, IsStep}
 use Rattle.linda_step.specs.History.{History, Happens, comings}
-use Rattle.linda_step.specs.Size.{numbers_of, deed_bytes, if_done, done_by, done_of, numbers_after, bytes_of, bytes_from, Suits, SuitsIfDone, AllSuit}
-use Rattle.linda_step.proofs.AnswerCourse.{Course, unnumbered, turned_down, told_again, stored, taken, passed, course_of}
+use Rattle.linda_step.specs.Size.{latest_in, latest_of, numbers_of, deed_bytes, if_done, done_by, done_of, numbers_after, bytes_of, bytes_from, Suits, SuitsIfDone, AllSuit}
+use Rattle.linda_step.proofs.AnswerCourse.{Course, unnumbered, turned_down, told_again, stored, taken, passed, left, course_of}
 use Rattle.linda_step.proofs.NumberLaws.{none_is_done}
 use Rattle.linda_step.proofs.AnswerLaws.{step_state}
 
 -- ---- the numbers after a deed
 
-number_of_cond : (b : Bool) (e : Entry) (o : Option Entry) → number_in (cond b (Some e) o) ≡ cond b e.0 (number_in o)
-number_of_cond true e o = refl
-number_of_cond false e o = refl
+latest_of_cond : (b : Bool) (e : Entry) (o : Option Entry) → latest_in (cond b (Some e) o) ≡ cond b (e.0, is_left e.1) (latest_in o)
+latest_of_cond true e o = refl
+latest_of_cond false e o = refl
 
 plus_none : (a : ℕ) → a ≡ a + 0
 plus_none a = omega arith
@@ -50,6 +51,7 @@ len_kept st c e ranges = by (get st.book c) refl (ranges.numbers c)
 record IsAsked (form : Form) (st : State) (c : ℕ) (m : Message) (d : Deed) (w : Demand) : Type 0 where
   client : client_of d ≡ c
   number : number_of d ≡ w.n
+  leave : is_left (reply_of_deed st [] d) ≡ w.is_leave
   next : next_done st d ≡ st.next + cond w.is_out 1 0
   size : length (spell_deed form d) ≡ deed_bytes form m
   suits : SuitsForm form d → Suits form m
@@ -60,16 +62,22 @@ data Outcome (form : Form) (st : State) (c : ℕ) (m : Message) (deed : Option D
   nothing : deed ≡ None → done_of (numbers_of st) c m ≡ None → Outcome form st c m deed
   one : (d : Deed) (w : Demand) → deed ≡ Some d → done_of (numbers_of st) c m ≡ Some w → IsAsked form st c m d w → Outcome form st c m deed
 
+taken_stays : (id : ℕ) (o : Option Tuple) → is_left (taken_reply id o) ≡ false
+taken_stays id None = refl
+taken_stays id (Some row) = refl
+
 outcome_of : (form : Form) (st : State) (c : ℕ) (soft : Soft) (m : Message) (answered : Answer) → Course st soft c m answered → Outcome form st c m answered.deed
 outcome_of form st c soft _ _ (unnumbered m told none answer) = nothing refl (ap (λ o. done_by o (standing_of st c)) none)
 outcome_of form st c soft _ _ (turned_down m d why asked verdict) = nothing refl (ap (λ o. done_by o (standing_of st c)) asked ∙ ap (if_done d) verdict)
 outcome_of form st c soft _ _ (told_again m d reply asked verdict kept) = nothing refl (ap (λ o. done_by o (standing_of st c)) asked ∙ ap (if_done d) verdict)
 outcome_of form st c soft _ _ (stored n tuple none) =
-    one (deeds.Out c n tuple) (to_put n) refl (ap (if_done (to_put n)) (none_is_done st c (to_put n) none)) (record { client = refl; number = refl; next = refl; size = omega arith; suits = λ fits. fits; suited = λ fits. fits })
+    one (deeds.Out c n tuple) (to_put n) refl (ap (if_done (to_put n)) (none_is_done st c (to_put n) none)) (record { client = refl; number = refl; leave = refl; next = refl; size = omega arith; suits = λ fits. fits; suited = λ fits. fits })
 outcome_of form st c soft _ _ (taken n ticket id row none held) =
-    one (deeds.Take c n id) (to_take n) refl (ap (if_done (to_take n)) (none_is_done st c (to_take n) none)) (record { client = refl; number = refl; next = plus_none st.next; size = refl; suits = λ fits. fits; suited = λ fits. fits })
+    one (deeds.Take c n id) (to_take n) refl (ap (if_done (to_take n)) (none_is_done st c (to_take n) none)) (record { client = refl; number = refl; leave = taken_stays id (bag_after st [] id); next = plus_none st.next; size = refl; suits = λ fits. fits; suited = λ fits. fits })
 outcome_of form st c soft _ _ (passed n ticket id none held) =
-    one (deeds.Pass c n id) (to_take n) refl (ap (if_done (to_take n)) (none_is_done st c (to_take n) none)) (record { client = refl; number = refl; next = plus_none st.next; size = refl; suits = λ fits. fits; suited = λ fits. fits })
+    one (deeds.Pass c n id) (to_take n) refl (ap (if_done (to_take n)) (none_is_done st c (to_take n) none)) (record { client = refl; number = refl; leave = refl; next = plus_none st.next; size = refl; suits = λ fits. fits; suited = λ fits. fits })
+outcome_of form st c soft _ _ (left n none) =
+    one (deeds.Leave c n) (to_leave n) refl (ap (if_done (to_leave n)) (none_is_done st c (to_leave n) none)) (record { client = refl; number = refl; leave = refl; next = plus_none st.next; size = refl; suits = λ fits. fits; suited = λ fits. fits })
 
 -- ---- what a step comes to
 
@@ -105,10 +113,11 @@ told_of form st new c m deed is after (one d w some was_done asked) =
     numbers : numbers_of (done st d) ≡ numbers_after (numbers_of st) c (Some w)
     numbers = λ i. record {
       last = λ k. (
-          ap number_in (get_inserted st.book (client_of d) (number_of d, reply_of_deed st [] d) k)
-          ∙ number_of_cond (k == client_of d) (number_of d, reply_of_deed st [] d) (get st.book k)
-          ∙ ap (λ x. cond (k == x) (number_of d) (last_number st k)) asked.client
-          ∙ ap (λ x. cond (k == c) x (last_number st k)) asked.number
+          ap latest_in (get_inserted st.book (client_of d) (number_of d, reply_of_deed st [] d) k)
+          ∙ latest_of_cond (k == client_of d) (number_of d, reply_of_deed st [] d) (get st.book k)
+          ∙ ap (λ x. cond (k == x) (number_of d, is_left (reply_of_deed st [] d)) (latest_of st k)) asked.client
+          ∙ ap (λ x. cond (k == c) (x, is_left (reply_of_deed st [] d)) (latest_of st k)) asked.number
+          ∙ ap (λ x. cond (k == c) (w.n, x) (latest_of st k)) asked.leave
           ) i;
       clients = (len_kept st (client_of d) (number_of d, reply_of_deed st [] d) is ∙ ap (λ k. len st.book + cond (last_number st k == 0) 1 0) asked.client) i;
       next = asked.next i;

@@ -11,6 +11,8 @@ use Rattle.linda_hold.specs.declared.request.Request.{Request}
 use Rattle.linda_hold.specs.Request.{request_of}
 use Rattle.linda_hold.specs.Holds.{IsHeldAt}
 use Rattle.linda_wire.specs.declared.message.Message.{Message}
+use Rattle.linda_wire.specs.Refusal.{refused}
+use Rattle.linda_wire.specs.declared.refusal.Refusal.TheVariants as refusals
 use Rattle.linda_wire.specs.declared.message.Message.TheVariants as messages
 use Rattle.linda_state.specs.declared.deed.Deed.{Deed}
 use Rattle.linda_state.specs.State.{State, IsState}
@@ -19,10 +21,10 @@ use Rattle.linda_state.proofs.AfterLaws.{none_after, none_from_next}
 use Rattle.linda_state.proofs.DoneLaws.{done, done_after}
 use Rattle.linda_step.specs.Soft.{Soft}
 use Rattle.linda_step.specs.Looking.{IsLeast, passed_over}
-use Rattle.linda_step.specs.Dispatch.{on_cancel, on_close}
-use Rattle.linda_step.specs.Asking.{on_ask}
-use Rattle.linda_step.specs.Answer.{Answer, only_sends, only_reply, greeting, on_out, out_without_deed, on_accept, accept_without_deed, is_for, IsAnswer, IsStep}
-use Rattle.linda_step.specs.History.{Coming, says, leaves, Comes, History, Happens, nothing_yet, first_then}
+use Rattle.linda_step.specs.Dispatch.{Sends, on_cancel, on_close}
+use Rattle.linda_step.specs.Asking.{on_ask, only_sent}
+use Rattle.linda_step.specs.Answer.{Answer, only_sends, only_reply, greeting, on_out, out_without_deed, on_accept, accept_without_deed, on_leave, leave_without_deed, has_left, last_number, SaysAsk, is_for, IsAnswer, IsStep}
+use Rattle.linda_step.specs.History.{Coming, says, hangs_up, Comes, History, Happens, nothing_yet, first_then}
 use Rattle.linda_step.specs.Store.{IsOrderly}
 use Rattle.linda_step.proofs.ApartLaws.{same_request_is, same_request_yes}
 use Rattle.linda_step.proofs.OutcomeLaws.{came_orderly}
@@ -107,19 +109,26 @@ module _ (st : State) (is : IsState st) where
 
 -- ---- answers
 
+-- There is something to tell for an Ask.
+said_of : (gone : Bool) (st : State) (soft : Soft) (c ticket : ℕ) (remove : Bool) (shape : Template) → IsOrderly st soft → (told : Sends) × SaysAsk gone st c ticket remove shape soft told
+said_of true st soft c ticket remove shape orderly = (only_sent ((c, refused (refusals.Left (last_number st c))) ∷ []) soft, refl)
+said_of false st soft c ticket remove shape orderly =
+    let held = held_of st orderly.state_is soft orderly.soft_is.there (request_of c ticket) in
+    let least = least_of st orderly.state_is shape (passed_over remove soft.holds) in
+    (on_ask st.bag (request_of c ticket) remove shape held.0 least.0 soft, record { held = held.0; is_held = held.1; least = least.0; is_least = least.1; told_is = refl })
+
 answer_of : (st : State) (soft : Soft) (c : ℕ) (m : Message) → IsOrderly st soft → (answered : Answer) × IsAnswer st soft c m answered
 answer_of st soft c (messages.Hello version client fresh) orderly = (only_reply c (greeting st c version fresh) soft, refl)
 answer_of st soft c (messages.Out n tuple) orderly = (on_out st c n tuple (out_without_deed st c n) soft, refl)
 answer_of st soft c (messages.Accept n ticket id) orderly = (on_accept st c n ticket id (accept_without_deed st c n) soft, refl)
 answer_of st soft c (messages.Ask ticket remove shape) orderly =
-    let held = held_of st orderly.state_is soft orderly.soft_is.there (request_of c ticket) in
-    let least = least_of st orderly.state_is shape (passed_over remove soft.holds) in
-    let told = on_ask st.bag (request_of c ticket) remove shape held.0 least.0 soft in
-    (only_sends told, (told, (record { held = held.0; is_held = held.1; least = least.0; is_least = least.1; told_is = refl }, refl)))
+    let said = said_of (has_left st c) st soft c ticket remove shape orderly in
+    (only_sends said.0, (said.0, (said.1, refl)))
 answer_of st soft c (messages.Cancel ticket) orderly =
     let held = held_of st orderly.state_is soft orderly.soft_is.there (request_of c ticket) in
     let told = on_cancel st.bag (request_of c ticket) held.0 soft in
     (only_sends told, (told, (record { held = held.0; is_held = held.1; told_is = refl }, refl)))
+answer_of st soft c (messages.Leave n) orderly = (on_leave st c n (leave_without_deed st c n) soft, refl)
 
 -- Each message has an answer, and each list of things to come an outcome.
 pub step_of : (st : State) (soft : Soft) (c : ℕ) (m : Message) → IsOrderly st soft → (answered : Answer) × ((new : State) × IsStep st soft c m answered new)
@@ -130,7 +139,7 @@ step_of st soft c m orderly =
 
 coming_of : (st : State) (soft : Soft) (x : Coming) → IsOrderly st soft → (answered : Answer) × ((new : State) × Comes st soft x answered new)
 coming_of st soft (says c m) orderly = step_of st soft c m orderly
-coming_of st soft (leaves c) orderly = (only_sends (on_close st.bag c soft), (st, (refl, refl)))
+coming_of st soft (hangs_up c) orderly = (only_sends (on_close st.bag c soft), (st, (refl, refl)))
 
 pub outcome_of : (st : State) (soft : Soft) (xs : List Coming) → IsOrderly st soft → (all : History) × Happens st soft xs all
 outcome_of st soft [] orderly = (nothing_yet st soft, refl)

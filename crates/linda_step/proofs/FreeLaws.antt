@@ -15,9 +15,10 @@ use Rattle.linda_wire.specs.declared.reply.Reply.{Reply}
 use Rattle.linda_state.specs.declared.deed.Deed.{Deed}
 use Rattle.linda_state.specs.declared.deed.Deed.TheVariants as deeds
 use Rattle.linda_state.specs.Deed.{is_taken, outs_of}
-use Rattle.linda_state.specs.State.{State}
+use Rattle.linda_state.specs.State.{State, IsState}
 use Rattle.linda_state.specs.After.{IsAfter}
-use Rattle.linda_state.proofs.AfterLaws.{old_id, taken_id}
+use Rattle.linda_state.proofs.AfterLaws.{old_id, taken_id, one_after}
+use Rattle.linda_state.proofs.DoneLaws.{done, done_after}
 use Rattle.linda_step.specs.Soft.{Soft, Bagged}
 use Rattle.linda_step.specs.Looking.{is_held}
 use Rattle.linda_step.specs.Dispatch.{dispatch, held_for, release}
@@ -78,6 +79,11 @@ accepted_right st new c n id (Some taken) deed sends soft now starts is after ri
     ])
     rights
 
+-- A Leave changes neither the bag nor the next id.
+pub left_right : (st new : State) (c n : ℕ) (now : Soft) (starts : Starts) → IsState st → IsAfter st (deeds.Leave c n ∷ []) new → AreRight st.bag (is_held now.holds) st.next starts → AreRight new.bag (is_held now.holds) new.next starts
+left_right st new c n now starts is after rights =
+    subst (λ (s : State). AreRight s.bag (is_held now.holds) s.next starts) (one_after st (deeds.Leave c n ∷ []) (done st (deeds.Leave c n)) new (done_after st (deeds.Leave c n) is) after) rights
+
 -- Starts that were right stay so where one more tuple is held.
 pub holding_right : (bag : Bagged) (holds now : HeldFor) (id : ℕ) (request : Request) (next : ℕ) (starts : Starts) → now ≡ insert holds id request → AreRight bag (is_held holds) next starts → AreRight bag (is_held now) next starts
 holding_right bag holds now id request next starts is rights =
@@ -99,6 +105,10 @@ on_ok_both (Err e) p q then = tt
 pub if_ok_both : {A E R : Type 0} {P Q : A → Type 0} (r : Result A E) → IfOk r P → IfOk r Q → ((a : A) → P a → Q a → R) → OnOk r R
 if_ok_both (Ok a) p q then = then a p q
 if_ok_both (Err e) p q then = tt
+
+pub if_ok_two : {A E : Type 0} {P Q R : A → Type 0} (r : Result A E) → IfOk r P → IfOk r Q → ((a : A) → P a → Q a → R a) → IfOk r R
+if_ok_two (Ok a) p q then = then a p q
+if_ok_two (Err e) p q then = tt
 
 pub on_ok_any : {A E P : Type 0} (r : Result A E) → P → OnOk r P
 on_ok_any (Ok a) p = p

@@ -6,7 +6,7 @@ use Rattle.linda_step.specs.Soft.{Soft}
 use Rattle.linda_state.specs.After.{IsAfter}
 use Rattle.linda_state.specs.Proper.{IsProper}
 use Rattle.linda_step.specs.Answer.{Answer}
-use Rattle.linda_step.specs.History.{Coming, says, leaves, Comes, History, Happens}
+use Rattle.linda_step.specs.History.{Coming, says, hangs_up, Comes, History, Happens}
 use Rattle.linda_step.specs.Store.{IsOrderly}
 use Rattle.linda_step.specs.Promises.{IsSafe}
 use Rattle.linda_state.proofs.AfterLaws.{none_after}
@@ -27,7 +27,7 @@ came : (st mid new : State) (soft : Soft) (x : Coming) (ds : List Deed) (answere
 came st mid new soft (says c m) ds answered is stands step =
     let done = step_proper st mid new soft ds c m answered is stands.proper stands.after step in
     record { proper = done.0; after = done.1; orderly = step_orderly mid new soft c stands.orderly m answered step }
-came st mid new soft (leaves c) ds answered is stands closed =
+came st mid new soft (hangs_up c) ds answered is stands closed =
     subst (λ (s : State). Stands st (ds ++ option_to_list answered.deed) s answered.soft) (sym closed.1)
     (subst (λ (a : Answer). Stands st (ds ++ option_to_list a.deed) mid a.soft) (sym closed.0)
     (record {

@@ -14,14 +14,14 @@ use Rattle.linda_state.specs.declared.deed.Deed.TheVariants as deeds
 use Rattle.linda_state.specs.Deed.{client_of, number_of}
 use Rattle.linda_state.specs.State.{State, IsState}
 use Rattle.linda_step.specs.declared.judge.Demand.{Demand}
-use Rattle.linda_step.specs.Judge.{to_put, to_take, demand_of}
+use Rattle.linda_step.specs.Judge.{to_put, to_take, to_leave, demand_of}
 use Rattle.linda_step.specs.Soft.{Soft}
 use Rattle.linda_state.specs.After.{IsAfter, reply_of_deed, taken_reply}
-use Rattle.linda_step.specs.Answer.{Answer, reply_of_kept, on_out, IsStep}
+use Rattle.linda_step.specs.Answer.{Answer, reply_of_kept, on_out, on_leave, IsStep}
 use Rattle.linda_step.specs.Promises.{IsAnsweredAsKept}
 use Rattle.linda_state.proofs.AfterLaws.{none_after, one_after}
 use Rattle.linda_state.proofs.DoneLaws.{done, done_after}
-use Rattle.linda_step.proofs.AnswerCourse.{Course, unnumbered, turned_down, told_again, stored, taken, passed, course_of}
+use Rattle.linda_step.proofs.AnswerCourse.{Course, unnumbered, turned_down, told_again, stored, taken, passed, left, course_of}
 use Rattle.linda_step.proofs.AnswerLaws.{held_there}
 
 -- The first thing that is sent goes to the client, for this number of it, and it is what the book keeps.
@@ -67,6 +67,9 @@ module _ (st new : State) (c : ℕ) (is : IsState st) where
   pub passed_kept : (n id : ℕ) → IsAfter st (deeds.Pass c n id ∷ []) new → IsKeptFor c n ((c, replies.Gone n) ∷ []) new
   passed_kept n id after = kept_as (deeds.Pass c n id) n kept.Gone _ _ refl refl refl after refl
 
+  pub left_kept : (n : ℕ) (soft : Soft) → IsAfter st (deeds.Leave c n ∷ []) new → IsKeptFor c n (on_leave st c n None soft).sends new
+  left_kept n soft after = kept_as (deeds.Leave c n) n kept.Left _ _ refl refl refl after refl
+
   -- A message that does a deed is answered with the reply that is kept for its number.
   pub kept_by : (soft : Soft) (m : Message) (a : Answer) → Course st soft c m a → IsSome a.deed → IsAfter st (option_to_list a.deed) new → IsKeptBy c m a.sends new
   kept_by soft _ _ (unnumbered m told none answer) some after = absurd (true≢false (sym some))
@@ -76,6 +79,7 @@ module _ (st new : State) (c : ℕ) (is : IsState st) where
   kept_by soft _ _ (taken n ticket id row none held) some after =
       record { demand = to_take n; asked = refl; kept = taken_kept n id row (held_there st (request_of c ticket) id soft row held) after }
   kept_by soft _ _ (passed n ticket id none held) some after = record { demand = to_take n; asked = refl; kept = passed_kept n id after }
+  kept_by soft _ _ (left n none) some after = record { demand = to_leave n; asked = refl; kept = left_kept n soft after }
 
   -- A step that does a deed is answered with the reply that is kept for it.
   pub answered_as_kept : (soft : Soft) (m : Message) (answered : Answer) → IsStep st soft c m answered new → IsSome answered.deed → IsAnsweredAsKept c answered.sends new

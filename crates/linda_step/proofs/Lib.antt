@@ -7,7 +7,7 @@ pub mod DispatchLaws
 pub mod HistoryLaws
 pub mod KeptLaws
 pub mod LeastLaws
-pub mod LeaveLaws
+pub mod GivenUpLaws
 pub mod LookingLaws
 pub mod NumberLaws
 pub mod OrderLaws
@@ -26,3 +26,4 @@ pub mod ExistLaws
 pub mod JudgeLaws
 pub mod AnswerCourse
 pub mod FreeLaws
+pub mod PresentLaws

@@ -7,14 +7,14 @@ use Rattle.linda_wire.specs.declared.limits.TheConstants.{MAX_CLIENTS}
 use Rattle.linda_wire.specs.declared.limits.TheConstants.{NUMBER_LIMIT}
 use Rattle.linda_tuple.specs.Tuple.{Tuple}
 use Rattle.linda_book.specs.Entries.{Entry, number_in}
-use Rattle.linda_state.specs.declared.deed.Deed.TheVariants.{Out, Take, Pass}
+use Rattle.linda_state.specs.declared.deed.Deed.TheVariants.{Out, Take, Pass, Leave}
 use Rattle.linda_state.specs.State.{State, IsState}
 use Rattle.linda_state.specs.Proper.{IsAllowed}
 use Rattle.linda_step.specs.declared.judge.Demand.{Demand}
 use Rattle.linda_step.specs.declared.judge.Verdict.{Verdict}
 use Rattle.linda_step.specs.declared.judge.Verdict.TheVariants.{Refused, Repeated, Done}
-use Rattle.linda_step.specs.Judge.{to_put, to_take, judge}
-use Rattle.linda_step.specs.Answer.{last_number, standing_of, is_one_too_many, reply_by, without_deed, out_without_deed, accept_without_deed, reply_of_kept}
+use Rattle.linda_step.specs.Judge.{to_put, to_take, to_leave, judge}
+use Rattle.linda_step.specs.Answer.{last_number, standing_of, is_one_too_many, reply_by, without_deed, out_without_deed, accept_without_deed, leave_without_deed, reply_of_kept}
 use Rattle.linda_step.proofs.JudgeLaws.{IsFresh, IsVerdict, verdict_means}
 
 unmapped : {X Y : Type 0} (f : X → Y) (o : Option X) → option_map f o ≡ None → o ≡ None
@@ -68,6 +68,7 @@ module _ (st : State) (c n : ℕ) (is : IsState st) where
       let limits = or_parts (n == NUMBER_LIMIT) (st.next == NUMBER_LIMIT) found.unspent in
       record {
         number = found.number;
+        stays = found.stays;
         below = unspent_number found.number limits.0;
         client = room_for_new found.few;
         room = (at_most_but st.next NUMBER_LIMIT is.next_high (eqb-false st.next NUMBER_LIMIT limits.1), tt);
@@ -81,7 +82,18 @@ module _ (st : State) (c n : ℕ) (is : IsState st) where
     below = unspent_number found.number (or_parts (n == NUMBER_LIMIT) false found.unspent).0
 
     pub allowed_take : (id : ℕ) → IsSome (get st.bag id) → IsAllowed st (Take c n id)
-    allowed_take id there = record { number = found.number; below = below; client = room_for_new found.few; room = (tt, there) }
+    allowed_take id there = record { number = found.number; stays = found.stays; below = below; client = room_for_new found.few; room = (tt, there) }
 
     pub allowed_pass : (id : ℕ) → IsAllowed st (Pass c n id)
-    allowed_pass id = record { number = found.number; below = below; client = room_for_new found.few; room = (tt, tt) }
+    allowed_pass id = record { number = found.number; stays = found.stays; below = below; client = room_for_new found.few; room = (tt, tt) }
+
+  pub allowed_leave : leave_without_deed st c n ≡ None → IsAllowed st (Leave c n)
+  allowed_leave none =
+      let found : IsFresh (to_leave n) (standing_of st c) = fresh st c (to_leave n) none in
+      record {
+        number = found.number;
+        stays = found.stays;
+        below = unspent_number found.number (or_parts (n == NUMBER_LIMIT) false found.unspent).0;
+        client = room_for_new found.few;
+        room = (tt, tt);
+      }

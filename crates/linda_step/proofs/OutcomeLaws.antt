@@ -5,7 +5,7 @@ use Rattle.linda_state.specs.After.{IsAfter}
 use Rattle.linda_state.proofs.AfterLaws.{one_after}
 use Rattle.linda_step.specs.Soft.{Soft}
 use Rattle.linda_step.specs.Answer.{Answer}
-use Rattle.linda_step.specs.History.{Coming, says, leaves, Comes, History, Happens, first_then}
+use Rattle.linda_step.specs.History.{Coming, says, hangs_up, Comes, History, Happens, first_then}
 use Rattle.linda_step.specs.Store.{IsOrderly}
 use Rattle.linda_step.proofs.AnswerLaws.{one_answer}
 use Rattle.linda_step.proofs.OrderLaws.{step_orderly, close_orderly}
@@ -15,11 +15,11 @@ one_coming : (st : State) (soft : Soft) (x : Coming) (a b : Answer) (s t : State
 one_coming st soft (says c m) a b s t orderly first second =
     let same : a ≡ b = one_answer st soft c m a b orderly.soft_is.one_each first.answer second.answer in
     (same, one_after st (option_to_list b.deed) s t (subst (λ (x : Answer). IsAfter st (option_to_list x.deed) s) same first.state_is) second.state_is)
-one_coming st soft (leaves c) a b s t orderly first second = (first.0 ∙ sym second.0, first.1 ∙ sym second.1)
+one_coming st soft (hangs_up c) a b s t orderly first second = (first.0 ∙ sym second.0, first.1 ∙ sym second.1)
 
 pub came_orderly : (st new : State) (soft : Soft) (x : Coming) (a : Answer) → IsOrderly st soft → Comes st soft x a new → IsOrderly new a.soft
 came_orderly st new soft (says c m) a orderly step = step_orderly st new soft c orderly m a step
-came_orderly st new soft (leaves c) a orderly closed =
+came_orderly st new soft (hangs_up c) a orderly closed =
     subst (λ (s : State). IsOrderly s a.soft) (sym closed.1) (subst (λ (x : Answer). IsOrderly st x.soft) (sym closed.0) (close_orderly st soft c orderly))
 
 pub one_outcome : (st : State) (soft : Soft) (xs : List Coming) (a b : History) → IsOrderly st soft → Happens st soft xs a → Happens st soft xs b → a ≡ b

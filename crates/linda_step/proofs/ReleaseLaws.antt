@@ -140,7 +140,7 @@ among client k request owned (e ∷ es) found =
     or_right false b is = is
 
 -- No wait of a client is left when it is closed.
-closed_waits : (bag : Bagged) (client : ℕ) (soft : Soft) → list_any (λ w. client == w.0.client) (on_close bag client soft).soft.waits ≡ false
+pub closed_waits : (bag : Bagged) (client : ℕ) (soft : Soft) → list_any (λ w. client == w.0.client) (on_close bag client soft).soft.waits ≡ false
 closed_waits bag client soft =
     all_freed_keeps bag (λ s. list_any (λ (w : Wait). client == w.0.client) s.waits ≡ false)
     (λ id s none. freed_waits (λ w. client == w.0.client) bag id s none)

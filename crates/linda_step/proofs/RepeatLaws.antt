@@ -1,10 +1,10 @@
 -- A message that did a deed and comes again gets the reply that it got first.
-use Rattle.std.proofs.Common.{◌≡◌, ℕ, ◌<◌, ◌≤◌, Some, IfSome, IsSome, option_map, ap, ◌∙◌, subst, arith}
+use Rattle.std.proofs.Common.{◌≡◌, ℕ, Bool, ◌<◌, ◌≤◌, Some, IfSome, IsSome, option_map, ap, ◌∙◌, subst, arith}
 use Rattle.std.specs.FinMap.{get}
 use Rattle.linda_wire.specs.declared.limits.TheConstants.{NUMBER_LIMIT}
 use Rattle.linda_book.specs.declared.classes.Class.TheVariants.{Kept}
 use Rattle.linda_book.specs.declared.kept.KeptReply.{KeptReply}
-use Rattle.linda_book.specs.Entries.{Entry, number_in}
+use Rattle.linda_book.specs.Entries.{Entry, left_in, number_in}
 use Rattle.linda_book.specs.Classes.{class_of}
 use Rattle.linda_wire.specs.declared.message.Message.{Message}
 use Rattle.linda_state.specs.State.{State, IsState}
@@ -18,8 +18,8 @@ use Rattle.linda_step.proofs.AnswerLaws.{step_state}
 use Rattle.linda_step.proofs.KeptLaws.{IsKeptBy, kept_by}
 
 -- the last number, come again
-last_class : (n : ℕ) → 1 ≤ n → class_of n n ≡ Kept
-last_class n low = grind (arith)
+last_class : (n : ℕ) (left : Bool) → 1 ≤ n → class_of n left n ≡ Kept
+last_class n left low = grind (arith)
 
 module _ (new later : State) (c : ℕ) (d : Demand) (same : get later.book c ≡ get new.book c) (is : IsState new) where
   low : (e : Entry) → get new.book c ≡ Some e → 1 ≤ e.0
@@ -28,7 +28,7 @@ module _ (new later : State) (c : ℕ) (d : Demand) (same : get later.book c ≡
   -- there is a reply without a deed: the one that is kept
   kept_again : (reply : KeptReply) → get new.book c ≡ Some (d.n, reply) → without_deed later c d ≡ Some (reply_of_kept d.n reply)
   kept_again reply there =
-      ap (λ class. reply_by later c d.n (judge_class d (standing_of later c) class)) (ap (λ o. class_of (number_in o) d.n) (same ∙ there) ∙ last_class d.n (low (d.n, reply) there))
+      ap (λ class. reply_by later c d.n (judge_class d (standing_of later c) class)) (ap (λ o. class_of (number_in o) (left_in o) d.n) (same ∙ there) ∙ last_class d.n (left_in (Some (d.n, reply))) (low (d.n, reply) there))
       ∙ ap (option_map (λ (e : Entry). reply_of_kept d.n e.1)) (same ∙ there)
 
 -- A message that did a deed, and comes again while the client's entry is as that left it, gets the same reply, and nothing else is done.

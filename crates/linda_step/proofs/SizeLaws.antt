@@ -14,16 +14,15 @@ use Rattle.linda_step.specs.declared.judge.Verdict.{Verdict}
 use Rattle.linda_step.specs.declared.judge.Verdict.TheVariants.{Refused, Repeated, Done}
 use Rattle.linda_step.specs.Judge.{demand_of, judge}
 use Rattle.linda_step.proofs.JudgeLaws.{IsFresh, IsVerdict, verdict_means}
-use Rattle.linda_step.specs.Answer.{last_number}
-use Rattle.linda_step.specs.Size.{Numbers, if_done, done_by, done_of, deed_bytes, numbers_after, bytes_of, bytes_from, SuitsIfDone, Suits, AllSuit, last_behind}
+use Rattle.linda_step.specs.Size.{Latest, Numbers, latest_of, if_done, done_by, done_of, deed_bytes, numbers_after, bytes_of, bytes_from, SuitsIfDone, Suits, AllSuit, last_behind}
 
 -- ---- what was counted so far
 
 -- The numbers of a state where these clients have come to these numbers, and so many are kept, and this is the next id.
-abbrev pub numbers_behind : State → List (ℕ × ℕ) → ℕ → ℕ → Numbers
-numbers_behind st es clients next = record { last = λ c. last_behind es c (last_number st c); clients = clients; next = next }
+abbrev pub numbers_behind : State → List (ℕ × Latest) → ℕ → ℕ → Numbers
+numbers_behind st es clients next = record { last = λ c. last_behind es c (latest_of st c); clients = clients; next = next }
 
-last_of_more : (es : List (ℕ × ℕ)) (k n c last : ℕ) → last_behind (es ++ (k, n) ∷ []) c last ≡ cond (k == c) n (last_behind es c last)
+last_of_more : (es : List (ℕ × Latest)) (k : ℕ) (n : Latest) (c : ℕ) (last : Latest) → last_behind (es ++ (k, n) ∷ []) c last ≡ cond (k == c) n (last_behind es c last)
 last_of_more [] k n c last = refl
 last_of_more (e ∷ es) k n c last = last_of_more es k n c (cond (e.0 == c) e.1 last)
 
@@ -55,25 +54,25 @@ at_most_next next n limit true low unspent =
 at_most_next next n limit false low unspent = omega arith
 
 -- One more message was counted, which does a deed.
-module _ (form : Form) (st : State) (es fs : List (ℕ × ℕ)) (c : ℕ) (m : Message) (last clients next k x bytes total : ℕ) (d : Demand) (ms : List (ℕ × Message))
-    (last_is : last ≡ last_behind es c (last_number st c)) (done : Some d ≡ done_by (demand_of m) (record { last = last; clients = clients; next = next })) (fs_is : fs ≡ es ++ (c, d.n) ∷ [])
-    (k_is : k ≡ clients + cond (last == 0) 1 0) (x_is : x ≡ next + cond d.is_out 1 0) where
-  found : IsFresh d (record { last = last; clients = clients; next = next })
-  found = done_is (demand_of m) (record { last = last; clients = clients; next = next }) d done
+module _ (form : Form) (st : State) (es fs : List (ℕ × Latest)) (c : ℕ) (m : Message) (last : Latest) (clients next k x bytes total : ℕ) (d : Demand) (ms : List (ℕ × Message))
+    (last_is : last ≡ last_behind es c (latest_of st c)) (done : Some d ≡ done_by (demand_of m) (record { last = last.0; left = last.1; clients = clients; next = next })) (fs_is : fs ≡ es ++ (c, (d.n, d.is_leave)) ∷ [])
+    (k_is : k ≡ clients + cond (last.0 == 0) 1 0) (x_is : x ≡ next + cond d.is_out 1 0) where
+  found : IsFresh d (record { last = last.0; left = last.1; clients = clients; next = next })
+  found = done_is (demand_of m) (record { last = last.0; left = last.1; clients = clients; next = next }) d done
 
   pub clients_few : clients ≤ MAX_CLIENTS → k ≤ MAX_CLIENTS
-  clients_few few = subst (λ i. i ≤ MAX_CLIENTS) (sym k_is) (at_most_more clients MAX_CLIENTS (last == 0) few found.few)
+  clients_few few = subst (λ i. i ≤ MAX_CLIENTS) (sym k_is) (at_most_more clients MAX_CLIENTS (last.0 == 0) few found.few)
 
   pub next_low : next ≤ NUMBER_LIMIT → x ≤ NUMBER_LIMIT
   next_low low = subst (λ i. i ≤ NUMBER_LIMIT) (sym x_is) (at_most_next next d.n NUMBER_LIMIT d.is_out low found.unspent)
 
   same_done : done_of (numbers_behind st es clients next) c m ≡ Some d
-  same_done = ap (λ l. done_by (demand_of m) (record { last = l; clients = clients; next = next })) (sym last_is) ∙ sym done
+  same_done = ap (λ (l : Latest). done_by (demand_of m) (record { last = l.0; left = l.1; clients = clients; next = next })) (sym last_is) ∙ sym done
 
   same_numbers : numbers_after (numbers_behind st es clients next) c (Some d) ≡ numbers_behind st fs k x
   same_numbers = λ i. record {
-    last = λ q. (turned_test q c d.n (last_behind es q (last_number st q)) ∙ sym (last_of_more es c d.n q (last_number st q)) ∙ ap (λ l. last_behind l q (last_number st q)) (sym fs_is)) i;
-    clients = (ap (λ l. clients + cond (l == 0) 1 0) (sym last_is) ∙ sym k_is) i;
+    last = λ q. (turned_test q c (d.n, d.is_leave) (last_behind es q (latest_of st q)) ∙ sym (last_of_more es c (d.n, d.is_leave) q (latest_of st q)) ∙ ap (λ l. last_behind l q (latest_of st q)) (sym fs_is)) i;
+    clients = (ap (λ (l : Latest). clients + cond (l.0 == 0) 1 0) (sym last_is) ∙ sym k_is) i;
     next = sym x_is i;
   }
 
@@ -96,6 +95,32 @@ module _ (form : Form) (st : State) (es fs : List (ℕ × ℕ)) (c : ℕ) (m : M
   suit_back this rest =
       subst (λ o. SuitsIfDone form m o × AllSuit form (numbers_after (numbers_behind st es clients next) c o) ms) (sym same_done)
       (this, subst (λ ns. AllSuit form ns ms) (sym same_numbers) rest)
+
+-- Of what is done of a message, where all suit.
+pub suit_first : (form : Form) (st : State) (es : List (ℕ × Latest)) (c : ℕ) (m : Message) (last : Latest) (clients next : ℕ) (d : Demand) (ms : List (ℕ × Message))
+    → last ≡ last_behind es c (latest_of st c) → Some d ≡ done_by (demand_of m) (record { last = last.0; left = last.1; clients = clients; next = next })
+    → AllSuit form (numbers_behind st es clients next) ((c, m) ∷ ms) → Suits form m
+suit_first form st es c m last clients next d ms last_is done suit =
+    subst (SuitsIfDone form m) (ap (λ (l : Latest). done_by (demand_of m) (record { last = l.0; left = l.1; clients = clients; next = next })) (sym last_is) ∙ sym done) suit.0
+
+none_more : (a b : ℕ) → a + (0 + b) ≡ a + b
+none_more a b = omega arith
+
+-- One more message was looked at, of which nothing is done.
+module _ (form : Form) (st : State) (es : List (ℕ × Latest)) (c : ℕ) (m : Message) (last : Latest) (clients next : ℕ) (ms : List (ℕ × Message))
+    (last_is : last ≡ last_behind es c (latest_of st c)) (undone : None ≡ done_by (demand_of m) (record { last = last.0; left = last.1; clients = clients; next = next })) where
+  same_undone : done_of (numbers_behind st es clients next) c m ≡ None
+  same_undone = ap (λ (l : Latest). done_by (demand_of m) (record { last = l.0; left = l.1; clients = clients; next = next })) (sym last_is) ∙ sym undone
+
+  pub passed_on : (bytes total : ℕ) → total ≡ bytes + bytes_from form (numbers_behind st es clients next) ((c, m) ∷ ms)
+      → total ≡ bytes + bytes_from form (numbers_behind st es clients next) ms
+  passed_on bytes total all = all ∙ ap (λ o. bytes + (bytes_of form m o + bytes_from form (numbers_after (numbers_behind st es clients next) c o) ms)) same_undone ∙ none_more bytes _
+
+  pub suit_passed : AllSuit form (numbers_behind st es clients next) ((c, m) ∷ ms) → AllSuit form (numbers_behind st es clients next) ms
+  suit_passed suit = (subst (λ o. SuitsIfDone form m o × AllSuit form (numbers_after (numbers_behind st es clients next) c o) ms) same_undone suit).1
+
+  pub suit_before : AllSuit form (numbers_behind st es clients next) ms → AllSuit form (numbers_behind st es clients next) ((c, m) ∷ ms)
+  suit_before rest = subst (λ o. SuitsIfDone form m o × AllSuit form (numbers_after (numbers_behind st es clients next) c o) ms) (sym same_undone) (tt, rest)
 
 -- The items from one on.
 pub first_of : {A : Type 0} (xs : List A) (i : ℕ) (x : A) → i < length xs → x ≡ get_or xs i x → drop i xs ≡ x ∷ drop (i + 1) xs

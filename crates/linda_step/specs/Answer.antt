@@ -1,5 +1,5 @@
 -- What a server answers to one message: the deed, if it does one, what it sends, and what it holds and lets wait.
-use Rattle.std.specs.Prelude.{◌≡◌, ℕ, Bool, ◌==◌, false, nat_lt, not, ◌&&◌, if◌then◌else◌}
+use Rattle.std.specs.Prelude.{◌≡◌, ℕ, Bool, ◌==◌, true, false, nat_lt, not, ◌&&◌, if◌then◌else◌}
 use Rattle.std.specs.Prelude.{List, [], ◌∷◌, Option, Some, None, option_to_list}
 use Rattle.std.specs.FinMap as map
 use Rattle.std.specs.Option.{option_map}
@@ -9,13 +9,14 @@ use Rattle.linda_wire.specs.declared.limits.TheConstants.{VERSION}
 use Rattle.linda_wire.specs.Refusal.{refused}
 use Rattle.linda_wire.specs.declared.refusal.Refusal.TheVariants as refusals
 use Rattle.linda_tuple.specs.Tuple.{Tuple}
+use Rattle.linda_tuple.specs.Template.{Template}
 use Rattle.linda_wire.specs.declared.message.Message.{Message}
 use Rattle.linda_wire.specs.declared.message.Message.TheVariants as messages
 use Rattle.linda_wire.specs.declared.reply.Reply.{Reply}
 use Rattle.linda_wire.specs.declared.reply.Reply.TheVariants as replies
 use Rattle.linda_book.specs.declared.kept.KeptReply.{KeptReply}
 use Rattle.linda_book.specs.declared.kept.KeptReply.TheVariants as kept
-use Rattle.linda_book.specs.Entries.{Entry, number_in}
+use Rattle.linda_book.specs.Entries.{Entry, left_in, number_in}
 use Rattle.linda_state.specs.declared.deed.Deed.{Deed}
 use Rattle.linda_state.specs.declared.deed.Deed.TheVariants as deeds
 use Rattle.linda_state.specs.State.{State}
@@ -24,10 +25,10 @@ use Rattle.linda_step.specs.declared.judge.Demand.{Demand}
 use Rattle.linda_step.specs.declared.judge.Standing.{Standing}
 use Rattle.linda_step.specs.declared.judge.Verdict.{Verdict}
 use Rattle.linda_step.specs.declared.judge.Verdict.TheVariants.{Refused, Repeated, Done}
-use Rattle.linda_step.specs.Judge.{to_put, to_take, has_no_place, judge}
+use Rattle.linda_step.specs.Judge.{to_put, to_take, to_leave, has_no_place, judge}
 use Rattle.linda_step.specs.Soft.{Soft}
-use Rattle.linda_step.specs.Dispatch.{Sends, dispatch}
-use Rattle.linda_step.specs.Asking.{AnswersAsk, AnswersCancel}
+use Rattle.linda_step.specs.Dispatch.{Sends, dispatch, on_close}
+use Rattle.linda_step.specs.Asking.{AnswersAsk, AnswersCancel, only_sent}
 
 -- A deed or none; the replies with the clients that they go to, in order; and the holds and waits behind it.
 pub record Answer : Type 0 where
@@ -48,14 +49,20 @@ abbrev pub reply_of_kept : ℕ → KeptReply → Reply
 reply_of_kept n (kept.Stored id) = replies.Stored n id
 reply_of_kept n (kept.Taken id tuple) = replies.Taken n id tuple
 reply_of_kept n kept.Gone = replies.Gone n
+reply_of_kept n kept.Left = replies.Left n
 
 -- the number that is kept for the client, 0 if there is none
 abbrev pub last_number : State → ℕ → ℕ
 last_number st c = number_in (map.get st.book c)
 
--- the numbers that a verdict on the client's message hangs on
+-- whether the client left
+abbrev pub has_left : State → ℕ → Bool
+has_left st c = left_in (map.get st.book c)
+
+-- what a verdict on the client's message hangs on
 abbrev pub standing_of : State → ℕ → Standing
-standing_of st c = record { last = last_number st c; clients = map.len st.book; next = st.next }
+standing_of st c =
+    record { last = last_number st c; left = has_left st c; clients = map.len st.book; next = st.next }
 
 -- whether the client is new and no more clients are kept
 abbrev pub is_one_too_many : State → ℕ → Bool
@@ -84,6 +91,9 @@ out_without_deed st c n = without_deed st c (to_put n)
 
 abbrev pub accept_without_deed : State → ℕ → ℕ → Option Reply
 accept_without_deed st c n = without_deed st c (to_take n)
+
+abbrev pub leave_without_deed : State → ℕ → ℕ → Option Reply
+leave_without_deed st c n = without_deed st c (to_leave n)
 
 -- The answer to an Out, given the reply where it makes no deed. Where it does, the tuple is put under the next id,
 -- and the client's reply comes before those to others.
@@ -123,6 +133,20 @@ abbrev pub on_accept : State → ℕ → ℕ → ℕ → ℕ → Option Reply �
 on_accept st c n ticket id (Some reply) soft = only_reply c reply soft
 on_accept st c n ticket id None soft = take_or_pass c n id (held_tuple st (request_of c ticket) id soft) soft
 
+-- The answer to a Leave, given the reply where it makes no deed. Where it does, the client's reply comes first, and then
+-- all that it asked is given up, as where its connection ends.
+abbrev pub on_leave : State → ℕ → ℕ → Option Reply → Soft → Answer
+on_leave st c n (Some reply) soft = only_reply c reply soft
+on_leave st c n None soft =
+    let told : Sends = on_close st.bag c soft in
+    record { deed = Some (deeds.Leave c n); sends = (c, replies.Left n) ∷ told.sends; soft = told.soft }
+
+-- What is told for an Ask, given whether the client left: it is refused, before all else that an Ask may come to.
+abbrev pub SaysAsk : Bool → State → ℕ → ℕ → Bool → Template → Soft → Sends → Type 0
+SaysAsk true st c ticket remove template soft told =
+    told ≡ only_sent ((c, refused (refusals.Left (last_number st c))) ∷ []) soft
+SaysAsk false st c ticket remove template soft told = AnswersAsk st.bag (request_of c ticket) remove template soft told
+
 -- an answer without a deed that tells what this says
 abbrev pub Tells : (Sends → Type 0) → Answer → Type 0
 Tells says answered = (told : Sends) × (says told × (answered ≡ only_sends told))
@@ -136,9 +160,10 @@ IsAnswer st soft c (messages.Out n tuple) answered =
 IsAnswer st soft c (messages.Accept n ticket id) answered =
     answered ≡ on_accept st c n ticket id (accept_without_deed st c n) soft
 IsAnswer st soft c (messages.Ask ticket remove template) answered =
-    Tells (AnswersAsk st.bag (request_of c ticket) remove template soft) answered
+    Tells (SaysAsk (has_left st c) st c ticket remove template soft) answered
 IsAnswer st soft c (messages.Cancel ticket) answered =
     Tells (AnswersCancel st.bag (request_of c ticket) soft) answered
+IsAnswer st soft c (messages.Leave n) answered = answered ≡ on_leave st c n (leave_without_deed st c n) soft
 
 -- One step of a server: this is the answer, and the new state is the old one after its deed.
 pub record IsStep (st : State) (soft : Soft) (c : ℕ) (m : Message) (answered : Answer) (new : State) : Type 0 where

@@ -11,12 +11,12 @@ use Rattle.linda_step.specs.Answer.{Answer, only_sends, IsStep}
 -- What may come: a message of a client, or the end of a client's connection.
 pub data Coming : Type 0 where
   says : ℕ → Message → Coming
-  leaves : ℕ → Coming
+  hangs_up : ℕ → Coming
 
 -- What that leads to: a message is one step; a client that leaves is closed, which does no deed.
 abbrev pub Comes : State → Soft → Coming → Answer → State → Type 0
 Comes st soft (says c m) answered new = IsStep st soft c m answered new
-Comes st soft (leaves c) answered new = (answered ≡ only_sends (on_close st.bag c soft)) × (new ≡ st)
+Comes st soft (hangs_up c) answered new = (answered ≡ only_sends (on_close st.bag c soft)) × (new ≡ st)
 
 -- All that was done and sent, and the server then.
 pub record History : Type 0 where

@@ -1,5 +1,5 @@
--- What is done about a numbered message. That hangs on numbers alone: its own, the last one of its client, how many
--- clients are kept, and the next id.
+-- What is done about a numbered message. That hangs on numbers alone, and on whether its client left: its own number, the
+-- last one of its client, how many clients are kept, and the next id.
 use Rattle.std.specs.Prelude.{ℕ, Bool, true, false, ◌==◌, nat_le, ◌&&◌, ◌||◌, if◌then◌else◌, Option, Some, None}
 use Rattle.std.specs.Option.{option_map}
 use Rattle.linda_wire.specs.declared.limits.TheConstants.{MAX_CLIENTS, NUMBER_LIMIT}
@@ -14,12 +14,15 @@ use Rattle.linda_step.specs.declared.judge.Standing.{Standing}
 use Rattle.linda_step.specs.declared.judge.Verdict.{Verdict}
 use Rattle.linda_step.specs.declared.judge.Verdict.TheVariants.{Refused, Repeated, Done}
 
--- what an Out of this number asks for, and what an Accept does
+-- what an Out of this number asks for, what an Accept does, and what a Leave
 abbrev pub to_put : ℕ → Demand
-to_put n = record { n = n; is_out = true }
+to_put n = record { n = n; is_out = true; is_leave = false }
 
 abbrev pub to_take : ℕ → Demand
-to_take n = record { n = n; is_out = false }
+to_take n = record { n = n; is_out = false; is_leave = false }
+
+abbrev pub to_leave : ℕ → Demand
+to_leave n = record { n = n; is_out = false; is_leave = true }
 
 -- what a message asks for, where it bears a number
 abbrev pub demand_of : Message → Option Demand
@@ -27,6 +30,7 @@ demand_of (messages.Hello version client fresh) = None
 demand_of (messages.Out n tuple) = Some (to_put n)
 demand_of (messages.Ask ticket remove template) = None
 demand_of (messages.Accept n ticket id) = Some (to_take n)
+demand_of (messages.Leave n) = Some (to_leave n)
 demand_of (messages.Cancel ticket) = None
 
 -- the number in what is asked for, and so the number that a message bears, if it bears one
@@ -55,9 +59,10 @@ judge_fresh d at =
 abbrev pub judge_class : Demand → Standing → Class → Verdict
 judge_class d at (classes.Old last) = Refused (refusals.Old last)
 judge_class d at classes.Kept = Repeated
+judge_class d at (classes.Left last) = Refused (refusals.Left last)
 judge_class d at (classes.Gap last) = Refused (refusals.Gap last)
 judge_class d at classes.Fresh = judge_fresh d at
 
 -- The verdict on a numbered message.
 abbrev pub judge : Demand → Standing → Verdict
-judge d at = judge_class d at (class_of at.last d.n)
+judge d at = judge_class d at (class_of at.last at.left d.n)

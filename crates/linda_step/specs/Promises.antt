@@ -44,6 +44,6 @@ abbrev pub IsOver : Request → Soft → Type 0
 IsOver request soft = (is_waiting request soft.waits ≡ false) × IsHeldAt soft.holds request None
 
 -- A client has left: all its requests are over, and nothing was sent to it.
-pub record HasLeft (client : ℕ) (told : Sends) : Type 0 where
+pub record IsClosed (client : ℕ) (told : Sends) : Type 0 where
   pub requests : (ticket : ℕ) → IsOver (request_of client ticket) told.soft
   pub silent : All (λ (send : ℕ × Reply). send.0 ≢ client) told.sends

@@ -1,5 +1,5 @@
 -- What a server keeps in memory alone: which tuple is held for which request, and the requests that wait.
-use Rattle.std.specs.Prelude.{◌≡◌, ℕ, ◌+◌, ◌≤◌, List, [], length, Some, All, IsSome}
+use Rattle.std.specs.Prelude.{◌≡◌, ℕ, ◌+◌, ◌≤◌, List, [], length, Some, All, IfSome, IsSome}
 use Rattle.std.specs.Ordering.{nat_cmp}
 use Rattle.std.specs.FinMap as map
 use Rattle.linda_wire.specs.declared.limits.TheConstants.{MAX_ASKS}
@@ -23,6 +23,11 @@ no_asks = record { holds = map.empty; waits = [] }
 -- how many asks of a client are open: those that wait and those for which a tuple is held
 abbrev pub open_asks : ℕ → Soft → ℕ
 open_asks client soft = length (waits_of client soft.waits) + length (held_in client (map.entries soft.holds))
+
+-- P holds of the client of each request that waits or for which a tuple is held.
+pub record OfAsking (P : ℕ → Type 0) (soft : Soft) : Type 0 where
+  pub waits : All (λ (w : Wait). P w.0.client) soft.waits
+  pub holds : (id : ℕ) → IfSome (map.get soft.holds id) (λ request. P request.client)
 
 -- No request waits and holds.
 abbrev pub AreApart : Soft → Type 0

@@ -1,17 +1,24 @@
 -- A store as contracts see it.
-use Rattle.std.specs.Prelude.{Bool, refl}
+use Rattle.std.specs.Prelude.{◌≡◌, ℕ, Bool, false, refl}
 use Rattle.std.specs.Coded.{Coded, code_by, coded×, coded_bool}
 use Rattle.linda_state.specs.State.{State, IsState}
-use Rattle.linda_step.specs.Soft.{Soft, IsSoft}
+use Rattle.linda_step.specs.Soft.{Soft, IsSoft, OfAsking}
 use Rattle.linda_step.specs.Looking.{IsAtRest}
+use Rattle.linda_step.specs.Answer.{has_left}
 use Rattle.linda_state.specs.Codes.{state_code}
 use Rattle.linda_step.specs.Codes.{soft_code}
 
--- What every store keeps: its state, its holds and its waits are in their ranges, and nobody waits in vain.
+-- The client has not left.
+abbrev pub IsHere : State → ℕ → Type 0
+IsHere st c = has_left st c ≡ false
+
+-- What every store keeps: its state, its holds and its waits are in their ranges, nobody waits in vain, and no client
+-- that left holds anything or waits.
 pub record IsOrderly (st : State) (soft : Soft) : Type 0 where
   pub state_is : IsState st
   pub soft_is : IsSoft st.bag soft
   pub rest : IsAtRest st.bag soft
+  pub present : OfAsking (IsHere st) soft
 
 -- The state of a server, what it holds and lets wait, and whether the store came to want of memory, after which it does
 -- nothing more.

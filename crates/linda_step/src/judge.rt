@@ -1,4 +1,4 @@
-//! What is done about a numbered message: that hangs on numbers alone.
+//! What is done about a numbered message: that hangs on numbers alone, and on whether its client left.
 
 ghost use Rattle.std.specs.Prelude.{◌≡◌};
 ghost use Rattle.linda_step.specs.Answer.{standing_of};
@@ -16,6 +16,8 @@ pub(crate) struct Demand {
     pub(crate) n: u64,
     /// Whether it puts a tuple.
     pub(crate) is_out: bool,
+    /// Whether it gives the client's number up.
+    pub(crate) is_leave: bool,
 }
 
 impl Demand {
@@ -23,22 +25,43 @@ impl Demand {
     pub(crate) fn to_put(n: u64) -> Demand
         ensures { result ≡ spec.to_put n }
     {
-        Demand { n, is_out: true }
+        Demand {
+            n,
+            is_out: true,
+            is_leave: false,
+        }
     }
 
     /// What an Accept of this number asks for.
     pub(crate) fn to_take(n: u64) -> Demand
         ensures { result ≡ spec.to_take n }
     {
-        Demand { n, is_out: false }
+        Demand {
+            n,
+            is_out: false,
+            is_leave: false,
+        }
+    }
+
+    /// What a Leave of this number asks for.
+    pub(crate) fn to_leave(n: u64) -> Demand
+        ensures { result ≡ spec.to_leave n }
+    {
+        Demand {
+            n,
+            is_out: false,
+            is_leave: true,
+        }
     }
 }
 
-/// The numbers that a verdict hangs on, beside that of the message.
+/// What a verdict hangs on, beside the number of the message.
 #[derive(Clone, Copy)]
 pub(crate) struct Standing {
     /// The last number that is kept for the client, 0 if there is none.
     pub(crate) last: u64,
+    /// Whether the client left by it.
+    pub(crate) left: bool,
     /// How many clients are kept.
     pub(crate) clients: usize,
     /// The next id.
@@ -50,8 +73,10 @@ impl Standing {
     pub(crate) fn of<B: Bag>(state: &State<B>, client: u32) -> Standing
         ensures { result ≡ standing_of state.now client }
     {
+        let (last, left) = state.book.standing(client);
         Standing {
-            last: state.book.last(client),
+            last,
+            left,
             clients: state.book.len(),
             next: state.next,
         }
@@ -76,6 +101,7 @@ pub(crate) fn demand_of(message: &Message) -> Option<Demand>
     match message {
         Message::Out { n, .. } => Some(Demand::to_put(*n)),
         Message::Accept { n, .. } => Some(Demand::to_take(*n)),
+        Message::Leave { n } => Some(Demand::to_leave(*n)),
         Message::Hello { .. } | Message::Ask { .. } | Message::Cancel { .. } => None,
     }
 }
@@ -84,9 +110,10 @@ pub(crate) fn demand_of(message: &Message) -> Option<Demand>
 pub(crate) fn judge(demand: Demand, at: Standing) -> Verdict
     ensures { result ≡ spec.judge demand at }
 {
-    match class_of(at.last, demand.n) {
+    match class_of(at.last, at.left, demand.n) {
         Class::Old(last) => Verdict::Refused(Refusal::Old(last)),
         Class::Kept => Verdict::Repeated,
+        Class::Left(last) => Verdict::Refused(Refusal::Left(last)),
         Class::Gap(last) => Verdict::Refused(Refusal::Gap(last)),
         Class::Fresh => judge_fresh(demand, at),
     }

@@ -21,5 +21,6 @@ pub(crate) fn to_reply(kept: &KeptReply, alloc: Global, n: u64) -> Result<Reply,
             tuple: tuple.try_clone(alloc)?,
         }),
         KeptReply::Gone => Ok(Reply::Gone { n }),
+        KeptReply::Left => Ok(Reply::Left { n }),
     }
 }

@@ -15,7 +15,7 @@ ghost use Rattle.linda_step.specs.Answer.{Answer, IsAnswer, IsStep};
 ghost use Rattle.linda_step.specs.History.{Coming, History, Happens, Answers};
 ghost use Rattle.linda_step.specs.Course.{Turn, Endures};
 ghost use Rattle.linda_step.specs.Store.{IsOrderly};
-ghost use Rattle.linda_step.specs.Promises.{IsAnsweredAsKept, IsAnsweredAgain, IsSafe, IsOver, HasLeft};
+ghost use Rattle.linda_step.specs.Promises.{IsAnsweredAsKept, IsAnsweredAgain, IsSafe, IsOver, IsClosed};
 
 /// The deeds of steps, one after another, are a proper list, and the state is the one after them.
 pub fn steps_do_proper_lists()
@@ -92,7 +92,7 @@ pub fn a_cancelled_request_is_over()
 {}
 
 /// A client that is closed has no request that waits or holds, and nothing is sent to it.
-pub fn a_closed_client_has_left()
+pub fn a_closed_client_asks_nothing()
     ensures { (bag : Bagged) (client : ℕ) (soft : Soft)
-        → IsSoft bag soft → HasLeft client (on_close bag client soft) }
+        → IsSoft bag soft → IsClosed client (on_close bag client soft) }
 {}

@@ -1,8 +1,8 @@
 //! How many bytes the deeds of messages will spell in a form, and whether each has a spelling there, told without doing
 //! them.
 //!
-//! Whether a message does a deed hangs on numbers alone: the last number of its client, how many clients are
-//! kept, and the next id. So these are counted on from message to message.
+//! Whether a message does a deed hangs on numbers alone, and on whether its client left: the last number of its client,
+//! how many clients are kept, and the next id. So these are counted on from message to message.
 
 ghost use Rattle.std.specs.Prelude.{◌≡◌, ◌≤◌, ◌∷◌, [], length, IfSome, IfNone};
 ghost use Rattle.linda_state.specs.declared.limits.TheConstants.{MAX_DEED_BYTES};
@@ -13,7 +13,7 @@ ghost use Rattle.linda_step.specs.Size.{bytes_from, numbers_of, AllSuit, Suits};
 
 use crate::judge::{self, Demand, Standing, Verdict};
 use linda_bag::Bag;
-use linda_state::{HEAD_BYTES, ID_BYTES, State, tuple_len};
+use linda_state::{HEAD_BYTES, ID_BYTES, State, has_leaves, tuple_len};
 use linda_tuple::{Form, fits};
 use linda_wire::Message;
 
@@ -33,15 +33,16 @@ pub(crate) fn bytes_of<B: Bag>(
     ensures suit { IfSome result (λ bytes. AllSuit form (numbers_of state.now) messages.now) }
     ensures none { IfNone result (AllSuit form (numbers_of state.now) messages.now → ⊥) }
 {
-    let mut lasts = [(0, 0); MAX_BATCH];
+    let mut lasts = [(0, (0, false)); MAX_BATCH];
     let mut count = 0;
     let mut clients = state.book.len();
     let mut next = state.next;
     let mut bytes = 0;
     for (client, message) in messages {
-        let last = last_behind(&lasts[..count], *client, state.book.last(*client));
+        let (last, left) = last_behind(&lasts[..count], *client, state.book.standing(*client));
         let at = Standing {
             last,
+            left,
             clients,
             next,
         };
@@ -49,7 +50,7 @@ pub(crate) fn bytes_of<B: Bag>(
             continue;
         };
         let size = deed_bytes(form, message)?;
-        lasts[count] = (*client, done.n);
+        lasts[count] = (*client, (done.n, done.is_leave));
         count += 1;
         clients += usize::from(last == 0);
         next += u64::from(done.is_out);
@@ -101,18 +102,24 @@ fn deed_bytes(form: Form, message: &Message) -> Option<usize>
             }
             Some(HEAD_BYTES + tuple_len(form, tuple))
         }
+        Message::Leave { .. } => {
+            if !has_leaves(form) {
+                return None;
+            }
+            Some(HEAD_BYTES)
+        }
         _ => Some(HEAD_BYTES + ID_BYTES),
     }
 }
 
-// The last number of the client behind these, each a client with its number; or else this one.
-fn last_behind(lasts: &[(u32, u64)], client: u32, last: u64) -> u64
+// What is last of the client behind these, each a client with its number and whether it left; or else this one.
+fn last_behind(lasts: &[(u32, (u64, bool))], client: u32, last: (u64, bool)) -> (u64, bool)
     ensures { result ≡ spec.last_behind lasts.now client last }
 {
     match lasts {
         [] => last,
-        [(other, n), rest @ ..] => {
-            let last = if *other == client { *n } else { last };
+        [(other, latest), rest @ ..] => {
+            let last = if *other == client { *latest } else { last };
             last_behind(rest, client, last)
         }
     }

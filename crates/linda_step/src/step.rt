@@ -14,7 +14,7 @@ use crate::soft::Soft;
 use linda_bag::{Bag, Starts};
 use linda_hold::Request;
 use linda_state::{Deed, State};
-use linda_wire::{Message, Reply};
+use linda_wire::{Message, Refusal, Reply};
 use std::alloc::{AllocError, Global};
 
 /// What one message came to.
@@ -76,11 +76,21 @@ pub(crate) fn answer_message<B: Bag>(
                 None => deed::accept(state, soft, alloc, client, *n, *ticket, *id),
             }
         }
+        Message::Leave { n } => {
+            match reply::without_deed(state, alloc, client, Demand::to_leave(*n))? {
+                Some(reply) => only_reply(alloc, client, reply),
+                None => deed::leave(state, soft, starts, alloc, client, *n),
+            }
+        }
         Message::Ask {
             ticket,
             remove,
             template,
         } => {
+            let (last, left) = state.book.standing(client);
+            if left {
+                return only_reply(alloc, client, Refusal::Left(last).reply());
+            }
             let ticket = *ticket;
             let request = Request { client, ticket };
             Ok(only_sends(soft.ask(

@@ -10,7 +10,7 @@ use Rattle.linda_step.specs.Dispatch.{on_close}
 use Rattle.linda_state.specs.After.{IsAfter}
 use Rattle.linda_state.specs.Proper.{IsProper}
 use Rattle.linda_step.specs.Answer.{Answer}
-use Rattle.linda_step.specs.History.{Coming, says, leaves, Comes, History, Happens}
+use Rattle.linda_step.specs.History.{Coming, says, hangs_up, Comes, History, Happens}
 use Rattle.linda_step.specs.Store.{IsOrderly}
 use Rattle.linda_state.proofs.StateLaws.{empty_is_state}
 use Rattle.linda_state.proofs.AfterLaws.{joined_after}
@@ -69,7 +69,7 @@ came mid new soft (says c m) ds before answered stands step =
           (backed_later ds (option_to_list answered.deed) before stands.backed)
           (kept_backed (ds ++ option_to_list answered.deed) new answered.sends done.1 (step_backed mid new soft c m answered stands.orderly.state_is step));
     }
-came mid new soft (leaves c) ds before answered stands closed =
+came mid new soft (hangs_up c) ds before answered stands closed =
     subst (λ (s : State). Stands (ds ++ option_to_list answered.deed) s answered.soft (before ++ answered.sends)) (sym closed.1)
     (subst (λ (a : Answer). Stands (ds ++ option_to_list a.deed) mid a.soft (before ++ a.sends)) (sym closed.0)
     (subst (λ l. Stands l mid (on_close mid.bag c soft).soft (before ++ (on_close mid.bag c soft).sends)) (sym (append-nil ds))
@@ -164,12 +164,12 @@ module _ (ds : List Deed) (old : Node) (sound : IsSound ds old) where
 
   -- So does a close, and what it sends tells only of its deeds.
   pub closes_sound : (c : ℕ) (answer : NodeAnswer) (new : Node) → Closes old c answer new → IsSound ds new
-  closes_sound c (Sent sends) new done = subst (λ l. IsSound l new) (append-nil ds) (works_sound (leaves c ∷ []) (Sent sends) [] new done)
+  closes_sound c (Sent sends) new done = subst (λ l. IsSound l new) (append-nil ds) (works_sound (hangs_up c ∷ []) (Sent sends) [] new done)
   closes_sound c IsFull new never = absurd never
-  closes_sound c IsDown new went = went_down (leaves c ∷ []) new went
+  closes_sound c IsDown new went = went_down (hangs_up c ∷ []) new went
 
   pub closes_backed : (c : ℕ) (sends : List (ℕ × Reply)) (new : Node) → Closes old c (Sent sends) new → AreBacked ds sends
-  closes_backed c sends new done = subst (λ l. AreBacked l sends) (append-nil ds) (works_backed (leaves c ∷ []) sends [] new done)
+  closes_backed c sends new done = subst (λ l. AreBacked l sends) (append-nil ds) (works_backed (hangs_up c ∷ []) sends [] new done)
 
   -- So does a snapshot.
   pub snaps_sound : {A : Type 0} (answer : Result A NodeFault) (new : Node) → Snaps old answer new → IsSound ds new

@@ -7,7 +7,7 @@ use Rattle.linda_state.specs.declared.deed.Deed.{Deed}
 use Rattle.linda_state.specs.State.{State}
 use Rattle.linda_state.specs.After.{IsAfter}
 use Rattle.linda_step.specs.Soft.{Soft, no_asks}
-use Rattle.linda_step.specs.History.{Coming, says, leaves, History, Happens, comings, history_of}
+use Rattle.linda_step.specs.History.{Coming, says, hangs_up, History, Happens, comings, history_of}
 use Rattle.linda_step.specs.Course.{IsFront}
 use Rattle.linda_store.specs.declared.work.Work.{Work}
 use Rattle.linda_store.specs.declared.work.Work.TheVariants as works
@@ -86,9 +86,9 @@ HandlesAll old ms answer new = (ds : List Deed) × Works old (comings ms) answer
 
 -- What a node may answer to the closing of a client, which makes no deed, and where that leaves it; it is never full.
 abbrev pub Closes : Node → ℕ → NodeAnswer → Node → Type 0
-Closes old c (Sent sends) new = IsDone old (leaves c ∷ []) [] sends new
+Closes old c (Sent sends) new = IsDone old (hangs_up c ∷ []) [] sends new
 Closes old c IsFull new = ⊥
-Closes old c IsDown new = WentDown old (leaves c ∷ []) new
+Closes old c IsDown new = WentDown old (hangs_up c ∷ []) new
 
 -- What a node may answer where it is to write a snapshot, and where that leaves it: unless it goes down nothing
 -- changes.

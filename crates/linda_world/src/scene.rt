@@ -5,7 +5,7 @@ ghost use Rattle.std.specs.Prelude.{map as map_list};
 ghost use Rattle.std.specs.Option.{option_map};
 ghost use Rattle.std.specs.List.{slice_get};
 ghost use Rattle.std.specs.FinMap as map;
-ghost use Rattle.linda_run.specs.Steps.{HasReacted, HasServed, IsStopped, Halts, Leaves, Saves, Takes};
+ghost use Rattle.linda_run.specs.Steps.{HasReacted, HasServed, IsStopped, Halts, HangsUp, Saves, Takes};
 ghost use Rattle.linda_run.specs.declared.event.WorldEvent.TheVariants as events;
 ghost use Rattle.linda_client.specs.React.{Receive};
 ghost use Rattle.linda_run.specs.Reached.{IsReached};
@@ -131,7 +131,7 @@ impl<N: Node> Scene<N> {
 
     // A server closes a client.
     fn close(&mut self, alloc: Global, server: u32, client: u32) -> Result<Seen, WorldFault>
-        ensures { AsksOrNot (HasServed (Leaves client) server []) (refusal_at self.old server)
+        ensures { AsksOrNot (HasServed (HangsUp client) server []) (refusal_at self.old server)
             self.old result self.new }
     {
         if server as usize >= self.servers.len() {

@@ -5,7 +5,7 @@ ghost use Rattle.linda_wire.specs.declared.refusal.Refusal.TheVariants as refusa
 ghost use Rattle.linda_wire.specs.Refusal.{refused};
 ghost use Rattle.linda_store.specs.Sound.{IsSound};
 ghost use Rattle.linda_store.specs.Node.{IsBatch, in_hand};
-ghost use Rattle.linda_run.specs.Steps.{Takes, Leaves, Saves, Halts};
+ghost use Rattle.linda_run.specs.Steps.{Takes, HangsUp, Saves, Halts};
 ghost use Rattle.linda_world.specs.Answer.{ServesOrNot};
 
 use crate::deeds::Deeds;
@@ -123,7 +123,7 @@ impl<N: Node> Server<N> {
         client: u32,
         packets: &mut Vec<Packet>,
     ) -> Result<Told, AllocError>
-        ensures { ServesOrNot (Leaves client) server self.old packets.old.items result self.new packets.new.items }
+        ensures { ServesOrNot (HangsUp client) server self.old packets.old.items result self.new packets.new.items }
     {
         match self.node.close(alloc, client) {
             Ok(sends) => {

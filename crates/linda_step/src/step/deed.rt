@@ -1,8 +1,9 @@
-//! The messages that do a deed: an Out puts its tuple, and an Accept takes one that is held, or finds it gone.
+//! The messages that do a deed: an Out puts its tuple, an Accept takes one that is held, or finds it gone, and a Leave
+//! gives up the client's number with all that it asked.
 //!
 //! All that may fail comes before the first change of the state.
 
-ghost use Rattle.std.specs.Prelude.{◌≡◌, ◌∷◌, [], Some, IfOk, OnOk, OnErr, option_to_list};
+ghost use Rattle.std.specs.Prelude.{◌≡◌, ◌∷◌, [], Some, ℕ, IfOk, OnOk, OnErr, option_to_list};
 ghost use Rattle.linda_wire.specs.declared.reply.Reply.TheVariants as replies;
 ghost use Rattle.linda_hold.specs.Request.{request_of};
 ghost use Rattle.linda_state.specs.declared.deed.Deed.TheVariants as deeds;
@@ -10,13 +11,15 @@ ghost use Rattle.linda_state.specs.State.{IsState};
 ghost use Rattle.linda_state.specs.After.{IsAfter};
 ghost use Rattle.linda_state.specs.Proper.{IsAllowed};
 ghost use Rattle.linda_step.specs.Soft.{AreApart};
-ghost use Rattle.linda_step.specs.Dispatch.{dispatch};
+ghost use Rattle.linda_bag.specs.Starts.{AreRight};
+ghost use Rattle.linda_step.specs.Dispatch.{dispatch, on_close};
+ghost use Rattle.linda_step.specs.Looking.{is_held};
 ghost use Rattle.linda_step.specs.Answer as spec;
 ghost use Rattle.linda_step.specs.Answer.{held_tuple, take_or_pass};
 
 use super::{Step, one_send};
 use crate::soft::Soft;
-use linda_bag::Bag;
+use linda_bag::{Bag, Starts};
 use linda_hold::Request;
 use linda_state::{Deed, State};
 use linda_tuple::Tuple;
@@ -118,6 +121,40 @@ fn pass<B: Bag>(
     state.pass(client, n)?;
     Ok(Step {
         deed: Some(Deed::Pass { client, n, id }),
+        sends,
+    })
+}
+
+/// Gives up the client's number for good: what it asked is given up, and the book keeps that it left.
+///
+/// # Errors
+///
+/// `AllocError` where memory runs out, and then the state is as before.
+pub(crate) fn leave<B: Bag>(
+    state: &mut State<B>,
+    soft: &mut Soft,
+    starts: &mut Starts,
+    alloc: Global,
+    client: u32,
+    n: u64,
+) -> Result<Step, AllocError>
+    requires state { IsState state.old }
+    requires apart { AreApart soft.old }
+    ensures deed { IfOk result (λ s. s.deed ≡ Some (deeds.Leave client n)) }
+    ensures sends { IfOk result (λ s. s.sends.items ≡ (client, replies.Left n)
+        ∷ (on_close state.old.bag client soft.old).sends) }
+    ensures soft { OnOk result (soft.new ≡ (on_close state.old.bag client soft.old).soft) }
+    ensures after { OnOk result (IsAfter state.old (deeds.Leave client n ∷ []) state.new) }
+    ensures right { (next : ℕ) → AreRight state.old.bag (is_held soft.old.holds) next starts.old
+        → OnOk result (AreRight state.old.bag (is_held soft.new.holds) next starts.new) }
+    ensures err { OnErr result (state.new ≡ state.old) }
+{
+    let mut sends = one_send(alloc, client, Reply::Left { n })?;
+    let mut freed = soft.close(alloc, &state.bag, starts, client)?;
+    sends.append(&mut freed)?;
+    state.leave(client, n)?;
+    Ok(Step {
+        deed: Some(Deed::Leave { client, n }),
         sends,
     })
 }

@@ -1,4 +1,4 @@
-use Rattle.linda_step.proofs.LeaveLaws.{over_when_cancelled}
+use Rattle.linda_step.proofs.GivenUpLaws.{over_when_cancelled}
 use Rattle.linda_step.proofs.laws.a_cancelled_request_is_over.Goals as goal
 
 pub returns : goal.returns
