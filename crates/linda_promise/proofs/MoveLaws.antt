@@ -26,17 +26,18 @@ use Rattle.linda_state.specs.declared.deed.Deed.TheVariants as deeds
 use Rattle.linda_state.specs.State.{State, IsState}
 use Rattle.linda_state.specs.After.{IsAfter}
 use Rattle.linda_state.proofs.AfterLaws.{none_after, one_after, new_id}
-use Rattle.linda_step.specs.Judge.{to_put, to_take, demand_of}
+use Rattle.linda_state.proofs.DoneLaws.{done, done_after}
+use Rattle.linda_step.specs.Judge.{to_put, to_take, to_leave, demand_of}
 use Rattle.linda_step.specs.Soft.{Soft, Bagged, open_asks}
 use Rattle.linda_step.specs.Looking.{IsLeast, passed_over}
 use Rattle.linda_step.specs.Dispatch.{Sends, no_sends, dispatch, release, release_tuple, release_if, release_all, on_cancel, on_close}
 use Rattle.linda_step.specs.Asking.{offer_of, read_of, only_sent, wait_of, serve, on_ask, AnswersAsk, AnswersCancel}
-use Rattle.linda_step.specs.Answer.{Answer, only_sends, greeting, reply_of_kept, last_number, is_one_too_many, IsAnswer, IsStep}
+use Rattle.linda_step.specs.Answer.{Answer, only_sends, greeting, reply_of_kept, has_left, last_number, is_one_too_many, SaysAsk, IsAnswer, IsStep}
 use Rattle.linda_step.specs.History.{Coming, says}
 use Rattle.linda_step.proofs.AnswerCourse.{Course, unnumbered, turned_down, told_again, stored, taken, passed, left, course_of}
 use Rattle.linda_step.proofs.AnswerLaws.{held_there}
 use Rattle.linda_step.proofs.ApartLaws.{held_before}
-use Rattle.linda_step.proofs.KeptLaws.{IsKeptFor, stored_kept, taken_kept, passed_kept}
+use Rattle.linda_step.proofs.KeptLaws.{IsKeptFor, stored_kept, taken_kept, passed_kept, left_kept}
 use Rattle.linda_promise.specs.Offers.{IsAskOf, is_offer}
 use Rattle.linda_promise.specs.Replies.{reports_deed, KeepsReply}
 
