@@ -30,6 +30,7 @@ pub kept_again : (n : ℕ) (reply : KeptReply) → kept_of (reply_of_kept n repl
 kept_again n (kept.Stored id) = refl
 kept_again n (kept.Taken id tuple) = refl
 kept_again n kept.Gone = refl
+kept_again n kept.Left = refl
 
 -- ---- all of them
 

@@ -50,5 +50,6 @@ IsGreetingReply (replies.Refused code detail) = Unit {0}
 IsGreetingReply (replies.Stored n id) = ⊥
 IsGreetingReply (replies.Taken n id tuple) = ⊥
 IsGreetingReply (replies.Gone n) = ⊥
+IsGreetingReply (replies.Left n) = ⊥
 IsGreetingReply (replies.Offer ticket id tuple) = ⊥
 IsGreetingReply (replies.Read ticket id tuple) = ⊥

@@ -154,6 +154,7 @@ fn is_hello(message: &Message) -> bool
         Message::Ask { .. } => false,
         Message::Accept { .. } => false,
         Message::Cancel { .. } => false,
+        Message::Leave { .. } => false,
     }
 }
 

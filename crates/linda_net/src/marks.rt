@@ -112,5 +112,6 @@ fn tells_full(reply: &Reply) -> bool
         Reply::Read { .. } => false,
         Reply::Taken { .. } => false,
         Reply::Gone { .. } => false,
+        Reply::Left { .. } => false,
     }
 }

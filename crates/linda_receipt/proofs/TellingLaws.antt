@@ -33,6 +33,7 @@ kept_again : (n : ℕ) (reply : KeptReply) → kept_of (reply_of_kept n reply) �
 kept_again n (kept.Stored id) = refl
 kept_again n (kept.Taken id tuple) = refl
 kept_again n kept.Gone = refl
+kept_again n kept.Left = refl
 
 abbrev answer_with : Option Deed → List (ℕ × Reply) → Soft → Answer
 answer_with deed sends soft = record { deed = deed; sends = sends; soft = soft }

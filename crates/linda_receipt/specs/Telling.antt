@@ -22,6 +22,7 @@ kept_of (replies.Welcome last) = None
 kept_of (replies.Stored n id) = Some (kept.Stored id)
 kept_of (replies.Taken n id tuple) = Some (kept.Taken id tuple)
 kept_of (replies.Gone n) = Some kept.Gone
+kept_of (replies.Left n) = Some kept.Left
 kept_of (replies.Offer ticket id tuple) = None
 kept_of (replies.Read ticket id tuple) = None
 kept_of (replies.Refused code detail) = None

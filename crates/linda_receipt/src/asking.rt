@@ -38,6 +38,7 @@ pub fn is_deed_of(client: u32, message: &Message, deed: &Deed) -> bool
                 ..
             },
         ) => *n == *number && *id == *passed,
+        (Message::Leave { n }, Deed::Leave { n: number, .. }) => *n == *number,
         _ => false,
     }
 }

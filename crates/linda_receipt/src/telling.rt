@@ -77,6 +77,7 @@ fn receipt_with(alloc: Global, deed: &Deed, reply: &Reply) -> Result<Option<Rece
         Reply::Stored { id, .. } => KeptReply::Stored(*id),
         Reply::Taken { id, tuple, .. } => KeptReply::Taken(*id, tuple.try_clone(alloc)?),
         Reply::Gone { .. } => KeptReply::Gone,
+        Reply::Left { .. } => KeptReply::Left,
         _ => return Ok(None),
     };
     let deed = deed.try_clone(alloc)?;

@@ -8,13 +8,13 @@ use Rattle.std.specs.FinMap.{get}
 use Rattle.linda_bag.proofs.Maps.{get_same, get_other}
 use Rattle.linda_wire.specs.declared.limits.TheConstants.{NUMBER_LIMIT}
 use Rattle.linda_wire.specs.declared.message.Message.{Message}
-use Rattle.linda_wire.specs.declared.message.Message.TheVariants.{Hello, Out, Ask, Accept, Cancel}
+use Rattle.linda_wire.specs.declared.message.Message.TheVariants.{Hello, Out, Ask, Accept, Cancel, Leave}
 use Rattle.linda_wire.specs.declared.reply.Reply.{Reply}
 use Rattle.linda_book.specs.declared.classes.Class.{Class}
 use Rattle.linda_book.specs.declared.classes.Class.TheVariants.{Kept}
 use Rattle.linda_book.specs.declared.kept.KeptReply.{KeptReply}
 use Rattle.linda_book.specs.declared.kept.KeptReply.TheVariants as kept
-use Rattle.linda_book.specs.Entries.{Entry, number_in}
+use Rattle.linda_book.specs.Entries.{Entry, left_in, number_in}
 use Rattle.linda_book.specs.Classes.{class_of}
 use Rattle.linda_state.specs.declared.deed.Deed.{Deed}
 use Rattle.linda_state.specs.Deed.{client_of, number_of, is_taken}
@@ -27,8 +27,8 @@ use Rattle.linda_state.proofs.DoneLaws.{done, done_after}
 use Rattle.linda_state.proofs.ProperLaws.{front_proper, reached, proper_state, more_done}
 use Rattle.linda_state.proofs.ReplyLaws.{reply_behind, kept_behind}
 use Rattle.linda_step.specs.Soft.{Soft}
-use Rattle.linda_step.specs.Answer.{Answer, only_reply, reply_of_kept, last_number, standing_of, reply_by, out_without_deed, accept_without_deed, on_out, on_accept, IsAnswer, IsStep}
-use Rattle.linda_step.specs.Judge.{to_put, to_take, judge_class}
+use Rattle.linda_step.specs.Answer.{Answer, only_reply, reply_of_kept, last_number, standing_of, reply_by, has_left, out_without_deed, accept_without_deed, leave_without_deed, on_out, on_accept, on_leave, IsAnswer, IsStep}
+use Rattle.linda_step.specs.Judge.{to_put, to_take, to_leave, judge_class}
 use Rattle.linda_step.specs.History.{says, History, Happens, first_then, nothing_yet, history_of}
 use Rattle.linda_promise.specs.Steps.{number_of_message}
 use Rattle.linda_promise.specs.Replies.{reports_deed, ReportsOne}
@@ -37,15 +37,15 @@ use Rattle.linda_store.specs.Sound.{AreBacked}
 
 -- ---- a number that comes again
 
-last_class : (n : ℕ) → 1 ≤ n → class_of n n ≡ Kept
-last_class n low = grind (arith)
+last_class : (n : ℕ) (left : Bool) → 1 ≤ n → class_of n left n ≡ Kept
+last_class n left low = grind (arith)
 
 module _ (st : State) (c n : ℕ) (reply : KeptReply) (is : IsState st) (there : get st.book c ≡ Some (n, reply)) where
   low : 1 ≤ n
   low = (subst (λ o. IfSome o (λ (e : Entry). (1 ≤ e.0) × (e.0 < NUMBER_LIMIT))) there (is.numbers c)).0
 
-  class : class_of (last_number st c) n ≡ Kept
-  class = ap (λ o. class_of (number_in o) n) there ∙ last_class n low
+  class : class_of (last_number st c) (has_left st c) n ≡ Kept
+  class = ap (λ o. class_of (number_in o) (left_in o) n) there ∙ last_class n (left_in (Some (n, reply))) low
 
   -- There is a reply without a deed: the one that is kept.
   kept_reply : option_map (λ (e : Entry). reply_of_kept n e.1) (get st.book c) ≡ Some (reply_of_kept n reply)
@@ -57,6 +57,9 @@ module _ (st : State) (c n : ℕ) (reply : KeptReply) (is : IsState st) (there :
   of_accept : accept_without_deed st c n ≡ Some (reply_of_kept n reply)
   of_accept = ap (λ (k : Class). reply_by st c n (judge_class (to_take n) (standing_of st c) k)) class ∙ kept_reply
 
+  of_leave : leave_without_deed st c n ≡ Some (reply_of_kept n reply)
+  of_leave = ap (λ (k : Class). reply_by st c n (judge_class (to_leave n) (standing_of st c) k)) class ∙ kept_reply
+
   answer : (soft : Soft) (m : Message) (answered : Answer) → number_of_message m ≡ Some n → IsAnswer st soft c m answered → answered ≡ only_reply c (reply_of_kept n reply) soft
   answer soft (Hello version client fresh) answered bears told = absurd (none-some n bears)
   answer soft (Ask ticket remove template) answered bears told = absurd (none-some n bears)
@@ -67,6 +70,9 @@ module _ (st : State) (c n : ℕ) (reply : KeptReply) (is : IsState st) (there :
   answer soft (Accept k ticket id) answered bears told =
       subst (λ j. answered ≡ on_accept st c j ticket id (accept_without_deed st c j) soft) (same_Some k n bears) told
       ∙ ap (λ r. on_accept st c n ticket id r soft) of_accept
+  answer soft (Leave k) answered bears told =
+      subst (λ j. answered ≡ on_leave st c j (leave_without_deed st c j) soft) (same_Some k n bears) told
+      ∙ ap (λ r. on_leave st c n r soft) of_leave
 
   pub answered_as_kept : (soft : Soft) (m : Message) (all : History) → number_of_message m ≡ Some n → Happens st soft (says c m ∷ []) all
       → all ≡ history_of st soft [] ((c, reply_of_kept n reply) ∷ [])
@@ -86,6 +92,7 @@ kept_number : (n : ℕ) (reply : KeptReply) → number_in_reply (reply_of_kept n
 kept_number n (kept.Stored id) = refl
 kept_number n (kept.Taken id tuple) = refl
 kept_number n kept.Gone = refl
+kept_number n kept.Left = refl
 
 -- One deed more: the client goes on by it, or its entry is as it was.
 one_covered : (mid : State) (d : Deed) (send : ℕ × Reply) → IsAllowed mid d → IsCovered mid send → IsCovered (done mid d) send

@@ -44,6 +44,7 @@ IsRequest (messages.Out n tuple) = Unit {0}
 IsRequest (messages.Ask ticket remove template) = Unit {0}
 IsRequest (messages.Accept n ticket id) = Unit {0}
 IsRequest (messages.Cancel ticket) = Unit {0}
+IsRequest (messages.Leave n) = Unit {0}
 
 -- A deed that was told is one that the client's message asks for.
 abbrev pub IsToldOf : ℕ → Message → Option Receipt → Type 0

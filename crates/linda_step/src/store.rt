@@ -24,9 +24,10 @@ use std::marker::Model;
 /// The state of a server, what it holds for requests and which requests wait.
 ///
 /// It keeps its ranges: ids below the next id, which is from 1 to 2^63; kept numbers from 1 to
-/// 2^63 - 1; at most 1,024 clients; at most 64 open asks a client, each under a ticket of its own; and
-/// what is held is in the bag. Nobody waits in vain: no tuple that is there matches a read that waits,
-/// and none that is not held an input.
+/// 2^63 - 1; at most 65,536 clients, those that left among them; at most 64 open asks a client, each under
+/// a ticket of its own; and what is held is in the bag. Nobody waits in vain: no tuple that is there matches
+/// a read that waits, and none that is not held an input. A client that left holds nothing and does not
+/// wait.
 ///
 /// Once memory ran out the store is spent: it keeps its state, holds nothing, lets nobody wait, and
 /// answers each call with that error.

@@ -75,6 +75,7 @@ hello_of (messages.Out n tuple) = None
 hello_of (messages.Ask ticket remove template) = None
 hello_of (messages.Accept n ticket id) = None
 hello_of (messages.Cancel ticket) = None
+hello_of (messages.Leave n) = None
 
 -- What is done with a message, given who is greeted and whom it greets: the first Hello and then each other message is
 -- the node's, and what comes out of turn is refused.

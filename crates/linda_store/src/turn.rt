@@ -47,6 +47,7 @@ fn hello_of(message: &Message) -> Option<u32>
         Message::Ask { .. } => None,
         Message::Accept { .. } => None,
         Message::Cancel { .. } => None,
+        Message::Leave { .. } => None,
     }
 }
 

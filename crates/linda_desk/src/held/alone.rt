@@ -166,6 +166,7 @@ fn comes_next(state: &State<IndexBag>, client: u32, message: &Message) -> bool
     match message {
         Message::Out { n, .. } => state.book.last(client).checked_add(1) == Some(*n),
         Message::Accept { n, .. } => state.book.last(client).checked_add(1) == Some(*n),
+        Message::Leave { n } => state.book.last(client).checked_add(1) == Some(*n),
         _ => false,
     }
 }

@@ -214,6 +214,7 @@ fn hello<D: Disk>(
         Reply::Read { .. } => unreachable!(),
         Reply::Taken { .. } => unreachable!(),
         Reply::Gone { .. } => unreachable!(),
+        Reply::Left { .. } => unreachable!(),
     }
 }
 
