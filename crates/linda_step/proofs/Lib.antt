@@ -27,3 +27,4 @@ pub mod JudgeLaws
 pub mod AnswerCourse
 pub mod FreeLaws
 pub mod PresentLaws
+pub mod AwayLaws

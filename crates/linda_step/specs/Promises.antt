@@ -5,14 +5,19 @@ use Rattle.linda_hold.specs.declared.request.Request.{Request}
 use Rattle.linda_hold.specs.Request.{request_of}
 use Rattle.linda_hold.specs.Waits.{is_waiting}
 use Rattle.linda_hold.specs.Holds.{IsHeldAt}
+use Rattle.linda_wire.specs.declared.refusal.Refusal.TheVariants as refusals
 use Rattle.linda_wire.specs.declared.reply.Reply.{Reply}
+use Rattle.linda_wire.specs.declared.reply.Reply.TheVariants as replies
+use Rattle.linda_wire.specs.Refusal.{refused}
+use Rattle.linda_state.specs.declared.deed.Deed.{Deed}
+use Rattle.linda_state.specs.Deed.{client_of}
 use Rattle.linda_book.specs.Entries.{Entry}
 use Rattle.linda_state.specs.Once.{IsTakenOnce}
 use Rattle.linda_state.specs.State.{State}
-use Rattle.linda_step.specs.Soft.{Soft}
+use Rattle.linda_step.specs.Soft.{Soft, OfAsking}
 use Rattle.linda_state.specs.After.{IsAfter}
 use Rattle.linda_state.specs.Proper.{IsProper}
-use Rattle.linda_step.specs.Answer.{Answer, only_reply, reply_of_kept}
+use Rattle.linda_step.specs.Answer.{Answer, last_number, only_reply, reply_of_kept}
 use Rattle.linda_step.specs.History.{History}
 use Rattle.linda_step.specs.Dispatch.{Sends}
 use Rattle.linda_step.specs.Store.{IsOrderly}
@@ -47,3 +52,21 @@ IsOver request soft = (is_waiting request soft.waits ≡ false) × IsHeldAt soft
 pub record IsClosed (client : ℕ) (told : Sends) : Type 0 where
   pub requests : (ticket : ℕ) → IsOver (request_of client ticket) told.soft
   pub silent : All (λ (send : ℕ × Reply). send.0 ≢ client) told.sends
+
+-- What a client that left by this number is told: to its requests the reply to its Leave, that the number is an older
+-- one, or that it left; to a Hello what any client with this last number gets.
+pub data LastWord (last : ℕ) : Reply → Type 0 where
+  left_again : LastWord last (replies.Left last)
+  is_older : LastWord last (refused (refusals.Old last))
+  was_last : LastWord last (refused (refusals.Left last))
+  speaks_other : LastWord last (refused refusals.Version)
+  is_known : LastWord last (refused (refusals.Known last))
+  is_welcome : LastWord last (replies.Welcome last)
+
+-- A client that had left in the first state, behind whatever came: what is kept for it is the same, no deed is its own,
+-- it holds nothing and does not wait, and it was told nothing but last words.
+pub record IsAway (st : State) (c : ℕ) (all : History) : Type 0 where
+  pub kept : map.get all.state.book c ≡ map.get st.book c
+  pub deeds : All (λ (d : Deed). client_of d ≢ c) all.deeds
+  pub asks : OfAsking (λ k. k ≢ c) all.soft
+  pub sends : All (λ (send : ℕ × Reply). send.0 ≡ c → LastWord (last_number st c) send.1) all.sends

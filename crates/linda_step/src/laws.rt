@@ -1,21 +1,22 @@
 //! What the definitions of states, deeds and steps come to, each told by the contract of a function that does
 //! nothing.
 
-ghost use Rattle.std.specs.Prelude.{◌≡◌, ℕ, ◌++◌, List, Option, IsSome, option_to_list};
+ghost use Rattle.std.specs.Prelude.{◌≡◌, ℕ, ◌++◌, true, List, Option, Some, IsSome, option_to_list};
 ghost use Rattle.std.specs.FinMap as map;
 ghost use Rattle.linda_hold.specs.declared.request.Request.{Request};
 ghost use Rattle.linda_hold.specs.Holds.{IsHeldAt, IsOneEach};
 ghost use Rattle.linda_wire.specs.declared.message.Message.{Message};
 ghost use Rattle.linda_state.specs.declared.deed.Deed.{Deed};
+ghost use Rattle.linda_state.specs.declared.deed.Deed.TheVariants.{Leave};
 ghost use Rattle.linda_state.specs.State.{State, IsState};
 ghost use Rattle.linda_step.specs.Soft.{Soft, Bagged, IsSoft};
 ghost use Rattle.linda_step.specs.Dispatch.{on_cancel, on_close};
 ghost use Rattle.linda_state.specs.Proper.{AreDone};
-ghost use Rattle.linda_step.specs.Answer.{Answer, IsAnswer, IsStep};
+ghost use Rattle.linda_step.specs.Answer.{Answer, IsAnswer, IsStep, has_left};
 ghost use Rattle.linda_step.specs.History.{Coming, History, Happens, Answers};
 ghost use Rattle.linda_step.specs.Course.{Turn, Endures};
 ghost use Rattle.linda_step.specs.Store.{IsOrderly};
-ghost use Rattle.linda_step.specs.Promises.{IsAnsweredAsKept, IsAnsweredAgain, IsSafe, IsOver, IsClosed};
+ghost use Rattle.linda_step.specs.Promises.{IsAnsweredAsKept, IsAnsweredAgain, IsSafe, IsOver, IsClosed, IsAway};
 
 /// The deeds of steps, one after another, are a proper list, and the state is the one after them.
 pub fn steps_do_proper_lists()
@@ -95,4 +96,15 @@ pub fn a_cancelled_request_is_over()
 pub fn a_closed_client_asks_nothing()
     ensures { (bag : Bagged) (client : ℕ) (soft : Soft)
         → IsSoft bag soft → IsClosed client (on_close bag client soft) }
+{}
+
+/// Once a client's Leave is done it has left for good: whatever comes to the server, stops too, what is kept for it stays,
+/// no deed is its own, it holds nothing and does not wait, and it is told nothing but that it left, or that a number is
+/// older; and to a Hello what any client gets.
+pub fn a_client_that_left_stays_away()
+    ensures leaves { (st new : State) (soft : Soft) (c d n : ℕ) (m : Message) (answered : Answer)
+        → IsState st → IsStep st soft c m answered new → answered.deed ≡ Some (Leave d n)
+        → has_left new d ≡ true }
+    ensures stays { (st : State) (soft : Soft) (xs : List Turn) (all : History) (c : ℕ)
+        → IsOrderly st soft → has_left st c ≡ true → Endures st soft xs all → IsAway st c all }
 {}
