@@ -2,9 +2,8 @@
 use Rattle.std.proofs.Common.{◌≡◌, ℕ, ◌+◌, ◌<◌, ◌≤◌, ◌==◌, ◌&&◌, Bool, true, false, cond, not, List, [], ◌∷◌, length, get_or, map, filter, Contains, ◌⊎◌, inl, inr, refl, sym, ap, ◌∙◌, subst, arith, eqb-true}
 use Rattle.std.specs.Prelude.{All}
 use Rattle.std.specs.List.{enumerate_from, list_any}
-use Rattle.std.proofs.lemmas.Bool.{false≢true}
 use Rattle.std.proofs.lemmas.List.{get_or-map, length-map}
-use Rattle.std.proofs.lemmas.List.Elements.{All-cons, All-contains, All-filter, All-from_get_or, All-map, All-nil, All-weaker, Contains-append_left, Contains-append_right, Contains-get_or}
+use Rattle.std.proofs.lemmas.List.Elements.{All-cons, All-filter, All-from_get_or, All-map, All-nil, All-weaker, Contains-append_left, Contains-append_right, Contains-get_or}
 use Rattle.std.proofs.lemmas.List.FromFn.{get_or-enumerate_from, length-enumerate_from}
 use Rattle.linda_wire.specs.declared.message.Message.TheVariants as messages
 use Rattle.linda_wire.specs.declared.reply.Reply.TheVariants as replies
@@ -13,7 +12,7 @@ use Rattle.linda_client.specs.Client.{AreLeavesOf, AreRising, Client, IsClient, 
 use Rattle.linda_client.specs.Packets.{Packet, leave_packets}
 use Rattle.linda_client.specs.React.{Call, Receive, leave, unanswered_leaves}
 use Rattle.linda_client.specs.Numbers.{IsAnswerTo}
-use Rattle.linda_client.proofs.ListLaws.{not_any, nowhere}
+use Rattle.linda_client.proofs.ListLaws.{not_any}
 use Rattle.linda_client.proofs.TestLaws.{apart, both}
 
 -- a number with its place
@@ -135,11 +134,3 @@ left_or_answered call server n called (q ∷ ps) = by ((q.0 == server) && (q.1 =
         further : (p : Packet) → LeftOrAnswered call server n ps p → OneMore call server n q ps false p
         further p (inl there) = inl (Contains-append_right ((q.0, messages.Leave q.1) ∷ []) (leave_packets (unanswered_leaves server n ps)) p there)
         further p (inr answered) = inr answered
-
--- Where none is left, each is answered.
-pub all_answered : (call : Call) (server n : ℕ) → call ≡ Receive server (replies.Left n) → (ps : List (ℕ × ℕ)) → unanswered_leaves server n ps ≡ [] → All (λ p. IsAnswerTo p call) (leave_packets ps)
-all_answered call server n called ps none = All-weaker (LeftOrAnswered call server n ps) (λ p. IsAnswerTo p call) one (leave_packets ps) (left_or_answered call server n called ps)
-  where
-    one : (p : Packet) → LeftOrAnswered call server n ps p → IsAnswerTo p call
-    one p (inl there) = nowhere p (subst (λ l. Contains (leave_packets l) p) none there)
-    one p (inr answered) = answered

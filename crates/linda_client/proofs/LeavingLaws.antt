@@ -1,21 +1,20 @@
 -- A client that has left stays away.
-use Rattle.std.proofs.Common.{◌≡◌, ℕ, ◌≤◌, ◌↔◌, Bool, true, false, List, [], ◌∷◌, ◌++◌, refl, sym, ap, ◌∙◌, subst}
-use Rattle.std.specs.Prelude.{Option, Some, None, All, Ok, Err}
+use Rattle.std.proofs.Common.{◌≡◌, ℕ, ◌≤◌, true, false, List, [], ◌∷◌, ◌++◌, refl, sym, ap, ◌∙◌, subst}
+use Rattle.std.specs.Prelude.{Some, None, All, Ok, Err}
 use Rattle.std.proofs.lemmas.Bool.{false≢true}
-use Rattle.std.proofs.lemmas.Option.{none-some, same_Some}
+use Rattle.std.proofs.lemmas.Option.{none-some}
 use Rattle.std.proofs.lemmas.List.Elements.{All-append, All-cons, All-nil}
 use Rattle.linda_client.specs.declared.limits.TheConstants.{MAX_SERVERS}
-use Rattle.linda_client.specs.declared.outcome.Outcome.{Outcome}
 use Rattle.linda_client.specs.declared.outcome.Outcome.TheVariants as outcomes
 use Rattle.linda_client.specs.declared.task.Task.{Task}
 use Rattle.linda_client.specs.declared.task.Task.TheVariants.{Idle, Putting, Syncing, Leaving, Left}
 use Rattle.linda_client.specs.Client.{Client, IsClient, has_left, pending_in}
-use Rattle.linda_client.specs.Packets.{Packet, open_asks, sent_again, unanswered}
+use Rattle.linda_client.specs.Packets.{open_asks, sent_again, unanswered}
 use Rattle.linda_client.specs.Reaction.{Answer, Reaction}
 use Rattle.linda_client.specs.React.{Call, new_client, react}
 use Rattle.linda_client.specs.Ending.{IsCancel}
 use Rattle.linda_client.specs.History.{Act, act_then, all_sent, history}
-use Rattle.linda_client.specs.Leaving.{LeavesForGood, SendsNoMore, StaysAway}
+use Rattle.linda_client.specs.Leaving.{LeavesForGood, SendsNoMore}
 use Rattle.linda_client.proofs.Course.{Course, abandons, accepts, begins, commits, commits_at_once, course, departs, gives_up, hands_on, leaves_on, puts, rejects, repeats, rests, saves, stores, waits}
 use Rattle.linda_client.proofs.ListLaws.{all_there, not_empty, same_first, same_rest}
 use Rattle.linda_client.proofs.RangeLaws.{kept, new_is}

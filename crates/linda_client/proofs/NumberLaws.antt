@@ -1,11 +1,10 @@
 -- How numbered messages go on at each call.
-use Rattle.std.proofs.Common.{◌≡◌, ◌≢◌, ℕ, ◌+◌, ◌<◌, ◌≤◌, ◌==◌, false, List, [], ◌∷◌, get_or, length, map, Contains, ◌⊎◌, inl, inr, refl, sym, ap, ◌∙◌, subst, arith}
+use Rattle.std.proofs.Common.{◌≡◌, ◌≢◌, ℕ, ◌+◌, ◌<◌, List, [], ◌∷◌, get_or, length, map, Contains, ◌⊎◌, inl, inr, refl, sym, ap, ◌∙◌, subst, arith}
 use Rattle.std.specs.Prelude.{Option, Some, None, All, IsSome, Ok, option_to_list}
-use Rattle.std.specs.List.{enumerate_from, list_any}
+use Rattle.std.specs.List.{enumerate_from}
 use Rattle.std.proofs.lemmas.Bool.{cases_eq, cases_lt, false≢true}
 use Rattle.std.proofs.lemmas.List.{get_or-set_other, get_or_past, length-map}
-use Rattle.std.proofs.lemmas.List.Elements.{All-append, All-cons, All-contains, All-contains_itself, All-nil, All-weaker, Contains-append_left}
-use Rattle.linda_tuple.specs.Tuple.{Tuple}
+use Rattle.std.proofs.lemmas.List.Elements.{All-append, All-cons, All-contains, All-contains_itself, All-nil, All-weaker}
 use Rattle.linda_wire.specs.declared.message.Message.{Message}
 use Rattle.linda_wire.specs.declared.message.Message.TheVariants as messages
 use Rattle.linda_wire.specs.declared.reply.Reply.TheVariants as replies
@@ -16,12 +15,12 @@ use Rattle.linda_client.specs.Pending.{Pending}
 use Rattle.linda_client.specs.Client.{Client, IsClient, next_at, pending_in, servers}
 use Rattle.linda_client.specs.Packets.{Packet, accept_packet, ask_packets, cancels_but, leave_packets, open_asks, sent_again, unanswered}
 use Rattle.linda_client.specs.Reaction.{Reaction}
-use Rattle.linda_client.specs.React.{Call, Leave, Receive, leave, leave_on, new_pending, out_server, react, unanswered_leaves, used_at}
+use Rattle.linda_client.specs.React.{Call, Leave, Receive, leave, new_pending, out_server, react, unanswered_leaves, used_at}
 use Rattle.linda_client.specs.Ending.{IsCancel}
-use Rattle.linda_client.specs.Numbers.{IsAnswerTo, IsUnanswered, NumbersGoOn, UsesNoNumber, UsesNumber, number_of}
+use Rattle.linda_client.specs.Numbers.{IsAnswerTo, NumbersGoOn, UsesNoNumber, UsesNumber, number_of}
 use Rattle.linda_client.proofs.CancelLaws.{only_cancels}
 use Rattle.linda_client.proofs.Course.{AcceptAnswered, Course, Turn, abandons, accepts, arrives, begins, commits, commits_at_once, course, departs, gives_up, hands_on, leaves_on, oldest, puts, rejects, repeats, rests, saves, stores, waits}
-use Rattle.linda_client.proofs.LeaveLaws.{LeftOrAnswered, all_answered, all_leaves, leave_there, left_or_answered, left_there, next_after}
+use Rattle.linda_client.proofs.LeaveLaws.{all_leaves, leave_there, left_or_answered, left_there, next_after}
 use Rattle.linda_client.proofs.ListLaws.{all_there, nowhere, only_one}
 use Rattle.linda_client.proofs.PacketLaws.{all_asks}
 use Rattle.linda_client.proofs.RangeLaws.{out_within, used_below}
@@ -122,7 +121,9 @@ module _ (c : Client) (call : Call) where
 
     one_number : NumbersGoOn c call r
     one_number t = elim (cases_eq t s) [
-      | inl same ↦ subst (λ u. UsesNoNumber c call r u ⊎ ((k : Message) × UsesNumber c call r u k)) (sym same) (inr (m, record {
+      | inl same ↦ subst (λ u. UsesNoNumber c call r u ⊎ ((k : Message) × UsesNumber c call r u k)) (sym same) (inr (
+        m,
+        record {
           sent = subst (λ l. Contains l (s, m)) (sym sent) one_there;
           own = λ k there. sym (ap (λ p. p.1) (only r.packets sent (s, k) there));
           fresh = subst (All (λ (p : Packet). number_of p.1 ≡ Some (next_at c p.0))) (sym sent)
@@ -136,7 +137,8 @@ module _ (c : Client) (call : Call) where
             (λ here. sym (ap (λ p. p.1) (only (unanswered r.client.task) now (s, k) here))),
             (λ is. subst (λ l. Contains l (s, k)) (sym now) (subst (λ x. Contains (this ∷ []) (s, x)) (sym is) one_there)),
           );
-        }))
+        },
+      ))
       | inr apart ↦ inl (elsewhere t apart)
     ]
 
@@ -156,7 +158,9 @@ module _ (c : Client) (call : Call) where
 
     leave_number : NumbersGoOn c call (leave c)
     leave_number s = elim (cases_lt s (servers c)) [
-      | inl within ↦ inr (messages.Leave (next_at c s), record {
+      | inl within ↦ inr (
+        messages.Leave (next_at c s),
+        record {
           sent = leave_there c s within;
           own = λ k there. own_leave s k there;
           fresh = all_leaves (λ (p : Packet). number_of p.1 ≡ Some (next_at c p.0)) c (λ t low. refl);
@@ -166,13 +170,14 @@ module _ (c : Client) (call : Call) where
           next = next_after c s within;
           answered = λ k here. none_before s k here;
           unanswered_is = λ k. ((λ here. own_leave s k here), (λ is. subst (λ x. Contains sends (s, x)) (sym is) (leave_there c s within)));
-        })
+        },
+      )
       | inr past ↦ inl (record {
-          next = get_or_past (leave c).client.next s 0 (let same : length (map (λ n. n + 1) c.next) ≡ length c.next = length-map c.next (λ n. n + 1) in omega arith) ∙ sym (get_or_past c.next s 0 past);
-          again = λ k there some. let within = leave_within s k there in absurd (omega arith);
-          old = λ k here. let within = leave_within s k here in absurd (omega arith);
-          stays = λ k here. none_before s k here;
-        })
+        next = get_or_past (leave c).client.next s 0 (let same : length (map (λ n. n + 1) c.next) ≡ length c.next = length-map c.next (λ n. n + 1) in omega arith) ∙ sym (get_or_past c.next s 0 past);
+        again = λ k there some. let within = leave_within s k there in absurd (omega arith);
+        old = λ k here. let within = leave_within s k here in absurd (omega arith);
+        stays = λ k here. none_before s k here;
+      })
     ]
 
   -- Leaves are answered in part, and then all.

@@ -17,7 +17,7 @@ use Rattle.linda_client.specs.Client.{AreLeavesOf, Client, IsClient, IsPendingOf
 use Rattle.linda_client.specs.Reaction.{Reaction}
 use Rattle.linda_client.specs.React.{Call, leave, new_client, new_pending, out_server, react, unanswered_leaves, used_at}
 use Rattle.linda_client.specs.Numbers.{Rises}
-use Rattle.linda_client.proofs.LeaveLaws.{leaves_left, leaves_of, next_after, numbers_after}
+use Rattle.linda_client.proofs.LeaveLaws.{leaves_left, leaves_of, numbers_after}
 use Rattle.linda_client.proofs.ListLaws.{tail_all}
 use Rattle.linda_client.proofs.Course.{Course, Turn, abandons, accepts, arrives, begins, commits, commits_at_once, course, departs, gives_up, hands_on, leaves_on, oldest, pending_of, puts, rejects, repeats, rests, saves, stores, waits}
 
@@ -122,7 +122,7 @@ task_rises c d up same (Leaving all) h = leaves_same c d same all h
 task_rises c d up same Left h = tt
 
 -- the same numbers and tickets, and what is pending
-pub same_is : (c d : Client) → IsClient c → d.next ≡ c.next → d.ticket ≡ c.ticket → d.outs ≡ c.outs → IsTaskOf d d.task → IsClient d
+same_is : (c d : Client) → IsClient c → d.next ≡ c.next → d.ticket ≡ c.ticket → d.outs ≡ c.outs → IsTaskOf d d.task → IsClient d
 same_is c d is n t o task = record {
   servers_low = subst (λ xs. 1 ≤ length xs) (sym n) is.servers_low;
   servers_high = subst (λ xs. length xs ≤ MAX_SERVERS) (sym n) is.servers_high;

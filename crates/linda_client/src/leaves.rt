@@ -52,7 +52,8 @@ impl Leaves {
     pub(crate) fn drop_answered(&mut self, server: u32, n: u64)
         ensures { self.new ≡ unanswered_leaves server n self.old }
     {
-        self.items.retain(|leave| !(leave.0 == server && leave.1 == n));
+        self.items
+            .retain(|leave| !(leave.0 == server && leave.1 == n));
     }
 
     /// Whether every server has answered. Takes no memory.

@@ -36,8 +36,9 @@ impl Client {
     /// - Left, for a Leave that is not answered yet, answers it, and after the last the client has left.
     /// - Refused is handed on as a fault, whatever is pending.
     ///
-    /// All else is ignored, and so is all but offers and refusals by a client that has left. At a commitment every ticket is cancelled at every server, but where the
-    /// accepted offer was, unless an offer of it is saved.
+    /// All else is ignored, and so is all but offers and refusals by a client that has left. At a commitment
+    /// every ticket is cancelled at every server, but where the accepted offer was, unless an offer of it is
+    /// saved.
     ///
     /// # Errors
     ///

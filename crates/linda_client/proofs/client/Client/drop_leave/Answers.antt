@@ -1,5 +1,4 @@
-use Rattle.std.proofs.Common.{refl, sym, ap, ◌∙◌}
-use Rattle.linda_client.specs.declared.task.Task.TheVariants.{Leaving}
+use Rattle.std.proofs.Common.{refl}
 use Rattle.linda_client.specs.View.{client_of}
 use Rattle.linda_client.proofs.RangeLaws.{leaving_so}
 use Rattle.linda_client.proofs.client.Client.drop_leave.Goals as goal

@@ -1,4 +1,4 @@
-use Rattle.std.proofs.Common.{rules, sym, ap, ◌∙◌, ◌==◌, ◌&&◌, not}
+use Rattle.std.proofs.Common.{rules, ap, ◌∙◌, ◌==◌, ◌&&◌, not}
 use Rattle.std.proofs.lemmas.Fn.{filter_same}
 use Rattle.linda_client.specs.React.{unanswered_leaves}
 use Rattle.linda_client.proofs.leaves.Leaves.drop_answered.Goals as goal
