@@ -234,6 +234,19 @@ def verdict(left: bytes, right: bytes) -> Verdict:
     return Verdict(state, "", side, form, generation, gates, gates[1:] + (end,))
 
 
+def spell_bank(generation: int, state: State) -> bytes:
+    """A new bank with this state as its snapshot and no record."""
+    def number(value: int, size: int = 8) -> bytes:
+        return value.to_bytes(size, "big")
+
+    replies = {"Stored": 1, "Taken": 2, "Gone": 3, "Left": 4}
+    snapshot = number(state.next) + number(len(state.bag), 4) + b"".join(number(place) + state.bag[place] for place in sorted(state.bag))
+    snapshot += number(len(state.book), 4)
+    for client, (last, (name, *parts)) in sorted(state.book.items()):
+        snapshot += number(client, 4) + number(last) + bytes([replies[name]]) + b"".join(part if isinstance(part, bytes) else number(part) for part in parts)
+    return b"\1" + LETTERS[NEW] + number(generation) + number(len(snapshot), 4) + snapshot + b"\0"
+
+
 def spell_tuple(second: bytes, form: int) -> bytes:
     """The bytes that a form has for the tuple that the second form spells so; Bad where it has none."""
     it, (width, longest, most) = Bytes(second), LIMITS[form]
