@@ -11,7 +11,7 @@ tag to 4,096.
 
 Then the acts `key`, `any`, `out`, `ask` and `left` at 1,000 tuples and no open ask, beside no client that left (one for `left`) and beside 65,534, which with the
 two at work are all that a server keeps; and `leave`, 20,000 clients one after another, the first of all and the last of all. It fails where one of these grows
-more than twice. At last the memory in use: of a process in which 65,534 clients left, less that of one in which none did, for each of them.
+more than twice. At last the memory in use among 100,000 tuples: of a process in which 65,534 clients left, less that of one in which none did, for each of them.
 
 `run.py PROGRAM` runs a program that is built already.
 """
@@ -61,8 +61,9 @@ def time_once(program, act, tuples, asks, left=0):
 
 
 def memory_once(program, left):
-    """The greatest memory in use, in bytes, of a process in which so many clients left and nothing else was done but one Ask."""
-    child = subprocess.Popen([program, "ask", "0", "0", str(left), "1"], stdout=subprocess.DEVNULL)
+    """The greatest memory in use, in bytes, of a process in which so many clients left. There are many tuples besides, so that it is more than that of this
+    script, which the process is when it starts."""
+    child = subprocess.Popen([program, "ask", str(TUPLES[-1]), "0", str(left), "1"], stdout=subprocess.DEVNULL)
     _, status, usage = os.wait4(child.pid, 0)
     child.returncode = os.waitstatus_to_exitcode(status)
     if child.returncode != 0:
