@@ -272,14 +272,15 @@ class OverServers(unittest.TestCase):
             space.again()
         self.assertIsNone(space.pending)
         space.close()
-        self.refused(self.not_busy(lambda: Space([left.port, right.port], 7, fresh=True)), 0, "Known", 2)
+        self.refused(self.not_busy(lambda: Space([left.port], 7, fresh=True)), 0, "Known", 2)
         left.kill()
         self.serve("left", left.port)
         again = self.space(left, right)
         self.assertEqual([again.last_reply(0), again.last_reply(1)], [Kept(0, 2, "left"), Kept(1, 2, "left")])
         self.refused(lambda: again.out("c"), 1, "Left", 2)
         self.assertIsNone(again.pending)
-        self.refused(lambda: again.take("a", INT), 0, "Left", 2)
+        with self.assertRaisesRegex(Refused, "refused Left, detail 2"):
+            again.take("a", INT)
         self.assertEqual((again.pending, again.abandon()), ("sync", ()))
         self.assertEqual(self.space(right, client=8).take("a", INT), ("a", 1))
 
