@@ -110,7 +110,7 @@ unanswered_now c call r go s n m here number = by (go s)
   where
     by : UsesNoNumber c call r s ⊎ ((k : Message) × UsesNumber c call r s k) → OwnOrNew c s n m
     by (inl none) = inl (none.old m here)
-    by (inr (k, new)) = let at = next_is c s n m k ((new.unanswered_is m).0 here) new.number number in inr (omega arith)
+    by (inr (k, new)) = let at = next_is c s n m k (new.own m (subst (λ l. Contains l (s, m)) new.unanswered_is here)) new.number number in inr (omega arith)
 
 -- A numbered message that is sent from here on is unanswered, or its number is not used yet.
 sent_later : (calls : List Call) (c : Client) → IsClient c → (s n : ℕ) (m : Message) → Contains (sent c calls) (s, m) → number_of m ≡ Some n → OwnOrNew c s n m
@@ -149,7 +149,7 @@ now_and_later c call r is go s n a b p f own_or_new = by (go s) own_or_new
         let below = used c is s n a (none.again a p (has_number a n f)) f in
         let same = none.next in
         absurd (omega arith)
-    by (inr (k, new)) (inl own) = new.own a p ∙ sym ((new.unanswered_is b).0 own)
+    by (inr (k, new)) (inl own) = new.own a p ∙ sym (new.own b (subst (λ l. Contains l (s, b)) new.unanswered_is own))
     by (inr (k, new)) (inr low) =
         let at = next_is c s n a k (new.own a p) new.number f in
         let more = new.next in

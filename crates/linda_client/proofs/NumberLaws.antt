@@ -132,11 +132,8 @@ module _ (c : Client) (call : Call) where
           within = within;
           number = number;
           next = ap (λ xs. get_or xs s 0) next ∙ used_below c s within;
-          answered = λ k here. All-contains (λ p. IsAnswerTo p call) (unanswered c.task) (s, k) answered here;
-          unanswered_is = λ k. (
-            (λ here. sym (ap (λ p. p.1) (only (unanswered r.client.task) now (s, k) here))),
-            (λ is. subst (λ l. Contains l (s, k)) (sym now) (subst (λ x. Contains (this ∷ []) (s, x)) (sym is) one_there)),
-          );
+          answered = answered;
+          unanswered_is = now ∙ sym sent;
         },
       ))
       | inr apart ↦ inl (elsewhere t apart)
@@ -168,8 +165,8 @@ module _ (c : Client) (call : Call) where
           within = within;
           number = refl;
           next = next_after c s within;
-          answered = λ k here. none_before s k here;
-          unanswered_is = λ k. ((λ here. own_leave s k here), (λ is. subst (λ x. Contains sends (s, x)) (sym is) (leave_there c s within)));
+          answered = idle_answered idle;
+          unanswered_is = refl;
         },
       )
       | inr past ↦ inl (record {

@@ -1,6 +1,6 @@
 -- How the numbered messages of a client go on at each server, an Out, an Accept or a Leave each: which are
 -- sent, and which the server has not answered yet.
-use Rattle.std.specs.Prelude.{◌≡◌, ◌≢◌, ℕ, ◌+◌, ◌<◌, ◌≤◌, ◌⊎◌, ◌↔◌, [], ◌∷◌, Option, Some, None, All, Contains}
+use Rattle.std.specs.Prelude.{◌≡◌, ◌≢◌, ℕ, ◌+◌, ◌<◌, ◌≤◌, ◌⊎◌, [], ◌∷◌, Option, Some, None, All, Contains}
 use Rattle.std.specs.Prelude.{IsSome}
 use Rattle.linda_tuple.specs.Tuple.{Tuple}
 use Rattle.linda_wire.specs.declared.message.Message.{Message}
@@ -48,8 +48,8 @@ pub record UsesNoNumber (c : Client) (call : Call) (r : Reaction) (server : ℕ)
 
 -- A number is used at the server, which is there: this numbered message is sent to it, under its next
 -- number, which then is one greater; and all that is sent goes so, each to its server under the next number
--- there, at a Leave one to each server, and else this one alone. What the server had not answered is
--- answered, and of its own the new message alone is unanswered.
+-- there, and unless the client leaves this one alone. Whatever was unanswered, at any server, is answered, and
+-- what is sent is what is unanswered.
 pub record UsesNumber (c : Client) (call : Call) (r : Reaction) (server : ℕ) (m : Message) : Type 0 where
   pub sent : Contains r.packets (server, m)
   pub own : (k : Message) → Contains r.packets (server, k) → k ≡ m
@@ -58,8 +58,8 @@ pub record UsesNumber (c : Client) (call : Call) (r : Reaction) (server : ℕ) (
   pub within : server < servers c
   pub number : number_of m ≡ Some (next_at c server)
   pub next : next_at r.client server ≡ next_at c server + 1
-  pub answered : (k : Message) → IsUnanswered c server k → IsAnswerTo (server, k) call
-  pub unanswered_is : (k : Message) → IsUnanswered r.client server k ↔ (k ≡ m)
+  pub answered : All (λ (p : Packet). IsAnswerTo p call) (unanswered c.task)
+  pub unanswered_is : unanswered r.client.task ≡ r.packets
 
 -- How numbers go on at a call: at each server none is used, or one is.
 abbrev pub NumbersGoOn : Client → Call → Reaction → Type 0
