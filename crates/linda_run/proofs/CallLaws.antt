@@ -220,7 +220,7 @@ module _ (laws : OfCalls) (c : Client) (call : Call) (r : Reaction) (is : IsClie
   unanswered_from s m there =
       elim (laws.numbers c call r is answer s) [
         | inl none ↦ inl (none.old m there)
-        | inr used ↦ inr (ap number_of ((used.1.unanswered_is m).0 there) ∙ used.1.number)
+        | inr used ↦ inr (ap number_of (used.1.own m (subst (λ l. Contains {X = Packet} l (s, m)) used.1.unanswered_is there)) ∙ used.1.number)
       ]
 
   pub later : IsLater c r.client
@@ -240,7 +240,7 @@ module _ (laws : OfCalls) (c : Client) (call : Call) (r : Reaction) (is : IsClie
           let n_is : next_at c s ≡ n = same_Some (next_at c s) n (sym one.number ∙ ap number_of (sym m_is) ∙ number) in
           record {
             used = let more = one.next in omega (arith, n_is, more);
-            own = λ q waits same. (one.unanswered_is q).0 waits ∙ sym m_is;
+            own = λ q waits same. one.own q (subst (λ l. Contains {X = Packet} l (s, q)) one.unanswered_is waits) ∙ sym m_is;
           }
 
   -- What is sent is the client's to say.
