@@ -54,7 +54,7 @@ fn keep(alloc: Global, book: &mut Book, words: &str) -> Result<(), WordsFault> {
     Ok(book.keep(client, n, read_kept(alloc, rest)?)?)
 }
 
-// The reply of these words: `stored ID`, `taken ID TUPLE`, or `gone`.
+// The reply of these words: `stored ID`, `taken ID TUPLE`, `gone`, or `left`.
 fn read_kept(alloc: Global, words: &str) -> Result<KeptReply, WordsFault> {
     let (word, rest) = split_word(words);
     if word == "stored" {
@@ -64,6 +64,8 @@ fn read_kept(alloc: Global, words: &str) -> Result<KeptReply, WordsFault> {
         Ok(KeptReply::Taken(id, read_tuple(alloc, tuple)?))
     } else if word == "gone" {
         Ok(KeptReply::Gone)
+    } else if word == "left" {
+        Ok(KeptReply::Left)
     } else {
         Err(WordsFault::Unknown)
     }
@@ -84,17 +86,22 @@ fn tell_reply(alloc: Global, reply: &KeptReply, came: &mut String) -> Result<(),
             Ok(writeln!(came, "taken {id} {tuple}")?)
         }
         KeptReply::Gone => Ok(came.push_str("gone\n")?),
+        KeptReply::Left => Ok(came.push_str("left\n")?),
     }
 }
 
-// Shows what the words ask: the class of a number of a client, its last number, how many clients there are, and which
-// one comes from this one on or above it.
+// Shows what the words ask: the class of a number of a client, its last number, whether it left by that, how many
+// clients there are, and which one comes from this one on or above it.
 fn show(book: &Book, what: &str, which: &str, came: &mut String) -> Result<(), WordsFault> {
     if what == "class" {
         let (client, n) = read_numbered(which)?;
         tell_class(book.classify(client, read_number(n)?), came)
     } else if what == "last" {
         Ok(writeln!(came, "> {}", book.last(read_client(which)?))?)
+    } else if what == "standing" {
+        let (last, left) = book.standing(read_client(which)?);
+        let word = if left { "left" } else { "stays" };
+        Ok(writeln!(came, "> {last} {word}")?)
     } else if what == "clients" {
         Ok(writeln!(came, "> {}", book.len())?)
     } else if what == "from" {
@@ -118,6 +125,7 @@ fn tell_class(class: Class, came: &mut String) -> Result<(), WordsFault> {
         Class::Fresh => Ok(came.push_str("> fresh\n")?),
         Class::Kept => Ok(came.push_str("> kept\n")?),
         Class::Old(last) => Ok(writeln!(came, "> old {last}")?),
+        Class::Left(last) => Ok(writeln!(came, "> left {last}")?),
         Class::Gap(last) => Ok(writeln!(came, "> gap {last}")?),
     }
 }

@@ -62,6 +62,8 @@ fn read_deed(alloc: Global, word: &str, words: &str) -> Result<Deed, WordsFault>
     } else if word == "pass" {
         let id = read_number(rest)?;
         Ok(Deed::Pass { client, n, id })
+    } else if word == "leave" {
+        Ok(Deed::Leave { client, n })
     } else {
         Err(WordsFault::Unknown)
     }

@@ -154,7 +154,7 @@ fn tell_step(alloc: Global, came: &mut String, step: &Step) -> Result<(), AllocE
     tell_replies(alloc, came, &step.sends)
 }
 
-/// Appends a line for a deed, as `> put 7 1 ("a", 3)`, `> take 7 1 1` or `> pass 7 1 1`.
+/// Appends a line for a deed, as `> put 7 1 ("a", 3)`, `> take 7 1 1`, `> pass 7 1 1` or `> leave 7 1`.
 pub(crate) fn tell_deed(alloc: Global, came: &mut String, deed: &Deed) -> Result<(), AllocError> {
     match deed {
         Deed::Out { client, n, tuple } => {
@@ -163,6 +163,7 @@ pub(crate) fn tell_deed(alloc: Global, came: &mut String, deed: &Deed) -> Result
         }
         Deed::Take { client, n, id } => writeln!(came, "> take {client} {n} {id}"),
         Deed::Pass { client, n, id } => writeln!(came, "> pass {client} {n} {id}"),
+        Deed::Leave { client, n } => writeln!(came, "> leave {client} {n}"),
     }
 }
 

@@ -4,9 +4,9 @@ use Rattle.std.specs.Fmt.{decimal}
 use Rattle.linda_tuple.specs.Tuple.{Tuple}
 use Rattle.linda_text.specs.Written.{written_tuple, written_template}
 use Rattle.linda_wire.specs.declared.message.Message.{Message}
-use Rattle.linda_wire.specs.declared.message.Message.TheVariants.{Hello, Out, Ask, Accept, Cancel}
+use Rattle.linda_wire.specs.declared.message.Message.TheVariants.{Hello, Out, Ask, Accept, Cancel, Leave}
 use Rattle.linda_wire.specs.declared.reply.Reply.{Reply}
-use Rattle.linda_wire.specs.declared.reply.Reply.TheVariants.{Welcome, Stored, Offer, Read, Taken, Gone, Refused}
+use Rattle.linda_wire.specs.declared.reply.Reply.TheVariants.{Welcome, Stored, Offer, Read, Taken, Gone, Refused, Left}
 
 -- A blank, and what follows.
 abbrev pub spaced : List ℕ → List ℕ
@@ -37,6 +37,7 @@ message_words (Out n tuple) = numbered_then (codes "out") n (written_tuple tuple
 message_words (Ask ticket remove template) = numbered_then (ask_word remove) ticket (written_template template)
 message_words (Accept n ticket id) = numbered_then (codes "accept") n (decimal ticket ++ spaced (decimal id))
 message_words (Cancel ticket) = numbered (codes "cancel") ticket
+message_words (Leave n) = numbered (codes "leave") n
 
 -- Two numbers and a tuple after a word.
 abbrev pub entry_words : List ℕ → ℕ → ℕ → Tuple → List ℕ
@@ -50,3 +51,4 @@ reply_words (Read ticket id tuple) = entry_words (codes "read") ticket id tuple
 reply_words (Taken n id tuple) = entry_words (codes "taken") n id tuple
 reply_words (Gone n) = numbered (codes "gone") n
 reply_words (Refused code detail) = numbered_then (codes "refused") code (decimal detail)
+reply_words (Left n) = numbered (codes "left") n

@@ -44,6 +44,7 @@ pub fn write_message(alloc: Global, message: &Message) -> Result<String, AllocEr
         }
         Message::Accept { n, ticket, id } => write!(out, "accept {n} {ticket} {id}")?,
         Message::Cancel { ticket } => write!(out, "cancel {ticket}")?,
+        Message::Leave { n } => write!(out, "leave {n}")?,
     }
     Ok(out)
 }
@@ -115,6 +116,9 @@ fn message_in(alloc: Global, text: &str) -> Result<Message, WordsFault> {
     } else if word == "cancel" {
         let (ticket, _rest) = split_number(rest)?;
         Ok(Message::Cancel { ticket })
+    } else if word == "leave" {
+        let (n, _rest) = split_number(rest)?;
+        Ok(Message::Leave { n })
     } else {
         Err(WordsFault::Unknown)
     }

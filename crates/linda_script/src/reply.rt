@@ -36,6 +36,7 @@ pub fn write_reply(alloc: Global, reply: &Reply) -> Result<String, AllocError>
         }
         Reply::Gone { n } => format!(in alloc; "gone {n}"),
         Reply::Refused { code, detail } => format!(in alloc; "refused {code} {detail}"),
+        Reply::Left { n } => format!(in alloc; "left {n}"),
     }
 }
 
@@ -64,6 +65,8 @@ fn reply_in(alloc: Global, text: &str) -> Result<Reply, WordsFault> {
         Ok(Reply::Welcome { last: first })
     } else if word == "gone" {
         Ok(Reply::Gone { n: first })
+    } else if word == "left" {
+        Ok(Reply::Left { n: first })
     } else {
         reply_of_two(alloc, word, first, rest)
     }
