@@ -19,7 +19,7 @@ INT, TEXT, BOOL, ANY = (object() for _ in range(4))
 FORMALS = {INT: 4, TEXT: 5, BOOL: 6, ANY: 7}
 NAMES = {4: "?i", 5: "?s", 6: "?b", 7: "_"}
 REFUSALS = {1: "Version", 2: "Known", 3: "Busy", 4: "Old", 5: "Gap", 6: "Full", 7: "TooManyClients", 8: "Down", 9: "Malformed",
-            10: "TooManyAsks", 12: "NoHello"}
+            10: "TooManyAsks", 11: "Left", 12: "NoHello"}
 
 
 # ---- spelling
@@ -66,6 +66,10 @@ def cancel(ticket):
     return frame(b"\x05" + spell_number(ticket))
 
 
+def leave(number):
+    return frame(b"\x06" + spell_number(number))
+
+
 # ---- reading
 
 class Reader:
@@ -104,6 +108,7 @@ READERS = {
     3: ("Ask", lambda r: {"ticket": r.number(), "remove": bool(r.number(1)), "template": r.items()}),
     4: ("Accept", lambda r: {"number": r.number(), "ticket": r.number(), "id": r.number()}),
     5: ("Cancel", lambda r: {"ticket": r.number()}),
+    6: ("Leave", lambda r: {"number": r.number()}),
     0x11: ("Welcome", lambda r: {"last": r.number()}),
     0x12: ("Stored", lambda r: {"number": r.number(), "id": r.number()}),
     0x13: ("Offer", lambda r: {"ticket": r.number(), "id": r.number(), "tuple": r.items()}),
@@ -111,6 +116,7 @@ READERS = {
     0x15: ("Taken", lambda r: {"number": r.number(), "id": r.number(), "tuple": r.items()}),
     0x16: ("Gone", lambda r: {"number": r.number()}),
     0x17: ("Refused", lambda r: {"code": r.number(1), "detail": r.number()}),
+    0x18: ("Left", lambda r: {"number": r.number()}),
 }
 
 
@@ -172,7 +178,7 @@ def connect(port):
 # ---- a client
 
 class Client:
-    """Greets, and keeps the numbers of Outs and Accepts (one sequence) and the tickets, none of which is used twice."""
+    """Greets, and keeps the numbers of Outs, Accepts and the Leave (one sequence) and the tickets, none of which is used twice."""
 
     def __init__(self, send, receive, client, fresh=True, ticket=0):
         self.send, self.receive, self.ticket = send, receive, ticket
@@ -220,6 +226,12 @@ class Client:
                 return parts["tuple"]
             if name != "Gone":
                 raise ValueError(words_of(name, parts))
+
+    def leave(self):
+        """Gives the client number up for good: the server does nothing more for it."""
+        self.number += 1
+        self.send(leave(self.number))
+        self.answer("Left")
 
     def answer(self, wanted):
         name, parts = self.receive()

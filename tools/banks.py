@@ -3,14 +3,14 @@
 It is written from the documents alone and shares nothing with the program, so that the two can be compared. It is no tool by itself.
 
 A bank is in the first form (LND1) or in the second (LND2). The tuples of a state are the bytes that the second form has for them, whatever the form that
-they were read in, so that states can be compared; `in_form` spells a bank again in another form.
+they were read in, so that states can be compared; `in_form` spells a bank again in another form. The first form has no spelling for a client that left.
 """
 
 from dataclasses import dataclass, field, replace
 from pathlib import Path
 
 NUMBERS = 2**63
-CLIENTS = 1_024
+CLIENTS = 65_536
 SIDES = ("left", "right")
 LETTERS = {1: b"LND1", 2: b"LND2"}
 # By form: the bytes of a text's length, the longest text, the most fields.
@@ -97,14 +97,16 @@ class Bytes:
             return "Taken", self.number(), self.tuple()
         if kind == 3:
             return ("Gone",)
+        if kind == 4 and self.form != 1:
+            return ("Left",)
         raise Bad
 
     def deed(self) -> tuple:
         kind = self.number(1)
-        if kind not in (1, 2, 3):
+        if kind not in (1, 2, 3) and (kind != 4 or self.form == 1):
             raise Bad
         client, number = self.number(4), self.number()
-        return kind, client, number, self.tuple() if kind == 1 else self.number()
+        return kind, client, number, None if kind == 4 else self.tuple() if kind == 1 else self.number()
 
     def is_done(self) -> bool:
         return self.at == len(self.data)
@@ -162,8 +164,8 @@ def read_journal(data: bytes, at: int, form: int) -> tuple[list[tuple[int, list[
 def do(state: State, deed: tuple) -> State:
     """The state after a deed, which changes the maps that it is given."""
     kind, client, number, what = deed
-    last = state.book.get(client, (0, ()))[0]
-    if number != last + 1 or number >= NUMBERS or (last == 0 and len(state.book) >= CLIENTS):
+    last, kept = state.book.get(client, (0, ()))
+    if number != last + 1 or number >= NUMBERS or kept == ("Left",) or (last == 0 and len(state.book) >= CLIENTS):
         raise Bad
     if kind == 1:
         if state.next >= NUMBERS:
@@ -176,7 +178,7 @@ def do(state: State, deed: tuple) -> State:
             raise Bad
         state.book[client] = number, ("Taken", what, state.bag.pop(what))
     else:
-        state.book[client] = number, ("Gone",)
+        state.book[client] = number, ("Gone",) if kind == 3 else ("Left",)
     return state
 
 
@@ -232,6 +234,19 @@ def verdict(left: bytes, right: bytes) -> Verdict:
     return Verdict(state, "", side, form, generation, gates, gates[1:] + (end,))
 
 
+def spell_bank(generation: int, state: State) -> bytes:
+    """A new bank with this state as its snapshot and no record."""
+    def number(value: int, size: int = 8) -> bytes:
+        return value.to_bytes(size, "big")
+
+    replies = {"Stored": 1, "Taken": 2, "Gone": 3, "Left": 4}
+    snapshot = number(state.next) + number(len(state.bag), 4) + b"".join(number(place) + state.bag[place] for place in sorted(state.bag))
+    snapshot += number(len(state.book), 4)
+    for client, (last, (name, *parts)) in sorted(state.book.items()):
+        snapshot += number(client, 4) + number(last) + bytes([replies[name]]) + b"".join(part if isinstance(part, bytes) else number(part) for part in parts)
+    return b"\1" + LETTERS[NEW] + number(generation) + number(len(snapshot), 4) + snapshot + b"\0"
+
+
 def spell_tuple(second: bytes, form: int) -> bytes:
     """The bytes that a form has for the tuple that the second form spells so; Bad where it has none."""
     it, (width, longest, most) = Bytes(second), LIMITS[form]
@@ -252,17 +267,25 @@ def spell_tuple(second: bytes, form: int) -> bytes:
 
 
 def in_form(data: bytes, form: int) -> bytes:
-    """A whole bank, spelled again in this form; Bad where it has a tuple without a spelling there."""
+    """A whole bank, spelled again in this form; Bad where it has a tuple, or a client that left, without a spelling there."""
     def number(value: int, size: int = 8) -> bytes:
         return value.to_bytes(size, "big")
 
+    def without_more(kind: int) -> bytes:
+        """The first byte of a deed or of a reply; Bad where the form has none for a client that left."""
+        if kind == 4 and form == 1:
+            raise Bad
+        return bytes([kind])
+
     def spell_reply(reply: tuple) -> bytes:
-        if reply[0] == "Gone":
-            return b"\3"
+        if reply[0] in ("Gone", "Left"):
+            return without_more(3 if reply[0] == "Gone" else 4)
         return b"\1" + number(reply[1]) if reply[0] == "Stored" else b"\2" + number(reply[1]) + spell_tuple(reply[2], form)
 
     def spell_deed(deed: tuple) -> bytes:
         kind, client, count, what = deed
+        if kind == 4:
+            return without_more(kind) + number(client, 4) + number(count)
         return bytes([kind]) + number(client, 4) + number(count) + (spell_tuple(what, form) if kind == 1 else number(what))
 
     size = int.from_bytes(data[13:17], "big")

@@ -2,7 +2,7 @@
 
     python3 tools/refused_serve.py MALLOC [FROM] [STEP]     MALLOC: the library that refuses growths; FROM: the first one (1), STEP: to the next (1)
 
-The clients put, take, wait for each other's tuple, send 64 messages at once, and greet again. At each growth that is refused a request gets its answer,
+The clients put, take, wait for each other's tuple, send 64 messages at once, greet again, and leave. At each growth that is refused a request gets its answer,
 or a refusal (Busy, Down), or its connection ends, or the program ends with status 3 and `memory` or `store: down`; whoever waits ten seconds for
 anything else is told as a hang. A client that lost its connection greets again and sends what is unanswered; where the program has ended it is started
 again over the same folder, with no growth refused; where it ended before it was ready, the folder may have no store, and is emptied. Then:
@@ -182,7 +182,7 @@ class Client:
         if self.pending:
             self.send(b"".join(self.pending))
         while self.pending:
-            reply = self.receive(("Stored", "Taken", "Gone"))
+            reply = self.receive(("Stored", "Taken", "Gone", "Left"))
             if reply[1]["number"] != self.last + 1:
                 raise Difference(f"client {self.number} wants number {self.last + 1} and got {frames.words_of(*reply)}")
             self.answered.append((self.pending.pop(0), reply))
@@ -191,6 +191,11 @@ class Client:
     def put(self, *rows: tuple) -> None:
         self.pending = [frames.out(self.last + 1 + at, *row) for at, row in enumerate(rows)]
         self.held(self.finish_pending)
+
+    def leave(self) -> None:
+        self.pending = [frames.leave(self.last + 1)]
+        self.held(self.finish_pending)
+        self.hang_up()
 
     def ask(self, tag: str) -> None:
         """Asks, and does not wait."""
@@ -233,10 +238,11 @@ def play(program: Program) -> tuple[list, dict[int, tuple], int]:
     one.take("job")
     one.put(("c", 9))
     two.take("c")
-    one.hang_up()
-    two.hang_up()
+    one.ask("c")
+    one.leave()
+    two.leave()
     told = [entry and entry[1] for client in (one, two) for entry in client.answered]
-    replies = [reply and (reply[0], reply[1]["id"], reply[1].get("tuple")) for reply in told if not reply or reply[0] != "Gone"]
+    replies = [reply and (reply[0], reply[1].get("id"), reply[1].get("tuple")) for reply in told if not reply or reply[0] != "Gone"]
     return replies, left_over(program), one.busy + two.busy
 
 
@@ -285,7 +291,7 @@ def main() -> None:
     malloc = sys.argv[1]
     growth, step = (int(word) for word in [*sys.argv[2:], *["1", "1"][len(sys.argv) - 2:]])
     wanted, _, starts, _ = run(malloc, 0)
-    if starts != 1 or len(wanted[0]) != 3 + 1 + 1 + 64 + 1 + 1 + 1 or len(wanted[1]) != LEFT:
+    if starts != 1 or len(wanted[0]) != 3 + 1 + 1 + 64 + 1 + 1 + 1 + 2 or len(wanted[1]) != LEFT:
         sys.exit(f"with nothing refused: {wanted}, {starts} starts")
     refused = ended = turned_away = none_left = 0
     while none_left < 3:

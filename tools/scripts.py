@@ -16,7 +16,8 @@ class Script:
     def __init__(self, seed: int) -> None:
         self.random = random.Random(seed)
         self.servers = self.random.randint(1, 5)
-        self.clients = range(1, self.random.randint(2, 8) + 1)
+        self.clients = list(range(1, self.random.randint(2, 8) + 1))
+        self.last_client = len(self.clients)
         self.commands: list[tuple] = []
         self.members: dict[int, list[int]] = {}
         self.number = self.time = self.bytes = 0
@@ -81,9 +82,16 @@ class Script:
         self.time += self.random.randint(0, 20)
         return "tick", max(0, self.time - self.random.choice([0, 0, 0, 30]))
 
+    def leave(self, client: int) -> tuple:
+        """A client leaves, perhaps one that waits, and is mostly not named again: a new client comes in its place."""
+        if self.random.random() < 0.8:
+            self.last_client += 1
+            self.clients[self.clients.index(client)] = self.last_client
+        return "leave", client
+
     def command(self) -> tuple:
         client, server = self.random.choice(self.clients), self.random.randrange(self.servers)
         return self.random.choice(
             [lambda: ("out", client, self.value())] * 8 + [lambda: ("sync", client, self.event())] * 8
-            + [lambda: ("abandon", client), self.tick, self.tick, lambda: ("repeat",), lambda: ("snapshot", server),
+            + [lambda: ("abandon", client), lambda: self.leave(client), self.tick, self.tick, lambda: ("repeat",), lambda: ("snapshot", server),
                lambda: ("stop", server), lambda: ("stop", server, self.random.randint(0, 7), self.random.randint(0, 255))])()

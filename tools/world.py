@@ -1,7 +1,7 @@
 """A model of `linda run`: which lines a script prints, by docs/FORMATS.md ("What a server answers"), docs/EVENTS.md and docs/SCRIPTS.md.
 
 It is written from the documents alone, as plainly as they are, and shares nothing with the program, so that the two can be compared. It is no tool by itself.
-A script is a list of commands, each a tuple of a word and what belongs to it: out, sync, abandon, tick, snapshot, stop, repeat, state. Tuples are Python
+A script is a list of commands, each a tuple of a word and what belongs to it: out, sync, abandon, leave, tick, snapshot, stop, repeat, state. Tuples are Python
 tuples; a pattern is a value or one of "?i", "?s", "?b", "_" in a Formal; events are ("in", template), ("rd", template), ("alarm", time), ("always", atom),
 ("never",), ("choose", events), ("wrap", number, event) and ("nack", number, event).
 """
@@ -14,7 +14,7 @@ Tuple = tuple[Atom, ...]
 Event = tuple
 
 MOST_ASKS = 64
-MOST_CLIENTS = 1_024
+MOST_CLIENTS = 65_536
 
 
 @dataclass(frozen=True)
@@ -79,8 +79,8 @@ def command_text(command: tuple) -> str:
         return f"{parts[0]} out {tuple_text(parts[1])}"
     if word == "sync":
         return f"{parts[0]} sync {event_text(parts[1])}"
-    if word == "abandon":
-        return f"{parts[0]} abandon"
+    if word in ("abandon", "leave"):
+        return f"{parts[0]} {word}"
     return " ".join([word, *map(str, parts)])
 
 
@@ -138,6 +138,8 @@ class Server:
             return [(client, ("Refused", 4, last))]
         if number == last:
             return [(client, (kept[0], number, *kept[1:]))]
+        if kept[:1] == ("Left",):
+            return [(client, ("Refused", 11, last))]
         if number > last + 1:
             return [(client, ("Refused", 5, last))]
         if last == 0 and len(self.book) >= MOST_CLIENTS:
@@ -163,7 +165,24 @@ class Server:
         del self.holds[place]
         return [self.keep(client, number, "Taken", place, self.bag.pop(place))]
 
+    def Leave(self, client: int, number: int) -> list[tuple[int, tuple]]:
+        if (answer := self.judged(client, number)) is not None:
+            return answer
+        return [self.keep(client, number, "Left"), *self.close(client)]
+
+    def close(self, client: int) -> list[tuple[int, tuple]]:
+        """The client's waits are gone, then its holds, by rising id, each dispatched before the next."""
+        self.waits = [wait for wait in self.waits if wait[0] != client]
+        sent = []
+        for place in sorted(place for place, holder in self.holds.items() if holder[0] == client):
+            del self.holds[place]
+            sent += self.dispatch(place)
+        return sent
+
     def Ask(self, client: int, ticket: int, remove: bool, template: tuple) -> list[tuple[int, tuple]]:
+        last, kept = self.book.get(client, (0, ()))
+        if kept == ("Left",):
+            return [(client, ("Refused", 11, last))]
         held = [place for place, holder in self.holds.items() if holder == (client, ticket)]
         if held:
             return [(client, ("Offer", ticket, held[0], self.bag[held[0]]))]
@@ -237,6 +256,8 @@ class Client:
     numbers: dict[int, int] = field(default_factory=dict)
     put: tuple[int, tuple] | None = None
     waiting: Waiting | None = None
+    leaves: dict[int, int] = field(default_factory=dict)
+    has_left: bool = False
 
     def __post_init__(self) -> None:
         self.sent: list[tuple[int, tuple]] = []
@@ -251,18 +272,34 @@ class Client:
         self.numbers[server] = self.numbers.get(server, 0) + 1
         return self.numbers[server]
 
+    def is_refused(self) -> bool:
+        """Whether it has left, or something is pending: then an out, a synchronization and a leave are refused."""
+        if self.has_left or self.put or self.waiting or self.leaves:
+            self.lines.append("refused left" if self.has_left else "refused busy")
+            return True
+        return False
+
     def out(self, value: Tuple) -> None:
-        if self.put or self.waiting:
-            self.lines.append("refused busy")
+        if self.is_refused():
             return
         server = (self.number + self.puts) % self.servers
         self.puts += 1
         self.put = server, ("Out", self.next_number(server), value)
         self.sent.append(self.put)
 
+    def leave(self) -> None:
+        """A Leave with the next number there goes to each server; `leaves` has the numbers that are not answered."""
+        if self.is_refused():
+            return
+        self.leaves = {server: self.next_number(server) for server in range(self.servers)}
+        self.sent += self.unanswered_leaves()
+
+    def unanswered_leaves(self) -> list[tuple[int, tuple]]:
+        """The Leaves that are not answered."""
+        return [(server, ("Leave", number)) for server, number in self.leaves.items()]
+
     def sync(self, event: Event) -> None:
-        if self.put or self.waiting:
-            self.lines.append("refused busy")
+        if self.is_refused():
             return
         bases, nacks = bases_and_nacks(event)
         self.waiting = Waiting(bases, nacks, {})
@@ -281,7 +318,9 @@ class Client:
         return [(server, ("Ask", ticket, base.leaf[0] == "in", base.leaf[1])) for ticket, base in self.waiting.tickets.items() for server in range(self.servers)]
 
     def abandon(self) -> None:
-        if not self.waiting:
+        if self.has_left:
+            self.lines.append("refused left")
+        elif not self.waiting:
             self.lines.append("refused idle")
         elif self.waiting.accept:
             self.lines.append("refused busy")
@@ -333,6 +372,12 @@ class Client:
             if self.put and self.put[0] == server and self.put[1][1] == reply[1]:
                 self.put = None
                 self.lines.append(f"stored {server} {reply[2]}")
+        elif name == "Left":
+            if self.leaves.get(server) == reply[1]:
+                del self.leaves[server]
+                if not self.leaves:
+                    self.has_left = True
+                    self.lines.append("left")
         elif self.waiting and self.waiting.accept:
             self.settle(server, reply)
 
@@ -374,7 +419,7 @@ class Client:
             self.ring()
 
     def reconnected(self, server: int) -> None:
-        unanswered = [self.put] if self.put else []
+        unanswered = [self.put] if self.put else self.unanswered_leaves()
         if self.waiting:
             unanswered = [self.waiting.accept[:2]] if self.waiting.accept else []
             unanswered += self.asks()
@@ -406,9 +451,9 @@ class World:
         return told
 
     def do(self, word: str, *parts) -> None:  # noqa: ANN002
-        if word in ("out", "sync", "abandon"):
+        if word in ("out", "sync", "abandon", "leave"):
             number, *rest = parts
-            if word != "abandon":
+            if word in ("out", "sync"):
                 self.clients.setdefault(number, Client(number, len(self.servers)))
             if number not in self.clients:
                 self.lines.append(f"{number} refused idle")

@@ -1,5 +1,5 @@
 #!/usr/bin/env python3
-"""Times single steps of a store that has many tuples and many open asks of other clients.
+"""Times single steps of a store that has many tuples and many open asks of other clients, and beside many clients that left.
 
 It proves and builds `main.rt.txt` (so named since the gate reads each `.rt` file) over the crates of this repository, in a folder of its own, and runs it for each act (`key`,
 `any`, `out`, `last`, `ask`, `held`, `freed`: see there) at 1,000, 10,000 and 100,000 tuples and at 0, 64, 4,096 and 65,536 open asks. A time
@@ -8,6 +8,10 @@ last, and fails where a take by key or a take of any grows more than twice from 
 `last`, `held` and `freed` more than twice from no open ask to 65,536 asks for another tag, `last` more than twice from 64 asks
 for its own tag, each with another key, to 65,536, or `held` or `freed` more than one and a half times from no held tuple of the
 tag to 4,096.
+
+Then the acts `key`, `any`, `out`, `ask` and `left` at 1,000 tuples and no open ask, beside no client that left (one for `left`) and beside 65,534, which with the
+two at work are all that a server keeps; and `leave`, 20,000 clients one after another, the first of all and the last of all. It fails where one of these grows
+more than twice. At last the memory in use among 100,000 tuples: of a process in which 65,534 clients left, less that of one in which none did, for each of them.
 
 `run.py PROGRAM` runs a program that is built already.
 """
@@ -25,6 +29,9 @@ ASKS = [0, 64, 4_096, 65_536]
 RUNS = 4
 # Many, so that what is timed is a store at work for a while.
 ROUNDS = 20_000
+BESIDE_LEFT = ["key", "any", "out", "ask", "left", "leave"]
+# All clients that a server keeps, but for the two at work.
+MOST_LEFT = 65_534
 MOST_GROWTH = 2.0
 MOST_BESIDE_HELD = 1.5
 HERE = os.path.dirname(os.path.abspath(__file__))
@@ -43,14 +50,41 @@ def build(folder):
     with open(os.path.join(TOP, "crates.txt")) as lines, open(os.path.join(folder, "crates.txt"), "w") as kept:
         kept.writelines(line for line in lines if line.split(":")[0] in NEEDED)
         kept.write("bench_step: linda_tuple linda_wire linda_bag linda_step anyhow\n")
-    subprocess.run(["rt", "run", "--", "ask", "1", "0", "1"], cwd=program, check=True, stdout=subprocess.DEVNULL)
+    subprocess.run(["rt", "run", "--", "ask", "1", "0", "0", "1"], cwd=program, check=True, stdout=subprocess.DEVNULL)
     return os.path.join(program, "out", "bench_step")
 
 
-def time_once(program, act, tuples, asks):
-    words = [program, act, str(tuples), str(asks), str(ROUNDS)]
+def time_once(program, act, tuples, asks, left=0):
+    words = [program, act, str(tuples), str(asks), str(left), str(ROUNDS)]
     done = subprocess.run(words, check=True, stdout=subprocess.PIPE, text=True)
     return int(done.stdout) / 1000
+
+
+def memory_once(program, left):
+    """The greatest memory in use, in bytes, of a process in which so many clients left. There are many tuples besides, so that it is more than that of this
+    script, which the process is when it starts."""
+    child = subprocess.Popen([program, "ask", str(TUPLES[-1]), "0", str(left), "1"], stdout=subprocess.DEVNULL)
+    _, status, usage = os.wait4(child.pid, 0)
+    child.returncode = os.waitstatus_to_exitcode(status)
+    if child.returncode != 0:
+        sys.exit(f"{left} clients leave: ended with status {child.returncode}")
+    return usage.ru_maxrss * 1024
+
+
+def beside_left(program):
+    """Tells the acts beside clients that left and the memory of each of these; the greatest growth."""
+    worst = 0.0
+    print("| act | few clients that left | many | growth |")
+    print("|---|---|---|---|")
+    for act in BESIDE_LEFT:
+        few = 1 if act == "left" else 0
+        many = MOST_LEFT - ROUNDS if act == "leave" else MOST_LEFT
+        times = [min(time_once(program, act, TUPLES[0], 0, left) for _ in range(RUNS)) for left in (few, many)]
+        worst = max(worst, times[1] / times[0])
+        print(f"| {act} | {few}: {times[0]:.2f} us | {many:,}: {times[1]:.2f} us | {times[1] / times[0]:.2f} |")
+    none, all_left = (min(memory_once(program, left) for _ in range(RUNS)) for left in (0, MOST_LEFT))
+    print(f"{MOST_LEFT:,} clients that left: {(all_left - none) / 2**20:.1f} MiB, {(all_left - none) / MOST_LEFT:.0f} bytes each")
+    return worst
 
 
 def main():
@@ -63,6 +97,7 @@ def main():
                     if act == "last" and asks == 0:
                         continue
                     times[act, tuples, asks] = min(time_once(program, act, tuples, asks) for _ in range(RUNS))
+        worst_left = beside_left(program)
     worst = worst_held = 0.0
     print("| act | open asks | " + " | ".join(f"{tuples:,} tuples" for tuples in TUPLES) + " | growth |")
     print("|---|---|" + "---|" * (len(TUPLES) + 1))
@@ -84,6 +119,8 @@ def main():
             growths = [times[act, tuples, ASKS[-1]] / times[act, tuples, first] for tuples in TUPLES]
             worst = max([worst, *growths])
             print(f"| {act} | {first} to 65,536 | " + " | ".join(f"{growth:.2f}" for growth in growths) + " | |")
+    if worst_left > MOST_GROWTH:
+        sys.exit(f"a growth of {worst_left:.2f} beside clients that left, more than {MOST_GROWTH}")
     if worst_held > MOST_BESIDE_HELD:
         sys.exit(f"a growth of {worst_held:.2f} beside 4,096 held tuples, more than {MOST_BESIDE_HELD}")
     if worst > MOST_GROWTH:

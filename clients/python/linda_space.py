@@ -47,7 +47,7 @@ MOST_TRIES = 10_000                     # greetings of a server whose connection
 PAUSE = 0.001                           # seconds between two of them
 
 REFUSALS = {1: "Version", 2: "Known", 3: "Busy", 4: "Old", 5: "Gap", 6: "Full", 7: "TooManyClients", 8: "Down", 9: "Malformed", 10: "TooManyAsks",
-            12: "NoHello"}
+            11: "Left", 12: "NoHello"}
 
 Value = Union[int, str, bool]
 Values = Tuple[Value, ...]
@@ -114,6 +114,10 @@ class Idle(SpaceError):
 
 class Spent(SpaceError):
     """A number, a ticket or the count of outs would reach 2^63. Nothing was sent for it, and the space is as before."""
+
+
+class Left(SpaceError):
+    """This client has left, by `Space.leave`: there is nothing more that it can do. Nothing was sent."""
 
 
 class Closed(SpaceError):
@@ -258,7 +262,7 @@ class Stored:
 @dataclass(frozen=True)
 class Kept:
     """The reply that a server keeps to this client's last numbered message there. `kind` is "stored" for an out, with the `id`; "taken" for a take, with the
-    `id` and the `tuple`; "gone" for one that came too late: nothing was taken."""
+    `id` and the `tuple`; "gone" for one that came too late: nothing was taken; "left" for the number with which it left."""
 
     server: int
     number: int
@@ -354,7 +358,11 @@ def _cancel(ticket: int) -> bytes:
     return _frame(b"\x05", _spell_number(ticket))
 
 
-_WELCOME, _STORED, _OFFER, _READ, _TAKEN, _GONE, _REFUSED = range(0x11, 0x18)
+def _leave(number: int) -> bytes:
+    return _frame(b"\x06", _spell_number(number))
+
+
+_WELCOME, _STORED, _OFFER, _READ, _TAKEN, _GONE, _REFUSED, _LEFT = range(0x11, 0x19)
 _HAVE_ID, _HAVE_TUPLE = (_STORED, _OFFER, _READ, _TAKEN), (_OFFER, _READ, _TAKEN)
 
 
@@ -367,6 +375,10 @@ class _Reply:
     number: int
     id: int = 0
     tuple: Values = ()
+
+
+def _is_left(reply: _Reply) -> bool:
+    return reply.kind == _REFUSED and REFUSALS.get(reply.number) == "Left"
 
 
 class _Reader:
@@ -407,7 +419,7 @@ class _Reader:
 
     def reply(self) -> _Reply:
         kind = self.number(1)
-        if not _WELCOME <= kind <= _REFUSED:
+        if not _WELCOME <= kind <= _LEFT:
             raise ValueError(f"a frame of kind {kind}")
         if kind == _REFUSED:
             reply = _Reply(kind, self.number(1), self.number())
@@ -471,6 +483,18 @@ class _Repeat:
 
 
 @dataclass(frozen=True)
+class _Leaving:
+    """Leaves that are not answered: the number of each, by server, servers rising."""
+
+    numbers: Dict[int, int]
+
+
+@dataclass(frozen=True)
+class _HasLeft:
+    """All servers know that the client left."""
+
+
+@dataclass(frozen=True)
 class _Arrival:
     """An Offer or a Read."""
 
@@ -514,8 +538,8 @@ class _Sync:
         return min(times) if times and self.accepted is None else None
 
 
-_Task = Union[_Put, _Repeat, _Sync]
-_Ended = Union[Stored, Kept, Outcome]
+_Task = Union[_Put, _Repeat, _Sync, _Leaving]
+_Ended = Union[Stored, Kept, Outcome, _HasLeft]
 
 
 class _Machine:
@@ -525,6 +549,7 @@ class _Machine:
     def __init__(self, client: int, servers: int) -> None:
         self.client, self.servers, self.clock, self.ticket, self.outs = client, servers, 0, 1, 0
         self.numbers = [1] * servers
+        self.has_left = False
         self.task: Optional[_Task] = None
         self.sent: List[Tuple[int, bytes]] = []
         self.ended: Optional[_Ended] = None
@@ -544,6 +569,13 @@ class _Machine:
         self.be_idle()
         if self.numbers[server] > 1:
             self.begin(_Repeat(server, self.numbers[server] - 1))
+
+    def leave(self) -> None:
+        """Gives the number up at all servers."""
+        self.be_idle()
+        if max(self.numbers) >= NUMBER_LIMIT:
+            raise Spent("no number is left")
+        self.begin(_Leaving(dict(enumerate(self.numbers))))
 
     def sync(self, event: Event) -> None:
         self.be_idle()
@@ -568,12 +600,18 @@ class _Machine:
         self.sent += self.unanswered(task)
         self.task = task
 
+    def be_here(self) -> None:
+        if self.has_left:
+            raise Left("the client has left")
+
     def be_idle(self) -> None:
+        self.be_here()
         if self.task is not None or self.ended is not None:
             raise Busy("something is pending: go on with it by again(), or give a synchronization up by abandon()")
 
     def abandon(self) -> Tuple[int, ...]:
         """Cancels each ticket; answers all nack numbers."""
+        self.be_here()
         if isinstance(self.ended, Outcome) or isinstance(self.task, _Sync) and self.task.accepted is not None:
             raise Busy("a tuple may have been taken for it: go on by again()")
         if not isinstance(self.task, _Sync):
@@ -594,11 +632,13 @@ class _Machine:
             self.commit(sync, base, "alarm")
 
     def unanswered(self, task: Optional[_Task]) -> List[Tuple[int, bytes]]:
-        """What is not answered: an Out or an Accept, and then the Asks of all open tickets, by rising ticket, then rising server."""
+        """What is not answered: an Out, an Accept or the Leaves, and then the Asks of all open tickets, by rising ticket, then rising server."""
         if isinstance(task, _Put):
             return [(task.server, _out(task.number, task.values))]
         if isinstance(task, _Repeat):
             return [(task.server, _accept(task.number, 0, 0))]
+        if isinstance(task, _Leaving):
+            return [(server, _leave(number)) for server, number in task.numbers.items()]
         if task is None:
             return []
         packets = [(own.server, _accept(own.number, own.ticket, own.id)) for own in [task.accepted] if own is not None]
@@ -615,12 +655,15 @@ class _Machine:
         self.sent += [packet for packet in self.unanswered(self.task) if packet[0] == server]
 
     def receive(self, server: int, reply: _Reply) -> None:
-        """Takes a reply. Raises Refused where it is one, and Spent where an offer would be accepted and no number is left."""
+        """Takes a reply. Raises Refused where it is one, and Spent where an offer would be accepted and no number is left. Where the client leaves, Refused with
+        Left is as good as Left: an earlier life of it has left that server."""
         task = self.task
-        if reply.kind == _REFUSED:
+        if isinstance(task, _Leaving) and (reply.kind == _LEFT and task.numbers.get(server) == reply.number or _is_left(reply) and server in task.numbers):
+            self.left(server, task)
+        elif reply.kind == _REFUSED:
             self.refuse(server, reply.number)
             raise Refused(server, reply.number, reply.id)
-        if reply.kind in (_OFFER, _READ):
+        elif reply.kind in (_OFFER, _READ):
             self.arrive(_Arrival(server, reply.number, reply.id, reply.tuple, reply.kind == _OFFER))
         elif reply.kind == _WELCOME:
             pass
@@ -632,12 +675,18 @@ class _Machine:
                 self.end(server, reply.number, Stored(server, reply.id))
         elif isinstance(task, _Repeat):
             if (task.server, task.number) == (server, reply.number):
-                kind = {_STORED: "stored", _TAKEN: "taken", _GONE: "gone"}[reply.kind]
-                self.end(server, reply.number, Kept(server, reply.number, kind, None if kind == "gone" else reply.id, reply.tuple or None))
+                kind = {_STORED: "stored", _TAKEN: "taken", _GONE: "gone", _LEFT: "left"}[reply.kind]
+                self.end(server, reply.number, Kept(server, reply.number, kind, reply.id if reply.kind in _HAVE_ID else None, reply.tuple or None))
+
+    def left(self, server: int, task: _Leaving) -> None:
+        """A server knows that the client left."""
+        self.numbers[server] = task.numbers.pop(server) + 1
+        if not task.numbers:
+            self.task, self.ended, self.has_left = None, _HasLeft(), True
 
     def refuse(self, server: int, code: int) -> None:
         """A Refused changes nothing but this: an out or a repeat that was judged and not done is not pending any more, and its number is still the next one."""
-        if isinstance(self.task, (_Put, _Repeat)) and self.task.server == server and REFUSALS.get(code) in ("Old", "Gap", "Full", "TooManyClients"):
+        if isinstance(self.task, (_Put, _Repeat)) and self.task.server == server and REFUSALS.get(code) in ("Old", "Gap", "Full", "TooManyClients", "Left"):
             self.task = None
 
     def arrive(self, arrival: _Arrival) -> None:
@@ -755,8 +804,8 @@ class _Link:
 class Space:
     """A client of servers, numbered 0, 1, .. in the order of their ports. Use it in a `with`, or call `close` at the end.
 
-    After another error than OutOfRange, Busy, Idle and Spent what was asked for may be pending still, which `pending` tells: `again` goes on with it, `abandon`
-    gives a synchronization up, and until then all other calls raise Busy. That holds for KeyboardInterrupt too.
+    After another error than OutOfRange, Busy, Idle, Left and Spent what was asked for may be pending still, which `pending` tells: `again` goes on with it, `abandon`
+    gives a synchronization up, and until then all other calls raise Busy. That holds for KeyboardInterrupt too. After `leave` all but `close` raise Left.
     """
 
     def __init__(self, ports: Sequence[int], client: int, *, fresh: bool = False, connect: Callable[[int], socket.socket] = _connect,
@@ -810,9 +859,9 @@ class Space:
         """Puts a tuple, and answers its server and its id there, once it is stored for good. The j-th call of this space, from 0, goes to server (c + j) mod S,
         where c is the client's number and S the count of servers.
 
-        Raises OutOfRange, Busy, Spent: nothing was sent. Refused with Full, TooManyClients, Gap or Old: it was not put, and nothing is pending (Gap and Old say
-        that another program used this client's number; with Old it may have been put before that). NoConnection, and all others: it may have been put or not,
-        and is pending.
+        Raises OutOfRange, Busy, Spent: nothing was sent. Refused with Full, TooManyClients, Gap, Old or Left: it was not put, and nothing is pending (Gap and Old
+        say that another program used this client's number; with Old it may have been put before that; Left that an earlier life of this client left).
+        NoConnection, and all others: it may have been put or not, and is pending.
         """
         values = (_value(tag), *(_value(item) for item in _few(fields)))
         self._begin()
@@ -884,17 +933,31 @@ class Space:
         assert isinstance(ended, Kept)
         return ended
 
+    def leave(self) -> None:
+        """Gives the number of this client up for good, at all servers, and returns once all of them know. What it held is free again; what it put stays. From then
+        on nobody can do anything under this number: no life of this client, and no other program. A server keeps the number for good, with the few bytes
+        that say so.
+
+        Raises Busy, Spent: nothing was sent. All others: it is pending, and some servers may know. Full is refused by a server whose bank is still in the form of
+        an earlier program: `again` after its next snapshot.
+        """
+        self._begin()
+        self._machine.leave()
+        ended = self._end()
+        assert isinstance(ended, _HasLeft)
+
     # ---- what is pending after an error
 
     @property
     def pending(self) -> Optional[str]:
-        """What is pending after an error: "out", "sync" (of `take`, `read`, `choose` and `sync`), "last_reply", or None."""
+        """What is pending after an error: "out", "sync" (of `take`, `read`, `choose` and `sync`), "last_reply", "leave", or None."""
         what = self._machine.ended or self._machine.task
-        return {_Put: "out", Stored: "out", _Sync: "sync", Outcome: "sync", _Repeat: "last_reply", Kept: "last_reply"}.get(type(what))
+        return {_Put: "out", Stored: "out", _Sync: "sync", Outcome: "sync", _Repeat: "last_reply", Kept: "last_reply", _Leaving: "leave", _HasLeft: "leave"}.get(
+            type(what))
 
-    def again(self) -> Union[Stored, Outcome, Kept]:
+    def again(self) -> Union[Stored, Outcome, Kept, None]:
         """Goes on with what is pending after an error: greets all servers again, sends what is unanswered again, under its number, and waits for its end, which
-        it answers: Stored for an out, Outcome for a synchronization, Kept for `last_reply`. Nothing is done twice by that.
+        it answers: Stored for an out, Outcome for a synchronization, Kept for `last_reply`, None for a leave. Nothing is done twice by that.
 
         Raises Idle where nothing is pending; else as what it goes on with.
         """
@@ -902,12 +965,13 @@ class Space:
         self._machine.be_pending()
         for link in self._links:
             self._let_go(link)
-        return self._end()
+        ended = self._end()
+        return None if isinstance(ended, _HasLeft) else ended
 
     def abandon(self) -> Tuple[int, ...]:
         """Gives up the synchronization that is pending after an error, and answers all its nack numbers, which are raised. Nothing was taken for it.
 
-        Raises Idle where none is pending, and Busy where a server may have taken a tuple for it: `again` gets it.
+        Raises Left after `leave`, Idle where none is pending, and Busy where a server may have taken a tuple for it: `again` gets it.
         """
         self._begin()
         raised = self._machine.abandon()

@@ -29,12 +29,14 @@ sys.path[:0] = [str(HERE), str(TOP / "tools")]
 
 import linda_space  # noqa: E402
 from linda_space import (  # noqa: E402
-    ANY, BOOL, INT, TEXT, Alarm, Always, BadReply, Busy, Choose, Closed, Idle, In, Kept, Nack, Never, NoConnection, Outcome, OutOfRange, Rd, Refused, Space,
+    ANY, BOOL, INT, TEXT, Alarm, Always, BadReply, Busy, Choose, Closed, Idle, In, Kept, Left, Nack, Never, NoConnection, Outcome, OutOfRange, Rd, Refused, Space,
     Stored, Wrap)
+import banks  # noqa: E402
 from served import Peer, Server, frames  # noqa: E402
 
 PROGRAM = Path(os.environ.get("LINDA", TOP / "linda"))
 PATIENCE = 20
+MOST_CLIENTS = 65_536
 
 
 class Going:
@@ -248,18 +250,83 @@ class OverServers(unittest.TestCase):
         self.assertLess(time.monotonic() - begin, 5)
         self.assertEqual(self.space(server).out("a"), (0, 1))
 
+    def test_leave(self) -> None:
+        left, right = self.serve("left"), self.serve("right")
+        space, other = self.space(left, right), self.space(left, client=8)
+        space.out("a", 1)
+        self.assertEqual(space.out("b"), (0, 1))
+        peer = Peer(left.port)
+        peer.greet(9)
+        peer.send(frames.ask(1, True, "b"))
+        self.assertEqual(peer.receive()[0], "Offer")
+        taking = Going(lambda: other.take("b"))
+        time.sleep(0.1)
+        self.assertEqual(peer.ask(frames.leave(1)), ("Left", {"number": 1}))
+        self.assertEqual(taking.end(), ("b",))
+        peer.close()
+        self.assertIsNone(space.leave())
+        for call in (lambda: space.out("c"), lambda: space.take("a", INT), space.last_reply, space.leave, space.abandon):
+            with self.assertRaises(Left):
+                call()
+        with self.assertRaises(Idle):
+            space.again()
+        self.assertIsNone(space.pending)
+        space.close()
+        self.refused(self.not_busy(lambda: Space([left.port], 7, fresh=True)), 0, "Known", 2)
+        left.kill()
+        self.serve("left", left.port)
+        again = self.space(left, right)
+        self.assertEqual([again.last_reply(0), again.last_reply(1)], [Kept(0, 2, "left"), Kept(1, 2, "left")])
+        self.refused(lambda: again.out("c"), 1, "Left", 2)
+        self.assertIsNone(again.pending)
+        with self.assertRaisesRegex(Refused, "refused Left, detail 2"):
+            again.take("a", INT)
+        self.assertEqual((again.pending, again.abandon()), ("sync", ()))
+        self.assertEqual(self.space(right, client=8).take("a", INT), ("a", 1))
+
+    def test_a_leave_goes_on_in_a_later_life(self) -> None:
+        left, right = self.serve("left"), self.serve("right")
+        peer = Peer(left.port)
+        peer.greet(7)
+        self.assertEqual(peer.ask(frames.leave(1)), ("Left", {"number": 1}))
+        peer.close()
+        space = self.space(left, right)
+        self.assertIsNone(space.leave())
+        peer = Peer(right.port)
+        space.close()
+        self.assertEqual(peer.greet(7), 1)
+        self.assertEqual(peer.ask(frames.out(2, "a")), ("Refused", {"code": 11, "detail": 1}))
+        peer.close()
+
+    def test_a_leave_is_pending_while_a_server_is_gone(self) -> None:
+        left, right = self.serve("left"), self.serve("right")
+        space = self.space(left, right)
+        right.kill()
+        with mock.patch.object(linda_space, "MOST_TRIES", 20), self.assertRaises(NoConnection):
+            space.leave()
+        self.assertEqual(space.pending, "leave")
+        for call in (lambda: space.out("a"), space.leave):
+            with self.assertRaises(Busy):
+                call()
+        with self.assertRaises(Idle):
+            space.abandon()
+        self.serve("right", right.port)
+        self.assertIsNone(space.again())
+        with self.assertRaises(Left):
+            space.out("a")
+
     def test_too_many_clients(self) -> None:
+        (self.folder / "one").mkdir()
+        kept: tuple = "Left",
+        full = banks.State(1, {}, {client: (1, kept) for client in range(MOST_CLIENTS - 1)})
+        (self.folder / "one" / "left.bank").write_bytes(banks.spell_bank(1, full))
         server = self.serve()
-        early = self.space(server, client=5_000)
-        for client in range(1_024):
-            peer = Peer(server.port)
-            peer.send(frames.hello(client, True) + frames.out(1, "a"))
-            self.assertEqual([peer.receive()[0] for _ in range(2)], ["Welcome", "Stored"])
-            peer.close()
-        self.refused(lambda: Space([server.port], 2_000), 0, "TooManyClients", 1_024)
-        self.refused(lambda: early.out("b"), 0, "TooManyClients", 1_024)
+        early = self.space(server, client=100_000)
+        self.assertEqual(self.space(server, client=200_000).out("a"), (0, 1))
+        self.refused(lambda: Space([server.port], 300_000), 0, "TooManyClients", MOST_CLIENTS)
+        self.refused(lambda: early.out("b"), 0, "TooManyClients", MOST_CLIENTS)
         self.assertIsNone(early.pending)
-        self.refused(lambda: early.take("a"), 0, "TooManyClients", 1_024)
+        self.refused(lambda: early.take("a"), 0, "TooManyClients", MOST_CLIENTS)
         self.assertEqual(early.pending, "sync")
         with self.assertRaises(Busy):
             early.abandon()
@@ -420,7 +487,8 @@ class OverPairs(unittest.TestCase):
 
     def test_no_frames_of_a_server(self) -> None:
         item, offer = frames.spell_atom("a"), b"\x13" + bytes(16)
-        framed = [b"\x18", b"\x01", b"\x11" + bytes(7), b"\x11" + bytes(9), offer + item + b"\0\0", offer + b"\x04\0", offer + b"\x03\2\0",
+        framed = [b"\x19", b"\x01", b"\x11" + bytes(7), b"\x11" + bytes(9), b"\x18", b"\x18" + bytes(7), b"\x18" + bytes(9), b"\x06" + bytes(8)]
+        framed += [offer + item + b"\0\0", offer + b"\x04\0", offer + b"\x03\2\0",
                   offer + b"\2\0\1\xff\0", offer + b"\2\x10\0" + b"x" * 4_096 + b"\0", offer + b"\2\x10\0", offer + b"\2\0", offer + b"\2\0\2x",
                   offer + item + b"\x21" + b"\3\0" * 33, offer + item + b"\1\7", offer + item]
         for data in (bytes(4), b"\0\4\0\1", b"\xff" * 4, *map(frames.frame, framed)):
@@ -431,7 +499,7 @@ class OverPairs(unittest.TestCase):
                 self.assertEqual(space.pending, "out")
 
     def test_a_bad_reply_ends_the_connection_and_it_goes_on_over_another(self) -> None:
-        space = self.space(frames.frame(b"\x18"), frames.frame(b"\x12" + frames.spell_number(1) + frames.spell_number(9)))
+        space = self.space(frames.frame(b"\x19"), frames.frame(b"\x12" + frames.spell_number(1) + frames.spell_number(9)))
         with self.assertRaises(BadReply):
             space.out("a")
         self.assertEqual((space.pending, space.again(), space.pending), ("out", Stored(0, 9), None))
@@ -501,6 +569,8 @@ def ends_of(value: Any) -> list:
     """How a call ended, as the file tells it."""
     if isinstance(value, Refused):
         return ["refused", value.server, value.code, value.detail]
+    if isinstance(value, Left):
+        return ["refused left"]
     if isinstance(value, Kept):
         return ["kept", value.kind, value.number, *([] if value.id is None else [value.id]), *([] if value.tuple is None else [list(value.tuple)])]
     if isinstance(value, Outcome):
@@ -562,6 +632,9 @@ class Player:
             return space.sync(event_of(parts[0]))
         if word == "last_reply":
             return space.last_reply(*parts) or ["none"]
+        if word == "leave":
+            space.leave()
+            return ["left"]
         return ["dropped", list(space.abandon())]
 
     # ---- the servers
@@ -594,7 +667,7 @@ class Player:
             self.now = int(step[1:])
         else:
             word, server, *digits = step[0], *step[1:].split()
-            {"+": self.meet, "-": self.leave, ">": self.expect, "<": self.tell}[word](int(server), *map(bytes.fromhex, digits))
+            {"+": self.meet, "-": self.lose, ">": self.expect, "<": self.tell}[word](int(server), *map(bytes.fromhex, digits))
 
     def call(self, words: list) -> None:
         """The call has begun once the client waits for its end, or has told it."""
@@ -615,7 +688,7 @@ class Player:
             self.pairs.pop(server)[0].close()
         self.pairs[server] = self.made[server].get(timeout=PATIENCE)
 
-    def leave(self, server: int) -> None:
+    def lose(self, server: int) -> None:
         self.pairs.pop(server)[0].close()
 
     def expect(self, server: int, data: bytes) -> None:

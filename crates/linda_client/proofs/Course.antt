@@ -2,6 +2,7 @@
 -- goes over the courses.
 use Rattle.std.proofs.Common.{◌≡◌, ◌≢◌, ℕ, ◌+◌, ◌<◌, ◌≤◌, ◌==◌, ◌||◌, ◌&&◌, max, Bool, true, false, cond, not, nat_lt, List, [], ◌∷◌, ◌++◌, length, filter, Contains, ◌⊎◌, inl, inr, refl, sym, ap, ◌∙◌, subst, arith, eqb-true, eq-eqb, ltb-false, ltb-true}
 use Rattle.std.specs.Prelude.{Option, Some, None, is_some, Ok, IfOk, IfSome, IsSomeAnd, All}
+use Rattle.std.specs.List.{list_any}
 use Rattle.std.proofs.lemmas.Bool.{false≢true}
 use Rattle.std.proofs.lemmas.Option.{none-some, same_Some}
 use Rattle.linda_tuple.specs.Tuple.{Tuple}
@@ -22,14 +23,14 @@ use Rattle.linda_client.specs.declared.outcome.Got.{Got}
 use Rattle.linda_client.specs.declared.outcome.Got.TheVariants as gots
 use Rattle.linda_client.specs.declared.outcome.Outcome.TheVariants as outcomes
 use Rattle.linda_client.specs.declared.task.Task.{Task}
-use Rattle.linda_client.specs.declared.task.Task.TheVariants.{Idle, Putting, Syncing}
+use Rattle.linda_client.specs.declared.task.Task.TheVariants.{Idle, Putting, Syncing, Leaving, Left}
 use Rattle.linda_client.specs.Ask.{asks, first_alarm, first_ready}
 use Rattle.linda_client.specs.Pending.{FitsOpen, IsOpenInput, Pending, ask_at, is_answer, is_fit, is_saved}
-use Rattle.linda_client.specs.Client.{Client, IsClient, IsPendingOf, IsTaskOf, accepted_in, is_idle, is_out_of, next_at, pending_in, servers}
+use Rattle.linda_client.specs.Client.{Client, IsClient, IsPendingOf, IsTaskOf, accepted_in, has_left, is_idle, is_out_of, next_at, pending_in, servers}
 use Rattle.linda_client.specs.Packets.{Packet, cancels_but, sent_again, spared, spared_by}
 use Rattle.linda_client.specs.Reaction.{Answer, Reaction, commit, finish, hand_on, no_reaction, send}
 use Rattle.linda_client.specs.React as spec
-use Rattle.linda_client.specs.React.{Call, Out, Sync, Receive, Tick, Resend, Reconnected, Abandon, ask_servers, next_accept, out_server, put, react, used_at}
+use Rattle.linda_client.specs.React.{Call, Out, Sync, Receive, Tick, Resend, Reconnected, Abandon, Leave, ask_servers, leave, leave_on, next_accept, out_server, put, react, unanswered_leaves, used_at}
 use Rattle.linda_client.specs.Ending.{BaseGets, GotBy, spared_for}
 use Rattle.linda_client.specs.Progress.{IsGone}
 use Rattle.linda_client.specs.Uses.{is_repeat}
@@ -75,6 +76,10 @@ pub data Course (c : Client) (call : Call) : Reaction → Type 0 where
       → Course c call (commit (record c { clock = clock }) pending.event (cancels_but (servers c) own pending) base got)
   abandons : (pending : Pending) → c.task ≡ Syncing pending → pending.accepted ≡ None
       → Course c call (finish c (cancels_but (servers c) None pending) (outcomes.Dropped (all_nacks pending.event)))
+  gives_up : call ≡ Leave → c.task ≡ Idle → list_any (λ n. n == NUMBER_LIMIT) c.next ≡ false → Course c call (leave c)
+  leaves_on : (all : List (ℕ × ℕ)) (server n : ℕ) → c.task ≡ Leaving all → call ≡ Receive server (replies.Left n) → 1 ≤ length (unanswered_leaves server n all)
+      → Course c call (no_reaction (record c { task = Leaving (unanswered_leaves server n all) }))
+  departs : (all : List (ℕ × ℕ)) (server n : ℕ) → c.task ≡ Leaving all → call ≡ Receive server (replies.Left n) → unanswered_leaves server n all ≡ [] → Course c call (leave_on c [])
 
 none_of : (o : Option Accepted) → is_some o ≡ false → o ≡ None
 none_of None e = refl
@@ -84,11 +89,15 @@ pub pending_task : (t : Task) (pending : Pending) → pending_in t ≡ Some pend
 pending_task Idle pending e = absurd (none-some pending e)
 pending_task (Putting server n row) pending e = absurd (none-some pending e)
 pending_task (Syncing own) pending e = ap Syncing (same_Some own pending e)
+pending_task (Leaving all) pending e = absurd (none-some pending e)
+pending_task Left pending e = absurd (none-some pending e)
 
-idle_task : (t : Task) → not (is_idle t) ≡ false → t ≡ Idle
-idle_task Idle e = refl
-idle_task (Putting server n row) e = cc
-idle_task (Syncing pending) e = cc
+idle_task : (t : Task) → has_left t ≡ false → not (is_idle t) ≡ false → t ≡ Idle
+idle_task Idle stays e = refl
+idle_task (Putting server n row) stays e = cc
+idle_task (Syncing pending) stays e = cc
+idle_task (Leaving all) stays e = cc
+idle_task Left stays e = cc
 
 -- What a pending synchronization of a client is.
 pub pending_of : (c : Client) (pending : Pending) → IsClient c → c.task ≡ Syncing pending → IsPendingOf c pending
@@ -103,6 +112,8 @@ none_accepted : (t : Task) → pending_in t ≡ None → accepted_in t ≡ None
 none_accepted Idle e = refl
 none_accepted (Putting server n row) e = refl
 none_accepted (Syncing pending) e = absurd (none-some pending (sym e))
+none_accepted (Leaving all) e = refl
+none_accepted Left e = refl
 
 -- what an answer is, if it is given
 abbrev CourseOn : Client → Call → Answer → Type 0
@@ -261,6 +272,21 @@ module _ (c : Client) (is : IsClient c) where
       (λ own. let parts = both (s == server) (m == n) own in
       stores server n id row (e ∙ ap (λ x. Putting x m row) (eqb-true s server parts.0) ∙ ap (λ x. Putting server x row) (eqb-true m n parts.1)) refl) (λ _. rests c.clock (other (Receive server (replies.Stored n id)) refl))
   stored_on server n id (Syncing pending) e = rests c.clock (other (Receive server (replies.Stored n id)) refl)
+  stored_on server n id (Leaving all) e = rests c.clock (other (Receive server (replies.Stored n id)) refl)
+  stored_on server n id Left e = rests c.clock (other (Receive server (replies.Stored n id)) refl)
+
+  left_on : (server n : ℕ) (t : Task) → c.task ≡ t → Course c (Receive server (replies.Left n)) (spec.on_left c t server n)
+  left_on server n Idle e = rests c.clock (other (Receive server (replies.Left n)) refl)
+  left_on server n (Putting s m row) e = rests c.clock (other (Receive server (replies.Left n)) refl)
+  left_on server n (Syncing pending) e = rests c.clock (other (Receive server (replies.Left n)) refl)
+  left_on server n (Leaving all) e = by (unanswered_leaves server n all) refl
+    where
+      by : (l : List (ℕ × ℕ)) → unanswered_leaves server n all ≡ l → Course c (Receive server (replies.Left n)) (leave_on c l)
+      by [] none = departs all server n e refl none
+      by (p ∷ ps) some =
+          let more : 1 ≤ length (unanswered_leaves server n all) = subst (λ l. 1 ≤ length l) (sym some) (omega arith) in
+          subst (λ l. Course c (Receive server (replies.Left n)) (no_reaction (record c { task = Leaving l }))) some (leaves_on all server n e refl more)
+  left_on server n Left e = rests c.clock (other (Receive server (replies.Left n)) refl)
 
   replied : (server : ℕ) (reply : Reply) → server < servers c → CourseOn c (Receive server reply) (spec.on_reply c server reply)
   replied server (replies.Welcome last) within = rests c.clock (other (Receive server (replies.Welcome last)) refl)
@@ -270,6 +296,7 @@ module _ (c : Client) (is : IsClient c) where
   replied server (replies.Taken n id row) within = takes server n id row (pending_in c.task) refl
   replied server (replies.Gone n) within = goes server n (pending_in c.task) refl
   replied server (replies.Refused code detail) within = hands_on server code detail (other (Receive server (replies.Refused code detail)) refl)
+  replied server (replies.Left n) within = left_on server n c.task refl
 
   begun : (event : Tree) → c.task ≡ Idle → IsWithinLimits event → (o : Option (ℕ × Got)) → first_ready c.clock event ≡ o → CourseOn c (Sync event) (spec.on_ready c event o)
   begun event idle within (Some ready) e = commits_at_once event ready refl idle e
@@ -287,22 +314,28 @@ module _ (c : Client) (is : IsClient c) where
 
   course_on : (call : Call) → CourseOn c call (react c call)
   course_on (Out row) =
-      by_test (CourseOn c (Out row)) (not (is_idle c.task)) _ _ (λ _. tt)
+      by_test (CourseOn c (Out row)) (has_left c.task) _ _ (λ _. tt)
+      (λ stays. by_test (CourseOn c (Out row)) (not (is_idle c.task)) _ _ (λ _. tt)
       (λ busy. by_test (CourseOn c (Out row)) ((next_at c (out_server c) == NUMBER_LIMIT) || (c.outs + 1 == NUMBER_LIMIT)) _ _ (λ _. tt)
       (λ more. let parts = neither (next_at c (out_server c) == NUMBER_LIMIT) (c.outs + 1 == NUMBER_LIMIT) more in
-      puts row (idle_task c.task busy) (apart (next_at c (out_server c)) NUMBER_LIMIT parts.0) (apart (c.outs + 1) NUMBER_LIMIT parts.1)))
+      puts row (idle_task c.task stays busy) (apart (next_at c (out_server c)) NUMBER_LIMIT parts.0) (apart (c.outs + 1) NUMBER_LIMIT parts.1))))
   course_on (Sync event) =
-      by_test (CourseOn c (Sync event)) (not (is_idle c.task)) _ _ (λ _. tt)
+      by_test (CourseOn c (Sync event)) (has_left c.task) _ _ (λ _. tt)
+      (λ stays. by_test (CourseOn c (Sync event)) (not (is_idle c.task)) _ _ (λ _. tt)
       (λ busy. by_test (CourseOn c (Sync event)) (is_too_deep event) _ _ (λ _. tt)
       (λ depth. by_test (CourseOn c (Sync event)) (spec.has_too_many event) _ _ (λ _. tt)
-      (λ few. begun event (idle_task c.task busy) (limits_kept event depth few) (first_ready c.clock event) refl)))
+      (λ few. begun event (idle_task c.task stays busy) (limits_kept event depth few) (first_ready c.clock event) refl))))
   course_on (Receive server reply) = by_test (CourseOn c (Receive server reply)) (nat_lt server (servers c)) _ _ (λ low. replied server reply (ltb-true server (servers c) low)) (λ _. tt)
   course_on (Tick now) = ticks now (pending_in c.task) refl
   course_on Resend = repeats (sent_again c) refl (λ p there. there) (other Resend refl)
   course_on (Reconnected server) =
       by_test (CourseOn c (Reconnected server)) (nat_lt server (servers c)) _ _
       (λ _. repeats (filter (λ p. p.0 == server) (sent_again c)) refl (λ p there. kept_there (λ (q : Packet). q.0 == server) (sent_again c) p there) (other (Reconnected server) refl)) (λ _. tt)
-  course_on Abandon = dropped (pending_in c.task) refl
+  course_on Abandon = by_test (CourseOn c Abandon) (has_left c.task) _ _ (λ _. tt) (λ _. dropped (pending_in c.task) refl)
+  course_on Leave =
+      by_test (CourseOn c Leave) (has_left c.task) _ _ (λ _. tt)
+      (λ stays. by_test (CourseOn c Leave) (not (is_idle c.task)) _ _ (λ _. tt)
+      (λ busy. by_test (CourseOn c Leave) (list_any (λ n. n == NUMBER_LIMIT) c.next) _ _ (λ _. tt) (λ more. gives_up refl (idle_task c.task stays busy) more)))
 
   -- Each call that is answered takes a course.
   pub course : (call : Call) (r : Reaction) → react c call ≡ Ok r → Course c call r

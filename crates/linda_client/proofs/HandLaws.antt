@@ -13,7 +13,7 @@ use Rattle.linda_client.specs.declared.arrival.Arrival.{Arrival}
 use Rattle.linda_client.specs.declared.ask.Ask.{Ask}
 use Rattle.linda_client.specs.declared.outcome.Got.{Got}
 use Rattle.linda_client.specs.declared.outcome.Got.TheVariants.{Took, Copied, Alarm, Always}
-use Rattle.linda_client.specs.declared.task.Task.TheVariants.{Idle, Putting, Syncing}
+use Rattle.linda_client.specs.declared.task.Task.TheVariants.{Idle, Putting, Syncing, Leaving}
 use Rattle.linda_client.specs.Pending.{Pending, ask_at}
 use Rattle.linda_client.specs.Client.{Client, IsClient, next_at, pending_in, servers}
 use Rattle.linda_client.specs.Packets.{cancels_but, is_of, is_spared, spared, spared_by}
@@ -23,7 +23,7 @@ use Rattle.linda_client.specs.Ending.{GotBy, spared_for}
 use Rattle.linda_client.specs.Offers.{AcceptIsAnswered, Becomes, InHand, IsAccepted, IsSaved}
 use Rattle.linda_client.proofs.AskLaws.{open_range}
 use Rattle.linda_client.proofs.CancelLaws.{cancels_exactly}
-use Rattle.linda_client.proofs.Course.{Course, Turn, abandons, accepts, arrives, begins, commits, commits_at_once, course, hands_on, oldest, pending_task, puts, rejects, repeats, rests, saves, stores, waits}
+use Rattle.linda_client.proofs.Course.{Course, Turn, abandons, accepts, arrives, begins, commits, commits_at_once, course, departs, gives_up, hands_on, leaves_on, oldest, pending_task, puts, rejects, repeats, rests, saves, stores, waits}
 use Rattle.linda_client.proofs.TestLaws.{both}
 use Rattle.linda_client.proofs.ListLaws.{in_front, none_any, nowhere}
 
@@ -49,6 +49,9 @@ module _ (P : Accepted → Type 0) (call : Call) (c : Client) (pending : Pending
   stays : (r : Reaction) → pending_in r.client.task ≡ Some pending → InHand P pending server ticket id → Becomes P call c pending server ticket id r
   stays r after (inl saved) = inr (inl (record { later = pending; after = after; event = refl; first = refl; hand = inl saved }))
   stays r after (inr own) = inr (inl (record { later = pending; after = after; event = refl; first = refl; hand = inr (own.0, inl own.1) }))
+
+  leaving_not : {A : Type 0} (all : List (ℕ × ℕ)) → c.task ≡ Leaving all → A
+  leaving_not all leaving = absurd (none-some pending (sym (ap pending_in leaving) ∙ there))
 
   -- The Accept that is answered is that of the offer.
   gone_answers : (own : Accepted) → pending.accepted ≡ Some own → call ≡ Receive own.server (replies.Gone own.n) → (a : IsAccepted pending server ticket id) → P a.own → AcceptIsAnswered P call pending server ticket id
@@ -166,6 +169,9 @@ module _ (P : Accepted → Type 0) (call : Call) (c : Client) (pending : Pending
   becomes_on r (abandons own task none) hand =
       let same = same_pending own task in
       inl (subst (λ (x : Pending). Contains (cancels_but (servers c) None x) (server, messages.Cancel ticket)) (sym same) (cancelled None refl))
+  becomes_on r (gives_up called idle more) hand = idle_not idle
+  becomes_on r (leaves_on all from n task called some) hand = leaving_not all task
+  becomes_on r (departs all from n task called none) hand = leaving_not all task
 
 -- What becomes of an offer that is in hand, whatever is called.
 pub becomes : (c : Client) (call : Call) (r : Reaction) → IsClient c → react c call ≡ Ok r → (pending : Pending) → pending_in c.task ≡ Some pending → (last server ticket id : ℕ) → server < servers c

@@ -1,8 +1,8 @@
 -- A client over many calls: no number and no ticket is used twice, and a synchronization ends once.
-use Rattle.std.proofs.Common.{◌≡◌, ℕ, ◌+◌, ◌<◌, ◌≤◌, Bool, true, false, cond, get_or, List, [], ◌∷◌, Contains, ◌⊎◌, inl, inr, refl, sym, ap, ◌∙◌, subst, arith}
-use Rattle.std.specs.Prelude.{Option, Some, None, is_some, Ok, Err, All, IfSome, IsSome, IsSomeAnd}
-use Rattle.std.proofs.lemmas.Option.{none-some, same_Some}
-use Rattle.std.proofs.lemmas.List.Elements.{All-contains, Contains-append_cases}
+use Rattle.std.proofs.Common.{◌≡◌, ℕ, ◌+◌, ◌-◌, ◌<◌, ◌≤◌, Bool, true, false, cond, List, [], ◌∷◌, Contains, ◌⊎◌, inl, inr, refl, sym, ap, ◌∙◌, subst, arith}
+use Rattle.std.specs.Prelude.{Option, Some, None, is_some, Ok, Err, All, IfSome, IsSome, IsSomeAnd, option_to_list}
+use Rattle.std.proofs.lemmas.Option.{same_Some}
+use Rattle.std.proofs.lemmas.List.Elements.{All-cons, All-contains, All-map, All-nil, All-weaker, Contains-append_cases}
 use Rattle.std.proofs.lemmas.List.Sums.{sum_by-cons}
 use Rattle.linda_tuple.specs.Template.{Template}
 use Rattle.linda_wire.specs.declared.message.Message.{Message}
@@ -11,17 +11,18 @@ use Rattle.linda_client.specs.declared.limits.TheConstants.{MAX_SERVERS}
 use Rattle.linda_client.specs.declared.arrival.Accepted.{Accepted}
 use Rattle.linda_client.specs.declared.ask.Ask.{Ask}
 use Rattle.linda_client.specs.declared.outcome.Outcome.{Outcome}
+use Rattle.linda_client.specs.declared.outcome.Outcome.TheVariants as outcomes
 use Rattle.linda_client.specs.declared.outcome.Outcome.TheVariants.{Stored, Synced, Dropped}
 use Rattle.linda_client.specs.declared.task.Task.{Task}
-use Rattle.linda_client.specs.declared.task.Task.TheVariants.{Idle, Putting, Syncing}
+use Rattle.linda_client.specs.declared.task.Task.TheVariants.{Idle, Putting, Syncing, Leaving, Left}
 use Rattle.linda_client.specs.Pending.{Pending, ask_at}
 use Rattle.linda_client.specs.Client.{Client, IsClient, IsTaskOf, IsUsed, asked_in, next_at, pending_in}
-use Rattle.linda_client.specs.Packets.{Packet, accept_packet, unanswered}
+use Rattle.linda_client.specs.Packets.{Packet, accept_packet, leave_packets, unanswered}
 use Rattle.linda_client.specs.Reaction.{Answer, Reaction}
 use Rattle.linda_client.specs.React.{Call, new_client, new_pending, react}
 use Rattle.linda_client.specs.Ending.{EndsSync}
 use Rattle.linda_client.specs.History.{Act, NumbersAreOnce, TicketsAreOnce, all_sent, end_count, act_then, history, is_end, is_sync, sync_count}
-use Rattle.linda_client.specs.Numbers.{IsAnswered, NumbersGoOn, number_of}
+use Rattle.linda_client.specs.Numbers.{IsUnanswered, NumbersGoOn, UsesNoNumber, UsesNumber, number_of}
 use Rattle.linda_client.specs.Progress.{GoesOn, IsSoundPacket}
 use Rattle.linda_client.proofs.AskLaws.{open_range, same_asks}
 use Rattle.linda_client.proofs.ListLaws.{nowhere, only_one}
@@ -33,56 +34,85 @@ use Rattle.linda_client.proofs.SoundLaws.{sound}
 abbrev sent : Client → List Call → List Packet
 sent c calls = all_sent (history c calls)
 
--- What is unanswered has a number that was used.
-used : (c : Client) → IsClient c → (s n : ℕ) (m : Message) → unanswered c.task ≡ Some (s, m) → number_of m ≡ Some n → n < next_at c s
-used c is s n m e number = by c.task is.task e
-  where
-    same_number : (k : ℕ) (own : ℕ × Message) → number_of own.1 ≡ Some k → own ≡ (s, m) → k < next_at c own.0 → n < next_at c s
-    same_number k own has same low =
-        let same_n : k ≡ n = same_Some k n (sym has ∙ ap (λ p. number_of p.1) same ∙ number) in
-        let same_s : own.0 ≡ s = ap (λ p. p.0) same in
-        subst (λ j. n < next_at c j) same_s (subst (λ j. j < next_at c own.0) same_n low)
+-- a number that was used at a server
+abbrev Used : Client → Packet → Type 0
+Used c p = (n : ℕ) → number_of p.1 ≡ Some n → n < next_at c p.0
 
-    by : (t : Task) → IsTaskOf c t → unanswered t ≡ Some (s, m) → n < next_at c s
-    by Idle h f = absurd (none-some (s, m) f)
-    by (Putting server k row) h f = same_number k (server, messages.Out k row) refl (same_Some _ (s, m) f) h.1.1
-    by (Syncing pending) h f = own pending.accepted h.accepted f
+-- What is unanswered has a number that was used.
+used : (c : Client) → IsClient c → (s n : ℕ) (m : Message) → IsUnanswered c s m → number_of m ≡ Some n → n < next_at c s
+used c is s n m there number = All-contains (Used c) (unanswered c.task) (s, m) (by c.task is.task) there n number
+  where
+    one : (t k : ℕ) (x : Message) → number_of x ≡ Some k → k < next_at c t → Used c (t, x)
+    one t k x own low j e = let same : k ≡ j = same_Some k j (sym own ∙ e) in omega (arith, low, same)
+
+    by : (t : Task) → IsTaskOf c t → All (Used c) (unanswered t)
+    by Idle h = All-nil (Used c)
+    by (Putting server k row) h = All-cons (Used c) (server, messages.Out k row) [] (one server k (messages.Out k row) refl h.1.1) (All-nil (Used c))
+    by (Syncing pending) h = own pending.accepted h.accepted
       where
-        own : (o : Option Accepted) → IfSome o (λ a. IsUsed c a.server a.n) → accept_packet o ≡ Some (s, m) → n < next_at c s
-        own None g f = absurd (none-some (s, m) f)
-        own (Some a) g f = same_number a.n (a.server, messages.Accept a.n a.ticket a.id) refl (same_Some _ (s, m) f) g.1.1
+        own : (o : Option Accepted) → IfSome o (λ a. IsUsed c a.server a.n) → All (Used c) (option_to_list (accept_packet o))
+        own None g = All-nil (Used c)
+        own (Some a) g = All-cons (Used c) (a.server, messages.Accept a.n a.ticket a.id) [] (one a.server a.n (messages.Accept a.n a.ticket a.id) refl g.1.1) (All-nil (Used c))
+    by (Leaving all) h =
+        All-map (Used c) (λ p. (p.0, messages.Leave p.1)) all
+        (All-weaker (λ (p : ℕ × ℕ). IsUsed c p.0 p.1 × (p.1 + 1 ≡ next_at c p.0)) (λ (p : ℕ × ℕ). Used c (p.0, messages.Leave p.1)) (λ p own. one p.0 p.1 (messages.Leave p.1) refl own.0.1.1) all h.last)
+    by Left h = All-nil (Used c)
+
+-- A server has one message unanswered at most.
+one_unanswered : (c : Client) → IsClient c → (s : ℕ) (a b : Message) → IsUnanswered c s a → IsUnanswered c s b → a ≡ b
+one_unanswered c is s a b x y = by c.task is.task x y
+  where
+    second : (p : Packet) → p ≡ (s, a) → p ≡ (s, b) → a ≡ b
+    second p f g = ap (λ q. q.1) (sym f ∙ g)
+
+    by : (t : Task) → IsTaskOf c t → Contains (unanswered t) (s, a) → Contains (unanswered t) (s, b) → a ≡ b
+    by Idle h f g = nowhere (s, a) f
+    by (Putting server k row) h f g = second (server, messages.Out k row) (only_one (server, messages.Out k row) (s, a) f) (only_one (server, messages.Out k row) (s, b) g)
+    by (Syncing pending) h f g = own pending.accepted f g
+      where
+        own : (o : Option Accepted) → Contains (option_to_list (accept_packet o)) (s, a) → Contains (option_to_list (accept_packet o)) (s, b) → a ≡ b
+        own None f g = nowhere (s, a) f
+        own (Some o) f g = second (o.server, messages.Accept o.n o.ticket o.id) (only_one (o.server, messages.Accept o.n o.ticket o.id) (s, a) f) (only_one (o.server, messages.Accept o.n o.ticket o.id) (s, b) g)
+    by (Leaving all) h f g = last a f ∙ sym (last b g)
+      where
+        leave_is : (p : ℕ × ℕ) → IsUsed c p.0 p.1 × (p.1 + 1 ≡ next_at c p.0) → messages.Leave p.1 ≡ messages.Leave (next_at c p.0 - 1)
+        leave_is p own = let e = own.1 in let same : p.1 ≡ next_at c p.0 - 1 = omega arith in ap messages.Leave same
+
+        last : (m : Message) → Contains (leave_packets all) (s, m) → m ≡ messages.Leave (next_at c s - 1)
+        last m here =
+            All-contains (λ (p : Packet). p.1 ≡ messages.Leave (next_at c p.0 - 1)) (leave_packets all) (s, m)
+            (All-map (λ (p : Packet). p.1 ≡ messages.Leave (next_at c p.0 - 1)) (λ p. (p.0, messages.Leave p.1)) all
+            (All-weaker (λ (p : ℕ × ℕ). IsUsed c p.0 p.1 × (p.1 + 1 ≡ next_at c p.0)) (λ (p : ℕ × ℕ). messages.Leave p.1 ≡ messages.Leave (next_at c p.0 - 1)) leave_is all h.last)) here
+    by Left h f g = nowhere (s, a) f
 
 has_number : (m : Message) (n : ℕ) → number_of m ≡ Some n → IsSome (number_of m)
 has_number m n e = ap is_some e
 
--- The message is the unanswered one, or its number is not used yet.
+-- The message is unanswered, or its number is not used yet.
 abbrev OwnOrNew : Client → ℕ → ℕ → Message → Type 0
-OwnOrNew c s n m = (unanswered c.task ≡ Some (s, m)) ⊎ (next_at c s ≤ n)
+OwnOrNew c s n m = IsUnanswered c s m ⊎ (next_at c s ≤ n)
 
--- A numbered message that is sent at a call is the unanswered one, or has the next number.
+-- a new message has the number that was next
+next_is : (c : Client) (s n : ℕ) (m k : Message) → m ≡ k → number_of k ≡ Some (next_at c s) → number_of m ≡ Some n → next_at c s ≡ n
+next_is c s n m k same own number = same_Some (next_at c s) n (sym own ∙ ap number_of (sym same) ∙ number)
+
+-- A numbered message that is sent at a call is unanswered, or has the next number.
 sent_now : (c : Client) (call : Call) (r : Reaction) → NumbersGoOn c call r → (s n : ℕ) (m : Message) → Contains r.packets (s, m) → number_of m ≡ Some n → OwnOrNew c s n m
-sent_now c call r (inl none) s n m there number = inl (none.again (s, m) there (has_number m n number))
-sent_now c call r (inr (p, new)) s n m there number =
-    let same = only_one p (s, m) (subst (λ l. Contains l (s, m)) new.alone there) in
-    let at : next_at c p.0 ≡ n = same_Some (next_at c p.0) n (sym new.number ∙ ap (λ q. number_of q.1) same ∙ number) in
-    let at_s : next_at c s ≡ n = ap (λ (q : Packet). next_at c q.0) (sym same) ∙ at in
-    inr (omega arith)
+sent_now c call r go s n m there number = by (go s)
+  where
+    by : UsesNoNumber c call r s ⊎ ((k : Message) × UsesNumber c call r s k) → OwnOrNew c s n m
+    by (inl none) = inl (none.again m there (has_number m n number))
+    by (inr (k, new)) = let at = next_is c s n m k (new.own m there) new.number number in inr (omega arith)
 
 -- What is unanswered after a call was so before, or has the number that was next.
-unanswered_now : (c : Client) (call : Call) (r : Reaction) → NumbersGoOn c call r → (s n : ℕ) (m : Message) → unanswered r.client.task ≡ Some (s, m) → number_of m ≡ Some n
-    → OwnOrNew c s n m
-unanswered_now c call r (inl none) s n m e number = by none.unanswered_is
+unanswered_now : (c : Client) (call : Call) (r : Reaction) → NumbersGoOn c call r → (s n : ℕ) (m : Message) → IsUnanswered r.client s m → number_of m ≡ Some n → OwnOrNew c s n m
+unanswered_now c call r go s n m here number = by (go s)
   where
-    by : (unanswered r.client.task ≡ unanswered c.task) ⊎ ((unanswered r.client.task ≡ None) × IsAnswered c call) → OwnOrNew c s n m
-    by (inl same) = inl (sym same ∙ e)
-    by (inr gone) = absurd (none-some (s, m) (sym gone.0 ∙ e))
-unanswered_now c call r (inr (p, new)) s n m e number =
-    let same = same_Some p (s, m) (sym new.unanswered_is ∙ e) in
-    let at : next_at c p.0 ≡ n = same_Some (next_at c p.0) n (sym new.number ∙ ap (λ q. number_of q.1) same ∙ number) in
-    let at_s : next_at c s ≡ n = ap (λ (q : Packet). next_at c q.0) (sym same) ∙ at in
-    inr (omega arith)
+    by : UsesNoNumber c call r s ⊎ ((k : Message) × UsesNumber c call r s k) → OwnOrNew c s n m
+    by (inl none) = inl (none.old m here)
+    by (inr (k, new)) = let at = next_is c s n m k (new.own m (subst (λ l. Contains l (s, m)) new.unanswered_is here)) new.number number in inr (omega arith)
 
--- A numbered message that is sent from here on is the unanswered one, or its number is not used yet.
+-- A numbered message that is sent from here on is unanswered, or its number is not used yet.
 sent_later : (calls : List Call) (c : Client) → IsClient c → (s n : ℕ) (m : Message) → Contains (sent c calls) (s, m) → number_of m ≡ Some n → OwnOrNew c s n m
 sent_later [] c is s n m there number = nowhere (s, m) there
 sent_later (call ∷ calls) c is s n m there number = by (react c call) refl there (λ d is_d here. sent_later calls d is_d s n m here number)
@@ -100,36 +130,30 @@ sent_later (call ∷ calls) c is s n m there number = by (react c call) refl the
         split (inl now) = sent_now c call r (numbers_go c call r is e) s n m now number
         split (inr then) = after (later r.client (kept c call r is e) then)
 
--- Two numbered messages that are sent at one call are the same.
-both_now : (c : Client) (call : Call) (r : Reaction) → NumbersGoOn c call r → (s n : ℕ) (a b : Message) → Contains r.packets (s, a) → Contains r.packets (s, b) → number_of a ≡ Some n → number_of b ≡ Some n → a ≡ b
-both_now c call r (inl none) s n a b p q f g =
-    ap (λ x. x.1) (same_Some (s, a) (s, b) (sym (none.again (s, a) p (has_number a n f)) ∙ none.again (s, b) q (has_number b n g)))
-both_now c call r (inr (x, new)) s n a b p q f g =
-    ap (λ y. y.1) (sym (only_one x (s, a) (subst (λ l. Contains l (s, a)) new.alone p)) ∙ only_one x (s, b) (subst (λ l. Contains l (s, b)) new.alone q))
+-- Two numbered messages that are sent to a server at one call are the same.
+both_now : (c : Client) (call : Call) (r : Reaction) → IsClient c → NumbersGoOn c call r → (s n : ℕ) (a b : Message) → Contains r.packets (s, a) → Contains r.packets (s, b) → number_of a ≡ Some n → number_of b ≡ Some n → a ≡ b
+both_now c call r is go s n a b p q f g = by (go s)
+  where
+    by : UsesNoNumber c call r s ⊎ ((k : Message) × UsesNumber c call r s k) → a ≡ b
+    by (inl none) = one_unanswered c is s a b (none.again a p (has_number a n f)) (none.again b q (has_number b n g))
+    by (inr (k, new)) = new.own a p ∙ sym (new.own b q)
 
 -- A numbered message that is sent at a call is the same as one that is sent later.
 now_and_later : (c : Client) (call : Call) (r : Reaction) → IsClient c → NumbersGoOn c call r → (s n : ℕ) (a b : Message) → Contains r.packets (s, a) → number_of a ≡ Some n
     → OwnOrNew r.client s n b → a ≡ b
-now_and_later c call r is (inl none) s n a b p f (inl own) = by none.unanswered_is
+now_and_later c call r is go s n a b p f own_or_new = by (go s) own_or_new
   where
-    was : unanswered c.task ≡ Some (s, a)
-    was = none.again (s, a) p (has_number a n f)
-
-    by : (unanswered r.client.task ≡ unanswered c.task) ⊎ ((unanswered r.client.task ≡ None) × IsAnswered c call) → a ≡ b
-    by (inl same) = ap (λ x. x.1) (same_Some (s, a) (s, b) (sym was ∙ sym same ∙ own))
-    by (inr gone) = absurd (none-some (s, b) (sym gone.0 ∙ own))
-now_and_later c call r is (inl none) s n a b p f (inr low) =
-    let below = used c is s n a (none.again (s, a) p (has_number a n f)) f in
-    let same : next_at r.client s ≡ next_at c s = ap (λ xs. get_or xs s 0) none.next in
-    absurd (omega arith)
-now_and_later c call r is (inr (x, new)) s n a b p f (inl own) =
-    ap (λ y. y.1) (sym (only_one x (s, a) (subst (λ l. Contains l (s, a)) new.alone p)) ∙ same_Some x (s, b) (sym new.unanswered_is ∙ own))
-now_and_later c call r is (inr (x, new)) s n a b p f (inr low) =
-    let same = only_one x (s, a) (subst (λ l. Contains l (s, a)) new.alone p) in
-    let at : next_at c x.0 ≡ n = same_Some (next_at c x.0) n (sym new.number ∙ ap (λ q. number_of q.1) same ∙ f) in
-    let at_s : next_at c s ≡ n = ap (λ (q : Packet). next_at c q.0) (sym same) ∙ at in
-    let more : next_at r.client s ≡ next_at c s + 1 = subst (λ (q : Packet). next_at r.client q.0 ≡ next_at c q.0 + 1) same new.next in
-    absurd (omega arith)
+    by : UsesNoNumber c call r s ⊎ ((k : Message) × UsesNumber c call r s k) → OwnOrNew r.client s n b → a ≡ b
+    by (inl none) (inl own) = one_unanswered c is s a b (none.again a p (has_number a n f)) (none.old b own)
+    by (inl none) (inr low) =
+        let below = used c is s n a (none.again a p (has_number a n f)) f in
+        let same = none.next in
+        absurd (omega arith)
+    by (inr (k, new)) (inl own) = new.own a p ∙ sym (new.own b (subst (λ l. Contains l (s, b)) new.unanswered_is own))
+    by (inr (k, new)) (inr low) =
+        let at = next_is c s n a k (new.own a p) new.number f in
+        let more = new.next in
+        absurd (omega arith)
 
 numbers_from : (calls : List Call) (c : Client) → IsClient c → NumbersAreOnce (sent c calls)
 numbers_from [] c is s n a b p q f g = nowhere (s, a) p
@@ -147,7 +171,7 @@ numbers_from (call ∷ calls) c is s n a b p q f g = by (react c call) refl p q 
         after = kept c call r is e
 
         split : Contains r.packets (s, a) ⊎ Contains (sent r.client calls) (s, a) → Contains r.packets (s, b) ⊎ Contains (sent r.client calls) (s, b) → a ≡ b
-        split (inl x) (inl y) = both_now c call r go s n a b x y f g
+        split (inl x) (inl y) = both_now c call r is go s n a b x y f g
         split (inl x) (inr y) = now_and_later c call r is go s n a b x f (sent_later calls r.client after s n b y g)
         split (inr x) (inl y) = sym (now_and_later c call r is go s n b a y g (sent_later calls r.client after s n a x f))
         split (inr x) (inr y) = later r.client after x y
@@ -177,6 +201,8 @@ ticket_used c is k p x asks = by c.task is.task asks
     by : (t : Task) → IsTaskOf c t → IsSomeAnd (asked_in (pending_in t) k) (λ ask. (ask.remove ≡ p) × (ask.template ≡ x)) → k < c.ticket
     by Idle h f = absurd f
     by (Putting server n row) h f = absurd f
+    by (Leaving all) h f = absurd f
+    by Left h f = absurd f
     by (Syncing pending) h f = at (ask_at pending k) refl f
       where
         at : (o : Option Ask) → ask_at pending k ≡ o → IsSomeAnd o (λ ask. (ask.remove ≡ p) × (ask.template ≡ x)) → k < c.ticket
@@ -259,6 +285,7 @@ no_end None h = refl
 no_end (Some (Stored server id)) h = refl
 no_end (Some (Synced base got labels raised)) h = absurd (h tt)
 no_end (Some (Dropped raised)) h = absurd (h tt)
+no_end (Some outcomes.Left) h = refl
 
 at_most_one : (b : Bool) → weight b ≤ 1
 at_most_one true = omega arith

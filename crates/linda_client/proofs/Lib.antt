@@ -3,6 +3,7 @@ pub mod PacketLaws
 pub mod AskLaws
 pub mod ListLaws
 pub mod BaseLaws
+pub mod LeaveLaws
 pub mod Course
 pub mod TakingLaws
 pub mod RangeLaws
@@ -14,3 +15,4 @@ pub mod OfferLaws
 pub mod HandLaws
 pub mod HistoryLaws
 pub mod UseLaws
+pub mod LeavingLaws

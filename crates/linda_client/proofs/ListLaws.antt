@@ -34,7 +34,8 @@ any_one {X} p (y ∷ ys) e = by (p y) refl e (λ f. any_one p ys f)
     by true here f later = (y, (Contains-append_left (y ∷ []) ys y (0, omega arith, refl), here))
     by false other f later = let found = later f in (found.0, (Contains-append_right (y ∷ []) ys found.0 found.1.0, found.1.1))
 
-not_any : {X : Type 0} (p : X → Bool) (xs : List X) → list_any p xs ≡ false → All (λ x. p x ≡ false) xs
+-- none passes
+pub not_any : {X : Type 0} (p : X → Bool) (xs : List X) → list_any p xs ≡ false → All (λ x. p x ≡ false) xs
 not_any p [] e = All-nil (λ x. p x ≡ false)
 not_any {X} p (y ∷ ys) e = by (p y) refl e (λ f. not_any p ys f)
   where

@@ -4,7 +4,7 @@ use Rattle.std.specs.Prelude.{Option, Some, None, Ok, option_map, slice_get}
 use Rattle.linda_wire.specs.declared.message.Message.TheVariants as messages
 use Rattle.linda_client.specs.declared.arrival.Arrival.{Arrival}
 use Rattle.linda_client.specs.declared.task.Task.{Task}
-use Rattle.linda_client.specs.declared.task.Task.TheVariants.{Idle, Putting, Syncing}
+use Rattle.linda_client.specs.declared.task.Task.TheVariants.{Idle, Putting, Syncing, Leaving}
 use Rattle.linda_client.specs.Pending.{Pending}
 use Rattle.linda_client.specs.Client.{Client, IsClient, accepted_in, pending_in, servers}
 use Rattle.linda_client.specs.Packets.{cancels_but}
@@ -14,7 +14,7 @@ use Rattle.linda_client.specs.Ending.{EndsSync, IsDue}
 use Rattle.linda_client.specs.Progress.{AcceptsOffer, GoesOn, IsGone, KeepsAccept, LosesOffer, accept_of}
 use Rattle.linda_client.proofs.BaseLaws.{ready_gets}
 use Rattle.linda_client.proofs.CancelLaws.{cancels_exactly, only_cancels}
-use Rattle.linda_client.proofs.Course.{Course, IsNotGone, Turn, abandons, accepts, arrives, begins, commits, commits_at_once, course, hands_on, oldest, pending_task, puts, rejects, repeats, rests, saves, stores, waits}
+use Rattle.linda_client.proofs.Course.{Course, IsNotGone, Turn, abandons, accepts, arrives, begins, commits, commits_at_once, course, departs, gives_up, hands_on, leaves_on, oldest, pending_task, puts, rejects, repeats, rests, saves, stores, waits}
 
 silent_end : (r : Reaction) → r.outcome ≡ None → EndsSync r.outcome → ⊥
 silent_end r none e = subst EndsSync none e
@@ -94,6 +94,9 @@ module _ (c : Client) (call : Call) where
       )
   goes_on r (abandons pending task none) =
       from_task (Syncing pending) r task (refl, inl (record { idle = refl; ends = refl; cancels = cancels_exactly (servers c) None pending; only = only_cancels (servers c) None pending }))
+  goes_on r (gives_up called idle more) = from_task Idle r idle (inl (refl, inl (record { after = refl; silent = λ e. e })))
+  goes_on r (leaves_on all server n task called some) = from_task (Leaving all) r task (inl (refl, inl (record { after = refl; silent = λ e. e })))
+  goes_on r (departs all server n task called none) = from_task (Leaving all) r task (inl (refl, inl (record { after = refl; silent = λ e. e })))
 
 -- How what is pending goes on at each call.
 pub goes : (c : Client) (call : Call) (r : Reaction) → IsClient c → react c call ≡ Ok r → GoesOn c call (pending_in c.task) r

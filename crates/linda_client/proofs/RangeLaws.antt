@@ -1,23 +1,25 @@
 -- Next numbers and tickets never fall, and a client is as every client is, at first and after each call.
-use Rattle.std.proofs.Common.{◌≡◌, ◌≢◌, ℕ, zero, suc, ◌+◌, ◌<◌, ◌≤◌, List, [], ◌∷◌, length, get_or, set, refl, sym, ap, ◌∙◌, subst, arith}
+use Rattle.std.proofs.Common.{◌≡◌, ◌≢◌, ℕ, zero, suc, ◌+◌, ◌<◌, ◌≤◌, ◌==◌, false, List, [], ◌∷◌, length, get_or, map, set, refl, sym, ap, ◌∙◌, subst, arith}
 use Rattle.std.specs.Prelude.{Option, Some, None, is_some, All, IfSome, Ok, true}
+use Rattle.std.specs.List.{enumerate_from, list_any}
 use Rattle.std.proofs.Math.ListN.{length-set}
 use Rattle.std.proofs.lemmas.Bool.{false≢true}
-use Rattle.std.proofs.lemmas.List.{get_or-set_same, length-replicate}
+use Rattle.std.proofs.lemmas.List.{get_or-set_same, length-map, length-replicate}
 use Rattle.std.proofs.lemmas.List.Elements.{All-append, All-cons, All-nil, All-get_or, All-replicate, All-set, All-weaker}
 use Rattle.linda_wire.specs.declared.limits.TheConstants.{NUMBER_LIMIT}
 use Rattle.linda_client.specs.declared.limits.TheConstants.{MAX_SERVERS}
 use Rattle.linda_client.specs.declared.arrival.Accepted.{Accepted}
 use Rattle.linda_client.specs.declared.arrival.Arrival.{Arrival}
 use Rattle.linda_client.specs.declared.task.Task.{Task}
-use Rattle.linda_client.specs.declared.task.Task.TheVariants.{Idle, Putting, Syncing}
+use Rattle.linda_client.specs.declared.task.Task.TheVariants.{Idle, Putting, Syncing, Leaving, Left}
 use Rattle.linda_client.specs.Pending.{FitsOpen}
-use Rattle.linda_client.specs.Client.{Client, IsClient, IsPendingOf, IsTaskOf, IsUsed, next_at, servers}
+use Rattle.linda_client.specs.Client.{AreLeavesOf, Client, IsClient, IsPendingOf, IsTaskOf, IsUsed, next_at, servers}
 use Rattle.linda_client.specs.Reaction.{Reaction}
-use Rattle.linda_client.specs.React.{Call, new_client, new_pending, out_server, react, used_at}
+use Rattle.linda_client.specs.React.{Call, leave, new_client, new_pending, out_server, react, unanswered_leaves, used_at}
 use Rattle.linda_client.specs.Numbers.{Rises}
+use Rattle.linda_client.proofs.LeaveLaws.{leaves_left, leaves_of, numbers_after}
 use Rattle.linda_client.proofs.ListLaws.{tail_all}
-use Rattle.linda_client.proofs.Course.{Course, Turn, abandons, accepts, arrives, begins, commits, commits_at_once, course, hands_on, oldest, pending_of, puts, rejects, repeats, rests, saves, stores, waits}
+use Rattle.linda_client.proofs.Course.{Course, Turn, abandons, accepts, arrives, begins, commits, commits_at_once, course, departs, gives_up, hands_on, leaves_on, oldest, pending_of, puts, rejects, repeats, rests, saves, stores, waits}
 
 set_rises : (xs : List ℕ) (s v q : ℕ) → get_or xs s 0 ≤ v → get_or xs q 0 ≤ get_or (set xs s v) q 0
 set_rises [] s v q h = omega arith
@@ -46,10 +48,20 @@ rises_used old new s t n = record {
   same_servers = ap length n ∙ length-set old.next s (next_at old s + 1);
 }
 
+-- The next number of each server is used.
+rises_left : (c : Client) → Rises c (leave c).client
+rises_left c = record { numbers = λ server. more c.next server; tickets = omega arith; same_servers = length-map c.next (λ n. n + 1) }
+  where
+    more : (xs : List ℕ) (q : ℕ) → get_or xs q 0 ≤ get_or (map (λ n. n + 1) xs) q 0
+    more [] q = omega arith
+    more (x ∷ xs) zero = omega arith
+    more (x ∷ xs) (suc q) = more xs q
+
 rises_on : (c : Client) (call : Call) (r : Reaction) → Course c call r → Rises c r.client
 rises_on c call r (puts row idle number outs) = rises_used c r.client (out_server c) refl refl
 rises_on c call r (begins event called idle within room) = rises_same c r.client (omega arith) refl
 rises_on c call r (accepts pending rest a task turn within input more) = rises_used c r.client a.server refl refl
+rises_on c call r (gives_up called idle more) = rises_left c
 rises_on c call r _ = rises_same c r.client (omega arith) refl
 
 -- Next numbers and tickets never fall.
@@ -84,16 +96,30 @@ own_used : (c d : Client) → Rises c d → (o : Option Accepted) → IfSome o (
 own_used c d up None h = tt
 own_used c d up (Some a) h = used_rises c d up a.server a.n h
 
--- What is pending at a client is one of a client whose numbers are further on.
-task_rises : (c d : Client) → Rises c d → (t : Task) → IsTaskOf c t → IsTaskOf d t
-task_rises c d up Idle h = tt
-task_rises c d up (Putting server n row) h = used_rises c d up server n h
-task_rises c d up (Syncing pending) h = record {
+-- the Leaves of a client with the same numbers
+leaves_same : (c d : Client) → d.next ≡ c.next → (all : List (ℕ × ℕ)) → AreLeavesOf c all → AreLeavesOf d all
+leaves_same c d same all are = record {
+  some = are.some;
+  rising = are.rising;
+  last = All-weaker (λ (p : ℕ × ℕ). IsUsed c p.0 p.1 × (p.1 + 1 ≡ next_at c p.0)) (λ (p : ℕ × ℕ). IsUsed d p.0 p.1 × (p.1 + 1 ≡ next_at d p.0))
+      (λ p h. (
+        (subst (λ xs. p.0 < length xs) (sym same) h.0.0, (h.0.1.0, subst (λ xs. p.1 < get_or xs p.0 0) (sym same) h.0.1.1)),
+        subst (λ xs. p.1 + 1 ≡ get_or xs p.0 0) (sym same) h.1,
+      )) all are.last;
+}
+
+-- What is pending at a client is so at one with the same numbers, whose tickets are further on.
+task_rises : (c d : Client) → Rises c d → d.next ≡ c.next → (t : Task) → IsTaskOf c t → IsTaskOf d t
+task_rises c d up same Idle h = tt
+task_rises c d up same (Putting server n row) h = used_rises c d up server n h
+task_rises c d up same (Syncing pending) h = record {
   keeps = h.keeps;
   tickets = let low = h.tickets in let more = up.tickets in omega arith;
   accepted = own_used c d up pending.accepted h.accepted;
   saved = all_within c d up pending.saved h.saved;
 }
+task_rises c d up same (Leaving all) h = leaves_same c d same all h
+task_rises c d up same Left h = tt
 
 -- the same numbers and tickets, and what is pending
 same_is : (c d : Client) → IsClient c → d.next ≡ c.next → d.ticket ≡ c.ticket → d.outs ≡ c.outs → IsTaskOf d d.task → IsClient d
@@ -132,8 +158,34 @@ now_used c d s is within n =
 some_not_none : (o : Option Accepted) → is_some o ≡ true → o ≡ None → ⊥
 some_not_none o e none = false≢true (sym (ap is_some none) ∙ e)
 
+-- A client that leaves is as every client is.
+pub left_is : (c : Client) → IsClient c → list_any (λ n. n == NUMBER_LIMIT) c.next ≡ false → IsClient (leave c).client
+left_is c is more =
+    let same = (rises_left c).same_servers in
+    record {
+      servers_low = let low = is.servers_low in omega arith;
+      servers_high = let high = is.servers_high in omega arith;
+      numbers = numbers_after c.next is.numbers more;
+      outs = is.outs;
+      ticket_low = is.ticket_low;
+      ticket_high = is.ticket_high;
+      task = leaves_of c is;
+    }
+
+-- a client with what one has that leaves
+pub left_so : (c d : Client) → IsClient c → list_any (λ n. n == NUMBER_LIMIT) c.next ≡ false → d.next ≡ map (λ n. n + 1) c.next → d.ticket ≡ c.ticket → d.outs ≡ c.outs → d.task ≡ Leaving (enumerate_from 0 c.next)
+    → IsClient d
+left_so c d is more n t o task = same_is (leave c).client d (left_is c is more) n t o (subst (IsTaskOf d) (sym task) (leaves_same (leave c).client d n (enumerate_from 0 c.next) (leaves_of c is)))
+
+-- a client whose Leaves are answered in part
+pub leaving_so : (c d : Client) (all rest : List (ℕ × ℕ)) (server n : ℕ) → IsClient c → c.task ≡ Leaving all → d.next ≡ c.next → d.ticket ≡ c.ticket → d.outs ≡ c.outs → d.task ≡ Leaving rest
+    → rest ≡ unanswered_leaves server n all → 1 ≤ length rest → IsClient d
+leaving_so c d all rest server n is was next ticket outs task left some =
+    same_is c d is next ticket outs (subst (IsTaskOf d) (sym (task ∙ ap Leaving left))
+    (leaves_same c d next (unanswered_leaves server n all) (leaves_left c all server n (subst (IsTaskOf c) was is.task) (subst (λ l. 1 ≤ length l) left some))))
+
 kept_on : (c : Client) → IsClient c → (call : Call) (r : Reaction) → Course c call r → IsClient r.client
-kept_on c is call r (rests clock other) = same_is c r.client is refl refl refl (task_rises c r.client (rises_same c r.client (omega arith) refl) c.task is.task)
+kept_on c is call r (rests clock other) = same_is c r.client is refl refl refl (task_rises c r.client (rises_same c r.client (omega arith) refl) refl c.task is.task)
 kept_on c is call r (hands_on server code detail other) = is
 kept_on c is call r (rejects a within other) = is
 kept_on c is call r (repeats packets repeated there other) = is
@@ -203,6 +255,9 @@ kept_on c is call r (waits pending own task accepted called none) =
     })
 kept_on c is call r (commits pending clock own base got task answered spares gets by) = same_is c r.client is refl refl refl tt
 kept_on c is call r (abandons pending task none) = same_is c r.client is refl refl refl tt
+kept_on c is call r (gives_up called idle more) = left_is c is more
+kept_on c is call r (leaves_on all server n task called some) = leaving_so c r.client all (unanswered_leaves server n all) server n is task refl refl refl refl refl some
+kept_on c is call r (departs all server n task called none) = same_is c r.client is refl refl refl tt
 
 -- A client is as every client is after each call.
 pub kept : (c : Client) (call : Call) (r : Reaction) → IsClient c → react c call ≡ Ok r → IsClient r.client

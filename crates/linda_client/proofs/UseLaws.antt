@@ -1,6 +1,6 @@
 -- No number and no ticket is used twice, and a repeat sends nothing new.
-use Rattle.std.proofs.Common.{◌≡◌, ℕ, zero, suc, ◌+◌, ◌≤◌, ◌==◌, ◌&&◌, nat_lt, Bool, true, false, cond, List, [], ◌∷◌, ◌++◌, length, map, Contains, ◌⊎◌, inl, inr, refl, sym, ap, ◌∙◌, subst, append_assoc, arith, lt-ltb, le-ltb, ltb-true, eq-eqb}
-use Rattle.std.specs.Prelude.{Option, None, Ok, Err, IfOk, All, count_by, flat_map, option_to_list}
+use Rattle.std.proofs.Common.{◌≡◌, ℕ, zero, suc, ◌+◌, ◌<◌, ◌≤◌, ◌==◌, ◌&&◌, nat_lt, Bool, true, false, cond, List, [], ◌∷◌, ◌++◌, length, get_or, map, Contains, ◌⊎◌, inl, inr, refl, sym, ap, ◌∙◌, subst, append_assoc, arith, lt-ltb, le-ltb, ltb-true, eq-eqb}
+use Rattle.std.specs.Prelude.{Option, Some, None, Ok, Err, IfOk, All, count_by, flat_map, option_to_list}
 use Rattle.std.specs.List.{enumerate_from, range_with_len}
 use Rattle.std.proofs.lemmas.Bool.{cases_eq, false≢true, ne_eqb}
 use Rattle.std.proofs.lemmas.List.Elements.{All-append, All-contains, All-contains_itself, All-cons, All-filter, All-head, All-nil, All-tail, All-weaker, Contains-append_left, Contains-append_right}
@@ -14,20 +14,21 @@ use Rattle.linda_client.specs.declared.task.Task.TheVariants.{Syncing}
 use Rattle.linda_client.specs.Ask.{asks}
 use Rattle.linda_client.specs.Pending.{Pending}
 use Rattle.linda_client.specs.Client.{Client, IsClient, next_at, pending_in, servers}
-use Rattle.linda_client.specs.Packets.{Packet, accept_packet, ask_packets, asks_to_all, cancels_but, open_asks, sent_again, unanswered}
+use Rattle.linda_client.specs.Packets.{Packet, accept_packet, ask_packets, asks_to_all, cancels_but, leave_packets, open_asks, sent_again, unanswered}
 use Rattle.linda_client.specs.Reaction.{Answer, Reaction}
-use Rattle.linda_client.specs.React.{Call, Out, Sync, Receive, Tick, Resend, Reconnected, Abandon, new_client, new_pending, out_server, react}
+use Rattle.linda_client.specs.React.{Call, Out, Sync, Receive, Tick, Resend, Reconnected, Abandon, Leave, new_client, new_pending, out_server, react, unanswered_leaves, used_at}
 use Rattle.linda_client.specs.Ending.{IsCancel}
-use Rattle.linda_client.specs.Numbers.{UsesNumber, number_of}
+use Rattle.linda_client.specs.Numbers.{number_of}
 use Rattle.linda_client.specs.History.{Act, act_then, history}
 use Rattle.linda_client.specs.Uses.{AreUsedOnce, RepeatsAreOld, all_anew, anew, is_number, is_repeat, is_under, ticket_of, uses}
 use Rattle.linda_client.proofs.CancelLaws.{only_cancels}
-use Rattle.linda_client.proofs.Course.{Course, abandons, accepts, begins, commits, commits_at_once, course, hands_on, puts, rejects, repeats, rests, saves, stores, waits}
+use Rattle.linda_client.proofs.Course.{Course, abandons, accepts, begins, commits, commits_at_once, course, departs, gives_up, hands_on, leaves_on, puts, rejects, repeats, rests, saves, stores, waits}
 use Rattle.linda_client.proofs.HistoryLaws.{weight}
+use Rattle.linda_client.proofs.LeaveLaws.{all_leaves, left_there}
 use Rattle.linda_client.proofs.ListLaws.{not_empty, same_first, same_rest}
-use Rattle.linda_client.proofs.NumberLaws.{accepts_number, puts_number}
+use Rattle.linda_client.proofs.NumberLaws.{others_stay}
 use Rattle.linda_client.proofs.PacketLaws.{all_asks}
-use Rattle.linda_client.proofs.RangeLaws.{kept, new_is, rises}
+use Rattle.linda_client.proofs.RangeLaws.{kept, new_is, out_within, rises, used_below}
 use Rattle.linda_client.proofs.TestLaws.{by_test}
 
 abbrev act_of : Call → Reaction → Act
@@ -63,6 +64,10 @@ both_less : (b d : Bool) → weight (b && d) ≤ weight b
 both_less true true = omega arith
 both_less true false = omega arith
 both_less false d = omega arith
+
+not_second : (a b : Bool) → b ≡ false → weight (a && b) ≡ 0
+not_second true b e = ap weight e
+not_second false b e = refl
 
 -- a packet without a number
 abbrev IsPlain : (Message → Option ℕ) → Packet → Type 0
@@ -123,51 +128,79 @@ cancel_plain (s, messages.Out n row) is = absurd is
 cancel_plain (s, messages.Ask ticket remove template) is = absurd is
 cancel_plain (s, messages.Accept n ticket id) is = absurd is
 cancel_plain (s, messages.Cancel ticket) is = (refl, refl)
+cancel_plain (s, messages.Leave n) is = absurd is
 
 module _ (of : Message → Option ℕ) (plain_of : (p : Packet) → IsCancel p → of p.1 ≡ None) where
   cancels_plain : (count : ℕ) (own : Option (ℕ × ℕ)) (pending : Pending) → All (IsPlain of) (cancels_but count own pending)
   cancels_plain count own pending = All-weaker IsCancel (IsPlain of) plain_of (cancels_but count own pending) (only_cancels count own pending)
 
+-- No Leave goes to a server below the first.
+none_below : (s n from : ℕ) (xs : List ℕ) → s < from → count_by (is_under number_of s n) (leave_packets (enumerate_from from xs)) ≡ 0
+none_below s n from [] low = refl
+none_below s n from (x ∷ xs) low =
+    let cons = sum_by-cons (λ q. cond (is_under number_of s n q) 1 0) (from, messages.Leave x) (leave_packets (enumerate_from (from + 1) xs)) in
+    let here : weight ((x == n) && (from == s)) ≡ 0 = not_second (x == n) (from == s) (ne_eqb from s (λ same. absurd (omega arith))) in
+    let later = none_below s n (from + 1) xs (omega arith) in
+    omega (arith, cons, here, later)
+
+-- A Leave to each server counts, under its next number.
+leaves_count : (s n from k : ℕ) (xs : List ℕ) → s ≡ from + k
+    → count_by (is_under number_of s n) (leave_packets (enumerate_from from xs)) + weight (nat_lt n (get_or xs k 0)) ≤ weight (nat_lt n (get_or (map (λ m. m + 1) xs) k 0))
+leaves_count s n from k [] at = omega arith
+leaves_count s n from zero (x ∷ xs) at =
+    let cons = sum_by-cons (λ q. cond (is_under number_of s n q) 1 0) (from, messages.Leave x) (leave_packets (enumerate_from (from + 1) xs)) in
+    let here = both_less (x == n) (from == s) in
+    let step = steps n x in
+    let later = none_below s n (from + 1) xs (omega arith) in
+    omega (arith, cons, here, step, later)
+leaves_count s n from (suc k) (x ∷ xs) at =
+    let cons = sum_by-cons (λ q. cond (is_under number_of s n q) 1 0) (from, messages.Leave x) (leave_packets (enumerate_from (from + 1) xs)) in
+    let here : weight ((x == n) && (from == s)) ≡ 0 = not_second (x == n) (from == s) (ne_eqb from s (λ same. absurd (omega arith))) in
+    let later = leaves_count s n (from + 1) k xs (omega arith) in
+    omega (arith, cons, here, later)
+
 module _ (s n : ℕ) (c : Client) (is : IsClient c) (call : Call) where
   -- A message under the next number counts, and no number else rises.
-  one_counts : (r : Reaction) (p : Packet) → UsesNumber c call r p → Counts number_of s n call r (next_at c s) (next_at r.client s)
-  one_counts r p new = all_count number_of s n call r (next_at c s) (next_at r.client s) (subst (λ l. count_by (is_under number_of s n) l + weight (nat_lt n (next_at c s)) ≤ weight (nat_lt n (next_at r.client s))) (sym new.alone) (by (cases_eq p.0 s)))
+  one_counts : (r : Reaction) (p : Packet) → r.packets ≡ p ∷ [] → number_of p.1 ≡ Some (next_at c p.0) → p.0 < servers c → r.client.next ≡ used_at c p.0
+      → Counts number_of s n call r (next_at c s) (next_at r.client s)
+  one_counts r p sent number within used = all_count number_of s n call r (next_at c s) (next_at r.client s) (subst (λ l. count_by (is_under number_of s n) l + weight (nat_lt n (next_at c s)) ≤ weight (nat_lt n (next_at r.client s))) (sym sent) (by (cases_eq p.0 s)))
     where
       cons : count_by (is_under number_of s n) (p ∷ []) ≡ weight (is_under number_of s n p) + 0
       cons = sum_by-cons (λ q. cond (is_under number_of s n q) 1 0) p []
 
       here : weight (is_under number_of s n p) ≡ weight ((next_at c p.0 == n) && (p.0 == s))
-      here = ap (λ o. weight (is_number o n && (p.0 == s))) new.number
+      here = ap (λ o. weight (is_number o n && (p.0 == s))) number
+
+      after : next_at r.client p.0 ≡ next_at c p.0 + 1
+      after = ap (λ xs. get_or xs p.0 0) used ∙ used_below c p.0 within
 
       by : (p.0 ≡ s) ⊎ (p.0 ≡ s → ⊥) → count_by (is_under number_of s n) (p ∷ []) + weight (nat_lt n (next_at c s)) ≤ weight (nat_lt n (next_at r.client s))
       by (inl same) =
           let low = both_less (next_at c p.0 == n) (p.0 == s) in
           let at : weight (next_at c p.0 == n) ≡ weight (next_at c s == n) = ap (λ t. weight (next_at c t == n)) same in
           let next : weight (nat_lt n (next_at r.client s)) ≡ weight (nat_lt n (next_at c s + 1)) =
-          ap (λ m. weight (nat_lt n m)) (subst (λ t. next_at r.client t ≡ next_at c t + 1) same new.next) in
+          ap (λ m. weight (nat_lt n m)) (subst (λ t. next_at r.client t ≡ next_at c t + 1) same after) in
           let step = steps n (next_at c s) in
           omega (arith, cons, here, low, at, next, step)
       by (inr apart) =
-          let none : weight ((next_at c p.0 == n) && (p.0 == s)) ≡ 0 = nothing (next_at c p.0 == n) (p.0 == s) (ne_eqb p.0 s apart) in
-          let stays : weight (nat_lt n (next_at r.client s)) ≡ weight (nat_lt n (next_at c s)) = ap (λ m. weight (nat_lt n m)) (new.others s (λ e. apart (sym e))) in
+          let none : weight ((next_at c p.0 == n) && (p.0 == s)) ≡ 0 = not_second (next_at c p.0 == n) (p.0 == s) (ne_eqb p.0 s apart) in
+          let stays : weight (nat_lt n (next_at r.client s)) ≡ weight (nat_lt n (next_at c s)) =
+          ap (λ m. weight (nat_lt n m)) (ap (λ xs. get_or xs s 0) used ∙ others_stay c p.0 s (λ e. apart (sym e))) in
           omega (arith, cons, here, none, stays)
-        where
-          nothing : (a b : Bool) → b ≡ false → weight (a && b) ≡ 0
-          nothing true b e = ap weight e
-          nothing false b e = refl
 
   numbers_on : (r : Reaction) → next_at c s ≤ next_at r.client s → Course c call r → Counts number_of s n call r (next_at c s) (next_at r.client s)
   numbers_on r more (rejects a within other) = plain number_of s n call r (next_at c s) (next_at r.client s) more (All-cons (IsPlain number_of) _ [] refl (All-nil (IsPlain number_of)))
   numbers_on r more (repeats packets again there other) = repeated number_of s n call r (next_at c s) (next_at r.client s) more again
-  numbers_on r more (puts row idle number outs) = one_counts r (out_server c, messages.Out (next_at c (out_server c)) row) (puts_number c call is row idle)
+  numbers_on r more (puts row idle number outs) = one_counts r (out_server c, messages.Out (next_at c (out_server c)) row) refl refl (out_within c is) refl
   numbers_on r more (begins event called idle within room) =
       plain number_of s n call r (next_at c s) (next_at r.client s) more (all_asks (IsPlain number_of) (servers c) (new_pending c event) (λ t k ask low there. refl))
   numbers_on r more (accepts pending rest a task turn within input room) =
-      one_counts r (a.server, messages.Accept (next_at c a.server) a.ticket a.id) (accepts_number c call pending rest a task turn within)
+      one_counts r (a.server, messages.Accept (next_at c a.server) a.ticket a.id) refl refl within refl
   numbers_on r more (commits pending clock own base got task answered spares gets by) =
       plain number_of s n call r (next_at c s) (next_at r.client s) more (cancels_plain number_of (λ p cancels. (cancel_plain p cancels).0) (servers c) own pending)
   numbers_on r more (abandons pending task none) =
       plain number_of s n call r (next_at c s) (next_at r.client s) more (cancels_plain number_of (λ p cancels. (cancel_plain p cancels).0) (servers c) None pending)
+  numbers_on r more (gives_up called idle room) = all_count number_of s n call r (next_at c s) (next_at r.client s) (leaves_count s n 0 s c.next (omega arith))
   numbers_on r more _ = plain number_of s n call r (next_at c s) (next_at r.client s) more (All-nil (IsPlain number_of))
 
 -- The Asks of one ticket, to each server: one to each, where it is this ticket.
@@ -205,6 +238,7 @@ module _ (s k : ℕ) (c : Client) (call : Call) where
       plain ticket_of s k call r c.ticket r.client.ticket more (cancels_plain ticket_of (λ p cancels. (cancel_plain p cancels).1) (servers c) own pending)
   tickets_on r more (abandons pending task none) =
       plain ticket_of s k call r c.ticket r.client.ticket more (cancels_plain ticket_of (λ p cancels. (cancel_plain p cancels).1) (servers c) None pending)
+  tickets_on r more (gives_up called idle room) = plain ticket_of s k call r c.ticket r.client.ticket more (all_leaves (IsPlain ticket_of) c (λ t low. refl))
   tickets_on r more _ = plain ticket_of s k call r c.ticket r.client.ticket more (All-nil (IsPlain ticket_of))
 
 pub numbers_used_once : (number count : ℕ) (calls : List Call) → 1 ≤ count → count ≤ MAX_SERVERS → AreUsedOnce number_of (history (new_client number count) calls)
@@ -232,7 +266,7 @@ module _ (c : Client) where
   asks_before : (r : Reaction) (pending : Pending) → c.task ≡ Syncing pending → All (AgainOrNow c r) (ask_packets (servers c) pending)
   asks_before r pending task =
       All-weaker (Contains (ask_packets (servers c) pending)) (AgainOrNow c r)
-      (λ p there. inl (subst (λ t. Contains (option_to_list (unanswered t) ++ open_asks c (pending_in t)) p) (sym task)
+      (λ p there. inl (subst (λ t. Contains (unanswered t ++ open_asks c (pending_in t)) p) (sym task)
       (Contains-append_right (option_to_list (accept_packet pending.accepted)) (ask_packets (servers c) pending) p there)))
       (ask_packets (servers c) pending) (All-contains_itself (ask_packets (servers c) pending))
 
@@ -246,13 +280,20 @@ module _ (c : Client) where
   again_on call r same (commits_at_once event ready called idle is_ready) = All-nil (AgainOrNow c r)
   again_on call r same (begins event called idle within room) = all_now r
   again_on call r same (saves pending a task awaits within fits other) =
-      subst (λ t. All (AgainOrNow c r) (option_to_list (unanswered t) ++ open_asks c (pending_in t))) task (all_before r)
+      subst (λ t. All (AgainOrNow c r) (unanswered t ++ open_asks c (pending_in t))) task (all_before r)
   again_on call r same (accepts pending rest a task turn within input room) =
       All-append (AgainOrNow c r) ((a.server, messages.Accept (next_at c a.server) a.ticket a.id) ∷ []) (ask_packets (servers r.client) pending) (all_now r)
       (subst (λ count. All (AgainOrNow c r) (ask_packets count pending)) (sym same) (asks_before r pending task))
   again_on call r same (waits pending own task accepted called none) = asks_before r pending task
   again_on call r same (commits pending clock own base got task answered spares gets by) = All-nil (AgainOrNow c r)
   again_on call r same (abandons pending task none) = All-nil (AgainOrNow c r)
+  again_on call r same (gives_up called idle more) = All-append (AgainOrNow c r) (leave_packets (enumerate_from 0 c.next)) [] (all_now r) (All-nil (AgainOrNow c r))
+  again_on call r same (leaves_on all server n task called some) =
+      All-append (AgainOrNow c r) (leave_packets (unanswered_leaves server n all)) []
+      (All-weaker (Contains (leave_packets all)) (AgainOrNow c r)
+      (λ p there. inl (subst (λ t. Contains (unanswered t ++ open_asks c (pending_in t)) p) (sym task) (Contains-append_left (leave_packets all) [] p there)))
+      (leave_packets (unanswered_leaves server n all)) (left_there all server n)) (All-nil (AgainOrNow c r))
+  again_on call r same (departs all server n task called none) = All-nil (AgainOrNow c r)
 
   -- A repeat sends what the client sends again.
   repeat_on : (call : Call) → is_repeat call ≡ true → IfOk (react c call) (λ r. All (Contains (sent_again c)) r.packets)
@@ -265,6 +306,7 @@ module _ (c : Client) where
       by_test (λ (answer : Answer). IfOk answer (λ r. All (Contains (sent_again c)) r.packets)) (nat_lt server (servers c)) _ _
       (λ _. All-filter (λ (p : Packet). p.0 == server) (Contains (sent_again c)) (sent_again c) (All-contains_itself (sent_again c))) (λ _. tt)
   repeat_on Abandon is = absurd (false≢true is)
+  repeat_on Leave is = absurd (false≢true is)
 
 -- All that the client sends again was sent before, or is sent anew now.
 again_known : (c : Client) (call : Call) (r : Reaction) → IsClient c → react c call ≡ Ok r → (past : List Packet) → All (Contains past) (sent_again c)

@@ -11,7 +11,7 @@ use Rattle.linda_client.specs.declared.arrival.Accepted.{Accepted}
 use Rattle.linda_client.specs.declared.outcome.Got.{Got}
 use Rattle.linda_client.specs.declared.outcome.Got.TheVariants.{Took, Copied, Alarm, Always}
 use Rattle.linda_client.specs.declared.outcome.Outcome.{Outcome}
-use Rattle.linda_client.specs.declared.outcome.Outcome.TheVariants.{Stored, Synced, Dropped}
+use Rattle.linda_client.specs.declared.outcome.Outcome.TheVariants.{Stored, Synced, Dropped, Left}
 use Rattle.linda_client.specs.declared.task.Task.TheVariants.{Idle}
 use Rattle.linda_client.specs.Pending.{Pending, ask_at, ticket_count}
 use Rattle.linda_client.specs.Client.{Client, pending_in, servers}
@@ -25,6 +25,7 @@ EndsSync None = ⊥
 EndsSync (Some (Stored server id)) = ⊥
 EndsSync (Some (Synced base got labels raised)) = Unit {0}
 EndsSync (Some (Dropped raised)) = Unit {0}
+EndsSync (Some Left) = ⊥
 
 -- What a base can get when the clock is there: an input takes a tuple that its template matches, and a read
 -- copies one, each with what the template binds; an alarm rings once its time has come; and a value is

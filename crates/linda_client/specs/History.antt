@@ -6,11 +6,12 @@ use Rattle.linda_wire.specs.declared.message.Message.{Message}
 use Rattle.linda_wire.specs.declared.message.Message.TheVariants as messages
 use Rattle.linda_client.specs.declared.limits.TheConstants.{MAX_SERVERS}
 use Rattle.linda_client.specs.declared.outcome.Outcome.{Outcome}
-use Rattle.linda_client.specs.declared.outcome.Outcome.TheVariants.{Stored, Synced, Dropped}
+use Rattle.linda_client.specs.declared.outcome.Outcome.TheVariants.{Stored, Synced, Dropped, Left}
 use Rattle.linda_client.specs.Client.{Client}
 use Rattle.linda_client.specs.Packets.{Packet}
 use Rattle.linda_client.specs.Reaction.{Answer, Reaction}
-use Rattle.linda_client.specs.React.{Call, Out, Sync, Receive, Tick, Resend, Reconnected, Abandon, new_client, react}
+use Rattle.linda_client.specs.React.{Call, Out, Sync, Receive, Tick, Resend, Reconnected, Abandon, Leave, new_client}
+use Rattle.linda_client.specs.React.{react}
 use Rattle.linda_client.specs.Numbers.{number_of}
 
 -- A call that was answered, and what it came to.
@@ -39,6 +40,7 @@ is_end None = false
 is_end (Some (Stored server id)) = false
 is_end (Some (Synced base got labels raised)) = true
 is_end (Some (Dropped raised)) = true
+is_end (Some Left) = false
 
 -- whether the call is one of `sync`
 abbrev pub is_sync : Call → Bool
@@ -49,6 +51,7 @@ is_sync (Tick now) = false
 is_sync Resend = false
 is_sync (Reconnected server) = false
 is_sync Abandon = false
+is_sync Leave = false
 
 -- how many synchronizations ended
 abbrev pub end_count : List Act → ℕ

@@ -13,4 +13,5 @@ pub mod Numbers
 pub mod Progress
 pub mod Offers
 pub mod History
+pub mod Leaving
 pub mod Uses

@@ -1,5 +1,5 @@
 -- What a client sends for the tickets of a synchronization, and what it sends again.
-use Rattle.std.specs.Prelude.{ℕ, ◌==◌, Bool, false, ◌&&◌, not, if◌then◌else◌, List, [], ◌++◌}
+use Rattle.std.specs.Prelude.{ℕ, ◌==◌, Bool, false, ◌&&◌, not, if◌then◌else◌, List, [], ◌∷◌, ◌++◌}
 use Rattle.std.specs.Prelude.{Option, Some, None, map, filter, flat_map, option_to_list}
 use Rattle.std.specs.List.{enumerate_from, list_any, range_with_len}
 use Rattle.linda_wire.specs.declared.message.Message.{Message}
@@ -8,7 +8,7 @@ use Rattle.linda_client.specs.declared.arrival.Accepted.{Accepted}
 use Rattle.linda_client.specs.declared.arrival.Arrival.{Arrival}
 use Rattle.linda_client.specs.declared.ask.Ask.{Ask}
 use Rattle.linda_client.specs.declared.task.Task.{Task}
-use Rattle.linda_client.specs.declared.task.Task.TheVariants.{Idle, Putting, Syncing}
+use Rattle.linda_client.specs.declared.task.Task.TheVariants.{Idle, Putting, Syncing, Leaving, Left}
 use Rattle.linda_client.specs.Ask.{asks}
 use Rattle.linda_client.specs.Pending.{Pending, ticket_count}
 use Rattle.linda_client.specs.Client.{Client, pending_in, servers}
@@ -70,11 +70,17 @@ abbrev pub accept_packet : Option Accepted → Option Packet
 accept_packet None = None
 accept_packet (Some a) = Some (a.server, messages.Accept a.n a.ticket a.id)
 
--- The numbered message that no server has answered yet, if there is one: an Out or an Accept.
-abbrev pub unanswered : Task → Option Packet
-unanswered Idle = None
-unanswered (Putting server n row) = Some (server, messages.Out n row)
-unanswered (Syncing pending) = accept_packet pending.accepted
+-- the Leaves to these servers, each with its number
+abbrev pub leave_packets : List (ℕ × ℕ) → List Packet
+leave_packets leaves = map (λ p. (p.0, messages.Leave p.1)) leaves
+
+-- The numbered messages that no server has answered yet: an Out, an Accept, or the Leaves; or none.
+abbrev pub unanswered : Task → List Packet
+unanswered Idle = []
+unanswered (Putting server n row) = (server, messages.Out n row) ∷ []
+unanswered (Syncing pending) = option_to_list (accept_packet pending.accepted)
+unanswered (Leaving leaves) = leave_packets leaves
+unanswered Left = []
 
 -- What a synchronization sends again: its unanswered Accept, and its Asks.
 abbrev pub sent_for : ℕ → Pending → List Packet
@@ -85,6 +91,6 @@ abbrev pub open_asks : Client → Option Pending → List Packet
 open_asks c None = []
 open_asks c (Some pending) = ask_packets (servers c) pending
 
--- What is not answered yet: the numbered message, then the Asks.
+-- What is not answered yet: the numbered messages, then the Asks.
 abbrev pub sent_again : Client → List Packet
-sent_again c = option_to_list (unanswered c.task) ++ open_asks c (pending_in c.task)
+sent_again c = unanswered c.task ++ open_asks c (pending_in c.task)

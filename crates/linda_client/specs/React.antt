@@ -1,7 +1,8 @@
 -- The calls of a client, and what each comes to.
 use Rattle.std.specs.Prelude.{◌≡◌, ℕ, ◌+◌, ◌%◌, ◌==◌, nat_lt, max, Bool, true, false, ◌&&◌, ◌||◌}
 use Rattle.std.specs.Prelude.{not, if◌then◌else◌, List, [], ◌∷◌, length, Option, Some, None}
-use Rattle.std.specs.Prelude.{is_some, Ok, Err, count_by, filter, replicate, slice_set}
+use Rattle.std.specs.Prelude.{is_some, Ok, Err, count_by, filter, map, replicate, slice_set}
+use Rattle.std.specs.List.{enumerate_from, list_any}
 use Rattle.linda_tuple.specs.Tuple.{Tuple}
 use Rattle.linda_tuple.specs.Matching.{bindings_of}
 use Rattle.linda_wire.specs.declared.limits.TheConstants.{NUMBER_LIMIT}
@@ -20,15 +21,18 @@ use Rattle.linda_client.specs.declared.fault.ClientFault.TheVariants as faults
 use Rattle.linda_client.specs.declared.outcome.Got.{Got}
 use Rattle.linda_client.specs.declared.outcome.Got.TheVariants as gots
 use Rattle.linda_client.specs.declared.outcome.Outcome.TheVariants as outcomes
-use Rattle.linda_client.specs.declared.task.Task.TheVariants.{Idle, Putting, Syncing}
+use Rattle.linda_client.specs.declared.task.Task.{Task}
+use Rattle.linda_client.specs.declared.task.Task.TheVariants.{Idle, Putting, Syncing, Leaving, Left}
 use Rattle.linda_client.specs.Ask.{asks, first_alarm, first_ready}
 use Rattle.linda_client.specs.Pending.{Pending, ask_at, is_answer, is_fit, is_saved, let_go, save_last}
-use Rattle.linda_client.specs.Client.{Client, IsClient, is_idle, is_out_of, next_at, pending_in, servers, with_pending}
-use Rattle.linda_client.specs.Packets.{ask_packets, cancels, sent_again}
+use Rattle.linda_client.specs.Client.{Client, IsClient, has_left, is_idle, is_out_of, next_at, pending_in, servers}
+use Rattle.linda_client.specs.Client.{with_pending}
+use Rattle.linda_client.specs.Packets.{ask_packets, cancels, leave_packets, sent_again}
 use Rattle.linda_client.specs.Reaction.{Answer, Reaction, commit, finish, hand_on, no_reaction, send}
 
 -- A call: a tuple is put, an event is waited for, a reply of a server comes, the time is told, what is
--- unanswered is sent again, to all servers or to one, and the synchronization is abandoned.
+-- unanswered is sent again, to all servers or to one, the synchronization is abandoned, and the client
+-- leaves.
 pub data Call : Type 0 where
   Out : Tuple → Call
   Sync : Tree → Call
@@ -37,6 +41,7 @@ pub data Call : Type 0 where
   Resend : Call
   Reconnected : ℕ → Call
   Abandon : Call
+  Leave : Call
 
 -- A new client: no out yet, each server's next number and the next ticket are 1, and nothing is pending.
 abbrev pub new_client : ℕ → ℕ → Client
@@ -68,9 +73,10 @@ put c server row = send ((server, messages.Out (next_at c server) row) ∷ [])
 
 abbrev pub on_out : Client → Tuple → Answer
 on_out c row =
-    if not (is_idle c.task) then Err faults.Busy
+    if has_left c.task then Err faults.Left
+    else (if not (is_idle c.task) then Err faults.Busy
     else (if (next_at c (out_server c) == NUMBER_LIMIT) || (c.outs + 1 == NUMBER_LIMIT) then Err faults.Spent
-    else Ok (put c (out_server c) row))
+    else Ok (put c (out_server c) row)))
 
 -- a synchronization that has asked and waits
 abbrev pub new_pending : Client → Tree → Pending
@@ -100,10 +106,11 @@ has_too_many event =
 
 abbrev pub on_sync : Client → Tree → Answer
 on_sync c event =
-    if not (is_idle c.task) then Err faults.Busy
+    if has_left c.task then Err faults.Left
+    else (if not (is_idle c.task) then Err faults.Busy
     else (if is_too_deep event then Err faults.TooDeep
     else (if has_too_many event then Err faults.TooManyBases
-    else on_ready c event (first_ready c.clock event)))
+    else on_ready c event (first_ready c.clock event))))
 
 -- a tuple is stored: the end of the pending out, if it has this server and number
 abbrev pub on_stored : Client → ℕ → ℕ → ℕ → Reaction
@@ -208,6 +215,39 @@ on_gone c None server n = Ok (no_reaction c)
 on_gone c (Some pending) server n =
     (if awaits pending.accepted server n then go_on c pending pending.saved else Ok (no_reaction c))
 
+-- the client leaves: a Leave goes to each server, under its next number, which is used
+abbrev pub leave : Client → Reaction
+leave c = send (leave_packets (enumerate_from 0 c.next))
+    (record c { next = map (λ n. n + 1) c.next; task = Leaving (enumerate_from 0 c.next) })
+
+abbrev pub on_leave : Client → Answer
+on_leave c =
+    if has_left c.task then Err faults.Left
+    else (if not (is_idle c.task) then Err faults.Busy
+    else (if list_any (λ n. n == NUMBER_LIMIT) c.next then Err faults.Spent else Ok (leave c)))
+
+-- the Leaves that are not answered yet once this server has answered the one of this number
+abbrev pub unanswered_leaves : ℕ → ℕ → List (ℕ × ℕ) → List (ℕ × ℕ)
+unanswered_leaves server n leaves = filter (λ p. not ((p.0 == server) && (p.1 == n))) leaves
+
+-- with these Leaves not answered yet, the client goes on leaving; with none it has left
+abbrev pub leave_on : Client → List (ℕ × ℕ) → Reaction
+leave_on c [] = record {
+  packets = [];
+  outcome = Some outcomes.Left;
+  fault = None;
+  client = record c { task = Left };
+}
+leave_on c (p ∷ ps) = no_reaction (record c { task = Leaving (p ∷ ps) })
+
+-- a server has answered a Leave of this number, given what is pending
+abbrev pub on_left : Client → Task → ℕ → ℕ → Reaction
+on_left c Idle server n = no_reaction c
+on_left c (Putting s m row) server n = no_reaction c
+on_left c (Syncing pending) server n = no_reaction c
+on_left c (Leaving leaves) server n = leave_on c (unanswered_leaves server n leaves)
+on_left c Left server n = no_reaction c
+
 -- what a reply of one of the servers comes to
 abbrev pub on_reply : Client → ℕ → Reply → Answer
 on_reply c server (replies.Welcome last) = Ok (no_reaction c)
@@ -219,6 +259,7 @@ on_reply c server (replies.Read ticket id row) = on_arrival c (pending_in c.task
 on_reply c server (replies.Taken n id row) = Ok (on_taken c (pending_in c.task) server n id row)
 on_reply c server (replies.Gone n) = on_gone c (pending_in c.task) server n
 on_reply c server (replies.Refused code detail) = Ok (hand_on c server code detail)
+on_reply c server (replies.Left n) = Ok (on_left c c.task server n)
 
 -- a synchronization at a tick: while no Accept is unanswered the first alarm that is ready commits
 abbrev pub on_time : Client → Option Pending → Reaction
@@ -244,7 +285,8 @@ react c Resend = Ok (send (sent_again c) c)
 react c (Reconnected server) =
     (if nat_lt server (servers c) then Ok (send (filter (λ p. p.0 == server) (sent_again c)) c)
     else Err faults.NoServer)
-react c Abandon = on_abandon c (pending_in c.task)
+react c Abandon = (if has_left c.task then Err faults.Left else on_abandon c (pending_in c.task))
+react c Leave = on_leave c
 
 -- P holds at each call of a client that is answered.
 abbrev pub AtEachCall : (Client → Call → Reaction → Type 0) → Type 0

@@ -64,6 +64,7 @@ shown told c = record { packets = told.packets.items; outcome = told.outcome; fa
 -- The refusal is that of the answer; `Memory` is returned only where the call is not refused.
 abbrev pub IsRefusal : ClientFault → Answer → Type 0
 IsRefusal faults.ServersRange answer = answer ≡ Err faults.ServersRange
+IsRefusal faults.Left answer = answer ≡ Err faults.Left
 IsRefusal faults.Busy answer = answer ≡ Err faults.Busy
 IsRefusal faults.Idle answer = answer ≡ Err faults.Idle
 IsRefusal faults.NoServer answer = answer ≡ Err faults.NoServer

@@ -4,7 +4,7 @@ use Rattle.std.specs.Prelude.{List, [], ◌∷◌, ◌++◌, Option, Some, None,
 use Rattle.linda_wire.specs.declared.message.Message.{Message}
 use Rattle.linda_wire.specs.declared.message.Message.TheVariants as messages
 use Rattle.linda_client.specs.Packets.{Packet}
-use Rattle.linda_client.specs.React.{Call, Out, Sync, Receive, Tick, Resend, Reconnected, Abandon}
+use Rattle.linda_client.specs.React.{Call, Out, Sync, Receive, Tick, Resend, Reconnected, Abandon, Leave}
 use Rattle.linda_client.specs.History.{Act}
 
 -- whether the call only asks for what was sent before
@@ -16,6 +16,7 @@ is_repeat (Tick now) = false
 is_repeat Resend = true
 is_repeat (Reconnected server) = true
 is_repeat Abandon = false
+is_repeat Leave = false
 
 -- what is sent anew at a call: all that is sent, unless the call is a repeat
 abbrev pub anew : Act → List Packet
@@ -32,6 +33,7 @@ ticket_of (messages.Out n row) = None
 ticket_of (messages.Ask ticket remove template) = Some ticket
 ticket_of (messages.Accept n ticket id) = None
 ticket_of (messages.Cancel ticket) = None
+ticket_of (messages.Leave n) = None
 
 -- whether this number is there
 abbrev pub is_number : Option ℕ → ℕ → Bool

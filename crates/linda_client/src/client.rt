@@ -1,6 +1,7 @@
 //! The client: what it keeps, and how that changes. Its calls stand in the modules below, one in each.
 
 mod abandon;
+mod leave;
 mod out;
 mod receive;
 mod resend;
@@ -8,28 +9,32 @@ mod sync;
 mod tick;
 
 ghost use Rattle.std.specs.Prelude.{◌≡◌, ◌+◌, ◌↔◌, ◌<◌, ◌≤◌, ◌⊎◌, [], None, true, is_some, max};
-ghost use Rattle.std.specs.Prelude.{option_copied, IfOk, IfErr, OnOk, OnErr, IsErrOf};
+ghost use Rattle.std.specs.Prelude.{◌==◌, false, map, option_copied, All, IfOk, IfErr, OnOk, OnErr, IsErrOf};
+ghost use Rattle.std.specs.List.{enumerate_from, list_any};
 ghost use Rattle.linda_wire.specs.declared.limits.TheConstants.{NUMBER_LIMIT};
 ghost use Rattle.linda_client.specs.declared.limits.TheConstants.{MAX_SERVERS};
 ghost use Rattle.linda_client.specs.declared.fault.ClientFault.TheVariants as faults;
 ghost use Rattle.linda_client.specs.declared.task.Task.TheVariants as tasks;
-ghost use Rattle.linda_client.specs.Client.{IsClient, OfPending, is_idle, next_at, pending_in};
+ghost use Rattle.linda_client.specs.Client.{IsClient, OfPending, has_left, is_idle, next_at, pending_in};
 ghost use Rattle.linda_client.specs.Client.{servers, with_pending};
 ghost use Rattle.linda_client.specs.Pending.{FitsOpen, IsOpenInput, IsPending, let_go};
 ghost use Rattle.linda_client.specs.Pending.{save_last, take_oldest, ticket_count};
-ghost use Rattle.linda_client.specs.React.{new_client, out_server, put, use_number};
+ghost use Rattle.linda_client.specs.React.{leave, new_client, on_left, out_server, put, use_number};
 
 use crate::arrival::{Accepted, Arrival};
 use crate::fault::ClientFault;
+use crate::leaves::Leaves;
 use crate::limits::MAX_SERVERS;
 use crate::pending::Pending;
 use crate::task::Task;
 use linda_tuple::Tuple;
+use linda_wire::NUMBER_LIMIT;
 use std::alloc::{AllocError, Global};
 use std::marker::Model;
 
-/// A client of the tuple space: what it puts and waits for, over its servers. At most one out or one
-/// synchronization is pending. The client sends nothing itself: each call gives the packets to be sent.
+/// A client of the tuple space: what it puts and waits for, over its servers, until it leaves. At most one out,
+/// one synchronization or the leave is pending. The client sends nothing itself: each call gives the packets to
+/// be sent.
 #[derive(Drop)]
 pub struct Client {
     number: u32,
@@ -105,11 +110,18 @@ impl Client {
         self.clock
     }
 
-    /// Whether nothing is pending. Takes no memory.
+    /// Whether nothing is pending; so it is of a client that has left. Takes no memory.
     pub fn is_idle(&self) -> bool
         ensures { result ≡ is_idle self.now.task }
     {
-        matches!(self.task, Task::Idle)
+        matches!(self.task, Task::Idle | Task::Left)
+    }
+
+    /// Whether the client has left. Takes no memory.
+    pub fn has_left(&self) -> bool
+        ensures { result ≡ has_left self.now.task }
+    {
+        matches!(self.task, Task::Left)
     }
 
     // The next ticket, which is free.
@@ -224,6 +236,46 @@ impl Client {
         }
     }
 
+    // Whether the next number of some server is 2^63.
+    fn is_any_spent(&self) -> bool
+        ensures spent { result ≡ list_any (λ n. n == NUMBER_LIMIT) self.now.next }
+    {
+        self.next.iter().any(|n| *n == NUMBER_LIMIT)
+    }
+
+    // A Leave to each server, under its next number.
+    fn leaves(&self, alloc: Global) -> Result<Leaves, AllocError>
+        ensures { IfOk result (λ l. l ≡ enumerate_from 0 self.now.next) }
+    {
+        Leaves::new(alloc, &self.next)
+    }
+
+    // The client leaves by these Leaves, and the next number of each server is used.
+    fn depart(&mut self, leaves: Leaves)
+        requires leaves { leaves ≡ enumerate_from 0 self.old.next }
+        requires numbers { list_any (λ n. n == NUMBER_LIMIT) self.old.next ≡ false }
+        ensures { self.new ≡ (leave self.old).client }
+    {
+        use_each(&mut self.next);
+        self.task = Task::Leaving(leaves);
+    }
+
+    // A server has answered the Leave of this number. Whether the client has left by that.
+    fn drop_leave(&mut self, server: u32, n: u64) -> bool
+        ensures client { self.new ≡ (on_left self.old self.old.task server n).client }
+        ensures left { result ≡ is_some (on_left self.old self.old.task server n).outcome }
+    {
+        let Task::Leaving(leaves) = &mut self.task else {
+            return false;
+        };
+        leaves.drop_answered(server, n);
+        if !leaves.is_empty() {
+            return false;
+        }
+        self.task = Task::Left;
+        true
+    }
+
     // The accepted offer is gone, and nothing is saved.
     fn wait(&mut self)
         requires { OfPending self.old (λ p. p.saved ≡ []) }
@@ -232,5 +284,15 @@ impl Client {
         if let Task::Syncing(pending) = &mut self.task {
             pending.wait();
         }
+    }
+}
+
+// Each next number is used.
+fn use_each(next: &mut Vec<u64>)
+    requires { All (λ n. n < NUMBER_LIMIT) next.old.items }
+    ensures { next.new.items ≡ map (λ n. n + 1) next.old.items }
+{
+    for n in next.iter_mut() {
+        *n += 1;
     }
 }

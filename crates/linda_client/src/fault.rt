@@ -13,7 +13,10 @@ pub enum ClientFault {
     /// A client has 1 to 16 servers.
     #[error("a client has 1 to 16 servers")]
     ServersRange,
-    /// An out or a synchronization is pending, or an Accept is unanswered.
+    /// The client has left.
+    #[error("left")]
+    Left,
+    /// An out, a synchronization or a leave is pending, or an Accept is unanswered.
     #[error("busy")]
     Busy,
     /// No synchronization is pending.

@@ -9,6 +9,7 @@ ghost use Rattle.linda_client.specs.declared.limits.TheConstants.{MAX_SERVERS};
 ghost use Rattle.linda_client.specs.Client.{IsClient, pending_in};
 ghost use Rattle.linda_client.specs.Ending.{TakenBy};
 ghost use Rattle.linda_client.specs.History.{FromNew, NumbersAreOnce, TicketsAreOnce, all_sent, end_count, sync_count};
+ghost use Rattle.linda_client.specs.Leaving.{LeavesForGood, SendsNoMore};
 ghost use Rattle.linda_client.specs.Numbers.{NumbersGoOn, Rises, number_of};
 ghost use Rattle.linda_client.specs.Offers.{KeepsOffers, TreatsOffers};
 ghost use Rattle.linda_client.specs.Progress.{GoesOn, IsSoundPacket};
@@ -21,9 +22,9 @@ pub fn calls_keep_clients()
     ensures kept { AtEachCall (λ c call r. IsClient r.client) }
 {}
 
-/// Next numbers and tickets never fall. A numbered message that is sent is the unanswered one as it was, or
-/// the only one, under the next number of its server, which then is one greater; and what is unanswered
-/// stays so until its server answers its number.
+/// Next numbers and tickets never fall. A numbered message that is sent to a server is one that it had not
+/// answered, as it was, or a new one, under the next number there, which then is one greater; and what is
+/// unanswered stays so until its server answers its number.
 pub fn numbers_go_on()
     ensures rises { AtEachCall (λ c call r. Rises c r.client) }
     ensures numbers { AtEachCall NumbersGoOn }
@@ -32,6 +33,14 @@ pub fn numbers_go_on()
 /// Every packet goes to a server that is there, and each Ask is that of a ticket that is open.
 pub fn packets_are_sound()
     ensures { AtEachCall (λ c call r. All (IsSoundPacket r.client) r.packets) }
+{}
+
+/// A client that has left stays so, and nothing comes of it but Cancels; and the outcome is Left exactly where
+/// it leaves. From a new client, whatever is called and whatever comes: after the outcome Left nothing but
+/// Cancels is sent.
+pub fn clients_leave_for_good()
+    ensures leaves { AtEachCall (λ c call r. LeavesForGood c r) }
+    ensures after { FromNew SendsNoMore }
 {}
 
 /// A pending synchronization goes on with its event and its tickets until it ends, with its Cancels, and a

@@ -129,6 +129,8 @@ pub enum Outcome {
         /// All nack numbers of its event, one for each node, in tree order.
         raised: Numbers,
     },
+    /// The client has left: every server has answered its Leave.
+    Left,
 }
 
 impl Outcome {

@@ -3,15 +3,19 @@
 ghost use Rattle.std.specs.Prelude.{◌≡◌};
 ghost use Rattle.linda_client.specs.Client.{is_out_of};
 
+use crate::leaves::Leaves;
 use crate::pending::Pending;
 use linda_tuple::Tuple;
 
-/// What is pending at a client: nothing, an out that no server has answered, or a synchronization.
+/// What is pending at a client: nothing, an out that no server has answered, a synchronization, or the Leaves
+/// that are not answered yet; or nothing for good, since the client has left.
 #[derive(Drop)]
 pub(crate) enum Task {
     Idle,
     Putting { server: u32, n: u64, tuple: Tuple },
     Syncing(Pending),
+    Leaving(Leaves),
+    Left,
 }
 
 impl Task {

@@ -13,3 +13,4 @@ mod pace;
 
 pub use gauge::Gauge;
 pub use held::{Held, Report};
+pub use linda_server::Durable;

@@ -22,6 +22,7 @@ mod watching;
 
 pub use inbox::{Arrival, Inbox};
 pub use intake::Intake;
+pub use linda_shared::{Gauge, Shared, SharedFault};
 pub use link::{Link, MAX_TRIES};
 pub use marks::Tally;
 pub use proxy::{Proxy, ProxyFault, end, send};

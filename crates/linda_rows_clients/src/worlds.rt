@@ -12,6 +12,7 @@
 //! | `world 1 on disks, left fails at 7` | this call of its left device fails, from 0; or of its right one |
 //! | `7 out`, `8 in`, `8 rd` | a client puts `("a", 3)`, takes `("a", ?i)`, or reads that |
 //! | `7 sync EVENT`, `7 abandon` | a client waits for an event, and gives up |
+//! | `7 leave` | a client leaves |
 //! | `7 tick 5` | a client is told the time |
 //! | `7 resend`, `7 reconnect 1` | a client sends again what is unanswered, or what server 1 has not answered |
 //! | `deliver 3` | packet 3 is delivered, or delivered again |

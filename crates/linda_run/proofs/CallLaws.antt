@@ -1,8 +1,8 @@
 -- What a call of a client leaves true of what it sent and asked before, and what is true of what it sends and is given now.
-use Rattle.std.proofs.Common.{◌≡◌, ℕ, zero, suc, ◌+◌, ◌-◌, ◌<◌, ◌≤◌, Bool, true, false, cond, [], ◌∷◌, Contains, ◌⊎◌, inl, inr, refl, sym, ap, ◌∙◌, subst, arith, slice_get, ltb-true, ltb-false}
+use Rattle.std.proofs.Common.{◌≡◌, ℕ, zero, suc, ◌+◌, ◌-◌, ◌<◌, ◌≤◌, Bool, true, false, cond, List, [], ◌∷◌, All, Contains, option_to_list, ◌⊎◌, inl, inr, refl, sym, ap, ◌∙◌, subst, arith, slice_get, ltb-true, ltb-false}
 use Rattle.std.specs.Prelude.{Option, Some, None, is_some, Ok, Err, IfSome, IsSomeAnd, nat_lt}
 use Rattle.std.proofs.lemmas.Option.{none-some, same_Some, slice_get_within}
-use Rattle.std.proofs.lemmas.List.Elements.{All-contains, All-get_or}
+use Rattle.std.proofs.lemmas.List.Elements.{All-contains, All-get_or, All-nil, All-cons, All-map, All-weaker, Contains-push}
 use Rattle.linda_wire.specs.declared.limits.TheConstants.{NUMBER_LIMIT}
 use Rattle.linda_tuple.specs.Tuple.{Tuple}
 use Rattle.linda_wire.specs.declared.message.Message.{Message}
@@ -16,18 +16,20 @@ use Rattle.linda_client.specs.declared.fault.ClientFault.TheVariants as faults
 use Rattle.linda_client.specs.declared.outcome.Got.{Got}
 use Rattle.linda_client.specs.declared.outcome.Got.TheVariants.{Took, Copied, Alarm, Always}
 use Rattle.linda_client.specs.declared.outcome.Outcome.{Outcome}
+use Rattle.linda_client.specs.declared.outcome.Outcome.TheVariants as outcomes
 use Rattle.linda_client.specs.declared.outcome.Outcome.TheVariants.{Stored, Synced, Dropped}
 use Rattle.linda_client.specs.declared.task.Task.{Task}
-use Rattle.linda_client.specs.declared.task.Task.TheVariants.{Idle, Putting, Syncing}
+use Rattle.linda_client.specs.declared.task.Task.TheVariants.{Idle, Putting, Syncing, Leaving, Left}
 use Rattle.linda_client.specs.Ask.{asks}
 use Rattle.linda_client.specs.Pending.{Pending, ask_at, ticket_count}
 use Rattle.linda_client.specs.Client.{Client, IsClient, IsTaskOf, IsUsed, asked_in, next_at, pending_in, servers}
-use Rattle.linda_client.specs.Packets.{Packet, accept_packet, unanswered}
+use Rattle.linda_client.specs.Packets.{Packet, accept_packet, leave_packets, unanswered}
 use Rattle.linda_client.specs.Reaction.{Reaction}
 use Rattle.linda_client.specs.React.{Call, Receive, new_pending, on_reply, react}
 use Rattle.linda_client.specs.Ending.{IsEnd, TakenBy}
-use Rattle.linda_client.specs.Numbers.{NumbersGoOn, UsesNoNumber, Rises, number_of}
+use Rattle.linda_client.specs.Numbers.{NumbersGoOn, IsUnanswered, UsesNoNumber, UsesNumber, Rises, number_of}
 use Rattle.linda_client.specs.Progress.{Continues, GoesOn, IsSoundPacket}
+use Rattle.linda_client.proofs.ListLaws.{only_one, nowhere}
 use Rattle.linda_run.specs.World.{handed_by}
 use Rattle.linda_run.specs.Reasons.{OfTicket, Asks, HasSent, IsSaid}
 use Rattle.linda_run.specs.Below.{OfCalls}
@@ -47,6 +49,8 @@ open_range pending k ask e = by (nat_lt k pending.first) refl e
 pub open_used : (c : Client) (t : Task) (k : ℕ) (ask : Ask) → IsTaskOf c t → asked_in (pending_in t) k ≡ Some ask → k < c.ticket
 open_used c Idle k ask is e = absurd (none-some ask e)
 open_used c (Putting server n row) k ask is e = absurd (none-some ask e)
+open_used c (Leaving leaves) k ask is e = absurd (none-some ask e)
+open_used c Left k ask is e = absurd (none-some ask e)
 open_used c (Syncing pending) k ask is e = let range = open_range pending k ask e in let top = is.tickets in omega (arith, range.1, top)
 
 -- the same event and first ticket ask the same
@@ -55,28 +59,71 @@ same_ask old new k event first =
     ap (λ x. ask_at (record new { event = x }) k) event ∙ ap (λ x. ask_at (record new { event = old.event; first = x }) k) first
 
 -- what is unanswered while a synchronization is pending
-pending_unanswered : (t : Task) (pending : Pending) → pending_in t ≡ Some pending → unanswered t ≡ accept_packet pending.accepted
+pending_unanswered : (t : Task) (pending : Pending) → pending_in t ≡ Some pending → unanswered t ≡ option_to_list (accept_packet pending.accepted)
 pending_unanswered Idle pending e = absurd (none-some pending e)
 pending_unanswered (Putting server n row) pending e = absurd (none-some pending e)
-pending_unanswered (Syncing own) pending e = ap (λ (p : Pending). accept_packet p.accepted) (same_Some own pending e)
+pending_unanswered (Syncing own) pending e = ap (λ (p : Pending). option_to_list (accept_packet p.accepted)) (same_Some own pending e)
+pending_unanswered (Leaving leaves) pending e = absurd (none-some pending e)
+pending_unanswered Left pending e = absurd (none-some pending e)
 
-pub accepted_unanswered : (t : Task) (pending : Pending) (a : Accepted) → pending_in t ≡ Some pending → pending.accepted ≡ Some a
-    → unanswered t ≡ Some (a.server, messages.Accept a.n a.ticket a.id)
-accepted_unanswered t pending a e accepted = pending_unanswered t pending e ∙ ap accept_packet accepted
+pub accepted_unanswered : (c : Client) (pending : Pending) (a : Accepted) → pending_in c.task ≡ Some pending → pending.accepted ≡ Some a
+    → IsUnanswered c a.server (messages.Accept a.n a.ticket a.id)
+accepted_unanswered c pending a e accepted =
+    subst (λ l. Contains {X = Packet} l (a.server, messages.Accept a.n a.ticket a.id)) (sym (pending_unanswered c.task pending e ∙ ap (λ o. option_to_list (accept_packet o)) accepted)) (Contains-push {X = Packet} [] (a.server, messages.Accept a.n a.ticket a.id))
+
+-- The number of a packet was used at its server.
+abbrev WasUsed : Client → Packet → Type 0
+WasUsed c p = (n : ℕ) → number_of p.1 ≡ Some n → n < next_at c p.0
+
+accept_used : (c : Client) (o : Option Accepted) → IfSome o (λ a. IsUsed c a.server a.n) → All (WasUsed c) (option_to_list (accept_packet o))
+accept_used c None used = All-nil (WasUsed c)
+accept_used c (Some a) used = All-cons (WasUsed c) (a.server, messages.Accept a.n a.ticket a.id) [] (λ n e. subst (λ x. x < next_at c a.server) (same_Some a.n n e) used.1.1) (All-nil (WasUsed c))
+
+leaves_used : (c : Client) (leaves : List (ℕ × ℕ)) → All (λ (p : ℕ × ℕ). IsUsed c p.0 p.1 × (p.1 + 1 ≡ next_at c p.0)) leaves → All (WasUsed c) (leave_packets leaves)
+leaves_used c leaves used =
+    All-map (WasUsed c) (λ (p : ℕ × ℕ). (p.0, messages.Leave p.1)) leaves
+    (All-weaker (λ (p : ℕ × ℕ). IsUsed c p.0 p.1 × (p.1 + 1 ≡ next_at c p.0)) (λ (p : ℕ × ℕ). WasUsed c (p.0, messages.Leave p.1)) (λ p was n e. subst (λ x. x < next_at c p.0) (same_Some p.1 n e) was.0.1.1) leaves used)
+
+task_used : (c : Client) (t : Task) → IsTaskOf c t → All (WasUsed c) (unanswered t)
+task_used c Idle is = All-nil (WasUsed c)
+task_used c (Putting server m row) is = All-cons (WasUsed c) (server, messages.Out m row) [] (λ n e. subst (λ x. x < next_at c server) (same_Some m n e) is.1.1) (All-nil (WasUsed c))
+task_used c (Syncing pending) is = accept_used c pending.accepted is.accepted
+task_used c (Leaving leaves) is = leaves_used c leaves is.last
+task_used c Left is = All-nil (WasUsed c)
+
+-- A server has at most one message unanswered.
+one_accept : (o : Option Accepted) (s : ℕ) (k m : Message) → Contains (option_to_list (accept_packet o)) (s, k) → Contains (option_to_list (accept_packet o)) (s, m) → k ≡ m
+one_accept None s k m first second = nowhere {X = Packet} (s, k) first
+one_accept (Some a) s k m first second =
+    let x : Packet = (a.server, messages.Accept a.n a.ticket a.id) in
+    sym (ap (λ (p : Packet). p.1) (only_one x (s, k) first)) ∙ ap (λ (p : Packet). p.1) (only_one x (s, m) second)
+
+-- a Leave under the last number of its server
+abbrev IsLastLeave : Client → Packet → Type 0
+IsLastLeave c p = p.1 ≡ messages.Leave (next_at c p.0 - 1)
+
+last_leaves : (c : Client) (leaves : List (ℕ × ℕ)) → All (λ (p : ℕ × ℕ). IsUsed c p.0 p.1 × (p.1 + 1 ≡ next_at c p.0)) leaves → All (IsLastLeave c) (leave_packets leaves)
+last_leaves c leaves used =
+    All-map (IsLastLeave c) (λ (p : ℕ × ℕ). (p.0, messages.Leave p.1)) leaves
+    (All-weaker (λ (p : ℕ × ℕ). IsUsed c p.0 p.1 × (p.1 + 1 ≡ next_at c p.0)) (λ (p : ℕ × ℕ). IsLastLeave c (p.0, messages.Leave p.1)) (λ p was. ap messages.Leave (before p.1 (next_at c p.0) was.1)) leaves used)
+  where
+    before : (n next : ℕ) → n + 1 ≡ next → n ≡ next - 1
+    before n next is = omega (arith, is)
+
+one_unanswered : (c : Client) (t : Task) (s : ℕ) (k m : Message) → IsTaskOf c t → Contains (unanswered t) (s, k) → Contains (unanswered t) (s, m) → k ≡ m
+one_unanswered c Idle s k m is first second = nowhere {X = Packet} (s, k) first
+one_unanswered c (Putting server n row) s k m is first second =
+    let x : Packet = (server, messages.Out n row) in
+    sym (ap (λ (p : Packet). p.1) (only_one x (s, k) first)) ∙ ap (λ (p : Packet). p.1) (only_one x (s, m) second)
+one_unanswered c (Syncing pending) s k m is first second = one_accept pending.accepted s k m first second
+one_unanswered c (Leaving leaves) s k m is first second =
+    let last = last_leaves c leaves is.last in
+    All-contains (IsLastLeave c) (leave_packets leaves) (s, k) last first ∙ sym (All-contains (IsLastLeave c) (leave_packets leaves) (s, m) last second)
+one_unanswered c Left s k m is first second = nowhere {X = Packet} (s, k) first
 
 -- The number of what is unanswered was used.
-accept_used : (c : Client) (o : Option Accepted) (p : Packet) (n : ℕ) → IfSome o (λ a. IsUsed c a.server a.n) → accept_packet o ≡ Some p → number_of p.1 ≡ Some n → n < next_at c p.0
-accept_used c None p n used e number = absurd (none-some p e)
-accept_used c (Some a) p n used e number =
-    let n_is : a.n ≡ n = same_Some a.n n (ap (λ (o : Packet). number_of o.1) (same_Some (a.server, messages.Accept a.n a.ticket a.id) p e) ∙ number) in
-    subst (λ (o : Packet). n < next_at c o.0) (same_Some (a.server, messages.Accept a.n a.ticket a.id) p e) (subst (λ x. x < next_at c a.server) n_is used.1.1)
-
-unanswered_used : (c : Client) (t : Task) (p : Packet) (n : ℕ) → IsTaskOf c t → unanswered t ≡ Some p → number_of p.1 ≡ Some n → n < next_at c p.0
-unanswered_used c Idle p n is e number = absurd (none-some p e)
-unanswered_used c (Putting server m row) p n is e number =
-    let n_is : m ≡ n = same_Some m n (ap (λ (o : Packet). number_of o.1) (same_Some (server, messages.Out m row) p e) ∙ number) in
-    subst (λ (o : Packet). n < next_at c o.0) (same_Some (server, messages.Out m row) p e) (subst (λ x. x < next_at c server) n_is is.1.1)
-unanswered_used c (Syncing pending) p n is e number = accept_used c pending.accepted p n is.accepted e number
+unanswered_used : (c : Client) (s : ℕ) (m : Message) (n : ℕ) → IsClient c → IsUnanswered c s m → number_of m ≡ Some n → n < next_at c s
+unanswered_used c s m n is there number = All-contains (WasUsed c) (unanswered c.task) (s, m) (task_used c c.task is.task) there n number
 
 -- the next number at a server is not the first that no message has
 pub next_above : (c : Client) (s : ℕ) → IsClient c → s < servers c → 0 < next_at c s
@@ -106,10 +153,10 @@ pub record IsLater (c new : Client) : Type 0 where
   pub tickets : c.ticket ≤ new.ticket
   pub numbers : (s : ℕ) → next_at c s ≤ next_at new s
   pub asked : (k : ℕ) (ask : Ask) → asked_in (pending_in new.task) k ≡ Some ask → k < c.ticket → asked_in (pending_in c.task) k ≡ Some ask
-  pub from : (p : Packet) → unanswered new.task ≡ Some p → (unanswered c.task ≡ Some p) ⊎ (number_of p.1 ≡ Some (next_at c p.0))
+  pub from : (s : ℕ) (m : Message) → IsUnanswered new s m → IsUnanswered c s m ⊎ (number_of m ≡ Some (next_at c s))
 
 pub same_later : (c : Client) → IsLater c c
-same_later c = record { tickets = omega arith; numbers = λ s. omega arith; asked = λ k ask e low. e; from = λ p e. inl e }
+same_later c = record { tickets = omega arith; numbers = λ s. omega arith; asked = λ k ask e low. e; from = λ s m e. inl e }
 
 -- What was true of tickets and numbers that were used is true later on.
 module _ (c new : Client) (later : IsLater c new) where
@@ -122,13 +169,12 @@ module _ (c new : Client) (later : IsLater c new) where
   pub sent_still : (s n : ℕ) (m : Message) → HasSent s n m c → HasSent s n m new
   sent_still s n m old = record {
     used = let low = old.used in let more = later.numbers s in omega (arith, low, more);
-    own = to_some (λ (p : Packet). p.0 ≡ s → number_of p.1 ≡ Some n → p.1 ≡ m) (unanswered new.task) (λ p e. by p (later.from p e));
+    own = λ k there number. by k number (later.from s k there);
   }
     where
-      by : (p : Packet) → (unanswered c.task ≡ Some p) ⊎ (number_of p.1 ≡ Some (next_at c p.0)) → p.0 ≡ s → number_of p.1 ≡ Some n → p.1 ≡ m
-      by p (inl was) here number = from_some (λ (p : Packet). p.0 ≡ s → number_of p.1 ≡ Some n → p.1 ≡ m) (unanswered c.task) p was old.own here number
-      by p (inr next) here number =
-          absurd (let low = old.used in let n_is : n ≡ next_at c s = same_Some n (next_at c s) (sym number ∙ next ∙ ap (λ x. Some (next_at c x)) here) in omega (arith, low, n_is))
+      by : (k : Message) → number_of k ≡ Some n → IsUnanswered c s k ⊎ (number_of k ≡ Some (next_at c s)) → k ≡ m
+      by k number (inl was) = old.own k was number
+      by k number (inr next) = absurd (let low = old.used in let n_is : n ≡ next_at c s = same_Some n (next_at c s) (sym number ∙ next) in omega (arith, low, n_is))
 
   pub said_still : (s : ℕ) (m : Message) → IsSaid s m c → IsSaid s m new
   said_still s (messages.Hello version client fresh) old = tt
@@ -136,6 +182,7 @@ module _ (c new : Client) (later : IsLater c new) where
   said_still s (messages.Ask k remove template) old = ticket_still k (Asks remove template) old
   said_still s (messages.Accept n k id) old = sent_still s n (messages.Accept n k id) old
   said_still s (messages.Cancel k) old = tt
+  said_still s (messages.Leave n) old = sent_still s n (messages.Leave n) old
 
 module _ (laws : OfCalls) (c : Client) (call : Call) (r : Reaction) (is : IsClient c) (answer : react c call ≡ Ok r) where
   pub rises : Rises c r.client
@@ -169,47 +216,32 @@ module _ (laws : OfCalls) (c : Client) (call : Call) (r : Reaction) (is : IsClie
       by (inr on) = ap (λ (p : Pending). ask_at p k) (same_Some then on.later (sym now ∙ on.after)) ∙ same_ask pending on.later k on.event on.first
 
   -- What is unanswered was so before, or has the next number.
-  pub unanswered_from : (p : Packet) → unanswered r.client.task ≡ Some p → (unanswered c.task ≡ Some p) ⊎ (number_of p.1 ≡ Some (next_at c p.0))
-  unanswered_from p e = by (laws.numbers c call r is answer)
-    where
-      by : NumbersGoOn c call r → (unanswered c.task ≡ Some p) ⊎ (number_of p.1 ≡ Some (next_at c p.0))
-      by (inl none) = elim none.unanswered_is [
-        | inl same ↦ inl (sym same ∙ e)
-        | inr over ↦ absurd (none-some p (sym over.0 ∙ e))
+  pub unanswered_from : (s : ℕ) (m : Message) → IsUnanswered r.client s m → IsUnanswered c s m ⊎ (number_of m ≡ Some (next_at c s))
+  unanswered_from s m there =
+      elim (laws.numbers c call r is answer s) [
+        | inl none ↦ inl (none.old m there)
+        | inr used ↦ inr (ap number_of (used.1.own m (subst (λ l. Contains {X = Packet} l (s, m)) used.1.unanswered_is there)) ∙ used.1.number)
       ]
-      by (inr (q, one)) = inr (subst (λ (o : Packet). number_of o.1 ≡ Some (next_at c o.0)) (same_Some q p (sym one.unanswered_is ∙ e)) one.number)
 
   pub later : IsLater c r.client
   later = record { tickets = rises.tickets; numbers = rises.numbers; asked = open_before; from = unanswered_from }
 
   -- A numbered message that is sent has a used number, and is what is unanswered then.
   numbered_sent : (s n : ℕ) (m : Message) → Contains r.packets (s, m) → number_of m ≡ Some n → HasSent s n m r.client
-  numbered_sent s n m there number = by (laws.numbers c call r is answer)
+  numbered_sent s n m there number = by (laws.numbers c call r is answer s)
     where
-      own : unanswered r.client.task ≡ Some (s, m) → IfSome (unanswered r.client.task) (λ (p : Packet). p.0 ≡ s → number_of p.1 ≡ Some n → p.1 ≡ m)
-      own e = subst (λ o. IfSome o (λ (p : Packet). p.0 ≡ s → number_of p.1 ≡ Some n → p.1 ≡ m)) (sym e) (λ here same. refl)
-
-      again : UsesNoNumber c call r → unanswered c.task ≡ Some (s, m)
-      again none = none.again (s, m) there (ap is_some number)
-
-      by : NumbersGoOn c call r → HasSent s n m r.client
+      by : UsesNoNumber c call r s ⊎ ((k : Message) × UsesNumber c call r s k) → HasSent s n m r.client
       by (inl none) = record {
-        used = let low = unanswered_used c c.task (s, m) n is.task (again none) number in let more = rises.numbers s in omega (arith, low, more);
-        own = elim none.unanswered_is [
-          | inl same ↦ own (same ∙ again none)
-          | inr over ↦ subst (λ o. IfSome o (λ (p : Packet). p.0 ≡ s → number_of p.1 ≡ Some n → p.1 ≡ m)) (sym over.0) tt
-        ];
+        used = let low = unanswered_used c s m n is (none.again m there (ap is_some number)) number in let more = rises.numbers s in omega (arith, low, more);
+        own = λ k waits same. one_unanswered c c.task s k m is.task (none.old k waits) (none.again m there (ap is_some number));
       }
-      by (inr (q, one)) =
-          let at = place (q ∷ []) (s, m) (subst (λ l. Contains {X = Packet} l (s, m)) one.alone there) in
-          let q_is : q ≡ (s, m) = only at.0 at.1 in
-          let n_is : next_at c s ≡ n = same_Some (next_at c s) n (sym (subst (λ (o : Packet). number_of o.1 ≡ Some (next_at c o.0)) q_is one.number) ∙ number) in
-          let more : next_at r.client s ≡ next_at c s + 1 = subst (λ (o : Packet). next_at r.client o.0 ≡ next_at c o.0 + 1) q_is one.next in
-          record { used = omega (arith, n_is, more); own = own (one.unanswered_is ∙ ap (λ o. Some o) q_is) }
-        where
-          only : (i : ℕ) → slice_get (q ∷ []) i ≡ Some (s, m) → q ≡ (s, m)
-          only zero e = same_Some q (s, m) e
-          only (suc i) e = absurd (none-some {A = Packet} (s, m) e)
+      by (inr (k, one)) =
+          let m_is : m ≡ k = one.own m there in
+          let n_is : next_at c s ≡ n = same_Some (next_at c s) n (sym one.number ∙ ap number_of (sym m_is) ∙ number) in
+          record {
+            used = let more = one.next in omega (arith, n_is, more);
+            own = λ q waits same. one.own q (subst (λ l. Contains {X = Packet} l (s, q)) one.unanswered_is waits) ∙ sym m_is;
+          }
 
   -- What is sent is the client's to say.
   pub sent_said : (s : ℕ) (m : Message) → Contains r.packets (s, m) → IsSaid s m r.client
@@ -217,6 +249,7 @@ module _ (laws : OfCalls) (c : Client) (call : Call) (r : Reaction) (is : IsClie
   sent_said s (messages.Out n row) there = numbered_sent s n (messages.Out n row) there refl
   sent_said s (messages.Accept n k id) there = numbered_sent s n (messages.Accept n k id) there refl
   sent_said s (messages.Cancel k) there = tt
+  sent_said s (messages.Leave n) there = numbered_sent s n (messages.Leave n) there refl
   sent_said s (messages.Ask k remove template) there =
       by (asked_in (pending_in r.client.task) k) refl (All-contains (IsSoundPacket r.client) r.packets (s, messages.Ask k remove template) (laws.packets c call r is answer) there).1
     where
@@ -236,13 +269,13 @@ module _ (laws : OfCalls) (c : Client) (call : Call) (r : Reaction) (is : IsClie
     pub tuple : Tuple
     pub call_is : call ≡ Receive server (replies.Taken number id tuple)
     pub handed : handed_by r.outcome ≡ Some (record { server = server; id = id; tuple = tuple })
-    pub was : unanswered c.task ≡ Some (server, messages.Accept number ticket id)
-    pub over : unanswered r.client.task ≡ None
+    pub was : IsUnanswered c server (messages.Accept number ticket id)
+    pub over : unanswered r.client.task ≡ []
 
   pub given_now : (handed_by r.outcome ≡ None) ⊎ IsGiven
   given_now = by r.outcome refl (laws.taken c call r is answer)
     where
-      idle_then : (pending : Pending) (o : Outcome) → r.outcome ≡ Some o → GoesOn c call (Some pending) r → unanswered r.client.task ≡ None
+      idle_then : (pending : Pending) (o : Outcome) → r.outcome ≡ Some o → GoesOn c call (Some pending) r → unanswered r.client.task ≡ []
       idle_then pending o e goes = elim goes.1 [
         | inl ends ↦ ap unanswered ends.idle
         | inr on ↦ absurd (none-some o (sym on.silent ∙ e))
@@ -257,7 +290,7 @@ module _ (laws : OfCalls) (c : Client) (call : Call) (r : Reaction) (is : IsClie
         tuple = row;
         call_is = t.answers;
         handed = ap handed_by e ∙ ap (λ s. Some (record { server = s; id = id; tuple = row })) t.server_is ∙ ap (λ i. Some (record { server = t.own.server; id = i; tuple = row })) t.id_is;
-        was = accepted_unanswered c.task t.pending t.own t.pending_is t.accepted;
+        was = accepted_unanswered c t.pending t.own t.pending_is t.accepted;
         over = idle_then t.pending _ e (subst (λ o. GoesOn c call o r) t.pending_is (laws.goes_on c call r is answer));
       })
       by_got base (Copied server id row bindings) labels raised e t = inl (ap handed_by e)
@@ -268,7 +301,8 @@ module _ (laws : OfCalls) (c : Client) (call : Call) (r : Reaction) (is : IsClie
       by None e t = inl (ap handed_by e)
       by (Some (Stored server id)) e t = inl (ap handed_by e)
       by (Some (Dropped raised)) e t = inl (ap handed_by e)
+      by (Some outcomes.Left) e t = inl (ap handed_by e)
       by (Some (Synced base got labels raised)) e t = by_got base got labels raised e t
 
   pub given_used : (g : IsGiven) → g.number < next_at c g.server
-  given_used g = unanswered_used c c.task (g.server, messages.Accept g.number g.ticket g.id) g.number is.task g.was refl
+  given_used g = unanswered_used c g.server (messages.Accept g.number g.ticket g.id) g.number is g.was refl

@@ -33,8 +33,7 @@ use Rattle.linda_store.specs.Node.{Node, Sent as Gives, MayRemain, Works}
 use Rattle.linda_store.specs.Sound.{IsSound}
 use Rattle.linda_client.specs.declared.arrival.Accepted.{Accepted}
 use Rattle.linda_client.specs.Client.{Client}
-use Rattle.linda_client.specs.Packets.{Packet, unanswered}
-use Rattle.linda_client.specs.Numbers as sent
+use Rattle.linda_client.specs.Numbers.{IsUnanswered}
 use Rattle.linda_client.specs.Offers.{InHand}
 use Rattle.linda_run.specs.declared.packet.Packet.{Packet as Sent}
 use Rattle.linda_run.specs.World.{Member, Members}
@@ -57,6 +56,7 @@ said_numbered s n (messages.Out k row) c e is = subst (λ x. HasSent s x (messag
 said_numbered s n (messages.Ask k remove template) c e is = absurd (none-some n e)
 said_numbered s n (messages.Accept k ticket id) c e is = subst (λ x. HasSent s x (messages.Accept k ticket id) c) (same_Some k n e) is
 said_numbered s n (messages.Cancel k) c e is = absurd (none-some n e)
+said_numbered s n (messages.Leave k) c e is = subst (λ x. HasSent s x (messages.Leave k) c) (same_Some k n e) is
 
 -- The deeds of what comes have numbers that were used.
 module _ (laws : OfSteps) (ms : Members) (s : ℕ) where
@@ -208,6 +208,7 @@ module _ (laws : OfSteps) (ms : Members) (ps : List Sent) (s : ℕ) (ds es : Lis
       by c (replies.Taken n id row) there = tt
       by c (replies.Gone n) there = tt
       by c (replies.Refused code detail) there = tt
+      by c (replies.Left n) there = tt
 
   pub deeds_used : All (IsUsedBy ms s) es
   deeds_used = subst (All (IsUsedBy ms s)) (sym one.deeds_are)
@@ -215,7 +216,7 @@ module _ (laws : OfSteps) (ms : Members) (ps : List Sent) (s : ℕ) (ds es : Lis
 
   -- An accepted offer that is not done is not done now, if its tuple is held still.
   module _ (sound : IsSound ds old) (then : IsSound (ds ++ es) new) where
-    not_done : (c k id : ℕ) (a : Accepted) (member : Member) → get ms c ≡ Some member → unanswered member.client.task ≡ Some (s, messages.Accept a.n k id)
+    not_done : (c k id : ℕ) (a : Accepted) (member : Member) → get ms c ≡ Some member → IsUnanswered member.client s (messages.Accept a.n k id)
         → get new.soft.holds id ≡ Some (request_of c k) → last_number ds c < a.n → last_number (ds ++ es) c < a.n
     not_done c k id a member known awaits held low = by x refl one.deed refl
       where
@@ -227,9 +228,8 @@ module _ (laws : OfSteps) (ms : Members) (ps : List Sent) (s : ℕ) (ds es : Lis
         let_go y m d y_is is number same gone =
             let member_is : is.member ≡ member = same_Some is.member member (sym is.known ∙ ap (get ms) y_is ∙ known) in
             let said = said_numbered s (number_of d) m is.member.client number is.holds in
-            let waits : unanswered is.member.client.task ≡ Some (s, messages.Accept a.n k id) = ap (λ (m : Member). unanswered m.client.task) member_is ∙ awaits in
-            let m_is : messages.Accept a.n k id ≡ m =
-            from_some (λ (p : Packet). p.0 ≡ s → sent.number_of p.1 ≡ Some (number_of d) → p.1 ≡ m) (unanswered is.member.client.task) (s, messages.Accept a.n k id) waits said.own refl (ap (λ n. Some n) same) in
+            let waits : IsUnanswered is.member.client s (messages.Accept a.n k id) = subst (λ (m : Member). IsUnanswered m.client s (messages.Accept a.n k id)) (sym member_is) awaits in
+            let m_is : messages.Accept a.n k id ≡ m = said.own (messages.Accept a.n k id) waits (ap (λ n. Some n) same) in
             subst (λ z. LetsGo y z new.soft) (sym m_is) gone (held ∙ ap (λ z. Some (request_of z k)) (sym y_is))
 
         done : (y : ℕ) (m : Message) (d : Deed) → x ≡ says y m → one.deed ≡ Some d → DoesAsAsked y m new.soft d → last_number (ds ++ es) c < a.n
@@ -286,9 +286,11 @@ module _ (laws : OfSteps) (ms : Members) (ps : List Sent) (s : ℕ) (ds es : Lis
             by_hand (inl saved) = inl saved
             by_hand (inr accepted) =
                 let a : Accepted = accepted.0.own in
-                let awaits : unanswered is.member.client.task ≡ Some (s, messages.Accept a.n request.ticket id) =
-                accepted_unanswered is.member.client.task is.holds.pending a is.holds.pending_is accepted.0.there
-                ∙ ap (λ z. Some (z, messages.Accept a.n a.ticket a.id)) accepted.0.server_is ∙ ap (λ z. Some (s, messages.Accept a.n z a.id)) accepted.0.ticket_is ∙ ap (λ z. Some (s, messages.Accept a.n request.ticket z)) accepted.0.id_is in
+                let awaits : IsUnanswered is.member.client s (messages.Accept a.n request.ticket id) =
+                subst (λ z. IsUnanswered is.member.client s (messages.Accept a.n request.ticket z)) accepted.0.id_is
+                (subst (λ z. IsUnanswered is.member.client s (messages.Accept a.n z a.id)) accepted.0.ticket_is
+                (subst (λ z. IsUnanswered is.member.client z (messages.Accept a.n a.ticket a.id)) accepted.0.server_is
+                (accepted_unanswered is.member.client is.holds.pending a is.holds.pending_is accepted.0.there))) in
                 inr (accepted.0, not_done request.client request.ticket id a is.member is.known awaits held accepted.1)
 
         by : (get old.soft.holds id ≡ Some request) ⊎ MakesOffer new.state.bag old.soft x sends id request → HasReason ms news s (ds ++ es) id request

@@ -8,7 +8,7 @@ use Rattle.linda_event.specs.Trees.{tree_of}
 use Rattle.linda_step.specs.History.{comings}
 use Rattle.linda_promise.specs.Replies.{reports_deed, ReportsOne}
 use Rattle.linda_client.specs.React as calls
-use Rattle.linda_client.specs.React.{Call, Receive, Resend, Abandon}
+use Rattle.linda_client.specs.React.{Call, Receive, Resend, Abandon, Leave}
 use Rattle.linda_run.specs.declared.event.WorldEvent.{WorldEvent}
 use Rattle.linda_run.specs.declared.event.WorldEvent.TheVariants as events
 use Rattle.linda_run.specs.declared.packet.Body.{Body}
@@ -47,6 +47,7 @@ pub course : (w new : World) (event : WorldEvent) (told : Told) → Steps w even
 course w new (events.Out c row) told step = reacts (calls.Out row) c [] (own (calls.Out row) c (λ s r e. cc)) step
 course w new (events.Sync c event) told step = reacts (calls.Sync (tree_of event)) c [] (own (calls.Sync (tree_of event)) c (λ s r e. cc)) step
 course w new (events.Abandon c) told step = reacts Abandon c [] (own Abandon c (λ s r e. cc)) step
+course w new (events.Leave c) told step = reacts Leave c [] (own Leave c (λ s r e. cc)) step
 course w new (events.Deliver k) told step = delivers w new told k (slice_get w.packets k) refl step
 course w new (events.Tick c now) told step = reacts (calls.Tick now) c [] (own (calls.Tick now) c (λ s r e. cc)) step
 course w new (events.Resend c) told step = reacts Resend c [] (own Resend c (λ s r e. cc)) step

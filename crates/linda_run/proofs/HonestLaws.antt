@@ -7,6 +7,7 @@ use Rattle.std.proofs.lemmas.List.Elements.{All-nil, All-cons, All-weaker, All-c
 use Rattle.std.specs.FinMap.{get}
 use Rattle.linda_client.specs.declared.limits.TheConstants.{MAX_SERVERS}
 use Rattle.linda_bag.proofs.Maps.{get_empty}
+use Rattle.linda_wire.specs.declared.message.Message.{Message}
 use Rattle.linda_wire.specs.declared.message.Message.TheVariants as messages
 use Rattle.linda_wire.specs.declared.reply.Reply.{Reply}
 use Rattle.linda_wire.specs.declared.reply.Reply.TheVariants as replies
@@ -32,8 +33,8 @@ use Rattle.linda_store.specs.Node.{Node, NodeAnswer, Sent, IsFull, IsDown, Works
 use Rattle.linda_store.specs.Sound.{IsSound, AreBacked}
 use Rattle.linda_client.specs.Client.{Client, IsClient, next_at}
 use Rattle.linda_client.specs.Packets as packets
-use Rattle.linda_client.specs.Packets.{unanswered}
-use Rattle.linda_client.specs.Numbers.{number_of}
+use Rattle.linda_client.specs.Numbers.{number_of, IsUnanswered}
+use Rattle.linda_client.proofs.ListLaws.{nowhere}
 use Rattle.linda_client.specs.React.{Call, new_client}
 use Rattle.linda_run.specs.declared.event.WorldEvent.{WorldEvent}
 use Rattle.linda_run.specs.declared.packet.Body.{Body}
@@ -208,15 +209,14 @@ module _ (of_deeds : OfDeeds) (of_calls : OfCalls) (call : Call) (c : ℕ) (ks :
     number = old.number;
     taken = old.taken;
     used = let low = old.used in let more = (rises of_calls was_client call reacts.reaction is_client reacts.answer).numbers pair.0 in omega (arith, low, more);
-    over = to_some (λ (p : packets.Packet). p.0 ≡ pair.0 → number_of p.1 ≢ Some old.number) (unanswered now.task)
-        (λ p e. by p (unanswered_from of_calls was_client call reacts.reaction is_client reacts.answer p e));
+    over = λ k there. by k (unanswered_from of_calls was_client call reacts.reaction is_client reacts.answer pair.0 k there);
   }
     where
-      by : (p : packets.Packet) → (unanswered was_client.task ≡ Some p) ⊎ (number_of p.1 ≡ Some (next_at was_client p.0)) → p.0 ≡ pair.0 → number_of p.1 ≢ Some old.number
-      by p (inl before) here = from_some (λ (p : packets.Packet). p.0 ≡ pair.0 → number_of p.1 ≢ Some old.number) (unanswered was_client.task) p before old.over here
-      by p (inr next) here = λ number.
+      by : (k : Message) → IsUnanswered was_client pair.0 k ⊎ (number_of k ≡ Some (next_at was_client pair.0)) → number_of k ≢ Some old.number
+      by k (inl before) = old.over k before
+      by k (inr next) = λ number.
           let low = old.used in
-          let same : old.number ≡ next_at was_client pair.0 = same_Some old.number (next_at was_client pair.0) (sym number ∙ next ∙ ap (λ s. Some (next_at was_client s)) here) in
+          let same : old.number ≡ next_at was_client pair.0 = same_Some old.number (next_at was_client pair.0) (sym number ∙ next) in
           omega (arith, low, same)
 
   -- what is given now
@@ -249,7 +249,7 @@ module _ (of_deeds : OfDeeds) (of_calls : OfCalls) (call : Call) (c : ℕ) (ks :
           let low = given_used of_calls was_client call reacts.reaction is_client reacts.answer g in
           let more = (rises of_calls was_client call reacts.reaction is_client reacts.answer).numbers g.server in
           omega (arith, low, more);
-      over = subst (λ o. IfSome o (λ (p : packets.Packet). p.0 ≡ g.server → number_of p.1 ≢ Some g.number)) (sym g.over) tt;
+      over = λ k there. nowhere {X = packets.Packet} (g.server, k) (subst (λ l. Contains {X = packets.Packet} l (g.server, k)) g.over there);
     }
 
     not_before : Contains reacts.member.got (g.server, g.id) → ⊥
@@ -258,7 +258,7 @@ module _ (of_deeds : OfDeeds) (of_calls : OfCalls) (call : Call) (c : ℕ) (ks :
         let same : e.server ≡ backing.0 = same_Some e.server backing.0 (sym e.there ∙ backing.1.0) in
         let before : Contains backing.0.deeds (Take c e.number g.id) = subst (λ (v : Server). Contains v.deeds (Take c e.number g.id)) same e.taken in
         let one : Take c e.number g.id ≡ Take c g.number g.id = of_deeds.one_take backing.0.deeds c c e.number g.number g.id (of_deeds.taken_once empty_state backing.0.deeds empty_is_state sound.proper) before taken in
-        from_some (λ (p : packets.Packet). p.0 ≡ g.server → number_of p.1 ≢ Some e.number) (unanswered was_client.task) (g.server, messages.Accept g.number g.ticket g.id) g.was e.over refl
+        e.over (messages.Accept g.number g.ticket g.id) g.was
         (ap (λ d. Some (deeds.number_of d)) (sym one))
 
   all_earned : (pair : ℕ × ℕ) → Contains (reacts.member.got ++ given_by reacts.reaction.outcome) pair → IsEarned w.servers c now pair
@@ -378,6 +378,7 @@ module _ (of_sound : OfSound) (of_deeds : OfDeeds) (of_calls : OfCalls) where
   gone_right w honest s c (bodies.Reply (replies.Read ticket id row)) told = tt
   gone_right w honest s c (bodies.Reply (replies.Taken n id row)) told = tt
   gone_right w honest s c (bodies.Reply (replies.Refused code detail)) told = tt
+  gone_right w honest s c (bodies.Reply (replies.Left n)) told = tt
 
   -- What is honest is safe.
   honest_safe : (w : World) → IsHonest w → IsSafe w

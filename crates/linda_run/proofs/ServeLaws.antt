@@ -36,7 +36,7 @@ use Rattle.linda_run.proofs.PlaceLaws.{each_of_set}
 use Rattle.linda_run.proofs.PutLaws.{put_still}
 use Rattle.linda_run.proofs.DeliverLaws.{mapped_there, of_more, of_one, still_there, same_or_delivered, unmoved}
 use Rattle.linda_run.proofs.CallLaws.{IsLater, same_later, ticket_still, said_still}
-use Rattle.linda_run.proofs.Course.{IsAsked, takes, leaves as closes, saves, halts}
+use Rattle.linda_run.proofs.Course.{IsAsked, takes, hangs_up as closes, saves, halts}
 use Rattle.linda_run.proofs.HonestLaws.{does_sound}
 use Rattle.linda_run.proofs.ComingLaws.{IsSpoken, front_of, used_left, single, sends_suit, deeds_used, waited_then}
 
@@ -61,6 +61,7 @@ module _ (ms news : Members) (go : Goes ms news) where
   replied_on d (replies.Taken n id row) is = tt
   replied_on d (replies.Gone n) is = tt
   replied_on d (replies.Refused code detail) is = tt
+  replied_on d (replies.Left n) is = tt
 
   pub sane_on : (s d : ℕ) (body : Body) → IsSane ms s d body → IsSane news s d body
   sane_on s d (bodies.Message m) is = member_on (IsSaid s m) (λ c new on. said_still c new on s m) d is

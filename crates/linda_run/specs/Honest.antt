@@ -1,12 +1,12 @@
 -- What each step keeps of deeds, replies and what was given: whatever is told was done.
-use Rattle.std.specs.Prelude.{◌≡◌, ◌≢◌, ℕ, ◌<◌, ◌≤◌, List, length, Some, Contains, IfSome}
+use Rattle.std.specs.Prelude.{◌≡◌, ◌≢◌, ℕ, ◌<◌, ◌≤◌, List, length, Some, Contains}
 use Rattle.std.specs.List.{slice_get}
 use Rattle.linda_client.specs.declared.limits.TheConstants.{MAX_SERVERS}
 use Rattle.linda_state.specs.declared.deed.Deed.TheVariants.{Take}
 use Rattle.linda_store.specs.Sound.{IsSound}
 use Rattle.linda_client.specs.Client.{Client, IsClient, next_at}
-use Rattle.linda_client.specs.Packets.{unanswered}
-use Rattle.linda_client.specs.Numbers.{number_of}
+use Rattle.linda_wire.specs.declared.message.Message.{Message}
+use Rattle.linda_client.specs.Numbers.{number_of, IsUnanswered}
 use Rattle.linda_run.specs.World.{Server, World}
 use Rattle.linda_run.specs.Promises.{OfEach, IsOnce, OfPackets, IsBacked}
 
@@ -17,7 +17,7 @@ pub record IsEarned (servers : List Server) (c : ℕ) (client : Client) (pair : 
   pub number : ℕ
   pub taken : Contains server.deeds (Take c number pair.1)
   pub used : number < next_at client pair.0
-  pub over : IfSome (unanswered client.task) (λ p. p.0 ≡ pair.0 → number_of p.1 ≢ Some number)
+  pub over : (k : Message) → IsUnanswered client pair.0 k → number_of k ≢ Some number
 
 -- P holds of each server, with its number.
 abbrev pub OfServers : World → (ℕ → Server → Type 0) → Type 0

@@ -1,5 +1,5 @@
 -- What each step keeps of requests, offers and holds: whatever is held is held for a reason.
-use Rattle.std.specs.Prelude.{◌≡◌, ℕ, ◌<◌, Bool, true, false, List, ◌⊎◌, Some, All, IfSome}
+use Rattle.std.specs.Prelude.{◌≡◌, ℕ, ◌<◌, Bool, true, false, List, ◌⊎◌, Some, All}
 use Rattle.std.specs.FinMap as map
 use Rattle.linda_tuple.specs.Tuple.{Tuple}
 use Rattle.linda_tuple.specs.Template.{Template}
@@ -16,8 +16,7 @@ use Rattle.linda_promise.specs.Deeds.{last_in as last_number}
 use Rattle.linda_client.specs.declared.ask.Ask.{Ask}
 use Rattle.linda_client.specs.Pending.{Pending, ask_at, is_fit}
 use Rattle.linda_client.specs.Client.{Client, asked_in, next_at, pending_in, servers}
-use Rattle.linda_client.specs.Packets.{unanswered}
-use Rattle.linda_client.specs.Numbers.{number_of}
+use Rattle.linda_client.specs.Numbers.{number_of, IsUnanswered}
 use Rattle.linda_client.specs.Offers.{InHand}
 use Rattle.linda_run.specs.declared.packet.Body.{Body}
 use Rattle.linda_run.specs.declared.packet.Body.TheVariants as bodies
@@ -49,7 +48,7 @@ Suits row ask = is_fit ask true row ≡ true
 -- number to this server is unanswered, it is this one.
 pub record HasSent (s n : ℕ) (m : Message) (c : Client) : Type 0 where
   pub used : n < next_at c s
-  pub own : IfSome (unanswered c.task) (λ p. p.0 ≡ s → number_of p.1 ≡ Some n → p.1 ≡ m)
+  pub own : (k : Message) → IsUnanswered c s k → number_of k ≡ Some n → k ≡ m
 
 -- What a client's message says of the client: an Ask is of a ticket of its, and asks what that asks; a numbered message
 -- is the one of its number.
@@ -59,6 +58,7 @@ IsSaid s (messages.Out n row) c = HasSent s n (messages.Out n row) c
 IsSaid s (messages.Ask k remove template) c = OfTicket k (Asks remove template) c
 IsSaid s (messages.Accept n k id) c = HasSent s n (messages.Accept n k id) c
 IsSaid s (messages.Cancel k) c = Unit {0}
+IsSaid s (messages.Leave n) c = HasSent s n (messages.Leave n) c
 
 -- What is offered to a client fits its ticket.
 abbrev pub IsReplied : Members → ℕ → Reply → Type 0

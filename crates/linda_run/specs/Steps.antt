@@ -17,7 +17,7 @@ use Rattle.linda_store.specs.Node.{Node, NodeAnswer, Sent, IsFull, IsDown, Works
 use Rattle.linda_store.specs.Sound.{added}
 use Rattle.linda_client.specs.Reaction.{Reaction}
 use Rattle.linda_client.specs.React as calls
-use Rattle.linda_client.specs.React.{Call, Receive, Resend, Abandon, new_client, react}
+use Rattle.linda_client.specs.React.{Call, Receive, Resend, Abandon, Leave, new_client, react}
 use Rattle.linda_run.specs.declared.event.WorldEvent.{WorldEvent}
 use Rattle.linda_run.specs.declared.event.WorldEvent.TheVariants as events
 use Rattle.linda_run.specs.declared.packet.Body.{Body}
@@ -134,6 +134,7 @@ abbrev pub Steps : World → WorldEvent → Told → World → Type 0
 Steps w (events.Out c row) told new = HasReacted (calls.Out row) c [] w told new
 Steps w (events.Sync c event) told new = HasReacted (calls.Sync (tree_of event)) c [] w told new
 Steps w (events.Abandon c) told new = HasReacted Abandon c [] w told new
+Steps w (events.Leave c) told new = HasReacted Leave c [] w told new
 Steps w (events.Deliver k) told new = Delivers (slice_get w.packets k) k w told new
 Steps w (events.Tick c now) told new = HasReacted (calls.Tick now) c [] w told new
 Steps w (events.Resend c) told new = HasReacted Resend c [] w told new

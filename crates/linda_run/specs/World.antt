@@ -11,7 +11,7 @@ use Rattle.linda_store.specs.Node.{Node}
 use Rattle.linda_client.specs.declared.outcome.Got.{Got}
 use Rattle.linda_client.specs.declared.outcome.Got.TheVariants.{Took, Copied, Alarm, Always}
 use Rattle.linda_client.specs.declared.outcome.Outcome.{Outcome}
-use Rattle.linda_client.specs.declared.outcome.Outcome.TheVariants.{Stored, Synced, Dropped}
+use Rattle.linda_client.specs.declared.outcome.Outcome.TheVariants.{Stored, Synced, Dropped, Left}
 use Rattle.linda_client.specs.Client.{Client}
 use Rattle.linda_client.specs.Reaction.{Reaction}
 use Rattle.linda_run.specs.declared.packet.Body.TheVariants as bodies
@@ -56,6 +56,7 @@ handed_by None = None
 handed_by (Some (Stored server id)) = None
 handed_by (Some (Synced base got labels raised)) = handed_to got
 handed_by (Some (Dropped raised)) = None
+handed_by (Some Left) = None
 
 abbrev pub place_of : Handed → ℕ × ℕ
 place_of handed = (handed.server, handed.id)

@@ -19,6 +19,8 @@ pub enum WorldEvent {
     },
     /// A client gives up what it waits for.
     Abandon(u32),
+    /// A client leaves: it gives up its number.
+    Leave(u32),
     /// The packet of this number is delivered, be it for the first time or again.
     Deliver(usize),
     /// A client is told the time.

@@ -16,7 +16,7 @@ use Rattle.linda_state.proofs.ProperLaws.{none_done, proper_state, takes_below}
 use Rattle.linda_step.specs.Soft.{no_asks}
 use Rattle.linda_step.specs.Store.{Store, IsOrderly}
 use Rattle.linda_step.specs.Answer.{only_sends}
-use Rattle.linda_step.specs.History.{Coming, leaves, comings, history_of}
+use Rattle.linda_step.specs.History.{Coming, hangs_up, comings, history_of}
 use Rattle.linda_step.proofs.ExistLaws.{outcome_of}
 use Rattle.linda_step.proofs.GrowthLaws.{one_only}
 use Rattle.linda_step.proofs.HistoryLaws.{all_safe}
@@ -119,9 +119,9 @@ module _ {D : Type 0} {g : Ghosts D} (timed : (d : D) → g.honest d → IsTimed
         (served_happens old.store.state old.store.soft ms told new.store.state new.store.soft served),
   )
   did old new _ _ was_up is_up (closes client sends told same) = (
-    leaves client ∷ [],
-    has_done_it old.before.value new.before.value old.store new.store old.down new.down old.lost.items new.lost.items (leaves client ∷ []) [] sends was_up is_up
-        (one_only old.store.state new.store.state old.store.soft (leaves client) (record { deed = None; sends = sends; soft = new.store.soft }) (ap only_sends told, same)),
+    hangs_up client ∷ [],
+    has_done_it old.before.value new.before.value old.store new.store old.down new.down old.lost.items new.lost.items (hangs_up client ∷ []) [] sends was_up is_up
+        (one_only old.store.state new.store.state old.store.soft (hangs_up client) (record { deed = None; sends = sends; soft = new.store.soft }) (ap only_sends told, same)),
   )
   did old new _ _ was_up is_up (rewrites same) = (
     [],

@@ -13,7 +13,7 @@ use Rattle.linda_step.specs.Store.{Store}
 use Rattle.linda_step.specs.Dispatch.{on_close}
 use Rattle.linda_step.specs.Answer.{only_sends}
 use Rattle.linda_step.proofs.GrowthLaws.{one_only}
-use Rattle.linda_step.specs.History.{leaves, Coming, History, Happens, history_of}
+use Rattle.linda_step.specs.History.{hangs_up, Coming, History, Happens, history_of}
 use Rattle.linda_store.specs.declared.node.NodeFault.{NodeFault}
 use Rattle.linda_store.specs.declared.node.NodeFault.TheVariants as faults
 use Rattle.linda_store.specs.Node.{Node, node_answer, MayRemain, IsDone, HadNoRoom, WentDown, Works, Closes, Snaps, IsOpened, Stops}
@@ -113,14 +113,14 @@ module _ (before after : State) (old new : Store) (was_down is_down : Bool) (los
   -- The closing of a client.
   pub closes : (client : ℕ) (r : Result (Vec (ℕ × Reply)) NodeFault) → IfOk r (λ sends. record { sends = sends.items; soft = new.soft } ≡ on_close old.state.bag client old.soft) → new.state ≡ old.state
       → OnOk r ((was_down ≡ false) × (is_down ≡ false)) → (IsErrOf r faults.Full → ⊥) → (IsErrOf r faults.Down → is_down ≡ true) → (was_down ≡ true → IsErrOf r faults.Down × (New ≡ Old))
-      → (was_down ≡ false → is_down ≡ true → after ≡ old.state) → (was_down ≡ false → is_down ≡ true → MayRemain Old (leaves client ∷ []) still_lost)
+      → (was_down ≡ false → is_down ≡ true → after ≡ old.state) → (was_down ≡ false → is_down ≡ true → MayRemain Old (hangs_up client ∷ []) still_lost)
       → Closes Old client (node_answer r) New
   closes client (Ok sends) done same up full down stays before_is remains =
-      has_done_it (leaves client ∷ []) [] sends.items up.0 up.1
-      (one_only old.state new.state old.soft (leaves client) (record { deed = None; sends = sends.items; soft = new.soft }) (ap only_sends done, same))
+      has_done_it (hangs_up client ∷ []) [] sends.items up.0 up.1
+      (one_only old.state new.state old.soft (hangs_up client) (record { deed = None; sends = sends.items; soft = new.soft }) (ap only_sends done, same))
   closes client (Err faults.Full) done same up full down stays before_is remains = absurd (full refl)
   closes client (Err faults.Down) done same up full down stays before_is remains =
-      has_gone_down (leaves client ∷ []) (down refl) (λ d. (stays d).1) (λ u. before_is u (down refl)) (λ u. remains u (down refl))
+      has_gone_down (hangs_up client ∷ []) (down refl) (λ d. (stays d).1) (λ u. before_is u (down refl)) (λ u. remains u (down refl))
 
   -- A snapshot.
   pub snaps : (r : Result (Unit {0}) NodeFault) → new ≡ old → (was_down ≡ false → lost ≡ []) → (is_down ≡ false → still_lost ≡ []) → OnOk r ((was_down ≡ false) × (is_down ≡ false))

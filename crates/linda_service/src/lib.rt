@@ -12,6 +12,7 @@ mod inspecting;
 mod serving;
 
 pub use inspecting::inspect_folder;
+pub use linda_net::{Event, Gauge, Tally, Watcher};
 pub use serving::{
     Cause, InUse, Log, ServingFault, open_store, serve_folder, serve_logged, stamp_of,
 };

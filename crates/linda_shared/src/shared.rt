@@ -12,11 +12,10 @@ ghost use Rattle.linda_receipt.specs.declared.limits.TheConstants.{PARTS};
 
 use crate::desk::Desk;
 use crate::tray::Tray;
-use linda_desk::{Gauge, Held};
+use linda_desk::{Durable, Gauge, Held};
 use linda_disk::Disk;
 use linda_mail::{Office, Outlet, Queue};
 use linda_receipt::SharedFault;
-use linda_server::Durable;
 use linda_wire::Reply;
 use std::alloc::{AllocError, Global};
 use std::sync::ledger::{Blank, Ledger};

@@ -39,6 +39,7 @@ message_words (messages.Ask ticket remove template) =
     numbered_then (ask_word remove) ticket (written_template template)
 message_words (messages.Accept n ticket id) = twice_numbered_then (codes "accept") n ticket (decimal id)
 message_words (messages.Cancel ticket) = numbered (codes "cancel") ticket
+message_words (messages.Leave n) = numbered (codes "leave") n
 
 -- No server of a script says Welcome.
 abbrev pub reply_words : Reply → List ℕ
@@ -49,9 +50,11 @@ reply_words (replies.Read ticket id tuple) = twice_numbered_then (codes "read") 
 reply_words (replies.Taken n id tuple) = twice_numbered_then (codes "taken") n id (written_tuple tuple)
 reply_words (replies.Gone n) = numbered (codes "gone") n
 reply_words (replies.Refused code detail) = numbered_then (codes "refused") code (decimal detail)
+reply_words (replies.Left n) = numbered (codes "left") n
 
--- Whose deed it is, its number, and what it puts or which tuple it is about.
+-- Whose deed it is, its number, and what it puts or which tuple it is about, where it is about one.
 abbrev pub deed_words : Deed → List ℕ
 deed_words (deeds.Out client n tuple) = twice_numbered_then (codes "out") client n (written_tuple tuple)
 deed_words (deeds.Take client n id) = twice_numbered_then (codes "take") client n (decimal id)
 deed_words (deeds.Pass client n id) = twice_numbered_then (codes "pass") client n (decimal id)
+deed_words (deeds.Leave client n) = numbered_then (codes "leave") client (decimal n)

@@ -101,7 +101,12 @@ impl Script {
                 self.meet(alloc, client)?;
                 self.call(alloc, client, WorldEvent::Sync { client, event }, out)
             }
-            Command::Abandon(client) => self.abandon(alloc, client, out),
+            Command::Abandon(client) => {
+                self.call_known(alloc, client, WorldEvent::Abandon(client), out)
+            }
+            Command::Leave(client) => {
+                self.call_known(alloc, client, WorldEvent::Leave(client), out)
+            }
             Command::Tick(now) => self.tick(alloc, now, out),
             Command::Snapshot(server) => self.snapshot(alloc, self.server(server)?, out),
             Command::Stop(server) => {
@@ -176,12 +181,18 @@ impl Script {
         }
     }
 
-    // A client that was never named has nothing to give up.
-    fn abandon(&mut self, alloc: Global, client: u32, out: &mut Output) -> Result<(), LineFault> {
+    // An event of a client that was named before; one that was not has nothing to give up.
+    fn call_known(
+        &mut self,
+        alloc: Global,
+        client: u32,
+        event: WorldEvent,
+        out: &mut Output,
+    ) -> Result<(), LineFault> {
         if self.clients.binary_search(&client).is_err() {
             return print_refusal(alloc, client, ClientFault::Idle, out);
         }
-        self.call(alloc, client, WorldEvent::Abandon(client), out)
+        self.call(alloc, client, event, out)
     }
 
     fn tick(&mut self, alloc: Global, now: u64, out: &mut Output) -> Result<(), LineFault> {

@@ -19,13 +19,16 @@ struct Row<'a> {
 }
 
 #[test]
-fn puts_and_takes_over_a_socket(rt: HostRuntime) -> io::Result<()> {
+fn puts_takes_and_leaves_over_a_socket(rt: HostRuntime) -> io::Result<()> {
     let calls = [
         (7, "out (\"a\", 3)\r\n# nothing\n\nsync in (\"a\", ?i)\n"),
         (8, "sync choose [in (\"a\", ?i), alarm 1]"),
+        (9, "leave\nout (\"b\")\nleave\n"),
+        (9, "leave\n"),
     ];
     let told = "7 stored 0 1\n7 took 0 1 (\"a\", 3) binds [3] labels [] raised []\nend\n\
-        8 alarm labels [] raised []\nend\n";
+        8 alarm labels [] raised []\nend\n\
+        9 left\n9 refused left\n9 refused left\nend\nserver 0: refused 2 1\n";
     let row = Row {
         calls: &calls,
         lost: 0,

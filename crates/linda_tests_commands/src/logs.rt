@@ -1,8 +1,6 @@
 //! The lines of the log, worked by hand from docs/FORMATS.md.
 
-use linda_net::{Event, Tally, Watcher};
-use linda_service::{Cause, InUse, Log, stamp_of};
-use linda_shared::Gauge;
+use linda_service::{Cause, Event, Gauge, InUse, Log, Tally, Watcher, stamp_of};
 use std::alloc::{AllocError, Global};
 use std::time::Clock;
 

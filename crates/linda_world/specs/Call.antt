@@ -17,10 +17,12 @@ call_of (own.Tick now) = calls.Tick now
 call_of own.Resend = calls.Resend
 call_of (own.Reconnected server) = calls.Reconnected server
 call_of own.Abandon = calls.Abandon
+call_of own.Leave = calls.Leave
 
 -- a client's fault as the world returns it
 abbrev pub world_fault : ClientFault → WorldFault
 world_fault refusals.ServersRange = faults.Client refusals.ServersRange
+world_fault refusals.Left = faults.Client refusals.Left
 world_fault refusals.Busy = faults.Client refusals.Busy
 world_fault refusals.Idle = faults.Client refusals.Idle
 world_fault refusals.NoServer = faults.Client refusals.NoServer

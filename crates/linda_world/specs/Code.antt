@@ -27,27 +27,31 @@ member_code = code_by (Client × List (ℕ × ℕ)) (coded× client_code (coded_
     (λ m. (m.client, m.got)) (λ p. record { client = p.0; got = p.1 }) (λ _. refl)
 
 abbrev pub DeedParts : Type 0
-DeedParts = (ℕ × (ℕ × Tuple)) ⊎ ((ℕ × (ℕ × ℕ)) ⊎ (ℕ × (ℕ × ℕ)))
+DeedParts = (ℕ × (ℕ × Tuple)) ⊎ ((ℕ × (ℕ × ℕ)) ⊎ ((ℕ × (ℕ × ℕ)) ⊎ (ℕ × ℕ)))
 
 abbrev pub deed_parts : Deed → DeedParts
 deed_parts (deeds.Out c n row) = inl (c, (n, row))
 deed_parts (deeds.Take c n id) = inr (inl (c, (n, id)))
-deed_parts (deeds.Pass c n id) = inr (inr (c, (n, id)))
+deed_parts (deeds.Pass c n id) = inr (inr (inl (c, (n, id))))
+deed_parts (deeds.Leave c n) = inr (inr (inr (c, n)))
 
 abbrev pub deed_of_parts : DeedParts → Deed
 deed_of_parts (inl p) = deeds.Out p.0 p.1.0 p.1.1
 deed_of_parts (inr (inl p)) = deeds.Take p.0 p.1.0 p.1.1
-deed_of_parts (inr (inr p)) = deeds.Pass p.0 p.1.0 p.1.1
+deed_of_parts (inr (inr (inl p))) = deeds.Pass p.0 p.1.0 p.1.1
+deed_of_parts (inr (inr (inr p))) = deeds.Leave p.0 p.1
 
 abbrev pub deed_again : (d : Deed) → deed_of_parts (deed_parts d) ≡ d
 deed_again (deeds.Out c n row) = refl
 deed_again (deeds.Take c n id) = refl
 deed_again (deeds.Pass c n id) = refl
+deed_again (deeds.Leave c n) = refl
 
 -- the code of a deed
 abbrev pub deed_code : Coded Deed
 deed_code = code_by DeedParts
-    (coded⊎ (coded× coded_ℕ row_code) (coded⊎ (coded× coded_ℕ pair_code) (coded× coded_ℕ pair_code)))
+    (coded⊎ (coded× coded_ℕ row_code)
+    (coded⊎ (coded× coded_ℕ pair_code) (coded⊎ (coded× coded_ℕ pair_code) pair_code)))
     deed_parts deed_of_parts deed_again
 
 -- the code of a node

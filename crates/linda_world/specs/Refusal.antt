@@ -5,7 +5,7 @@ use Rattle.std.specs.FinMap as map
 use Rattle.linda_event.specs.Trees.{tree_of}
 use Rattle.linda_step.specs.declared.size.TheConstants.{MAX_BATCH}
 use Rattle.linda_client.specs.React as calls
-use Rattle.linda_client.specs.React.{Receive, Resend, Abandon}
+use Rattle.linda_client.specs.React.{Receive, Resend, Abandon, Leave}
 use Rattle.linda_run.specs.declared.event.WorldEvent.{WorldEvent}
 use Rattle.linda_run.specs.declared.event.WorldEvent.TheVariants as events
 use Rattle.linda_run.specs.declared.packet.Body.{Body}
@@ -56,6 +56,7 @@ abbrev pub refusal : World → WorldEvent → Option WorldFault
 refusal w (events.Out c row) = refusal_to (map.get w.members c) (calls.Out row)
 refusal w (events.Sync c event) = refusal_to (map.get w.members c) (calls.Sync (tree_of event))
 refusal w (events.Abandon c) = refusal_to (map.get w.members c) Abandon
+refusal w (events.Leave c) = refusal_to (map.get w.members c) Leave
 refusal w (events.Deliver k) = refusal_of_packet w (slice_get w.packets k)
 refusal w (events.Tick c now) = refusal_to (map.get w.members c) (calls.Tick now)
 refusal w (events.Resend c) = refusal_to (map.get w.members c) Resend

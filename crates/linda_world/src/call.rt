@@ -22,6 +22,7 @@ pub(crate) enum Call {
     Resend,
     Reconnected(u32),
     Abandon,
+    Leave,
 }
 
 impl Call {
@@ -37,6 +38,7 @@ impl Call {
             Call::Resend => client.resend(alloc),
             Call::Reconnected(server) => client.reconnected(alloc, server),
             Call::Abandon => client.abandon(alloc),
+            Call::Leave => client.leave(alloc),
         }
     }
 }
@@ -47,6 +49,7 @@ pub(crate) fn refused(fault: ClientFault) -> WorldFault
 {
     match fault {
         ClientFault::ServersRange => WorldFault::Client(ClientFault::ServersRange),
+        ClientFault::Left => WorldFault::Client(ClientFault::Left),
         ClientFault::Busy => WorldFault::Client(ClientFault::Busy),
         ClientFault::Idle => WorldFault::Client(ClientFault::Idle),
         ClientFault::NoServer => WorldFault::Client(ClientFault::NoServer),

@@ -288,6 +288,7 @@ impl<N: Node> Scene<N> {
             WorldEvent::Out { client, tuple } => self.react(alloc, client, Call::Out(tuple)),
             WorldEvent::Sync { client, event } => self.react(alloc, client, Call::Sync(event)),
             WorldEvent::Abandon(client) => self.react(alloc, client, Call::Abandon),
+            WorldEvent::Leave(client) => self.react(alloc, client, Call::Leave),
             WorldEvent::Deliver(k) => self.deliver(alloc, k),
             WorldEvent::Tick { client, now } => self.react(alloc, client, Call::Tick(now)),
             WorldEvent::Resend(client) => self.react(alloc, client, Call::Resend),

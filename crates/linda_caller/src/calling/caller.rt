@@ -113,6 +113,7 @@ impl Caller<'_> {
         let asked = match request {
             Request::Out(tuple) => self.client.out(alloc, tuple),
             Request::Sync(event) => self.client.sync(alloc, event),
+            Request::Leave => self.client.leave(alloc),
         };
         match asked {
             Ok(reaction) => {

@@ -16,11 +16,14 @@ impl Client {
     ///
     /// # Errors
     ///
-    /// `Busy` where an Accept is unanswered; `Idle` where no synchronization is pending; else `Memory`
-    /// where memory runs out. In each case the client is as before.
+    /// `Left` where the client has left; else `Busy` where an Accept is unanswered; `Idle` where no
+    /// synchronization is pending; else `Memory` where memory runs out. In each case the client is as before.
     pub fn abandon(&mut self, alloc: Global) -> Result<Reaction, ClientFault>
         ensures { Does self.old result self.new (react self.old Abandon) }
     {
+        if self.has_left() {
+            return Err(ClientFault::Left);
+        }
         let Some(pending) = self.pending() else {
             return Err(ClientFault::Idle);
         };

@@ -33,10 +33,12 @@ impl Client {
     /// - Taken, for the Accept that is unanswered, commits to its base. Gone, for that Accept, lets the
     ///   client
     ///   go on with the oldest arrival that it saved, else with the first alarm that is ready, else wait.
+    /// - Left, for a Leave that is not answered yet, answers it, and after the last the client has left.
     /// - Refused is handed on as a fault, whatever is pending.
     ///
-    /// All else is ignored. At a commitment every ticket is cancelled at every server, but where the
-    /// accepted offer was, unless an offer of it is saved.
+    /// All else is ignored, and so is all but offers and refusals by a client that has left. At a commitment
+    /// every ticket is cancelled at every server, but where the accepted offer was, unless an offer of it is
+    /// saved.
     ///
     /// # Errors
     ///
@@ -68,6 +70,7 @@ impl Client {
             Reply::Refused { code, detail } => {
                 Ok(Reaction::faulted(alloc, server, *code, *detail))
             }
+            Reply::Left { n } => Ok(self.left(alloc, server, *n)),
         }
     }
 

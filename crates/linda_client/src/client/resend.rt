@@ -15,7 +15,8 @@ use std::alloc::{AllocError, Global};
 
 impl Client {
     /// Sends again what no server has answered: the Out or the Accept that is pending, then the Asks of all
-    /// open tickets, in the order in which they were sent. The client stays as it is.
+    /// open tickets, in the order in which they were sent; or the Leaves, by rising server; or nothing, where the
+    /// client has left. The client stays as it is.
     ///
     /// # Errors
     ///
@@ -43,17 +44,18 @@ impl Client {
         Ok(Reaction::sending(packets))
     }
 
-    // The numbered message that is not answered yet, then the Asks of all open tickets.
+    // The numbered messages that are not answered yet, then the Asks of all open tickets.
     fn sent_again(&self, alloc: Global) -> Result<Vec<(u32, Message)>, AllocError>
         ensures { IfOk result (λ v. v.items ≡ sent_again self.now) }
     {
         match &self.task {
-            Task::Idle => Ok(Vec::new(alloc)),
+            Task::Idle | Task::Left => Ok(Vec::new(alloc)),
             Task::Putting { server, n, tuple } => {
                 let tuple = tuple.try_clone(alloc)?;
                 one_packet(alloc, *server, Message::Out { n: *n, tuple })
             }
             Task::Syncing(pending) => pending.sent_again(alloc, self.servers()),
+            Task::Leaving(leaves) => leaves.packets(alloc),
         }
     }
 }

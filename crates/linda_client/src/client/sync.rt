@@ -25,13 +25,16 @@ impl Client {
     ///
     /// # Errors
     ///
-    /// `Busy` where an out or a synchronization is pending; else `TooDeep` where a leaf stands under more
-    /// than 64 nodes; else `TooManyBases` where there are more than 256 bases, or more than 64 of them are
-    /// inputs or reads; else `Spent` where no base is ready and a ticket would reach 2^63; else `Memory`
-    /// where memory runs out. In each case the client is as before, and the event is dropped.
+    /// `Left` where the client has left; else `Busy` where an out, a synchronization or a leave is pending; else
+    /// `TooDeep` where a leaf stands under more than 64 nodes; else `TooManyBases` where there are more than 256
+    /// bases, or more than 64 of them are inputs or reads; else `Spent` where no base is ready and a ticket would
+    /// reach 2^63; else `Memory` where memory runs out. In each case the client is as before, and the event is dropped.
     pub fn sync(&mut self, alloc: Global, event: Event) -> Result<Reaction, ClientFault>
         ensures { Does self.old result self.new (react self.old (Sync (tree_of event))) }
     {
+        if self.has_left() {
+            return Err(ClientFault::Left);
+        }
         if !self.is_idle() {
             return Err(ClientFault::Busy);
         }

@@ -7,7 +7,7 @@ ghost use Rattle.linda_command.specs.Commands.{AsksForVersion};
 /// What is told of the program: its version, the forms of banks and frames that it reads and writes, and the kit that
 /// it is proved with.
 pub const VERSION_LINES: &str =
-    "linda 0.6.0\nbank LND2\nframe 2\nkit rattle-kit-13b logic dac8208d650f15bf\n";
+    "linda 0.7.0\nbank LND2\nframe 2\nkit rattle-kit-13b logic dac8208d650f15bf\n";
 
 /// Whether the words of the command line, of which the first names the program, ask for the version.
 pub fn asks_for_version(words: &[String]) -> bool

@@ -21,6 +21,7 @@ pub enum Call {
     Resend,
     Reconnected(u32),
     Abandon,
+    Leave,
 }
 
 /// The call that the words say.
@@ -38,6 +39,8 @@ pub fn call_of(alloc: Global, words: &str) -> Result<Call, WordsFault> {
         Ok(Call::Reconnected(small_number(rest)?))
     } else if verb == "abandon" {
         Ok(Call::Abandon)
+    } else if verb == "leave" {
+        Ok(Call::Leave)
     } else {
         let (server, words) = read_numbered(words)?;
         Ok(Call::Receive(server, read_reply(alloc, words)?))
@@ -54,5 +57,6 @@ pub fn answer(alloc: Global, client: &mut Client, call: Call) -> Result<Reaction
         Call::Resend => client.resend(alloc),
         Call::Reconnected(server) => client.reconnected(alloc, server),
         Call::Abandon => client.abandon(alloc),
+        Call::Leave => client.leave(alloc),
     }
 }

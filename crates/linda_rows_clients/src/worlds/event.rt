@@ -42,6 +42,8 @@ fn client_event(alloc: Global, client: u32, words: &str) -> Result<WorldEvent, W
         sync(alloc, client, rest)
     } else if words == "abandon" {
         Ok(WorldEvent::Abandon(client))
+    } else if words == "leave" {
+        Ok(WorldEvent::Leave(client))
     } else if verb == "tick" {
         let now = number(rest)?;
         Ok(WorldEvent::Tick { client, now })

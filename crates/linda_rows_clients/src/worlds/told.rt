@@ -26,6 +26,7 @@ fn push_outcome(out: &mut String, outcome: &Outcome) -> Result<(), AllocError> {
         Outcome::Stored { server, id } => write!(out, " stored {server} {id}"),
         Outcome::Synced { got, .. } => push_got(out, got),
         Outcome::Dropped { .. } => out.push_str(" dropped"),
+        Outcome::Left => out.push_str(" left"),
     }
 }
 
@@ -70,6 +71,7 @@ fn push_message(out: &mut String, message: &Message) -> Result<(), AllocError> {
         Message::Ask { ticket, .. } => write!(out, "ask {ticket}"),
         Message::Accept { n, ticket, id } => write!(out, "accept {n} {ticket} {id}"),
         Message::Cancel { ticket } => write!(out, "cancel {ticket}"),
+        Message::Leave { n } => write!(out, "leave {n}"),
     }
 }
 
@@ -82,6 +84,7 @@ fn push_reply(out: &mut String, reply: &Reply) -> Result<(), AllocError> {
         Reply::Taken { n, id, .. } => write!(out, "taken {n} {id}"),
         Reply::Gone { n } => write!(out, "gone {n}"),
         Reply::Refused { code, detail } => write!(out, "refused {code} {detail}"),
+        Reply::Left { n } => write!(out, "left {n}"),
     }
 }
 
@@ -108,6 +111,7 @@ fn push_deed(out: &mut String, deed: &Deed) -> Result<(), AllocError> {
         Deed::Out { client, n, .. } => write!(out, ", out {client} {n}"),
         Deed::Take { client, n, id } => write!(out, ", take {client} {n} {id}"),
         Deed::Pass { client, n, id } => write!(out, ", pass {client} {n} {id}"),
+        Deed::Leave { client, n } => write!(out, ", leave {client} {n}"),
     }
 }
 

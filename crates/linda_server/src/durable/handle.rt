@@ -15,7 +15,7 @@ use std::alloc::Global;
 impl<D: Disk> Durable<D> {
     ghost use Rattle.linda_step.specs.Dispatch.{on_close};
     ghost use Rattle.linda_step.specs.declared.size.TheConstants.{MAX_BATCH};
-    ghost use Rattle.linda_step.specs.History.{says, leaves, comings};
+    ghost use Rattle.linda_step.specs.History.{says, hangs_up, comings};
     ghost use Rattle.linda_store.specs.Node.{MayRemain};
     ghost use Rattle.linda_server.specs.Calls.{IsBeforeOrAfter, StandsFor, HasHandled, HasNoRoom};
     ghost use Rattle.linda_server.specs.Node.{shown};
@@ -132,7 +132,7 @@ impl<D: Disk> Durable<D> {
         ensures never_full { IsErrOf result NodeFault.Full → ⊥ }
         ensures lost { self.old.down ≡ false → self.new.down ≡ true → MayRemain
             (shown self.old.before.value self.old.store self.old.down self.old.lost.items)
-            (leaves client ∷ []) self.new.lost.items }
+            (hangs_up client ∷ []) self.new.lost.items }
         ensures before { self.old.down ≡ false → self.new.down ≡ true
             → self.new.before.value ≡ self.old.store.state }
         // Every life of the server goes on by it.

@@ -2,8 +2,7 @@
 
 use super::heads::InUse;
 use super::stamp::stamp_now;
-use linda_net::{Event, Tally, Watcher};
-use linda_shared::Gauge;
+use linda_net::{Event, Gauge, Tally, Watcher};
 use std::alloc::{AllocError, Global};
 use std::io::Write;
 use std::time::Clock;

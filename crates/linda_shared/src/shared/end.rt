@@ -1,8 +1,8 @@
 //! The server by itself.
 
 use super::Shared;
+use linda_desk::Durable;
 use linda_disk::Disk;
-use linda_server::Durable;
 use std::sync::ledger::Ledger;
 
 impl<D: Disk, L: Ledger> Shared<D, L> {

@@ -17,6 +17,8 @@ pub(crate) enum Command {
     Sync { client: u32, event: Event },
     /// A client gives up what it waits for.
     Abandon(u32),
+    /// A client leaves: it gives up its number.
+    Leave(u32),
     /// Each client is told the time.
     Tick(u64),
     /// A server writes a snapshot.
@@ -39,9 +41,11 @@ pub enum Request {
     Out(Tuple),
     /// To synchronize on an event.
     Sync(Event),
+    /// To leave.
+    Leave,
 }
 
-/// What a line of one client asks for, `out TUPLE` or `sync EVENT`: nothing, where it is empty or begins with `#`;
+/// What a line of one client asks for, `out TUPLE`, `sync EVENT` or `leave`: nothing, where it is empty or begins with `#`;
 /// `None` inside where it is no such line. A line has no line feed and no carriage return at its end.
 ///
 /// # Errors
@@ -93,6 +97,7 @@ fn client_command(alloc: Global, client: u32, text: &[u8]) -> Result<Option<Comm
     match request_in(alloc, text)? {
         Some(Request::Out(tuple)) => Ok(Some(Command::Out { client, tuple })),
         Some(Request::Sync(event)) => Ok(Some(Command::Sync { client, event })),
+        Some(Request::Leave) => Ok(Some(Command::Leave(client))),
         None => Ok(None),
     }
 }
@@ -101,6 +106,9 @@ fn client_command(alloc: Global, client: u32, text: &[u8]) -> Result<Option<Comm
 fn request_in(alloc: Global, text: &[u8]) -> Result<Option<Request>, AllocError> {
     if let Some(rest) = behind_word(text, b"out") {
         return Ok(tuple_in(alloc, rest)?.map(|tuple| Request::Out(tuple)));
+    }
+    if let Some([]) = behind_word(text, b"leave") {
+        return Ok(Some(Request::Leave));
     }
     match behind_word(text, b"sync") {
         Some(rest) => Ok(event_in(alloc, rest)?.map(|event| Request::Sync(event))),

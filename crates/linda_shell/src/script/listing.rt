@@ -106,5 +106,6 @@ fn push_client(
             writeln!(lines, "client {client} {number} taken {id} {text}")
         }
         KeptReply::Gone => writeln!(lines, "client {client} {number} gone"),
+        KeptReply::Left => writeln!(lines, "client {client} {number} left"),
     }
 }

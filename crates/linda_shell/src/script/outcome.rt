@@ -29,6 +29,7 @@ pub fn write_outcome(alloc: Global, client: u32, outcome: &Outcome) -> Result<St
             line.push_str("dropped")?;
             push_numbers(&mut line, " raised", raised.as_slice())?;
         }
+        Outcome::Left => line.push_str("left")?,
     }
     line.push('\n')?;
     Ok(line)
@@ -45,6 +46,7 @@ pub fn write_refusal(
     fault: ClientFault,
 ) -> Result<Option<String>, AllocError> {
     let words = match fault {
+        ClientFault::Left => "left",
         ClientFault::Busy => "busy",
         ClientFault::Idle => "idle",
         ClientFault::TooDeep => "too deep",

@@ -39,6 +39,7 @@ pub(super) fn write_message(alloc: Global, message: &Message) -> Result<String, 
         }
         Message::Accept { n, ticket, id } => write!(out, "accept {n} {ticket} {id}")?,
         Message::Cancel { ticket } => write!(out, "cancel {ticket}")?,
+        Message::Leave { n } => write!(out, "leave {n}")?,
     }
     Ok(out)
 }
@@ -64,6 +65,7 @@ pub(super) fn write_reply(alloc: Global, reply: &Reply) -> Result<String, AllocE
         }
         Reply::Gone { n } => format!(in alloc; "gone {n}"),
         Reply::Refused { code, detail } => format!(in alloc; "refused {code} {detail}"),
+        Reply::Left { n } => format!(in alloc; "left {n}"),
     }
 }
 
@@ -78,5 +80,6 @@ pub(super) fn write_deed(alloc: Global, deed: &Deed) -> Result<String, AllocErro
         }
         Deed::Take { client, n, id } => format!(in alloc; "take {client} {n} {id}"),
         Deed::Pass { client, n, id } => format!(in alloc; "pass {client} {n} {id}"),
+        Deed::Leave { client, n } => format!(in alloc; "leave {client} {n}"),
     }
 }

@@ -29,6 +29,10 @@ enum Call {
     Resend,
     Reconnected(u32),
     Abandon,
+    /// It leaves.
+    Leave,
+    /// The server, and the number.
+    Left(u32, u64),
 }
 
 fn tuple(alloc: Global) -> Result<Tuple, Fail> {
@@ -67,6 +71,8 @@ fn made_of(alloc: Global, client: &mut Client, call: Call) -> Made {
         Call::Resend => Ok(client.resend(alloc)),
         Call::Reconnected(server) => Ok(client.reconnected(alloc, server)),
         Call::Abandon => Ok(client.abandon(alloc)),
+        Call::Leave => Ok(client.leave(alloc)),
+        Call::Left(server, n) => hears(alloc, client, server, Ok(Reply::Left { n })),
     }
 }
 
@@ -162,4 +168,20 @@ const WAITS: [(Call, &str); 3] = [
 #[test]
 fn a_client_that_had_no_memory_wakes_as_it_would_have(rt: HostRuntime) -> Result<(), Fail> {
     makes(&rt, rt.alloc(), &WAITS)
+}
+
+/// It leaves: one server answers, what the other has not answered is sent again, and an offer is cancelled.
+const LEAVES: [(Call, &str); 7] = [
+    (Call::Leave, "0 leave 1; 1 leave 1; "),
+    (Call::Resend, "0 leave 1; 1 leave 1; "),
+    (Call::Left(1, 1), ""),
+    (Call::Reconnected(0), "0 leave 1; "),
+    (Call::Offer(0, 1, 4), "0 cancel 1; "),
+    (Call::Left(0, 1), "7 left\n"),
+    (Call::Resend, ""),
+];
+
+#[test]
+fn a_client_that_had_no_memory_leaves_as_it_would_have(rt: HostRuntime) -> Result<(), Fail> {
+    makes(&rt, rt.alloc(), &LEAVES)
 }

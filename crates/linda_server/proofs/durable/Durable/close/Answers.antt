@@ -5,7 +5,7 @@ use Rattle.linda_wire.specs.declared.reply.Reply.{Reply}
 use Rattle.linda_step.specs.Dispatch.{on_close}
 use Rattle.linda_step.specs.Store.{Store}
 use Rattle.linda_store.specs.declared.node.NodeFault.TheVariants.{Down}
-use Rattle.linda_step.specs.History.{leaves}
+use Rattle.linda_step.specs.History.{hangs_up}
 use Rattle.linda_server.specs.Node.{shown}
 use Rattle.linda_server.specs.Pairs.{PairsSince}
 use Rattle.linda_server.specs.Disks.{both}
@@ -32,13 +32,13 @@ returns-clause-any_moment g c is_up are =
 pub returns-in_default-clause-lost : goal.returns-in_default-clause-lost
 returns-in_default-clause-lost g c is_up is_down =
     let s = c.args.self.now in
-    none_remains (shown s.before.value s.store s.down s.lost.items) (leaves c.args.client ∷ []) c.begin.new.self.lost.items c.begin.ensures.same.3
+    none_remains (shown s.before.value s.store s.down s.lost.items) (hangs_up c.args.client ∷ []) c.begin.new.self.lost.items c.begin.ensures.same.3
 
 pub returns-in_default-clause-life : goal.returns-in_default-clause-life
 returns-in_default-clause-life g c =
     let up = c.if-self.false in
     goes_on_still g.met.D.Disk.timed (λ (v : Vec (ℕ × Reply)). v.items) c.args.self.now _ Down
-    (inr (up, c.begin.ensures.down, at_work (leaves c.args.client ∷ []) c.begin.ensures.before (returns-in_default-clause-lost g c up c.begin.ensures.down)))
+    (inr (up, c.begin.ensures.down, at_work (hangs_up c.args.client ∷ []) c.begin.ensures.before (returns-in_default-clause-lost g c up c.begin.ensures.down)))
     (λ _ orderly. ([], amid_rest (returns-in_default-clause-any_moment g c up)))
 
 pub returns-clause-life : goal.returns-clause-life
