@@ -4,8 +4,9 @@ use crate::number::{read_byte, read_size};
 use linda_script::{WordsFault, read_hex};
 use std::alloc::{AllocError, Global};
 
-/// Bytes that have a name; the rows show what each is made of. Names of banks in the first form begin with `old`.
-const NAMED: [(&str, &str); 13] = [
+/// Bytes that have a name; the rows show what each is made of. Names of banks in the first form begin with `old`, and
+/// those of banks in which client 7 left with `away`.
+const NAMED: [(&str, &str); 15] = [
     ("none", ""),
     ("shut", "00"),
     (
@@ -37,6 +38,16 @@ const NAMED: [(&str, &str); 13] = [
         "014c4e443200000000000000010000001000000000000000010000000000000000010000001b01000000\
          0700000000000000010200016101010000000000000003010000002a0200000008000000000000000100\
          0000000000000103000000080000000000000002000000000000000100",
+    ),
+    (
+        "away",
+        "014c4e443200000000000000010000001000000000000000010000000000000000010000001b01000000\
+         0700000000000000010200016101010000000000000003010000000d0400000007000000000000000200",
+    ),
+    (
+        "awaytwo",
+        "014c4e443200000000000000020000003300000000000000020000000100000000000000010200016101\
+         010000000000000003000000010000000700000000000000020400",
     ),
     (
         "oldnew",

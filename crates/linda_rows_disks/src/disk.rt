@@ -3,7 +3,7 @@
 use crate::bytes::{name_or_pieces, pieces_of, read_bytes};
 use crate::number::{read_number, read_size};
 use linda_disk::{Disk, DiskFault, MemDisk, Torn};
-use linda_script::{WordsFault, split_word};
+use linda_script::{WordsFault, read_numbered, split_word};
 use std::alloc::Global;
 
 /// A disk that holds these bytes.
@@ -113,6 +113,8 @@ fn hold_or_show(
         hold_byte(alloc, disk, rest)
     } else if word == "more" {
         hold_more(alloc, disk, rest)
+    } else if word == "clients" {
+        hold_clients(alloc, disk, rest)
     } else if word == "reads" {
         let bytes = name_or_pieces(alloc, disk.bytes())?;
         Ok(writeln!(came, "> {bytes}")?)
@@ -171,6 +173,20 @@ fn hold_byte(alloc: Global, disk: &mut MemDisk, words: &str) -> Result<(), Words
 fn hold_more(alloc: Global, disk: &mut MemDisk, words: &str) -> Result<(), WordsFault> {
     let mut bytes = Vec::from_slice(alloc, disk.bytes())?;
     bytes.extend_from_slice(&read_bytes(alloc, words)?)?;
+    *disk = disk_of(alloc, bytes)?;
+    Ok(())
+}
+
+// Holds what it held, and after it of each client from the first on, below the second, that its message 1 got a Gone, as
+// a snapshot says it.
+fn hold_clients(alloc: Global, disk: &mut MemDisk, words: &str) -> Result<(), WordsFault> {
+    let (first, end) = read_numbered(words)?;
+    let (end, _rest) = read_numbered(end)?;
+    let mut bytes = Vec::from_slice(alloc, disk.bytes())?;
+    for client in first..end {
+        bytes.extend_from_slice(&client.to_be_bytes())?;
+        bytes.extend_from_slice(&[0, 0, 0, 0, 0, 0, 0, 1, 3])?;
+    }
     *disk = disk_of(alloc, bytes)?;
     Ok(())
 }

@@ -169,6 +169,7 @@ fn tell_kept(server: &Durable<MemDisk>, words: &str, came: &mut String) -> Resul
         Some((n, KeptReply::Stored(id))) => Ok(writeln!(came, "> stored {n} {id}")?),
         Some((n, KeptReply::Taken(id, _))) => Ok(writeln!(came, "> taken {n} {id}")?),
         Some((n, KeptReply::Gone)) => Ok(writeln!(came, "> gone {n}")?),
+        Some((n, KeptReply::Left)) => Ok(writeln!(came, "> left {n}")?),
         None => Ok(came.push_str("> nothing\n")?),
     }
 }

@@ -99,8 +99,10 @@ fn a_thread_reads_the_replies_to_what_another_submits(rt: HostRuntime) -> Result
 /// What a thread does.
 #[derive(Drop)]
 enum Part<L: Ledger> {
-    /// The client leaves.
+    /// The session ends.
     Leaves(Seat<L>, Outlet<L>),
+    /// The client gives up its number for good.
+    GivesUp(Seat<L>, Outlet<L>),
     /// It waits for an offer.
     Waits(Outlet<L>),
 }
@@ -119,6 +121,10 @@ fn played<L: Ledger, R: Wait + Clock>(
                 Err(_) => None,
             }
         }
+        Part::GivesUp(seat, outlet) => {
+            thread::sleep(rt, Duration::from_millis(20));
+            given_up(rt, shared, seat, outlet)
+        }
         Part::Waits(outlet) => {
             let mut outlet = outlet;
             let replies = shared.drain_wait(rt, &mut outlet);
@@ -130,16 +136,46 @@ fn played<L: Ledger, R: Wait + Clock>(
     }
 }
 
-// Four sessions wait, and a fifth leaves with what they wait for.
+// Client 7 leaves for good by its message 5 and says one more: 0 where that is a deed and no more is, and it is told
+// that it left, and then that it is refused.
+fn given_up<L: Ledger, R: Wait>(
+    rt: &R,
+    shared: &Shared<MemDisk, L>,
+    seat: Seat<L>,
+    outlet: Outlet<L>,
+) -> Option<u64> {
+    let mut seat = seat;
+    let mut outlet = outlet;
+    let first = shared.submit(rt, &mut seat, &Message::Leave { n: 5 });
+    let later = shared.submit(rt, &mut seat, &Message::Leave { n: 6 });
+    let replies = shared.drain(rt, &mut outlet);
+    let is_left = match replies.as_slice() {
+        [
+            Reply::Left { n: 5 },
+            Reply::Refused {
+                code: 11,
+                detail: 5,
+            },
+        ] => true,
+        _ => false,
+    };
+    match (first, later, shared.leave(rt, seat, outlet)) {
+        (Ok(Some(_)), Ok(None), Ok(())) if is_left => Some(0),
+        _ => None,
+    }
+}
+
+// Four sessions wait, and a fifth leaves with what they wait for, or its client does for good.
 fn play_leaving<L: Ledger + Send + Sync, R: Threads + Wait + Clock + Abort + Sync>(
     rt: &R,
     alloc: Global,
     blank: Blank,
+    for_good: bool,
 ) -> Result<(), Fail>
     requires { (blank.name ≡ L.name) × (blank.parts ≡ L.parts) × (L.parts ≡ PARTS) }
 {
     let shared: Shared<MemDisk, L> = shared_on(alloc, blank, ROOMY)?;
-    let parts = parts_of(rt, alloc, &shared)?;
+    let parts = parts_of(rt, alloc, &shared, for_good)?;
     let got = thread::map_vec(rt, parts, &|part| played(rt, &shared, part))?;
     let all = [Some(0), Some(1), Some(2), Some(3), Some(4)];
     assert_eq!(rt; got.as_slice(), &all[..]);
@@ -151,6 +187,7 @@ fn parts_of<L: Ledger, R: Wait + Abort>(
     rt: &R,
     alloc: Global,
     shared: &Shared<MemDisk, L>,
+    for_good: bool,
 ) -> Result<Vec<Part<L>>, AllocError> {
     let mut parts = Vec::new(alloc);
     let (mut seat, mut outlet) = seated(rt, shared, 7)?;
@@ -164,7 +201,11 @@ fn parts_of<L: Ledger, R: Wait + Abort>(
         );
     }
     assert_eq!(rt; shared.drain(rt, &mut outlet).len(), 8);
-    parts.push(Part::Leaves(seat, outlet))?;
+    parts.push(if for_good {
+        Part::GivesUp(seat, outlet)
+    } else {
+        Part::Leaves(seat, outlet)
+    })?;
     for client in 8..12u32 {
         let (mut seat, outlet) = seated(rt, shared, client)?;
         done(
@@ -180,5 +221,10 @@ fn parts_of<L: Ledger, R: Wait + Abort>(
 
 #[test]
 fn whoever_waits_is_offered_what_is_left(rt: HostRuntime) -> Result<(), Fail> {
-    play_leaving::<Brand, HostRuntime>(&rt, rt.alloc(), Blank::new(PARTS))
+    play_leaving::<Brand, HostRuntime>(&rt, rt.alloc(), Blank::new(PARTS), false)
+}
+
+#[test]
+fn whoever_waits_is_offered_what_a_client_held_that_left(rt: HostRuntime) -> Result<(), Fail> {
+    play_leaving::<Brand, HostRuntime>(&rt, rt.alloc(), Blank::new(PARTS), true)
 }

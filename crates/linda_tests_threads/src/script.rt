@@ -273,5 +273,6 @@ fn is_request(message: &Message) -> bool
         Message::Ask { .. } => true,
         Message::Accept { .. } => true,
         Message::Cancel { .. } => true,
+        Message::Leave { .. } => true,
     }
 }

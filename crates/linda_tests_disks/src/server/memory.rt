@@ -56,12 +56,19 @@ const ROWS: &[Row] = &[
     (Do::Snapshot, Told::Done, Told::State(3, 2, 1, 0)),
     (Do::Put(9, 1, 5), Told::Replies(1), Told::State(4, 3, 2, 0)),
     (Do::Trim, Told::Done, Told::State(4, 3, 2, 0)),
+    (Do::Ask, Told::Replies(1), Told::State(4, 3, 2, 0)),
+    (Do::Leave(8, 1), Told::Replies(1), Told::State(4, 3, 3, 0)),
+    (Do::Standing(8), AWAY, Told::State(4, 3, 3, 0)),
     (
         Do::StopSnapshot(9, Torn::Lost),
         Told::Deeds(0),
-        Told::State(4, 3, 2, 0),
+        Told::State(4, 3, 3, 0),
     ),
+    (Do::Standing(8), AWAY, Told::State(4, 3, 3, 0)),
 ];
+
+/// Where a client stands that left by its first message.
+const AWAY: Told = Told::Standing(1, true);
 
 /// Does a step. Where there is no memory for it, the server is down, and opened again it keeps what it kept before, or
 /// what it keeps after the step; done again, the step tells what it does else.

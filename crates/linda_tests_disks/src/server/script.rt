@@ -31,8 +31,12 @@ pub(super) enum Do {
     Ask,
     Snapshot,
     Trim,
-    /// The client leaves.
+    /// The client's connection ends.
     Close(u32),
+    /// The client leaves for good by its message n.
+    Leave(u32, u64),
+    /// Where the client stands.
+    Standing(u32),
     /// It is stopped inside this device call of a snapshot, and opened again.
     StopSnapshot(u64, Torn),
 }
@@ -48,6 +52,8 @@ pub(super) enum Told {
     Replies(usize),
     /// How many deeds a stop added.
     Deeds(usize),
+    /// The client's last number, and whether it left by that.
+    Standing(u64, bool),
     Full,
     Down,
     Refused(OpenFault),
@@ -127,6 +133,11 @@ fn ask(alloc: Global, server: &mut Durable<MemDisk>, what: Do) -> Result<Told, A
         Do::Put(client, n, number) => Ok(send(alloc, server, client, &put(alloc, n, number)?)),
         Do::PutBoth => send_all(alloc, server, &put_both(alloc)?),
         Do::Ask => Ok(send(alloc, server, 8, &take_any(alloc)?)),
+        Do::Leave(client, n) => Ok(send(alloc, server, client, &Message::Leave { n })),
+        Do::Standing(client) => {
+            let (last, left) = server.state().book.standing(client);
+            Ok(Told::Standing(last, left))
+        }
         Do::Snapshot => Ok(of_nothing(server.snapshot(alloc))),
         Do::Trim => Ok(of_nothing(server.trim())),
         Do::Close(client) => Ok(of_answer(server.close(alloc, client))),
