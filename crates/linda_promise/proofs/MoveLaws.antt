@@ -31,7 +31,7 @@ use Rattle.linda_step.specs.Judge.{to_put, to_take, to_leave, demand_of}
 use Rattle.linda_step.specs.Soft.{Soft, Bagged, open_asks}
 use Rattle.linda_step.specs.Looking.{IsLeast, passed_over}
 use Rattle.linda_step.specs.Dispatch.{Sends, no_sends, dispatch, release, release_tuple, release_if, release_all, on_cancel, on_close}
-use Rattle.linda_step.specs.Asking.{offer_of, read_of, only_sent, wait_of, serve, on_ask, AnswersAsk, AnswersCancel}
+use Rattle.linda_step.specs.Asking.{offer_of, read_of, only_sent, wait_of, serve, on_ask, AnswersCancel}
 use Rattle.linda_step.specs.Answer.{Answer, only_sends, greeting, reply_of_kept, has_left, last_number, is_one_too_many, SaysAsk, IsAnswer, IsStep}
 use Rattle.linda_step.specs.History.{Coming, says}
 use Rattle.linda_step.proofs.AnswerCourse.{Course, unnumbered, turned_down, told_again, stored, taken, passed, left, course_of}

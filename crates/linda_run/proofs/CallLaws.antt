@@ -1,5 +1,5 @@
 -- What a call of a client leaves true of what it sent and asked before, and what is true of what it sends and is given now.
-use Rattle.std.proofs.Common.{◌≡◌, ℕ, zero, suc, ◌+◌, ◌-◌, ◌<◌, ◌≤◌, Bool, true, false, cond, List, [], ◌∷◌, All, Contains, option_to_list, ◌⊎◌, inl, inr, refl, sym, ap, ◌∙◌, subst, arith, slice_get, ltb-true, ltb-false}
+use Rattle.std.proofs.Common.{◌≡◌, ℕ, ◌+◌, ◌-◌, ◌<◌, ◌≤◌, Bool, true, false, cond, List, [], All, Contains, option_to_list, ◌⊎◌, inl, inr, refl, sym, ap, ◌∙◌, subst, arith, slice_get, ltb-true, ltb-false}
 use Rattle.std.specs.Prelude.{Option, Some, None, is_some, Ok, Err, IfSome, IsSomeAnd, nat_lt}
 use Rattle.std.proofs.lemmas.Option.{none-some, same_Some, slice_get_within}
 use Rattle.std.proofs.lemmas.List.Elements.{All-contains, All-get_or, All-nil, All-cons, All-map, All-weaker, Contains-push}
@@ -27,13 +27,12 @@ use Rattle.linda_client.specs.Packets.{Packet, accept_packet, leave_packets, una
 use Rattle.linda_client.specs.Reaction.{Reaction}
 use Rattle.linda_client.specs.React.{Call, Receive, new_pending, on_reply, react}
 use Rattle.linda_client.specs.Ending.{IsEnd, TakenBy}
-use Rattle.linda_client.specs.Numbers.{NumbersGoOn, IsUnanswered, UsesNoNumber, UsesNumber, Rises, number_of}
+use Rattle.linda_client.specs.Numbers.{IsUnanswered, UsesNoNumber, UsesNumber, Rises, number_of}
 use Rattle.linda_client.specs.Progress.{Continues, GoesOn, IsSoundPacket}
 use Rattle.linda_client.proofs.ListLaws.{only_one, nowhere}
 use Rattle.linda_run.specs.World.{handed_by}
 use Rattle.linda_run.specs.Reasons.{OfTicket, Asks, HasSent, IsSaid}
 use Rattle.linda_run.specs.Below.{OfCalls}
-use Rattle.linda_run.proofs.PlaceLaws.{place}
 
 -- An open ticket is one of the synchronization's, and was used by the client.
 pub open_range : (pending : Pending) (k : ℕ) (ask : Ask) → ask_at pending k ≡ Some ask → (pending.first ≤ k) × (k < pending.first + ticket_count pending)

@@ -49,7 +49,7 @@ use Rattle.linda_run.specs.Honest.{IsEarned, IsHonest}
 use Rattle.linda_run.specs.Below.{OfSound, OfDeeds, OfCalls}
 use Rattle.linda_run.proofs.PlaceLaws.{set_there, each_of_set, each_of_insert, same_or_apart, placed, none_there, none_twice, pushed_once}
 use Rattle.linda_run.proofs.DeliverLaws.{of_more}
-use Rattle.linda_run.proofs.CallLaws.{from_some, to_some, rises, unanswered_from, IsGiven, given_now, given_used}
+use Rattle.linda_run.proofs.CallLaws.{rises, unanswered_from, IsGiven, given_now, given_used}
 use Rattle.linda_run.proofs.Course.{IsCalled, Course, reacts, serves, course, received_told}
 
 -- nothing that is told, and what is told where there is no room

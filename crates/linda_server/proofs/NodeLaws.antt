@@ -1,12 +1,12 @@
 -- What a durable server answers as a node.
-use Rattle.std.proofs.Common.{◌≡◌, ◌≢◌, ℕ, ◌<◌, inl, inr, Bool, true, false, List, [], ◌∷◌, ◌++◌, length, Result, Ok, Err, IfOk, OnOk, OnErr, IsErrOf, None, refl, sym, ap, ◌∙◌, subst, append-nil, arith}
+use Rattle.std.proofs.Common.{◌≡◌, ◌≢◌, ℕ, inl, inr, Bool, true, false, List, [], ◌∷◌, ◌++◌, length, Result, Ok, Err, IfOk, OnOk, OnErr, IsErrOf, None, refl, sym, ap, ◌∙◌, subst, append-nil, arith}
 use Rattle.std.proofs.lemmas.Bool.{cond-true, cond-false}
 use Rattle.std.proofs.lemmas.List.Elements.{All-nil}
 use Rattle.linda_tuple.specs.declared.form.Form.{Form}
 use Rattle.std.specs.Global.{Vec}
 use Rattle.linda_wire.specs.declared.reply.Reply.{Reply}
 use Rattle.linda_state.specs.declared.deed.Deed.{Deed}
-use Rattle.linda_state.specs.DeedFormat.{payload, SuitsForm}
+use Rattle.linda_state.specs.DeedFormat.{SuitsForm}
 use Rattle.linda_state.specs.State.{State}
 use Rattle.linda_state.specs.After.{IsAfter}
 use Rattle.linda_step.specs.Store.{Store}

@@ -1,6 +1,6 @@
 -- A client that left stays away: whatever comes, stops too.
 use Rattle.std.proofs.Common.{◌≡◌, ◌≢◌, ℕ, ◌<◌, ◌≤◌, ◌⊎◌, Bool, true, false, true≢false, cond, not, ◌&&◌, ◌==◌, nat_le, nat_lt, List, [], ◌∷◌, ◌++◌, All, Option, Some, None, IfSome, option_to_list, inl, inr, refl, sym, ap, ◌∙◌, subst, ne_eqb, arith, append-nil}
-use Rattle.std.proofs.lemmas.Option.{none-some, same_Some}
+use Rattle.std.proofs.lemmas.Option.{none-some}
 use Rattle.std.proofs.lemmas.List.Elements.{All-nil, All-cons, All-append}
 use Rattle.std.specs.FinMap.{get, entries}
 use Rattle.linda_bag.proofs.Maps.{get_same}
@@ -8,7 +8,7 @@ use Rattle.linda_tuple.specs.Tuple.{Tuple}
 use Rattle.linda_tuple.specs.Template.{Template}
 use Rattle.linda_hold.specs.declared.request.Request.{Request}
 use Rattle.linda_hold.specs.Request.{request_of}
-use Rattle.linda_hold.specs.Waits.{Wait, is_waiting, without_client, without}
+use Rattle.linda_hold.specs.Waits.{is_waiting, without_client, without}
 use Rattle.linda_hold.specs.Holds.{held_in}
 use Rattle.linda_wire.specs.declared.limits.TheConstants.{MAX_ASKS, NUMBER_LIMIT, VERSION}
 use Rattle.linda_wire.specs.declared.message.Message.{Message}
@@ -37,13 +37,13 @@ use Rattle.linda_state.proofs.LeftLaws.{AreOthers, others_later}
 use Rattle.linda_state.proofs.ProperLaws.{none_proper, front_proper}
 use Rattle.linda_step.specs.declared.judge.Demand.{Demand}
 use Rattle.linda_step.specs.declared.judge.Standing.{Standing}
-use Rattle.linda_step.specs.declared.judge.Verdict.TheVariants.{Refused, Repeated, Done}
-use Rattle.linda_step.specs.Judge.{demand_of, to_put, to_take, to_leave, judge, judge_class, judge_fresh}
-use Rattle.linda_step.specs.Soft.{Soft, Bagged, OfAsking, open_asks, no_asks}
+use Rattle.linda_step.specs.declared.judge.Verdict.TheVariants.{Refused}
+use Rattle.linda_step.specs.Judge.{demand_of, to_put, to_take, to_leave, judge, judge_class}
+use Rattle.linda_step.specs.Soft.{Soft, Bagged, OfAsking, open_asks}
 use Rattle.linda_step.specs.Dispatch.{Sends, no_sends, release_if, on_cancel, on_close}
 use Rattle.linda_step.specs.Asking.{offer_of, read_of, only_sent, serve, on_ask}
 use Rattle.linda_step.specs.Answer.{Answer, only_sends, greeting, has_left, last_number, standing_of, is_one_too_many, reply_of_kept, SaysAsk, IsAnswer, IsStep}
-use Rattle.linda_step.specs.History.{Coming, says, hangs_up, Comes, History, Happens, history_of, first_then}
+use Rattle.linda_step.specs.History.{Coming, says, hangs_up, Comes, History, Happens, history_of}
 use Rattle.linda_step.specs.Course.{Turn, comes, stops, IsStop, Leads, Endures, joined}
 use Rattle.linda_step.specs.Store.{IsHere, IsOrderly}
 use Rattle.linda_step.specs.Promises.{LastWord, left_again, is_older, was_last, speaks_other, is_known, is_welcome, IsAway}

@@ -8,7 +8,7 @@ use Rattle.linda_bag.proofs.Maps.{get_inserted, len_new, len_old}
 use Rattle.linda_tuple.specs.Tuple.{Tuple}
 use Rattle.linda_tuple.specs.declared.form.Form.{Form}
 use Rattle.linda_wire.specs.declared.message.Message.{Message}
-use Rattle.linda_book.specs.Entries.{Entry, number_in, left_in, is_left}
+use Rattle.linda_book.specs.Entries.{Entry, number_in, is_left}
 use Rattle.linda_state.specs.declared.deed.Deed.{Deed}
 use Rattle.linda_state.specs.declared.deed.Deed.TheVariants as deeds
 use Rattle.linda_wire.specs.declared.limits.TheConstants.{NUMBER_LIMIT}

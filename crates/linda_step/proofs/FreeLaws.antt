@@ -1,8 +1,8 @@
 -- Which tuples are free behind a step: those that were before, those that are new, and the one that is released.
-use Rattle.std.proofs.Common.{◌≡◌, ℕ, suc, ◌+◌, ◌≤◌, ◌<◌, ◌⊎◌, inl, inr, Bool, true, false, ◌||◌, List, [], ◌∷◌, length, Option, None, Some, is_some, option_to_list, Result, Ok, Err, OnOk, IfOk, refl, sym, ap, subst, ◌∙◌, nat_cmp, true≢false, eq-eqb, arith}
+use Rattle.std.proofs.Common.{◌≡◌, ℕ, ◌+◌, ◌<◌, inl, inr, Bool, true, false, ◌||◌, List, [], ◌∷◌, length, Option, None, Some, is_some, option_to_list, Result, Ok, Err, OnOk, IfOk, refl, sym, ap, subst, ◌∙◌, true≢false, eq-eqb, arith}
 use Rattle.std.proofs.lemmas.Bool.{cases_eq, cases_lt}
 use Rattle.std.proofs.lemmas.Option.{none-some}
-use Rattle.std.specs.FinMap.{get, insert, remove, empty}
+use Rattle.std.specs.FinMap.{get, insert, remove}
 use Rattle.linda_tuple.specs.Tuple.{Tuple}
 use Rattle.linda_bag.specs.declared.starts.Starts.{Starts}
 use Rattle.linda_bag.specs.Starts.{AreRight}
@@ -21,7 +21,7 @@ use Rattle.linda_state.proofs.AfterLaws.{old_id, taken_id, one_after}
 use Rattle.linda_state.proofs.DoneLaws.{done, done_after}
 use Rattle.linda_step.specs.Soft.{Soft, Bagged}
 use Rattle.linda_step.specs.Looking.{is_held}
-use Rattle.linda_step.specs.Dispatch.{dispatch, held_for, release}
+use Rattle.linda_step.specs.Dispatch.{dispatch, held_for}
 use Rattle.linda_step.specs.Answer.{Answer, take_or_pass}
 
 -- A dispatch changes what is said of that tuple alone.

@@ -24,7 +24,7 @@ use Rattle.linda_step.specs.Looking.{IsLeast, passed_over, IsAtRest}
 use Rattle.linda_step.specs.Dispatch.{Sends, no_sends, dispatch, on_cancel, on_close}
 use Rattle.linda_step.specs.Asking.{only_sent, serve, on_ask, wait_of}
 use Rattle.linda_state.specs.After.{IsAfter}
-use Rattle.linda_step.specs.Answer.{Answer, only_sends, has_left, SaysAsk, on_leave, IsAnswer, IsStep}
+use Rattle.linda_step.specs.Answer.{Answer, only_sends, has_left, SaysAsk, IsAnswer, IsStep}
 use Rattle.linda_step.specs.Judge.{to_put, to_take, to_leave, demand_of}
 use Rattle.linda_step.specs.Store.{IsHere, IsOrderly}
 use Rattle.linda_state.proofs.AfterLaws.{none_after, one_after}
@@ -32,8 +32,8 @@ use Rattle.linda_state.proofs.DoneLaws.{done, done_after}
 use Rattle.linda_step.proofs.AnswerCourse.{Course, unnumbered, turned_down, told_again, stored, taken, passed, left, course_of}
 use Rattle.linda_step.proofs.RestLaws.{put_rests, taken_rests, held_rests, waiting_rests, no_asks_rest, cancelling_rests, closing_rests}
 use Rattle.linda_step.proofs.RangeLaws.{put_soft, taken_soft, offer_soft, waiting_soft, no_asks_soft, cancelling_soft, closing_soft}
-use Rattle.linda_step.proofs.AnswerLaws.{answer_allowed, step_state}
-use Rattle.linda_step.proofs.SoftLaws.{kept_waits, cancelling_keeps, closing_keeps}
+use Rattle.linda_step.proofs.AnswerLaws.{step_state}
+use Rattle.linda_step.proofs.SoftLaws.{cancelling_keeps, closing_keeps}
 use Rattle.linda_step.proofs.PresentLaws.{fewer_asking, taken_asking, held_asking, waiting_asking, dispatched_asking, freed_asking, no_asking, asking_by, closed_asking}
 use Rattle.linda_state.specs.After.{reply_of_deed, taken_reply}
 use Rattle.linda_state.specs.Deed.{client_of, number_of}

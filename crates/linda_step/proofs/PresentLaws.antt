@@ -1,18 +1,17 @@
 -- What holds of the client of each request that waits or holds: what each step keeps of it, and whom a Leave leaves.
 use Rattle.std.proofs.Common.{◌≡◌, ◌≢◌, ℕ, Bool, true, false, true≢false, cond, ◌==◌, List, [], ◌∷◌, Option, Some, None, IfSome, All, inl, inr, refl, sym, ap, ◌∙◌, subst, eq-eqb}
-use Rattle.std.proofs.lemmas.Bool.{cond-true, cond-false, cases_eq}
-use Rattle.std.proofs.lemmas.Option.{none-some}
+use Rattle.std.proofs.lemmas.Bool.{cases_eq}
 use Rattle.std.proofs.lemmas.List.Elements.{All-nil, All-append, All-cons, All-filter}
 use Rattle.std.specs.FinMap.{get, insert, remove}
 use Rattle.linda_tuple.specs.Tuple.{Tuple}
 use Rattle.linda_bag.proofs.Maps.{get_same, get_other, get_removed_same, get_removed_other, get_empty}
 use Rattle.linda_hold.specs.declared.request.Request.{Request}
-use Rattle.linda_hold.specs.Request.{same_request, request_of}
+use Rattle.linda_hold.specs.Request.{same_request}
 use Rattle.linda_hold.specs.Waits.{Wait, is_reader, is_taker, without_readers, longest}
 use Rattle.linda_hold.specs.Holds.{HeldFor}
 use Rattle.linda_step.specs.Soft.{Soft, Bagged, IsSoft, OfAsking, no_asks}
 use Rattle.linda_step.specs.Dispatch.{dispatch, held_for, release, release_tuple, on_close}
-use Rattle.linda_step.proofs.WaitLaws.{all_kept, none_passes, found_has}
+use Rattle.linda_step.proofs.WaitLaws.{none_passes, found_has}
 use Rattle.linda_step.proofs.SoftLaws.{kept_waits}
 use Rattle.linda_step.proofs.ReleaseLaws.{closed_waits, closed_holds}
 

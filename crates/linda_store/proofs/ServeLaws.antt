@@ -1,11 +1,10 @@
 -- What comes to a server leaves it sound, and what it sends tells only of its deeds.
-use Rattle.std.proofs.Common.{◌≡◌, ℕ, Bool, true, false, true≢false, List, [], ◌∷◌, ◌++◌, option_to_list, All, inl, inr, ◌⊎◌, refl, sym, ap, ◌∙◌, subst, append-nil, append_assoc}
+use Rattle.std.proofs.Common.{◌≡◌, ℕ, Bool, true, false, true≢false, List, [], ◌∷◌, ◌++◌, option_to_list, All, refl, sym, ap, ◌∙◌, subst, append-nil, append_assoc}
 use Rattle.std.proofs.lemmas.List.Elements.{All-nil, All-append, All-weaker}
-use Rattle.linda_wire.specs.declared.message.Message.{Message}
 use Rattle.linda_wire.specs.declared.reply.Reply.{Reply}
 use Rattle.linda_state.specs.declared.deed.Deed.{Deed}
-use Rattle.linda_state.specs.State.{State, IsState, empty_state}
-use Rattle.linda_step.specs.Soft.{Soft, no_asks}
+use Rattle.linda_state.specs.State.{State, empty_state}
+use Rattle.linda_step.specs.Soft.{Soft}
 use Rattle.linda_step.specs.Dispatch.{on_close}
 use Rattle.linda_state.specs.After.{IsAfter}
 use Rattle.linda_state.specs.Proper.{IsProper}
@@ -23,7 +22,7 @@ use Rattle.std.specs.Global.{Vec}
 use Rattle.linda_step.specs.Course.{IsFront}
 use Rattle.linda_store.specs.declared.node.NodeFault.{NodeFault}
 use Rattle.linda_store.specs.declared.node.NodeFault.TheVariants as faults
-use Rattle.linda_store.specs.Node.{Node, NodeAnswer, Sent, IsFull, IsDown, MayRemain, IsDone, WentDown, IsOpened, Works, Closes, Snaps, Stops}
+use Rattle.linda_store.specs.Node.{Node, NodeAnswer, Sent, IsFull, IsDown, MayRemain, WentDown, IsOpened, Works, Closes, Snaps, Stops}
 use Rattle.linda_store.specs.Sound.{IsSound, AreBacked, added}
 use Rattle.linda_promise.proofs.ReplyLaws.{step_backed, close_backed, book_reports}
 

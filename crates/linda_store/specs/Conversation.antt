@@ -1,5 +1,5 @@
 -- Whole conversations: the bytes that came in, all that was said, and where that leads.
-use Rattle.std.specs.Prelude.{◌≡◌, ℕ, Bool, true, false, List, [], ◌∷◌, ◌++◌, All, Option, None, Result, Ok, Err}
+use Rattle.std.specs.Prelude.{◌≡◌, ℕ, Bool, true, false, List, [], ◌∷◌, ◌++◌, All, Option, Result, Ok, Err}
 use Rattle.std.specs.List.{flat_map}
 use Rattle.linda_wire.specs.Refusal.{refused}
 use Rattle.linda_wire.specs.declared.refusal.Refusal.TheVariants as refusals
@@ -12,7 +12,6 @@ use Rattle.linda_wire.specs.Stream.{Partial, Broken}
 use Rattle.linda_wire.specs.Stream.{message_front}
 use Rattle.linda_store.specs.declared.stage.Stage.{Stage}
 use Rattle.linda_store.specs.declared.stage.Stage.TheVariants as stages
-use Rattle.linda_store.specs.declared.stage.Taken.{Taken}
 use Rattle.linda_store.specs.Node.{Node}
 use Rattle.linda_store.specs.Turn.{Point, point_at, Runs}
 

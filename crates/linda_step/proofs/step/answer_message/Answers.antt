@@ -6,7 +6,6 @@ use Rattle.linda_book.specs.Entries.{left_in, number_in}
 use Rattle.linda_wire.specs.Refusal.{refused}
 use Rattle.linda_wire.specs.declared.refusal.Refusal.TheVariants.{Left}
 use Rattle.linda_hold.specs.Request.{request_of}
-use Rattle.linda_state.specs.State.{State}
 use Rattle.linda_step.specs.Looking.{is_held}
 use Rattle.linda_step.specs.Answer.{without_deed, held_tuple}
 use Rattle.linda_step.proofs.NumberLaws.{allowed_out}

@@ -1,5 +1,5 @@
 -- What was served is put onto the bank in use, or nothing is touched.
-use Rattle.std.proofs.Common.{◌≡◌, ◌<◌, [], IfOk, IfSome, ◌+◌, length, refl, sym, subst, ap, ◌∙◌, arith, rules}
+use Rattle.std.proofs.Common.{◌≡◌, ◌<◌, [], IfOk, IfSome, ◌+◌, length, refl, sym, subst, ap, arith, rules}
 use Rattle.std.specs.Vec.{vec_len}
 use Rattle.linda_state.proofs.DoneLaws.{on_ok}
 use Rattle.linda_step.specs.declared.size.TheConstants.{MAX_BATCH}

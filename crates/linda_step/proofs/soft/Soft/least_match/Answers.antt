@@ -2,7 +2,7 @@ use Rattle.std.proofs.Common.{true, false, is_some, sym, ap, subst, ◌∙◌, n
 use Rattle.std.specs.BTreeSet.{contains}
 use Rattle.std.specs.FinMap.{get}
 use Rattle.linda_bag.specs.Starts.{AreRight}
-use Rattle.linda_step.specs.Looking.{IsLeast, is_held, passed_over}
+use Rattle.linda_step.specs.Looking.{IsLeast, passed_over}
 use Rattle.linda_step.proofs.FreeLaws.{same_held}
 use Rattle.linda_step.proofs.LookingLaws.{least_found}
 use Rattle.linda_step.proofs.soft.Soft.least_match.Goals as goal

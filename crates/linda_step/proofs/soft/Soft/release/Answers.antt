@@ -1,4 +1,4 @@
-use Rattle.std.proofs.Common.{◌≡◌, ap, sym, subst, ◌∙◌}
+use Rattle.std.proofs.Common.{ap, sym, subst, ◌∙◌}
 use Rattle.linda_bag.specs.Starts.{AreRight}
 use Rattle.linda_hold.specs.Holds.{HeldFor}
 use Rattle.linda_step.specs.Soft.{Soft, AreApart}

@@ -1,5 +1,5 @@
 -- What was counted of the messages is what their deeds spell, and they suit the form where their deeds do.
-use Rattle.std.proofs.Common.{rules, ◌≡◌, subst, ap, sym, ◌∙◌}
+use Rattle.std.proofs.Common.{◌≡◌, subst, ap, sym, ◌∙◌}
 use Rattle.linda_state.specs.State.{IsState}
 use Rattle.linda_step.specs.Store.{Store}
 use Rattle.linda_step.specs.Size.{bytes_from, numbers_of, AllSuit}

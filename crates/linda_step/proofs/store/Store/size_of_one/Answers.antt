@@ -1,5 +1,5 @@
 -- The bytes of one message are those of a list of it; and it suits the form where its deed does.
-use Rattle.std.proofs.Common.{rules, ◌≡◌, ◌∷◌, [], subst, ap, sym, ◌∙◌}
+use Rattle.std.proofs.Common.{◌≡◌, ◌∷◌, [], subst, ap, sym, ◌∙◌}
 use Rattle.linda_state.specs.State.{IsState}
 use Rattle.linda_step.specs.Store.{Store}
 use Rattle.linda_step.specs.Size.{bytes_from, numbers_of, AllSuit}

@@ -1,6 +1,5 @@
 -- The store's close is what came to the node.
-use Rattle.std.proofs.Common.{[], ◌∷◌, None, sym, ap, refl, ◌∙◌}
-use Rattle.linda_step.specs.Dispatch.{Sends}
+use Rattle.std.proofs.Common.{[], ◌∷◌, None, sym, ap, ◌∙◌}
 use Rattle.linda_step.specs.Answer.{only_sends}
 use Rattle.linda_step.specs.History.{hangs_up}
 use Rattle.linda_step.proofs.GrowthLaws.{one_only}
