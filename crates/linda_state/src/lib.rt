@@ -20,7 +20,8 @@ pub use deed::Deed;
 pub use kinds::{LEAVE, OUT, PASS, TAKE, has_leaves};
 pub use laws::{
     deeds_are_done_one_by_one, kept_numbers_count_deeds, lists_are_done_one_after_another,
-    no_tuple_is_taken_twice, nothing_follows_a_leave, proper_lists_keep_the_ranges, replies_look_back,
+    no_tuple_is_taken_twice, nothing_follows_a_leave, proper_lists_keep_the_ranges,
+    replies_look_back,
 };
 pub use limits::{BANK_FORM, HEAD_BYTES, ID_BYTES, MAX_DEED_BYTES, MAX_TUPLE_BYTES};
 pub use linda_book::{Book, Class, KeptReply};

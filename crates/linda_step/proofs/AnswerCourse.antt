@@ -80,7 +80,6 @@ module _ (st : State) (soft : Soft) (c : ℕ) where
       subst (Course st soft c (Ask ticket remove template)) (sym answer.1.1) (unnumbered (Ask ticket remove template) answer.0 refl (answer.0, (answer.1.0, refl)))
   course_of (Cancel ticket) a answer =
       subst (Course st soft c (Cancel ticket)) (sym answer.1.1) (unnumbered (Cancel ticket) answer.0 refl (answer.0, (answer.1.0, refl)))
-
   course_of (Leave n) a answer = subst (Course st soft c (Leave n)) (sym answer) (leave_course n (leave_without_deed st c n) refl)
 
   -- Where there is a reply without a deed, it is all that is answered.

@@ -17,8 +17,8 @@ mod step;
 mod store;
 
 pub use laws::{
-    a_cancelled_request_is_over, a_client_that_left_stays_away, a_closed_client_asks_nothing, a_list_has_one_outcome,
-    a_repeated_message_gets_the_same_reply, all_that_comes_has_an_outcome,
+    a_cancelled_request_is_over, a_client_that_left_stays_away, a_closed_client_asks_nothing,
+    a_list_has_one_outcome, a_repeated_message_gets_the_same_reply, all_that_comes_has_an_outcome,
     deeds_are_answered_as_kept, no_history_takes_a_tuple_twice,
     no_history_with_stops_takes_a_tuple_twice, one_answer, steps_do_proper_lists, steps_keep_order,
 };

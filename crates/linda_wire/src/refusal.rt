@@ -4,8 +4,8 @@ ghost use Rattle.std.specs.Prelude.{◌≡◌};
 ghost use Rattle.linda_wire.specs.Refusal.{code_of, detail_of, refused};
 
 use crate::codes::{
-    BUSY, CLIENT_LEFT, KNOWN_CLIENT, MALFORMED, NO_HELLO, NO_ROOM, NUMBER_GAP, NUMBERS_SPENT, OLD_NUMBER,
-    SERVER_DOWN, STORE_FULL, TOO_MANY_ASKS, TOO_MANY_CLIENTS, WRONG_VERSION,
+    BUSY, CLIENT_LEFT, KNOWN_CLIENT, MALFORMED, NO_HELLO, NO_ROOM, NUMBER_GAP, NUMBERS_SPENT,
+    OLD_NUMBER, SERVER_DOWN, STORE_FULL, TOO_MANY_ASKS, TOO_MANY_CLIENTS, WRONG_VERSION,
 };
 use crate::limits::{MAX_CLIENTS, VERSION};
 use crate::reply::Reply;
