@@ -22,15 +22,18 @@ use Rattle.linda_disk.specs.View.{View, IsTimed}
 use Rattle.linda_journal.proofs.SizeLaws.{deed_some}
 use Rattle.linda_snap.specs.Stands.{Stands}
 use Rattle.linda_server.specs.declared.limits.TheConstants.{RECORD_BYTES}
+use Rattle.linda_disk.specs.declared.disk.Disk.{Ghosts}
+use Rattle.linda_journal.specs.declared.bank.Bank.{Bank}
 use Rattle.linda_server.specs.declared.disks.Disks.{Disks}
 use Rattle.linda_server.specs.declared.disks.Disks.TheVariants.{InUse, Shut, Away}
 use Rattle.linda_server.specs.declared.fault.ServeFault.{ServeFault}
 use Rattle.linda_server.specs.declared.served.Served.{Served}
 use Rattle.linda_server.specs.Pairs.{Both, PairsSince, PairsNow}
-use Rattle.linda_server.specs.Disks.{sides, both, AreHonest, IsUpOn, IsKeptOn}
+use Rattle.linda_server.specs.Disks.{sides}
 use Rattle.linda_server.specs.Served.{AreAnswered, deeds_of, share_of, IsServed}
 use Rattle.linda_server.specs.Calls.{LeadTo, IsOldOrNew, IsEither, IsWithOrWithout, StandsAfter, IsBeforeOrAfter, StandsFor, HasHandled, IsTooMuch}
 use Rattle.linda_server.specs.Node.{shown}
+use Rattle.linda_server.specs.Server.{both_of, BothHonest, IsUpFor, IsKeptFor}
 use Rattle.linda_server.proofs.ServedLaws.{served_happens}
 use Rattle.linda_server.proofs.PairLaws.{still, stands_now, up_of}
 
@@ -218,62 +221,61 @@ since_so old new P Q since goes = record {
 
 -- ---- the calls
 
-module _ {B D : Type 0} (form : B → Form) (generation end : B → ℕ) (bank : B → View) (disk : D → View) (honest_bank : B → Type 0) (honest : D → Type 0)
-    (timed_bank : (b : B) → honest_bank b → IsTimed (bank b)) (timed : (d : D) → honest d → IsTimed (disk d)) where
-  pub up_for : (disks : Disks B D) (st : State) → AreHonest honest_bank honest disks → ∥ IsKeptOn form generation end bank disk honest_bank honest disks st ∥₁ → ∥ IsUpOn form generation end bank disk disks st ∥₁
-  up_for disks st are kept = ∥∥₁_map kept (λ k. up_of form generation end bank disk honest_bank honest timed_bank timed disks st k are)
+module _ {D : Type 0} {g : Ghosts D} (timed : (d : D) → g.honest d → IsTimed (g.view d)) where
+  pub up_for : (disks : Disks (Bank D g) D) (st : State) → BothHonest disks → ∥ IsKeptFor disks st ∥₁ → ∥ IsUpFor disks st ∥₁
+  up_for disks st are kept = ∥∥₁_map kept (λ k. up_of timed disks st k are)
 
   -- No disk was touched: the state stands as before.
-  pub still_so : (disks : Disks B D) (st : State) → AreHonest honest_bank honest disks → ∥ IsKeptOn form generation end bank disk honest_bank honest disks st ∥₁
-      → PairsSince (both bank disk disks) (both bank disk disks) (StandsFor st)
+  pub still_so : (disks : Disks (Bank D g) D) (st : State) → BothHonest disks → ∥ IsKeptFor disks st ∥₁
+      → PairsSince (both_of disks) (both_of disks) (StandsFor st)
   still_so disks st are kept =
-      from_some (both bank disk disks) (both bank disk disks) (λ left right. Stands left right st) (λ left right. Stands left right st) (up_for disks st are kept)
-      (still form generation end bank disk honest_bank honest timed_bank timed disks st are) (λ left right x. x)
+      from_some (both_of disks) (both_of disks) (λ left right. Stands left right st) (λ left right. Stands left right st) (up_for disks st are kept)
+      (still timed disks st are) (λ left right x. x)
 
-  pub still_before : (disks : Disks B D) (old : Store) (xs : List Coming) → AreHonest honest_bank honest disks → ∥ IsKeptOn form generation end bank disk honest_bank honest disks old.state ∥₁
-      → PairsSince (both bank disk disks) (both bank disk disks) (IsBeforeOrAfter old xs)
+  pub still_before : (disks : Disks (Bank D g) D) (old : Store) (xs : List Coming) → BothHonest disks → ∥ IsKeptFor disks old.state ∥₁
+      → PairsSince (both_of disks) (both_of disks) (IsBeforeOrAfter old xs)
   still_before disks old xs are kept =
-      from_some (both bank disk disks) (both bank disk disks) (λ left right. Stands left right old.state) (λ left right. Stands left right old.state ⊎ StandsAfter old xs left right)
-      (up_for disks old.state are kept) (still form generation end bank disk honest_bank honest timed_bank timed disks old.state are) (λ left right x. inl x)
+      from_some (both_of disks) (both_of disks) (λ left right. Stands left right old.state) (λ left right. Stands left right old.state ⊎ StandsAfter old xs left right)
+      (up_for disks old.state are kept) (still timed disks old.state are) (λ left right x. inl x)
 
   -- Deeds went onto the bank in use.
-  pub put_either : (disks new : Disks B D) (st now : State) (deeds : List Deed) → LeadTo st deeds now → AreHonest honest_bank honest disks → ∥ IsKeptOn form generation end bank disk honest_bank honest disks st ∥₁
-      → ((st now : State) → AreHonest honest_bank honest disks → IsUpOn form generation end bank disk disks st → LeadTo st deeds now → PairsSince (both bank disk disks) (both bank disk new) (IsOldOrNew st now))
-      → PairsSince (both bank disk disks) (both bank disk new) (IsEither st now)
+  pub put_either : (disks new : Disks (Bank D g) D) (st now : State) (deeds : List Deed) → LeadTo st deeds now → BothHonest disks → ∥ IsKeptFor disks st ∥₁
+      → ((st now : State) → BothHonest disks → IsUpFor disks st → LeadTo st deeds now → PairsSince (both_of disks) (both_of new) (IsOldOrNew st now))
+      → PairsSince (both_of disks) (both_of new) (IsEither st now)
   put_either disks new st now deeds leads are kept put =
-      from_some (both bank disk disks) (both bank disk new) (IsOldOrNew st now) (IsOldOrNew st now) (up_for disks st are kept) (λ u. put st now are u leads) (λ left right x. x)
+      from_some (both_of disks) (both_of new) (IsOldOrNew st now) (IsOldOrNew st now) (up_for disks st are kept) (λ u. put st now are u leads) (λ left right x. x)
 
-  pub kept_after : (disks new : Disks B D) (st now : State) (deeds : List Deed) → LeadTo st deeds now → ∥ IsKeptOn form generation end bank disk honest_bank honest disks st ∥₁
-      → ((st now : State) → IsKeptOn form generation end bank disk honest_bank honest disks st → LeadTo st deeds now → IsKeptOn form generation end bank disk honest_bank honest new now)
-      → ∥ IsKeptOn form generation end bank disk honest_bank honest new now ∥₁
+  pub kept_after : (disks new : Disks (Bank D g) D) (st now : State) (deeds : List Deed) → LeadTo st deeds now → ∥ IsKeptFor disks st ∥₁
+      → ((st now : State) → IsKeptFor disks st → LeadTo st deeds now → IsKeptFor new now)
+      → ∥ IsKeptFor new now ∥₁
   kept_after disks new st now deeds leads kept goes = ∥∥₁_map kept (λ k. goes st now k leads)
 
   -- What crashes since leave, they leave now.
-  pub now_since : (old disks : Disks B D) (P Q : List ℕ → List ℕ → Type 0) → AreHonest honest_bank honest disks → PairsSince (both bank disk old) (both bank disk disks) P
-      → ((left right : List ℕ) → P left right → Q left right) → PairsNow (both bank disk disks) Q
-  now_since old (InUse pair) P Q are since goes = sides_now pair.is_right (both bank disk old) (bank pair.bank) (disk pair.other) P Q (timed_bank pair.bank are.0) (timed pair.other are.1) since goes
+  pub now_since : (old disks : Disks (Bank D g) D) (P Q : List ℕ → List ℕ → Type 0) → BothHonest disks → PairsSince (both_of old) (both_of disks) P
+      → ((left right : List ℕ) → P left right → Q left right) → PairsNow (both_of disks) Q
+  now_since old (InUse pair) P Q are since goes = sides_now pair.is_right (both_of old) (g.view pair.bank.disk) (g.view pair.other) P Q (timed pair.bank.disk are.0) (timed pair.other are.1) since goes
   now_since old (Shut left right) P Q are since goes =
-      λ l r la ra. goes l r (since.each l r ((timed left are.0).counts_now (both bank disk old).left.moment l since.left_later la) ((timed right are.1).counts_now (both bank disk old).right.moment r since.right_later ra))
+      λ l r la ra. goes l r (since.each l r ((timed left are.0).counts_now (both_of old).left.moment l since.left_later la) ((timed right are.1).counts_now (both_of old).right.moment r since.right_later ra))
   now_since old Away P Q are since goes = absurd are
 
   -- The state stands now.
-  pub stands_so : (disks : Disks B D) (st : State) → AreHonest honest_bank honest disks → ∥ IsKeptOn form generation end bank disk honest_bank honest disks st ∥₁
-      → PairsNow (both bank disk disks) (StandsFor st)
+  pub stands_so : (disks : Disks (Bank D g) D) (st : State) → BothHonest disks → ∥ IsKeptFor disks st ∥₁
+      → PairsNow (both_of disks) (StandsFor st)
   stands_so disks st are kept left right l r =
-      ∥∥₁_map (up_for disks st are kept) (λ u. stands_now form generation end bank disk honest_bank honest timed_bank timed disks st u left right l r)
+      ∥∥₁_map (up_for disks st are kept) (λ u. stands_now timed disks st u left right l r)
 
-  pub stands_with : (disks : Disks B D) (st : State) (deeds : List Deed) → deeds ≡ [] → IsState st → AreHonest honest_bank honest disks
-      → ∥ IsKeptOn form generation end bank disk honest_bank honest disks st ∥₁ → PairsNow (both bank disk disks) (IsWithOrWithout st deeds)
+  pub stands_with : (disks : Disks (Bank D g) D) (st : State) (deeds : List Deed) → deeds ≡ [] → IsState st → BothHonest disks
+      → ∥ IsKeptFor disks st ∥₁ → PairsNow (both_of disks) (IsWithOrWithout st deeds)
   stands_with disks st deeds none is are kept left right l r =
       ∥∥₁_map (stands_so disks st are kept left right l r)
       (λ x. record { new = st; ranges = is; done = subst (λ ds. AreDone st ds st) (sym none) (none_done st is); stands = inl x })
 
   -- A call that served this, and then put its deeds onto the bank in use, or could not.
-  pub served_since : (disks mid new : Disks B D) (old after : Store) (ms : List (ℕ × Message)) (told : Served) (before : State) → mid ≡ disks → before ≡ old.state
-      → IsServed old.state old.soft ms told after.state after.soft → AreHonest honest_bank honest disks
-      → (AreHonest honest_bank honest mid → PairsSince (both bank disk mid) (both bank disk new) (IsEither before after.state))
-      → PairsSince (both bank disk disks) (both bank disk new) (IsBeforeOrAfter old (comings ms))
+  pub served_since : (disks mid new : Disks (Bank D g) D) (old after : Store) (ms : List (ℕ × Message)) (told : Served) (before : State) → mid ≡ disks → before ≡ old.state
+      → IsServed old.state old.soft ms told after.state after.soft → BothHonest disks
+      → (BothHonest mid → PairsSince (both_of mid) (both_of new) (IsEither before after.state))
+      → PairsSince (both_of disks) (both_of new) (IsBeforeOrAfter old (comings ms))
   served_since disks mid new old after ms told before same was served are put =
-      let since = subst (λ d. PairsSince (both bank disk d) (both bank disk new) (IsEither before after.state)) same (put (subst (AreHonest honest_bank honest) (sym same) are)) in
-      since_so (both bank disk disks) (both bank disk new) (IsEither before after.state) (IsBeforeOrAfter old (comings ms)) since
+      let since = subst (λ d. PairsSince (both_of d) (both_of new) (IsEither before after.state)) same (put (subst (BothHonest) (sym same) are)) in
+      since_so (both_of disks) (both_of new) (IsEither before after.state) (IsBeforeOrAfter old (comings ms)) since
       (λ left right e. before_or_after old after ms told served left right (subst (λ st. IsEither st after.state left right) was e))

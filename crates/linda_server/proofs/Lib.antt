@@ -12,4 +12,5 @@ mod AgainLaws
 mod LeftLaws
 mod LivesLaws
 mod GoingLaws
+mod HandledLaws
 mod CommitLaws

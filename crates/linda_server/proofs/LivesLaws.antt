@@ -210,7 +210,7 @@ module _ {D : Type 0} {g : Ghosts D} (timed : (d : D) → g.honest d → IsTimed
               let done = done_up ds s known.sound up in
               let none = subst (IsProper empty_state) (sym (append-nil ds)) done.proper in
               stopped_at s.store.state done (subst (λ l. IsProper empty_state (ds ++ l)) (sym (s.none_lost up)) none)
-              (stands_with (λ b. b.form) (λ b. b.generation) (λ b. b.end) (λ b. g.view b.disk) g.view (λ b. g.honest b.disk) g.honest (λ b h. timed b.disk h) timed s.disks s.store.state s.lost.items (s.none_lost up)
+              (stands_with timed s.disks s.store.state s.lost.items (s.none_lost up)
               (order_up ds s known.sound up).state_is honest (s.kept up))
         ]
 

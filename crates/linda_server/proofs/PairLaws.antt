@@ -10,12 +10,15 @@ use Rattle.linda_disk.specs.Run.{LeavesOnly}
 use Rattle.linda_journal.specs.Bank.{IsSettled, IsOldOrMore}
 use Rattle.linda_snap.specs.Snapshot.{spell_state}
 use Rattle.linda_snap.specs.Stands.{deeds_in, StandsOn, IsLesser, IsInUse, IsStored, Stands, IsUp}
+use Rattle.linda_disk.specs.declared.disk.Disk.{Ghosts}
+use Rattle.linda_journal.specs.declared.bank.Bank.{Bank}
 use Rattle.linda_server.specs.declared.disks.Disks.{Disks}
 use Rattle.linda_server.specs.declared.disks.Disks.TheVariants.{InUse, Shut, Away}
 use Rattle.linda_server.specs.declared.disks.Pair.{Pair}
 use Rattle.linda_server.specs.Pairs.{PairsSince, PairsNow}
-use Rattle.linda_server.specs.Disks.{sides, both, AreHonest, IsUpOn, IsKept, IsKeptOn}
+use Rattle.linda_server.specs.Disks.{sides, IsKept}
 use Rattle.linda_server.specs.Calls.{LeadTo, IsOldOrNew}
+use Rattle.linda_server.specs.Server.{both_of, BothHonest, IsUpFor, IsKeptFor}
 
 -- ---- on one of two sides
 
@@ -131,41 +134,40 @@ now_on_sides false used other st each left right l r = inl (each left right l r)
 
 -- ---- the two disks of a server
 
-module _ {B D : Type 0} (form : B → Form) (generation end : B → ℕ) (bank : B → View) (disk : D → View) (honest_bank : B → Type 0) (honest : D → Type 0)
-    (timed_bank : (b : B) → honest_bank b → IsTimed (bank b)) (timed : (d : D) → honest d → IsTimed (disk d)) where
+module _ {D : Type 0} {g : Ghosts D} (timed : (d : D) → g.honest d → IsTimed (g.view d)) where
   -- Where no disk is touched, the same state stands.
-  pub still : (disks : Disks B D) (st : State) → AreHonest honest_bank honest disks → IsUpOn form generation end bank disk disks st
-      → PairsSince (both bank disk disks) (both bank disk disks) (λ left right. Stands left right st)
+  pub still : (disks : Disks (Bank D g) D) (st : State) → BothHonest disks → IsUpFor disks st
+      → PairsSince (both_of disks) (both_of disks) (λ left right. Stands left right st)
   still (InUse pair) st are up =
-      on_sides pair.is_right (bank pair.bank) (bank pair.bank) (disk pair.other) (λ image beside. IsInUse image beside st) (λ left right. Stands left right st) (omega arith)
-      (stands_for (form pair.bank) (generation pair.bank) (end pair.bank) (bank pair.bank) (disk pair.other) st up (timed_bank pair.bank are.0) (timed pair.other are.1))
+      on_sides pair.is_right (g.view pair.bank.disk) (g.view pair.bank.disk) (g.view pair.other) (λ image beside. IsInUse image beside st) (λ left right. Stands left right st) (omega arith)
+      (stands_for pair.bank.form pair.bank.generation pair.bank.end (g.view pair.bank.disk) (g.view pair.other) st up (timed pair.bank.disk are.0) (timed pair.other are.1))
       (λ image beside x. inl x) (λ image beside x. inr x)
   still (Shut left right) st are up = absurd up
   still Away st are up = absurd up
 
   -- Now it stands.
-  pub stands_now : (disks : Disks B D) (st : State) → IsUpOn form generation end bank disk disks st → PairsNow (both bank disk disks) (λ left right. Stands left right st)
+  pub stands_now : (disks : Disks (Bank D g) D) (st : State) → IsUpFor disks st → PairsNow (both_of disks) (λ left right. Stands left right st)
   stands_now (InUse pair) st up =
-      now_on_sides pair.is_right (bank pair.bank) (disk pair.other) st (left_for (form pair.bank) (generation pair.bank) (end pair.bank) (bank pair.bank) (disk pair.other) st up)
+      now_on_sides pair.is_right (g.view pair.bank.disk) (g.view pair.other) st (left_for pair.bank.form pair.bank.generation pair.bank.end (g.view pair.bank.disk) (g.view pair.other) st up)
   stands_now (Shut left right) st up = absurd up
   stands_now Away st up = absurd up
 
-  pub still_for : (disks : Disks B D) (st now : State) (deeds : List Deed) → deeds ≡ [] → AreHonest honest_bank honest disks → IsUpOn form generation end bank disk disks st
-      → LeadTo st deeds now → PairsSince (both bank disk disks) (both bank disk disks) (IsOldOrNew st now)
+  pub still_for : (disks : Disks (Bank D g) D) (st now : State) (deeds : List Deed) → deeds ≡ [] → BothHonest disks → IsUpFor disks st
+      → LeadTo st deeds now → PairsSince (both_of disks) (both_of disks) (IsOldOrNew st now)
   still_for disks st now deeds none are up leads =
       let so = still disks st are up in
       record { left_later = so.left_later; right_later = so.right_later; each = λ left right l r. inl (so.each left right l r) }
 
   -- What is known of honest disks.
-  pub up_of : (disks : Disks B D) (st : State) → IsKeptOn form generation end bank disk honest_bank honest disks st → AreHonest honest_bank honest disks → IsUpOn form generation end bank disk disks st
+  pub up_of : (disks : Disks (Bank D g) D) (st : State) → IsKeptFor disks st → BothHonest disks → IsUpFor disks st
   up_of (InUse pair) st kept are = record { stored = kept.stored are.0; lesser = kept.lesser are.0 are.1; durable = kept.durable are.1 }
   up_of (Shut left right) st kept are = absurd kept
   up_of Away st kept are = absurd kept
 
-  pub kept_still : (disks : Disks B D) (st now : State) (deeds : List Deed) → deeds ≡ [] → IsKeptOn form generation end bank disk honest_bank honest disks st → LeadTo st deeds now
-      → IsKeptOn form generation end bank disk honest_bank honest disks now
+  pub kept_still : (disks : Disks (Bank D g) D) (st now : State) (deeds : List Deed) → deeds ≡ [] → IsKeptFor disks st → LeadTo st deeds now
+      → IsKeptFor disks now
   kept_still (InUse pair) st now deeds none kept leads = record {
-    stored = λ h. stored_same (form pair.bank) (generation pair.bank) (end pair.bank) (bank pair.bank) st now (subst (λ ds. LeadTo st ds now) none leads) (kept.stored h);
+    stored = λ h. stored_same pair.bank.form pair.bank.generation pair.bank.end (g.view pair.bank.disk) st now (subst (λ ds. LeadTo st ds now) none leads) (kept.stored h);
     durable = kept.durable;
     lesser = kept.lesser;
   }
@@ -173,34 +175,34 @@ module _ {B D : Type 0} (form : B → Form) (generation end : B → ℕ) (bank :
   kept_still Away st now deeds none kept leads = absurd kept
 
   -- Deeds go onto the bank in use.
-  pub put_on : (disks : Disks B D) (pair : Pair B D) (new : View) (deeds : List Deed) → disks ≡ InUse pair
-      → ((body : List ℕ) (records : List (List Deed)) → honest_bank pair.bank → IsSettled (form pair.bank) (generation pair.bank) body records (end pair.bank) (bank pair.bank)
-      → LeavesOnly (bank pair.bank) new (IsOldOrMore (form pair.bank) (generation pair.bank) body records deeds))
-      → (st now : State) → AreHonest honest_bank honest disks → IsUpOn form generation end bank disk disks st → LeadTo st deeds now
-      → PairsSince (both bank disk disks) (sides pair.is_right new (disk pair.other)) (IsOldOrNew st now)
+  pub put_on : (disks : Disks (Bank D g) D) (pair : Pair (Bank D g) D) (new : View) (deeds : List Deed) → disks ≡ InUse pair
+      → ((body : List ℕ) (records : List (List Deed)) → g.honest pair.bank.disk → IsSettled pair.bank.form pair.bank.generation body records pair.bank.end (g.view pair.bank.disk)
+      → LeavesOnly (g.view pair.bank.disk) new (IsOldOrMore pair.bank.form pair.bank.generation body records deeds))
+      → (st now : State) → BothHonest disks → IsUpFor disks st → LeadTo st deeds now
+      → PairsSince (both_of disks) (sides pair.is_right new (g.view pair.other)) (IsOldOrNew st now)
   put_on disks pair new deeds is any_moment st now are up leads =
-      let are_so : AreHonest honest_bank honest (InUse pair) = subst (AreHonest honest_bank honest) is are in
-      let up_so : IsUpOn form generation end bank disk (InUse pair) st = subst (λ d. IsUpOn form generation end bank disk d st) is up in
-      subst (λ d. PairsSince (both bank disk d) (sides pair.is_right new (disk pair.other)) (IsOldOrNew st now)) (sym is)
-      (one_more (form pair.bank) (generation pair.bank) (end pair.bank) (bank pair.bank) (disk pair.other) st now deeds up_so leads pair.is_right new (timed pair.other are_so.1)
-      (any_moment (spell_state (form pair.bank) up_so.stored.opening) up_so.stored.records are_so.0 up_so.stored.settled))
+      let are_so : BothHonest (InUse pair) = subst (BothHonest) is are in
+      let up_so : IsUpFor (InUse pair) st = subst (λ d. IsUpFor d st) is up in
+      subst (λ d. PairsSince (both_of d) (sides pair.is_right new (g.view pair.other)) (IsOldOrNew st now)) (sym is)
+      (one_more pair.bank.form pair.bank.generation pair.bank.end (g.view pair.bank.disk) (g.view pair.other) st now deeds up_so leads pair.is_right new (timed pair.other are_so.1)
+      (any_moment (spell_state pair.bank.form up_so.stored.opening) up_so.stored.records are_so.0 up_so.stored.settled))
 
-  pub kept_on : (disks : Disks B D) (pair : Pair B D) (is_new_honest : Type 0) (new_form : Form) (new_generation new_end : ℕ) (new : View) (deeds : List Deed) → disks ≡ InUse pair
-      → new_form ≡ form pair.bank → new_generation ≡ generation pair.bank
-      → (is_new_honest → honest_bank pair.bank)
-      → ((body : List ℕ) (records : List (List Deed)) → honest_bank pair.bank → IsSettled (form pair.bank) (generation pair.bank) body records (end pair.bank) (bank pair.bank)
+  pub kept_on : (disks : Disks (Bank D g) D) (pair : Pair (Bank D g) D) (is_new_honest : Type 0) (new_form : Form) (new_generation new_end : ℕ) (new : View) (deeds : List Deed) → disks ≡ InUse pair
+      → new_form ≡ pair.bank.form → new_generation ≡ pair.bank.generation
+      → (is_new_honest → g.honest pair.bank.disk)
+      → ((body : List ℕ) (records : List (List Deed)) → g.honest pair.bank.disk → IsSettled pair.bank.form pair.bank.generation body records pair.bank.end (g.view pair.bank.disk)
       → IsSettled new_form new_generation body (records ++ deeds ∷ []) new_end new)
-      → (st now : State) → IsKeptOn form generation end bank disk honest_bank honest disks st → LeadTo st deeds now
-      → IsKept is_new_honest (honest pair.other) new_form new_generation new_end new (disk pair.other) now
+      → (st now : State) → IsKeptFor disks st → LeadTo st deeds now
+      → IsKept is_new_honest (g.honest pair.other) new_form new_generation new_end new (g.view pair.other) now
   kept_on disks pair is_new_honest new_form new_generation new_end new deeds is same_form same was done st now kept leads =
-      let so : IsKeptOn form generation end bank disk honest_bank honest (InUse pair) st = subst (λ d. IsKeptOn form generation end bank disk honest_bank honest d st) is kept in
+      let so : IsKeptFor (InUse pair) st = subst (λ d. IsKeptFor d st) is kept in
       record {
         stored = λ h.
             let stored = so.stored (was h) in
-            stored_more (form pair.bank) (generation pair.bank) (end pair.bank) (bank pair.bank) st now deeds stored leads new_form new_generation new_end new same_form
-            (done (spell_state (form pair.bank) stored.opening) stored.records (was h) stored.settled);
+            stored_more pair.bank.form pair.bank.generation pair.bank.end (g.view pair.bank.disk) st now deeds stored leads new_form new_generation new_end new same_form
+            (done (spell_state pair.bank.form stored.opening) stored.records (was h) stored.settled);
         durable = so.durable;
-        lesser = λ h o. subst (λ g. IsLesser g (disk pair.other).seen) (sym same) (so.lesser (was h) o);
+        lesser = λ h o. subst (λ n. IsLesser n (g.view pair.other).seen) (sym same) (so.lesser (was h) o);
       }
 
 -- A list whose length is none is empty.

@@ -6,8 +6,9 @@ use Rattle.linda_journal.specs.declared.bank.Bank.{Bank}
 use Rattle.linda_server.specs.declared.disks.Disks.{Disks}
 use Rattle.linda_server.specs.declared.durable.Durable.{Durable}
 use Rattle.linda_server.specs.Pairs.{PairsNow}
-use Rattle.linda_server.specs.Disks.{both, AreHonest, is_there, is_ready, number_of, IsKeptOn}
+use Rattle.linda_server.specs.Disks.{is_there}
 use Rattle.linda_server.specs.Calls.{IsLimit, IsWithOrWithout}
+use Rattle.linda_server.specs.Server.{both_of, is_usable, limit_in_use, BothHonest, IsKeptFor}
 
 module _ (D : Type 0) (g : Ghosts D) (s : Durable D g) where
   -- What the type keeps, of these disks.
@@ -15,11 +16,11 @@ module _ (D : Type 0) (g : Ghosts D) (s : Durable D g) where
     pub there : is_there disks ≡ true
     pub bounded : IsLimit s.limit
     pub live : s.down ≡ false → s.store.is_spent ≡ false
-    pub ready : s.down ≡ false → is_ready (λ b. b.is_spent) disks ≡ true
-    pub limited : s.down ≡ false → number_of (λ b. b.limit) disks ≡ s.limit
+    pub ready : s.down ≡ false → is_usable disks ≡ true
+    pub limited : s.down ≡ false → limit_in_use disks ≡ s.limit
     pub none_lost : s.down ≡ false → s.lost.items ≡ []
-    pub kept : s.down ≡ false → ∥ IsKeptOn (λ b. b.form) (λ b. b.generation) (λ b. b.end) (λ b. g.view b.disk) g.view (λ b. g.honest b.disk) g.honest disks s.store.state ∥₁
-    pub fallen : s.down ≡ true → AreHonest (λ b. g.honest b.disk) g.honest disks → PairsNow (both (λ b. g.view b.disk) g.view disks) (IsWithOrWithout s.before.value s.lost.items)
+    pub kept : s.down ≡ false → ∥ IsKeptFor disks s.store.state ∥₁
+    pub fallen : s.down ≡ true → BothHonest disks → PairsNow (both_of disks) (IsWithOrWithout s.before.value s.lost.items)
 
   abbrev pub with_disks : (disks : Disks (Bank D g) D) → Keeps disks → Durable D g
   with_disks disks k = record {
@@ -61,19 +62,19 @@ module _ (D : Type 0) (g : Ghosts D) (s : Durable D g) where
       one_live : IsProp (s.down ≡ false → s.store.is_spent ≡ false)
       one_live = hlevel props
 
-      one_ready : IsProp (s.down ≡ false → is_ready (λ (b : Bank D g). b.is_spent) disks ≡ true)
+      one_ready : IsProp (s.down ≡ false → is_usable disks ≡ true)
       one_ready = hlevel props
 
-      one_limited : IsProp (s.down ≡ false → number_of (λ (b : Bank D g). b.limit) disks ≡ s.limit)
+      one_limited : IsProp (s.down ≡ false → limit_in_use disks ≡ s.limit)
       one_limited = hlevel props
 
       one_lost : IsProp (s.down ≡ false → s.lost.items ≡ [])
       one_lost = hlevel props
 
-      one_kept : IsProp (s.down ≡ false → ∥ IsKeptOn (λ (b : Bank D g). b.form) (λ b. b.generation) (λ b. b.end) (λ b. g.view b.disk) g.view (λ b. g.honest b.disk) g.honest disks s.store.state ∥₁)
+      one_kept : IsProp (s.down ≡ false → ∥ IsKeptFor disks s.store.state ∥₁)
       one_kept = hlevel props
 
-      one_fallen : IsProp (s.down ≡ true → AreHonest (λ (b : Bank D g). g.honest b.disk) g.honest disks → PairsNow (both (λ (b : Bank D g). g.view b.disk) g.view disks) (IsWithOrWithout s.before.value s.lost.items))
+      one_fallen : IsProp (s.down ≡ true → BothHonest disks → PairsNow (both_of disks) (IsWithOrWithout s.before.value s.lost.items))
       one_fallen = hlevel props
 
   abbrev kept_here : Keeps s.disks

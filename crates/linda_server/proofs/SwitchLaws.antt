@@ -14,13 +14,16 @@ use Rattle.linda_disk.proofs.RunLaws.{weaker}
 use Rattle.linda_journal.specs.Renewal.{IsSameOrNone}
 use Rattle.linda_snap.specs.Stands.{IsUp, IsStored, Stands, StandsBeside}
 use Rattle.linda_snap.proofs.StandsLaws.{stands_on, stands_now}
+use Rattle.linda_disk.specs.declared.disk.Disk.{Ghosts}
+use Rattle.linda_journal.specs.declared.bank.Bank.{Bank}
 use Rattle.linda_server.specs.declared.disks.Disks.{Disks}
 use Rattle.linda_server.specs.declared.disks.Disks.TheVariants.{InUse, Shut, Away}
 use Rattle.linda_server.specs.declared.disks.Pair.{Pair}
 use Rattle.linda_server.specs.Pairs.{PairsSince}
-use Rattle.linda_server.specs.Disks.{sides, both, AreHonest, IsUpOn, IsKept, IsKeptOn}
+use Rattle.linda_server.specs.Disks.{sides, IsKept}
 use Rattle.linda_server.specs.Calls.{StandsFor, IsWithOrWithout}
 use Rattle.linda_server.specs.Switch.{IsOtherDurable}
+use Rattle.linda_server.specs.Server.{both_of, BothHonest, IsUpFor, IsKeptFor}
 use Rattle.linda_server.proofs.CallLaws.{from_some, up_for}
 
 abbrev For : State → List ℕ → List ℕ → Type 0
@@ -56,38 +59,37 @@ turned : (is_right : Bool) (used other new : View) (st : State) → PairsSince (
 turned true used other new st since = since
 turned false used other new st since = since
 
-module _ {B D : Type 0} (form : B → Form) (generation end : B → ℕ) (bank : B → View) (disk : D → View) (honest_bank : B → Type 0) (honest : D → Type 0)
-    (timed_bank : (b : B) → honest_bank b → IsTimed (bank b)) (disks : Disks B D) (pair : Pair B D) (is : disks ≡ InUse pair) (st : State) where
+module _ {D : Type 0} {g : Ghosts D} (timed : (d : D) → g.honest d → IsTimed (g.view d)) (disks : Disks (Bank D g) D) (pair : Pair (Bank D g) D) (is : disks ≡ InUse pair) (st : State) where
   -- Of the other disk a run leaves what stands beside the bank in use.
   abbrev LeavesBeside : View → Type 0
-  LeavesBeside new = honest_bank pair.bank → honest pair.other → IsUp (form pair.bank) (generation pair.bank) (end pair.bank) (bank pair.bank) (disk pair.other) st
-      → LeavesOnly (disk pair.other) new (StandsBeside (bank pair.bank).seen st)
+  LeavesBeside new = g.honest pair.bank.disk → g.honest pair.other → IsUp pair.bank.form pair.bank.generation pair.bank.end (g.view pair.bank.disk) (g.view pair.other) st
+      → LeavesOnly (g.view pair.other) new (StandsBeside (g.view pair.bank.disk).seen st)
 
   -- It is written, and is not in use still;
-  pub changed : (new : View) → LeavesBeside new → AreHonest honest_bank honest disks → IsUpOn form generation end bank disk disks st
-      → PairsSince (both bank disk disks) (sides pair.is_right (bank pair.bank) new) (For st)
+  pub changed : (new : View) → LeavesBeside new → BothHonest disks → IsUpFor disks st
+      → PairsSince (both_of disks) (sides pair.is_right (g.view pair.bank.disk) new) (For st)
   changed new run are up =
-      let are_so : AreHonest honest_bank honest (InUse pair) = subst (AreHonest honest_bank honest) is are in
-      let up_so : IsUpOn form generation end bank disk (InUse pair) st = subst (λ d. IsUpOn form generation end bank disk d st) is up in
-      subst (λ d. PairsSince (both bank disk d) (sides pair.is_right (bank pair.bank) new) (For st)) (sym is)
-      (beside_used (form pair.bank) (generation pair.bank) (end pair.bank) (bank pair.bank) (disk pair.other) st up_so (timed_bank pair.bank are_so.0) pair.is_right new (run are_so.0 are_so.1 up_so))
+      let are_so : BothHonest (InUse pair) = subst (BothHonest) is are in
+      let up_so : IsUpFor (InUse pair) st = subst (λ d. IsUpFor d st) is up in
+      subst (λ d. PairsSince (both_of d) (sides pair.is_right (g.view pair.bank.disk) new) (For st)) (sym is)
+      (beside_used pair.bank.form pair.bank.generation pair.bank.end (g.view pair.bank.disk) (g.view pair.other) st up_so (timed pair.bank.disk are_so.0) pair.is_right new (run are_so.0 are_so.1 up_so))
 
   -- or it is taken into use.
-  pub taken : (new : View) → LeavesBeside new → AreHonest honest_bank honest disks → IsUpOn form generation end bank disk disks st
-      → PairsSince (both bank disk disks) (sides (not pair.is_right) new (bank pair.bank)) (For st)
+  pub taken : (new : View) → LeavesBeside new → BothHonest disks → IsUpFor disks st
+      → PairsSince (both_of disks) (sides (not pair.is_right) new (g.view pair.bank.disk)) (For st)
   taken new run are up =
-      subst (λ d. PairsSince (both bank disk d) (sides (not pair.is_right) new (bank pair.bank)) (For st)) (sym is)
-      (turned pair.is_right (bank pair.bank) (disk pair.other) new st
-      (subst (λ d. PairsSince (both bank disk d) (sides pair.is_right (bank pair.bank) new) (For st)) is (changed new run are up)))
+      subst (λ d. PairsSince (both_of d) (sides (not pair.is_right) new (g.view pair.bank.disk)) (For st)) (sym is)
+      (turned pair.is_right (g.view pair.bank.disk) (g.view pair.other) new st
+      (subst (λ d. PairsSince (both_of d) (sides pair.is_right (g.view pair.bank.disk) new) (For st)) is (changed new run are up)))
 
   -- What is known of a new bank on it, beside the disk of the old one.
   pub kept_taken : (is_new_honest : Type 0) (new_form : Form) (new_generation new_end : ℕ) (new : View)
-      → (is_new_honest → honest pair.other) → (is_new_honest → IsStored new_form new_generation new_end new st)
-      → (honest_bank pair.bank → honest pair.other → IsUp (form pair.bank) (generation pair.bank) (end pair.bank) (bank pair.bank) (disk pair.other) st → IsUp new_form new_generation new_end new (bank pair.bank) st)
-      → IsKeptOn form generation end bank disk honest_bank honest disks st
-      → IsKept is_new_honest (honest_bank pair.bank) new_form new_generation new_end new (bank pair.bank) st
+      → (is_new_honest → g.honest pair.other) → (is_new_honest → IsStored new_form new_generation new_end new st)
+      → (g.honest pair.bank.disk → g.honest pair.other → IsUp pair.bank.form pair.bank.generation pair.bank.end (g.view pair.bank.disk) (g.view pair.other) st → IsUp new_form new_generation new_end new (g.view pair.bank.disk) st)
+      → IsKeptFor disks st
+      → IsKept is_new_honest (g.honest pair.bank.disk) new_form new_generation new_end new (g.view pair.bank.disk) st
   kept_taken is_new_honest new_form new_generation new_end new was stored up_next kept =
-      let so : IsKeptOn form generation end bank disk honest_bank honest (InUse pair) st = subst (λ d. IsKeptOn form generation end bank disk honest_bank honest d st) is kept in
+      let so : IsKeptFor (InUse pair) st = subst (λ d. IsKeptFor d st) is kept in
       record {
         stored = stored;
         durable = λ used. (so.stored used).settled.durable;
@@ -104,30 +106,29 @@ emptied_beside form generation end used other new st up run = weaker other new (
 
 -- ---- where only that some bank is in use is known
 
-module _ {B D : Type 0} (form : B → Form) (generation end : B → ℕ) (bank : B → View) (disk : D → View) (honest_bank : B → Type 0) (honest : D → Type 0)
-    (timed_bank : (b : B) → honest_bank b → IsTimed (bank b)) (timed : (d : D) → honest d → IsTimed (disk d)) where
-  pub other_durable : (disks : Disks B D) (st : State) → ∥ IsKeptOn form generation end bank disk honest_bank honest disks st ∥₁ → IsOtherDurable disk honest disks
+module _ {D : Type 0} {g : Ghosts D} (timed : (d : D) → g.honest d → IsTimed (g.view d)) where
+  pub other_durable : (disks : Disks (Bank D g) D) (st : State) → ∥ IsKeptFor disks st ∥₁ → IsOtherDurable disks
   other_durable (InUse pair) st kept = λ h image left. ∥∥₁_elim kept (Coded-set (coded_list coded_ℕ) _ _) (λ k. k.durable h image left)
   other_durable (Shut left right) st kept = not_there kept (λ k. k)
   other_durable Away st kept = not_there kept (λ k. k)
 
   -- The state stands at each moment of a call that says so of a bank in use.
-  pub stands_since : (disks new : Disks B D) (st now : State) → now ≡ st → AreHonest honest_bank honest disks → ∥ IsKeptOn form generation end bank disk honest_bank honest disks st ∥₁
-      → (AreHonest honest_bank honest disks → IsUpOn form generation end bank disk disks now → PairsSince (both bank disk disks) (both bank disk new) (For now))
-      → PairsSince (both bank disk disks) (both bank disk new) (StandsFor st)
+  pub stands_since : (disks new : Disks (Bank D g) D) (st now : State) → now ≡ st → BothHonest disks → ∥ IsKeptFor disks st ∥₁
+      → (BothHonest disks → IsUpFor disks now → PairsSince (both_of disks) (both_of new) (For now))
+      → PairsSince (both_of disks) (both_of new) (StandsFor st)
   stands_since disks new st now same are kept goes =
-      subst (λ s. PairsSince (both bank disk disks) (both bank disk new) (StandsFor s)) same
-      (from_some (both bank disk disks) (both bank disk new) (For now) (For now)
-      (up_for form generation end bank disk honest_bank honest timed_bank timed disks now are (subst (λ s. ∥ IsKeptOn form generation end bank disk honest_bank honest disks s ∥₁) (sym same) kept))
+      subst (λ s. PairsSince (both_of disks) (both_of new) (StandsFor s)) same
+      (from_some (both_of disks) (both_of new) (For now) (For now)
+      (up_for timed disks now are (subst (λ s. ∥ IsKeptFor disks s ∥₁) (sym same) kept))
       (goes are) (λ left right x. x))
 
   -- What is known of the disks then.
-  pub kept_since : (disks new : Disks B D) (st now : State) → now ≡ st → ∥ IsKeptOn form generation end bank disk honest_bank honest disks st ∥₁
-      → (IsKeptOn form generation end bank disk honest_bank honest disks now → IsKeptOn form generation end bank disk honest_bank honest new now)
-      → ∥ IsKeptOn form generation end bank disk honest_bank honest new st ∥₁
+  pub kept_since : (disks new : Disks (Bank D g) D) (st now : State) → now ≡ st → ∥ IsKeptFor disks st ∥₁
+      → (IsKeptFor disks now → IsKeptFor new now)
+      → ∥ IsKeptFor new st ∥₁
   kept_since disks new st now same kept goes =
-      subst (λ s. ∥ IsKeptOn form generation end bank disk honest_bank honest new s ∥₁) same
-      (∥∥₁_map (subst (λ s. ∥ IsKeptOn form generation end bank disk honest_bank honest disks s ∥₁) (sym same) kept) goes)
+      subst (λ s. ∥ IsKeptFor new s ∥₁) same
+      (∥∥₁_map (subst (λ s. ∥ IsKeptFor disks s ∥₁) (sym same) kept) goes)
 
 -- What stands for a state, stands for it and no deed.
 pub with_none : (st : State) (deeds : List Deed) → deeds ≡ [] → IsState st → (left right : List ℕ) → StandsFor st left right → IsWithOrWithout st deeds left right

@@ -8,4 +8,5 @@ pub mod Node
 pub mod Reopening
 pub mod Switch
 pub mod Lives
+pub mod Handled
 pub mod Promises

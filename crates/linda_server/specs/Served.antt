@@ -10,6 +10,13 @@ use Rattle.linda_step.specs.Soft.{Soft}
 use Rattle.linda_step.specs.Answer.{Answer, IsStep}
 use Rattle.linda_server.specs.declared.served.Share.{Share}
 use Rattle.linda_server.specs.declared.served.Served.{Served}
+use Rattle.linda_server.specs.declared.serving.Batch.{Batch}
+use Rattle.linda_server.specs.declared.serving.Batch.TheVariants.{One, Many}
+
+-- the messages of a batch
+abbrev pub messages_of : Batch → List (ℕ × Message)
+messages_of (One client message) = (client, message.now) ∷ []
+messages_of (Many messages) = messages.now
 
 -- Messages, one after another: an answer to each, and where that leaves the state, the holds and
 -- the waits.

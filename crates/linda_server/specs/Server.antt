@@ -1,18 +1,42 @@
 -- The two disks of a server, and what its calls keep to, as clauses speak of them.
-use Rattle.std.specs.Prelude.{◌≡◌, ℕ, ◌+◌, List}
+use Rattle.std.specs.Prelude.{◌≡◌, ℕ, ◌+◌, Bool, List}
+use Rattle.linda_tuple.specs.declared.form.Form.{Form}
 use Rattle.linda_state.specs.State.{State}
 use Rattle.linda_disk.specs.declared.disk.Disk.{Ghosts}
 use Rattle.linda_journal.specs.declared.bank.Bank.{Bank}
 use Rattle.linda_journal.specs.Renewal.{TakesCalls}
 use Rattle.linda_server.specs.declared.disks.Disks.{Disks}
 use Rattle.linda_server.specs.Pairs.{Both, PairsSince, PairsNow}
-use Rattle.linda_server.specs.Disks.{both, AreHonest, failures, IsUpOn, IsKeptOn, AreRelated, AreSwapped}
+use Rattle.linda_server.specs.Disks.{both, form_of, number_of, is_ready, AreHonest, failures, IsUpOn, IsKeptOn}
+use Rattle.linda_server.specs.Disks.{AreRelated, AreSwapped}
 use Rattle.linda_server.specs.Calls.{StandsFor}
 
 module _ {D : Type 0} {g : Ghosts D} where
   -- Both disks.
   abbrev pub both_of : Disks (Bank D g) D → Both
   both_of disks = both (λ b. g.view b.disk) g.view disks
+
+  -- A bank is in use, and it is not spent.
+  abbrev pub is_usable : Disks (Bank D g) D → Bool
+  is_usable disks = is_ready (λ b. b.is_spent) disks
+
+  -- The form of the bank in use; where none is, that of new banks.
+  abbrev pub form_in_use : Disks (Bank D g) D → Form
+  form_in_use disks = form_of (λ b. b.form) disks
+
+  -- Its generation, the offset at which its journal ends, how many records that has, and the most bytes that the bank
+  -- may take; each 0 where none is in use.
+  abbrev pub generation_in_use : Disks (Bank D g) D → ℕ
+  generation_in_use disks = number_of (λ b. b.generation) disks
+
+  abbrev pub end_in_use : Disks (Bank D g) D → ℕ
+  end_in_use disks = number_of (λ b. b.end) disks
+
+  abbrev pub records_in_use : Disks (Bank D g) D → ℕ
+  records_in_use disks = number_of (λ b. b.records) disks
+
+  abbrev pub limit_in_use : Disks (Bank D g) D → ℕ
+  limit_in_use disks = number_of (λ b. b.limit) disks
 
   -- Both are honest.
   abbrev pub BothHonest : Disks (Bank D g) D → Type 0

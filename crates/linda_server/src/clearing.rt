@@ -8,8 +8,9 @@ ghost use Rattle.linda_disk.specs.Run.{LeavesOnly};
 ghost use Rattle.linda_journal.specs.Renewal.{IsNoBank, IsClosed, IsSameOrNone};
 ghost use Rattle.linda_snap.specs.Stands.{Stands};
 ghost use Rattle.linda_server.specs.Pairs.{PairsSince};
-ghost use Rattle.linda_server.specs.Server.{both_of, BothHonest, failures_of, IsUpFor, IsKeptFor};
-ghost use Rattle.linda_server.specs.Disks.{is_there, is_ready, number_of};
+ghost use Rattle.linda_server.specs.Server.{both_of, is_usable, limit_in_use, BothHonest, failures_of};
+ghost use Rattle.linda_server.specs.Server.{IsUpFor, IsKeptFor};
+ghost use Rattle.linda_server.specs.Disks.{is_there};
 ghost use Rattle.linda_server.specs.Switch.{IsOtherDurable, IsTrimmed};
 
 use crate::disks::{Disks, Pair};
@@ -24,8 +25,8 @@ use std::mem;
 ///
 /// `Device` where the device failed, and `Memory` where the disk found none: neither disk is to be used.
 pub(crate) fn clear<D: Disk>(disks: &mut Disks<Bank<D>, D>) -> Result<(), DiskFault>
-    requires ready { is_ready (λ b. b.is_spent) disks.old ≡ true }
-    requires durable { IsOtherDurable D.view D.honest disks.old }
+    requires ready { is_usable disks.old ≡ true }
+    requires durable { IsOtherDurable disks.old }
     // At no moment crashes leave anything but the state, which is the same.
     ensures any_moment { (st : state.State)
         → BothHonest disks.old
@@ -34,10 +35,10 @@ pub(crate) fn clear<D: Disk>(disks: &mut Disks<Bank<D>, D>) -> Result<(), DiskFa
     ensures kept { (st : state.State)
         → IsKeptFor disks.old st
         → OnOk result (IsKeptFor disks.new st) }
-    ensures trimmed { OnOk result (IsTrimmed D.view D.honest disks.old disks.new) }
+    ensures trimmed { OnOk result (IsTrimmed disks.old disks.new) }
     ensures there { is_there disks.new ≡ true }
-    ensures ready { is_ready (λ b. b.is_spent) disks.new ≡ true }
-    ensures limit { number_of (λ b. b.limit) disks.new ≡ number_of (λ b. b.limit) disks.old }
+    ensures ready { is_usable disks.new ≡ true }
+    ensures limit { limit_in_use disks.new ≡ limit_in_use disks.old }
     ensures honest { BothHonest disks.old ↔ BothHonest disks.new }
     ensures cause { IfErr result (λ fault. TellsFailures DiskFault.Device fault
         (failures_of disks.old) (failures_of disks.new)) }

@@ -7,8 +7,9 @@ ghost use Rattle.linda_disk.specs.Disk.{TellsFailures};
 ghost use Rattle.linda_step.specs.declared.size.TheConstants.{MAX_BATCH};
 ghost use Rattle.linda_server.specs.declared.limits.TheConstants.{RECORD_BYTES};
 ghost use Rattle.linda_server.specs.Pairs.{PairsSince};
-ghost use Rattle.linda_server.specs.Server.{both_of, BothHonest, failures_of, IsUpFor, IsKeptFor, IsPutOn};
-ghost use Rattle.linda_server.specs.Disks.{is_there, is_ready, form_of, number_of};
+ghost use Rattle.linda_server.specs.Server.{both_of, is_usable, form_in_use, end_in_use, limit_in_use};
+ghost use Rattle.linda_server.specs.Server.{BothHonest, failures_of, IsUpFor, IsKeptFor, IsPutOn};
+ghost use Rattle.linda_server.specs.Disks.{is_there};
 ghost use Rattle.linda_server.specs.Calls.{LeadTo, IsOldOrNew};
 
 use crate::disks::{Disks, Pair};
@@ -30,12 +31,12 @@ pub(crate) fn commit<D: Disk>(
     deeds: &[Deed],
 ) -> Result<(), ServeFault>
     requires few { length deeds.now ≤ MAX_BATCH }
-    requires ready { is_ready (λ b. b.is_spent) disks.old ≡ true }
-    requires suit { All (SuitsForm (form_of (λ b. b.form) disks.old)) deeds.now }
+    requires ready { is_usable disks.old ≡ true }
+    requires suit { All (SuitsForm (form_in_use disks.old)) deeds.now }
     requires room { 0 < length deeds.now
-        → number_of (λ b. b.end) disks.old + RECORD_BYTES
-        + length (payload (form_of (λ b. b.form) disks.old) deeds.now)
-        ≤ number_of (λ b. b.limit) disks.old }
+        → end_in_use disks.old + RECORD_BYTES
+        + length (payload (form_in_use disks.old) deeds.now)
+        ≤ limit_in_use disks.old }
     // At no moment crashes leave anything but the old state, or the one after all of these deeds;
     ensures any_moment { (st new : state.State)
         → BothHonest disks.old
@@ -48,8 +49,8 @@ pub(crate) fn commit<D: Disk>(
         → LeadTo st deeds.now new
         → OnOk result (IsKeptFor disks.new new) }
     ensures there { is_there disks.old ≡ true → is_there disks.new ≡ true }
-    ensures ready { OnOk result (is_ready (λ b. b.is_spent) disks.new ≡ true) }
-    ensures limit { number_of (λ b. b.limit) disks.new ≡ number_of (λ b. b.limit) disks.old }
+    ensures ready { OnOk result (is_usable disks.new ≡ true) }
+    ensures limit { limit_in_use disks.new ≡ limit_in_use disks.old }
     // Where there are none, no device call is made.
     ensures idle { deeds.now ≡ [] → disks.new ≡ disks.old }
     // Else four calls change or sync the disk of the bank in use, and the other disk is not touched.

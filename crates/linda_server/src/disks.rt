@@ -47,11 +47,12 @@ pub(crate) struct Pair<B, D> {
 
 impl<D: Disk> Disks<Bank<D>, D> {
     ghost use Rattle.std.specs.Prelude.{◌≡◌, true, Some};
-    ghost use Rattle.linda_server.specs.Disks.{disks_of, is_there, form_of, number_of};
+    ghost use Rattle.linda_server.specs.Disks.{disks_of, is_there};
+    ghost use Rattle.linda_server.specs.Server.{form_in_use, end_in_use, records_in_use};
 
     /// The form of the bank in use; where none is in use, that of new banks.
     pub(crate) fn form(&self) -> Form
-        ensures { result ≡ form_of (λ b. b.form) self.now }
+        ensures { result ≡ form_in_use self.now }
     {
         match self {
             Disks::InUse(pair) => pair.bank.form(),
@@ -62,7 +63,7 @@ impl<D: Disk> Disks<Bank<D>, D> {
     /// The offset of the closed gate at which the journal of the bank in use ends; 0 where none is
     /// in use.
     pub(crate) fn end(&self) -> usize
-        ensures { result ≡ number_of (λ b. b.end) self.now }
+        ensures { result ≡ end_in_use self.now }
     {
         match self {
             Disks::InUse(pair) => pair.bank.end(),
@@ -72,7 +73,7 @@ impl<D: Disk> Disks<Bank<D>, D> {
 
     /// How many records the journal of the bank in use has; 0 where none is in use.
     pub(crate) fn records(&self) -> usize
-        ensures { result ≡ number_of (λ b. b.records) self.now }
+        ensures { result ≡ records_in_use self.now }
     {
         match self {
             Disks::InUse(pair) => pair.bank.records(),
@@ -108,7 +109,8 @@ impl<D: Disk> Disks<Bank<D>, D> {
 impl Disks<Bank<MemDisk>, MemDisk> {
     ghost use Rattle.std.specs.Prelude.{◌≡◌};
     ghost use Rattle.linda_disk.specs.MemDisk.{history};
-    ghost use Rattle.linda_server.specs.Disks.{is_there, is_ready, number_of, AreRelated};
+    ghost use Rattle.linda_server.specs.Disks.{is_there, AreRelated};
+    ghost use Rattle.linda_server.specs.Server.{is_usable, limit_in_use};
 
     /// Lets so many device calls more pass on each disk. Inside the next one the machine stops.
     pub(crate) fn fuse(&mut self, passes: u64)
@@ -116,8 +118,8 @@ impl Disks<Bank<MemDisk>, MemDisk> {
             × ((c.end ≡ b.end) × (history c.disk ≡ history b.disk))))
             (λ d e. history e ≡ history d) self.old self.new }
         ensures there { is_there self.new ≡ is_there self.old }
-        ensures ready { is_ready (λ b. b.is_spent) self.new ≡ is_ready (λ b. b.is_spent) self.old }
-        ensures limit { number_of (λ b. b.limit) self.new ≡ number_of (λ b. b.limit) self.old }
+        ensures ready { is_usable self.new ≡ is_usable self.old }
+        ensures limit { limit_in_use self.new ≡ limit_in_use self.old }
     {
         match self {
             Disks::InUse(pair) => {

@@ -9,12 +9,12 @@ mod snapshot;
 mod stop;
 mod trim;
 
-ghost use Rattle.std.specs.Prelude.{◌≡◌, ◌≤◌, ◌||◌, [], nat_le, true, false, Some};
+ghost use Rattle.std.specs.Prelude.{◌≡◌, ◌||◌, [], nat_le, true, false, Some};
 ghost use Rattle.linda_server.specs.declared.limits.TheConstants.{SNAPSHOT_RECORDS};
 ghost use Rattle.linda_server.specs.Pairs.{PairsNow};
-ghost use Rattle.linda_server.specs.Disks.{disks_of};
-ghost use Rattle.linda_server.specs.Server.{both_of, BothHonest, IsKeptFor, StandNow};
-ghost use Rattle.linda_server.specs.Disks.{is_there, is_ready, form_of, is_old, number_of};
+ghost use Rattle.linda_server.specs.Disks.{disks_of, is_there, is_old};
+ghost use Rattle.linda_server.specs.Server.{both_of, is_usable, form_in_use, end_in_use, records_in_use};
+ghost use Rattle.linda_server.specs.Server.{limit_in_use, BothHonest, IsKeptFor, StandNow};
 ghost use Rattle.linda_server.specs.Calls.{IsLimit, IsWithOrWithout};
 
 use crate::disks::{Disks, is_old};
@@ -46,8 +46,8 @@ pub struct Durable<D: Disk> {
     ghost there: { is_there disks ≡ true },
     ghost bounded: { IsLimit limit },
     ghost live: { down ≡ false → store.is_spent ≡ false },
-    ghost ready: { down ≡ false → is_ready (λ b. b.is_spent) disks ≡ true },
-    ghost limited: { down ≡ false → number_of (λ b. b.limit) disks ≡ limit },
+    ghost ready: { down ≡ false → is_usable disks ≡ true },
+    ghost limited: { down ≡ false → limit_in_use disks ≡ limit },
     ghost none_lost: { down ≡ false → lost.items ≡ [] },
     ghost kept: { down ≡ false → ∥ IsKeptFor disks store.state ∥₁ },
     ghost fallen: { down ≡ true → BothHonest disks
@@ -95,29 +95,29 @@ impl<D: Disk> Durable<D> {
     /// Whether a snapshot is due: the bank in use has so many records, or is not in the form of new banks, which every
     /// snapshot has.
     pub fn needs_snapshot(&self) -> bool
-        ensures { result ≡ (is_old (form_of (λ b. b.form) self.now.disks)
-            || nat_le SNAPSHOT_RECORDS (number_of (λ b. b.records) self.now.disks)) }
+        ensures { result ≡ (is_old (form_in_use self.now.disks)
+            || nat_le SNAPSHOT_RECORDS (records_in_use self.now.disks)) }
     {
         self.is_of_old_form() || self.disks.records() >= SNAPSHOT_RECORDS
     }
 
     /// Whether the bank in use is not in the form of new banks. A snapshot mends that.
     pub fn is_of_old_form(&self) -> bool
-        ensures { result ≡ is_old (form_of (λ b. b.form) self.now.disks) }
+        ensures { result ≡ is_old (form_in_use self.now.disks) }
     {
         is_old(self.disks.form())
     }
 
     /// How many records the bank in use has: those since the last snapshot.
     pub fn records(&self) -> usize
-        ensures { result ≡ number_of (λ b. b.records) self.now.disks }
+        ensures { result ≡ records_in_use self.now.disks }
     {
         self.disks.records()
     }
 
     /// How many bytes of the bank in use are taken.
     pub fn used(&self) -> usize
-        ensures { result ≡ number_of (λ b. b.end) self.now.disks }
+        ensures { result ≡ end_in_use self.now.disks }
     {
         self.disks.end()
     }

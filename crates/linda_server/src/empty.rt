@@ -1,6 +1,6 @@
 //! Two disks that are to hold a new server.
 
-ghost use Rattle.std.specs.Prelude.{◌≡◌, ◌<◌, ◌≤◌, ◌+◌, ◌^◌, ◌⊎◌, ◌↔◌, []};
+ghost use Rattle.std.specs.Prelude.{◌≡◌, ◌<◌, ◌⊎◌, ◌↔◌, []};
 ghost use Rattle.std.specs.Prelude.{true, false, length, IfOk, IfErr, OnOk, IsErrOf};
 ghost use Rattle.linda_state.specs.State.{empty_state};
 ghost use Rattle.linda_state.specs.DeedFormat.{written};

@@ -5,8 +5,9 @@ ghost use Rattle.linda_state.specs.State.{IsState};
 ghost use Rattle.linda_disk.specs.Disk.{TellsFailures};
 ghost use Rattle.linda_snap.specs.Stands.{Stands};
 ghost use Rattle.linda_server.specs.Pairs.{PairsSince};
-ghost use Rattle.linda_server.specs.Server.{both_of, BothHonest, failures_of, IsUpFor, IsKeptFor, IsRenewedBy};
-ghost use Rattle.linda_server.specs.Disks.{is_there, is_ready, number_of};
+ghost use Rattle.linda_server.specs.Server.{both_of, is_usable, generation_in_use, limit_in_use, BothHonest};
+ghost use Rattle.linda_server.specs.Server.{failures_of, IsUpFor, IsKeptFor, IsRenewedBy};
+ghost use Rattle.linda_server.specs.Disks.{is_there};
 ghost use Rattle.linda_server.specs.Switch.{HasNoNext, IsOtherDurable, IsSwitched, snapshot_calls};
 
 use crate::disks::{Disks, Pair};
@@ -32,9 +33,9 @@ pub(crate) fn renew<B: Bag, D: Disk>(
     state: &State<B>,
 ) -> Result<(), ServeFault>
     requires ranges { IsState state.now }
-    requires ready { is_ready (λ b. b.is_spent) disks.old ≡ true }
-    requires short { number_of (λ b. b.limit) disks.old < 2 ^ 32 }
-    requires durable { IsOtherDurable D.view D.honest disks.old }
+    requires ready { is_usable disks.old ≡ true }
+    requires short { limit_in_use disks.old < 2 ^ 32 }
+    requires durable { IsOtherDurable disks.old }
     // At no moment crashes leave anything but the state;
     ensures any_moment { BothHonest disks.old
         → IsUpFor disks.old state.now
@@ -42,21 +43,20 @@ pub(crate) fn renew<B: Bag, D: Disk>(
     // at Ok the new bank is in use, and stands for it.
     ensures kept { IsKeptFor disks.old state.now
         → OnOk result (IsKeptFor disks.new state.now) }
-    ensures switched { OnOk result (IsSwitched (λ b. b.form) (λ b. b.generation) (λ b. b.records) (λ b. b.disk)
-        disks.old disks.new) }
+    ensures switched { OnOk result (IsSwitched disks.old disks.new) }
     // It is a write for each piece of the new bank, a sync, a write and a sync; and first a write and a sync, where the
     // disk's first gate is to be closed.
     ensures clock { OnOk result (IsRenewedBy (snapshot_calls state.now) disks.old disks.new) }
     ensures there { is_there disks.new ≡ true }
-    ensures ready { OnOk result (is_ready (λ b. b.is_spent) disks.new ≡ true) }
-    ensures limit { OnOk result (number_of (λ b. b.limit) disks.new
-        ≡ number_of (λ b. b.limit) disks.old) }
+    ensures ready { OnOk result (is_usable disks.new ≡ true) }
+    ensures limit { OnOk result (limit_in_use disks.new
+        ≡ limit_in_use disks.old) }
     // It is Full exactly where there is no next bank for the state; nothing changed then.
     ensures full { IsErrOf result ServeFault.Full → (disks.new ≡ disks.old)
-        × HasNoNext state.now (number_of (λ b. b.limit) disks.old)
-        (number_of (λ b. b.generation) disks.old) }
-    ensures room { OnOk result (HasNoNext state.now (number_of (λ b. b.limit) disks.old)
-        (number_of (λ b. b.generation) disks.old) → ⊥) }
+        × HasNoNext state.now (limit_in_use disks.old)
+        (generation_in_use disks.old) }
+    ensures room { OnOk result (HasNoNext state.now (limit_in_use disks.old)
+        (generation_in_use disks.old) → ⊥) }
     ensures honest { BothHonest disks.old ↔ BothHonest disks.new }
     ensures cause { IfErr result (λ fault. TellsFailures ServeFault.Disk fault
         (failures_of disks.old) (failures_of disks.new)) }

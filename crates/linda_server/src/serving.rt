@@ -1,9 +1,9 @@
 //! How messages are served by a store, before anything is written.
 
-ghost use Rattle.std.specs.Prelude.{◌≡◌, ◌++◌, ◌∷◌, [], ◌≤◌};
-ghost use Rattle.std.specs.Prelude.{length, OnOk, OnErr, IfOk, false, true, option_to_list};
+ghost use Rattle.std.specs.Prelude.{◌≡◌, ◌++◌, ◌∷◌, []};
+ghost use Rattle.std.specs.Prelude.{length, OnOk, IfOk, false, option_to_list};
 ghost use Rattle.std.specs.Option.{is_some};
-ghost use Rattle.linda_server.specs.Served.{IsServed, IsServedToo};
+ghost use Rattle.linda_server.specs.Served.{messages_of, IsServed, IsServedToo};
 
 use crate::served::{Served, Share};
 use linda_bag::IndexBag;
@@ -12,12 +12,38 @@ use linda_step::{Step, Store};
 use linda_wire::{Message, Reply};
 use std::alloc::{AllocError, Global};
 
-/// Serves one message.
+/// One message or several, each of its client, which are served one after another.
+#[derive(Clone, Copy)]
+pub(crate) enum Batch<'a> {
+    /// One, of this client.
+    One(u32, &'a Message),
+    /// So many.
+    Many(&'a [(u32, Message)]),
+}
+
+/// Serves messages.
 ///
 /// # Errors
 ///
 /// `AllocError` where memory runs out.
-pub(crate) fn serve_one(
+pub(crate) fn serve(
+    store: &mut Store<IndexBag>,
+    alloc: Global,
+    batch: Batch<'_>,
+) -> Result<Served, AllocError>
+    requires { store.old.is_spent ≡ false }
+    ensures ok { IfOk result (λ served. IsServed store.old.state store.old.soft (messages_of batch.entry)
+        served store.new.state store.new.soft) }
+    ensures unspent { OnOk result (store.new.is_spent ≡ false) }
+{
+    match batch {
+        Batch::One(client, message) => serve_one(store, alloc, client, message),
+        Batch::Many(messages) => serve_each(store, alloc, messages),
+    }
+}
+
+// Serves one message.
+fn serve_one(
     store: &mut Store<IndexBag>,
     alloc: Global,
     client: u32,
@@ -33,12 +59,8 @@ pub(crate) fn serve_one(
     Ok(served)
 }
 
-/// Serves messages, one after another.
-///
-/// # Errors
-///
-/// `AllocError` where memory runs out.
-pub(crate) fn serve_each(
+// Serves messages, one after another.
+fn serve_each(
     store: &mut Store<IndexBag>,
     alloc: Global,
     messages: &[(u32, Message)],

@@ -1,6 +1,5 @@
 -- Which of two banks is chosen, and that bytes are one choice.
 use Rattle.std.proofs.Common.{◌≡◌, ◌≢◌, ℕ, ◌<◌, ◌≤◌, ◌⊎◌, inl, inr, Bool, true, false, ltb, cond, List, ◌++◌, Result, Ok, Err, length, take, drop, refl, sym, ap, subst, ◌∙◌, eq-eqb, ne_eqb, arith}
-use Rattle.std.specs.Prelude.{IfOk, IfErr}
 use Rattle.std.proofs.lemmas.Bool.{cases_lt, lt-ltb, le-ltb}
 use Rattle.std.proofs.lemmas.List.{take-append-drop, length-take}
 use Rattle.linda_tuple.specs.declared.form.Form.{Form}
@@ -216,19 +215,11 @@ never_told left right f st stands disk memory (inr is) =
     by banks.Spent told file on = file
     by banks.Full told file on = file
 
-only_told : (left right : List ℕ) (f : ChoiceFault) (st : State) → Stands left right st → (f ≢ Disk → f ≢ Memory → IsFaultOfBoth left right f) → (f ≡ Disk) ⊎ (f ≡ Memory)
+pub only_told : (left right : List ℕ) (f : ChoiceFault) (st : State) → Stands left right st → (f ≢ Disk → f ≢ Memory → IsFaultOfBoth left right f) → (f ≡ Disk) ⊎ (f ≡ Memory)
 only_told left right Disk st stands fault = inl refl
 only_told left right Memory st stands fault = inr refl
 only_told left right NoStore st stands fault = absurd (never_told left right NoStore st stands (λ e. absurd cc) (λ e. absurd cc) (fault (λ e. absurd cc) (λ e. absurd cc)))
 only_told left right (Damaged side offset) st stands fault = absurd (never_told left right (Damaged side offset) st stands (λ e. absurd cc) (λ e. absurd cc) (fault (λ e. absurd cc) (λ e. absurd cc)))
-
--- ---- no other state
-
-module _ {X E : Type 0} (left right : List ℕ) (state_of : X → State) (fault_of : E → ChoiceFault) where
-  pub only_chosen : (result : Result X E) → IfOk result (λ x. Stands left right (state_of x)) → IfErr result (λ e. fault_of e ≢ Disk → fault_of e ≢ Memory → IsFaultOfBoth left right (fault_of e)) → (st : State) → Stands left right st
-      → IfOk result (λ x. state_of x ≡ st) × IfErr result (λ e. (fault_of e ≡ Disk) ⊎ (fault_of e ≡ Memory))
-  only_chosen (Ok x) found fault st stands = (one_stands left right (state_of x) st found stands, tt)
-  only_chosen (Err e) found fault st stands = (tt, only_told left right (fault_of e) st stands fault)
 
 -- ---- what was chosen
 

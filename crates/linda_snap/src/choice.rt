@@ -128,51 +128,6 @@ pub fn choose_bank<B: Bag, D: Disk>(
         × ((D.view c.other).moment
         ≡ chosen c.is_right (D.view right).moment (D.view left).moment + 1)) }
 {
-    choose_among(alloc, left, right, limit)
-}
-
-// Chooses. The clause on other states follows from these.
-fn choose_among<B: Bag, D: Disk>(
-    alloc: Global,
-    left: D,
-    right: D,
-    limit: usize,
-) -> Result<Chosen<B, D>, (ChoiceFault, D, D)>
-    ensures found { D.honest left → D.honest right
-        → IfOk result (λ c. Stands (D.view left).seen (D.view right).seen c.state) }
-    ensures up { D.honest left → D.honest right
-        → IfOk result (λ c. IsUp c.bank.form c.bank.generation c.bank.end (D.view c.bank.disk)
-        (D.view c.other) c.state) }
-    ensures sides { D.honest left → D.honest right → IfOk result (λ c.
-        ((D.view c.bank.disk).seen ≡ chosen c.is_right (D.view left).seen (D.view right).seen)
-        × ((D.view c.other).seen ≡ chosen c.is_right (D.view right).seen (D.view left).seen)) }
-    ensures fault { D.honest left → D.honest right
-        → IfErr result (λ e. e.0 ≢ ChoiceFault.Disk → e.0 ≢ ChoiceFault.Memory
-        → IsFaultOfBoth (D.view left).seen (D.view right).seen e.0) }
-    ensures any_moment { D.honest left → D.honest right
-        → IfOk result (λ c. ChosenLeaves c.is_right (D.view left) (D.view right)
-        (D.view c.bank.disk) (D.view c.other))
-        × IfErr result (λ e. LeavesOnly (D.view left) (D.view e.1) (D.view left).may_leave
-        × LeavesOnly (D.view right) (D.view e.2) (D.view right).may_leave) }
-    ensures new { IfOk result (λ c. (c.bank.limit ≡ limit) × (c.bank.is_spent ≡ false)) }
-    ensures ranges { IfOk result (λ c. IsState c.state) }
-    ensures stored { IfOk result (λ c. D.honest c.bank.disk
-        → IsStored c.bank.form c.bank.generation c.bank.end (D.view c.bank.disk) c.state) }
-    ensures durable { IfOk result (λ c. D.honest c.other → IsDurable (D.view c.other)) }
-    ensures honest { IfOk result (λ c. (D.honest left × D.honest right)
-        ↔ (D.honest c.bank.disk × D.honest c.other))
-        × IfErr result (λ e. (D.honest left × D.honest right) ↔ (D.honest e.1 × D.honest e.2)) }
-    ensures cause { IfErr result (λ e. TellsFailuresOfTwo ChoiceFault.Disk e.0
-        (D.failures left) (D.failures right) (D.failures e.1) (D.failures e.2)) }
-    ensures steady { IfOk result (λ c.
-        (D.failures c.bank.disk ≡ chosen c.is_right (D.failures left) (D.failures right))
-        × (D.failures c.other ≡ chosen c.is_right (D.failures right) (D.failures left))) }
-    ensures clock { D.honest left → D.honest right → IfOk result (λ c.
-        ((D.view c.bank.disk).moment
-        ≡ chosen c.is_right (D.view left).moment (D.view right).moment + 1)
-        × ((D.view c.other).moment
-        ≡ chosen c.is_right (D.view right).moment (D.view left).moment + 1)) }
-{
     let mut left = left;
     let mut right = right;
     match look_at_both(&mut left, &mut right) {

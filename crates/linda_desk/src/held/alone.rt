@@ -5,7 +5,6 @@ ghost use Rattle.std.specs.Prelude.{◌≡◌, ◌+◌, ◌<◌, ◌^◌, ◌++�
 ghost use Rattle.std.specs.Prelude.{IfOk, OnOk, OnErr};
 ghost use Rattle.linda_wire.specs.Refusal.{refused};
 ghost use Rattle.linda_state.specs.State as states;
-ghost use Rattle.linda_step.specs.declared.size.TheConstants.{MAX_BATCH};
 ghost use Rattle.linda_step.specs.Answer.{last_number};
 ghost use Rattle.linda_promise.specs.Steps as steps;
 ghost use Rattle.linda_promise.specs.Steps.{number_of_message};

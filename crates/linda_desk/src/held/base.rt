@@ -3,11 +3,10 @@
 ghost use Rattle.std.specs.Prelude.{◌≡◌, ◌+◌, ◌||◌, nat_le, [], false, true, OnOk, OnErr};
 ghost use Rattle.linda_step.specs.Store.{IsOrderly};
 ghost use Rattle.linda_server.specs.declared.limits.TheConstants.{SNAPSHOT_RECORDS};
-ghost use Rattle.linda_server.specs.Disks.{form_of, is_old, number_of};
+ghost use Rattle.linda_server.specs.Disks.{is_old};
 ghost use Rattle.linda_server.specs.Pairs.{PairsNow};
-ghost use Rattle.linda_server.specs.Server.{both_of, BothHonest, StandNow};
+ghost use Rattle.linda_server.specs.Server.{both_of, form_in_use, end_in_use, records_in_use, BothHonest, StandNow};
 ghost use Rattle.linda_desk.specs.Order.{known, IsReplayed, CountsDeeds, StandsBehind};
-ghost use Rattle.linda_state.specs.State.{State};
 ghost use Rattle.linda_outbox.specs.Waiting.{waits_for};
 ghost use Rattle.linda_desk.specs.Pace.{is_due};
 ghost use Rattle.linda_state.specs.Numbers.{kept_sum};
@@ -52,8 +51,8 @@ impl<D: Disk, L: Ledger> Held<D, L> {
     /// Whether a snapshot is due: there are so many records since the last one, or the bank in use is not in the form of
     /// new banks.
     pub fn needs_snapshot(&self) -> bool
-        ensures { result ≡ (is_old (form_of (λ b. b.form) self.now.server.disks)
-            || nat_le SNAPSHOT_RECORDS (number_of (λ b. b.records) self.now.server.disks)) }
+        ensures { result ≡ (is_old (form_in_use self.now.server.disks)
+            || nat_le SNAPSHOT_RECORDS (records_in_use self.now.server.disks)) }
     {
         self.server.needs_snapshot()
     }
@@ -63,8 +62,8 @@ impl<D: Disk, L: Ledger> Held<D, L> {
     /// After one that was refused, once there are as many records more as make one due. A server that was opened counts
     /// from an empty bank on.
     pub fn pays(&self) -> bool
-        ensures is { result ≡ is_due (is_old (form_of (λ b. b.form) self.now.server.disks)) self.now.pace.base self.now.pace.not_before
-            (number_of (λ b. b.records) self.now.server.disks) (number_of (λ b. b.end) self.now.server.disks)
+        ensures is { result ≡ is_due (is_old (form_in_use self.now.server.disks)) self.now.pace.base
+            self.now.pace.not_before (records_in_use self.now.server.disks) (end_in_use self.now.server.disks)
             self.now.server.limit }
     {
         let server = &self.server;

@@ -1,6 +1,6 @@
 //! A client leaves: what it asked is given up, and its seat is parked.
 
-ghost use Rattle.std.specs.Prelude.{◌≡◌, ◌≢◌, ℕ, ◌+◌, false, true, None, IfOk, OnOk, OnErr};
+ghost use Rattle.std.specs.Prelude.{◌≡◌, ℕ, false, true, None, IfOk, OnOk, OnErr};
 ghost use Rattle.linda_step.specs.Dispatch.{on_close};
 ghost use Rattle.linda_outbox.specs.Waiting.{waits_for};
 ghost use Rattle.linda_receipt.specs.Till.{till_of, with_place, place_for, ComesBack};

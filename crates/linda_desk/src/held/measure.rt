@@ -2,7 +2,7 @@
 
 ghost use Rattle.std.specs.Prelude.{◌≡◌};
 ghost use Rattle.std.specs.FinMap as map;
-ghost use Rattle.linda_server.specs.Disks.{number_of};
+ghost use Rattle.linda_server.specs.Server.{end_in_use, records_in_use};
 
 use super::Held;
 use crate::gauge::Gauge;
@@ -17,8 +17,8 @@ impl<D: Disk, L: Ledger> Held<D, L> {
             × (result.clients ≡ map.len self.now.server.store.state.book)
             × (result.next ≡ self.now.server.store.state.next) }
         ensures deeds { result.deeds ≡ self.now.count }
-        ensures bank { (result.records ≡ number_of (λ b. b.records) self.now.server.disks)
-            × (result.used ≡ number_of (λ b. b.end) self.now.server.disks)
+        ensures bank { (result.records ≡ records_in_use self.now.server.disks)
+            × (result.used ≡ end_in_use self.now.server.disks)
             × (result.limit ≡ self.now.server.limit) }
         ensures down { result.is_down ≡ self.now.server.down }
     {

@@ -5,8 +5,7 @@ ghost use Rattle.std.specs.Prelude.{vec_len, vec_capacity, IfOk, OnOk, OnErr, Is
 ghost use Rattle.linda_state.specs.State as states;
 ghost use Rattle.linda_step.specs.declared.size.TheConstants.{MAX_BATCH};
 ghost use Rattle.linda_server.specs.Served.{IsServed};
-ghost use Rattle.linda_server.specs.Calls.{HasNoRoom};
-ghost use Rattle.linda_server.specs.Disks.{form_of, number_of};
+ghost use Rattle.linda_server.specs.Handled.{HasNoRoomFor};
 ghost use Rattle.linda_desk.specs.Order.{known, IsInOrder};
 ghost use Rattle.linda_receipt.specs.Telling.{receipts_in};
 ghost use Rattle.linda_desk.specs.Posted.{HasPosted};
@@ -43,10 +42,8 @@ pub(super) fn serve<D: Disk>(
     ensures err { OnErr result ((receipts.new.items ≡ receipts.old.items)
         × ((c : ℕ) → waits_for boxes.new c ≡ waits_for boxes.old c)) }
     ensures full { IsErrOf result SharedFault.Full → (server.new ≡ server.old) × (boxes.new ≡ boxes.old)
-        × HasNoRoom server.old.store messages.now (form_of (λ b. b.form) server.old.disks)
-        (number_of (λ b. b.end) server.old.disks) server.old.limit }
-    ensures room { OnOk result (HasNoRoom server.old.store messages.now (form_of (λ b. b.form) server.old.disks)
-        (number_of (λ b. b.end) server.old.disks) server.old.limit → ⊥) }
+        × HasNoRoomFor server.old messages.now }
+    ensures room { OnOk result (HasNoRoomFor server.old messages.now → ⊥) }
     ensures ok_order { (opening base : states.State) (count : ℕ)
         → IsInOrder opening base receipts.old.items count server.old.down
         (known server.old.before.value server.old.store server.old.down)
@@ -115,10 +112,8 @@ fn take_all<D: Disk>(
         messages.now served server.new.store.state server.new.store.soft) }
     ensures up { OnOk result ((server.old.down ≡ false) × (server.new.down ≡ false)) }
     ensures full { IsErrOf result SharedFault.Full → (server.new ≡ server.old)
-        × HasNoRoom server.old.store messages.now (form_of (λ b. b.form) server.old.disks)
-        (number_of (λ b. b.end) server.old.disks) server.old.limit }
-    ensures room { OnOk result (HasNoRoom server.old.store messages.now (form_of (λ b. b.form) server.old.disks)
-        (number_of (λ b. b.end) server.old.disks) server.old.limit → ⊥) }
+        × HasNoRoomFor server.old messages.now }
+    ensures room { OnOk result (HasNoRoomFor server.old messages.now → ⊥) }
     ensures down { IsErrOf result SharedFault.Down → server.new.down ≡ true }
     ensures known { OnErr result
         ((known server.new.before.value server.new.store server.new.down

@@ -1,14 +1,12 @@
 //! Messages of several clients: in one step where that may be, else one by one.
 
-ghost use Rattle.std.specs.Prelude.{◌≡◌, false, ◌+◌, ◌≤◌, ◌<◌, ◌^◌, ◌++◌, ℕ, length, vec_len, IfOk, OnOk, OnErr};
+ghost use Rattle.std.specs.Prelude.{◌≡◌, false, ◌+◌, ◌≤◌, ◌<◌, ◌^◌, ◌++◌, ℕ, length, vec_len, IfOk, OnErr};
 ghost use Rattle.linda_state.specs.State as states;
 ghost use Rattle.linda_step.specs.declared.size.TheConstants.{MAX_BATCH};
 ghost use Rattle.linda_outbox.specs.Waiting.{waits_for};
-ghost use Rattle.linda_server.specs.Calls.{HasNoRoom};
-ghost use Rattle.linda_server.specs.Disks.{number_of};
 ghost use Rattle.linda_desk.specs.Order.{known, IsInOrder};
 ghost use Rattle.linda_receipt.specs.Telling.{receipts_in};
-ghost use Rattle.linda_desk.specs.Posted.{HasPosted, WereTaken, WentSome};
+ghost use Rattle.linda_desk.specs.Posted.{WereTaken, WentSome};
 ghost use Rattle.linda_desk.specs.Covered.{BoxesCovered};
 
 use super::alone::serve_each;

@@ -1,9 +1,8 @@
 //! What a node answers: messages of clients, and the leaving of one.
 
-ghost use Rattle.std.specs.Prelude.{◌≡◌, ◌∷◌, [], ◌≤◌, ◌↔◌, true, false, length};
-ghost use Rattle.std.specs.Prelude.{IfOk, OnOk, OnErr, IsErrOf};
-ghost use Rattle.linda_server.specs.Disks.{form_of, number_of};
-ghost use Rattle.linda_server.specs.Server.{BothHonest, AlwaysLeave, StandNow};
+ghost use Rattle.std.specs.Prelude.{◌≡◌, ◌∷◌, [], ◌≤◌, true, false, length};
+ghost use Rattle.std.specs.Prelude.{IfOk, OnOk, IsErrOf};
+ghost use Rattle.linda_server.specs.Server.{AlwaysLeave};
 
 use super::Durable;
 use crate::fault::node_fault;
@@ -15,10 +14,11 @@ use std::alloc::Global;
 impl<D: Disk> Durable<D> {
     ghost use Rattle.linda_step.specs.Dispatch.{on_close};
     ghost use Rattle.linda_step.specs.declared.size.TheConstants.{MAX_BATCH};
-    ghost use Rattle.linda_step.specs.History.{says, hangs_up, comings};
+    ghost use Rattle.linda_step.specs.History.{hangs_up};
     ghost use Rattle.linda_store.specs.Node.{MayRemain};
-    ghost use Rattle.linda_server.specs.Calls.{IsBeforeOrAfter, StandsFor, HasHandled, HasNoRoom};
+    ghost use Rattle.linda_server.specs.Calls.{StandsFor};
     ghost use Rattle.linda_server.specs.Node.{shown};
+    ghost use Rattle.linda_server.specs.Handled.{Handles};
     ghost use Rattle.linda_server.specs.Lives.{GoesOn};
 
     /// Takes one message of a client. What is answered goes to the clients named beside each reply,
@@ -34,32 +34,7 @@ impl<D: Disk> Durable<D> {
         client: u32,
         message: &Message,
     ) -> Result<Vec<(u32, Reply)>, NodeFault>
-        ensures any_moment { self.old.down ≡ false
-            → AlwaysLeave self.old.disks self.new.disks
-            (IsBeforeOrAfter self.old.store (says client message.now ∷ [])) }
-        ensures done { IfOk result (λ sends. HasHandled self.old.store
-            (says client message.now ∷ []) sends.items self.new.store) }
-        ensures now { OnOk result (StandNow self.new.disks self.new.store.state) }
-        ensures up { OnOk result ((self.old.down ≡ false) × (self.new.down ≡ false)) }
-        ensures full { IsErrOf result NodeFault.Full → (self.new ≡ self.old)
-            × HasNoRoom self.old.store ((client, message.now) ∷ [])
-            (form_of (λ b. b.form) self.old.disks) (number_of (λ b. b.end) self.old.disks)
-            self.old.limit }
-        ensures room { OnOk result (HasNoRoom self.old.store ((client, message.now) ∷ [])
-            (form_of (λ b. b.form) self.old.disks) (number_of (λ b. b.end) self.old.disks)
-            self.old.limit → ⊥) }
-        ensures down { IsErrOf result NodeFault.Down → self.new.down ≡ true }
-        ensures stays_down { self.old.down ≡ true
-            → IsErrOf result NodeFault.Down × (self.new ≡ self.old) }
-        ensures honest { BothHonest self.old.disks ↔ BothHonest self.new.disks }
-        ensures limit { self.new.limit ≡ self.old.limit }
-        ensures lost { self.old.down ≡ false → self.new.down ≡ true → MayRemain
-            (shown self.old.before.value self.old.store self.old.down self.old.lost.items)
-            (says client message.now ∷ []) self.new.lost.items }
-        ensures before { self.old.down ≡ false → self.new.down ≡ true
-            → self.new.before.value ≡ self.old.store.state }
-        // Every life of the server goes on by it.
-        ensures life { GoesOn (λ sends. sends.items) self.old result self.new }
+        ensures { Handles self.old ((client, message.now) ∷ []) result self.new }
     {
         match self.serve(alloc, client, message) {
             Ok(served) => Ok(served.into_sends()),
@@ -79,32 +54,7 @@ impl<D: Disk> Durable<D> {
         messages: &[(u32, Message)],
     ) -> Result<Vec<(u32, Reply)>, NodeFault>
         requires { length messages.now ≤ MAX_BATCH }
-        ensures any_moment { self.old.down ≡ false
-            → AlwaysLeave self.old.disks self.new.disks
-            (IsBeforeOrAfter self.old.store (comings messages.now)) }
-        ensures done { IfOk result (λ sends. HasHandled self.old.store (comings messages.now)
-            sends.items self.new.store) }
-        ensures now { OnOk result (StandNow self.new.disks self.new.store.state) }
-        ensures up { OnOk result ((self.old.down ≡ false) × (self.new.down ≡ false)) }
-        ensures full { IsErrOf result NodeFault.Full → (self.new ≡ self.old)
-            × HasNoRoom self.old.store messages.now
-            (form_of (λ b. b.form) self.old.disks) (number_of (λ b. b.end) self.old.disks)
-            self.old.limit }
-        ensures room { OnOk result (HasNoRoom self.old.store messages.now
-            (form_of (λ b. b.form) self.old.disks) (number_of (λ b. b.end) self.old.disks)
-            self.old.limit → ⊥) }
-        ensures down { IsErrOf result NodeFault.Down → self.new.down ≡ true }
-        ensures stays_down { self.old.down ≡ true
-            → IsErrOf result NodeFault.Down × (self.new ≡ self.old) }
-        ensures honest { BothHonest self.old.disks ↔ BothHonest self.new.disks }
-        ensures limit { self.new.limit ≡ self.old.limit }
-        ensures lost { self.old.down ≡ false → self.new.down ≡ true → MayRemain
-            (shown self.old.before.value self.old.store self.old.down self.old.lost.items)
-            (comings messages.now) self.new.lost.items }
-        ensures before { self.old.down ≡ false → self.new.down ≡ true
-            → self.new.before.value ≡ self.old.store.state }
-        // Every life of the server goes on by it.
-        ensures life { GoesOn (λ sends. sends.items) self.old result self.new }
+        ensures { Handles self.old messages.now result self.new }
     {
         match self.serve_all(alloc, messages) {
             Ok(served) => Ok(served.into_sends()),

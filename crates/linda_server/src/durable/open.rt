@@ -18,7 +18,6 @@ impl<D: Disk> Durable<D> {
     ghost use Rattle.linda_state.specs.State as states;
     ghost use Rattle.linda_step.specs.Soft.{no_asks};
     ghost use Rattle.linda_disk.specs.Disk.{TellsFailuresOfTwo};
-    ghost use Rattle.linda_disk.specs.Run.{LeavesOnly};
     ghost use Rattle.linda_snap.specs.Stands.{Stands};
     ghost use Rattle.linda_server.specs.Pairs.{LeavesNoOther, two};
     ghost use Rattle.linda_server.specs.Server.{both_of, BothHonest, StandNow};

@@ -1,19 +1,19 @@
 //! Serving messages: judged, done, and put onto the bank in use before anything is answered.
 
-ghost use Rattle.std.specs.Prelude.{◌≡◌, ◌∷◌, [], ◌<◌, ◌≤◌, ◌+◌, ◌^◌, ◌⊎◌, ◌↔◌};
-ghost use Rattle.std.specs.Prelude.{true, false, length, vec_len, All, IfOk, IfErr, IfSome, IfNone, OnOk, OnErr};
+ghost use Rattle.std.specs.Prelude.{◌≡◌, ◌∷◌, [], ◌<◌, ◌≤◌, ◌+◌, ◌↔◌};
+ghost use Rattle.std.specs.Prelude.{true, false, length, All, IfOk, IfErr, IfSome, IfNone, OnOk, OnErr};
 ghost use Rattle.std.specs.Prelude.{IsErrOf, is_some};
 ghost use Rattle.linda_disk.specs.Disk.{TellsFailures};
 ghost use Rattle.linda_server.specs.declared.limits.TheConstants.{RECORD_BYTES};
-ghost use Rattle.linda_server.specs.Server.{BothHonest, failures_of, IsKeptFor, IsPutOn, AlwaysLeave, StandNow};
-ghost use Rattle.linda_server.specs.Disks.{is_ready, form_of, number_of};
+ghost use Rattle.linda_server.specs.Server.{is_usable, form_in_use, end_in_use, limit_in_use, BothHonest};
+ghost use Rattle.linda_server.specs.Server.{failures_of, IsKeptFor, IsPutOn, AlwaysLeave};
 
 use super::Durable;
 use crate::commit::commit;
 use crate::fault::ServeFault;
 use crate::limits::RECORD_BYTES;
 use crate::served::Served;
-use crate::serving::{serve_each, serve_one};
+use crate::serving::{Batch, serve};
 use linda_disk::Disk;
 use linda_moment::Moment;
 use linda_wire::Message;
@@ -23,13 +23,11 @@ impl<D: Disk> Durable<D> {
     ghost use Rattle.linda_state.specs.State.{IsState};
     ghost use Rattle.linda_state.specs.DeedFormat.{payload, SuitsForm, IsUnspelled};
     ghost use Rattle.linda_step.specs.declared.size.TheConstants.{MAX_BATCH};
-    ghost use Rattle.linda_step.specs.History.{History, Answers, says, comings};
+    ghost use Rattle.linda_step.specs.History.{History, Answers};
     ghost use Rattle.linda_step.specs.Store.{IsOrderly};
-    ghost use Rattle.linda_store.specs.Node.{MayRemain};
-    ghost use Rattle.linda_server.specs.Served.{IsServed};
+    ghost use Rattle.linda_server.specs.Served.{messages_of};
     ghost use Rattle.linda_server.specs.Calls.{LeadTo, IsEither};
-    ghost use Rattle.linda_server.specs.Calls.{IsBeforeOrAfter, HasNoRoom};
-    ghost use Rattle.linda_server.specs.Node.{shown};
+    ghost use Rattle.linda_server.specs.Handled.{Serves};
 
     /// Does what the messages ask, one after another, each of its client, and says for each of
     /// them which deed it did and what is sent. All deeds come onto the bank in use as one record;
@@ -45,57 +43,9 @@ impl<D: Disk> Durable<D> {
         messages: &[(u32, Message)],
     ) -> Result<Served, ServeFault>
         requires { length messages.now ≤ MAX_BATCH }
-        // The server was in order, as each is.
-        ensures orderly { IsOrderly self.old.store.state self.old.store.soft }
-        // At no moment crashes leave anything but the state of before, or the one after all deeds;
-        ensures any_moment { self.old.down ≡ false
-            → AlwaysLeave self.old.disks self.new.disks
-            (IsBeforeOrAfter self.old.store (comings messages.now)) }
-        // at Ok it did what they ask, and crashes now leave the state after that.
-        ensures done { IfOk result (λ served. IsServed self.old.store.state self.old.store.soft
-            messages.now served self.new.store.state self.new.store.soft) }
-        ensures each { IfOk result (λ served. vec_len served.shares ≡ length messages.now) }
-        ensures now { OnOk result (StandNow self.new.disks self.new.store.state) }
-        ensures up { OnOk result ((self.old.down ≡ false) × (self.new.down ≡ false)) }
-        // It is Full exactly where the record of the deeds, and the gate after it, would pass the
-        // limit, or a deed has no spelling in the form of the bank in use; nothing changed then.
-        ensures full { IsErrOf result ServeFault.Full → (self.new ≡ self.old)
-            × HasNoRoom self.old.store messages.now
-            (form_of (λ b. b.form) self.old.disks) (number_of (λ b. b.end) self.old.disks)
-            self.old.limit }
-        ensures room { OnOk result (HasNoRoom self.old.store messages.now
-            (form_of (λ b. b.form) self.old.disks) (number_of (λ b. b.end) self.old.disks)
-            self.old.limit → ⊥) }
-        // It is down exactly where it was, and goes down only where a device failed or memory ran
-        // out.
-        ensures was_down { IsErrOf result ServeFault.Down ↔ (self.old.down ≡ true) }
-        ensures stays_down { self.old.down ≡ true → self.new ≡ self.old }
-        ensures goes_down { (IsErrOf result ServeFault.Disk → self.new.down ≡ true)
-            × (IsErrOf result ServeFault.Memory → self.new.down ≡ true) }
-        ensures cause { IfErr result (λ fault. TellsFailures ServeFault.Disk fault
-            (failures_of self.old.disks) (failures_of self.new.disks)) }
-        // Where it did no deed, it made no device call; else four of them changed or synced the disk of the bank
-        // in use, and the other disk was not touched.
-        ensures idle { IfOk result (λ served. served.deeds.items ≡ []
-            → self.new.disks ≡ self.old.disks) }
-        ensures clock { IfOk result (λ served. 0 < length served.deeds.items
-            → IsPutOn self.old.disks self.new.disks) }
-        ensures honest { BothHonest self.old.disks ↔ BothHonest self.new.disks }
-        ensures limit { self.new.limit ≡ self.old.limit }
-        // In the call in which it goes down, some first deeds of what came may be done.
-        ensures lost { self.old.down ≡ false → self.new.down ≡ true → MayRemain
-            (shown self.old.before.value self.old.store self.old.down self.old.lost.items)
-            (comings messages.now) self.new.lost.items }
-        ensures before { self.old.down ≡ false
-            → IsErrOf result ServeFault.Full ⊎ (self.new.before.value ≡ self.old.store.state) }
+        ensures { Serves self.old messages.now result self.new }
     {
-        let size = self.size_of(messages);
-        self.admit(size)?;
-        self.begin();
-        let Ok(served) = serve_each(&mut self.store, alloc, messages) else {
-            return Err(ServeFault::Memory);
-        };
-        self.settle(alloc, served)
+        self.serve_batch(alloc, Batch::Many(messages))
     }
 
     /// Does what the message of the client asks, as `serve_all` does of several.
@@ -109,47 +59,20 @@ impl<D: Disk> Durable<D> {
         client: u32,
         message: &Message,
     ) -> Result<Served, ServeFault>
-        ensures orderly { IsOrderly self.old.store.state self.old.store.soft }
-        ensures any_moment { self.old.down ≡ false
-            → AlwaysLeave self.old.disks self.new.disks
-            (IsBeforeOrAfter self.old.store (says client message.now ∷ [])) }
-        ensures done { IfOk result (λ served. IsServed self.old.store.state self.old.store.soft
-            ((client, message.now) ∷ []) served self.new.store.state self.new.store.soft) }
-        ensures each { IfOk result (λ served. vec_len served.shares ≡ 1) }
-        ensures now { OnOk result (StandNow self.new.disks self.new.store.state) }
-        ensures up { OnOk result ((self.old.down ≡ false) × (self.new.down ≡ false)) }
-        ensures full { IsErrOf result ServeFault.Full → (self.new ≡ self.old)
-            × HasNoRoom self.old.store ((client, message.now) ∷ [])
-            (form_of (λ b. b.form) self.old.disks) (number_of (λ b. b.end) self.old.disks)
-            self.old.limit }
-        ensures room { OnOk result (HasNoRoom self.old.store ((client, message.now) ∷ [])
-            (form_of (λ b. b.form) self.old.disks) (number_of (λ b. b.end) self.old.disks)
-            self.old.limit → ⊥) }
-        ensures was_down { IsErrOf result ServeFault.Down ↔ (self.old.down ≡ true) }
-        ensures stays_down { self.old.down ≡ true → self.new ≡ self.old }
-        ensures goes_down { (IsErrOf result ServeFault.Disk → self.new.down ≡ true)
-            × (IsErrOf result ServeFault.Memory → self.new.down ≡ true) }
-        ensures cause { IfErr result (λ fault. TellsFailures ServeFault.Disk fault
-            (failures_of self.old.disks) (failures_of self.new.disks)) }
-        // Where it did no deed, it made no device call; else four of them changed or synced the disk of the bank
-        // in use, and the other disk was not touched.
-        ensures idle { IfOk result (λ served. served.deeds.items ≡ []
-            → self.new.disks ≡ self.old.disks) }
-        ensures clock { IfOk result (λ served. 0 < length served.deeds.items
-            → IsPutOn self.old.disks self.new.disks) }
-        ensures honest { BothHonest self.old.disks ↔ BothHonest self.new.disks }
-        ensures limit { self.new.limit ≡ self.old.limit }
-        // In the call in which it goes down, some first deeds of what came may be done.
-        ensures lost { self.old.down ≡ false → self.new.down ≡ true → MayRemain
-            (shown self.old.before.value self.old.store self.old.down self.old.lost.items)
-            (says client message.now ∷ []) self.new.lost.items }
-        ensures before { self.old.down ≡ false
-            → IsErrOf result ServeFault.Full ⊎ (self.new.before.value ≡ self.old.store.state) }
+        ensures { Serves self.old ((client, message.now) ∷ []) result self.new }
     {
-        let size = self.size_of_one(client, message);
+        self.serve_batch(alloc, Batch::One(client, message))
+    }
+
+    // Does what the messages of the batch ask.
+    fn serve_batch(&mut self, alloc: Global, batch: Batch<'_>) -> Result<Served, ServeFault>
+        requires { length (messages_of batch) ≤ MAX_BATCH }
+        ensures { Serves self.old (messages_of batch.entry) result self.new }
+    {
+        let size = self.size_of(batch);
         self.admit(size)?;
         self.begin();
-        let Ok(served) = serve_one(&mut self.store, alloc, client, message) else {
+        let Ok(served) = serve(&mut self.store, alloc, batch) else {
             return Err(ServeFault::Memory);
         };
         self.settle(alloc, served)
@@ -157,33 +80,21 @@ impl<D: Disk> Durable<D> {
 
     // How many bytes the deeds of the messages will spell in the form of the bank in use; None where one of them will have
     // no spelling there.
-    fn size_of(&self, messages: &[(u32, Message)]) -> Option<u64>
-        requires { length messages.now ≤ MAX_BATCH }
-        ensures bytes { (all : History) → Answers self.now.store.state self.now.store.soft messages.now all
-            → IfSome result (λ size. size ≡ length (payload (form_of (λ b. b.form) self.now.disks) all.deeds)) }
-        ensures suit { (all : History) → Answers self.now.store.state self.now.store.soft messages.now all
-            → IfSome result (λ size. All (SuitsForm (form_of (λ b. b.form) self.now.disks)) all.deeds) }
-        ensures none { (all : History) → Answers self.now.store.state self.now.store.soft messages.now all
-            → IfNone result (IsUnspelled (form_of (λ b. b.form) self.now.disks) all.deeds) }
+    fn size_of(&self, batch: Batch<'_>) -> Option<u64>
+        requires { length (messages_of batch) ≤ MAX_BATCH }
+        ensures bytes { (all : History) → Answers self.now.store.state self.now.store.soft (messages_of batch.entry) all
+            → IfSome result (λ size. size ≡ length (payload (form_in_use self.now.disks) all.deeds)) }
+        ensures suit { (all : History) → Answers self.now.store.state self.now.store.soft (messages_of batch.entry) all
+            → IfSome result (λ size. All (SuitsForm (form_in_use self.now.disks)) all.deeds) }
+        ensures none { (all : History) → Answers self.now.store.state self.now.store.soft (messages_of batch.entry) all
+            → IfNone result (IsUnspelled (form_in_use self.now.disks) all.deeds) }
         ensures orderly { IsOrderly self.now.store.state self.now.store.soft }
     {
-        self.store.size_of(self.disks.form(), messages)
-    }
-
-    // The same of one message.
-    fn size_of_one(&self, client: u32, message: &Message) -> Option<u64>
-        ensures bytes { (all : History)
-            → Answers self.now.store.state self.now.store.soft ((client, message.now) ∷ []) all
-            → IfSome result (λ size. size ≡ length (payload (form_of (λ b. b.form) self.now.disks) all.deeds)) }
-        ensures suit { (all : History)
-            → Answers self.now.store.state self.now.store.soft ((client, message.now) ∷ []) all
-            → IfSome result (λ size. All (SuitsForm (form_of (λ b. b.form) self.now.disks)) all.deeds) }
-        ensures none { (all : History)
-            → Answers self.now.store.state self.now.store.soft ((client, message.now) ∷ []) all
-            → IfNone result (IsUnspelled (form_of (λ b. b.form) self.now.disks) all.deeds) }
-        ensures orderly { IsOrderly self.now.store.state self.now.store.soft }
-    {
-        self.store.size_of_one(self.disks.form(), client, message)
+        let form = self.disks.form();
+        match batch {
+            Batch::One(client, message) => self.store.size_of_one(form, client, message),
+            Batch::Many(messages) => self.store.size_of(form, messages),
+        }
     }
 
     // Whether it may do deeds of this size, which is None where one of them has no spelling in the form of the bank in
@@ -191,9 +102,9 @@ impl<D: Disk> Durable<D> {
     fn admit(&self, size: Option<u64>) -> Result<(), ServeFault>
         ensures was_down { IsErrOf result ServeFault.Down ↔ (self.now.down ≡ true) }
         ensures full { IsErrOf result ServeFault.Full → IfSome size (λ bytes. (0 < bytes)
-            × (self.now.limit < number_of (λ b. b.end) self.now.disks + RECORD_BYTES + bytes)) }
+            × (self.now.limit < end_in_use self.now.disks + RECORD_BYTES + bytes)) }
         ensures room { OnOk result (IfSome size (λ bytes. 0 < bytes
-            → number_of (λ b. b.end) self.now.disks + RECORD_BYTES + bytes ≤ self.now.limit)) }
+            → end_in_use self.now.disks + RECORD_BYTES + bytes ≤ self.now.limit)) }
         ensures spelled { OnOk result (is_some size ≡ true) }
         ensures known { (IsErrOf result ServeFault.Disk → ⊥)
             × (IsErrOf result ServeFault.Memory → ⊥) }
@@ -220,8 +131,8 @@ impl<D: Disk> Durable<D> {
         // What the type keeps of a server that is up is not lost.
         ensures live { self.new.store.is_spent ≡ false }
         ensures ranges { IsState self.new.store.state }
-        ensures ready { is_ready (λ b. b.is_spent) self.new.disks ≡ true }
-        ensures limited { number_of (λ b. b.limit) self.new.disks ≡ self.new.limit }
+        ensures ready { is_usable self.new.disks ≡ true }
+        ensures limited { limit_in_use self.new.disks ≡ self.new.limit }
         ensures kept { ∥ IsKeptFor self.new.disks self.old.store.state ∥₁ }
     {
         self.before = Moment::of(self.store.state());
@@ -234,15 +145,15 @@ impl<D: Disk> Durable<D> {
         requires none_lost { self.old.lost.items ≡ [] }
         requires live { self.old.store.is_spent ≡ false }
         requires ranges { IsState self.old.before.value }
-        requires ready { is_ready (λ b. b.is_spent) self.old.disks ≡ true }
-        requires limited { number_of (λ b. b.limit) self.old.disks ≡ self.old.limit }
+        requires ready { is_usable self.old.disks ≡ true }
+        requires limited { limit_in_use self.old.disks ≡ self.old.limit }
         requires kept { ∥ IsKeptFor self.old.disks self.old.before.value ∥₁ }
         requires leads { LeadTo self.old.before.value served.deeds.items self.old.store.state }
         requires few { length served.deeds.items ≤ MAX_BATCH }
-        requires suit { All (SuitsForm (form_of (λ b. b.form) self.old.disks)) served.deeds.items }
+        requires suit { All (SuitsForm (form_in_use self.old.disks)) served.deeds.items }
         requires room { 0 < length served.deeds.items
-            → number_of (λ b. b.end) self.old.disks + RECORD_BYTES
-            + length (payload (form_of (λ b. b.form) self.old.disks) served.deeds.items) ≤ self.old.limit }
+            → end_in_use self.old.disks + RECORD_BYTES
+            + length (payload (form_in_use self.old.disks) served.deeds.items) ≤ self.old.limit }
         ensures any_moment { AlwaysLeave self.old.disks self.new.disks
             (IsEither self.old.before.value self.old.store.state) }
         ensures done { IfOk result (λ s. s ≡ served) }

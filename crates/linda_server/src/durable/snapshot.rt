@@ -1,9 +1,7 @@
 //! A snapshot: the state in few bytes, on the disk that was not in use.
 
-ghost use Rattle.std.specs.Prelude.{◌≡◌, [], ◌↔◌, true, false, IfErr, OnOk, IsErrOf};
-ghost use Rattle.linda_server.specs.Disks.{number_of};
-ghost use Rattle.linda_disk.specs.Disk.{TellsFailures};
-ghost use Rattle.linda_server.specs.Server.{BothHonest, failures_of, IsRenewedBy, AlwaysLeave, StandNow};
+ghost use Rattle.std.specs.Prelude.{◌≡◌, true, OnOk, IsErrOf};
+ghost use Rattle.linda_server.specs.Server.{IsRenewedBy};
 
 use super::Durable;
 use crate::fault::{ServeFault, node_fault};
@@ -14,9 +12,8 @@ use linda_store::NodeFault;
 use std::alloc::Global;
 
 impl<D: Disk> Durable<D> {
-    ghost use Rattle.linda_server.specs.Calls.{StandsFor};
-    ghost use Rattle.linda_server.specs.Lives.{GoesOn};
-    ghost use Rattle.linda_server.specs.Switch.{HasNoNext, IsSwitched, snapshot_calls};
+    ghost use Rattle.linda_server.specs.Handled.{Rewrites, Fails, Falls, HasNoNextBank};
+    ghost use Rattle.linda_server.specs.Switch.{IsSwitched, snapshot_calls};
 
     /// Writes a snapshot of the state as a new bank onto the disk that is not in use; from then on
     /// that bank is in use. It is what `snapshot` stands on, and distinguishes a device's failure
@@ -27,37 +24,19 @@ impl<D: Disk> Durable<D> {
     /// `Down`, then `Full` where the new bank would pass the limit or no generation is left: nothing
     /// changed. `Disk` where the device failed, and `Memory`: the server is down.
     pub fn renew(&mut self, alloc: Global) -> Result<(), ServeFault>
-        // At no moment crashes leave anything but the state.
-        ensures any_moment { self.old.down ≡ false
-            → AlwaysLeave self.old.disks self.new.disks (StandsFor self.old.store.state) }
-        ensures now { OnOk result (StandNow self.new.disks self.new.store.state) }
+        // It goes on for the same state, and it fails as said.
+        ensures rewrites { Rewrites self.old result self.new }
+        ensures fails { Fails self.old result self.new }
         // At Ok the other disk holds the bank in use, of the next generation and without a record.
-        ensures switched { OnOk result (IsSwitched (λ b. b.form) (λ b. b.generation) (λ b. b.records)
-            (λ b. b.disk) self.old.disks self.new.disks) }
+        ensures switched { OnOk result (IsSwitched self.old.disks self.new.disks) }
         // It is five device calls, and one for each piece in which the new bank is written; two fewer
         // where the disk's first gate was closed already.
         ensures clock { OnOk result (IsRenewedBy (snapshot_calls self.old.store.state)
             self.old.disks self.new.disks) }
-        ensures same { (self.new.store ≡ self.old.store) × (self.new.limit ≡ self.old.limit) }
-        ensures up { OnOk result ((self.old.down ≡ false) × (self.new.down ≡ false)) }
         // It is Full exactly where there is no next bank for the state; nothing changed then.
         ensures full { IsErrOf result ServeFault.Full → (self.new ≡ self.old)
-            × HasNoNext self.old.store.state self.old.limit
-            (number_of (λ b. b.generation) self.old.disks) }
-        ensures room { OnOk result (HasNoNext self.old.store.state self.old.limit
-            (number_of (λ b. b.generation) self.old.disks) → ⊥) }
-        // It is down exactly where it was, and goes down only where a device failed or memory ran
-        // out.
-        ensures was_down { IsErrOf result ServeFault.Down ↔ (self.old.down ≡ true) }
-        ensures stays_down { self.old.down ≡ true → self.new ≡ self.old }
-        ensures goes_down { (IsErrOf result ServeFault.Disk → self.new.down ≡ true)
-            × (IsErrOf result ServeFault.Memory → self.new.down ≡ true) }
-        ensures cause { IfErr result (λ fault. TellsFailures ServeFault.Disk fault
-            (failures_of self.old.disks) (failures_of self.new.disks)) }
-        // Nothing is done in the call in which it goes down.
-        ensures lost { self.old.down ≡ false → self.new.down ≡ true
-            → (self.new.before.value ≡ self.old.store.state) × (self.new.lost.items ≡ []) }
-        ensures honest { BothHonest self.old.disks ↔ BothHonest self.new.disks }
+            × HasNoNextBank self.old }
+        ensures room { OnOk result (HasNoNextBank self.old → ⊥) }
     {
         if self.down {
             return Err(ServeFault::Down);
@@ -82,30 +61,15 @@ impl<D: Disk> Durable<D> {
     /// `Full` where the new bank would pass the limit or no generation is left, and nothing
     /// changed; `Down`: it was down, or it is because a device failed or memory ran out.
     pub fn snapshot(&mut self, alloc: Global) -> Result<(), NodeFault>
-        // At no moment crashes leave anything but the state.
-        ensures any_moment { self.old.down ≡ false
-            → AlwaysLeave self.old.disks self.new.disks (StandsFor self.old.store.state) }
-        ensures now { OnOk result (StandNow self.new.disks self.new.store.state) }
+        // It goes on for the same state, and it falls as said.
+        ensures rewrites { Rewrites self.old result self.new }
+        ensures falls { Falls self.old result self.new }
         // At Ok the other disk holds the bank in use, of the next generation and without a record.
-        ensures switched { OnOk result (IsSwitched (λ b. b.form) (λ b. b.generation) (λ b. b.records)
-            (λ b. b.disk) self.old.disks self.new.disks) }
-        ensures same { (self.new.store ≡ self.old.store) × (self.new.limit ≡ self.old.limit) }
-        ensures up { OnOk result ((self.old.down ≡ false) × (self.new.down ≡ false)) }
+        ensures switched { OnOk result (IsSwitched self.old.disks self.new.disks) }
         // It is Full exactly where there is no next bank for the state; nothing changed then.
         ensures full { IsErrOf result NodeFault.Full → (self.new ≡ self.old)
-            × HasNoNext self.old.store.state self.old.limit
-            (number_of (λ b. b.generation) self.old.disks) }
-        ensures room { OnOk result (HasNoNext self.old.store.state self.old.limit
-            (number_of (λ b. b.generation) self.old.disks) → ⊥) }
-        ensures down { IsErrOf result NodeFault.Down → self.new.down ≡ true }
-        ensures stays_down { self.old.down ≡ true
-            → IsErrOf result NodeFault.Down × (self.new ≡ self.old) }
-        // Nothing is done in the call in which it goes down.
-        ensures lost { self.old.down ≡ false → self.new.down ≡ true
-            → (self.new.before.value ≡ self.old.store.state) × (self.new.lost.items ≡ []) }
-        ensures honest { BothHonest self.old.disks ↔ BothHonest self.new.disks }
-        // Every life of the server goes on by it.
-        ensures life { GoesOn (λ done. []) self.old result self.new }
+            × HasNoNextBank self.old }
+        ensures room { OnOk result (HasNoNextBank self.old → ⊥) }
     {
         match self.renew(alloc) {
             Ok(()) => Ok(()),

@@ -1,8 +1,6 @@
 //! Giving back the room of the bank that was in use before the last snapshot.
 
-ghost use Rattle.std.specs.Prelude.{◌≡◌, [], ◌↔◌, true, false, IfErr, OnOk, IsErrOf};
-ghost use Rattle.linda_disk.specs.Disk.{TellsFailures};
-ghost use Rattle.linda_server.specs.Server.{BothHonest, failures_of, AlwaysLeave, StandNow};
+ghost use Rattle.std.specs.Prelude.{true, OnOk, IsErrOf};
 
 use super::Durable;
 use crate::clearing::clear;
@@ -12,8 +10,7 @@ use linda_moment::Moment;
 use linda_store::NodeFault;
 
 impl<D: Disk> Durable<D> {
-    ghost use Rattle.linda_server.specs.Calls.{StandsFor};
-    ghost use Rattle.linda_server.specs.Lives.{GoesOn};
+    ghost use Rattle.linda_server.specs.Handled.{Rewrites, Fails, Falls};
     ghost use Rattle.linda_server.specs.Switch.{IsTrimmed};
 
     /// Leaves one byte of the disk that is not in use, a closed gate. It is what `trim` stands on,
@@ -24,27 +21,12 @@ impl<D: Disk> Durable<D> {
     /// `Down`: nothing changed. `Disk` where the device failed, and `Memory` where the disk found
     /// none: the server is down.
     pub fn clear(&mut self) -> Result<(), ServeFault>
-        // At no moment crashes leave anything but the state.
-        ensures any_moment { self.old.down ≡ false
-            → AlwaysLeave self.old.disks self.new.disks (StandsFor self.old.store.state) }
-        ensures now { OnOk result (StandNow self.new.disks self.new.store.state) }
-        // At Ok the bank in use is as it was, and one byte is left of the other disk.
-        ensures trimmed { OnOk result (IsTrimmed D.view D.honest self.old.disks self.new.disks) }
-        ensures same { (self.new.store ≡ self.old.store) × (self.new.limit ≡ self.old.limit) }
-        ensures up { OnOk result ((self.old.down ≡ false) × (self.new.down ≡ false)) }
-        // It is down exactly where it was, and goes down only where a device failed or the disk
-        // ran out of memory.
-        ensures was_down { IsErrOf result ServeFault.Down ↔ (self.old.down ≡ true) }
-        ensures stays_down { self.old.down ≡ true → self.new ≡ self.old }
-        ensures goes_down { (IsErrOf result ServeFault.Disk → self.new.down ≡ true)
-            × (IsErrOf result ServeFault.Memory → self.new.down ≡ true) }
-        ensures cause { IfErr result (λ fault. TellsFailures ServeFault.Disk fault
-            (failures_of self.old.disks) (failures_of self.new.disks)) }
+        // It goes on for the same state, and it fails as said.
+        ensures rewrites { Rewrites self.old result self.new }
+        ensures fails { Fails self.old result self.new }
         ensures never_full { IsErrOf result ServeFault.Full → ⊥ }
-        // Nothing is done in the call in which it goes down.
-        ensures lost { self.old.down ≡ false → self.new.down ≡ true
-            → (self.new.before.value ≡ self.old.store.state) × (self.new.lost.items ≡ []) }
-        ensures honest { BothHonest self.old.disks ↔ BothHonest self.new.disks }
+        // At Ok the bank in use is as it was, and one byte is left of the other disk.
+        ensures trimmed { OnOk result (IsTrimmed self.old.disks self.new.disks) }
     {
         if self.down {
             return Err(ServeFault::Down);
@@ -66,24 +48,12 @@ impl<D: Disk> Durable<D> {
     ///
     /// `Down`: it was down, or it is because a device failed.
     pub fn trim(&mut self) -> Result<(), NodeFault>
-        // At no moment crashes leave anything but the state.
-        ensures any_moment { self.old.down ≡ false
-            → AlwaysLeave self.old.disks self.new.disks (StandsFor self.old.store.state) }
-        ensures now { OnOk result (StandNow self.new.disks self.new.store.state) }
-        // At Ok the bank in use is as it was, and one byte is left of the other disk.
-        ensures trimmed { OnOk result (IsTrimmed D.view D.honest self.old.disks self.new.disks) }
-        ensures same { (self.new.store ≡ self.old.store) × (self.new.limit ≡ self.old.limit) }
-        ensures up { OnOk result ((self.old.down ≡ false) × (self.new.down ≡ false)) }
-        ensures down { IsErrOf result NodeFault.Down → self.new.down ≡ true }
-        ensures stays_down { self.old.down ≡ true
-            → IsErrOf result NodeFault.Down × (self.new ≡ self.old) }
+        // It goes on for the same state, and it falls as said.
+        ensures rewrites { Rewrites self.old result self.new }
+        ensures falls { Falls self.old result self.new }
         ensures never_full { IsErrOf result NodeFault.Full → ⊥ }
-        // Nothing is done in the call in which it goes down.
-        ensures lost { self.old.down ≡ false → self.new.down ≡ true
-            → (self.new.before.value ≡ self.old.store.state) × (self.new.lost.items ≡ []) }
-        ensures honest { BothHonest self.old.disks ↔ BothHonest self.new.disks }
-        // Every life of the server goes on by it.
-        ensures life { GoesOn (λ done. []) self.old result self.new }
+        // At Ok the bank in use is as it was, and one byte is left of the other disk.
+        ensures trimmed { OnOk result (IsTrimmed self.old.disks self.new.disks) }
     {
         match self.clear() {
             Ok(()) => Ok(()),

@@ -8,6 +8,6 @@ returns-clause-any_moment g c st are up =
     let view = g.D.Disk.view in
     let pair = c.in-InUse.pair in
     let new = view c.emptied-told.result.1 in
-    changed (λ b. b.form) (λ b. b.generation) (λ b. b.end) (λ b. view b.disk) view (λ b. g.D.Disk.honest b.disk) g.D.Disk.honest (λ b h. g.met.D.Disk.timed b.disk h)
+    changed g.met.D.Disk.timed
     c.args.disks.now pair (sym c.in-InUse.ensures.value) st new
     (λ used other was. emptied_beside pair.bank.form pair.bank.generation pair.bank.end (view pair.bank.disk) (view pair.other) new st was (c.emptied-told.ensures.any_moment other)) are up

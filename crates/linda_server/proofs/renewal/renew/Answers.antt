@@ -2,7 +2,8 @@
 use Rattle.std.proofs.Common.{not, sym, subst}
 use Rattle.linda_snap.specs.Stands.{Stands, IsUp}
 use Rattle.linda_server.specs.Pairs.{PairsSince}
-use Rattle.linda_server.specs.Disks.{both, sides, IsKept}
+use Rattle.linda_server.specs.Disks.{sides, IsKept}
+use Rattle.linda_server.specs.Server.{both_of}
 use Rattle.linda_server.proofs.SwitchLaws.{changed, taken, kept_taken}
 use Rattle.linda_server.proofs.renewal.renew.Goals as goal
 
@@ -11,8 +12,8 @@ returns-in-Ok-clause-any_moment g c are up =
     let view = g.D.Disk.view in
     let pair = c.in-InUse.pair in
     let new = view c.in-Ok.bank.disk in
-    subst (λ d. PairsSince (both (λ b. view b.disk) view c.args.disks.now) (sides (not pair.is_right) new (view d)) (λ left right. Stands left right c.args.state.now)) (sym c.in-Ok.ensures.same.0)
-    (taken (λ b. b.form) (λ b. b.generation) (λ b. b.end) (λ b. view b.disk) view (λ b. g.D.Disk.honest b.disk) g.D.Disk.honest (λ b h. g.met.D.Disk.timed b.disk h)
+    subst (λ d. PairsSince (both_of c.args.disks.now) (sides (not pair.is_right) new (view d)) (λ left right. Stands left right c.args.state.now)) (sym c.in-Ok.ensures.same.0)
+    (taken g.met.D.Disk.timed
     c.args.disks.now pair (sym c.in-InUse.ensures.value) c.args.state.now new (λ used other was. (c.in-Ok.ensures.any_moment used other was).0) are up)
 
 pub returns-in-Ok-clause-kept : goal.returns-in-Ok-clause-kept
@@ -22,7 +23,7 @@ returns-in-Ok-clause-kept g c kept =
     let bank = c.in-Ok.bank in
     let st = c.args.state.now in
     subst (λ d. IsKept (g.D.Disk.honest bank.disk) (g.D.Disk.honest d) bank.form bank.generation bank.end (view bank.disk) (view d) st) (sym c.in-Ok.ensures.same.0)
-    (kept_taken (λ b. b.form) (λ b. b.generation) (λ b. b.end) (λ b. view b.disk) view (λ b. g.D.Disk.honest b.disk) g.D.Disk.honest (λ b h. g.met.D.Disk.timed b.disk h)
+    (kept_taken g.met.D.Disk.timed
     c.args.disks.now pair (sym c.in-InUse.ensures.value) st (g.D.Disk.honest bank.disk) bank.form bank.generation bank.end (view bank.disk)
     c.in-Ok.ensures.honest.0.1 c.in-Ok.ensures.stored
     (λ used other was. subst (λ d. IsUp bank.form bank.generation bank.end (view bank.disk) (view d) st) c.in-Ok.ensures.same.0 (c.in-Ok.ensures.done used other was)) kept)
@@ -32,6 +33,6 @@ returns-in-Err-clause-any_moment g c are up =
     let view = g.D.Disk.view in
     let pair = c.in-InUse.pair in
     let new = view c.in-Err.other in
-    subst (λ d. PairsSince (both (λ b. view b.disk) view c.args.disks.now) (sides pair.is_right (view d) new) (λ left right. Stands left right c.args.state.now)) (sym c.in-Err.ensures.same.1)
-    (changed (λ b. b.form) (λ b. b.generation) (λ b. b.end) (λ b. view b.disk) view (λ b. g.D.Disk.honest b.disk) g.D.Disk.honest (λ b h. g.met.D.Disk.timed b.disk h)
+    subst (λ d. PairsSince (both_of c.args.disks.now) (sides pair.is_right (view d) new) (λ left right. Stands left right c.args.state.now)) (sym c.in-Err.ensures.same.1)
+    (changed g.met.D.Disk.timed
     c.args.disks.now pair (sym c.in-InUse.ensures.value) c.args.state.now new (λ used other was. (c.in-Err.ensures.any_moment used other was).1) are up)

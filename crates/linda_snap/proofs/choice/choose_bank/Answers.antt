@@ -1,6 +1,99 @@
-use Rattle.linda_snap.proofs.ChoiceLaws.{only_chosen}
+use Rattle.std.proofs.Common.{◌∙◌, true, false, Ok, inl, inr, subst}
+use Rattle.linda_snap.specs.Choice.{IsChoice, IsFaultOfFile}
+use Rattle.linda_snap.proofs.ChoiceLaws.{up_left, up_right, used_here, chosen_fault, one_stands, only_told}
 use Rattle.linda_snap.proofs.choice.choose_bank.Goals as goal
 
-pub returns-clause-only : goal.returns-clause-only
-returns-clause-only g c st left right stands =
-    only_chosen (g.D.Disk.view c.args.left).seen (g.D.Disk.view c.args.right).seen (λ x. x.state) (λ e. e.0) c.choose_among.result (c.choose_among.ensures.found left right) (c.choose_among.ensures.fault left right) st stands
+pub returns-in-Err-open_file-clause-fault : goal.returns-in-Err-open_file-clause-fault
+returns-in-Err-open_file-clause-fault g c left right disk memory =
+    let l = (g.D.Disk.view c.args.left).seen in
+    let r = (g.D.Disk.view c.args.right).seen in
+    let is = subst (λ b. IsChoice l r (Ok b)) c.in-Ok-true.field-0-test (c.in-Ok-true.ensures.found left right) in
+    let still = c.look_at_both.ensures.right_honest.0 right in
+    let read = c.in-Ok-true.ensures.right_seen right in
+    chosen_fault l r true c.in-Err-open_file.fault c.told_on.result is c.told_on.ensures (λ other. subst (λ f. IsFaultOfFile f c.in-Err-open_file.fault) read (c.in-Err-open_file.ensures.fault still other)) disk
+
+pub returns-in-Ok-clause-found : goal.returns-in-Ok-clause-found
+returns-in-Ok-clause-found g c left right =
+    let l = (g.D.Disk.view c.args.left).seen in
+    let r = (g.D.Disk.view c.args.right).seen in
+    let is = subst (λ b. IsChoice l r (Ok b)) c.in-Ok-true.field-0-test (c.in-Ok-true.ensures.found left right) in
+    let still = c.look_at_both.ensures.right_honest.0 right in
+    let read = c.in-Ok-true.ensures.right_seen right in
+    let v = g.D.Disk.view c.in-Ok.bank.disk in
+    let w = g.D.Disk.view c.look_at_both.new.left in
+    let here = c.in-Ok.ensures.seen still ∙ read in
+    let there = c.in-Ok-true.ensures.left_seen left in
+    let up = up_right l r c.in-Ok.bank.form c.in-Ok.bank.generation c.in-Ok.bank.end v w c.in-Ok.state is (c.in-Ok.ensures.found still) here there (c.in-Ok-true.ensures.left_durable left) in
+    inr (used_here r l c.in-Ok.bank.form c.in-Ok.bank.generation c.in-Ok.bank.end v w c.in-Ok.state up here there)
+
+pub returns-in-Ok-clause-up : goal.returns-in-Ok-clause-up
+returns-in-Ok-clause-up g c left right =
+    let l = (g.D.Disk.view c.args.left).seen in
+    let r = (g.D.Disk.view c.args.right).seen in
+    let is = subst (λ b. IsChoice l r (Ok b)) c.in-Ok-true.field-0-test (c.in-Ok-true.ensures.found left right) in
+    let still = c.look_at_both.ensures.right_honest.0 right in
+    let read = c.in-Ok-true.ensures.right_seen right in
+    let v = g.D.Disk.view c.in-Ok.bank.disk in
+    let w = g.D.Disk.view c.look_at_both.new.left in
+    let here = c.in-Ok.ensures.seen still ∙ read in
+    let there = c.in-Ok-true.ensures.left_seen left in
+    let up = up_right l r c.in-Ok.bank.form c.in-Ok.bank.generation c.in-Ok.bank.end v w c.in-Ok.state is (c.in-Ok.ensures.found still) here there (c.in-Ok-true.ensures.left_durable left) in
+    up
+
+pub returns-in-Err-open_file-2-clause-fault : goal.returns-in-Err-open_file-2-clause-fault
+returns-in-Err-open_file-2-clause-fault g c left right disk memory =
+    let l = (g.D.Disk.view c.args.left).seen in
+    let r = (g.D.Disk.view c.args.right).seen in
+    let is = subst (λ b. IsChoice l r (Ok b)) c.in-Ok-false.field-0-test (c.in-Ok-false.ensures.found left right) in
+    let still = c.look_at_both.ensures.left_honest.0 left in
+    let read = c.in-Ok-false.ensures.left_seen left in
+    chosen_fault l r false c.in-Err-open_file-2.fault c.told_on-in-Err-open_file-2.result is c.told_on-in-Err-open_file-2.ensures (λ other. subst (λ f. IsFaultOfFile f c.in-Err-open_file-2.fault) read (c.in-Err-open_file-2.ensures.fault still other)) disk
+
+pub returns-in-Ok-open_file-clause-found : goal.returns-in-Ok-open_file-clause-found
+returns-in-Ok-open_file-clause-found g c left right =
+    let l = (g.D.Disk.view c.args.left).seen in
+    let r = (g.D.Disk.view c.args.right).seen in
+    let is = subst (λ b. IsChoice l r (Ok b)) c.in-Ok-false.field-0-test (c.in-Ok-false.ensures.found left right) in
+    let still = c.look_at_both.ensures.left_honest.0 left in
+    let read = c.in-Ok-false.ensures.left_seen left in
+    let v = g.D.Disk.view c.in-Ok-open_file.bank.disk in
+    let w = g.D.Disk.view c.look_at_both.new.right in
+    let here = c.in-Ok-open_file.ensures.seen still ∙ read in
+    let there = c.in-Ok-false.ensures.right_seen right in
+    let up = up_left l r c.in-Ok-open_file.bank.form c.in-Ok-open_file.bank.generation c.in-Ok-open_file.bank.end v w c.in-Ok-open_file.state is (c.in-Ok-open_file.ensures.found still) here there (c.in-Ok-false.ensures.right_durable right) in
+    inl (used_here l r c.in-Ok-open_file.bank.form c.in-Ok-open_file.bank.generation c.in-Ok-open_file.bank.end v w c.in-Ok-open_file.state up here there)
+
+pub returns-in-Ok-open_file-clause-up : goal.returns-in-Ok-open_file-clause-up
+returns-in-Ok-open_file-clause-up g c left right =
+    let l = (g.D.Disk.view c.args.left).seen in
+    let r = (g.D.Disk.view c.args.right).seen in
+    let is = subst (λ b. IsChoice l r (Ok b)) c.in-Ok-false.field-0-test (c.in-Ok-false.ensures.found left right) in
+    let still = c.look_at_both.ensures.left_honest.0 left in
+    let read = c.in-Ok-false.ensures.left_seen left in
+    let v = g.D.Disk.view c.in-Ok-open_file.bank.disk in
+    let w = g.D.Disk.view c.look_at_both.new.right in
+    let here = c.in-Ok-open_file.ensures.seen still ∙ read in
+    let there = c.in-Ok-false.ensures.right_seen right in
+    let up = up_left l r c.in-Ok-open_file.bank.form c.in-Ok-open_file.bank.generation c.in-Ok-open_file.bank.end v w c.in-Ok-open_file.state is (c.in-Ok-open_file.ensures.found still) here there (c.in-Ok-false.ensures.right_durable right) in
+    up
+
+pub returns-in-Ok-clause-stored : goal.returns-in-Ok-clause-stored
+returns-in-Ok-clause-stored g c honest = c.in-Ok.ensures.found (c.in-Ok.ensures.honest.0.1 honest)
+
+pub returns-in-Ok-open_file-clause-stored : goal.returns-in-Ok-open_file-clause-stored
+returns-in-Ok-open_file-clause-stored g c honest = c.in-Ok-open_file.ensures.found (c.in-Ok-open_file.ensures.honest.0.1 honest)
+
+pub returns-in-Ok-clause-only : goal.returns-in-Ok-clause-only
+returns-in-Ok-clause-only g c st left right stands = (one_stands (g.D.Disk.view c.args.left).seen (g.D.Disk.view c.args.right).seen c.in-Ok.state st (returns-in-Ok-clause-found g c left right) stands, tt)
+
+pub returns-in-Ok-open_file-clause-only : goal.returns-in-Ok-open_file-clause-only
+returns-in-Ok-open_file-clause-only g c st left right stands = (one_stands (g.D.Disk.view c.args.left).seen (g.D.Disk.view c.args.right).seen c.in-Ok-open_file.state st (returns-in-Ok-open_file-clause-found g c left right) stands, tt)
+
+pub returns-in-Err-open_file-clause-only : goal.returns-in-Err-open_file-clause-only
+returns-in-Err-open_file-clause-only g c st left right stands = (tt, only_told (g.D.Disk.view c.args.left).seen (g.D.Disk.view c.args.right).seen c.told_on.result st stands (returns-in-Err-open_file-clause-fault g c left right))
+
+pub returns-in-Err-open_file-2-clause-only : goal.returns-in-Err-open_file-2-clause-only
+returns-in-Err-open_file-2-clause-only g c st left right stands = (tt, only_told (g.D.Disk.view c.args.left).seen (g.D.Disk.view c.args.right).seen c.told_on-in-Err-open_file-2.result st stands (returns-in-Err-open_file-2-clause-fault g c left right))
+
+pub returns-in-Err-clause-only : goal.returns-in-Err-clause-only
+returns-in-Err-clause-only g c st left right stands = (tt, only_told (g.D.Disk.view c.args.left).seen (g.D.Disk.view c.args.right).seen c.in-Err.fault st stands (λ disk memory. inl (c.in-Err.ensures.fault left right disk memory)))

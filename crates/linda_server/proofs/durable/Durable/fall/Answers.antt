@@ -19,8 +19,7 @@ invariant_of-self-clause-fallen g c _ are left right l r =
     let before = not_full c.in-Ok.served (new.before.value ≡ old.store.state) (c.in-Ok.ensures.before c.requires.up) in
     stands_after new.before.value old.store.state new.store.state c.in-Ok.served.deeds.items c.into_deeds.result.items left right before
     (ap (λ (v : Vec Deed). v.items) c.into_deeds.ensures) c.is_spent.ensures.orderly.state_is done
-    (stands_so (λ b. b.form) (λ b. b.generation) (λ b. b.end) (λ b. g.D.Disk.view b.disk) g.D.Disk.view (λ b. g.D.Disk.honest b.disk) g.D.Disk.honest
-    (λ b h. g.met.D.Disk.timed b.disk h) (λ d h. g.met.D.Disk.timed d h) new.disks new.store.state are (new.kept c.in-Ok.ensures.up.1) left right l r)
+    (stands_so g.met.D.Disk.timed new.disks new.store.state are (new.kept c.in-Ok.ensures.up.1) left right l r)
 
 pub returns-in-Ok-clause-lost : goal.returns-in-Ok-clause-lost
 returns-in-Ok-clause-lost g c =
@@ -49,6 +48,6 @@ returns-clause-lost g c =
     elim (cases_Bool new.down) [
       | inl down ↦
           let same = ap (λ (s : _). s.lost.items) (c.give_up-in-Snapshot.ensures.was_down down) in
-          none_remains (shown old.before.value old.store old.down old.lost.items) (in_hand c.args.work) c.give_up-in-Snapshot.new.self.lost.items (same ∙ (c.snapshot.ensures.lost c.requires.up down).1)
+          none_remains (shown old.before.value old.store old.down old.lost.items) (in_hand c.args.work) c.give_up-in-Snapshot.new.self.lost.items (same ∙ (c.snapshot.ensures.rewrites.lost c.requires.up down).1)
       | inr up ↦ none_remains (shown old.before.value old.store old.down old.lost.items) (in_hand c.args.work) c.give_up-in-Snapshot.new.self.lost.items (c.give_up-in-Snapshot.ensures.up up).1
     ]

@@ -1,38 +1,11 @@
--- What was served was done and sent.
-use Rattle.std.proofs.Common.{◌≡◌, ℕ, ap, sym, subst}
-use Rattle.std.specs.Global.{Vec}
-use Rattle.linda_wire.specs.declared.reply.Reply.{Reply}
-use Rattle.linda_step.specs.History.{comings}
-use Rattle.linda_server.specs.Calls.{HasHandled}
-use Rattle.linda_server.proofs.CallLaws.{handled}
-use Rattle.linda_server.specs.Lives.{Call, serves, at_work}
-use Rattle.linda_server.proofs.LivesLaws.{cut_at_work, goes_on_well, goes_on_still}
-use Rattle.linda_server.proofs.GoingLaws.{how_of, other}
+-- What was served was done and sent, or it was not.
+use Rattle.linda_server.proofs.HandledLaws.{handles_well, handles_not}
 use Rattle.linda_server.proofs.durable.Durable.handle_all.Goals as goal
 
-pub returns-in-Ok-clause-done : goal.returns-in-Ok-clause-done
-returns-in-Ok-clause-done g c =
-    let old = c.args.self.now.store in
-    let new = c.serve_all.new.self.store in
-    subst (λ l. HasHandled old (comings c.args.messages.now) l new) (sym (ap (λ (v : Vec (ℕ × Reply)). v.items) c.into_sends.ensures))
-    (handled old new (c.args.messages.now) c.in-Ok.served c.in-Ok.ensures.done)
+pub returns-in-Ok : goal.returns-in-Ok
+returns-in-Ok g c = handles_well g.met.D.Disk.timed c.args.self.now c.serve_all.new.self c.args.messages.now c.in-Ok.served c.into_sends.result c.into_sends.ensures c.in-Ok.ensures
 
-pub returns-in-Ok-clause-life : goal.returns-in-Ok-clause-life
-returns-in-Ok-clause-life g c =
-    let old = c.args.self.now in
-    let new = c.serve_all.new.self in
-    let told = c.in-Ok.served in
-    let ups = c.in-Ok.ensures.up in
-    goes_on_well g.met.D.Disk.timed (λ (v : Vec (ℕ × Reply)). v.items) old new told.deeds.items c.into_sends.result ups.0 ups.1
-    (subst (λ l. Call old new told.deeds.items l) (sym (ap (λ (v : Vec (ℕ × Reply)). v.items) c.into_sends.ensures)) (serves c.args.messages.now told c.in-Ok.ensures.done))
-    (λ up. cut_at_work g.met.D.Disk.timed old new (comings c.args.messages.now) (c.in-Ok.ensures.any_moment up))
-
-pub returns-in-Err-clause-life : goal.returns-in-Err-clause-life
-returns-in-Err-clause-life g c =
-    let old = c.args.self.now in
-    let new = c.serve_all.new.self in
-    let so = c.in-Err.ensures in
-    goes_on_still g.met.D.Disk.timed (λ (v : Vec (ℕ × Reply)). v.items) old new c.node_fault.result
-    (how_of old new c.in-Err.fault (λ full. (so.full full).0) so.was_down so.stays_down so.goes_down
-    (λ not_full up down. at_work (comings c.args.messages.now) (other c.in-Err.fault (new.before.value ≡ old.store.state) not_full (so.before up)) (so.lost up down)))
-    (λ up. cut_at_work g.met.D.Disk.timed old new (comings c.args.messages.now) (so.any_moment up))
+pub returns-in-Err : goal.returns-in-Err
+returns-in-Err g c =
+    handles_not g.met.D.Disk.timed c.args.self.now c.serve_all.new.self c.args.messages.now c.in-Err.fault c.node_fault.result
+    record { full = c.node_fault.ensures.full; down = c.node_fault.ensures.down } c.in-Err.ensures

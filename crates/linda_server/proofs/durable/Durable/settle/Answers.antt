@@ -9,28 +9,23 @@ use Rattle.linda_server.proofs.durable.Durable.settle.Goals as goal
 pub invariant_of-self-clause-kept : goal.invariant_of-self-clause-kept
 invariant_of-self-clause-kept g c _ =
     let s = c.args.self.now in
-    kept_after (λ b. b.form) (λ b. b.generation) (λ b. b.end) (λ b. g.D.Disk.view b.disk) g.D.Disk.view (λ b. g.D.Disk.honest b.disk) g.D.Disk.honest
-    (λ b h. g.met.D.Disk.timed b.disk h) (λ d h. g.met.D.Disk.timed d h) s.disks c.commit.new.disks s.before.value s.store.state c.deref.result.now (subst (λ l. LeadTo s.before.value l s.store.state) (sym c.deref.ensures.value) c.requires.leads) c.requires.kept c.in-Ok.ensures.kept
+    kept_after g.met.D.Disk.timed s.disks c.commit.new.disks s.before.value s.store.state c.deref.result.now (subst (λ l. LeadTo s.before.value l s.store.state) (sym c.deref.ensures.value) c.requires.leads) c.requires.kept c.in-Ok.ensures.kept
 
 pub invariant_of-self-in-Err-clause-fallen : goal.invariant_of-self-in-Err-clause-fallen
 invariant_of-self-in-Err-clause-fallen g c _ are =
     let s = c.args.self.now in
     let leads = subst (λ l. LeadTo s.before.value l s.store.state) (sym c.deref.ensures.value) c.requires.leads in
-    let since = put_either (λ b. b.form) (λ b. b.generation) (λ b. b.end) (λ b. g.D.Disk.view b.disk) g.D.Disk.view (λ b. g.D.Disk.honest b.disk) g.D.Disk.honest
-    (λ b h. g.met.D.Disk.timed b.disk h) (λ d h. g.met.D.Disk.timed d h) s.disks c.commit.new.disks s.before.value s.store.state c.deref.result.now leads (c.commit.ensures.honest.1 are) c.requires.kept c.commit.ensures.any_moment in
+    let since = put_either g.met.D.Disk.timed s.disks c.commit.new.disks s.before.value s.store.state c.deref.result.now leads (c.commit.ensures.honest.1 are) c.requires.kept c.commit.ensures.any_moment in
     let lost = ap (λ (v : Vec Deed). v.items) c.into_deeds.ensures in
-    now_since (λ b. b.form) (λ b. b.generation) (λ b. b.end) (λ b. g.D.Disk.view b.disk) g.D.Disk.view (λ b. g.D.Disk.honest b.disk) g.D.Disk.honest
-    (λ b h. g.met.D.Disk.timed b.disk h) (λ d h. g.met.D.Disk.timed d h) s.disks c.commit.new.disks (IsEither s.before.value s.store.state) (IsWithOrWithout s.before.value c.into_deeds.result.items) are since
+    now_since g.met.D.Disk.timed s.disks c.commit.new.disks (IsEither s.before.value s.store.state) (IsWithOrWithout s.before.value c.into_deeds.result.items) are since
     (with_or_without s.before.value s.store.state c.into_deeds.result.items c.requires.ranges (subst (λ l. LeadTo s.before.value l s.store.state) (sym lost) c.requires.leads))
 
 pub returns-in-Ok-clause-any_moment : goal.returns-in-Ok-clause-any_moment
 returns-in-Ok-clause-any_moment g c are =
     let s = c.args.self.now in
-    put_either (λ b. b.form) (λ b. b.generation) (λ b. b.end) (λ b. g.D.Disk.view b.disk) g.D.Disk.view (λ b. g.D.Disk.honest b.disk) g.D.Disk.honest
-    (λ b h. g.met.D.Disk.timed b.disk h) (λ d h. g.met.D.Disk.timed d h) s.disks c.commit.new.disks s.before.value s.store.state c.deref.result.now (subst (λ l. LeadTo s.before.value l s.store.state) (sym c.deref.ensures.value) c.requires.leads) are c.requires.kept c.commit.ensures.any_moment
+    put_either g.met.D.Disk.timed s.disks c.commit.new.disks s.before.value s.store.state c.deref.result.now (subst (λ l. LeadTo s.before.value l s.store.state) (sym c.deref.ensures.value) c.requires.leads) are c.requires.kept c.commit.ensures.any_moment
 
 pub returns-in-Err-clause-any_moment : goal.returns-in-Err-clause-any_moment
 returns-in-Err-clause-any_moment g c are =
     let s = c.args.self.now in
-    put_either (λ b. b.form) (λ b. b.generation) (λ b. b.end) (λ b. g.D.Disk.view b.disk) g.D.Disk.view (λ b. g.D.Disk.honest b.disk) g.D.Disk.honest
-    (λ b h. g.met.D.Disk.timed b.disk h) (λ d h. g.met.D.Disk.timed d h) s.disks c.commit.new.disks s.before.value s.store.state c.deref.result.now (subst (λ l. LeadTo s.before.value l s.store.state) (sym c.deref.ensures.value) c.requires.leads) are c.requires.kept c.commit.ensures.any_moment
+    put_either g.met.D.Disk.timed s.disks c.commit.new.disks s.before.value s.store.state c.deref.result.now (subst (λ l. LeadTo s.before.value l s.store.state) (sym c.deref.ensures.value) c.requires.leads) are c.requires.kept c.commit.ensures.any_moment

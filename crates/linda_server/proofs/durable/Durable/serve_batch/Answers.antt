@@ -1,0 +1,164 @@
+-- What was served is put onto the bank in use, or nothing is touched.
+use Rattle.std.proofs.Common.{◌≡◌, ◌<◌, [], inr, IfOk, IfSome, ◌+◌, length, refl, sym, subst, ap, arith, rules}
+use Rattle.std.specs.Vec.{vec_len}
+use Rattle.linda_state.proofs.DoneLaws.{on_ok}
+use Rattle.linda_step.specs.declared.size.TheConstants.{MAX_BATCH}
+use Rattle.linda_step.specs.Store.{Store}
+use Rattle.linda_step.specs.History.{comings, history_of}
+use Rattle.linda_server.specs.declared.limits.TheConstants.{RECORD_BYTES}
+use Rattle.linda_server.specs.declared.served.Served.{Served}
+use Rattle.linda_server.specs.Served.{messages_of, IsServed}
+use Rattle.linda_server.specs.Pairs.{PairsSince}
+use Rattle.linda_server.specs.Server.{both_of, form_in_use, end_in_use, IsPutOn}
+use Rattle.linda_server.specs.Calls.{LeadTo, IsBeforeOrAfter}
+use Rattle.linda_server.specs.Node.{shown}
+use Rattle.linda_server.proofs.ServedLaws.{served_happens}
+use Rattle.linda_server.proofs.CallLaws.{leads_to, few, some_bytes, room_of, suit_of, too_much, not_too_much, still_before, served_since, stands_so, none_remains, all_remains_up, at_fault, each_share, told_so}
+use Rattle.linda_server.proofs.durable.Durable.serve_batch.Goals as goal
+
+pub settle-requires-clause-few : goal.settle-requires-clause-few
+settle-requires-clause-few g c =
+    let ms = messages_of c.args.batch in
+    let s = c.args.self.now.store in
+    let after = c.serve.new.store in
+    few s.state s.soft ms c.in-Ok.served after.state after.soft MAX_BATCH c.requires (subst (λ (st : Store). IsServed st.state st.soft ms c.in-Ok.served c.serve.new.store.state c.serve.new.store.soft) c.begin.ensures.same.0 c.in-Ok.ensures.ok)
+
+pub settle-requires-clause-leads : goal.settle-requires-clause-leads
+settle-requires-clause-leads g c =
+    let ms = messages_of c.args.batch in
+    let s = c.args.self.now.store in
+    let served = c.in-Ok.served in
+    let after = c.serve.new.store in
+    subst (λ st. LeadTo st served.deeds.items after.state) (sym c.begin.ensures.before)
+    (leads_to s.state s.soft ms served after.state after.soft c.size_of-size.ensures.orderly (subst (λ (st : Store). IsServed st.state st.soft ms c.in-Ok.served c.serve.new.store.state c.serve.new.store.soft) c.begin.ensures.same.0 c.in-Ok.ensures.ok))
+
+pub settle-requires-clause-room : goal.settle-requires-clause-room
+settle-requires-clause-room g c some =
+    let ms = messages_of c.args.batch in
+    let s = c.args.self.now.store in
+    let served = c.in-Ok.served in
+    let after = c.serve.new.store in
+    let all = history_of after.state after.soft served.deeds.items served.sends.items in
+    let happens = served_happens s.state s.soft ms served after.state after.soft (subst (λ (st : Store). IsServed st.state st.soft ms c.in-Ok.served c.serve.new.store.state c.serve.new.store.soft) c.begin.ensures.same.0 c.in-Ok.ensures.ok) in
+    let disks = c.begin.ensures.same.1 in
+    let form = form_in_use c.begin.new.self.disks in
+    let is_form = ap (form_in_use) (sym disks) in
+    let there = some_bytes form served.deeds.items some in
+    let limited = c.begin.ensures.same.2 in
+    let end = ap (end_in_use) disks in
+    let fits =
+    room_of (form_in_use c.args.self.now.disks) form is_form (end_in_use c.args.self.now.disks) c.args.self.now.limit c.size_of-size.result served.deeds.items
+    (c.size_of-size.ensures.bytes all happens) c.in_ok-admit.ensures.room c.in_ok-admit.ensures.spelled there in
+    omega (arith, fits, limited, end)
+
+pub settle-requires-clause-suit : goal.settle-requires-clause-suit
+settle-requires-clause-suit g c =
+    let ms = messages_of c.args.batch in
+    let s = c.args.self.now.store in
+    let served = c.in-Ok.served in
+    let after = c.serve.new.store in
+    let all = history_of after.state after.soft served.deeds.items served.sends.items in
+    let happens = served_happens s.state s.soft ms served after.state after.soft (subst (λ (st : Store). IsServed st.state st.soft ms c.in-Ok.served c.serve.new.store.state c.serve.new.store.soft) c.begin.ensures.same.0 c.in-Ok.ensures.ok) in
+    suit_of (form_in_use c.args.self.now.disks) (form_in_use c.begin.new.self.disks) (ap (form_in_use) (sym c.begin.ensures.same.1))
+    (end_in_use c.args.self.now.disks) c.args.self.now.limit c.size_of-size.result served.deeds.items
+    (c.size_of-size.ensures.suit all happens) c.in_ok-admit.ensures.spelled
+
+pub returns-in_err-admit : goal.returns-in_err-admit
+returns-in_err-admit g c =
+    let s = c.args.self.now in
+    let ms = messages_of c.args.batch in
+    record {
+      orderly = c.size_of-size.ensures.orderly;
+      any_moment = λ is_up are. still_before g.met.D.Disk.timed s.disks s.store (comings ms) are (s.kept is_up);
+      done = search rules;
+      each = search rules;
+      now = search rules;
+      up = search rules;
+      full = λ full.
+          let past : IfSome c.size_of-size.result (λ b. (0 < b) × (s.limit < end_in_use s.disks + RECORD_BYTES + b)) = search (rules, full) in (
+            refl,
+            λ all happens.
+                too_much (form_in_use s.disks) (form_in_use s.disks) refl (end_in_use s.disks) s.limit c.size_of-size.result all.deeds
+                (c.size_of-size.ensures.bytes all happens) (c.size_of-size.ensures.none all happens) past,
+          );
+      room = search rules;
+      was_down = search rules;
+      stays_down = λ down. refl;
+      goes_down = search rules;
+      cause = search rules;
+      idle = search rules;
+      clock = search rules;
+      honest = search rules;
+      limit = refl;
+      lost = λ up down. search (rules, up, down);
+      before = λ up. search (rules, up);
+    }
+
+pub returns-in_default : goal.returns-in_default
+returns-in_default g c =
+    let s = c.args.self.now in
+    let ms = messages_of c.args.batch in
+    record {
+      orderly = c.size_of-size.ensures.orderly;
+      any_moment = λ is_up are.
+          subst (λ d. PairsSince (both_of s.disks) (both_of d) (IsBeforeOrAfter s.store (comings ms))) (sym c.begin.ensures.same.1)
+          (still_before g.met.D.Disk.timed s.disks s.store (comings ms) are (s.kept is_up));
+      done = tt;
+      each = tt;
+      now = tt;
+      up = tt;
+      full = λ full. search (rules, full);
+      room = tt;
+      was_down = search rules;
+      stays_down = search rules;
+      goes_down = search rules;
+      cause = search rules;
+      idle = tt;
+      clock = tt;
+      honest = search rules;
+      limit = c.begin.ensures.same.2;
+      lost = λ is_up is_down. none_remains (shown s.before.value s.store s.down s.lost.items) (comings ms) c.begin.new.self.lost.items c.begin.ensures.same.3;
+      before = λ up. inr c.begin.ensures.before;
+    }
+
+pub returns : goal.returns
+returns g c =
+    let s = c.args.self.now in
+    let ms = messages_of c.args.batch in
+    let old = s.store in
+    let served = c.in-Ok.served in
+    let after = c.serve.new.store in
+    let new = c.settle.new.self in
+    let is_served = subst (λ (st : Store). IsServed st.state st.soft ms served after.state after.soft) c.begin.ensures.same.0 c.in-Ok.ensures.ok in
+    let all = history_of after.state after.soft served.deeds.items served.sends.items in
+    let happens = served_happens old.state old.soft ms served after.state after.soft is_served in
+    record {
+      orderly = c.size_of-size.ensures.orderly;
+      any_moment = λ is_up are.
+          served_since g.met.D.Disk.timed s.disks c.begin.new.self.disks new.disks old after ms served c.begin.new.self.before.value
+          c.begin.ensures.same.1 c.begin.ensures.before is_served are c.settle.ensures.any_moment;
+      done = search rules;
+      each =
+          let before = c.begin.new.self.store in
+          told_so c.settle.result served (λ (s : Served). vec_len s.shares ≡ length ms) c.settle.ensures.done
+          (each_share before.state before.soft ms served after.state after.soft c.in-Ok.ensures.ok);
+      now = on_ok _ _ c.settle.result (λ is_up are. stands_so g.met.D.Disk.timed new.disks new.store.state are (new.kept is_up)) c.settle.ensures.up;
+      up = search rules;
+      full = λ full. search (rules, full);
+      room =
+          on_ok _ _ c.settle.result (λ is_up full.
+          not_too_much (form_in_use s.disks) (form_in_use s.disks) refl (end_in_use s.disks) s.limit c.size_of-size.result served.deeds.items
+          (c.size_of-size.ensures.bytes all happens) (c.size_of-size.ensures.suit all happens) c.in_ok-admit.ensures.room c.in_ok-admit.ensures.spelled (full all happens)) c.settle.ensures.up;
+      was_down = search rules;
+      stays_down = search rules;
+      goes_down = search rules;
+      cause = search rules;
+      idle = subst (λ d. IfOk c.settle.result (λ served. served.deeds.items ≡ [] → new.disks ≡ d)) c.begin.ensures.same.1 c.settle.ensures.idle;
+      clock = subst (λ d. IfOk c.settle.result (λ served. 0 < length served.deeds.items → IsPutOn d new.disks)) c.begin.ensures.same.1 c.settle.ensures.clock;
+      honest = search rules;
+      limit = search rules;
+      lost = λ is_up is_down.
+          let lost = at_fault c.settle.result new.down (new.lost.items ≡ served.deeds.items) c.settle.ensures.up c.settle.ensures.lost is_down in
+          all_remains_up s.before.value s.store s.down s.lost.items ms served after.state after.soft new.lost.items is_up is_served lost;
+      before = λ up. search (rules, up);
+    }
