@@ -1,6 +1,7 @@
 //! The client: what it keeps, and how that changes. Its calls stand in the modules below, one in each.
 
 mod abandon;
+mod call;
 mod leave;
 mod out;
 mod receive;

@@ -12,6 +12,7 @@
 
 mod arrival;
 mod ask;
+mod call;
 mod client;
 mod fault;
 mod laws;
@@ -24,6 +25,7 @@ mod reaction;
 mod ready;
 mod task;
 
+pub use call::Call;
 pub use client::Client;
 pub use fault::ClientFault;
 pub use laws::{

@@ -10,7 +10,7 @@ mod call;
 mod told;
 
 use crate::number::small_number;
-use call::{answer, call_of};
+use call::call_of;
 use linda_client::{Client, ClientFault};
 use linda_script::{WordsFault, read_numbered};
 use std::alloc::Global;
@@ -52,7 +52,7 @@ impl Clients {
             return Err(WordsFault::Unknown);
         };
         let number = client.number();
-        push_told(alloc, came, number, answer(alloc, client, call))
+        push_told(alloc, came, number, client.call(alloc, call))
     }
 
     // Goes on with a new client, where there can be one.

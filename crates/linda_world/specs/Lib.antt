@@ -1,7 +1,6 @@
 pub mod MessageCode
 pub mod Code
 pub mod Answer
-pub mod Call
 pub mod Noted
 pub mod Member
 pub mod Refusal

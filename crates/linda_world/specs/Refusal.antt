@@ -4,6 +4,8 @@ use Rattle.std.specs.List.{slice_get, list_all}
 use Rattle.std.specs.FinMap as map
 use Rattle.linda_event.specs.Trees.{tree_of}
 use Rattle.linda_step.specs.declared.size.TheConstants.{MAX_BATCH}
+use Rattle.linda_client.specs.declared.fault.ClientFault.{ClientFault}
+use Rattle.linda_client.specs.declared.fault.ClientFault.TheVariants as refusals
 use Rattle.linda_client.specs.React as calls
 use Rattle.linda_client.specs.React.{Receive, Resend, Abandon, Leave}
 use Rattle.linda_run.specs.declared.event.WorldEvent.{WorldEvent}
@@ -88,3 +90,15 @@ refusal_of_known (Some member) = Some faults.ClientKnown
 
 abbrev pub refusal_of_join : World → ℕ → Option WorldFault
 refusal_of_join w c = refusal_of_known (map.get w.members c)
+
+-- a client's fault as the world returns it
+abbrev pub world_fault : ClientFault → WorldFault
+world_fault refusals.ServersRange = faults.Client refusals.ServersRange
+world_fault refusals.Left = faults.Client refusals.Left
+world_fault refusals.Busy = faults.Client refusals.Busy
+world_fault refusals.Idle = faults.Client refusals.Idle
+world_fault refusals.NoServer = faults.Client refusals.NoServer
+world_fault refusals.TooDeep = faults.Client refusals.TooDeep
+world_fault refusals.TooManyBases = faults.Client refusals.TooManyBases
+world_fault refusals.Spent = faults.Client refusals.Spent
+world_fault refusals.Memory = faults.Memory

@@ -6,11 +6,11 @@
 //! held is held for a reason.
 #![tactic(auto)]
 
-mod call;
 mod deeds;
 mod fault;
 mod member;
 mod message;
+mod refusal;
 mod scene;
 mod server;
 mod world;

@@ -3,12 +3,12 @@
 ghost use Rattle.std.specs.Prelude.{◌≡◌, [], Some, None, OnOk, OnErr, option_copied, is_some};
 ghost use Rattle.std.specs.Option.{option_map};
 ghost use Rattle.std.specs.FinMap as map;
-ghost use Rattle.linda_world.specs.Call.{call_of};
+ghost use Rattle.linda_client.specs.Call.{call_of};
 ghost use Rattle.linda_world.specs.Member.{ReactsOrNot, ReactsInOrNot};
 
-use crate::call::{Call, refused};
 use crate::fault::WorldFault;
-use linda_client::{Client, Reaction};
+use crate::refusal::refused;
+use linda_client::{Call, Client, Reaction};
 use linda_run::{Packet, Seen, append_both, given_by, packets_by};
 use std::alloc::{AllocError, Global};
 use std::collections::BTreeMap;
@@ -51,7 +51,7 @@ impl Member {
     ) -> Result<Seen, WorldFault>
         ensures { ReactsOrNot (call_of call) number self.old packets.old.items result self.new packets.new.items }
     {
-        let reaction = match call.make(alloc, &mut self.client) {
+        let reaction = match self.client.call(alloc, call) {
             Ok(reaction) => reaction,
             Err(fault) => return Err(refused(fault)),
         };

@@ -9,17 +9,16 @@ ghost use Rattle.linda_run.specs.Steps.{HasReacted, HasServed, IsStopped, Halts,
 ghost use Rattle.linda_run.specs.declared.event.WorldEvent.TheVariants as events;
 ghost use Rattle.linda_client.specs.React.{Receive};
 ghost use Rattle.linda_run.specs.Reached.{IsReached};
-ghost use Rattle.linda_world.specs.Call.{call_of};
+ghost use Rattle.linda_client.specs.Call.{call_of};
 ghost use Rattle.linda_world.specs.Member.{refusal_to};
 ghost use Rattle.linda_world.specs.Refusal.{refusal_at, refusal_of_stop};
 ghost use Rattle.linda_world.specs.Scene.{AddsOrNot, Answers, AsksOrNot, new_server, seen_of, world_of};
 
-use crate::call::Call;
 use crate::fault::WorldFault;
 use crate::member::Members;
 use crate::message::{are_messages, messages_at};
 use crate::server::{Server, Told};
-use linda_client::Client;
+use linda_client::{Call, Client};
 use linda_disk::Torn;
 use linda_run::{
     Body, Packet, Seen, WorldEvent, mark_all_delivered, mark_delivered, servers_are_few,
