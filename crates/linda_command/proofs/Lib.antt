@@ -1,3 +1,5 @@
 pub mod Parsing
+mod LongSpelling
+pub mod RunWalk
 pub mod RunWords
 pub mod Tasks

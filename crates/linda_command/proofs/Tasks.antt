@@ -17,7 +17,7 @@ use Rattle.clap.proofs.WalkLemmas.{first_value-rows, one_text-rows}
 use Rattle.linda_command.specs.Commands.{IsCall, IsInspect, IsServe, IsTracedRun, IsRefusedAs, AsksFor, AsksExactlyFor, AsksForPipe, AsksForRun, HasServers, Spells, linda}
 use Rattle.linda_command.specs.declared.command.Task.{Task}
 use Rattle.linda_command.specs.declared.command.Task.TheVariants as tasks
-use Rattle.linda_command.proofs.Parsing.{many_kinds, missing_kinds, unknown_kinds, AsksToCall, AsksToInspect, AsksToRun, AsksToServe, asked, name_of_rows, named, named_call, named_inspect, named_serve}
+use Rattle.linda_command.proofs.Parsing.{many_kinds, missing_kinds, unknown_kinds, AsksToCall, AsksToInspect, AsksToServe, asked, name_of_rows, named, named_call, named_inspect, named_serve}
 use Rattle.linda_command.proofs.RunWords.{TracesRun, run_kinds, run_refused_some, no_file_of_row, number_of_row, run_is_found, run_is_free, runs}
 
 -- the parser's command is that of the words
