@@ -3,7 +3,7 @@
 ghost use Rattle.std.specs.Prelude.{◌≡◌, ◌+◌, ◌≤◌, ◌++◌, length, take, drop, OnOk, OnErr};
 ghost use Rattle.linda_tuple.specs.Tuple.{FitsIn};
 ghost use Rattle.linda_tuple.specs.Template.{FitsTemplateIn};
-ghost use Rattle.linda_codec.specs.Steps.{Gives, GivesAlways, left_by};
+ghost use Rattle.linda_codec.specs.Steps.{Read, Gives, GivesAlways, left_by};
 ghost use Rattle.linda_codec.specs.Formats.{Format, number};
 ghost use Rattle.linda_codec.specs.Values as value;
 ghost use Rattle.linda_wire.specs.declared.limits.TheConstants.{LENGTH_BYTES, MAX_PAYLOAD};
@@ -47,6 +47,17 @@ pub trait Framed: Drop {
 
     // The format is lawful, and what it spells is no longer than a frame may be.
     ghost framed: { IsFramed format };
+}
+
+/// What is left after the value that was read, whichever it was.
+pub(crate) fn rest_of<T: Drop>(read: Result<(T, &[u8]), ReadFault>) -> Result<&[u8], ReadFault>
+    ensures { (given : Read T) → GivesAlways (λ x. (x.0, x.1.now)) read.entry given
+        → GivesAlways (λ rest. rest.now) result (left_by given) }
+{
+    match read {
+        Ok((_value, rest)) => Ok(rest),
+        Err(fault) => Err(fault),
+    }
 }
 
 /// Appends two numbers; where memory runs out, a part of them may stand after the old bytes.

@@ -6,7 +6,7 @@ ghost use Rattle.linda_codec.specs.Formats.{made_at, number};
 ghost use Rattle.linda_wire.specs.Frames as format;
 ghost use Rattle.linda_wire.specs.declared.message.Message.TheVariants.{Hello, Out, Ask, Accept, Cancel, Leave};
 
-use crate::framed::{Framed, push_pair, push_template, push_tuple};
+use crate::framed::{Framed, push_pair, push_template, push_tuple, rest_of};
 use crate::kinds::{ACCEPT, ASK, CANCEL, HELLO, LEAVE, OUT};
 use crate::limits::FORM;
 use crate::message::Message;
@@ -40,24 +40,12 @@ impl Framed for Message {
     fn skip(payload: &[u8]) -> Result<&[u8], ReadFault> {
         match payload {
             [] => Err(ReadFault::Short),
-            [HELLO, body @ ..] => {
-                let (_hello, rest) = hello_from(body)?;
-                Ok(rest)
-            }
+            [HELLO, body @ ..] => rest_of(hello_from(body)),
             [OUT, body @ ..] => skip_out(body),
             [ASK, body @ ..] => skip_ask(body),
-            [ACCEPT, body @ ..] => {
-                let (_accept, rest) = accept_from(body)?;
-                Ok(rest)
-            }
-            [CANCEL, body @ ..] => {
-                let (_cancel, rest) = cancel_from(body)?;
-                Ok(rest)
-            }
-            [LEAVE, body @ ..] => {
-                let (_leave, rest) = leave_from(body)?;
-                Ok(rest)
-            }
+            [ACCEPT, body @ ..] => rest_of(accept_from(body)),
+            [CANCEL, body @ ..] => rest_of(cancel_from(body)),
+            [LEAVE, body @ ..] => rest_of(leave_from(body)),
             [_, ..] => Err(ReadFault::BadKind(payload.len())),
         }
     }

@@ -8,7 +8,7 @@ ghost use Rattle.linda_wire.specs.Frames as format;
 ghost use Rattle.linda_wire.specs.Frames.{spoken};
 ghost use Rattle.linda_wire.specs.declared.reply.Reply.TheVariants as replies;
 
-use crate::framed::{Framed, push_pair, push_tuple};
+use crate::framed::{Framed, push_pair, push_tuple, rest_of};
 use crate::kinds::{GONE, LEFT, OFFER, READ, REFUSED, STORED, TAKEN, WELCOME};
 use crate::limits::FORM;
 use crate::reply::Reply;
@@ -51,29 +51,14 @@ impl Framed for Reply {
     fn skip(payload: &[u8]) -> Result<&[u8], ReadFault> {
         match payload {
             [] => Err(ReadFault::Short),
-            [WELCOME, body @ ..] => {
-                let (_welcome, rest) = welcome_from(body)?;
-                Ok(rest)
-            }
-            [STORED, body @ ..] => {
-                let (_stored, rest) = stored_from(body)?;
-                Ok(rest)
-            }
+            [WELCOME, body @ ..] => rest_of(welcome_from(body)),
+            [STORED, body @ ..] => rest_of(stored_from(body)),
             [OFFER, body @ ..] => skip_entry(body),
             [READ, body @ ..] => skip_entry(body),
             [TAKEN, body @ ..] => skip_entry(body),
-            [GONE, body @ ..] => {
-                let (_gone, rest) = gone_from(body)?;
-                Ok(rest)
-            }
-            [REFUSED, body @ ..] => {
-                let (_refused, rest) = refused_from(body)?;
-                Ok(rest)
-            }
-            [LEFT, body @ ..] => {
-                let (_left, rest) = left_from(body)?;
-                Ok(rest)
-            }
+            [GONE, body @ ..] => rest_of(gone_from(body)),
+            [REFUSED, body @ ..] => rest_of(refused_from(body)),
+            [LEFT, body @ ..] => rest_of(left_from(body)),
             [_, ..] => Err(ReadFault::BadKind(payload.len())),
         }
     }
