@@ -1,0 +1,100 @@
+//! A folder whose files hold bytes, and what is told of it.
+
+use crate::texts::{push_bytes, tell_text};
+use linda_inspect::Lists;
+use linda_script::{WordsFault, split_word};
+use linda_service::inspect_folder;
+use std::alloc::Global;
+use std::fs;
+
+/// The folder, which is there while a line is played.
+const FOLDER: &str = "linda_rows_folder";
+
+const LEFT: &str = "linda_rows_folder/left.bank";
+
+const RIGHT: &str = "linda_rows_folder/right.bank";
+
+/// The bytes of the left file and of the right one, of which one without bytes is missing.
+#[derive(Drop)]
+pub(crate) struct Folders {
+    left: Vec<u8>,
+    right: Vec<u8>,
+}
+
+impl Folders {
+    /// Both files are missing.
+    pub(crate) fn new(alloc: Global) -> Folders {
+        Folders {
+            left: Vec::new(alloc),
+            right: Vec::new(alloc),
+        }
+    }
+
+    /// Begins a row.
+    pub(crate) fn begin(&mut self) {
+        self.left.clear();
+        self.right.clear();
+    }
+
+    /// Does what the words say.
+    pub(crate) fn play(
+        &mut self,
+        files: &HostRuntime,
+        alloc: Global,
+        words: &str,
+        came: &mut String,
+    ) -> Result<(), WordsFault> {
+        let (word, rest) = split_word(words);
+        match word {
+            "left" => push_bytes(alloc, &mut self.left, rest),
+            "right" => push_bytes(alloc, &mut self.right, rest),
+            "missing" => inspect(files, alloc, came),
+            "inspect" => {
+                if fs::create_dir(files, FOLDER).is_err() {
+                    return Err(WordsFault::Unknown);
+                }
+                let done = self.inspect_both(files, alloc, came);
+                if fs::remove_dir_all(files, FOLDER).is_err() {
+                    return Err(WordsFault::Unknown);
+                }
+                done
+            }
+            _ => Err(WordsFault::Unknown),
+        }
+    }
+
+    // Tells of the folder, which is there and empty, once both files are in it.
+    fn inspect_both(
+        &self,
+        files: &HostRuntime,
+        alloc: Global,
+        came: &mut String,
+    ) -> Result<(), WordsFault> {
+        put_bank(files, LEFT, &self.left)?;
+        put_bank(files, RIGHT, &self.right)?;
+        inspect(files, alloc, came)
+    }
+}
+
+// The file holds these bytes, or is missing where there are none.
+fn put_bank(files: &HostRuntime, path: &str, bytes: &[u8]) -> Result<(), WordsFault> {
+    if !bytes.is_empty() && fs::write(files, path, bytes).is_err() {
+        return Err(WordsFault::Unknown);
+    }
+    Ok(())
+}
+
+// Tells what is printed of the folder, with both lists, and how that ends where it does not end well.
+fn inspect(files: &HostRuntime, alloc: Global, came: &mut String) -> Result<(), WordsFault> {
+    let lists = Lists {
+        tuples: true,
+        clients: true,
+    };
+    let mut out: Vec<u8> = Vec::new(alloc);
+    let ended = inspect_folder(files, alloc, &mut out, FOLDER, lists);
+    tell_text(&out, came)?;
+    match ended {
+        Ok(()) => Ok(()),
+        Err(fault) => Ok(writeln!(came, "> {fault}")?),
+    }
+}

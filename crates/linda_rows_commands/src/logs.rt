@@ -1,0 +1,168 @@
+//! The lines of a log, and their times.
+
+use linda_script::{WordsFault, read_numbered, split_word};
+use linda_service::{Cause, Event, Gauge, InUse, Log, Tally, Watcher, stamp_of};
+use std::alloc::{AllocError, Global};
+use std::time::Clock;
+
+/// What the server comes to at each line.
+const GAUGE: Gauge = Gauge {
+    tuples: 3,
+    clients: 2,
+    next: 9,
+    deeds: 13,
+    records: 5,
+    used: 178,
+    limit: 1000,
+    is_down: false,
+};
+
+/// What came to it.
+const TALLY: Tally = Tally {
+    came: 7,
+    over: 4,
+    refused: 6,
+    closed: 2,
+    missed: 3,
+};
+
+/// What happened so far, line by line, and how many lines of the log were told.
+#[derive(Drop)]
+pub(crate) struct Logs {
+    events: String,
+    told: usize,
+}
+
+impl Logs {
+    /// Nothing happened yet.
+    pub(crate) fn new(alloc: Global) -> Logs {
+        Logs {
+            events: String::new(alloc),
+            told: 0,
+        }
+    }
+
+    /// Begins a row.
+    pub(crate) fn begin(&mut self) {
+        self.events.clear();
+        self.told = 0;
+    }
+
+    /// Does what the words say: a time is told, or something happens. Then a new log is written of all that happened, and
+    /// its lines are told that were not told before.
+    pub(crate) fn play<C: Clock>(
+        &mut self,
+        clock: &C,
+        alloc: Global,
+        words: &str,
+        came: &mut String,
+    ) -> Result<(), WordsFault> {
+        if let Some(seconds) = words.strip_prefix("time ") {
+            return tell_time(seconds, came);
+        }
+        self.events.push_str(words)?;
+        self.events.push('\n')?;
+        let sink = log_of(clock, alloc, self.events.as_str())?;
+        let text = std::str::from_utf8(&sink).unwrap_or("no text");
+        for line in text.lines().skip(self.told) {
+            tell_line(line, came)?;
+            self.told = self.told.saturating_add(1);
+        }
+        Ok(())
+    }
+}
+
+// Tells the time that is so many seconds after 1970 began.
+fn tell_time(seconds: &str, came: &mut String) -> Result<(), WordsFault> {
+    let Ok(seconds) = seconds.parse::<u64>() else {
+        return Err(WordsFault::Unknown);
+    };
+    match stamp_of(seconds) {
+        Some(bytes) => {
+            let text = std::str::from_utf8(bytes.as_slice()).unwrap_or("no text");
+            Ok(writeln!(came, "> {text}")?)
+        }
+        None => Ok(came.push_str("> none\n")?),
+    }
+}
+
+// Tells a line without its time, and as it is where there are not 20 bytes and a blank in front.
+fn tell_line(line: &str, came: &mut String) -> Result<(), AllocError> {
+    match line.split_once(' ') {
+        Some((time, rest)) if time.len() == 20 => writeln!(came, "> {rest}"),
+        _ => writeln!(came, "> {line}"),
+    }
+}
+
+// The log of what happens.
+fn log_of<C: Clock>(clock: &C, alloc: Global, events: &str) -> Result<Vec<u8>, WordsFault> {
+    let mut sink: Vec<u8> = Vec::new(alloc);
+    let mut log = Log::new(alloc, &mut sink)?;
+    for words in events.lines() {
+        tell_event(clock, &mut log, words)?;
+    }
+    drop(log);
+    Ok(sink)
+}
+
+// Tells the log what happens.
+fn tell_event<C: Clock>(
+    clock: &C,
+    log: &mut Log<'_, Vec<u8>>,
+    words: &str,
+) -> Result<(), WordsFault> {
+    let (word, rest) = split_word(words);
+    match word {
+        "opened" => log.tell_opened(clock, 7000, bank_of(rest)?, &GAUGE),
+        "end" => log.tell_end(clock, cause_of(rest)?, TALLY.came, &GAUGE),
+        _ => log.tell(clock, event_of(word, rest)?, &GAUGE, &TALLY),
+    }
+    Ok(())
+}
+
+// The bank that is in use, as `right 4`, where it is known.
+fn bank_of(words: &str) -> Result<Option<InUse>, WordsFault> {
+    if words == "unknown" {
+        return Ok(None);
+    }
+    let (side, rest) = split_word(words);
+    let (generation, _) = read_numbered(rest)?;
+    Ok(Some(InUse {
+        is_right: side == "right",
+        generation: u64::from(generation),
+    }))
+}
+
+// The cause of this name.
+fn cause_of(name: &str) -> Result<Cause, WordsFault> {
+    match name {
+        "sessions" => Ok(Cause::Sessions),
+        "device" => Ok(Cause::Device),
+        "memory" => Ok(Cause::Memory),
+        _ => Err(WordsFault::Unknown),
+    }
+}
+
+// The event of this name, which took so many milliseconds where it is a snapshot.
+fn event_of(name: &str, millis: &str) -> Result<Event, WordsFault> {
+    match name {
+        "minute" => Ok(Event::Minute),
+        "snapshot" => Ok(Event::Snapshot(millis_of(millis)?)),
+        "unsnapped" => Ok(Event::NoSnapshot(millis_of(millis)?)),
+        "full" => Ok(Event::Full),
+        "closed" => Ok(Event::Closed),
+        "missed" => Ok(Event::Missed),
+        "unwatched" => Ok(Event::Unwatched),
+        "threadless" => Ok(Event::NoThread),
+        "down" => Ok(Event::Down),
+        _ => Err(WordsFault::Unknown),
+    }
+}
+
+// The milliseconds that the text is.
+fn millis_of(text: &str) -> Result<u64, WordsFault> {
+    match text.parse::<u64>() {
+        Ok(millis) => Ok(millis),
+        Err(_) => Err(WordsFault::Unknown),
+    }
+}

@@ -1,0 +1,57 @@
+//! Texts and bytes in rows.
+
+use linda_script::{WordsFault, read_hex};
+use linda_text::read_atom_at;
+use linda_tuple::Atom;
+use std::alloc::{AllocError, Global};
+
+/// Appends what the words say: a string between quotes, the bytes of hexadecimal digits after the word `bytes`, with blanks
+/// between them, or else a line as it stands, with its line feed.
+pub(crate) fn push_bytes(
+    alloc: Global,
+    bytes: &mut Vec<u8>,
+    words: &str,
+) -> Result<(), WordsFault> {
+    if words.starts_with('"') {
+        return Ok(bytes.extend_from_slice(read_string(alloc, words)?.as_bytes())?);
+    }
+    match words.strip_prefix("bytes ") {
+        Some(pieces) => push_pieces(alloc, bytes, pieces),
+        None => {
+            bytes.extend_from_slice(words.as_bytes())?;
+            Ok(bytes.push(b'\n')?)
+        }
+    }
+}
+
+// Appends the bytes of pieces of digits.
+fn push_pieces(alloc: Global, bytes: &mut Vec<u8>, pieces: &str) -> Result<(), WordsFault> {
+    for digits in pieces.split(' ') {
+        bytes.extend_from_slice(&read_hex(alloc, digits)?)?;
+    }
+    Ok(())
+}
+
+// The string that stands at the front of the words, as people type it.
+fn read_string(alloc: Global, words: &str) -> Result<String, WordsFault> {
+    let (atom, _behind) = read_atom_at(alloc, words, 0)?;
+    match atom {
+        Atom::Text(text) => Ok(text.into_string()),
+        _ => Err(WordsFault::Unknown),
+    }
+}
+
+/// Tells what was printed, line by line.
+pub(crate) fn tell_text(printed: &[u8], came: &mut String) -> Result<(), AllocError> {
+    let text = std::str::from_utf8(printed).unwrap_or("no text");
+    match text.strip_suffix("\n") {
+        Some(lines) => {
+            for line in lines.split('\n') {
+                writeln!(came, "> {line}")?;
+            }
+            Ok(())
+        }
+        None if text.is_empty() => Ok(()),
+        None => writeln!(came, "> ? no line feed behind {text}"),
+    }
+}
