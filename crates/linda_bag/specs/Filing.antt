@@ -43,10 +43,6 @@ module _ {T : Type 0} where
       → Type 0
   FindsShelf Has HasFound part found = (rows : Rows T) → Has rows → IsShelved HasFound found (part rows)
 
-  -- The same of the ids of a part of the rows.
-  abbrev pub Finds : (Rows T → Type 0) → (Rows T → Rows T) → Option (BTreeSet ℕ) → Type 0
-  Finds Has part found = FindsShelf Has HasIds part found
-
 module _ {K T : Type 0} where
   -- the row with its key, if it has one
   abbrev pub keyed : Option K → T → Option (K × T)

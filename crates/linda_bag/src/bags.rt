@@ -8,6 +8,7 @@ ghost use Rattle.std.specs.FinMap as map;
 ghost use Rattle.linda_tuple.specs.Tuple.{Tuple};
 ghost use Rattle.linda_bag.specs.FreeMatch.{IsFreeMatch};
 
+use crate::id_sets::IdSet;
 use linda_tuple::{Template, Tuple};
 use std::alloc::{AllocError, Global};
 use std::collections::BTreeSet;
@@ -60,14 +61,14 @@ pub trait Bag: Drop {
             → IsFreeMatch (contents self.now) template.now (contains nat_cmp passed.now) k → ⊥) };
 
     /// The same of the ids from `from` on alone, and how many tuples were looked at in vain. Takes no memory.
-    fn least_match_from(&self, template: &Template, passed: &BTreeSet<u64>, from: u64) -> Found
+    fn least_match_from<P: IdSet>(&self, template: &Template, passed: &P, from: u64) -> Found
         ensures found { IfSome result.id
-            (IsFreeMatch (contents self.now) template.now (contains nat_cmp passed.now)) }
+            (IsFreeMatch (contents self.now) template.now (P.has passed.now)) }
         ensures above { IfSome result.id (λ id. from ≤ id) }
         ensures least { IfSome result.id (λ id. (k : ℕ) → from ≤ k → k < id
-            → IsFreeMatch (contents self.now) template.now (contains nat_cmp passed.now) k → ⊥) }
+            → IsFreeMatch (contents self.now) template.now (P.has passed.now) k → ⊥) }
         ensures none { IfNone result.id ((k : ℕ) → from ≤ k
-            → IsFreeMatch (contents self.now) template.now (contains nat_cmp passed.now) k → ⊥) };
+            → IsFreeMatch (contents self.now) template.now (P.has passed.now) k → ⊥) };
 
     /// How many tuples there are. Takes no memory.
     fn len(&self) -> usize

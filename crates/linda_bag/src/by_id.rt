@@ -2,26 +2,25 @@
 
 ghost use Rattle.std.specs.Prelude.{◌≡◌, ◌≤◌, ◌<◌, ◌↔◌, ℕ, false, None};
 ghost use Rattle.std.specs.Prelude.{IfNone, IfSome, IsSome, IsTrue};
-ghost use Rattle.std.specs.Ordering.{nat_cmp};
-ghost use Rattle.std.specs.BTreeSet.{contains};
 ghost use Rattle.std.specs.FinMap as map;
 ghost use Rattle.linda_tuple.specs.Matching.{Matches};
 ghost use Rattle.linda_bag.specs.FreeMatch.{rows_of};
 
+use crate::id_sets::IdSet;
 use linda_tuple::{Template, Tuple, matches};
-use std::collections::{BTreeMap, BTreeSet};
+use std::collections::BTreeMap;
 
 /// Whether the template matches the tuple of this id and the id is not passed over.
-pub(crate) fn is_free_match(
+pub(crate) fn is_free_match<P: IdSet>(
     template: &Template,
-    passed: &BTreeSet<u64>,
+    passed: &P,
     id: u64,
     tuple: &Tuple,
 ) -> bool
     ensures { IsTrue result
-        ↔ (Matches template.now tuple.now × (contains nat_cmp passed.now id ≡ false)) }
+        ↔ (Matches template.now tuple.now × (P.has passed.now id ≡ false)) }
 {
-    matches(template, tuple) && !passed.contains(&id)
+    matches(template, tuple) && !passed.has(id)
 }
 
 /// The least id of the tree that is not below `id`.

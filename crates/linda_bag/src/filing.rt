@@ -32,12 +32,6 @@ impl Key for i64 {
     }
 }
 
-impl Key for u32 {
-    fn copy(&self, _alloc: Global) -> Result<u32, AllocError> {
-        Ok(*self)
-    }
-}
-
 impl Key for usize {
     fn copy(&self, _alloc: Global) -> Result<usize, AllocError> {
         Ok(*self)

@@ -6,6 +6,7 @@ ghost use Rattle.std.specs.FinMap as map;
 
 use crate::bags::{Bag, Found};
 use crate::by_id::{is_free_match, next_id};
+use crate::id_sets::IdSet;
 use linda_tuple::{Template, Tuple};
 use std::alloc::{AllocError, Global};
 use std::collections::{BTreeMap, BTreeSet};
@@ -54,7 +55,7 @@ impl Bag for ListBag {
         self.least_match_from(template, passed, 0).id
     }
 
-    fn least_match_from(&self, template: &Template, passed: &BTreeSet<u64>, from: u64) -> Found {
+    fn least_match_from<P: IdSet>(&self, template: &Template, passed: &P, from: u64) -> Found {
         let mut looks: usize = 0;
         for (id, tuple) in &self.tuples {
             if *id >= from {

@@ -1,9 +1,9 @@
 -- The entries of the map that keeps the waits by arrival: each request is in one of them, which is found by the request.
-use Rattle.std.proofs.Common.{◌≡◌, ℕ, ◌<◌, arith, Bool, true, false, not, ◌||◌, List, [], ◌∷◌, ◌++◌, Option, None, Some, filter, cond, refl, sym, ap, ◌∙◌, nat_cmp, Less, Greater, BTreeMap}
+use Rattle.std.proofs.Common.{◌≡◌, ℕ, ◌<◌, arith, Bool, true, false, not, ◌||◌, ◌==◌, List, [], ◌∷◌, ◌++◌, Option, None, Some, filter, cond, refl, sym, ap, ◌∙◌, nat_cmp, Less, Greater, BTreeMap}
 use Rattle.std.specs.declared.cmp.Ordering.{Ordering}
 use Rattle.std.specs.Ordering.{is_eq, match_ordering}
 use Rattle.std.specs.Option.{is_some, option_map, unwrap_or}
-use Rattle.std.specs.Cmp.{nat_cmp_total, nat_cmp_is, ranked}
+use Rattle.std.specs.Cmp.{nat_cmp_total, nat_cmp_is, ranked, unsigned_Decides}
 use Rattle.std.specs.BTreeMap as tree
 use Rattle.std.specs.BTreeMap.{is_at, insert_entry}
 use Rattle.std.specs.List.{list_any, AllByRecursion, IsDistinct}
@@ -13,8 +13,8 @@ use Rattle.std.proofs.lemmas.Bool.{true≢false, false_from_ne_true, or_right}
 use Rattle.std.proofs.lemmas.List.Elements.{recursion_from_All, All-weaker}
 use Rattle.std.proofs.lemmas.Map.Views.{All-found}
 use Rattle.linda_hold.specs.declared.request.Request.{Request}
-use Rattle.linda_hold.specs.Request.{same_request}
-use Rattle.linda_hold.specs.Waits.{Wait, is_waiting, without, AreDistinct}
+use Rattle.linda_hold.specs.Request.{request_of, same_request}
+use Rattle.linda_hold.specs.Waits.{Wait, is_waiting, waits_of, without, AreDistinct}
 use Rattle.linda_hold.specs.Named.{IsNumbered}
 use Rattle.linda_hold.specs.Index.{requests_of}
 use Rattle.linda_hold.proofs.Linking.{number_told}
@@ -147,6 +147,19 @@ module _ (t : BTreeMap ℕ Wait) (ordered : tree.IsOrdered nat_cmp t) {u : Reque
   pub entry_found : (request : Request) (k : ℕ) → u request ≡ Some k → tree.get nat_cmp t k ≡ None → ⊥
   entry_found request k found none =
       true≢false (ap is_some (sym (numbered.back request k found) ∙ ap (option_map (λ w. w.0)) none))
+
+  -- A client none of whose requests is found has no wait.
+  pub none_of_client : (client : ℕ) → ((ticket : ℕ) → u (request_of client ticket) ≡ None) → waits_of client (values_of t.entries) ≡ []
+  none_of_client client none = all t.entries each
+    where
+      other : (e : ℕ × Wait) → Known e → (client == e.1.0.client) ≡ false
+      other e known = false_from_ne_true _ (λ is.
+          let own : u e.1.0 ≡ None = ap (λ c. u (request_of c e.1.0.ticket)) (sym ((unsigned_Decides client e.1.0.client).0 is)) ∙ none e.1.0.ticket in
+          true≢false (ap is_some (sym known.named ∙ own)))
+
+      all : (es : List (ℕ × Wait)) → AllByRecursion Known es → waits_of client (values_of es) ≡ []
+      all [] known = refl
+      all (e ∷ es) known = ap (λ b. cond b (e.1 ∷ waits_of client (values_of es)) (waits_of client (values_of es))) (other e known.0) ∙ all es known.1
 
   -- No two waits are of one request.
   pub distinct : AreDistinct (values_of t.entries)

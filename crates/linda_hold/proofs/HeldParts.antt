@@ -1,17 +1,17 @@
--- The holds of a client: the ids that are filed under it are those that contracts count.
-use Rattle.std.proofs.Common.{◌≡◌, ℕ, ◌==◌, cond, [], Option, None, Some, is_some, refl, sym, ap, ◌∙◌, nat_cmp, BTreeMap}
+-- The holds of a client: the ids under its requests are those that contracts count.
+use Rattle.std.proofs.Common.{◌≡◌, ℕ, ◌==◌, cond, Option, None, Some, is_some, length, refl, sym, ap, ◌∙◌, nat_cmp, BTreeMap}
 use Rattle.std.specs.BTreeSet.{BTreeSet}
 use Rattle.std.specs.BTreeSet as sets
 use Rattle.std.specs.BTreeMap as tree
 use Rattle.std.specs.FinMap as map
 use Rattle.std.specs.Cmp.{unsigned_tied}
 use Rattle.std.proofs.lemmas.Map.Entries.{option_filter}
-use Rattle.linda_bag.specs.Filing.{HasIds, IsBare, row_at, placed, rows_at}
+use Rattle.linda_bag.specs.Filing.{HasIds, row_at, placed, rows_at}
 use Rattle.linda_bag.proofs.Maps.{same_entries}
 use Rattle.linda_hold.specs.declared.request.Request.{Request}
 use Rattle.linda_hold.specs.Holds.{HeldFor, held_in}
-use Rattle.linda_hold.specs.Named.{Requests, client_of}
-use Rattle.linda_hold.proofs.Parts.{found_some, found_none}
+use Rattle.linda_hold.specs.Named.{Requests, IsCount, client_of}
+use Rattle.linda_hold.proofs.Parts.{found_some, counted_part}
 
 module _ (by_id : BTreeMap ℕ Request) (ordered : tree.IsOrdered nat_cmp by_id) (holds : HeldFor) (view_is : map.from_entries by_id.entries ≡ holds) (client : ℕ) where
   abbrev pub own : Requests
@@ -30,8 +30,8 @@ module _ (by_id : BTreeMap ℕ Request) (ordered : tree.IsOrdered nat_cmp by_id)
       found_some (λ r. r.client == client) by_id ordered own (λ q. own_at (tree.get nat_cmp by_id q)) ids sorted has
       ∙ ap (held_in client) (sym same_view)
 
-  -- Without one it has none.
-  pub no_ids : IsBare own → [] ≡ held_in client (map.entries holds)
-  no_ids bare =
-      found_none (λ r. r.client == client) by_id ordered own (λ q. own_at (tree.get nat_cmp by_id q)) bare
-      ∙ ap (held_in client) (sym same_view)
+  -- There are as many of them as of its requests.
+  pub own_count : (count : ℕ) → IsCount client (tree.get nat_cmp by_id) count → count ≡ length (held_in client (map.entries holds))
+  own_count count counts =
+      counted_part (λ r. r.client == client) by_id ordered own (λ q. own_at (tree.get nat_cmp by_id q)) count counts
+      ∙ ap (λ es. length (held_in client es)) (sym same_view)

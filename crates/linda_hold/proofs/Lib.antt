@@ -1,5 +1,7 @@
 pub mod Lists
 pub mod Linking
+pub mod Naming
+pub mod Counting
 pub mod Viewed
 pub mod Parts
 pub mod HeldParts

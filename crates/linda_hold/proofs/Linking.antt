@@ -2,23 +2,17 @@
 use Rattle.std.proofs.Common.{◌≡◌, ◌≢◌, ◌⊎◌, inl, inr, ℕ, Bool, true, false, cond, Option, None, Some, refl, sym, ap, subst, ◌∙◌, nat_cmp}
 use Rattle.std.specs.Ordering.{is_eq}
 use Rattle.std.specs.Bool.{Decides}
-use Rattle.std.specs.Cmp.{unsigned_tied, unsigned_Decides, tied_then}
+use Rattle.std.specs.Cmp.{unsigned_tied, unsigned_Decides}
 use Rattle.std.proofs.lemmas.Bool.{true≢false}
-use Rattle.std.proofs.lemmas.Bool.Decides.{Decides-at, Decides-like, Decides-and}
+use Rattle.std.proofs.lemmas.Bool.Decides.{Decides-at}
 use Rattle.linda_bag.specs.Filing.{with_row}
 use Rattle.linda_hold.specs.declared.request.Request.{Request}
-use Rattle.linda_hold.specs.Request.{request_of, request_cmp}
 use Rattle.linda_hold.specs.Named.{Requests, IsNumbered, Sets}
+use Rattle.linda_hold.proofs.Lists.{request_told}
 
--- The orders tell numbers apart, and requests.
+-- The order tells numbers apart.
 pub number_told : (x y : ℕ) → Decides (is_eq (nat_cmp x y)) (x ≡ y)
 number_told x y = Decides-at _ _ (unsigned_tied x y) (unsigned_Decides x y)
-
-order_told : (p q : Request) → Decides (is_eq (request_cmp p q)) (p ≡ q)
-order_told p q =
-    Decides-at _ _ (sym (tied_then (nat_cmp p.client q.client) (nat_cmp p.ticket q.ticket)))
-    (Decides-like _ (λ e. λ j. request_of (e.0 j) (e.1 j)) (λ e. (ap (λ r. r.client) e, ap (λ r. r.ticket) e))
-    (Decides-and _ _ (number_told p.client q.client) (number_told p.ticket q.ticket)))
 
 either : {P : Type 0} (b : Bool) → Decides b P → P ⊎ (P → ⊥)
 either true told = inl (told.0 refl)
@@ -29,7 +23,7 @@ pub same_number : (i k : ℕ) → (i ≡ k) ⊎ (i ≢ k)
 same_number i k = either _ (number_told i k)
 
 pub same_or_not : (p q : Request) → (p ≡ q) ⊎ (p ≢ q)
-same_or_not p q = either _ (order_told p q)
+same_or_not p q = either _ (request_told p q)
 
 module _ {K A : Type 0} (test : K → K → Bool) (told : (x y : K) → Decides (test x y) (x ≡ y)) where
   passed_over : (b : Bool) (w x : A) → (b ≡ true → ⊥) → cond b w x ≡ x
@@ -42,12 +36,12 @@ module _ {K A : Type 0} (test : K → K → Bool) (told : (x y : K) → Decides 
     apart = λ q apart. changed q ∙ passed_over (test k q) w (old q) (λ e. apart ((told k q).0 e));
   }
 
--- What a row says of a change at its number, and what std's clauses say of one at a request.
-set_row : {A : Type 0} (rows : ℕ → Option A) (k : ℕ) (w : Option A) → Sets rows (with_row rows k w) k w
-set_row rows k w = sets (λ x y. is_eq (nat_cmp x y)) number_told rows (with_row rows k w) k w (λ q. refl)
+-- What std's clauses say of a change at a number, and what a row says of one.
+pub sets_number : {A : Type 0} (old new : ℕ → A) (k : ℕ) (w : A) → ((q : ℕ) → new q ≡ cond (is_eq (nat_cmp k q)) w (old q)) → Sets old new k w
+sets_number = sets (λ x y. is_eq (nat_cmp x y)) number_told
 
-pub sets_request : {A : Type 0} (old new : Request → A) (k : Request) (w : A) → ((q : Request) → new q ≡ cond (is_eq (request_cmp k q)) w (old q)) → Sets old new k w
-sets_request = sets (λ x y. is_eq (request_cmp x y)) order_told
+set_row : {A : Type 0} (rows : ℕ → Option A) (k : ℕ) (w : Option A) → Sets rows (with_row rows k w) k w
+set_row rows k w = sets_number rows (with_row rows k w) k w (λ q. refl)
 
 module _ {rows : Requests} {u : Request → Option ℕ} (numbered : IsNumbered u rows) (k : ℕ) where
   -- A request loses its number.
@@ -151,20 +145,3 @@ module _ {rows : Requests} {u : Request → Option ℕ} (numbered : IsNumbered u
         back p i e (inr kept) (inr apart) =
             let one : rows i ≡ Some p = numbered.back p i (sym (put.apart p apart) ∙ sym (out.apart p kept) ∙ e) in
             row.apart i (λ is. let two : rows i ≡ Some old = subst (λ x. rows x ≡ Some old) is was in kept (cc)) ∙ one
-
--- What was set and then set back is as it was.
-set_back : {K A : Type 0} (same : (k q : K) → (k ≡ q) ⊎ (k ≢ q)) (old mid new : K → A) (k : K) (w : A) → Sets old mid k w → Sets mid new k (old k) → (q : K) → new q ≡ old q
-set_back same old mid new k w first then q =
-    elim (same k q) as (λ _. new q ≡ old q) [
-      | inl is ↦ subst (λ x. new x ≡ old x) is then.here
-      | inr apart ↦ then.apart q apart ∙ first.apart q apart
-    ]
-
--- A request that could not be given the number has none, as before.
-pub numbered_back : {rows : Requests} {u mid v : Request → Option ℕ} (request : Request) (w : Option ℕ) → u request ≡ None → Sets u mid request w → Sets mid v request None → IsNumbered u rows → IsNumbered v rows
-numbered_back {rows} {u} {mid} {v} request w none put out numbered =
-    let same : (q : Request) → v q ≡ u q = set_back same_or_not u mid v request w put (subst (Sets mid v request) (sym none) out) in
-    record {
-      there = λ i p e. same p ∙ numbered.there i p e;
-      back = λ p i e. numbered.back p i (sym (same p) ∙ e);
-    }

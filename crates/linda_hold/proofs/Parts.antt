@@ -1,5 +1,5 @@
 -- The part of a map that passes a test of its values: its keys are those of a set that has them.
-use Rattle.std.proofs.Common.{◌≡◌, ℕ, Bool, true, false, cond, ◌||◌, List, [], ◌∷◌, is_some, filter, refl, sym, ap, ◌∙◌, nat_cmp, Less, BTreeMap}
+use Rattle.std.proofs.Common.{◌≡◌, ℕ, Bool, true, false, cond, ◌||◌, List, [], ◌∷◌, is_some, length, filter, refl, sym, ap, ◌∙◌, nat_cmp, Less, BTreeMap}
 use Rattle.std.specs.BTreeSet.{BTreeSet}
 use Rattle.std.specs.BTreeSet as sets
 use Rattle.std.specs.BTreeMap as tree
@@ -11,7 +11,7 @@ use Rattle.std.specs.Map.{lookup, keys_of}
 use Rattle.std.proofs.lemmas.Map.Entries.{option_filter, lookup-filter-values}
 use Rattle.std.proofs.lemmas.Map.Keys.{IsDistinct-from_sorted}
 use Rattle.std.proofs.lemmas.Map.Lookups.{btree_set_from_contains, exact_unsigned}
-use Rattle.linda_bag.specs.Filing.{Rows, HasIds, IsBare}
+use Rattle.linda_bag.specs.Filing.{Rows, HasIds}
 use Rattle.linda_hold.proofs.Lists.{lookup_any}
 
 pub empty_sorted : IsStrictlySortedBy nat_cmp []
@@ -57,6 +57,7 @@ module _ {X : Type 0} (p : X → Bool) where
         btree_set_from_contains nat_cmp_total ids (record { keys = keys_of (part t.entries) }) sorted (part_sorted t.entries ordered)
         (λ q. has q ∙ same q ∙ sym (part_has t.entries ordered q)) exact_unsigned
 
-    -- Where nothing passes, that part is empty.
-    pub found_none : IsBare rows → [] ≡ keys_of (part t.entries)
-    found_none bare = found_some (record { keys = [] }) empty_sorted (λ q. sym (ap is_some (bare q)))
+    -- What counts the numbers in any such set counts that part.
+    pub counted_part : (count : ℕ) → ((ids : BTreeSet ℕ) → sets.IsOrdered nat_cmp ids → HasIds ids rows → count ≡ length ids.keys) → count ≡ length (keys_of (part t.entries))
+    counted_part count counts =
+        counts (record { keys = keys_of (part t.entries) }) (part_sorted t.entries ordered) (λ q. part_has t.entries ordered q ∙ sym (same q))

@@ -1,8 +1,6 @@
 -- The waits of a client, and those that a tuple may answer: the numbers that are filed under these are those of the waits that
 -- contracts speak of.
 use Rattle.std.proofs.Common.{◌≡◌, ℕ, Bool, true, false, ◌||◌, ◌==◌, cond, List, [], ◌∷◌, Option, None, Some, length, filter, refl, sym, ap, subst, ◌∙◌, nat_cmp, BTreeMap}
-use Rattle.std.specs.BTreeSet.{BTreeSet}
-use Rattle.std.specs.BTreeSet as sets
 use Rattle.std.specs.BTreeMap as tree
 use Rattle.std.specs.Ordering.{is_eq}
 use Rattle.std.specs.Option.{is_some, option_map}
@@ -22,17 +20,17 @@ use Rattle.linda_tuple.specs.Tuple.{Tuple}
 use Rattle.linda_tuple.specs.Matching.{Fits}
 use Rattle.linda_tuple.specs.Testing.{is_match}
 use Rattle.linda_tuple.proofs.Deciding.{is_match_decides}
-use Rattle.linda_bag.specs.Filing.{HasIds, IsBare, row_at, rows_at, placed, keyed}
+use Rattle.linda_bag.specs.Filing.{row_at, rows_at, placed, keyed}
 use Rattle.linda_bag.specs.Candidates.{first_among, first_value}
 use Rattle.linda_bag.proofs.Ordered.{atom_itself, number_itself}
 use Rattle.linda_hold.specs.declared.asks.Asked.{Asked}
 use Rattle.linda_hold.specs.Waits.{Wait, waits_of}
 use Rattle.linda_hold.specs.Arrivals.{has_in}
 use Rattle.linda_hold.specs.Group.{if_unkeyed, is_reached}
-use Rattle.linda_hold.specs.Named.{Requests, client_of}
+use Rattle.linda_hold.specs.Named.{Requests, IsCount, client_of}
 use Rattle.linda_hold.specs.Heads.{Waiting, count_of, alike, may_answer}
 use Rattle.linda_hold.specs.Index.{requests_of, asked_of, before, waits_at}
-use Rattle.linda_hold.proofs.Parts.{part, found_some, found_none}
+use Rattle.linda_hold.proofs.Parts.{part, found_some, counted_part}
 
 part_values : (p : Wait → Bool) (es : List (ℕ × Wait)) → values_of (part p es) ≡ filter p (values_of es)
 part_values p [] = refl
@@ -118,17 +116,11 @@ module _ (t : BTreeMap ℕ Wait) (ordered : tree.IsOrdered nat_cmp t) where
         ∙ unsigned_tied client w.0.client
         ∙ sym (told (client == w.0.client) w)
 
-    -- There are as many numbers of the client as it has waits.
-    pub own_count : (numbers : BTreeSet ℕ) → sets.IsOrdered nat_cmp numbers → HasIds numbers own → length numbers.keys ≡ length (waits_of client (values_of t.entries))
-    own_count numbers sorted has =
-        ap length (found_some (λ w. client == w.0.client) t ordered own (λ q. own_at (tree.get nat_cmp t q)) numbers sorted has)
+    -- The client has as many requests as waits.
+    pub own_count : (count : ℕ) → IsCount client (requests_of (tree.get nat_cmp t)) count → count ≡ length (waits_of client (values_of t.entries))
+    own_count count counts =
+        counted_part (λ w. client == w.0.client) t ordered own (λ q. own_at (tree.get nat_cmp t q)) count counts
         ∙ part_length (λ w. client == w.0.client) t.entries
-
-    pub own_none : IsBare own → [] ≡ waits_of client (values_of t.entries)
-    own_none bare =
-        ap (λ ks. waits_at (tree.get nat_cmp t) ks) (found_none (λ w. client == w.0.client) t ordered own (λ q. own_at (tree.get nat_cmp t q)) bare)
-        ∙ looked_up (tree.get nat_cmp t) (part (λ w. client == w.0.client) t.entries) (kept_found _ (λ w. client == w.0.client) t.entries (recursion_from_All (λ e. tree.get nat_cmp t e.0 ≡ Some e.1) t.entries (All-found nat_cmp_total t ordered)))
-        ∙ part_values (λ w. client == w.0.client) t.entries
 
   module _ (row : Tuple) where
     -- The waits under the numbers of what the tuple may answer are those that it may answer, in order of arrival.

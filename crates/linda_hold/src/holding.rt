@@ -7,8 +7,9 @@ ghost use Rattle.std.specs.FinMap as map;
 ghost use Rattle.std.specs.BTreeSet as set;
 ghost use Rattle.linda_hold.specs.Holds.{IsHeldAt, IsOneEach, held_in};
 
-use crate::held::Held;
+use crate::names::Names;
 use crate::request::Request;
+use linda_bag::IdSet;
 use std::alloc::{AllocError, Global};
 use std::collections::{BTreeMap, BTreeSet};
 use std::marker::Model;
@@ -19,7 +20,7 @@ use std::marker::Model;
 pub struct Holds {
     alloc: Global,
     by_id: BTreeMap<u64, Request>,
-    held: Held,
+    names: Names,
 }
 
 impl Model for Holds {
@@ -29,7 +30,7 @@ impl Model for Holds {
     ghost use Rattle.std.specs.BTreeMap as tree;
     ghost use Rattle.linda_hold.specs.Request.{request_code};
     ghost use Rattle.linda_hold.specs.Holds.{HeldFor};
-    ghost use Rattle.linda_hold.specs.Held.{HasHeld};
+    ghost use Rattle.linda_hold.specs.Named.{HasNames};
 
     ghost Value = { HeldFor };
 
@@ -38,7 +39,7 @@ impl Model for Holds {
     ghost view = { λ h. map.from_entries h.by_id.entries };
 
     ghost invariant = { λ h. tree.IsOrdered nat_cmp h.by_id
-        × HasHeld h.held (tree.get nat_cmp h.by_id) };
+        × HasNames h.names (tree.get nat_cmp h.by_id) };
 }
 
 impl Holds {
@@ -49,7 +50,7 @@ impl Holds {
         Holds {
             alloc,
             by_id: BTreeMap::new(alloc),
-            held: Held::empty(alloc),
+            names: Names::empty(alloc),
         }
     }
 
@@ -66,14 +67,29 @@ impl Holds {
         ensures value { IsHeldAt self.now request result }
         ensures one_each { IsOneEach self.now }
     {
-        self.held.names.number_of(request)
+        self.names.number_of(request)
+    }
+
+    /// How many tuples are held. Takes no memory.
+    pub fn len(&self) -> usize
+        ensures { result ≡ map.len self.now }
+    {
+        self.by_id.len()
     }
 
     /// The ids of all tuples that are held.
-    pub fn ids(&self) -> &BTreeSet<u64>
-        ensures { (id : ℕ) → set.contains nat_cmp result.now id ≡ is_some (map.get self.now id) }
+    ///
+    /// # Errors
+    ///
+    /// `AllocError` where memory runs out.
+    pub fn ids(&self, alloc: Global) -> Result<BTreeSet<u64>, AllocError>
+        ensures { IfOk result (λ ids. (id : ℕ) → set.contains nat_cmp ids id ≡ is_some (map.get self.now id)) }
     {
-        &self.held.ids
+        let mut ids = BTreeSet::new(alloc);
+        for id in self.by_id.keys() {
+            ids.insert(*id)?;
+        }
+        Ok(ids)
     }
 
     /// The ids that are held for the client, rising. It looks at the holds of this client alone.
@@ -84,20 +100,15 @@ impl Holds {
     pub fn of_client(&self, alloc: Global, client: u32) -> Result<Vec<u64>, AllocError>
         ensures { IfOk result (λ v. v.items ≡ held_in client (map.entries self.now)) }
     {
-        match self.held.names.of_client(client) {
-            Some(ids) => copied(alloc, ids),
-            None => Ok(Vec::new(alloc)),
-        }
+        let ids = self.names.of_client(alloc, client)?;
+        copied(alloc, &ids)
     }
 
     /// How many tuples are held for the client. It walks over none of them, and takes no memory.
     pub fn count_of(&self, client: u32) -> usize
         ensures { result ≡ length (held_in client (map.entries self.now)) }
     {
-        match self.held.names.of_client(client) {
-            Some(ids) => ids.len(),
-            None => 0,
-        }
+        self.names.count_of(client)
     }
 
     /// Lets the tuple be held for the request. If it was held for another, it is held for that no
@@ -111,13 +122,17 @@ impl Holds {
         ensures ok { OnOk result (self.new ≡ map.insert self.old id request) }
         ensures err { OnErr result (self.new ≡ self.old) }
     {
-        let old = self.by_id.get(&id).copied();
-        self.held.put(self.alloc, id, old, request)?;
+        self.names.put(self.alloc, id, request)?;
         match self.by_id.insert(id, request) {
-            Ok(_) => Ok(()),
+            Ok(old) => {
+                if let Some(old) = old {
+                    self.names.remove(old);
+                }
+                Ok(())
+            }
             Err(_) => {
                 // Only a new id can be refused: it was held for no other request.
-                self.held.remove(id, request);
+                self.names.remove(request);
                 Err(AllocError)
             }
         }
@@ -128,8 +143,19 @@ impl Holds {
         ensures { self.new ≡ map.remove self.old id }
     {
         if let Some(request) = self.by_id.remove(&id) {
-            self.held.remove(id, request);
+            self.names.remove(request);
         }
+    }
+}
+
+impl IdSet for Holds {
+    ghost use Rattle.std.specs.Option.{is_some};
+    ghost use Rattle.std.specs.FinMap as map;
+
+    ghost has = { λ holds id. is_some (map.get holds id) };
+
+    fn has(&self, id: u64) -> bool {
+        self.by_id.contains_key(&id)
     }
 }
 

@@ -13,7 +13,6 @@ mod asks;
 mod firsts;
 mod group;
 mod heads;
-mod held;
 mod holding;
 mod index;
 mod names;

@@ -115,14 +115,12 @@ impl Waits {
         }
     }
 
-    // The ticket of some request of the client that waits; nothing where none does.
+    // The least ticket of the client's requests that wait; nothing where none does.
     fn first_ticket(&self, client: u32) -> Option<u64>
         ensures waits { IfSome result (λ ticket. is_waiting (request_of client ticket) self.now ≡ true) }
         ensures none { IfNone result (waits_of client self.now ≡ []) }
     {
-        let number = self.index.names.of_client(client)?.first()?;
-        let wait = self.by_arrival.get(number)?;
-        Some(wait.0.ticket)
+        self.index.names.first_ticket(client)
     }
 
     /// Takes out the reads that the tuple answers, and gives them in order of arrival. The others keep
@@ -195,10 +193,7 @@ impl Waits {
     pub fn count_of(&self, client: u32) -> usize
         ensures { result ≡ length (waits_of client self.now) }
     {
-        match self.index.names.of_client(client) {
-            Some(numbers) => numbers.len(),
-            None => 0,
-        }
+        self.index.names.count_of(client)
     }
 }
 

@@ -152,7 +152,7 @@ fn talk(
 /// Tells what the server keeps: the next id, and how many tuples, clients and holds there are.
 pub(crate) fn look(server: &Durable<MemDisk>, came: &mut String) -> Result<(), WordsFault> {
     let state = server.state();
-    let held = server.holds().ids().len();
+    let held = server.holds().len();
     let next = state.next;
     let tuples = state.bag.len();
     let clients = state.book.len();

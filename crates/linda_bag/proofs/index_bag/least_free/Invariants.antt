@@ -6,5 +6,5 @@ use Rattle.linda_bag.proofs.index_bag.least_free.Given as goal
 
 -- The ids that are left have each free match among the ids from there on.
 abbrev pub invariant-loop-id : goal.invariant-loop-id
-invariant-loop-id l =
-    IsAhead (λ k. (l.from ≤ k) × (contains nat_cmp l.ids k ≡ true) × IsFreeMatch l.tuples l.template (contains nat_cmp l.passed) k) l.id-iterator
+invariant-loop-id g l =
+    IsAhead (λ k. (l.from ≤ k) × (contains nat_cmp l.ids k ≡ true) × IsFreeMatch l.tuples l.template (g.P.IdSet.has l.passed) k) l.id-iterator

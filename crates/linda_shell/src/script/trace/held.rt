@@ -59,7 +59,7 @@ impl Held {
     // The ids that are held, and were told of nobody, rising.
     fn gained(&self, alloc: Global, holds: &Holds) -> Result<Vec<u64>, AllocError> {
         let mut gained = Vec::new(alloc);
-        for id in holds.ids() {
+        for id in &holds.ids(alloc)? {
             if !self.by_id.contains_key(id) {
                 gained.push(*id)?;
             }

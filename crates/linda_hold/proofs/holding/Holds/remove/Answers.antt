@@ -3,14 +3,16 @@ use Rattle.std.specs.BTreeMap as tree
 use Rattle.std.specs.FinMap as map
 use Rattle.linda_bag.proofs.Maps.{one_gone}
 use Rattle.linda_bag.proofs.Kept.{as_after}
-use Rattle.linda_hold.specs.Held.{HasHeld}
+use Rattle.linda_hold.specs.Named.{HasNames}
+use Rattle.linda_hold.proofs.Naming.{names_gone}
 use Rattle.linda_hold.proofs.holding.Holds.remove.Goals as goal
 
 pub invariant_of-self : goal.invariant_of-self
 invariant_of-self c = (
   c.remove.ensures.ordered,
-  as_after (HasHeld c.self.inside.held) (HasHeld c.remove-in-Some.new.self) (tree.get nat_cmp c.self.inside.by_id) _ (tree.get nat_cmp c.remove.new.self) _ _
-      (sym c.remove.ensures.value ∙ c.in-Some.is) c.remove.ensures.updates.0 c.remove-in-Some.ensures c.self.invariant.1,
+  as_after (HasNames c.self.inside.names) (HasNames c.remove-in-Some.new.self) (tree.get nat_cmp c.self.inside.by_id) _ (tree.get nat_cmp c.remove.new.self) _ _
+      (sym c.remove.ensures.value ∙ c.in-Some.is) c.remove.ensures.updates.0
+      (names_gone c.self.inside.names c.remove-in-Some.new.self c.remove-in-Some.ensures.used c.args.id _ c.remove-in-Some.ensures.gone) c.self.invariant.1,
 )
 
 pub returns-in-Some : goal.returns-in-Some
