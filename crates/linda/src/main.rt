@@ -29,7 +29,7 @@ ghost use Rattle.clap.specs.Words.{kind_of};
 ghost use Rattle.linda.specs.Statuses.{status_after, status_after_call, status_after_script};
 ghost use Rattle.clap.specs.declared.error.kind.ErrorKind.TheVariants as kinds;
 
-mod running;
+mod status;
 
 use linda_caller::{CallFault, call};
 use linda_command::{Ports, Task, VERSION_LINES, asks_for_version, read_task};
@@ -37,7 +37,7 @@ use linda_inspect::Lists;
 use linda_pipe::{PipeFault, REFUSED, pipe};
 use linda_service::{inspect_folder, serve_folder, serve_logged};
 use linda_shell::{ScriptFault, run_script, trace_script};
-use running::status_of_script;
+use status::status_of_script;
 use std::fmt::Display;
 use std::fs::File;
 use std::io::{ErrorKind, Write};

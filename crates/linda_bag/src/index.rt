@@ -8,7 +8,7 @@ ghost use Rattle.linda_bag.specs.Ids.{IsOf};
 ghost use Rattle.linda_bag.specs.Candidates.{first_value, with_first, candidates};
 ghost use Rattle.linda_bag.specs.Firsts.{HasFirsts};
 
-use crate::filing::Shelf;
+use crate::shelf::Shelf;
 use crate::firsts::Firsts;
 use crate::heads::{Heads, alike};
 use crate::ids::Ids;

@@ -7,10 +7,10 @@ ghost use Rattle.std.specs.BTreeSet.{contains};
 ghost use Rattle.std.specs.FinMap as map;
 ghost use Rattle.linda_bag.specs.FreeMatch.{IsFreeMatch};
 
-use crate::bags::{Bag, Found};
-use crate::by_id::is_free_match;
-use crate::filing::Shelf;
-use crate::id_sets::IdSet;
+use crate::bag::{Bag, Found};
+use crate::free_match::is_free_match;
+use crate::shelf::Shelf;
+use crate::id_set::IdSet;
 use crate::ids::Ids;
 use crate::index::{Index, candidates};
 use crate::tuples::Tuples;

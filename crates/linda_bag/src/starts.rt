@@ -9,8 +9,8 @@ ghost use Rattle.std.specs.FinMap as map;
 ghost use Rattle.linda_bag.specs.FreeMatch.{IsFreeMatch};
 ghost use Rattle.linda_bag.specs.Starts.{Bagged, Covers, AreRight, Begins};
 
-use crate::bags::Bag;
-use crate::id_sets::IdSet;
+use crate::bag::Bag;
+use crate::id_set::IdSet;
 use linda_tuple::{Atom, Template, Tuple};
 use std::alloc::{AllocError, Global};
 use std::collections::{BTreeMap, BTreeSet};

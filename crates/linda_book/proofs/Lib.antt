@@ -1,2 +1,2 @@
-pub mod Viewed
-pub mod Meaning
+pub mod BookLaws
+pub mod MeaningLaws

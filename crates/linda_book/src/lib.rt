@@ -6,10 +6,10 @@
 //! clients to the entries of `specs/Entries`.
 #![tactic(auto)]
 
-mod books;
-mod classes;
-mod kept;
+mod book;
+mod class;
+mod kept_reply;
 
-pub use books::Book;
-pub use classes::{Class, class_of};
-pub use kept::KeptReply;
+pub use book::Book;
+pub use class::{Class, class_of};
+pub use kept_reply::KeptReply;

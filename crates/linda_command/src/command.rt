@@ -64,7 +64,7 @@ pub enum Task {
 ///
 /// The parser's fault: a command that is missing or unknown, a word too many, a number of servers
 /// that is missing or not in its range, want of memory; or the help that was asked for.
-#[tactic(auto, using(crate::proofs::Tasks::apart))]
+#[tactic(auto, using(crate::proofs::TaskLaws::apart))]
 pub fn read_task(alloc: Global, words: &[String]) -> Result<Task, Error>
     ensures asked { IfOk result (λ task. AsksFor (map string_bytes words.now) task) }
     ensures taken { (task : Task) → AsksExactlyFor (map string_bytes words.now) task

@@ -5,7 +5,7 @@ ghost use Rattle.linda_bag.specs.Filing.{no_rows, Refiles};
 ghost use Rattle.linda_hold.specs.Named.{number_at};
 ghost use Rattle.linda_hold.specs.Index.{HasWaits};
 
-use crate::asks::Asked;
+use crate::asked::Asked;
 use crate::heads::{Heads, Wait};
 use crate::names::Names;
 use linda_bag::Shelf;

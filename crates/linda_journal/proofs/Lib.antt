@@ -1,4 +1,4 @@
-pub mod Apart
+pub mod ApartLaws
 pub mod DeedLaws
 pub mod SizeLaws
 pub mod PayloadLaws

@@ -7,12 +7,12 @@ use Rattle.linda_codec.specs.declared.fault.ReadFault.{ReadFault}
 use Rattle.linda_codec.specs.Lawful.{IsBytes}
 use Rattle.linda_codec.specs.Steps.{Read, left_by}
 use Rattle.linda_codec.proofs.SkipLaws.{is_fault}
-use Rattle.linda_codec.proofs.Takes.{IsBytes-drop}
+use Rattle.linda_codec.proofs.TakeLaws.{IsBytes-drop}
 use Rattle.linda_tuple.specs.declared.form.Form.{Form}
 use Rattle.linda_state.specs.declared.deed.Deed.{Deed}
 use Rattle.linda_journal.specs.declared.limits.TheConstants.{MAX_DEEDS}
 use Rattle.linda_journal.specs.Records.{deed, spell_deed, FitsDeed, payload, IsRecord, IsPayloadOf, IsNoPayload}
-use Rattle.linda_journal.proofs.Apart.{IsApart, format_apart, first_ones}
+use Rattle.linda_journal.proofs.ApartLaws.{IsApart, format_apart, first_ones}
 use Rattle.linda_journal.proofs.DeedLaws.{deed_is}
 use Rattle.linda_journal.proofs.SizeLaws.{deed_some}
 

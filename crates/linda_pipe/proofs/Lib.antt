@@ -1,4 +1,4 @@
-pub mod Nodes
-pub mod Steps
-pub mod Ends
+pub mod NodeLaws
+pub mod StepLaws
+pub mod EndLaws
 mod DigitLaws

@@ -12,10 +12,10 @@ use Rattle.linda_store.specs.Node.{Node}
 use Rattle.linda_store.specs.Turn.{beginning}
 use Rattle.linda_store.specs.Conversation.{IsConversation}
 use Rattle.linda_store.specs.Session.{Session, point_of}
-use Rattle.linda_pipe.specs.declared.faults.PipeFault.{PipeFault}
-use Rattle.linda_pipe.specs.declared.faults.PipeFault.TheVariants as faults
-use Rattle.linda_pipe.specs.declared.exchanges.Exchange.{Exchange}
-use Rattle.linda_pipe.specs.declared.lines.TheConstants.{LINE_FEED}
+use Rattle.linda_pipe.specs.declared.fault.PipeFault.{PipeFault}
+use Rattle.linda_pipe.specs.declared.fault.PipeFault.TheVariants as faults
+use Rattle.linda_pipe.specs.declared.exchange.Exchange.{Exchange}
+use Rattle.linda_pipe.specs.declared.line.TheConstants.{LINE_FEED}
 
 -- The conversation over these bytes, in which this is said, stands as the exchange and its server have it.
 abbrev pub HasTalked : List ℕ → List Reply → Exchange → Node → Type 0

@@ -1,7 +1,7 @@
 -- Texts as lines, each of which ends with a line feed.
 use Rattle.std.specs.Prelude.{◌≡◌, ◌≢◌, ℕ, List, [], ◌∷◌, ◌++◌, All, Option, Some, None}
 use Rattle.std.specs.List.{flat_map}
-use Rattle.linda_pipe.specs.declared.lines.TheConstants.{LINE_FEED}
+use Rattle.linda_pipe.specs.declared.line.TheConstants.{LINE_FEED}
 
 -- no line feed stands among these bytes
 abbrev pub HasNoFeed : List ℕ → Type 0

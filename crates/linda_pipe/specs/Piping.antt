@@ -16,8 +16,8 @@ use Rattle.linda_store.specs.Node.{Node}
 use Rattle.linda_store.specs.Turn.{Point, beginning}
 use Rattle.linda_store.specs.Conversation.{IsConversation}
 use Rattle.linda_store.specs.declared.conversation.TheConstants.{MAX_READS}
-use Rattle.linda_pipe.specs.declared.faults.PipeFault.{PipeFault}
-use Rattle.linda_pipe.specs.declared.faults.PipeFault.TheVariants as faults
+use Rattle.linda_pipe.specs.declared.fault.PipeFault.{PipeFault}
+use Rattle.linda_pipe.specs.declared.fault.PipeFault.TheVariants as faults
 
 -- a reply as a line: the digits of its frame, in lower case, and the line feed
 abbrev pub reply_line : Reply → List ℕ

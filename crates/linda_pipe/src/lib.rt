@@ -8,14 +8,14 @@
 //! while its pieces arrive, and the exit statuses `REFUSED` and `BAD_LINE`.
 #![tactic(auto)]
 
-mod decoding;
-mod exchanges;
-mod faults;
-mod lines;
+mod decode;
+mod exchange;
+mod fault;
+mod line;
 mod piping;
-mod spelling;
+mod reply_line;
 
-pub use decoding::without_return;
-pub use faults::{BAD_LINE, PipeFault, REFUSED};
-pub use lines::extend_line;
+pub use decode::without_return;
+pub use fault::{BAD_LINE, PipeFault, REFUSED};
+pub use line::extend_line;
 pub use piping::pipe;

@@ -5,8 +5,8 @@ ghost use Rattle.linda_pipe.specs.declared.piping.TheConstants.{BUFFER};
 ghost use Rattle.linda_pipe.specs.Exchanges.{IsPiping, TurnsTo};
 ghost use Rattle.linda_pipe.specs.Piping.{IsPiped};
 
-use crate::exchanges::Exchange;
-use crate::faults::PipeFault;
+use crate::exchange::Exchange;
+use crate::fault::PipeFault;
 use linda_store::{MAX_READS, Node, Volatile};
 use std::alloc::Global;
 use std::io::{Read, Write};

@@ -3,7 +3,7 @@ use Rattle.std.proofs.Common.{◌≡◌, ℕ, zero, suc, ◌+◌, ◌-◌, ◌<�
 use Rattle.std.proofs.lemmas.Bool.{cond-true, cond-false, cases_eq}
 use Rattle.std.proofs.lemmas.List.{take_more}
 use Rattle.std.proofs.lemmas.List.Elements.{Contains-push_cases}
-use Rattle.linda_bag.proofs.Maps.{get_empty}
+use Rattle.linda_maps.proofs.MapLaws.{get_empty}
 use Rattle.linda_book.specs.Entries.{number_in}
 use Rattle.linda_state.specs.declared.deed.Deed.{Deed}
 use Rattle.linda_state.specs.Deed.{client_of, number_of}

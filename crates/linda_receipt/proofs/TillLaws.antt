@@ -7,8 +7,8 @@ use Rattle.std.specs.Cmp.{unsigned_Decides}
 use Rattle.std.specs.FinMap.{empty, get, insert, remove, entries, len-entries, len-empty}
 use Rattle.std.proofs.lemmas.List.{nil_from_length}
 use Rattle.std.proofs.lemmas.List.Elements.{All-nil, All-weaker}
-use Rattle.linda_bag.proofs.Maps.{get_empty, get_inserted, get_removed, get_removed_same, get_removed_other, get_same, get_other, same_map_by_key}
-use Rattle.linda_bag.proofs.Sums.{sum_inserted}
+use Rattle.linda_maps.proofs.MapLaws.{get_empty, get_inserted, get_removed, get_removed_same, get_removed_other, get_same, get_other, same_map_by_key}
+use Rattle.linda_maps.proofs.SumLaws.{sum_inserted}
 use Rattle.linda_receipt.specs.declared.place.Place.{Place}
 use Rattle.linda_receipt.specs.declared.place.Place.TheVariants as places
 use Rattle.linda_receipt.specs.declared.receipt.Receipt.{Receipt}

@@ -6,7 +6,7 @@ use Rattle.std.proofs.lemmas.List.{length-set}
 use Rattle.std.proofs.lemmas.List.Elements.{All-nil, All-cons, All-weaker, All-contains, All-contains_itself, Contains-append_left, Contains-push_cases}
 use Rattle.std.specs.FinMap.{get}
 use Rattle.linda_client.specs.declared.limits.TheConstants.{MAX_SERVERS}
-use Rattle.linda_bag.proofs.Maps.{get_empty}
+use Rattle.linda_maps.proofs.MapLaws.{get_empty}
 use Rattle.linda_wire.specs.declared.message.Message.{Message}
 use Rattle.linda_wire.specs.declared.message.Message.TheVariants as messages
 use Rattle.linda_wire.specs.declared.reply.Reply.{Reply}

@@ -6,7 +6,7 @@ use Rattle.std.specs.Coded.{Coded-set, coded_option, coded_ℕ, coded×}
 use Rattle.std.specs.List.{slice_get}
 use Rattle.std.specs.FinMap.{get}
 use Rattle.linda_tuple.specs.Codes.{tuple_code}
-use Rattle.linda_bag.proofs.Maps.{get_same, get_other}
+use Rattle.linda_maps.proofs.MapLaws.{get_same, get_other}
 use Rattle.linda_book.specs.Entries.{number_in}
 use Rattle.linda_book.specs.Codes.{kept_code}
 use Rattle.linda_state.specs.declared.deed.Deed.{Deed}

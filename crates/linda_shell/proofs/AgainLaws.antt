@@ -10,7 +10,7 @@ use Rattle.linda_tuple.specs.Template.{Template, IsWithinTemplate}
 use Rattle.linda_text.specs.Letters.{is_blank}
 use Rattle.linda_text.specs.Grammar.{AreBlanks, IsAtomText, IsTemplateText}
 use Rattle.linda_text.specs.Reading.{after_blanks, natural_at, template_at, spaced_atom_at}
-use Rattle.linda_text.proofs.Blanks.{blanks_again}
+use Rattle.linda_text.proofs.BlankLaws.{blanks_again}
 use Rattle.linda_text.proofs.RowLaws.{template_is, spaced_atom_is}
 use Rattle.linda_event.specs.Trees.{Kind, input, read, alarm, always, never, Tree, leaf, choose, wrap, nack, Trees, no_trees, and_tree, members_of}
 use Rattle.linda_text.specs.declared.marks.TheConstants.{COMMA, SPACE, TAB}

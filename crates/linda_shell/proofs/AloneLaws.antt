@@ -5,7 +5,7 @@ use Rattle.std.proofs.lemmas.List.{append-nil}
 use Rattle.linda_text.specs.declared.fault.TextFault.TheVariants.{Memory}
 use Rattle.linda_text.specs.Grammar.{AreBlanks}
 use Rattle.linda_text.specs.Reading.{after_blanks, ended}
-use Rattle.linda_text.proofs.Blanks.{blanks_take, blanks_again}
+use Rattle.linda_text.proofs.BlankLaws.{blanks_take, blanks_again}
 use Rattle.linda_event.specs.Trees.{Tree}
 use Rattle.linda_shell.specs.declared.fault.EventTextFault.{EventTextFault}
 use Rattle.linda_shell.specs.declared.fault.EventTextFault.TheVariants.{Text}
@@ -14,7 +14,7 @@ use Rattle.linda_shell.specs.EventTexts.{IsEventAlone}
 use Rattle.linda_shell.specs.Words.{EndsWord}
 use Rattle.linda_shell.specs.Steps.{lifted, settled_fault}
 use Rattle.linda_shell.specs.Reading.{event_at, only_event}
-use Rattle.linda_text.proofs.Steps.{bind_ok, ok_is}
+use Rattle.linda_text.proofs.StepLaws.{bind_ok, ok_is}
 use Rattle.linda_shell.proofs.EventLaws.{event_takes}
 use Rattle.linda_shell.proofs.AgainLaws.{event_again, event_begins, blank_ends}
 

@@ -6,7 +6,7 @@ use Rattle.std.proofs.Math.Nat.{max-le}
 use Rattle.linda_tuple.specs.Template.{Template, IsWithinTemplate}
 use Rattle.linda_text.specs.Grammar.{AreBlanks, IsAtomText, IsTemplateText}
 use Rattle.linda_text.specs.Reading.{after_blanks, natural_at, template_at, spaced_atom_at}
-use Rattle.linda_text.proofs.Blanks.{blanks_take}
+use Rattle.linda_text.proofs.BlankLaws.{blanks_take}
 use Rattle.linda_text.proofs.RowLaws.{template_is, spaced_atom_is}
 use Rattle.linda_event.specs.Trees.{Kind, input, read, alarm, always, never, Tree, leaf, choose, wrap, nack, Trees, no_trees, and_tree, members_of}
 use Rattle.linda_text.specs.declared.marks.TheConstants.{COMMA}
@@ -20,8 +20,8 @@ use Rattle.linda_text.specs.Steps.{◌>>=◌}
 use Rattle.linda_text.specs.Reading.{made}
 use Rattle.linda_shell.specs.Steps.{Read, Reader, lifted}
 use Rattle.linda_shell.specs.Reading.{some_members_at, members_at, under_at, node_at, event_at}
-use Rattle.linda_text.proofs.Steps.{bind_ok, ok_is}
-use Rattle.linda_shell.proofs.Lifted.{lifted_ok}
+use Rattle.linda_text.proofs.StepLaws.{bind_ok, ok_is}
+use Rattle.linda_shell.proofs.LiftLaws.{lifted_ok}
 use Rattle.linda_shell.proofs.WordLaws.{ends_front, keyword_takes, number_takes, label_takes, mark_of, mark_takes, opened, open_takes}
 
 -- ---- what is read is a text of the event

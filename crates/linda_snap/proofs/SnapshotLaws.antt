@@ -7,15 +7,15 @@ use Rattle.linda_tuple.specs.declared.form.Form.TheVariants.{One, Two}
 use Rattle.linda_codec.specs.Steps.{many_at}
 use Rattle.linda_codec.specs.Formats.{Format, short_number, no_kind}
 use Rattle.linda_codec.specs.Lawful.{Takes, IsFormat}
-use Rattle.linda_codec.proofs.Takes.{bind_ok, Takes-then}
-use Rattle.linda_codec.proofs.Many.{many_takes, many_again}
-use Rattle.linda_codec.proofs.Bounds.{bounded_then, many_bounded}
+use Rattle.linda_codec.proofs.TakeLaws.{bind_ok, Takes-then}
+use Rattle.linda_codec.proofs.ManyLaws.{many_takes, many_again}
+use Rattle.linda_codec.proofs.BoundLaws.{bounded_then, many_bounded}
 use Rattle.linda_codec.proofs.FormatLaws.{short_number_is, number_is, nothing_is, both_is, body_is, made_again, no_kind_is, AreBodies, choice_is}
 use Rattle.linda_codec.proofs.ValueLaws.{tuple_is}
-use Rattle.linda_book.specs.declared.kept.KeptReply.{KeptReply}
-use Rattle.linda_book.specs.declared.kept.KeptReply.TheVariants.{Stored, Taken, Gone, Left}
+use Rattle.linda_book.specs.declared.kept_reply.KeptReply.{KeptReply}
+use Rattle.linda_book.specs.declared.kept_reply.KeptReply.TheVariants.{Stored, Taken, Gone, Left}
 use Rattle.linda_state.specs.State.{State}
-use Rattle.linda_journal.proofs.Apart.{format_apart}
+use Rattle.linda_journal.proofs.ApartLaws.{format_apart}
 use Rattle.linda_snap.specs.declared.kinds.TheConstants as kind
 use Rattle.linda_snap.specs.Snapshot as format
 use Rattle.linda_snap.specs.Snapshot.{listed, Parts, parts_of, spell_state, IsSnapshot}

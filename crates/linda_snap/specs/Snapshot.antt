@@ -9,8 +9,8 @@ use Rattle.linda_codec.specs.Steps.{Reader, ◌>>=◌, many_at}
 use Rattle.linda_codec.specs.Formats.{Format, short_number, number}
 use Rattle.linda_codec.specs.Formats.{nothing, both, made_at, no_kind, choice_at}
 use Rattle.linda_codec.specs.Values as value
-use Rattle.linda_book.specs.declared.kept.KeptReply.{KeptReply}
-use Rattle.linda_book.specs.declared.kept.KeptReply.TheVariants.{Stored, Taken, Gone, Left}
+use Rattle.linda_book.specs.declared.kept_reply.KeptReply.{KeptReply}
+use Rattle.linda_book.specs.declared.kept_reply.KeptReply.TheVariants.{Stored, Taken, Gone, Left}
 use Rattle.linda_book.specs.Entries.{Entry}
 use Rattle.linda_state.specs.State.{State, IsState}
 use Rattle.linda_state.specs.DeedFormat.{HasLeaves}

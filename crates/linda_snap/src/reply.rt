@@ -4,7 +4,7 @@
 ghost use Rattle.std.specs.Prelude.{◌≡◌, ◌∷◌, ◌++◌, ◌≤◌, ◌+◌, length, OnOk};
 ghost use Rattle.linda_codec.specs.Steps.{Gives, GivesAlways};
 ghost use Rattle.linda_codec.specs.Formats.{choice_at, made_at, no_kind, number};
-ghost use Rattle.linda_book.specs.declared.kept.KeptReply.TheVariants.{Stored, Taken};
+ghost use Rattle.linda_book.specs.declared.kept_reply.KeptReply.TheVariants.{Stored, Taken};
 ghost use Rattle.linda_codec.specs.Values as value;
 ghost use Rattle.linda_state.specs.DeedFormat.{written};
 ghost use Rattle.linda_snap.specs.declared.reply.TheConstants.{ID, PLACED_BYTES, REPLY_BYTES};

@@ -6,7 +6,7 @@
 ghost use Rattle.std.specs.Prelude.{◌≡◌, ◌∷◌, [], None, ℕ, true, false};
 ghost use Rattle.std.specs.Prelude.{IfOk, OnOk, OnErr, map, option_to_list};
 ghost use Rattle.std.specs.FinMap as maps;
-ghost use Rattle.linda_book.specs.declared.kept.KeptReply.TheVariants as kept_replies;
+ghost use Rattle.linda_book.specs.declared.kept_reply.KeptReply.TheVariants as kept_replies;
 ghost use Rattle.linda_state.specs.declared.deed.Deed.TheVariants as deeds;
 ghost use Rattle.linda_state.specs.State.{IsState, empty_state};
 ghost use Rattle.linda_state.specs.After.{IsAfter};

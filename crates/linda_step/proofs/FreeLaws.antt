@@ -6,7 +6,7 @@ use Rattle.std.specs.FinMap.{get, insert, remove}
 use Rattle.linda_tuple.specs.Tuple.{Tuple}
 use Rattle.linda_bag.specs.declared.starts.Starts.{Starts}
 use Rattle.linda_bag.specs.Starts.{AreRight}
-use Rattle.linda_bag.proofs.Maps.{get_same, get_other, get_removed_other}
+use Rattle.linda_maps.proofs.MapLaws.{get_same, get_other, get_removed_other}
 use Rattle.linda_bag.proofs.StartLaws.{stay_right}
 use Rattle.linda_hold.specs.declared.request.Request.{Request}
 use Rattle.linda_hold.specs.Waits.{Wait, longest, without_readers}

@@ -38,7 +38,7 @@ use Rattle.linda_step.proofs.PresentLaws.{fewer_asking, taken_asking, held_askin
 use Rattle.linda_state.specs.After.{reply_of_deed, taken_reply}
 use Rattle.linda_state.specs.Deed.{client_of, number_of}
 use Rattle.linda_book.specs.Entries.{left_in, is_left}
-use Rattle.linda_bag.proofs.Maps.{get_same, get_other}
+use Rattle.linda_maps.proofs.MapLaws.{get_same, get_other}
 
 -- Holds and waits are in their ranges beside a bag, and nobody waits in vain.
 pub record IsSettled (bag : Bagged) (soft : Soft) : Type 0 where

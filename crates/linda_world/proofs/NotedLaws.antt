@@ -3,7 +3,7 @@ use Rattle.std.proofs.Common.{◌≡◌, ℕ, ◌+◌, ◌-◌, ◌<◌, List, �
 use Rattle.std.proofs.lemmas.Bool.{cases_eq}
 use Rattle.std.proofs.lemmas.List.{take-append-le, take_all}
 use Rattle.std.specs.FinMap.{empty, get, insert}
-use Rattle.linda_bag.proofs.Maps.{get_same, get_other, get_empty}
+use Rattle.linda_maps.proofs.MapLaws.{get_same, get_other, get_empty}
 use Rattle.linda_state.specs.declared.deed.Deed.{Deed}
 use Rattle.linda_state.specs.Deed.{client_of, number_of}
 use Rattle.linda_promise.specs.Deeds.{last_in}

@@ -1,5 +1,5 @@
 use Rattle.std.proofs.Common.{sym}
-use Rattle.linda_bag.proofs.Free.{free_there, none_there}
+use Rattle.linda_bag.proofs.FreeMatchLaws.{free_there, none_there}
 use Rattle.linda_bag.proofs.index_bag.is_free.Goals as goal
 
 pub returns-in-Some : goal.returns-in-Some

@@ -1,7 +1,7 @@
 use Rattle.std.proofs.Common.{nat_cmp, sym, ◌≡◌, ◌≤◌, true, true≢false, ◌∙◌}
 use Rattle.std.specs.BTreeSet.{contains}
 use Rattle.linda_bag.specs.FreeMatch.{IsFreeMatch}
-use Rattle.linda_bag.proofs.Ahead.{all_ahead, from_on, fewer_ahead, none_before, none_ahead}
+use Rattle.linda_bag.proofs.AheadLaws.{all_ahead, from_on, fewer_ahead, none_before, none_ahead}
 use Rattle.linda_bag.proofs.index_bag.least_free.Goals as goal
 
 pub loop-id-init : goal.loop-id-init

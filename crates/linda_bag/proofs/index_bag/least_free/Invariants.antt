@@ -1,7 +1,7 @@
 use Rattle.std.proofs.Common.{◌≤◌, nat_cmp, ◌≡◌, true}
 use Rattle.std.specs.BTreeSet.{contains}
 use Rattle.linda_bag.specs.FreeMatch.{IsFreeMatch}
-use Rattle.linda_bag.proofs.Ahead.{IsAhead}
+use Rattle.linda_bag.proofs.AheadLaws.{IsAhead}
 use Rattle.linda_bag.proofs.index_bag.least_free.Given as goal
 
 -- The ids that are left have each free match among the ids from there on.

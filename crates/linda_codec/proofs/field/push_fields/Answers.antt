@@ -1,6 +1,6 @@
 use Rattle.std.proofs.Common.{take}
 use Rattle.std.specs.List.{flat_map}
-use Rattle.linda_codec.proofs.Fronts.{older_front}
+use Rattle.linda_codec.proofs.FrontLaws.{older_front}
 use Rattle.linda_codec.proofs.field.push_fields.Goals as goal
 
 pub returns-in_err-push-clause-front : goal.returns-in_err-push-clause-front

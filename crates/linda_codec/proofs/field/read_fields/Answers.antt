@@ -1,6 +1,6 @@
 use Rattle.std.proofs.lemmas.Result.{err_from_is_err_and}
 use Rattle.linda_codec.specs.Steps.{many_at}
-use Rattle.linda_codec.proofs.Loop.{starts, goes_on, ends, is_done}
+use Rattle.linda_codec.proofs.LoopLaws.{starts, goes_on, ends, is_done}
 use Rattle.linda_codec.proofs.field.read_fields.Goals as goal
 
 pub loop-init : goal.loop-init

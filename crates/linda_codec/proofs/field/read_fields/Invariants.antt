@@ -1,6 +1,6 @@
 use Rattle.std.proofs.Common.{◌≡◌, ◌-◌}
 use Rattle.linda_codec.specs.Steps.{many_at}
-use Rattle.linda_codec.proofs.Loop.{with_front}
+use Rattle.linda_codec.proofs.LoopLaws.{with_front}
 use Rattle.linda_codec.proofs.field.read_fields.Given as goal
 
 -- What was read so far and what is still read are what there is to read.

@@ -2,7 +2,7 @@ use Rattle.std.proofs.Common.{◌≡◌, Err, sym, ap, refl, ◌∙◌, arith, l
 use Rattle.linda_codec.specs.declared.fault.ReadFault.TheVariants.{Memory}
 use Rattle.linda_codec.specs.Places.{placed}
 use Rattle.linda_codec.proofs.PlaceLaws.{is_found, is_only, no_fault}
-use Rattle.linda_codec.proofs.Bounds.{is_place}
+use Rattle.linda_codec.proofs.BoundLaws.{is_place}
 use Rattle.linda_codec.proofs.offset.get.Goals as goal
 
 pub overflow_sub-result : goal.overflow_sub-result

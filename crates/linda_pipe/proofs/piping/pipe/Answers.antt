@@ -2,8 +2,8 @@ use Rattle.std.proofs.Common.{arith, ◌≤◌, ◌+◌, ℕ, ◌*◌, Bool, Ok,
 use Rattle.std.proofs.lemmas.Result.{err_from_is_err_and}
 use Rattle.linda_pipe.specs.declared.piping.TheConstants.{BUFFER}
 use Rattle.linda_pipe.specs.Exchanges.{TurnsTo}
-use Rattle.linda_pipe.proofs.Nodes.{shown}
-use Rattle.linda_pipe.proofs.Ends.{none_read, turns_spent}
+use Rattle.linda_pipe.proofs.NodeLaws.{shown}
+use Rattle.linda_pipe.proofs.EndLaws.{none_read, turns_spent}
 use Rattle.linda_pipe.proofs.piping.pipe.Goals as goal
 
 more_lines : (turns old new most : ℕ) → old ≤ turns * most → new ≤ old + most → new ≤ (turns + 1) * most

@@ -1,7 +1,7 @@
 use Rattle.std.proofs.Common.{◌≡◌, ◌≤◌, ◌*◌, ◌+◌}
 use Rattle.linda_pipe.specs.declared.piping.TheConstants.{BUFFER}
 use Rattle.linda_pipe.specs.Exchanges.{IsPiping}
-use Rattle.linda_pipe.proofs.Nodes.{shown}
+use Rattle.linda_pipe.proofs.NodeLaws.{shown}
 use Rattle.linda_pipe.proofs.piping.pipe.Given as goal
 
 -- what was read so far is under way, and its replies are sent

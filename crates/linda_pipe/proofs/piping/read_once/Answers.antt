@@ -1,6 +1,6 @@
 use Rattle.std.proofs.Common.{arith, length, ap, ◌∙◌}
 use Rattle.std.proofs.lemmas.Result.{err_from_is_err_and}
-use Rattle.linda_pipe.proofs.Ends.{read_failed, send_failed, send_done}
+use Rattle.linda_pipe.proofs.EndLaws.{read_failed, send_failed, send_done}
 use Rattle.linda_pipe.proofs.piping.read_once.Goals as goal
 
 pub returns-in_default-clause-turns : goal.returns-in_default-clause-turns

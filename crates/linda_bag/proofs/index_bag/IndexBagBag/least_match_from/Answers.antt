@@ -2,7 +2,7 @@ use Rattle.std.proofs.Common.{arith, sym, ap, subst, ◌∙◌, true≢false}
 use Rattle.std.specs.FinMap.{get}
 use Rattle.std.proofs.lemmas.Option.{IfSome_then}
 use Rattle.linda_bag.specs.FreeMatch.{IsFreeMatch}
-use Rattle.linda_bag.proofs.Free.{none_found, nothing_free, one_free, many_free}
+use Rattle.linda_bag.proofs.FreeMatchLaws.{none_found, nothing_free, one_free, many_free}
 use Rattle.linda_bag.proofs.StartLaws.{IfNone_then, IfNone_any}
 use Rattle.linda_bag.proofs.index_bag.IndexBagBag.least_match_from.Goals as goal
 

@@ -4,8 +4,8 @@ use Rattle.linda_hold.specs.Named.{HasNames}
 use Rattle.linda_hold.specs.Waits.{Wait}
 use Rattle.linda_hold.specs.Heads.{HasAsked}
 use Rattle.linda_hold.specs.Index.{asked_of, requests_of}
-use Rattle.linda_hold.proofs.Indexing.{renamed, unchanged, twice}
-use Rattle.linda_hold.proofs.Naming.{names_put, names_gone, names_same}
+use Rattle.linda_hold.proofs.IndexLaws.{renamed, unchanged, twice}
+use Rattle.linda_hold.proofs.NamingLaws.{names_put, names_gone, names_same}
 use Rattle.linda_hold.proofs.index.Index.put.Goals as goal
 
 pub returns-in_err-put-clause-err : goal.returns-in_err-put-clause-err

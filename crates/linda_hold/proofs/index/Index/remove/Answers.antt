@@ -2,8 +2,8 @@ use Rattle.std.proofs.Common.{None, Some}
 use Rattle.linda_hold.specs.Named.{HasNames}
 use Rattle.linda_hold.specs.Waits.{Wait}
 use Rattle.linda_hold.specs.Heads.{HasAsked}
-use Rattle.linda_hold.proofs.Indexing.{renamed}
-use Rattle.linda_hold.proofs.Naming.{names_gone}
+use Rattle.linda_hold.proofs.IndexLaws.{renamed}
+use Rattle.linda_hold.proofs.NamingLaws.{names_gone}
 use Rattle.linda_hold.proofs.index.Index.remove.Goals as goal
 
 pub returns : goal.returns

@@ -1,7 +1,7 @@
 use Rattle.std.proofs.Common.{[], sym, ap, ◌∙◌}
 use Rattle.linda_hold.specs.Named.{number_in}
-use Rattle.linda_hold.proofs.Parts.{empty_sorted}
-use Rattle.linda_hold.proofs.Counting.{counted}
+use Rattle.linda_hold.proofs.PartLaws.{empty_sorted}
+use Rattle.linda_hold.proofs.CountLaws.{counted}
 use Rattle.linda_hold.proofs.names.Names.count_of.Goals as goal
 
 pub returns-in-Some : goal.returns-in-Some

@@ -2,8 +2,8 @@ use Rattle.std.proofs.Common.{[], sym, ap, ◌∙◌, nat_cmp}
 use Rattle.std.specs.BTreeSet.{contains}
 use Rattle.std.proofs.lemmas.Result.{IfOk-weaker}
 use Rattle.linda_hold.specs.Named.{number_in}
-use Rattle.linda_hold.proofs.Parts.{empty_sorted}
-use Rattle.linda_hold.proofs.Counting.{listed}
+use Rattle.linda_hold.proofs.PartLaws.{empty_sorted}
+use Rattle.linda_hold.proofs.CountLaws.{listed}
 use Rattle.linda_hold.proofs.names.Names.of_client.Goals as goal
 
 pub returns-in-Some : goal.returns-in-Some

@@ -1,6 +1,0 @@
-use Rattle.std.proofs.Common.{is_some, sym, ap, ◌∙◌}
-use Rattle.linda_hold.proofs.Viewed.{viewed}
-use Rattle.linda_hold.proofs.holding.HoldsIdSet.has.Goals as goal
-
-pub returns : goal.returns
-returns c = c.contains_key.ensures ∙ sym (ap is_some (viewed c.self.inside.by_id c.args.self.now c.self.view_is c.args.id))

@@ -1,0 +1,190 @@
+//! One connection to a server whose stream comes as lines of hexadecimal digits.
+
+ghost use Rattle.std.specs.Prelude.{◌≡◌, ◌+◌, ◌<◌, ◌≤◌, ◌^◌, ◌++◌, true, [], ℕ, List, Option, Ok};
+ghost use Rattle.std.specs.Prelude.{length, IfOk, IfErr, OnOk, OnErr};
+ghost use Rattle.std.specs.Option.{option_copied};
+ghost use Rattle.std.specs.Io.KnownBytes.{IsAtEnd};
+ghost use Rattle.linda_pipe.specs.Lines.{ended};
+ghost use Rattle.linda_store.specs.Sending.{HasSent};
+ghost use Rattle.linda_pipe.specs.Exchanges.{Continues, Grows, IsEnded, IsOver, IsUnderway, IsUnkept, LeadsTo, ReadsTo};
+
+use crate::decode::{decode_line, is_hexadecimal_line};
+use crate::fault::PipeFault;
+use crate::line::{extend_line, split_line};
+use crate::reply_line::reply_lines;
+use linda_store::{Node, Session, Stage, Volatile, send};
+use std::alloc::{AllocError, Global};
+use std::io::Write;
+
+/// A server, a connection to it, and the texts on both sides that are not done yet.
+///
+/// Contracts say how it stands by `IsUnderway`: all whole lines of the text so far were answered, and the replies are
+/// those that were sent and those in the buffer.
+#[derive(Drop)]
+pub struct Exchange {
+    node: Volatile,
+    session: Session,
+    // The line that has no line feed yet.
+    line: Vec<u8>,
+    // How many lines were taken.
+    lines: u64,
+    // The reply lines that were not sent yet.
+    pub(crate) replies: Vec<u8>,
+}
+
+impl Exchange {
+    /// A new connection to a new server.
+    pub fn new(alloc: Global) -> Exchange
+        ensures underway { IsUnderway [] [] result (⟦<Volatile as Node>⟧.shown result.node) }
+        ensures lines { result.lines ≡ 0 }
+        ensures replies { result.replies.items ≡ [] }
+    {
+        Exchange {
+            node: Volatile::new(alloc),
+            session: Session::new(alloc),
+            line: Vec::new(alloc),
+            lines: 0,
+            replies: Vec::new(alloc),
+        }
+    }
+
+    /// Takes the bytes that a read gave, none at the end of the input, and says whether more is to be read.
+    pub fn take_read(&mut self, alloc: Global, bytes: &[u8]) -> Result<bool, PipeFault>
+        requires { self.old.lines + length bytes.now + 1 < 2 ^ 64 }
+        ensures reads { (read sent : List ℕ) (left : Option (List ℕ)) → (bytes.now ≡ [] → IsAtEnd left)
+            → IsUnderway read sent self.old (⟦<Volatile as Node>⟧.shown self.old.node)
+            → ReadsTo (read ++ bytes.now) sent left self.new (⟦<Volatile as Node>⟧.shown self.new.node) result }
+        ensures count { OnOk result (self.new.lines ≤ self.old.lines + length bytes.now + 1) }
+        ensures some { result ≡ Ok true → 0 < length bytes.now }
+    {
+        if bytes.is_empty() {
+            self.finish(alloc)?;
+            return Ok(false);
+        }
+        self.take_text(alloc, bytes)
+    }
+
+    /// Sends the reply lines in the buffer, which is empty then.
+    pub fn send_replies<W: Write>(&mut self, writer: &mut W) -> Result<(), PipeFault>
+        ensures sent { HasSent (W.contents writer.old) (W.contents writer.new) self.old.replies.items result }
+        ensures fault { IfErr result (λ fault. fault ≡ PipeFault.Write) }
+        ensures empty { OnOk result (self.new.replies.items ≡ []) }
+        ensures same { self.new ≡ record self.old { replies = self.new.replies } }
+    {
+        if send(writer, &self.replies).is_err() {
+            return Err(PipeFault::Write);
+        }
+        self.replies.clear();
+        Ok(())
+    }
+
+    // Takes the end of the text: a last line that has no line feed is a line too.
+    fn finish(&mut self, alloc: Global) -> Result<(), PipeFault>
+        requires { self.old.lines + 1 < 2 ^ 64 }
+        ensures ends { (read sent : List ℕ) (left : Option (List ℕ)) → IsAtEnd left
+            → IsUnderway read sent self.old (⟦<Volatile as Node>⟧.shown self.old.node)
+            → IsEnded read sent left self.new result }
+        ensures count { OnOk result (self.new.lines ≤ self.old.lines + 1) }
+    {
+        if !self.line.is_empty() {
+            self.take_line(alloc)?;
+        }
+        Ok(())
+    }
+
+    // Takes a part of the text, which may begin and end anywhere in a line, and says whether the conversation goes on.
+    fn take_text(&mut self, alloc: Global, text: &[u8]) -> Result<bool, PipeFault>
+        requires { self.old.lines + length text.now + 1 < 2 ^ 64 }
+        ensures leads { (read sent : List ℕ) → IsUnderway read sent self.old (⟦<Volatile as Node>⟧.shown self.old.node)
+            → LeadsTo (read ++ text.now) sent self.new (⟦<Volatile as Node>⟧.shown self.new.node) result }
+        ensures count { OnOk result (self.new.lines ≤ self.old.lines + length text.now) }
+    {
+        let mut rest = text;
+        while let Some(later) = self.grow_line(rest)? {
+            if !self.take_line(alloc)? {
+                return Ok(false);
+            }
+            rest = later;
+        }
+        Ok(true)
+    }
+
+    // Moves the front of a text to the unfinished line: up to its first line feed, which makes the line whole, and then
+    // the answer is what follows; or all of it. A line that finds no memory, begins in this text and ends in it is told
+    // as not hexadecimal where it is not.
+    fn grow_line<'a>(&mut self, text: &'a [u8]) -> Result<Option<&'a [u8]>, PipeFault>
+        requires { self.old.lines + 1 < 2 ^ 64 }
+        ensures ok { IfOk result (λ rest. Grows text.entry.now self.old (⟦<Volatile as Node>⟧.shown self.old.node)
+            self.new (⟦<Volatile as Node>⟧.shown self.new.node) (option_copied rest)) }
+        ensures err { IfErr result (λ fault. (read sent : List ℕ)
+            → IsUnderway read sent self.old (⟦<Volatile as Node>⟧.shown self.old.node)
+            → IsOver (read ++ text.entry.now) (sent ++ self.new.replies.items) (Err fault)) }
+        ensures count { self.new.lines ≡ self.old.lines }
+    {
+        match extend_line(&mut self.line, text) {
+            Ok(rest) => Ok(rest),
+            Err(_) => Err(self.unkept(text)),
+        }
+    }
+
+    // What is told of a line for which there is no memory, when it goes on with this text.
+    fn unkept(&self, text: &[u8]) -> PipeFault
+        requires { self.now.lines + 1 < 2 ^ 64 }
+        ensures { IsUnkept self.now.line.items text.now (self.now.lines + 1) result }
+    {
+        let number = self.lines + 1;
+        let begun: &[u8] = &self.line;
+        if begun.is_empty() {
+            if let Some((line, _)) = split_line(text) {
+                if !is_hexadecimal_line(line) {
+                    return PipeFault::NotHexadecimal(number);
+                }
+            }
+        }
+        PipeFault::Memory(number)
+    }
+
+    // Takes the unfinished line, which is whole now, as a piece of the stream.
+    fn take_line(&mut self, alloc: Global) -> Result<bool, PipeFault>
+        requires { self.old.lines + 1 < 2 ^ 64 }
+        ensures leads { (text sent : List ℕ) → IsUnderway text sent self.old (⟦<Volatile as Node>⟧.shown self.old.node)
+            → LeadsTo (ended text) sent self.new (⟦<Volatile as Node>⟧.shown self.new.node) result }
+        ensures count { OnOk result (self.new.lines ≡ self.old.lines + 1) }
+        ensures line { OnOk result (self.new.line.items ≡ []) }
+    {
+        let number = self.lines + 1;
+        let Ok(decoded) = decode_line(alloc, &self.line) else {
+            return Err(PipeFault::Memory(number));
+        };
+        let Some(piece) = decoded else {
+            return Err(PipeFault::NotHexadecimal(number));
+        };
+        let Ok(goes_on) = self.take_piece(alloc, &piece) else {
+            return Err(PipeFault::Memory(number));
+        };
+        self.line.clear();
+        self.lines = number;
+        Ok(goes_on)
+    }
+
+    // Takes a piece of the stream and says whether the conversation goes on. Where memory runs out, in the server too,
+    // no reply to the piece is kept.
+    fn take_piece(&mut self, alloc: Global, piece: &[u8]) -> Result<bool, AllocError>
+        ensures ok { IfOk result (λ goes_on.
+            Continues piece.now goes_on self.old (⟦<Volatile as Node>⟧.shown self.old.node)
+            self.new (⟦<Volatile as Node>⟧.shown self.new.node)) }
+        ensures err { OnErr result (self.new.replies.items ≡ self.old.replies.items) }
+        ensures lines { self.new.lines ≡ self.old.lines }
+        ensures line { self.new.line.items ≡ self.old.line.items }
+    {
+        let taken = self.session.take(alloc, &mut self.node, piece)?;
+        let goes_on = match self.session.stage() {
+            Stage::Open => true,
+            Stage::Malformed(_) => false,
+            Stage::Down => return Err(AllocError),
+        };
+        let lines = reply_lines(alloc, &taken.replies)?;
+        self.replies.extend_from_slice(&lines)?;
+        Ok(goes_on)
+    }
+}
