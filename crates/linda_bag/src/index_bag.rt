@@ -9,10 +9,10 @@ ghost use Rattle.linda_bag.specs.FreeMatch.{IsFreeMatch};
 
 use crate::bag::{Bag, Found};
 use crate::free_match::is_free_match;
-use crate::shelf::Shelf;
 use crate::id_set::IdSet;
 use crate::ids::Ids;
 use crate::index::{Index, candidates};
+use crate::shelf::Shelf;
 use crate::tuples::Tuples;
 use linda_tuple::{Template, Tuple};
 use std::alloc::{AllocError, Global};

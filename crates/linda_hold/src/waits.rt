@@ -9,10 +9,10 @@ ghost use Rattle.linda_hold.specs.Waits.{AreDistinct, is_awaited, is_waiting, lo
 ghost use Rattle.linda_hold.specs.Waits.{waits_of, without, without_client, without_readers};
 
 use crate::asked::Asked;
+use crate::awaiting::{Awaiting, awaiting_among, first_input, is_answering_one};
 use crate::heads::{Wait, arrivals};
 use crate::index::Index;
 use crate::request::Request;
-use crate::awaiting::{Awaiting, awaiting_among, first_input, is_answering_one};
 use linda_tuple::Tuple;
 use std::alloc::{AllocError, Global};
 use std::collections::BTreeMap;
