@@ -1,3 +1,4 @@
+pub mod TreeLaws
 pub mod TuplesLaws
 pub mod FilingLaws
 pub mod OrderLaws

@@ -24,7 +24,7 @@ pub(crate) fn is_free_match<P: IdSet>(
 }
 
 /// The least id of the tree that is not below `id`.
-#[tactic(auto, using(crate::proofs::Maps::get_is_lookup))]
+#[tactic(auto, using(crate::proofs::TreeLaws::get_is_lookup))]
 pub(crate) fn next_id<T>(rows: &BTreeMap<u64, T>, id: u64) -> Option<u64>
     ensures found { IfSome result (λ next. IsSome (map.get (rows_of rows.now) next)) }
     ensures above { IfSome result (λ next. id ≤ next) }

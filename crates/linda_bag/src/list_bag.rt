@@ -35,18 +35,18 @@ impl Bag for ListBag {
         ListBag::new(alloc)
     }
 
-    #[tactic(auto, using(crate::proofs::Maps::one_set, crate::proofs::Maps::get_is_lookup))]
+    #[tactic(auto, using(crate::proofs::TreeLaws::one_set, crate::proofs::TreeLaws::get_is_lookup))]
     fn insert(&mut self, id: u64, tuple: Tuple) -> Result<(), AllocError> {
         self.tuples.insert(id, tuple)?;
         Ok(())
     }
 
-    #[tactic(auto, using(crate::proofs::Maps::one_gone, crate::proofs::Maps::get_is_lookup))]
+    #[tactic(auto, using(crate::proofs::TreeLaws::one_gone, crate::proofs::TreeLaws::get_is_lookup))]
     fn remove(&mut self, id: u64) -> Option<Tuple> {
         self.tuples.remove(&id)
     }
 
-    #[tactic(auto, using(crate::proofs::Maps::get_is_lookup))]
+    #[tactic(auto, using(crate::proofs::TreeLaws::get_is_lookup))]
     fn get(&self, id: u64) -> Option<&Tuple> {
         self.tuples.get(&id)
     }
@@ -74,7 +74,7 @@ impl Bag for ListBag {
         }
     }
 
-    #[tactic(auto, using(crate::proofs::Maps::len_entries))]
+    #[tactic(auto, using(crate::proofs::TreeLaws::len_entries))]
     fn len(&self) -> usize {
         self.tuples.len()
     }
