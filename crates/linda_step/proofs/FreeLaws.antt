@@ -94,10 +94,6 @@ holding_right bag holds now id request next starts is rights =
     ])
     rights
 
--- What the set of ids says of each id it says of all.
-pub same_held : (contains : ℕ → Bool) (holds : HeldFor) → ((k : ℕ) → contains k ≡ is_held holds k) → contains ≡ is_held holds
-same_held contains holds same = λ j. λ k. same k j
-
 pub on_ok_both : {A E P Q R : Type 0} (r : Result A E) → OnOk r P → OnOk r Q → (P → Q → R) → OnOk r R
 on_ok_both (Ok a) p q then = then p q
 on_ok_both (Err e) p q then = tt
