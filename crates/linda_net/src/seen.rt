@@ -7,7 +7,7 @@ use crate::marks::Tally;
 use crate::watching::Event;
 
 /// What was told: of each trouble that it began, and the counts when the last minute began.
-#[derive(Clone, Copy, Debug)]
+#[derive(Clone, Copy)]
 pub(crate) struct Seen {
     since: Tally,
     is_full: bool,
