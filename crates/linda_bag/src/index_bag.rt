@@ -21,11 +21,20 @@ use std::marker::Model;
 
 /// A bag that keeps, beside its tuples in the order of their ids, an index of the ids by tag, number
 /// of fields and first field.
-#[derive(Drop)]
 pub struct IndexBag {
     alloc: Global,
     tuples: Tuples,
     index: Index,
+}
+
+impl Drop for IndexBag {
+    fn drop(self) {
+        let IndexBag {
+            alloc: _,
+            tuples: _,
+            index: _,
+        } = self;
+    }
 }
 
 impl Model for IndexBag {

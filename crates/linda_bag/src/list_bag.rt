@@ -12,9 +12,14 @@ use std::alloc::{AllocError, Global};
 use std::collections::{BTreeMap, BTreeSet};
 
 /// A bag that keeps its tuples in the order of their ids.
-#[derive(Drop)]
 pub struct ListBag {
     tuples: BTreeMap<u64, Tuple>,
+}
+
+impl Drop for ListBag {
+    fn drop(self) {
+        let ListBag { tuples: _ } = self;
+    }
 }
 
 impl ListBag {

@@ -30,9 +30,14 @@ pub(crate) struct Start {
 }
 
 /// The starts of templates, at most one for each tag.
-#[derive(Drop)]
 pub struct Starts {
     by_tag: BTreeMap<Atom, Start>,
+}
+
+impl Drop for Starts {
+    fn drop(self) {
+        let Starts { by_tag: _ } = self;
+    }
 }
 
 impl Starts {

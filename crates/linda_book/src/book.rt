@@ -15,9 +15,14 @@ use std::ops::Bound;
 
 /// What is kept for each client, at most one entry a client. Contracts see a finite map from clients
 /// to pairs of a number and a reply. The book itself sets no limit to clients or numbers.
-#[derive(Drop)]
 pub struct Book {
     entries: BTreeMap<u32, (u64, KeptReply)>,
+}
+
+impl Drop for Book {
+    fn drop(self) {
+        let Book { entries: _ } = self;
+    }
 }
 
 impl Model for Book {

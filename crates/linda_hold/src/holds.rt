@@ -16,11 +16,20 @@ use std::marker::Model;
 
 /// Which tuple is held for which request: each tuple, named by its id, for at most one request, and
 /// for each request at most one tuple. Any 64-bit number may be an id.
-#[derive(Drop)]
 pub struct Holds {
     alloc: Global,
     by_id: BTreeMap<u64, Request>,
     names: Names,
+}
+
+impl Drop for Holds {
+    fn drop(self) {
+        let Holds {
+            alloc: _,
+            by_id: _,
+            names: _,
+        } = self;
+    }
 }
 
 impl Model for Holds {

@@ -21,11 +21,20 @@ use std::marker::Model;
 /// The requests that no tuple has answered yet, in order of arrival, each of them once.
 ///
 /// Each has a number, greater than those of all that came before it and wait still.
-#[derive(Drop)]
 pub struct Waits {
     alloc: Global,
     by_arrival: BTreeMap<u64, Wait>,
     index: Index,
+}
+
+impl Drop for Waits {
+    fn drop(self) {
+        let Waits {
+            alloc: _,
+            by_arrival: _,
+            index: _,
+        } = self;
+    }
 }
 
 impl Model for Waits {
