@@ -1,4 +1,4 @@
-//! What the definitions of states, deeds and steps come to, each told by the contract of a function that does
+//! What the definitions of states, deeds and steps come to, each stated in the contract of a function that does
 //! nothing.
 
 ghost use Rattle.std.specs.Prelude.{◌≡◌, ℕ, ◌++◌, true, List, Option, Some, IsSome, option_to_list};
