@@ -60,7 +60,8 @@ pub trait Bag: Drop {
         ensures none { IfNone result ((k : ℕ)
             → IsFreeMatch (contents self.now) template.now (contains nat_cmp passed.now) k → ⊥) };
 
-    /// The same of the ids from `from` on alone, and how many tuples were looked at in vain. Takes no memory.
+    /// As `least_match`, of the ids from `from` on alone; and how many tuples were looked at in vain.
+    /// Takes no memory.
     fn least_match_from<P: IdSet>(&self, template: &Template, passed: &P, from: u64) -> Found
         ensures found { IfSome result.id
             (IsFreeMatch (contents self.now) template.now (P.has passed.now)) }

@@ -140,7 +140,7 @@ top = (built linda).top
 abbrev leaf : Shape
 leaf = unwrap_or (slice_get (built linda).subs 0) top
 
--- behind `--` no word passes
+-- after `--` no word passes
 only_end : (rest : List Text) → level_fault leaf [] nothing_held (codes "--" ∷ rest) false [] ≡ [] → codes "--" ∷ rest ≡ codes "--" ∷ []
 unfolding clap_on_literals
 only_end [] e = refl
@@ -158,7 +158,7 @@ leaf_words (w ∷ rest) e = go (bytes_eq w (codes "--")) refl
         inr (ap (λ (x : Text). x ∷ rest) is ∙ only_end rest end)
     go false t = absurd (other_refused leaf w t (first_empty _ _ (first_empty _ _ e)))
 
--- behind `pipe` all words are those of its level
+-- after `pipe` all words are those of its level
 pipe_stops : (rest : List Text) → Some (codes "pipe", rest) ≡ (walk top.rules (names_of (built linda)) nothing_held (codes "pipe" ∷ rest)).stopped
 unfolding walked
 pipe_stops rest =
@@ -168,7 +168,7 @@ pipe_stops rest =
 behind_pipe : (rest : List Text) → built_fault (built linda) nothing_held (codes "pipe" ∷ rest) ≡ [] → level_fault leaf [] nothing_held rest false [] ≡ []
 behind_pipe rest e = ap (entered_fault (built linda)) (pipe_stops rest) ∙ first_empty _ _ (second_empty _ _ e)
 
--- and behind `run`
+-- and after `run`
 abbrev pub runner : Shape
 runner = unwrap_or (slice_get (built linda).subs 1) top
 
@@ -180,32 +180,32 @@ run_walk rest = walk_stopped top.rules (names_of (built linda)) (walked top.rule
 pub run_stops : (rest : List Text) → Some (codes "run", rest) ≡ (walk top.rules (names_of (built linda)) nothing_held (codes "run" ∷ rest)).stopped
 run_stops rest = ap (λ (w : Walk). w.stopped) (run_walk rest)
 
--- no word behind `run` is looked at above it
+-- no word after `run` is looked at above it
 pub run_passes : (rest : List Text) → walk_fault top (names_of (built linda)) (walk_from nothing_held) (codes "run" ∷ rest) ≡ []
 unfolding walk_fault walked
 run_passes rest = stopped_fault top (names_of (built linda)) (walked top.rules (names_of (built linda)) (walk_from nothing_held) (codes "run")) (codes "run", []) rest
 
--- what is told above a command, where the walk to it ended so
+-- what is returned above a command, where the walk to it ended so
 abbrev pub top_fault : Walk → Kinds
 top_fault w =
     or_else (entered_fault (built linda) w.stopped) (or_else (settle_fault top.rules top.args_override_self w.held)
     (or_else (defaults_fault (settled top.rules w.held).rows top.rules) (check_fault top (finished top.rules w.held) (is_some (entered (built linda) w.stopped)))))
 
--- and behind `call`
+-- and after `call`
 call_stops : (rest : List Text) → Some (codes "call", rest) ≡ (walk top.rules (names_of (built linda)) nothing_held (codes "call" ∷ rest)).stopped
 unfolding walked
 call_stops rest =
     let start = walked top.rules (names_of (built linda)) (walk_from nothing_held) (codes "call") in
     ap (λ (w : Walk). w.stopped) (walk_stopped top.rules (names_of (built linda)) start (codes "call") [] rest)
 
--- and behind `serve`
+-- and after `serve`
 serve_stops : (rest : List Text) → Some (codes "serve", rest) ≡ (walk top.rules (names_of (built linda)) nothing_held (codes "serve" ∷ rest)).stopped
 unfolding walked
 serve_stops rest =
     let start = walked top.rules (names_of (built linda)) (walk_from nothing_held) (codes "serve") in
     ap (λ (w : Walk). w.stopped) (walk_stopped top.rules (names_of (built linda)) start (codes "serve") [] rest)
 
--- and behind `inspect`
+-- and after `inspect`
 inspect_stops : (rest : List Text) → Some (codes "inspect", rest) ≡ (walk top.rules (names_of (built linda)) nothing_held (codes "inspect" ∷ rest)).stopped
 unfolding walked
 inspect_stops rest =
@@ -229,7 +229,7 @@ no_words : built_fault (built linda) nothing_held [] ≡ [] → ⊥
 unfolding clap_on_literals
 no_words e = let bad : kind.MissingSubcommand ∷ [] ≡ [] = e in cc
 
--- words that begin with `run`, and no fault comes behind it
+-- words that begin with `run`, and no fault comes after it
 pub record RunsOn (words : List Text) : Type 0 where
   pub rest : List Text
   pub spelled : words ≡ codes "run" ∷ rest
@@ -250,7 +250,7 @@ pub record InspectsOn (words : List Text) : Type 0 where
   pub rest : List Text
   pub spelled : words ≡ codes "inspect" ∷ rest
 
--- the words behind the program's name, where no fault may come
+-- the words after the program's name, where no fault may come
 passing : (words : List Text) → built_fault (built linda) nothing_held words ≡ []
     → ((words ≡ codes "pipe" ∷ []) ⊎ (words ≡ codes "pipe" ∷ codes "--" ∷ [])) ⊎ (RunsOn words ⊎ (CallsOn words ⊎ (ServesOn words ⊎ InspectsOn words)))
 unfolding walk_fault

@@ -45,7 +45,7 @@ held rows pending = record { rows = rows; pending = pending; skip = 0 }
 abbrev pub at : Waiting → Held → Walk
 at k h = record { held = h; waiting = k; position = 1; is_trailing = false; stopped = None }
 
--- behind `--`
+-- after `--`
 abbrev pub trail : Waiting → Held → Walk
 trail k h = record { held = h; waiting = k; position = 1; is_trailing = true; stopped = None }
 
@@ -61,7 +61,7 @@ asking_trace rows = held rows (Some (trace_name, []))
 abbrev pub told : List Row → Text → Held
 told rows v = held rows (Some (the_name, v ∷ []))
 
--- ---- what is told from a place of the walk on
+-- ---- what is returned from a place of the walk on
 
 abbrev pub end_fault : Held → Kinds
 end_fault h = or_else (settle_fault checks false h) (or_else (defaults_fault (settled checks h).rows checks) (check_fault runner (finished checks h) false))
@@ -86,7 +86,7 @@ stepped w x xs e =
     let both = sym (from_step w x xs) ∙ e in
     (first_empty _ _ both, second_empty _ _ both)
 
--- behind `--` no word passes
+-- after `--` no word passes
 pub trailing : (k : Waiting) (h : Held) (xs : List Text) → from (trail k h) xs ≡ [] → (xs ≡ []) × (end_fault h ≡ [])
 unfolding clap_on_literals
 trailing k h [] e = (refl, e)
@@ -267,7 +267,7 @@ pub record Told (rows : List Row) (xs : List Text) : Type 0 where
   pub spelled : xs ≡ v ∷ later
   pub passes : from (at idle (told rows v)) later ≡ []
 
--- behind the option alone there is a word for its number
+-- after the option alone there is a word for its number
 from_asking : (rows : List Row) (xs : List Text) → from (at (option the_name) (asking rows)) xs ≡ [] → Told rows xs
 from_asking rows [] e = absurd (asking_refused rows (settles (asking rows) (sym (from_end (at (option the_name) (asking rows))) ∙ e)))
 from_asking rows (x ∷ xs) e =

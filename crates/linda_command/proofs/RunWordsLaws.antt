@@ -96,7 +96,7 @@ passed (x ∷ xs) e =
     go w (says_trace v is react) f = inr ((kept xs).idly (used trace (v ∷ []) []) None (trace_used v []) f)
     go w (stays step) f = let bad : kind.UnknownArgument ∷ [] ≡ [] = step in cc
 
--- ---- what is told of words that begin with the option
+-- ---- what is returned for words that begin with the option
 
 abbrev number_kinds : Text → Kinds
 number_kinds = value_kinds false (parsers.Signed (pos 1) (pos MAX_SERVERS))
@@ -151,7 +151,7 @@ given_fault : (v : Text) → end_fault (held (row v ∷ []) None) ≡ []
 unfolding clap_on_literals
 given_fault v = refl
 
--- the option with a number that passes, and nothing behind it
+-- the option with a number that passes, and nothing after it
 option_passes : (v : Text) (opt end : List Text) → IsOption opt v → IsEnd end → has_hyphen v ≡ false → number_kinds v ≡ [] → from begun (opt ++ end) ≡ []
 option_passes v opt end (inl is) at_end no_option e =
     ap (λ (o : List Text). from begun (o ++ end)) is ∙ two_words v end no_option ∙ ended (told [] v) end at_end ∙ told_fault v ∙ ap (λ (k : Kinds). or_else (or_else k []) []) e
@@ -181,7 +181,7 @@ found v opt end (inr is) at_end no_option =
 
 -- ---- the whole command line
 
--- what is told of words behind `run` is told of the command line
+-- what is returned for words after `run` is returned for the command line
 run_fault : (name : Text) (rest : List Text) → fault_of linda (name ∷ codes "run" ∷ rest) ≡ or_else (from begun rest) []
 unfolding clap_on_literals
 run_fault name rest =
@@ -314,7 +314,7 @@ number_of_row v = refl
 pub no_file_of_row : (v : Text) → first_of (codes "trace") (row v ∷ []) ≡ None
 no_file_of_row v = refl
 
--- ---- what is told of the words behind `run` that do not pass
+-- ---- what is returned for the words after `run` that do not pass
 
 nothing_told : from begun [] ≡ kind.MissingRequiredArgument ∷ []
 unfolding clap_on_literals

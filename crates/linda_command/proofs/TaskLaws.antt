@@ -335,7 +335,7 @@ pub apart : (words : List Text) (n : ℕ) → AsksForPipe words → AsksForRun w
 apart words n (name, inl h) run = let bad : ◌≡◌ {A = ℕ} (slice_index (codes "pipe") 0) (slice_index (codes "run") 0) = ap second (sym h) ∙ ap second run.spelled in absurd (omega (arith, bad))
 apart words n (name, inr h) run = let bad : ◌≡◌ {A = ℕ} (slice_index (codes "pipe") 0) (slice_index (codes "run") 0) = ap second (sym h) ∙ ap second run.spelled in absurd (omega (arith, bad))
 
--- only want of memory is told where no fault may come
+-- only a fault of memory is returned where no other may come
 pub memory_alone : (kinds : Kinds) (e : Error) → kinds ≡ [] → HasKind kinds e → kind_of e ≡ kind.OutOfMemory
 memory_alone kinds e none has = elim (subst (λ ks. HasKind ks e) none has) [ inl h ↦ h | inr h ↦ absurd h ]
 

@@ -20,7 +20,7 @@ receipts_snoc (q ∷ os) o =
     let b = length-append (option_to_list q) (receipts_in os) in
     omega (arith, rest, a, b)
 
--- What is popped from behind stands before the others in the reverse.
+-- What is popped from the end stands before the others in the reverse.
 pub map_back : {X Y : Type 0} (f : X → Y) (xs : List X) (x : X) → reverse (map f (xs ++ x ∷ [])) ≡ f x ∷ reverse (map f xs)
 map_back f xs x = ap reverse (map-append f xs (x ∷ [])) ∙ reverse-append (map f xs) (f x ∷ [])
 

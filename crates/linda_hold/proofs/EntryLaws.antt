@@ -65,7 +65,7 @@ removed k request (e ∷ es) sorted agree = by (is_at (nat_cmp k) e.0) refl (sam
     by false is true same rest = absurd (true≢false (sym same))
     by false is false same rest = ap (λ l. e.1 ∷ l) rest
 
--- A number above all keys goes behind them.
+-- A number above all keys goes after them.
 pub inserted_last : (k : ℕ) (w : Wait) (es : List (ℕ × Wait)) → AllByRecursion (λ q. q < k) (keys_of es) → values_of (insert_entry nat_cmp es k w) ≡ values_of es ++ w ∷ []
 inserted_last k w [] above = refl
 inserted_last k w (e ∷ es) above =

@@ -24,7 +24,7 @@ module _ {X : Type 0} where
   pub get_removed : (m : FinMap nat_cmp X) (k q : ℕ) → get (remove m k) q ≡ cond (q == k) None (get m q)
   get_removed m k q = get-remove nat_cmp_total m k q ∙ ap (λ b. cond b None (get m q)) (sym (unsigned_ties q k))
 
-  -- The same at the key itself, and at another.
+  -- What a look-up gives after a change, at the key itself and at another.
   pub get_same : (m : FinMap nat_cmp X) (k : ℕ) (v : X) → get (insert m k v) k ≡ Some v
   get_same m k v = get_inserted m k v k ∙ ap (λ b. cond b (Some v) (get m k)) (eq-eqb k k refl)
 
@@ -117,6 +117,6 @@ module _ {X : Type 0} where
   pub one_gone : (old new : BTreeMap ℕ X) (k : ℕ) → tree.Updates nat_cmp old new k None → from_entries {R = nat_cmp} new.entries ≡ remove (from_entries old.entries) k
   one_gone old new k updates = same_map _ _ (λ q. updated old new k None updates q ∙ sym (get_removed (from_entries old.entries) k q))
 
-  -- A look-up in the map that a tree stands for gives what one in the tree does.
+  -- A look-up in the map that a tree represents gives what one in the tree does.
   pub viewed : (t : BTreeMap ℕ X) (m : FinMap nat_cmp X) → from_entries {R = nat_cmp} t.entries ≡ m → (k : ℕ) → tree.get nat_cmp t k ≡ get m k
   viewed t m same k = sym (get_is_lookup t k) ∙ ap (λ x. get x k) same

@@ -1,4 +1,4 @@
--- Replies that report a deed: Stored, Taken, Gone and Left; where they are kept, and of which deed they tell.
+-- Replies that report a deed: Stored, Taken, Gone and Left; where they are kept, and which deed they report.
 use Rattle.std.specs.Prelude.{◌≡◌, ℕ, Bool, true, List, ◌∷◌, ◌++◌, All, Option, Some, None, is_some}
 use Rattle.std.specs.FinMap as map
 use Rattle.linda_wire.specs.declared.reply.Reply.{Reply}

@@ -121,7 +121,7 @@ has_told st new soft behind ms served told told_is is has =
       sends_is = tells.sends;
     }
 
--- One more behind true receipts.
+-- One more after true receipts.
 pub more_true : (st : State) (ds : List Deed) (rs qs : List Receipt) → AreTrue st ds rs → AreTrue st (ds ++ deeds_in rs) qs → AreTrue st ds (rs ++ qs)
 more_true st ds [] qs first later = subst (λ l. AreTrue st l qs) (append-nil ds) later
 more_true st ds (r ∷ rs) qs first later =

@@ -19,7 +19,7 @@ use Rattle.linda_receipt.specs.Till.{Places, receipts_at, IsPlaceOf, is_away, we
 abbrev pub at_place : (Place → ℕ) → Option Place → ℕ
 at_place f o = unwrap_or (option_map f o) 0
 
--- A place that is put in holds what is told of it, and the others hold what they held.
+-- Of a place that is put in holds what is said of it, and of the others what held before.
 own_put : (ps : Places) (c : ℕ) (p : Place) → IsPlaceOf c p → ((q : ℕ) → IfSome (get ps q) (IsPlaceOf q)) → (q : ℕ) → IfSome (get (insert ps c p) q) (IsPlaceOf q)
 own_put ps c p here own q =
     subst (λ o. IfSome o (IsPlaceOf q)) (sym (get_inserted ps c p q))

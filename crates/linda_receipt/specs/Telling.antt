@@ -46,7 +46,7 @@ receipt_of a = receipt_for a.deed a.sends
 abbrev pub receipts_in : List (Option Receipt) → List Receipt
 receipts_in told = flat_map option_to_list told
 
--- what each message led to, told by its share of all deeds and sends
+-- what each message led to, given by its share of all deeds and sends
 abbrev pub told_by : List Share → List Deed → List (ℕ × Reply) → List (Option Receipt)
 told_by [] ds sends = []
 told_by (s ∷ ss) ds sends =

@@ -41,7 +41,7 @@ module _ {D : Type 0} {g : Ghosts D} where
     pub done : AreDone empty_state ds (state_of s)
     pub ranges : IsState (state_of s)
     pub once : IsTakenOnce ds
-    -- each reply that was ever sent and tells of a deed is the one to a deed that is there,
+    -- each reply that was ever sent and reports a deed is the one to a deed that is there,
     pub backed : AreBacked ds all
     -- and it is kept until its client has done a later one
     pub covered : All (IsCovered (state_of s)) all

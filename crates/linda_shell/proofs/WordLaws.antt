@@ -195,7 +195,7 @@ pub close_again : (blanks rest : List ℕ) → AreBlanks blanks → mark_at (aft
 unfolding mark_at after_blanks
 close_again blanks rest all = rw (blanks_again blanks (CLOSING_BRACKET ∷ rest) all) refl
 
--- What stands behind an opening bracket: members, or the closing bracket.
+-- What stands after an opening bracket: members, or the closing bracket.
 abbrev pub opened : Bool × List ℕ → List ℕ
 opened (true, rest) = rest
 opened (false, rest) = CLOSING_BRACKET ∷ rest

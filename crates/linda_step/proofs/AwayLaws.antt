@@ -238,7 +238,7 @@ module _ (st : State) (soft : Soft) (c : ℕ) (is : IsOrderly st soft) (gone : h
     told _ _ (left n none) =
         first_others k (replies.Left n) _ (other k (allowed_leave st k n is.state_is none).stays) (closed_sent (λ i. i ≢ c) st.bag soft others_ask k)
 
-  -- what is done and kept behind deeds that are done
+  -- what is done and kept after deeds that are done
   kept_by : (ds : List Deed) (new : State) → AreDone st ds new → AreOthers st ds new c
   kept_by ds new all = others_later ds st new c is.state_is all gone
 

@@ -31,7 +31,7 @@ pub record IsKeptFor (c n : ℕ) (sends : List (ℕ × Reply)) (st : State) : Ty
   pub kept : get st.book c ≡ Some (n, reply)
   pub first : sends ≡ (c, reply_of_kept n reply) ∷ others
 
--- The same, of the number that the message bears.
+-- The first thing that is sent goes to the client, for the number that the message bears, and the book keeps it.
 pub record IsKeptBy (c : ℕ) (m : Message) (sends : List (ℕ × Reply)) (st : State) : Type 0 where
   pub demand : Demand
   pub asked : demand_of m ≡ Some demand

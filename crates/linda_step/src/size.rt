@@ -1,5 +1,5 @@
-//! How many bytes the deeds of messages will spell in a form, and whether each has a spelling there, told without doing
-//! them.
+//! How many bytes the deeds of messages will spell in a form, and whether each has a spelling there, known without
+//! doing them.
 //!
 //! Whether a message does a deed hangs on numbers alone, and on whether its client left: the last number of its client,
 //! how many clients are kept, and the next id. So these are counted on from message to message.
@@ -112,7 +112,7 @@ fn deed_bytes(form: Form, message: &Message) -> Option<usize>
     }
 }
 
-// What is last of the client behind these, each a client with its number and whether it left; or else this one.
+// What is last of the client after these, each a client with its number and whether it left; or else this one.
 fn last_behind(lasts: &[(u32, (u64, bool))], client: u32, last: (u64, bool)) -> (u64, bool)
     ensures { result ≡ spec.last_behind lasts.now client last }
 {

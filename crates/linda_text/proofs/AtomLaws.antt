@@ -23,7 +23,7 @@ use Rattle.linda_text.proofs.BlankLaws.{no_blank, beyond_blanks}
 use Rattle.linda_text.proofs.NumeralLaws.{integer_takes, integer_again, number_begins}
 use Rattle.linda_text.specs.declared.marks.TheConstants as mark
 
--- Bytes begin with a text of the value, which fits, and these are the bytes behind it.
+-- Bytes begin with a text of the value, which fits, and these are the bytes after it.
 abbrev pub Begins : {A : Type 0} → (A → List ℕ → Type 0) → (A → Type 0) → List ℕ → A × List ℕ → Type 0
 Begins IsText Fits bytes x = (text : List ℕ) × IsText x.0 text × Fits x.0 × (bytes ≡ text ++ x.1)
 

@@ -1,4 +1,4 @@
--- Blanks: what is passed over, and what stands behind them.
+-- Blanks: what is passed over, and what stands after them.
 use Rattle.std.proofs.Common.{◌≡◌, inl, inr, ℕ, ◌≤◌, Bool, true, false, cond, List, [], ◌∷◌, ◌++◌, refl, ap, arith}
 use Rattle.std.specs.Prelude.{◌==◌}
 use Rattle.std.specs.Char.{is_ascii_digit}
@@ -9,7 +9,7 @@ use Rattle.linda_text.specs.Reading.{after_blanks}
 use Rattle.linda_text.proofs.NumeralLaws.{from_digit}
 use Rattle.linda_text.specs.declared.marks.TheConstants as mark
 
--- Bytes are blanks and what stands behind them.
+-- Bytes are blanks and what stands after them.
 abbrev HasBlanks : List ℕ → List ℕ → Type 0
 HasBlanks bytes rest = (blanks : List ℕ) × AreBlanks blanks × (bytes ≡ blanks ++ rest)
 
@@ -40,7 +40,7 @@ blank_is b e = elim (or_cases (b == mark.SPACE) (b == mark.TAB) e) [ inl s ↦ o
 pub blank_ends : (b : ℕ) → is_blank b ≡ true → is_ascii_digit b ≡ false
 blank_ends b e = false_from_ne_true _ (λ d. omega (arith, (from_digit b d).0, blank_is b e))
 
--- Behind blanks, or a mark at once, no numeral goes on.
+-- After blanks, or a mark at once, no numeral goes on.
 pub blanks_end : (blanks : List ℕ) (mark : ℕ) (rest : List ℕ) → AreBlanks blanks → is_ascii_digit mark ≡ false → EndsNumeral (blanks ++ mark ∷ rest)
 blanks_end [] mark rest all e = e
 blanks_end (b ∷ blanks) mark rest all e = blank_ends b all.0

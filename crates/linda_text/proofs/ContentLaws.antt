@@ -18,7 +18,7 @@ use Rattle.linda_text.proofs.SkipLaws.{is_fault, left_made}
 use Rattle.linda_text.proofs.Utf8Laws.{says_text}
 use Rattle.linda_text.specs.declared.marks.TheConstants as mark
 
--- The string ends at its closing quote, and goes on behind a byte.
+-- The string ends at its closing quote, and goes on after a byte.
 abbrev pub then_content : Option ℕ × List ℕ → Read (List ℕ)
 then_content (None, after) = Ok ([], after)
 then_content (Some b, after) = with_byte b (content_at false after)

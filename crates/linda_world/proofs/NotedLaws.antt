@@ -35,7 +35,7 @@ one_noted ds k lasts d was low is = record { within = omega (arith, low); each =
           ∙ sym (last_of_other ds (k + 1) d c (omega arith) (omega (arith, low)) here other))
     ]
 
--- More deeds behind them are not noted yet.
+-- More deeds after them are not noted yet.
 pub still_noted : (ds more : List Deed) (k : ℕ) (lasts : Lasts) → AreNoted ds k lasts → AreNoted (ds ++ more) k lasts
 still_noted ds more k lasts was =
     let within = was.within in

@@ -41,7 +41,7 @@ pub(super) enum Do {
     StopSnapshot(u64, Torn),
 }
 
-/// What a step tells.
+/// What comes of a step.
 #[derive(Clone, Copy, Debug, PartialEq, Eq)]
 pub(super) enum Told {
     /// It was done.
