@@ -5,24 +5,25 @@ ghost use Rattle.std.specs.Prelude.{length, IfOk, IfErr, OnOk, OnErr};
 ghost use Rattle.std.specs.Option.{option_copied};
 ghost use Rattle.std.specs.Io.KnownBytes.{IsAtEnd};
 ghost use Rattle.linda_pipe.specs.Lines.{ended};
+ghost use Rattle.linda_store.specs.Node as seen;
 ghost use Rattle.linda_store.specs.Sending.{HasSent};
 ghost use Rattle.linda_pipe.specs.Exchanges.{Continues, Grows, IsEnded, IsOver, IsUnderway, IsUnkept, LeadsTo, ReadsTo};
 
 use crate::decode::{decode_line, is_hexadecimal_line};
 use crate::fault::PipeFault;
 use crate::line::{extend_line, split_line};
-use crate::reply_line::reply_lines;
-use linda_store::{Node, Session, Stage, Volatile, send};
+use crate::reply_line::push_reply_lines;
+use linda_store::{Node, Session, Stage, send};
 use std::alloc::{AllocError, Global};
 use std::io::Write;
 
 /// A server, a connection to it, and the texts on both sides that are not done yet.
 ///
 /// Contracts say how it stands by `IsUnderway`: all whole lines of the text so far were answered, and the replies are
-/// those that were sent and those in the buffer.
+/// those that were sent and those in the buffer. What the server was at first is `first` there.
 #[derive(Drop)]
-pub struct Exchange {
-    node: Volatile,
+pub struct Exchange<N: Node> {
+    node: N,
     session: Session,
     // The line that has no line feed yet.
     line: Vec<u8>,
@@ -32,15 +33,15 @@ pub struct Exchange {
     pub(crate) replies: Vec<u8>,
 }
 
-impl Exchange {
-    /// A new connection to a new server.
-    pub fn new(alloc: Global) -> Exchange
-        ensures underway { IsUnderway [] [] result (⟦<Volatile as Node>⟧.shown result.node) }
+impl<N: Node> Exchange<N> {
+    /// A new connection to this server.
+    pub fn new(alloc: Global, node: N) -> Exchange<N>
+        ensures underway { IsUnderway N.shown (N.shown node) [] [] result }
         ensures lines { result.lines ≡ 0 }
         ensures replies { result.replies.items ≡ [] }
     {
         Exchange {
-            node: Volatile::new(alloc),
+            node,
             session: Session::new(alloc),
             line: Vec::new(alloc),
             lines: 0,
@@ -51,9 +52,9 @@ impl Exchange {
     /// Takes the bytes that a read gave, none at the end of the input, and says whether more is to be read.
     pub fn take_read(&mut self, alloc: Global, bytes: &[u8]) -> Result<bool, PipeFault>
         requires { self.old.lines + length bytes.now + 1 < 2 ^ 64 }
-        ensures reads { (read sent : List ℕ) (left : Option (List ℕ)) → (bytes.now ≡ [] → IsAtEnd left)
-            → IsUnderway read sent self.old (⟦<Volatile as Node>⟧.shown self.old.node)
-            → ReadsTo (read ++ bytes.now) sent left self.new (⟦<Volatile as Node>⟧.shown self.new.node) result }
+        ensures reads { (first : seen.Node) (read sent : List ℕ) (left : Option (List ℕ))
+            → (bytes.now ≡ [] → IsAtEnd left) → IsUnderway N.shown first read sent self.old
+            → ReadsTo N.shown first (read ++ bytes.now) sent left self.new result }
         ensures count { OnOk result (self.new.lines ≤ self.old.lines + length bytes.now + 1) }
         ensures some { result ≡ Ok true → 0 < length bytes.now }
     {
@@ -81,9 +82,9 @@ impl Exchange {
     // Takes the end of the text: a last line that has no line feed is a line too.
     fn finish(&mut self, alloc: Global) -> Result<(), PipeFault>
         requires { self.old.lines + 1 < 2 ^ 64 }
-        ensures ends { (read sent : List ℕ) (left : Option (List ℕ)) → IsAtEnd left
-            → IsUnderway read sent self.old (⟦<Volatile as Node>⟧.shown self.old.node)
-            → IsEnded read sent left self.new result }
+        ensures ends { (first : seen.Node) (read sent : List ℕ) (left : Option (List ℕ)) → IsAtEnd left
+            → IsUnderway N.shown first read sent self.old
+            → IsEnded first read (sent ++ self.new.replies.items) left result }
         ensures count { OnOk result (self.new.lines ≤ self.old.lines + 1) }
     {
         if !self.line.is_empty() {
@@ -95,8 +96,8 @@ impl Exchange {
     // Takes a part of the text, which may begin and end anywhere in a line, and says whether the conversation goes on.
     fn take_text(&mut self, alloc: Global, text: &[u8]) -> Result<bool, PipeFault>
         requires { self.old.lines + length text.now + 1 < 2 ^ 64 }
-        ensures leads { (read sent : List ℕ) → IsUnderway read sent self.old (⟦<Volatile as Node>⟧.shown self.old.node)
-            → LeadsTo (read ++ text.now) sent self.new (⟦<Volatile as Node>⟧.shown self.new.node) result }
+        ensures leads { (first : seen.Node) (read sent : List ℕ) → IsUnderway N.shown first read sent self.old
+            → LeadsTo N.shown first (read ++ text.now) sent self.new result }
         ensures count { OnOk result (self.new.lines ≤ self.old.lines + length text.now) }
     {
         let mut rest = text;
@@ -114,11 +115,10 @@ impl Exchange {
     // as not hexadecimal where it is not.
     fn grow_line<'a>(&mut self, text: &'a [u8]) -> Result<Option<&'a [u8]>, PipeFault>
         requires { self.old.lines + 1 < 2 ^ 64 }
-        ensures ok { IfOk result (λ rest. Grows text.entry.now self.old (⟦<Volatile as Node>⟧.shown self.old.node)
-            self.new (⟦<Volatile as Node>⟧.shown self.new.node) (option_copied rest)) }
-        ensures err { IfErr result (λ fault. (read sent : List ℕ)
-            → IsUnderway read sent self.old (⟦<Volatile as Node>⟧.shown self.old.node)
-            → IsOver (read ++ text.entry.now) (sent ++ self.new.replies.items) (Err fault)) }
+        ensures ok { IfOk result (λ rest. Grows N.shown text.entry.now self.old self.new (option_copied rest)) }
+        ensures err { IfErr result (λ fault. (first : seen.Node) (read sent : List ℕ)
+            → IsUnderway N.shown first read sent self.old
+            → IsOver first (read ++ text.entry.now) (sent ++ self.new.replies.items) (Err fault)) }
         ensures count { self.new.lines ≡ self.old.lines }
     {
         match extend_line(&mut self.line, text) {
@@ -147,8 +147,8 @@ impl Exchange {
     // Takes the unfinished line, which is whole now, as a piece of the stream.
     fn take_line(&mut self, alloc: Global) -> Result<bool, PipeFault>
         requires { self.old.lines + 1 < 2 ^ 64 }
-        ensures leads { (text sent : List ℕ) → IsUnderway text sent self.old (⟦<Volatile as Node>⟧.shown self.old.node)
-            → LeadsTo (ended text) sent self.new (⟦<Volatile as Node>⟧.shown self.new.node) result }
+        ensures leads { (first : seen.Node) (text sent : List ℕ) → IsUnderway N.shown first text sent self.old
+            → LeadsTo N.shown first (ended text) sent self.new result }
         ensures count { OnOk result (self.new.lines ≡ self.old.lines + 1) }
         ensures line { OnOk result (self.new.line.items ≡ []) }
     {
@@ -170,9 +170,7 @@ impl Exchange {
     // Takes a piece of the stream and says whether the conversation goes on. Where memory runs out, in the server too,
     // no reply to the piece is kept.
     fn take_piece(&mut self, alloc: Global, piece: &[u8]) -> Result<bool, AllocError>
-        ensures ok { IfOk result (λ goes_on.
-            Continues piece.now goes_on self.old (⟦<Volatile as Node>⟧.shown self.old.node)
-            self.new (⟦<Volatile as Node>⟧.shown self.new.node)) }
+        ensures ok { IfOk result (λ goes_on. Continues N.shown piece.now goes_on self.old self.new) }
         ensures err { OnErr result (self.new.replies.items ≡ self.old.replies.items) }
         ensures lines { self.new.lines ≡ self.old.lines }
         ensures line { self.new.line.items ≡ self.old.line.items }
@@ -183,8 +181,7 @@ impl Exchange {
             Stage::Malformed(_) => false,
             Stage::Down => return Err(AllocError),
         };
-        let lines = reply_lines(alloc, &taken.replies)?;
-        self.replies.extend_from_slice(&lines)?;
+        push_reply_lines(alloc, &mut self.replies, &taken.replies)?;
         Ok(goes_on)
     }
 }
