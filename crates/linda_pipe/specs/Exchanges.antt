@@ -1,9 +1,9 @@
 -- How an exchange of lines stands, and what its steps lead to.
-use Rattle.std.specs.Prelude.{◌≡◌, ℕ, ◌≤◌, Bool, true, false, List, [], ◌∷◌, ◌++◌, map, length}
-use Rattle.std.specs.Prelude.{Option, Some, None, Result, Ok, Err}
+use Rattle.std.specs.Prelude.{◌≡◌, ℕ, ◌≤◌, Bool, true, false, List, [], ◌++◌, map, length}
+use Rattle.std.specs.Prelude.{Option, Some, Result, Ok, Err}
 use Rattle.std.specs.List.{flat_map, concat}
 use Rattle.std.specs.Io.KnownBytes.{Appends, Consumes}
-use Rattle.linda_pipe.specs.Lines.{HasNoFeed, IsCut, BeginsWithLine}
+use Rattle.linda_pipe.specs.Lines.{HasNoFeed, IsCut}
 use Rattle.linda_pipe.specs.Hex.{piece_of}
 use Rattle.linda_pipe.specs.Piping.{reply_line, HasEnded, IsPipedTo, IsTextOf}
 use Rattle.linda_wire.specs.declared.reply.Reply.{Reply}
@@ -13,9 +13,7 @@ use Rattle.linda_store.specs.Turn.{beginning}
 use Rattle.linda_store.specs.Conversation.{IsConversation}
 use Rattle.linda_store.specs.Session.{Session, point_of}
 use Rattle.linda_pipe.specs.declared.fault.PipeFault.{PipeFault}
-use Rattle.linda_pipe.specs.declared.fault.PipeFault.TheVariants as faults
 use Rattle.linda_pipe.specs.declared.exchange.Exchange.{Exchange}
-use Rattle.linda_pipe.specs.declared.line.TheConstants.{LINE_FEED}
 
 -- The conversation may go on, and memory did not run out in it.
 abbrev pub IsOpen : Session → Type 0
@@ -37,13 +35,6 @@ pub record IsEnded (first : Node) (read written : List ℕ) (left : Option (List
   pub text : List ℕ
   pub text_is : IsTextOf read left text
   pub ends : HasEnded first text written left result
-
--- What is told of a line for which there is no memory, when it goes on with this text: that; or,
--- where the line begins in this text and ends in it, that it is not hexadecimal.
-pub data IsUnkept (begun text : List ℕ) (n : ℕ) (fault : PipeFault) : Type 0 where
-  no_memory : fault ≡ faults.Memory n → IsUnkept begun text n fault
-  is_bad : (line : List ℕ) → begun ≡ [] → BeginsWithLine line text → piece_of line ≡ None
-      → fault ≡ faults.NotHexadecimal n → IsUnkept begun text n fault
 
 -- The node of an exchange is shown so.
 module _ {N : Type 0} (shown : N → Node) where
@@ -68,34 +59,29 @@ module _ {N : Type 0} (shown : N → Node) where
       (first : Node) (bytes : List ℕ) (said : List Reply) → IsOpen old.session → HasTalked first bytes said old
       → IsContinued first (bytes ++ piece) said goes_on old new
 
-  -- The text so far is lines, which were answered, and the unfinished line. The reply lines are those that were sent
+  -- The text so far is lines, which were answered, and this unfinished line. The reply lines are those that were sent
   -- and those in the buffer. The node was that one at first.
-  pub record IsUnderway (first : Node) (text sent : List ℕ) (x : Exchange N) : Type 0 where
+  pub record IsAtLine (first : Node) (text sent line : List ℕ) (x : Exchange N) : Type 0 where
     pub lines : List (List ℕ)
     pub pieces : List (List ℕ)
     pub said : List Reply
-    pub cut : IsCut text lines x.line.items
-    pub unfinished : HasNoFeed x.line.items
+    pub cut : IsCut text lines line
+    pub unfinished : HasNoFeed line
     pub counted : x.lines ≡ length lines
     pub decoded : map piece_of lines ≡ map Some pieces
     pub talk : HasTalked first (concat pieces) said x
     pub is_open : IsOpen x.session
     pub out : flat_map reply_line said ≡ sent ++ x.replies.items
 
+  -- The same, and the exchange keeps the unfinished line.
+  abbrev pub IsUnderway : Node → List ℕ → List ℕ → Exchange N → Type 0
+  IsUnderway first text sent x = IsAtLine first text sent x.line.items x
+
   -- What taking some text leads to: the exchange is under way still, or it is over.
   abbrev pub LeadsTo : Node → List ℕ → List ℕ → Exchange N → Result Bool PipeFault → Type 0
   LeadsTo first text sent x (Ok true) = IsUnderway first text sent x
   LeadsTo first text sent x (Ok false) = IsOver first text (sent ++ x.replies.items) (Ok tt)
   LeadsTo first text sent x (Err fault) = IsOver first text (sent ++ x.replies.items) (Err fault)
-
-  -- What moving a text to the unfinished line leads to: all of it moved, or the front before a line feed and a rest.
-  abbrev pub Grows : List ℕ → Exchange N → Exchange N → Option (List ℕ) → Type 0
-  Grows text old new None =
-      (first : Node) (read sent : List ℕ) → IsUnderway first read sent old → IsUnderway first (read ++ text) sent new
-  Grows text old new (Some rest) =
-      (front : List ℕ) × ((text ≡ front ++ LINE_FEED ∷ rest)
-      × ((first : Node) (read sent : List ℕ) → IsUnderway first read sent old
-      → IsUnderway first (read ++ front) sent new))
 
   -- What taking the bytes of a read leads to: the exchange is under way still, or it has ended.
   abbrev pub ReadsTo :

@@ -1,21 +1,22 @@
 //! One connection to a server whose stream comes as lines of hexadecimal digits.
 
-ghost use Rattle.std.specs.Prelude.{◌≡◌, ◌+◌, ◌<◌, ◌≤◌, ◌^◌, ◌++◌, true, [], ℕ, List, Option, Ok};
+ghost use Rattle.std.specs.Prelude.{◌≡◌, ◌+◌, ◌<◌, ◌≤◌, ◌^◌, ◌++◌, true, [], ℕ, List, Option, None, Ok, Err};
 ghost use Rattle.std.specs.Prelude.{length, IfOk, IfErr, OnOk, OnErr};
-ghost use Rattle.std.specs.Option.{option_copied};
 ghost use Rattle.std.specs.Io.KnownBytes.{IsAtEnd};
-ghost use Rattle.linda_pipe.specs.Lines.{ended};
+ghost use Rattle.linda_pipe.specs.Hex.{piece_of};
+ghost use Rattle.linda_pipe.specs.Lines.{ended, HasNoFeed};
 ghost use Rattle.linda_store.specs.Node as seen;
 ghost use Rattle.linda_store.specs.Sending.{HasSent};
-ghost use Rattle.linda_pipe.specs.Exchanges.{Continues, Grows, IsEnded, IsOver, IsUnderway, IsUnkept, LeadsTo, ReadsTo};
+ghost use Rattle.linda_pipe.specs.Exchanges.{Continues, IsAtLine, IsEnded, IsOver, IsUnderway, LeadsTo, ReadsTo};
 
-use crate::decode::{decode_line, is_hexadecimal_line};
+use crate::decode::decode_line;
 use crate::fault::PipeFault;
-use crate::line::{extend_line, split_line};
+use crate::line::split_line;
 use crate::reply_line::push_reply_lines;
 use linda_store::{Node, Session, Stage, send};
 use std::alloc::{AllocError, Global};
 use std::io::Write;
+use std::mem;
 
 /// A server, a connection to it, and the texts on both sides that are not done yet.
 ///
@@ -88,7 +89,7 @@ impl<N: Node> Exchange<N> {
         ensures count { OnOk result (self.new.lines ≤ self.old.lines + 1) }
     {
         if !self.line.is_empty() {
-            self.take_line(alloc)?;
+            self.take_kept(alloc)?;
         }
         Ok(())
     }
@@ -101,59 +102,73 @@ impl<N: Node> Exchange<N> {
         ensures count { OnOk result (self.new.lines ≤ self.old.lines + length text.now) }
     {
         let mut rest = text;
-        while let Some(later) = self.grow_line(rest)? {
-            if !self.take_line(alloc)? {
+        while let Some((end, later)) = split_line(rest) {
+            if !self.take_end(alloc, end)? {
                 return Ok(false);
             }
             rest = later;
         }
+        self.keep(rest)?;
         Ok(true)
     }
 
-    // Moves the front of a text to the unfinished line: up to its first line feed, which makes the line whole, and then
-    // the answer is what follows; or all of it. A line that finds no memory, begins in this text and ends in it is told
-    // as not hexadecimal where it is not.
-    fn grow_line<'a>(&mut self, text: &'a [u8]) -> Result<Option<&'a [u8]>, PipeFault>
-        requires { self.old.lines + 1 < 2 ^ 64 }
-        ensures ok { IfOk result (λ rest. Grows N.shown text.entry.now self.old self.new (option_copied rest)) }
+    // Takes the end of a line. Where nothing of the line came before, it is decoded where it stands.
+    fn take_end(&mut self, alloc: Global, end: &[u8]) -> Result<bool, PipeFault>
+        requires few { self.old.lines + 1 < 2 ^ 64 }
+        requires no_feed { HasNoFeed end.now }
+        ensures leads { (first : seen.Node) (read sent : List ℕ) → IsUnderway N.shown first read sent self.old
+            → LeadsTo N.shown first (ended (read ++ end.now)) sent self.new result }
+        ensures count { OnOk result (self.new.lines ≡ self.old.lines + 1) }
+    {
+        if self.line.is_empty() {
+            return self.take_line(alloc, end);
+        }
+        self.keep(end)?;
+        self.take_kept(alloc)
+    }
+
+    // Moves a text that has no line feed to the unfinished line.
+    fn keep(&mut self, text: &[u8]) -> Result<(), PipeFault>
+        requires few { self.old.lines + 1 < 2 ^ 64 }
+        requires no_feed { HasNoFeed text.now }
+        ensures ok { OnOk result ((first : seen.Node) (read sent : List ℕ) → IsUnderway N.shown first read sent self.old
+            → IsUnderway N.shown first (read ++ text.now) sent self.new) }
         ensures err { IfErr result (λ fault. (first : seen.Node) (read sent : List ℕ)
             → IsUnderway N.shown first read sent self.old
-            → IsOver first (read ++ text.entry.now) (sent ++ self.new.replies.items) (Err fault)) }
+            → IsOver first read (sent ++ self.new.replies.items) (Err fault)) }
         ensures count { self.new.lines ≡ self.old.lines }
     {
-        match extend_line(&mut self.line, text) {
-            Ok(rest) => Ok(rest),
-            Err(_) => Err(self.unkept(text)),
+        match self.line.extend_from_slice(text) {
+            Ok(()) => Ok(()),
+            Err(_) => Err(PipeFault::Memory(self.lines + 1)),
         }
     }
 
-    // What is told of a line for which there is no memory, when it goes on with this text.
-    fn unkept(&self, text: &[u8]) -> PipeFault
-        requires { self.now.lines + 1 < 2 ^ 64 }
-        ensures { IsUnkept self.now.line.items text.now (self.now.lines + 1) result }
-    {
-        let number = self.lines + 1;
-        let begun: &[u8] = &self.line;
-        if begun.is_empty() {
-            if let Some((line, _)) = split_line(text) {
-                if !is_hexadecimal_line(line) {
-                    return PipeFault::NotHexadecimal(number);
-                }
-            }
-        }
-        PipeFault::Memory(number)
-    }
-
-    // Takes the unfinished line, which is whole now, as a piece of the stream.
-    fn take_line(&mut self, alloc: Global) -> Result<bool, PipeFault>
+    // Takes the unfinished line, which is whole now.
+    fn take_kept(&mut self, alloc: Global) -> Result<bool, PipeFault>
         requires { self.old.lines + 1 < 2 ^ 64 }
         ensures leads { (first : seen.Node) (text sent : List ℕ) → IsUnderway N.shown first text sent self.old
             → LeadsTo N.shown first (ended text) sent self.new result }
         ensures count { OnOk result (self.new.lines ≡ self.old.lines + 1) }
-        ensures line { OnOk result (self.new.line.items ≡ []) }
+        ensures line { self.new.line.items ≡ [] }
+    {
+        let line = mem::replace(&mut self.line, Vec::new(alloc));
+        self.take_line(alloc, &line)
+    }
+
+    // Takes a whole line, which is not kept here, as a piece of the stream. One that is not hexadecimal is reported as
+    // such even where memory is short.
+    fn take_line(&mut self, alloc: Global, line: &[u8]) -> Result<bool, PipeFault>
+        requires few { self.old.lines + 1 < 2 ^ 64 }
+        requires none_kept { self.old.line.items ≡ [] }
+        ensures leads { (first : seen.Node) (text sent : List ℕ) → IsAtLine N.shown first text sent line.now self.old
+            → LeadsTo N.shown first (ended text) sent self.new result }
+        ensures bad { piece_of line.now ≡ None → result ≡ Err (PipeFault.NotHexadecimal (self.old.lines + 1)) }
+        ensures count { OnOk result (self.new.lines ≡ self.old.lines + 1) }
+        ensures line { self.new.line.items ≡ [] }
     {
         let number = self.lines + 1;
-        let Ok(decoded) = decode_line(alloc, &self.line) else {
+        let Ok(decoded) = decode_line(alloc, line) else {
             return Err(PipeFault::Memory(number));
         };
         let Some(piece) = decoded else {
@@ -162,7 +177,6 @@ impl<N: Node> Exchange<N> {
         let Ok(goes_on) = self.take_piece(alloc, &piece) else {
             return Err(PipeFault::Memory(number));
         };
-        self.line.clear();
         self.lines = number;
         Ok(goes_on)
     }

@@ -1,9 +1,9 @@
 //! `linda pipe`: one connection to one server, over lines of hexadecimal digits.
 
-ghost use Rattle.std.specs.Prelude.{◌≡◌, ◌+◌, ◌<◌, ◌≤◌, ◌^◌, List, ℕ, Option, OnOk};
+ghost use Rattle.std.specs.Prelude.{◌≡◌, ◌+◌, ◌<◌, ◌≤◌, ◌^◌, [], List, ℕ, Option, OnOk};
 ghost use Rattle.linda_store.specs.Node as seen;
 ghost use Rattle.linda_pipe.specs.declared.piping.TheConstants.{BUFFER};
-ghost use Rattle.linda_pipe.specs.Exchanges.{IsPiping, TurnsTo};
+ghost use Rattle.linda_pipe.specs.Exchanges.{IsPiping, IsUnderway, TurnsTo};
 ghost use Rattle.linda_pipe.specs.Piping.{IsPiped, IsPipedTo};
 
 use crate::exchange::Exchange;
@@ -34,23 +34,26 @@ pub fn pipe<R: Read, W: Write>(
     ensures { IsPiped (R.remaining reader.old) (R.remaining reader.new)
         (W.contents writer.old) (W.contents writer.new) result }
 {
-    pipe_to(alloc, Volatile::new(alloc), reader, writer)
+    let mut exchange = Exchange::new(alloc, Volatile::new(alloc));
+    serve(alloc, &mut exchange, reader, writer)
 }
 
-// Serves one connection to this server.
-fn pipe_to<N: Node, R: Read, W: Write>(
+// Serves a connection that has just begun, to its end.
+fn serve<N: Node, R: Read, W: Write>(
     alloc: Global,
-    node: N,
+    exchange: &mut Exchange<N>,
     reader: &mut R,
     writer: &mut W,
 ) -> Result<(), PipeFault>
-    ensures { IsPipedTo (N.shown node) (R.remaining reader.old) (R.remaining reader.new)
+    requires no_lines { exchange.old.lines ≡ 0 }
+    requires no_replies { exchange.old.replies.items ≡ [] }
+    ensures { (first : seen.Node) → IsUnderway N.shown first [] [] exchange.old
+        → IsPipedTo first (R.remaining reader.old) (R.remaining reader.new)
         (W.contents writer.old) (W.contents writer.new) result }
 {
-    let mut exchange = Exchange::new(alloc, node);
     let mut buffer = [0; BUFFER];
     for _turn in 0..MAX_READS {
-        if !read_once(alloc, &mut exchange, &mut buffer, reader, writer)? {
+        if !read_once(alloc, exchange, &mut buffer, reader, writer)? {
             return Ok(());
         }
     }

@@ -10,11 +10,11 @@ use std::alloc::{AllocError, Global};
 
 const LINE_FEED: u8 = b'\n';
 
-/// Appends the lines of some replies to a text, one for each, in lower-case digits.
+/// Appends the lines of some replies, one for each, in lower-case digits.
 ///
 /// # Errors
 ///
-/// Where memory runs out, the text is left as it was.
+/// Where memory runs out, `lines` is left as it was.
 pub fn push_reply_lines(
     alloc: Global,
     lines: &mut Vec<u8>,
