@@ -112,12 +112,15 @@ impl<N: Node> Exchange<N> {
         Ok(true)
     }
 
-    // Takes the end of a line. Where nothing of the line came before, it is decoded where it stands.
+    // Takes the end of a line. Where nothing of the line came before, it is decoded where it stands, and is reported as
+    // not hexadecimal even where memory is short.
     fn take_end(&mut self, alloc: Global, end: &[u8]) -> Result<bool, PipeFault>
         requires few { self.old.lines + 1 < 2 ^ 64 }
         requires no_feed { HasNoFeed end.now }
         ensures leads { (first : seen.Node) (read sent : List ℕ) → IsUnderway N.shown first read sent self.old
             → LeadsTo N.shown first (ended (read ++ end.now)) sent self.new result }
+        ensures bad { self.old.line.items ≡ [] → piece_of end.now ≡ None
+            → result ≡ Err (PipeFault.NotHexadecimal (self.old.lines + 1)) }
         ensures count { OnOk result (self.new.lines ≡ self.old.lines + 1) }
     {
         if self.line.is_empty() {

@@ -1,4 +1,4 @@
-use Rattle.std.proofs.Common.{◌≡◌, ◌++◌, List, false, sym, ap, ◌∙◌}
+use Rattle.std.proofs.Common.{◌≡◌, ◌++◌, ℕ, List, false, sym, ap, ◌∙◌}
 use Rattle.std.specs.List.{flat_map}
 use Rattle.linda_wire.specs.declared.reply.Reply.{Reply}
 use Rattle.linda_pipe.specs.Piping.{reply_line}
@@ -15,4 +15,5 @@ returns-clause-ok g c =
       | in-Malformed w ↦ malformed_ends c.match-stage.goes_on c.take.new.self _ w.goes_on-is (sym c.stage.ensures ∙ w.in-Malformed.is)
     ] in
     piece_taken c.args.piece.now c.match-stage.goes_on c.args.self.now _ c.in_ok-taken.taken c.in_ok-taken.ensures.«open»
-    (c.in_ok-push_reply_lines.ensures.ok ∙ ap (λ (rs : List Reply). c.args.self.now.replies.items ++ flat_map reply_line rs) c.deref.ensures.value) goes
+    (◌∙◌ {A = List ℕ} c.in_ok-push_reply_lines.ensures.ok
+    (ap (λ (rs : List Reply). c.args.self.now.replies.items ++ flat_map reply_line rs) c.deref.ensures.value)) goes
