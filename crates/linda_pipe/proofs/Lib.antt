@@ -1,4 +1,3 @@
-pub mod NodeLaws
 pub mod StepLaws
 pub mod EndLaws
 mod DigitLaws

@@ -16,10 +16,6 @@ pub record IsCut (text : List ℕ) (lines : List (List ℕ)) (more : List ℕ) :
   pub spelled : text ≡ flat_map ended lines ++ more
   pub whole : All HasNoFeed lines
 
--- The text begins with this line and a line feed.
-abbrev pub BeginsWithLine : List ℕ → List ℕ → Type 0
-BeginsWithLine line text = HasNoFeed line × ((rest : List ℕ) × (text ≡ line ++ LINE_FEED ∷ rest))
-
 -- An unfinished line gets the front of a text. Behind that front the text has a line feed and a rest; with no line
 -- feed in the text, it all goes to the line.
 abbrev pub Extends : List ℕ → List ℕ → List ℕ → Option (List ℕ) → Type 0

@@ -31,13 +31,6 @@ pub fn decode_line(alloc: Global, line: &[u8]) -> Result<Option<Vec<u8>>, AllocE
     }
 }
 
-/// Whether a line is hexadecimal; takes no memory.
-pub fn is_hexadecimal_line(line: &[u8]) -> bool
-    ensures { IsTrue result ↔ IsSome (piece_of line.now) }
-{
-    is_hexadecimal(without_return(line))
-}
-
 // Whether the text is pairs of digits; takes no memory.
 fn is_hexadecimal(text: &[u8]) -> bool
     ensures { IsTrue result ↔ IsOk (decode_of text.now) }

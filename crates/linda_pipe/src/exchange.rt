@@ -1,28 +1,30 @@
 //! One connection to a server whose stream comes as lines of hexadecimal digits.
 
-ghost use Rattle.std.specs.Prelude.{◌≡◌, ◌+◌, ◌<◌, ◌≤◌, ◌^◌, ◌++◌, true, [], ℕ, List, Option, Ok};
+ghost use Rattle.std.specs.Prelude.{◌≡◌, ◌+◌, ◌<◌, ◌≤◌, ◌^◌, ◌++◌, true, [], ℕ, List, Option, None, Ok, Err};
 ghost use Rattle.std.specs.Prelude.{length, IfOk, IfErr, OnOk, OnErr};
-ghost use Rattle.std.specs.Option.{option_copied};
 ghost use Rattle.std.specs.Io.KnownBytes.{IsAtEnd};
-ghost use Rattle.linda_pipe.specs.Lines.{ended};
+ghost use Rattle.linda_pipe.specs.Hex.{piece_of};
+ghost use Rattle.linda_pipe.specs.Lines.{ended, HasNoFeed};
+ghost use Rattle.linda_store.specs.Node as seen;
 ghost use Rattle.linda_store.specs.Sending.{HasSent};
-ghost use Rattle.linda_pipe.specs.Exchanges.{Continues, Grows, IsEnded, IsOver, IsUnderway, IsUnkept, LeadsTo, ReadsTo};
+ghost use Rattle.linda_pipe.specs.Exchanges.{Continues, IsAtLine, IsEnded, IsOver, IsUnderway, LeadsTo, ReadsTo};
 
-use crate::decode::{decode_line, is_hexadecimal_line};
+use crate::decode::decode_line;
 use crate::fault::PipeFault;
-use crate::line::{extend_line, split_line};
-use crate::reply_line::reply_lines;
-use linda_store::{Node, Session, Stage, Volatile, send};
+use crate::line::split_line;
+use crate::reply_line::push_reply_lines;
+use linda_store::{Node, Session, Stage, send};
 use std::alloc::{AllocError, Global};
 use std::io::Write;
+use std::mem;
 
 /// A server, a connection to it, and the texts on both sides that are not done yet.
 ///
 /// Contracts say how it stands by `IsUnderway`: all whole lines of the text so far were answered, and the replies are
-/// those that were sent and those in the buffer.
+/// those that were sent and those in the buffer. What the server was at first is `first` there.
 #[derive(Drop)]
-pub struct Exchange {
-    node: Volatile,
+pub struct Exchange<N: Node> {
+    node: N,
     session: Session,
     // The line that has no line feed yet.
     line: Vec<u8>,
@@ -32,15 +34,15 @@ pub struct Exchange {
     pub(crate) replies: Vec<u8>,
 }
 
-impl Exchange {
-    /// A new connection to a new server.
-    pub fn new(alloc: Global) -> Exchange
-        ensures underway { IsUnderway [] [] result (⟦<Volatile as Node>⟧.shown result.node) }
+impl<N: Node> Exchange<N> {
+    /// A new connection to this server.
+    pub fn new(alloc: Global, node: N) -> Exchange<N>
+        ensures underway { IsUnderway N.shown (N.shown node) [] [] result }
         ensures lines { result.lines ≡ 0 }
         ensures replies { result.replies.items ≡ [] }
     {
         Exchange {
-            node: Volatile::new(alloc),
+            node,
             session: Session::new(alloc),
             line: Vec::new(alloc),
             lines: 0,
@@ -51,9 +53,9 @@ impl Exchange {
     /// Takes the bytes that a read gave, none at the end of the input, and says whether more is to be read.
     pub fn take_read(&mut self, alloc: Global, bytes: &[u8]) -> Result<bool, PipeFault>
         requires { self.old.lines + length bytes.now + 1 < 2 ^ 64 }
-        ensures reads { (read sent : List ℕ) (left : Option (List ℕ)) → (bytes.now ≡ [] → IsAtEnd left)
-            → IsUnderway read sent self.old (⟦<Volatile as Node>⟧.shown self.old.node)
-            → ReadsTo (read ++ bytes.now) sent left self.new (⟦<Volatile as Node>⟧.shown self.new.node) result }
+        ensures reads { (first : seen.Node) (read sent : List ℕ) (left : Option (List ℕ))
+            → (bytes.now ≡ [] → IsAtEnd left) → IsUnderway N.shown first read sent self.old
+            → ReadsTo N.shown first (read ++ bytes.now) sent left self.new result }
         ensures count { OnOk result (self.new.lines ≤ self.old.lines + length bytes.now + 1) }
         ensures some { result ≡ Ok true → 0 < length bytes.now }
     {
@@ -81,13 +83,13 @@ impl Exchange {
     // Takes the end of the text: a last line that has no line feed is a line too.
     fn finish(&mut self, alloc: Global) -> Result<(), PipeFault>
         requires { self.old.lines + 1 < 2 ^ 64 }
-        ensures ends { (read sent : List ℕ) (left : Option (List ℕ)) → IsAtEnd left
-            → IsUnderway read sent self.old (⟦<Volatile as Node>⟧.shown self.old.node)
-            → IsEnded read sent left self.new result }
+        ensures ends { (first : seen.Node) (read sent : List ℕ) (left : Option (List ℕ)) → IsAtEnd left
+            → IsUnderway N.shown first read sent self.old
+            → IsEnded first read (sent ++ self.new.replies.items) left result }
         ensures count { OnOk result (self.new.lines ≤ self.old.lines + 1) }
     {
         if !self.line.is_empty() {
-            self.take_line(alloc)?;
+            self.take_kept(alloc)?;
         }
         Ok(())
     }
@@ -95,65 +97,81 @@ impl Exchange {
     // Takes a part of the text, which may begin and end anywhere in a line, and says whether the conversation goes on.
     fn take_text(&mut self, alloc: Global, text: &[u8]) -> Result<bool, PipeFault>
         requires { self.old.lines + length text.now + 1 < 2 ^ 64 }
-        ensures leads { (read sent : List ℕ) → IsUnderway read sent self.old (⟦<Volatile as Node>⟧.shown self.old.node)
-            → LeadsTo (read ++ text.now) sent self.new (⟦<Volatile as Node>⟧.shown self.new.node) result }
+        ensures leads { (first : seen.Node) (read sent : List ℕ) → IsUnderway N.shown first read sent self.old
+            → LeadsTo N.shown first (read ++ text.now) sent self.new result }
         ensures count { OnOk result (self.new.lines ≤ self.old.lines + length text.now) }
     {
         let mut rest = text;
-        while let Some(later) = self.grow_line(rest)? {
-            if !self.take_line(alloc)? {
+        while let Some((end, later)) = split_line(rest) {
+            if !self.take_end(alloc, end)? {
                 return Ok(false);
             }
             rest = later;
         }
+        self.keep(rest)?;
         Ok(true)
     }
 
-    // Moves the front of a text to the unfinished line: up to its first line feed, which makes the line whole, and then
-    // the answer is what follows; or all of it. A line that finds no memory, begins in this text and ends in it is told
-    // as not hexadecimal where it is not.
-    fn grow_line<'a>(&mut self, text: &'a [u8]) -> Result<Option<&'a [u8]>, PipeFault>
-        requires { self.old.lines + 1 < 2 ^ 64 }
-        ensures ok { IfOk result (λ rest. Grows text.entry.now self.old (⟦<Volatile as Node>⟧.shown self.old.node)
-            self.new (⟦<Volatile as Node>⟧.shown self.new.node) (option_copied rest)) }
-        ensures err { IfErr result (λ fault. (read sent : List ℕ)
-            → IsUnderway read sent self.old (⟦<Volatile as Node>⟧.shown self.old.node)
-            → IsOver (read ++ text.entry.now) (sent ++ self.new.replies.items) (Err fault)) }
+    // Takes the end of a line. Where nothing of the line came before, it is decoded where it stands, and is reported as
+    // not hexadecimal even where memory is short.
+    fn take_end(&mut self, alloc: Global, end: &[u8]) -> Result<bool, PipeFault>
+        requires few { self.old.lines + 1 < 2 ^ 64 }
+        requires no_feed { HasNoFeed end.now }
+        ensures leads { (first : seen.Node) (read sent : List ℕ) → IsUnderway N.shown first read sent self.old
+            → LeadsTo N.shown first (ended (read ++ end.now)) sent self.new result }
+        ensures bad { self.old.line.items ≡ [] → piece_of end.now ≡ None
+            → result ≡ Err (PipeFault.NotHexadecimal (self.old.lines + 1)) }
+        ensures count { OnOk result (self.new.lines ≡ self.old.lines + 1) }
+    {
+        if self.line.is_empty() {
+            return self.take_line(alloc, end);
+        }
+        self.keep(end)?;
+        self.take_kept(alloc)
+    }
+
+    // Moves a text that has no line feed to the unfinished line.
+    fn keep(&mut self, text: &[u8]) -> Result<(), PipeFault>
+        requires few { self.old.lines + 1 < 2 ^ 64 }
+        requires no_feed { HasNoFeed text.now }
+        ensures ok { OnOk result ((first : seen.Node) (read sent : List ℕ) → IsUnderway N.shown first read sent self.old
+            → IsUnderway N.shown first (read ++ text.now) sent self.new) }
+        ensures err { IfErr result (λ fault. (first : seen.Node) (read sent : List ℕ)
+            → IsUnderway N.shown first read sent self.old
+            → IsOver first read (sent ++ self.new.replies.items) (Err fault)) }
         ensures count { self.new.lines ≡ self.old.lines }
     {
-        match extend_line(&mut self.line, text) {
-            Ok(rest) => Ok(rest),
-            Err(_) => Err(self.unkept(text)),
+        match self.line.extend_from_slice(text) {
+            Ok(()) => Ok(()),
+            Err(_) => Err(PipeFault::Memory(self.lines + 1)),
         }
     }
 
-    // What is told of a line for which there is no memory, when it goes on with this text.
-    fn unkept(&self, text: &[u8]) -> PipeFault
-        requires { self.now.lines + 1 < 2 ^ 64 }
-        ensures { IsUnkept self.now.line.items text.now (self.now.lines + 1) result }
-    {
-        let number = self.lines + 1;
-        let begun: &[u8] = &self.line;
-        if begun.is_empty() {
-            if let Some((line, _)) = split_line(text) {
-                if !is_hexadecimal_line(line) {
-                    return PipeFault::NotHexadecimal(number);
-                }
-            }
-        }
-        PipeFault::Memory(number)
-    }
-
-    // Takes the unfinished line, which is whole now, as a piece of the stream.
-    fn take_line(&mut self, alloc: Global) -> Result<bool, PipeFault>
+    // Takes the unfinished line, which is whole now.
+    fn take_kept(&mut self, alloc: Global) -> Result<bool, PipeFault>
         requires { self.old.lines + 1 < 2 ^ 64 }
-        ensures leads { (text sent : List ℕ) → IsUnderway text sent self.old (⟦<Volatile as Node>⟧.shown self.old.node)
-            → LeadsTo (ended text) sent self.new (⟦<Volatile as Node>⟧.shown self.new.node) result }
+        ensures leads { (first : seen.Node) (text sent : List ℕ) → IsUnderway N.shown first text sent self.old
+            → LeadsTo N.shown first (ended text) sent self.new result }
         ensures count { OnOk result (self.new.lines ≡ self.old.lines + 1) }
-        ensures line { OnOk result (self.new.line.items ≡ []) }
+        ensures line { self.new.line.items ≡ [] }
+    {
+        let line = mem::replace(&mut self.line, Vec::new(alloc));
+        self.take_line(alloc, &line)
+    }
+
+    // Takes a whole line, which is not kept here, as a piece of the stream. One that is not hexadecimal is reported as
+    // such even where memory is short.
+    fn take_line(&mut self, alloc: Global, line: &[u8]) -> Result<bool, PipeFault>
+        requires few { self.old.lines + 1 < 2 ^ 64 }
+        requires none_kept { self.old.line.items ≡ [] }
+        ensures leads { (first : seen.Node) (text sent : List ℕ) → IsAtLine N.shown first text sent line.now self.old
+            → LeadsTo N.shown first (ended text) sent self.new result }
+        ensures bad { piece_of line.now ≡ None → result ≡ Err (PipeFault.NotHexadecimal (self.old.lines + 1)) }
+        ensures count { OnOk result (self.new.lines ≡ self.old.lines + 1) }
+        ensures line { self.new.line.items ≡ [] }
     {
         let number = self.lines + 1;
-        let Ok(decoded) = decode_line(alloc, &self.line) else {
+        let Ok(decoded) = decode_line(alloc, line) else {
             return Err(PipeFault::Memory(number));
         };
         let Some(piece) = decoded else {
@@ -162,7 +180,6 @@ impl Exchange {
         let Ok(goes_on) = self.take_piece(alloc, &piece) else {
             return Err(PipeFault::Memory(number));
         };
-        self.line.clear();
         self.lines = number;
         Ok(goes_on)
     }
@@ -170,9 +187,7 @@ impl Exchange {
     // Takes a piece of the stream and says whether the conversation goes on. Where memory runs out, in the server too,
     // no reply to the piece is kept.
     fn take_piece(&mut self, alloc: Global, piece: &[u8]) -> Result<bool, AllocError>
-        ensures ok { IfOk result (λ goes_on.
-            Continues piece.now goes_on self.old (⟦<Volatile as Node>⟧.shown self.old.node)
-            self.new (⟦<Volatile as Node>⟧.shown self.new.node)) }
+        ensures ok { IfOk result (λ goes_on. Continues N.shown piece.now goes_on self.old self.new) }
         ensures err { OnErr result (self.new.replies.items ≡ self.old.replies.items) }
         ensures lines { self.new.lines ≡ self.old.lines }
         ensures line { self.new.line.items ≡ self.old.line.items }
@@ -183,8 +198,7 @@ impl Exchange {
             Stage::Malformed(_) => false,
             Stage::Down => return Err(AllocError),
         };
-        let lines = reply_lines(alloc, &taken.replies)?;
-        self.replies.extend_from_slice(&lines)?;
+        push_reply_lines(alloc, &mut self.replies, &taken.replies)?;
         Ok(goes_on)
     }
 }

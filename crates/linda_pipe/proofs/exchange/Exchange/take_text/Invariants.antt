@@ -1,16 +1,16 @@
 use Rattle.std.proofs.Common.{◌≡◌, ◌+◌, ◌≤◌, ◌++◌, ℕ, List, length}
+use Rattle.linda_store.specs.Node.{Node}
 use Rattle.linda_pipe.specs.Exchanges.{IsUnderway}
-use Rattle.linda_pipe.proofs.NodeLaws.{shown}
 use Rattle.linda_pipe.proofs.exchange.Exchange.take_text.Given as goal
 
 -- some front of the text was taken, and what is left is behind it
-abbrev pub invariant-loop-later : goal.invariant-loop-later
-invariant-loop-later l = record {
+abbrev pub invariant-loop-end : goal.invariant-loop-end
+invariant-loop-end g l = record {
   front : List ℕ;
   spelled : l.text ≡ front ++ l.rest;
-  leads : (read sent : List ℕ) → IsUnderway read sent l.initial.self (shown l.initial.self.node) → IsUnderway (read ++ front) sent l.self (shown l.self.node);
+  leads : (first : Node) (read sent : List ℕ) → IsUnderway g.N.Node.shown first read sent l.initial.self → IsUnderway g.N.Node.shown first (read ++ front) sent l.self;
   count : l.self.lines + length l.rest ≤ l.initial.self.lines + length l.text;
 }
 
-abbrev pub decreases-loop-later : goal.decreases-loop-later
-decreases-loop-later l = length l.rest
+abbrev pub decreases-loop-end : goal.decreases-loop-end
+decreases-loop-end g l = length l.rest
