@@ -1,14 +1,17 @@
--- The format of deeds is lawful in each form.
-use Rattle.std.proofs.Common.{◌≡◌, ℕ, List, [], ◌∷◌, ◌++◌, Ok, refl}
-use Rattle.linda_codec.specs.Formats.{no_kind}
+-- The format of deeds is lawful in each form, and how many bytes a deed spells.
+use Rattle.std.proofs.Common.{◌≡◌, ℕ, ◌<◌, ◌≤◌, List, [], ◌∷◌, ◌++◌, length, Ok, refl, arith}
+use Rattle.std.specs.Prelude.{IsOk}
+use Rattle.linda_codec.specs.Formats.{made_at, no_kind}
 use Rattle.linda_codec.specs.Lawful.{IsFormat}
 use Rattle.linda_codec.proofs.FormatLaws.{short_number_is, number_is, both_is, body_is, made_again, no_kind_is, AreBodies, choice_is}
 use Rattle.linda_codec.proofs.ValueLaws.{tuple_is}
+use Rattle.linda_codec.proofs.LengthLaws.{tuple_short}
 use Rattle.linda_tuple.specs.declared.form.Form.{Form}
 use Rattle.linda_tuple.specs.declared.form.Form.TheVariants.{One, Two}
 use Rattle.linda_state.specs.declared.deed.Deed.{Deed}
 use Rattle.linda_state.specs.declared.deed.Deed.TheVariants.{Out, Take, Pass, Leave}
 use Rattle.linda_state.specs.declared.kinds.TheConstants as kind
+use Rattle.linda_state.specs.declared.limits.TheConstants.{MAX_DEED_BYTES}
 use Rattle.linda_state.specs.DeedFormat as format
 
 out_is : (form : Form) → IsFormat (format.out form)
@@ -42,3 +45,25 @@ deed_again Two (Leave client n) rest fits = made_again leave_is format.leave_of 
 
 pub deed_is : (form : Form) → IsFormat (format.deed form)
 deed_is form = choice_is (format.spell_deed form) (format.FitsDeed form) (format.deed_kinds form) no_kind (deed_bodies form) (no_kind_is (format.spell_deed form) (format.FitsDeed form)) (deed_again form)
+
+-- ---- how many bytes
+
+-- A deed spells some bytes,
+pub deed_some : (form : Form) (d : Deed) → 0 < length (format.spell_deed form d)
+deed_some form (Out client n tuple) = omega arith
+deed_some form (Take client n id) = omega arith
+deed_some form (Pass client n id) = omega arith
+deed_some form (Leave client n) = omega arith
+
+-- and no more than the longest one.
+pub deed_short : (form : Form) (d : Deed) → format.FitsDeed form d → length (format.spell_deed form d) ≤ MAX_DEED_BYTES
+deed_short form (Out client n tuple) fits = omega (arith, tuple_short form tuple fits.1.1)
+deed_short form (Take client n id) fits = omega arith
+deed_short form (Pass client n id) fits = omega arith
+deed_short form (Leave client n) fits = omega arith
+
+-- ---- a deed stands there
+
+-- An Out does, where after its kind byte its parts do.
+pub out_there : (form : Form) (bytes rest : List ℕ) → bytes ≡ kind.OUT ∷ rest → IsOk (made_at (λ p. Out p.0 p.1.0 p.1.1) (format.out form) rest) → IsOk ((format.deed form).read bytes)
+out_there form bytes rest e there = rw e there
