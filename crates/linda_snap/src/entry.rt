@@ -6,7 +6,7 @@ ghost use Rattle.linda_codec.specs.declared.limits.TheConstants.{NUMBER_BYTES};
 ghost use Rattle.linda_codec.specs.Steps.{Gives};
 ghost use Rattle.linda_codec.specs.Values as value;
 ghost use Rattle.linda_state.specs.DeedFormat.{written};
-ghost use Rattle.linda_snap.specs.declared.entry.TheConstants.{CLIENT_BYTES, MAX_ENTRY_BYTES};
+ghost use Rattle.linda_snap.specs.declared.entry.TheConstants.{CLIENT_BYTES, MAX_KEPT_BYTES, MAX_PLACED_BYTES};
 ghost use Rattle.linda_snap.specs.Snapshot as format;
 
 use linda_book::KeptReply;
@@ -21,8 +21,11 @@ use std::alloc::{AllocError, Global};
 /// The bytes of a client and its number.
 const CLIENT_BYTES: usize = SHORT_NUMBER_BYTES + NUMBER_BYTES;
 
-/// The most bytes that an entry spells: a client with its number, a kind, and an id and a tuple.
-const MAX_ENTRY_BYTES: usize = CLIENT_BYTES + KIND_BYTES + NUMBER_BYTES + MAX_TUPLE_BYTES;
+/// The most bytes that an id and a tuple spell.
+const MAX_PLACED_BYTES: usize = NUMBER_BYTES + MAX_TUPLE_BYTES;
+
+/// The most bytes that a client with what is kept for it spells: its number, a kind, and an id and a tuple.
+const MAX_KEPT_BYTES: usize = CLIENT_BYTES + KIND_BYTES + MAX_PLACED_BYTES;
 
 /// Reads an id and a tuple, and gives the bytes after them.
 ///
@@ -96,7 +99,7 @@ fn push_reply(out: &mut Vec<u8>, reply: &KeptReply) -> Result<(), AllocError>
 /// How many bytes an id and the tuple spell.
 pub(crate) fn placed_len(tuple: &Tuple) -> usize
     ensures exact { result ≡ NUMBER_BYTES + length ((value.tuple written).spell tuple.now) }
-    ensures short { result ≤ MAX_ENTRY_BYTES }
+    ensures short { result ≤ MAX_PLACED_BYTES }
 {
     NUMBER_BYTES + tuple.len(BANK_FORM)
 }
@@ -104,7 +107,7 @@ pub(crate) fn placed_len(tuple: &Tuple) -> usize
 /// How many bytes a client, its last number, and the reply to it spell.
 pub(crate) fn kept_len(reply: &KeptReply) -> usize
     ensures exact { result ≡ CLIENT_BYTES + length ((format.reply written).spell reply.now) }
-    ensures short { result ≤ MAX_ENTRY_BYTES }
+    ensures short { result ≤ MAX_KEPT_BYTES }
 {
     CLIENT_BYTES + reply.len(BANK_FORM)
 }
