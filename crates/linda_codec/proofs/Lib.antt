@@ -7,3 +7,4 @@ pub mod ValueLaws
 pub mod PlaceLaws
 pub mod SkipLaws
 pub mod FrontLaws
+pub mod LengthLaws

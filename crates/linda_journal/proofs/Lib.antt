@@ -1,5 +1,4 @@
 pub mod ApartLaws
-pub mod DeedLaws
 pub mod SizeLaws
 pub mod PayloadLaws
 pub mod RecordLaws

@@ -19,7 +19,7 @@ use Rattle.linda_step.specs.History.{Coming, comings, history_of, nothing_yet}
 use Rattle.linda_store.specs.Node.{Node, MayRemain}
 use Rattle.linda_step.proofs.HistoryLaws.{happened}
 use Rattle.linda_disk.specs.View.{View, IsTimed}
-use Rattle.linda_journal.proofs.SizeLaws.{deed_some}
+use Rattle.linda_state.proofs.DeedFormatLaws.{deed_some}
 use Rattle.linda_snap.specs.Stands.{Stands}
 use Rattle.linda_server.specs.declared.limits.TheConstants.{RECORD_BYTES}
 use Rattle.linda_disk.specs.declared.disk.Disk.{Ghosts}

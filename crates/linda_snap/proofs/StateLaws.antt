@@ -22,7 +22,8 @@ use Rattle.linda_snap.specs.Snapshot as format
 use Rattle.linda_snap.specs.Snapshot.{listed, IsSnapshot}
 use Rattle.linda_snap.specs.Reading.{IsRun, IsListed, IsPlacedBelow, IsNumbered, IsNoSnapshot, ANY_COUNT}
 use Rattle.linda_snap.proofs.RisingLaws.{get_in, all_got}
-use Rattle.linda_snap.proofs.SnapshotLaws.{placed_is, kept_is, listed_is, one_snapshot}
+use Rattle.linda_book.proofs.ReplyFormatLaws.{placed_is}
+use Rattle.linda_snap.proofs.SnapshotLaws.{kept_is, listed_is, one_snapshot}
 
 no_value : {A : Type 0} (x : A) (fault : ReadFault) → Ok x ≡ Err fault → ⊥
 no_value x fault e = absurd cc
