@@ -1,7 +1,7 @@
 //! Cutting a text into lines while its pieces arrive.
 //!
-//! A line ends with a line feed, which is no part of it. Each byte of the text is looked at once and copied
-//! once, however long the lines are and wherever the pieces are cut.
+//! A line ends with a line feed, which is no part of it. Each byte of the text is looked at once, and copied once at
+//! most, however long the lines are and wherever the pieces are cut.
 
 ghost use Rattle.std.specs.Prelude.{◌≡◌, ◌∷◌, ◌++◌, IfOk, MatchOption, OnErr};
 ghost use Rattle.std.specs.Option.{option_copied};
