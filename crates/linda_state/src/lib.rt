@@ -21,7 +21,7 @@ pub use laws::{
     no_tuple_is_taken_twice, nothing_follows_a_leave, proper_lists_keep_the_ranges,
     replies_look_back,
 };
-pub use limits::{BANK_FORM, HEAD_BYTES, ID_BYTES, MAX_DEED_BYTES};
+pub use limits::{BANK_FORM, HEAD_BYTES, ID_BYTES, MAX_DEED_BYTES, MAX_DEEDS};
 pub use linda_book::{Book, Class, KeptReply, has_leaves};
 pub use linda_codec::{MAX_TUPLE_BYTES, tuple_len};
 pub use linda_wire::NUMBER_LIMIT;

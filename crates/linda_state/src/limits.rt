@@ -6,6 +6,9 @@ use linda_tuple::Form;
 /// The form in which new banks spell values.
 pub const BANK_FORM: Form = Form::Two;
 
+/// The most deeds that are done at once: those of one record, and of the messages that one call takes.
+pub const MAX_DEEDS: usize = 64;
+
 /// The bytes of a deed before its tuple or id: its kind, the client and the number.
 pub const HEAD_BYTES: usize = KIND_BYTES + SHORT_NUMBER_BYTES + NUMBER_BYTES;
 

@@ -17,8 +17,8 @@ use linda_state::{HEAD_BYTES, ID_BYTES, State, has_leaves, tuple_len};
 use linda_tuple::{Form, fits};
 use linda_wire::Message;
 
-/// How many messages one call takes at most.
-pub const MAX_BATCH: usize = 64;
+/// How many messages one call takes at most: as many as there may be deeds of one record.
+pub const MAX_BATCH: usize = linda_state::MAX_DEEDS;
 
 /// How many bytes the deeds of the messages spell in the form, each of its client, one after another; None where one of
 /// them has no spelling there.
