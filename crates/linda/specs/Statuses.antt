@@ -1,7 +1,7 @@
 -- Exit statuses.
 use Rattle.std.specs.Prelude.{ℕ, Result, Ok, Err}
 use Rattle.linda_pipe.specs.Statuses.{status_of}
-use Rattle.linda_pipe.specs.declared.faults.PipeFault.{PipeFault}
+use Rattle.linda_pipe.specs.declared.fault.PipeFault.{PipeFault}
 use Rattle.linda_shell.specs.declared.script.fault.ScriptFault.{ScriptFault}
 use Rattle.linda_shell.specs.declared.script.fault.ScriptFault.TheVariants as scripts
 use Rattle.linda_caller.specs.Statuses.{status_of_call}

@@ -10,15 +10,15 @@
 //! ports of this machine.
 //!
 //! `linda serve --port P --dir D [--sessions K] [--log]` serves the store in a folder to clients that connect to a port
-//! of this machine; with `--log` it tells on standard error what it does.
+//! of this machine; with `--log` it writes what it does to standard error.
 //!
-//! `linda inspect DIR [--tuples] [--clients]` tells what the store in a folder holds, and whether it would be served.
+//! `linda inspect DIR [--tuples] [--clients]` says what the store in a folder holds, and whether it would be served.
 //!
-//! `linda --version` tells the version of the program, and the forms of banks and frames.
+//! `linda --version` prints the version of the program, and the forms of banks and frames.
 //!
 //! The exit status is 0 at the end; 2 for a fault of the command line, with the parser's text on standard
 //! error; 3 with one line there, `io` or `memory`, where standard input or output fails or memory runs out, or
-//! `server S: no connection`, `server S: refused CODE DETAIL`, or what is told of a store; 4 with one line there for a
+//! `server S: no connection`, `server S: refused CODE DETAIL`, or what is said of a store; 4 with one line there for a
 //! fault of a line of the input.
 #![tactic(auto)]
 
@@ -29,7 +29,7 @@ ghost use Rattle.clap.specs.Words.{kind_of};
 ghost use Rattle.linda.specs.Statuses.{status_after, status_after_call, status_after_script};
 ghost use Rattle.clap.specs.declared.error.kind.ErrorKind.TheVariants as kinds;
 
-mod running;
+mod status;
 
 use linda_caller::{CallFault, call};
 use linda_command::{Ports, Task, VERSION_LINES, asks_for_version, read_task};
@@ -37,7 +37,7 @@ use linda_inspect::Lists;
 use linda_pipe::{PipeFault, REFUSED, pipe};
 use linda_service::{inspect_folder, serve_folder, serve_logged};
 use linda_shell::{ScriptFault, run_script, trace_script};
-use running::status_of_script;
+use status::status_of_script;
 use std::fmt::Display;
 use std::fs::File;
 use std::io::{ErrorKind, Write};
@@ -118,7 +118,7 @@ fn run_servers(rt: &HostRuntime, servers: u32) -> ExitCode
     )
 }
 
-// The same, with the trace of the run written to a file.
+// Runs the script as `run_servers` does, and writes the trace of the run to a file.
 fn run_traced(rt: &HostRuntime, servers: u32, file: &str) -> ExitCode
     requires some { 1 ≤ servers }
     requires few { servers ≤ MAX_SERVERS }
@@ -207,7 +207,7 @@ fn run_serve<S: Net<Listener = TcpListener, Stream = TcpStream> + Threads + Wait
     }
 }
 
-// Tells what the store in a folder comes to.
+// Says what the store in a folder comes to.
 fn run_inspect(rt: &HostRuntime, dir: &str, lists: Lists) -> ExitCode
     ensures { (exit_status result ≡ 0) ⊎ (exit_status result ≡ 3) }
 {
@@ -217,7 +217,7 @@ fn run_inspect(rt: &HostRuntime, dir: &str, lists: Lists) -> ExitCode
     }
 }
 
-// Tells the version.
+// Prints the version.
 fn tell_version(rt: &HostRuntime) -> ExitCode
     ensures { (exit_status result ≡ 0) ⊎ (exit_status result ≡ 3) }
 {

@@ -19,8 +19,8 @@ use Rattle.linda_bag.specs.FreeMatch.{IsFreeMatch}
 use Rattle.linda_bag.specs.declared.starts.Start.{Start}
 use Rattle.linda_bag.specs.declared.starts.Starts.{Starts}
 use Rattle.linda_bag.specs.Starts.{Bagged, Covers, IsRight, AreRight, Begins}
-use Rattle.linda_bag.proofs.Refiling.{tied}
-use Rattle.linda_bag.proofs.Ordered.{atom_itself}
+use Rattle.linda_bag.proofs.FilingLaws.{tied}
+use Rattle.linda_bag.proofs.OrderLaws.{atom_itself}
 
 -- Templates are equal where the test says so.
 template_decides : (a b : Template) → Decides (same_template a b) (a ≡ b)

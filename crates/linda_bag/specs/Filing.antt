@@ -1,4 +1,4 @@
--- What an index of ids stands for: the ids of some rows, each filed under what its row has. A row
+-- What an index of ids represents: the ids of some rows, each filed under what its row has. A row
 -- may be of any type, as a tuple or a request.
 use Rattle.std.specs.Prelude.{◌≡◌, ℕ, false, cond, Option, None, Some}
 use Rattle.std.specs.declared.cmp.Ordering.{Ordering}
@@ -43,10 +43,6 @@ module _ {T : Type 0} where
       → Type 0
   FindsShelf Has HasFound part found = (rows : Rows T) → Has rows → IsShelved HasFound found (part rows)
 
-  -- The same of the ids of a part of the rows.
-  abbrev pub Finds : (Rows T → Type 0) → (Rows T → Rows T) → Option (BTreeSet ℕ) → Type 0
-  Finds Has part found = FindsShelf Has HasIds part found
-
 module _ {K T : Type 0} where
   -- the row with its key, if it has one
   abbrev pub keyed : Option K → T → Option (K × T)
@@ -77,7 +73,7 @@ module _ {K T : Type 0} (cmp : K → K → Ordering) where
     abbrev pub IsFiledBy : BTreeMap K S → (K → Rows T) → Type 0
     IsFiledBy shelves parts = (q : K) → IsShelved Has (get cmp shelves q) (parts q)
 
-    -- The same, where each row is filed under the key that `key_of` gives it.
+    -- Under each key stands a shelf with the rows to which `key_of` gives that key, where there are any.
     abbrev pub IsFiled : (T → Option K) → BTreeMap K S → Rows T → Type 0
     IsFiled key_of shelves rows = IsFiledBy shelves (λ q. rows_at key_of q rows)
 

@@ -14,6 +14,6 @@ pub record IsFreeMatch (bag : FinMap nat_cmp Tuple) (shape : Template) (passed :
   pub matches : Matches shape row
   pub free : passed id ≡ false
 
--- the finite map that a tree stands for
+-- the finite map that a tree represents
 abbrev pub rows_of : {T : Type 0} → BTreeMap ℕ T → FinMap nat_cmp T
 rows_of tree = from_entries tree.entries

@@ -10,8 +10,8 @@ ghost use Rattle.linda_bag.specs.Ids.{IsOf};
 ghost use Rattle.linda_bag.specs.Candidates.{first_of};
 ghost use Rattle.linda_bag.specs.Firsts.{HasFirsts, int_of, other_of};
 
-use crate::filing::{refile, unfile_if_any};
 use crate::ids::Ids;
+use crate::shelf::{refile, unfile_if_any};
 use linda_tuple::{Atom, Tuple};
 use std::alloc::{AllocError, Global};
 use std::collections::BTreeMap;

@@ -7,7 +7,7 @@ ghost use Rattle.linda_tuple.specs.declared.atom.Atom as atoms;
 ghost use Rattle.linda_bag.specs.Filing.{FindsShelf};
 ghost use Rattle.linda_bag.specs.Heads.{HasHeads, with_head};
 
-use crate::filing::{Shelf, refile, unfile};
+use crate::shelf::{Shelf, refile, unfile};
 use linda_tuple::{Atom, Tuple};
 use std::alloc::{AllocError, Global};
 use std::collections::BTreeMap;

@@ -6,7 +6,7 @@ ghost use Rattle.std.specs.Ordering.{nat_cmp};
 ghost use Rattle.std.specs.BTreeSet.{contains};
 ghost use Rattle.linda_bag.specs.Ids.{HasPair};
 
-use crate::filing::Shelf;
+use crate::shelf::Shelf;
 use std::alloc::{AllocError, Global};
 use std::collections::BTreeSet;
 

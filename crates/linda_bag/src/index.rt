@@ -8,10 +8,10 @@ ghost use Rattle.linda_bag.specs.Ids.{IsOf};
 ghost use Rattle.linda_bag.specs.Candidates.{first_value, with_first, candidates};
 ghost use Rattle.linda_bag.specs.Firsts.{HasFirsts};
 
-use crate::filing::Shelf;
 use crate::firsts::Firsts;
 use crate::heads::{Heads, alike};
 use crate::ids::Ids;
+use crate::shelf::Shelf;
 use linda_tuple::{Atom, Pattern, Template, Tuple};
 use std::alloc::{AllocError, Global};
 

@@ -7,11 +7,12 @@ ghost use Rattle.std.specs.BTreeSet.{contains};
 ghost use Rattle.std.specs.FinMap as map;
 ghost use Rattle.linda_bag.specs.FreeMatch.{IsFreeMatch};
 
-use crate::bags::{Bag, Found};
-use crate::by_id::is_free_match;
-use crate::filing::Shelf;
+use crate::bag::{Bag, Found};
+use crate::free_match::is_free_match;
+use crate::id_set::IdSet;
 use crate::ids::Ids;
 use crate::index::{Index, candidates};
+use crate::shelf::Shelf;
 use crate::tuples::Tuples;
 use linda_tuple::{Template, Tuple};
 use std::alloc::{AllocError, Global};
@@ -20,11 +21,20 @@ use std::marker::Model;
 
 /// A bag that keeps, beside its tuples in the order of their ids, an index of the ids by tag, number
 /// of fields and first field.
-#[derive(Drop)]
 pub struct IndexBag {
     alloc: Global,
     tuples: Tuples,
     index: Index,
+}
+
+impl Drop for IndexBag {
+    fn drop(self) {
+        let IndexBag {
+            alloc: _,
+            tuples: _,
+            index: _,
+        } = self;
+    }
 }
 
 impl Model for IndexBag {
@@ -91,7 +101,7 @@ impl Bag for IndexBag {
         self.least_match_from(template, passed, 0).id
     }
 
-    fn least_match_from(&self, template: &Template, passed: &BTreeSet<u64>, from: u64) -> Found {
+    fn least_match_from<P: IdSet>(&self, template: &Template, passed: &P, from: u64) -> Found {
         match candidates(&self.index, template) {
             None => nothing_found(),
             Some(Ids::Nothing) => nothing_found(),
@@ -131,20 +141,20 @@ fn nothing_found() -> Found
 }
 
 // The least of the ids from `from` on whose tuple may answer the template.
-fn least_free(
+fn least_free<P: IdSet>(
     tuples: &Tuples,
     template: &Template,
-    passed: &BTreeSet<u64>,
+    passed: &P,
     ids: &BTreeSet<u64>,
     from: u64,
 ) -> Found
     ensures found { IfSome result.id
-        (IsFreeMatch tuples.now template.now (contains nat_cmp passed.now)) }
+        (IsFreeMatch tuples.now template.now (P.has passed.now)) }
     ensures above { IfSome result.id (λ id. from ≤ id) }
     ensures least { IfSome result.id (λ id. (k : ℕ) → from ≤ k → k < id → contains nat_cmp ids.now k ≡ true
-        → IsFreeMatch tuples.now template.now (contains nat_cmp passed.now) k → ⊥) }
+        → IsFreeMatch tuples.now template.now (P.has passed.now) k → ⊥) }
     ensures none { IfNone result.id ((k : ℕ) → from ≤ k → contains nat_cmp ids.now k ≡ true
-        → IsFreeMatch tuples.now template.now (contains nat_cmp passed.now) k → ⊥) }
+        → IsFreeMatch tuples.now template.now (P.has passed.now) k → ⊥) }
 {
     let mut looks: usize = 0;
     for id in ids.range(from..) {
@@ -163,9 +173,9 @@ fn least_free(
 }
 
 // Whether there is a tuple under the id that may answer the template.
-fn is_free(tuples: &Tuples, template: &Template, passed: &BTreeSet<u64>, id: u64) -> bool
+fn is_free<P: IdSet>(tuples: &Tuples, template: &Template, passed: &P, id: u64) -> bool
     ensures { IsTrue result
-        ↔ IsFreeMatch tuples.now template.now (contains nat_cmp passed.now) id }
+        ↔ IsFreeMatch tuples.now template.now (P.has passed.now) id }
 {
     match tuples.get(id) {
         Some(tuple) => is_free_match(template, passed, id, tuple),

@@ -11,21 +11,23 @@
 //! by them; `proofs/Maps` has what follows of finite maps, for the crates above as well.
 #![tactic(auto)]
 
-mod bags;
-mod by_id;
-mod filing;
+mod bag;
 mod firsts;
+mod free_match;
 mod heads;
+mod id_set;
 mod ids;
 mod index;
 mod index_bag;
-mod lists;
+mod list_bag;
+mod shelf;
 mod starts;
 mod tuples;
 
-pub use bags::{Bag, Found};
-pub use filing::{Key, Shelf, refile, unfile};
+pub use bag::{Bag, Found};
 pub use heads::{Headed, Heads, alike};
+pub use id_set::IdSet;
 pub use index_bag::IndexBag;
-pub use lists::ListBag;
+pub use list_bag::ListBag;
+pub use shelf::{Key, Shelf, refile, unfile};
 pub use starts::Starts;

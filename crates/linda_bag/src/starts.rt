@@ -5,13 +5,12 @@
 //! any time.
 
 ghost use Rattle.std.specs.Prelude.{◌≡◌, ◌≤◌, ◌<◌, ℕ, Bool, true, false, Some, IfSome, IfNone};
-ghost use Rattle.std.specs.Ordering.{nat_cmp};
-ghost use Rattle.std.specs.BTreeSet.{contains};
 ghost use Rattle.std.specs.FinMap as map;
 ghost use Rattle.linda_bag.specs.FreeMatch.{IsFreeMatch};
 ghost use Rattle.linda_bag.specs.Starts.{Bagged, Covers, AreRight, Begins};
 
-use crate::bags::Bag;
+use crate::bag::Bag;
+use crate::id_set::IdSet;
 use linda_tuple::{Atom, Template, Tuple};
 use std::alloc::{AllocError, Global};
 use std::collections::{BTreeMap, BTreeSet};
@@ -31,9 +30,14 @@ pub(crate) struct Start {
 }
 
 /// The starts of templates, at most one for each tag.
-#[derive(Drop)]
 pub struct Starts {
     by_tag: BTreeMap<Atom, Start>,
+}
+
+impl Drop for Starts {
+    fn drop(self) {
+        let Starts { by_tag: _ } = self;
+    }
 }
 
 impl Starts {
@@ -49,22 +53,22 @@ impl Starts {
     /// The least id of the bag outside `held` whose tuple the template matches; nothing only where there is none. Each
     /// id of the bag is below `next`. It needs no memory; where there is some the next search for the template begins
     /// here, if this one looked at many tuples in vain.
-    pub fn least_match<B: Bag>(
+    pub fn least_match<B: Bag, P: IdSet>(
         &mut self,
         alloc: Global,
         bag: &B,
         template: &Template,
-        held: &BTreeSet<u64>,
+        held: &P,
         next: u64,
     ) -> Option<u64>
-        requires { AreRight (B.contents bag.now) (contains nat_cmp held.now) next self.old }
+        requires { AreRight (B.contents bag.now) (P.has held.now) next self.old }
         ensures found { IfSome result
-            (IsFreeMatch (B.contents bag.now) template.now (contains nat_cmp held.now)) }
+            (IsFreeMatch (B.contents bag.now) template.now (P.has held.now)) }
         ensures least { IfSome result (λ id. (k : ℕ) → k < id
-            → IsFreeMatch (B.contents bag.now) template.now (contains nat_cmp held.now) k → ⊥) }
+            → IsFreeMatch (B.contents bag.now) template.now (P.has held.now) k → ⊥) }
         ensures none { IfNone result ((k : ℕ)
-            → IsFreeMatch (B.contents bag.now) template.now (contains nat_cmp held.now) k → ⊥) }
-        ensures right { AreRight (B.contents bag.now) (contains nat_cmp held.now) next self.new }
+            → IsFreeMatch (B.contents bag.now) template.now (P.has held.now) k → ⊥) }
+        ensures right { AreRight (B.contents bag.now) (P.has held.now) next self.new }
     {
         let first = self.first_for(template);
         let found = bag.least_match_from(template, held, first);

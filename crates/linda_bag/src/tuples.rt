@@ -4,7 +4,7 @@ ghost use Rattle.std.specs.Prelude.{◌≡◌, ◌≤◌, ◌<◌, ℕ, None, If
 ghost use Rattle.std.specs.Option.{option_copied};
 ghost use Rattle.std.specs.FinMap as map;
 
-use crate::by_id::next_id;
+use crate::free_match::next_id;
 use linda_tuple::Tuple;
 use std::alloc::Global;
 use std::collections::BTreeMap;

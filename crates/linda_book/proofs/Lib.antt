@@ -1,2 +1,3 @@
-pub mod Viewed
-pub mod Meaning
+pub mod BookLaws
+pub mod MeaningLaws
+pub mod ReplyFormatLaws

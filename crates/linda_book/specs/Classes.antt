@@ -1,8 +1,8 @@
 -- How the number of a client's message stands to the last number that is kept for the client, 0 if there is none, and
 -- whether the client left by that.
 use Rattle.std.specs.Prelude.{◌≡◌, ℕ, ◌+◌, ◌<◌, ◌==◌, ◌⊎◌, Bool, true, false, nat_lt, ◌||◌, if◌then◌else◌}
-use Rattle.linda_book.specs.declared.classes.Class.{Class}
-use Rattle.linda_book.specs.declared.classes.Class.TheVariants.{Fresh, Kept, Old, Left, Gap}
+use Rattle.linda_book.specs.declared.class.Class.{Class}
+use Rattle.linda_book.specs.declared.class.Class.TheVariants.{Fresh, Kept, Old, Left, Gap}
 
 -- The class of number n after the number last: the first case that holds.
 abbrev pub class_of : ℕ → Bool → ℕ → Class

@@ -1,7 +1,7 @@
 -- What a book keeps for a client.
 use Rattle.std.specs.Prelude.{ℕ, Bool, true, false, Option, Some, None}
-use Rattle.linda_book.specs.declared.kept.KeptReply.{KeptReply}
-use Rattle.linda_book.specs.declared.kept.KeptReply.TheVariants.{Stored, Taken, Gone, Left}
+use Rattle.linda_book.specs.declared.kept_reply.KeptReply.{KeptReply}
+use Rattle.linda_book.specs.declared.kept_reply.KeptReply.TheVariants.{Stored, Taken, Gone, Left}
 
 -- The reply has a tuple.
 abbrev pub HasTuple : KeptReply → Type 0

@@ -3,13 +3,15 @@
 //! Clients number their messages 1, 2, 3, .. . Of each client the book keeps the last number that was answered, with
 //! the reply, so that a message that comes again gets its reply again and is not done twice. `Book::classify` says
 //! how a number stands to the last one, in the words of `specs/Classes`; contracts see the book as a finite map from
-//! clients to the entries of `specs/Entries`.
+//! clients to the entries of `specs/Entries`. A kept reply is `Spelled` in bytes by `specs/ReplyFormat`.
 #![tactic(auto)]
 
-mod books;
-mod classes;
-mod kept;
+mod book;
+mod class;
+mod kept_reply;
+mod kinds;
 
-pub use books::Book;
-pub use classes::{Class, class_of};
-pub use kept::KeptReply;
+pub use book::Book;
+pub use class::{Class, class_of};
+pub use kept_reply::KeptReply;
+pub use kinds::has_leaves;

@@ -143,7 +143,7 @@ impl Lines<'_> {
         Ok(())
     }
 
-    // Does the line that was begun, and begins the next one. Memory that runs out is told as a fault of the line.
+    // Does the line that was begun, and begins the next one. Memory that runs out is reported as a fault of the line.
     fn end_line<S: Wait + Clock, W: Write>(
         &mut self,
         rt: &S,

@@ -55,7 +55,7 @@ only_one x y there = All-contains (λ z. x ≡ z) (x ∷ []) y (All-cons (λ z. 
 pub nowhere : {X A : Type 0} (x : X) → Contains [] x → A
 nowhere x there = absurd (All-contains (λ _. ⊥) [] x (All-nil (λ _. ⊥)) there)
 
--- what equal lists have in front, and behind that
+-- what equal lists have first, and after that
 pub same_first : {X : Type 0} (x y : X) (xs ys : List X) → x ∷ xs ≡ y ∷ ys → x ≡ y
 same_first x y xs ys same = cc
 

@@ -31,7 +31,7 @@ module _ (c : Client) (call : Call) where
       by None is_it after = inl (ticket, inl (record { after = after; silent = silent_end r none }))
       by (Some pending) is_it after = (ticket, inr (record { later = pending; after = after; event = refl; first = refl; silent = none; offers = inl (record { waits = waits_of pending (pending_task c.task pending is_it) other; accepted = refl; more = []; saved = sym (append-nil pending.saved) }) }))
 
-  -- the same of another synchronization or of none, given what was pending
+  -- what goes on from a task goes on from the client's, which is that task
   from_task : (t : Task) (r : Reaction) → c.task ≡ t → GoesOn c call (pending_in t) r → GoesOn c call (pending_in c.task) r
   from_task t r e h = subst (λ o. GoesOn c call o r) (sym (ap pending_in e)) h
 

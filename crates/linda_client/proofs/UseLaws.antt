@@ -101,7 +101,7 @@ module _ (of : Message → Option ℕ) (s n : ℕ) where
   repeated call r a b more e =
       subst (λ t. count_by (is_under of s n) (cond t [] r.packets) + weight (nat_lt n a) ≤ weight (nat_lt n b)) (sym e) (let low = up n a b more in omega (arith, low))
 
--- Where the next number of each server, as a client tells it, rises so at each call, none is used twice.
+-- Where the next number of each server, as `mark` gives it of a client, rises so at each call, none is used twice.
 module _ (of : Message → Option ℕ) (mark : Client → ℕ → ℕ) (s n : ℕ)
     (on : (c : Client) (call : Call) (r : Reaction) → IsClient c → react c call ≡ Ok r → Counts of s n call r (mark c s) (mark r.client s)) where
   used_from : (calls : List Call) (c : Client) → IsClient c → uses of (history c calls) s n + weight (nat_lt n (mark c s)) ≤ 1

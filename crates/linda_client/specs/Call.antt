@@ -1,4 +1,4 @@
--- The call that a value stands for.
+-- The call that a value represents.
 use Rattle.linda_event.specs.Trees.{tree_of}
 use Rattle.linda_client.specs.React as calls
 use Rattle.linda_client.specs.declared.call.Call.{Call}

@@ -61,7 +61,7 @@ pub record LosesOffer (c : Client) (call : Call) (pending later : Pending) : Typ
   pub accepted : later.accepted ≡ option_map (accept_of c) (slice_get pending.saved 0)
   pub saved : later.saved ≡ drop 1 pending.saved
 
--- A pending synchronization goes on: with its event and its tickets, and nothing is told.
+-- A pending synchronization goes on: with its event and its tickets, and nothing is reported.
 pub record Continues (c : Client) (call : Call) (pending : Pending) (r : Reaction) : Type 0 where
   pub later : Pending
   pub after : pending_in r.client.task ≡ Some later

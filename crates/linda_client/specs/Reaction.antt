@@ -23,7 +23,7 @@ pub record Reaction : Type 0 where
 abbrev pub Answer : Type 0
 Answer = Result Reaction ClientFault
 
--- nothing is sent and nothing is told
+-- nothing is sent and nothing is reported
 abbrev pub no_reaction : Client → Reaction
 no_reaction c = record { packets = []; outcome = None; fault = None; client = c }
 
@@ -57,7 +57,7 @@ commitment event base got = outcomes.Synced base got (paths.labels event base) (
 abbrev pub commit : Client → Tree → List Packet → ℕ → Got → Reaction
 commit c event packets base got = finish c packets (commitment event base got)
 
--- What a call told, with the client after it.
+-- What a call returned, with the client after it.
 abbrev pub shown : Told → Client → Reaction
 shown told c = record { packets = told.packets.items; outcome = told.outcome; fault = told.fault; client = c }
 
@@ -73,7 +73,7 @@ IsRefusal faults.TooManyBases answer = answer ≡ Err faults.TooManyBases
 IsRefusal faults.Spent answer = answer ≡ Err faults.Spent
 IsRefusal faults.Memory answer = IsOk answer
 
--- A call does what the answer says: what it told and the client after it are the answer's reaction, or it
+-- A call does what the answer says: what it returned and the client after it are the answer's reaction, or it
 -- was refused as the answer says and the client is as before; or memory ran out where the answer is no
 -- refusal, and the client is as before.
 abbrev pub Does : Client → Result Told ClientFault → Client → Answer → Type 0

@@ -40,7 +40,7 @@ abbrev pub is_number : Option ℕ → ℕ → Bool
 is_number None n = false
 is_number (Some m) n = m == n
 
--- whether the packet goes to this server under this number, as `of` tells a message's number
+-- whether the packet goes to this server under this number, as `of` gives a message's number
 abbrev pub is_under : (Message → Option ℕ) → ℕ → ℕ → Packet → Bool
 is_under of server n p = is_number (of p.1) n && (p.0 == server)
 

@@ -12,7 +12,7 @@ use std::alloc::{AllocError, Global};
 
 /// A tuple that a server offered for a ticket, or a copy of one that it sent. Which of the two it is
 /// follows from the ticket: an input is offered tuples, and a read is sent copies.
-#[derive(Debug, Drop)]
+#[derive(Drop)]
 pub(crate) struct Arrival {
     pub(crate) server: u32,
     pub(crate) ticket: u64,
@@ -21,7 +21,7 @@ pub(crate) struct Arrival {
 }
 
 /// The offer that the client accepted by its message `n`, which the server has not answered yet.
-#[derive(Clone, Copy, Debug)]
+#[derive(Clone, Copy)]
 pub(crate) struct Accepted {
     pub(crate) server: u32,
     pub(crate) n: u64,
@@ -30,7 +30,7 @@ pub(crate) struct Accepted {
 }
 
 /// An arrival as a reply reports it, before it is kept.
-#[derive(Clone, Copy, Debug)]
+#[derive(Clone, Copy)]
 pub(crate) struct Arriving<'a> {
     pub(crate) server: u32,
     pub(crate) ticket: u64,

@@ -15,7 +15,7 @@ use linda_wire::Message;
 use std::alloc::{AllocError, Global};
 
 /// A base that is asked of the servers: an input, which takes a tuple away, or a read, which copies one.
-#[derive(Debug, Drop)]
+#[derive(Drop)]
 pub(crate) struct Ask {
     /// The number of the base.
     pub(crate) base: usize,
@@ -25,7 +25,7 @@ pub(crate) struct Ask {
 }
 
 /// A base that is ready once the clock is there.
-#[derive(Clone, Copy, Debug)]
+#[derive(Clone, Copy)]
 pub(crate) struct Alarm {
     /// The number of the base.
     pub(crate) base: usize,

@@ -36,7 +36,6 @@ use std::marker::Model;
 /// A client of the tuple space: what it puts and waits for, over its servers, until it leaves. At most one out,
 /// one synchronization or the leave is pending. The client sends nothing itself: each call gives the packets to
 /// be sent.
-#[derive(Drop)]
 pub struct Client {
     number: u32,
     clock: u64,
@@ -45,6 +44,19 @@ pub struct Client {
     outs: u64,
     ticket: u64,
     task: Task,
+}
+
+impl Drop for Client {
+    fn drop(self) {
+        let Client {
+            number: _,
+            clock: _,
+            next: _,
+            outs: _,
+            ticket: _,
+            task: _,
+        } = self;
+    }
 }
 
 impl Model for Client {

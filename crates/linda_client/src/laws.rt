@@ -1,4 +1,4 @@
-//! What holds of a client at every call, and over many: each told by the contract of a function that does
+//! What holds of a client at every call, and over many: each stated in the contract of a function that does
 //! nothing.
 //!
 //! `react` says case by case what a call comes to. These laws say in words of their own what never fails to

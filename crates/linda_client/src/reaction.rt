@@ -18,7 +18,7 @@ pub struct Reaction {
 }
 
 impl Reaction {
-    /// Nothing is sent and nothing is told. Takes no memory.
+    /// Nothing is sent and nothing is reported. Takes no memory.
     pub(crate) fn quiet(alloc: Global) -> Reaction
         ensures packets { result.packets.items ≡ [] }
         ensures outcome { result.outcome ≡ None }

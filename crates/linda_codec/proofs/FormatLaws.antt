@@ -15,9 +15,9 @@ use Rattle.linda_codec.specs.declared.fault.ReadFault.TheVariants.{Short, BadTex
 use Rattle.linda_codec.specs.Steps.{Read, Reader, ◌>>=◌, many_at}
 use Rattle.linda_codec.specs.Formats.{Format, byte_at, byte, number_at, length_at, short_length, short_number, number, integer, truth_at, truth, nothing, both, made_at, made, known_as, sized_text, count_at, counted, no_kind, body_at, choice_at}
 use Rattle.linda_codec.specs.Lawful.{IsBytes, Takes, IsBounded, IsSpelled, IsFormat}
-use Rattle.linda_codec.proofs.Takes.{IsBytes-rest, bind_ok, guard_ok, guard_then, guard_right, ok_is, Takes-then, Takes-none, Takes-byte, Takes-behind, Takes-front, wide16, wide32, wide64, number_takes, number_again, byte_takes}
-use Rattle.linda_codec.proofs.Many.{many_takes, many_again}
-use Rattle.linda_codec.proofs.Bounds.{more_bounded, bounded_then, guarded, many_bounded}
+use Rattle.linda_codec.proofs.TakeLaws.{IsBytes-rest, bind_ok, guard_ok, guard_then, guard_right, ok_is, Takes-then, Takes-none, Takes-byte, Takes-behind, Takes-front, wide16, wide32, wide64, number_takes, number_again, byte_takes}
+use Rattle.linda_codec.proofs.ManyLaws.{many_takes, many_again}
+use Rattle.linda_codec.proofs.BoundLaws.{more_bounded, bounded_then, guarded, many_bounded}
 
 -- ---- numbers and truth values
 

@@ -1,9 +1,10 @@
-pub mod Takes
-pub mod Loop
-pub mod Many
-pub mod Bounds
+pub mod TakeLaws
+pub mod LoopLaws
+pub mod ManyLaws
+pub mod BoundLaws
 pub mod FormatLaws
 pub mod ValueLaws
 pub mod PlaceLaws
 pub mod SkipLaws
-pub mod Fronts
+pub mod FrontLaws
+pub mod LengthLaws

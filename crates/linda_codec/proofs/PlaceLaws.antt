@@ -6,7 +6,7 @@ use Rattle.linda_codec.specs.declared.fault.ReadFault.TheVariants.{Memory}
 use Rattle.linda_codec.specs.Formats.{Format}
 use Rattle.linda_codec.specs.Places.{placed}
 use Rattle.linda_codec.specs.Lawful.{IsBytes, IsFormat}
-use Rattle.linda_codec.proofs.Takes.{IsBytes-drop, ok_is}
+use Rattle.linda_codec.proofs.TakeLaws.{IsBytes-drop, ok_is}
 
 -- The end of bytes begins at the count of what stands before it.
 end_of : (front rest bytes : List ℕ) → bytes ≡ front ++ rest → (length rest ≤ length bytes) × (rest ≡ drop (length bytes - length rest) bytes)

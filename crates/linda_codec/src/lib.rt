@@ -10,22 +10,32 @@
 //! Whatever is put is read again, whatever is read is spelled so, and of bytes that spell nothing the first fault
 //! from the left is returned, also where memory is short. `specs/Formats` has what formats are made of, each with its
 //! spelling and its reader in one; `specs/Values` says what the formats of atoms, tuples and templates are.
+//!
+//! Whatever has a spelling is `Spelled`, here and in the crates above: it is read, passed over, written and counted by
+//! one interface, and so are lists of it (`read_list`, `skip_list`, `push_list`, `list_len`).
 #![tactic(auto)]
 
 mod fault;
-mod field;
 mod kinds;
+mod length;
+mod limits;
+mod list;
 mod number;
 mod offset;
 mod parts;
 mod reading;
 mod skipping;
+mod spelled;
 mod writing;
 
 pub use fault::ReadFault;
 pub use kinds::{BOOL_FORMAL, INT_FORMAL, INTEGER, TEXT, TEXT_FORMAL, TRUTH, WILDCARD};
+pub use length::tuple_len;
+pub use limits::{KIND_BYTES, MAX_TUPLE_BYTES, NUMBER_BYTES, SHORT_NUMBER_BYTES};
+pub use list::{list_len, push_list, read_list, skip_list};
 pub use number::{read_bool, read_u8, read_u32, read_u64};
 pub use offset::{get_atom, get_template, get_tuple};
 pub use reading::{read_atom, read_template, read_tuple};
 pub use skipping::{skip_template, skip_tuple};
+pub use spelled::Spelled;
 pub use writing::{put_atom, put_template, put_tuple};

@@ -1,15 +1,12 @@
 //! Readers of atoms, tuples and templates at an offset, which give the value and the offset of the byte after it.
 
-ghost use Rattle.std.specs.Prelude.{◌≡◌, drop, IsOk, IsErrOf};
-ghost use Rattle.linda_codec.specs.Steps.{Gives};
+ghost use Rattle.std.specs.Prelude.{◌≡◌, drop};
 ghost use Rattle.linda_codec.specs.Places.{placed, IsReadAt};
-ghost use Rattle.linda_tuple.specs.declared.form.Form as forms;
-ghost use Rattle.linda_codec.specs.Formats.{Format};
 ghost use Rattle.linda_codec.specs.Lawful.{IsFormat};
 ghost use Rattle.linda_codec.specs.Values as values;
 
 use crate::fault::ReadFault;
-use crate::reading::{read_atom, read_template, read_tuple};
+use crate::spelled::Spelled;
 use linda_tuple::{Atom, Form, Template, Tuple};
 use std::alloc::Global;
 
@@ -64,47 +61,8 @@ pub fn get_template(
     get(alloc, form, bytes, at)
 }
 
-// What is read at an offset.
-trait Value: Drop {
-    ghost format: { forms.Form → Format Self };
-
-    fn read(alloc: Global, form: Form, bytes: &[u8]) -> Result<(Self, &[u8]), ReadFault>
-        ensures value { Gives (λ x. (x.0, x.1.now)) result ((format form).read bytes.now) }
-        ensures memory { IsErrOf result ReadFault.Memory → IsOk ((format form).read bytes.now) };
-}
-
-impl Value for Atom {
-    ghost use Rattle.linda_codec.specs.Values as values;
-
-    ghost format = { values.atom };
-
-    fn read(alloc: Global, form: Form, bytes: &[u8]) -> Result<(Atom, &[u8]), ReadFault> {
-        read_atom(alloc, form, bytes)
-    }
-}
-
-impl Value for Tuple {
-    ghost use Rattle.linda_codec.specs.Values as values;
-
-    ghost format = { values.tuple };
-
-    fn read(alloc: Global, form: Form, bytes: &[u8]) -> Result<(Tuple, &[u8]), ReadFault> {
-        read_tuple(alloc, form, bytes)
-    }
-}
-
-impl Value for Template {
-    ghost use Rattle.linda_codec.specs.Values as values;
-
-    ghost format = { values.template };
-
-    fn read(alloc: Global, form: Form, bytes: &[u8]) -> Result<(Template, &[u8]), ReadFault> {
-        read_template(alloc, form, bytes)
-    }
-}
-
 // The value whose spelling begins at the offset, and the offset of the byte after it.
-fn get<V: Value>(
+fn get<V: Spelled>(
     alloc: Global,
     form: Form,
     bytes: &[u8],

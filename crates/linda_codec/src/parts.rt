@@ -49,7 +49,7 @@ fn as_text(bytes: &[u8]) -> Option<&str>
 }
 
 /// The count of the fields or patterns.
-pub(crate) fn read_count(form: Form, bytes: &[u8]) -> Result<(u8, &[u8]), ReadFault>
+pub(crate) fn read_count(form: Form, bytes: &[u8]) -> Result<(usize, &[u8]), ReadFault>
     ensures { GivesAlways (λ x. (x.0, x.1.now)) result (count_at (most_fields form) bytes.now) }
 {
     match bytes {
@@ -58,7 +58,7 @@ pub(crate) fn read_count(form: Form, bytes: &[u8]) -> Result<(u8, &[u8]), ReadFa
             if usize::from(*count) > form.most_fields() {
                 return Err(ReadFault::TooMany(bytes.len()));
             }
-            Ok((*count, rest))
+            Ok((usize::from(*count), rest))
         }
     }
 }

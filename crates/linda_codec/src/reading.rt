@@ -7,8 +7,8 @@ ghost use Rattle.linda_codec.specs.Steps.{Gives};
 ghost use Rattle.linda_codec.specs.Values as format;
 
 use crate::fault::ReadFault;
-use crate::field::read_fields;
 use crate::kinds::{BOOL_FORMAL, INT_FORMAL, INTEGER, TEXT, TEXT_FORMAL, TRUTH, WILDCARD};
+use crate::list::read_list;
 use crate::number::{read_bool, read_i64};
 use crate::parts::{read_count, split_text};
 use crate::skipping::{skip_template, skip_tuple};
@@ -94,7 +94,7 @@ fn build_tuple(alloc: Global, form: Form, bytes: &[u8]) -> Result<(Tuple, &[u8])
 {
     let (tag, rest) = read_atom(alloc, form, bytes)?;
     let (count, rest) = read_count(form, rest)?;
-    let (fields, rest) = read_fields(alloc, form, count, rest)?;
+    let (fields, rest) = read_list(alloc, form, count, rest)?;
     Ok((Tuple::from_parts(tag, fields), rest))
 }
 
@@ -104,7 +104,7 @@ fn build_template(alloc: Global, form: Form, bytes: &[u8]) -> Result<(Template, 
 {
     let (tag, rest) = read_atom(alloc, form, bytes)?;
     let (count, rest) = read_count(form, rest)?;
-    let (patterns, rest) = read_fields(alloc, form, count, rest)?;
+    let (patterns, rest) = read_list(alloc, form, count, rest)?;
     Ok((Template::from_parts(tag, patterns), rest))
 }
 
@@ -114,7 +114,8 @@ pub(crate) fn read_pattern(
     form: Form,
     bytes: &[u8],
 ) -> Result<(Pattern, &[u8]), ReadFault>
-    ensures { Gives (λ x. (x.0, x.1.now)) result ((format.pattern form).read bytes.now) }
+    ensures value { Gives (λ x. (x.0, x.1.now)) result ((format.pattern form).read bytes.now) }
+    ensures memory { IsErrOf result ReadFault.Memory → IsOk ((format.pattern form).read bytes.now) }
 {
     match bytes {
         [] => Err(ReadFault::Short),

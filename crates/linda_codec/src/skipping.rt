@@ -5,8 +5,8 @@ ghost use Rattle.linda_codec.specs.Steps.{GivesAlways, left_by};
 ghost use Rattle.linda_codec.specs.Values as format;
 
 use crate::fault::ReadFault;
-use crate::field::skip_fields;
 use crate::kinds::{BOOL_FORMAL, INT_FORMAL, INTEGER, TEXT, TEXT_FORMAL, TRUTH, WILDCARD};
+use crate::list::skip_list;
 use crate::number::{read_bool, read_i64};
 use crate::parts::{read_count, split_text};
 use linda_tuple::{Atom, Form, Pattern};
@@ -21,7 +21,7 @@ pub fn skip_tuple(form: Form, bytes: &[u8]) -> Result<&[u8], ReadFault>
 {
     let rest = skip_atom(form, bytes)?;
     let (count, rest) = read_count(form, rest)?;
-    skip_fields::<Atom>(form, count, rest)
+    skip_list::<Atom>(form, count, rest)
 }
 
 /// The bytes after the template at the front.
@@ -34,7 +34,7 @@ pub fn skip_template(form: Form, bytes: &[u8]) -> Result<&[u8], ReadFault>
 {
     let rest = skip_atom(form, bytes)?;
     let (count, rest) = read_count(form, rest)?;
-    skip_fields::<Pattern>(form, count, rest)
+    skip_list::<Pattern>(form, count, rest)
 }
 
 /// The bytes after the atom at the front.

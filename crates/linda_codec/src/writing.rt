@@ -7,8 +7,9 @@ ghost use Rattle.linda_tuple.specs.Tuple.{FitsIn};
 ghost use Rattle.linda_tuple.specs.Template.{IsSoundPatternIn, FitsTemplateIn};
 ghost use Rattle.linda_codec.specs.Values as format;
 
-use crate::field::push_fields;
 use crate::kinds::{BOOL_FORMAL, INT_FORMAL, INTEGER, TEXT, TEXT_FORMAL, TRUTH, WILDCARD};
+use crate::list::push_list;
+use crate::spelled::Spelled;
 use linda_tuple::{Atom, Form, Pattern, Template, Tuple};
 use std::alloc::AllocError;
 
@@ -22,9 +23,7 @@ pub fn put_atom(form: Form, out: &mut Vec<u8>, atom: &Atom) -> Result<(), AllocE
     ensures ok { OnOk result (out.new.items ≡ out.old.items ++ (format.atom form).spell atom.now) }
     ensures err { OnErr result (out.new.items ≡ out.old.items) }
 {
-    let len = out.len();
-    let pushed = push_atom(form, out, atom);
-    kept_or_cut(out, len, pushed)
+    put(form, out, atom)
 }
 
 /// Appends the spelling of the tuple, which is one that has a spelling in the form: `fits` tells.
@@ -37,9 +36,7 @@ pub fn put_tuple(form: Form, out: &mut Vec<u8>, tuple: &Tuple) -> Result<(), All
     ensures ok { OnOk result (out.new.items ≡ out.old.items ++ (format.tuple form).spell tuple.now) }
     ensures err { OnErr result (out.new.items ≡ out.old.items) }
 {
-    let len = out.len();
-    let pushed = push_tuple(form, out, tuple);
-    kept_or_cut(out, len, pushed)
+    put(form, out, tuple)
 }
 
 /// Appends the spelling of the template, which is one that has a spelling in the form: in the second all have one.
@@ -52,8 +49,17 @@ pub fn put_template(form: Form, out: &mut Vec<u8>, template: &Template) -> Resul
     ensures ok { OnOk result (out.new.items ≡ out.old.items ++ (format.template form).spell template.now) }
     ensures err { OnErr result (out.new.items ≡ out.old.items) }
 {
+    put(form, out, template)
+}
+
+// Appends the spelling of the value; where memory runs out, `out` is left as it was.
+fn put<V: Spelled>(form: Form, out: &mut Vec<u8>, value: &V) -> Result<(), AllocError>
+    requires { (V.format form).Fits value.now }
+    ensures ok { OnOk result (out.new.items ≡ out.old.items ++ (V.format form).spell value.now) }
+    ensures err { OnErr result (out.new.items ≡ out.old.items) }
+{
     let len = out.len();
-    let pushed = push_template(form, out, template);
+    let pushed = value.push(form, out);
     kept_or_cut(out, len, pushed)
 }
 
@@ -73,8 +79,8 @@ fn kept_or_cut(
     pushed
 }
 
-// Appends the spelling of the tuple; where memory runs out, a part of it may stand after the old bytes.
-fn push_tuple(form: Form, out: &mut Vec<u8>, tuple: &Tuple) -> Result<(), AllocError>
+/// Appends the spelling of the tuple; where memory runs out, a part of it may stand after the old bytes.
+pub(crate) fn push_tuple(form: Form, out: &mut Vec<u8>, tuple: &Tuple) -> Result<(), AllocError>
     requires { FitsIn form tuple.now }
     ensures ok { OnOk result (out.new.items ≡ out.old.items ++ (format.tuple form).spell tuple.now) }
     ensures front { take (length out.old.items) out.new.items ≡ out.old.items }
@@ -82,11 +88,15 @@ fn push_tuple(form: Form, out: &mut Vec<u8>, tuple: &Tuple) -> Result<(), AllocE
     let fields = tuple.fields();
     push_atom(form, out, tuple.tag())?;
     out.push(fields.len() as u8)?;
-    push_fields(form, out, fields)
+    push_list(form, out, fields)
 }
 
-// Appends the spelling of the template; likewise.
-fn push_template(form: Form, out: &mut Vec<u8>, template: &Template) -> Result<(), AllocError>
+/// Appends the spelling of the template; likewise.
+pub(crate) fn push_template(
+    form: Form,
+    out: &mut Vec<u8>,
+    template: &Template,
+) -> Result<(), AllocError>
     requires { FitsTemplateIn form template.now }
     ensures ok { OnOk result (out.new.items ≡ out.old.items ++ (format.template form).spell template.now) }
     ensures front { take (length out.old.items) out.new.items ≡ out.old.items }
@@ -94,7 +104,7 @@ fn push_template(form: Form, out: &mut Vec<u8>, template: &Template) -> Result<(
     let patterns = template.fields();
     push_atom(form, out, template.tag())?;
     out.push(patterns.len() as u8)?;
-    push_fields(form, out, patterns)
+    push_list(form, out, patterns)
 }
 
 /// Appends the spelling of the pattern; likewise.

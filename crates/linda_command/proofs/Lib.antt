@@ -1,5 +1,5 @@
-pub mod Parsing
-mod LongSpelling
-pub mod RunWalk
-pub mod RunWords
-pub mod Tasks
+pub mod ParsingLaws
+mod LongSpellingLaws
+pub mod RunWalkLaws
+pub mod RunWordsLaws
+pub mod TaskLaws

@@ -124,7 +124,7 @@ linda = with_subcommand (with_subcommand (with_subcommand (with_subcommand (with
 abbrev pub IsEnd : List (List ℕ) → Type 0
 IsEnd words = (words ≡ []) ⊎ (words ≡ codes "--" ∷ [])
 
--- The words are a program's name and `pipe`; the `--` that ends options may stand behind.
+-- The words are a program's name and `pipe`; the `--` that ends options may follow.
 abbrev pub AsksForPipe : List (List ℕ) → Type 0
 AsksForPipe words = (name : List ℕ)
     × ((words ≡ name ∷ codes "pipe" ∷ []) ⊎ (words ≡ name ∷ codes "pipe" ∷ codes "--" ∷ []))
@@ -143,7 +143,7 @@ IsOption words number = (words ≡ codes "--servers" ∷ number ∷ [])
     ⊎ (words ≡ (codes "--servers=" ++ number) ∷ [])
 
 -- The words are a program's name, `run` and the option with this number; the `--` that ends options may
--- stand behind.
+-- follow.
 pub record AsksForRun (words : List (List ℕ)) (n : ℕ) : Type 0 where
   pub name : List ℕ
   pub number : List ℕ
@@ -154,7 +154,7 @@ pub record AsksForRun (words : List (List ℕ)) (n : ℕ) : Type 0 where
   pub is_end : IsEnd end
   pub spells : Spells number n
 
--- The words are a program's name and `run`, and the number is such as may stand behind it.
+-- The words are a program's name and `run`, and the number is such as may stand after it.
 pub record AsksForTracedRun (words : List (List ℕ)) (n : ℕ) : Type 0 where
   pub name : List ℕ
   pub later : List (List ℕ)
@@ -162,7 +162,7 @@ pub record AsksForTracedRun (words : List (List ℕ)) (n : ℕ) : Type 0 where
   pub some : 1 ≤ n
   pub most : n ≤ MAX_SERVERS
 
--- The words are a program's name and `call`, and the numbers are such as may stand behind it.
+-- The words are a program's name and `call`, and the numbers are such as may stand after it.
 pub record AsksForCall (words : List (List ℕ)) (client : ℕ) (ports : List ℕ) : Type 0 where
   pub name : List ℕ
   pub later : List (List ℕ)
@@ -170,7 +170,7 @@ pub record AsksForCall (words : List (List ℕ)) (client : ℕ) (ports : List �
   pub is_client : client < 2 ^ 32
   pub are_ports : ArePorts ports
 
--- The words are a program's name and `serve`, and the numbers are such as may stand behind it.
+-- The words are a program's name and `serve`, and the numbers are such as may stand after it.
 pub record AsksForServe (words : List (List ℕ)) (port : ℕ) (sessions : Option ℕ) : Type 0 where
   pub name : List ℕ
   pub later : List (List ℕ)
@@ -316,7 +316,7 @@ pub record HasOneTooManyToRun (words : List (List ℕ)) : Type 0 where
   pub spells : Spells number n
   pub no_option : has_hyphen word ≡ false
 
--- behind `run`: no option; no number; a bad one; a word too many
+-- after `run`: no option; no number; a bad one; a word too many
 abbrev pub IsRefusedRun : List (List ℕ) → Kinds → Type 0
 IsRefusedRun words told =
     (LacksOption words × (told ≡ kinds.MissingRequiredArgument ∷ []))
@@ -324,7 +324,7 @@ IsRefusedRun words told =
     ⊎ ((HasBadNumber words × (told ≡ kinds.ValueValidation ∷ []))
     ⊎ (HasOneTooManyToRun words × (told ≡ kinds.UnknownArgument ∷ []))))
 
--- no word behind the program's name; an unknown one; one too many; a fault behind `run`
+-- no word after the program's name; an unknown one; a word too many; a fault after `run`
 abbrev pub IsRefusedAs : List (List ℕ) → Kinds → Type 0
 IsRefusedAs words told =
     ((length words ≤ 1) × (told ≡ kinds.MissingSubcommand ∷ []))

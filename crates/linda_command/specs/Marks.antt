@@ -5,7 +5,7 @@ use Rattle.std.specs.Prelude.{ℕ}
 abbrev pub hyphen : ℕ
 hyphen = 45
 
--- `=`, behind which the value of a long option may stand
+-- `=`, after which the value of a long option may stand
 abbrev pub equals_sign : ℕ
 equals_sign = 61
 

@@ -33,7 +33,7 @@ pub enum Task {
     Run {
         servers: u32,
     },
-    /// The same, with the trace of the run written to this file.
+    /// A run as `Run` is, with its trace written to this file.
     TracedRun {
         servers: u32,
         file: String,
@@ -63,8 +63,8 @@ pub enum Task {
 /// # Errors
 ///
 /// The parser's fault: a command that is missing or unknown, a word too many, a number of servers
-/// that is missing or not in its range, want of memory; or the help that was asked for.
-#[tactic(auto, using(crate::proofs::Tasks::apart))]
+/// that is missing or not in its range, memory that ran out; or the help that was asked for.
+#[tactic(auto, using(crate::proofs::TaskLaws::apart))]
 pub fn read_task(alloc: Global, words: &[String]) -> Result<Task, Error>
     ensures asked { IfOk result (λ task. AsksFor (map string_bytes words.now) task) }
     ensures taken { (task : Task) → AsksExactlyFor (map string_bytes words.now) task
@@ -101,7 +101,7 @@ fn task_of(alloc: Global, matches: &ArgMatches) -> Result<Option<Task>, AllocErr
     }
 }
 
-// The same, where it is neither the pipe nor a run.
+// What the parser found that the words ask for, where that is neither the pipe nor a run.
 fn other_of(alloc: Global, matches: &ArgMatches) -> Result<Option<Task>, AllocError>
     ensures exact { (words : List (List ℕ)) (task : Task) → AsksExactlyFor words task
         → subcommand_rows_of matches.now ≡ subcommand_of linda words

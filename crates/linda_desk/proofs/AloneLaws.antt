@@ -68,7 +68,7 @@ takes_back opening base rs qs count st so =
       counted = omega (arith, counted, long);
     }
 
--- The same, of a server as its fields are.
+-- The last receipts are told to nobody, and the server is down, for a server that is given by its fields.
 pub took_back : (opening base : State) (rs0 rs1 rs2 qs : List Receipt) (count : ℕ) (is_down : Bool) (st : State) → is_down ≡ true → rs1 ≡ rs0 ++ qs → rs2 ≡ rs0
     → IsInOrder opening base rs1 (count + length qs) is_down st → IsInOrder opening base rs2 count is_down st
 took_back opening base rs0 rs1 rs2 qs count false st is more back so = absurd (true≢false (sym is))

@@ -42,7 +42,7 @@ moves_base opening base rs count st so =
       counted = omega (arith, many);
     }
 
--- The same of a server as its fields are.
+-- The base is the state now, and no receipt is kept, for a server that is given by its fields.
 pub base_moved : (opening base new_base : State) (rs new_rs : List Receipt) (count : ℕ) (was_down is_down : Bool) (before0 before1 : State) (store0 store1 : Store)
     → was_down ≡ false → is_down ≡ false → store1 ≡ store0 → new_base ≡ store1.state → new_rs ≡ [] → IsInOrder opening base rs count was_down (known before0 store0 was_down)
     → IsInOrder opening new_base new_rs count is_down (known before1 store1 is_down)

@@ -70,7 +70,7 @@ boxes_but st client waits0 waits1 empty others covered c =
 pub closes_covered : (st : State) (bag : Bagged) (client : ℕ) (old soft : Soft) (sends : List (ℕ × Reply)) → record { sends = sends; soft = soft } ≡ on_close bag client old → All (IsCovered st) sends
 closes_covered st bag client old soft sends closed = subst (All (IsCovered st)) (sym (ap (λ s. s.sends) closed)) (close_sends st bag client old)
 
--- ---- the same, of a server as its fields are
+-- ---- the laws above, for a server that is given by its fields
 
 pub posts : (opening base : State) (rs : List Receipt) (count : ℕ) (was_down is_down : Bool) (before0 before1 : State) (store0 store1 : Store) (ms : List (ℕ × Message)) (served : Served) (posted0 posted1 : ℕ → Option (List Reply)) (sends : List (ℕ × Reply))
     → was_down ≡ false → is_down ≡ false → IsServed store0.state store0.soft ms served store1.state store1.soft → sends ≡ served.sends.items → ((c : ℕ) → posted1 c ≡ with_more (replies_to c sends) (posted0 c))

@@ -1,7 +1,7 @@
 pub mod ReceiptLaws
 pub mod OrderLaws
 pub mod FaultLaws
-pub mod Told
+pub mod ToldLaws
 pub mod BaseLaws
 pub mod CoveredLaws
 pub mod AloneLaws

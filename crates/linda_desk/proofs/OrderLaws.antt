@@ -124,7 +124,7 @@ has_told st soft ms served new then told is has told_is =
       sends_is = tells.sends;
     }
 
--- ---- the same, of a server as its fields are
+-- ---- the laws above, for a server that is given by its fields
 
 -- Those who asked are told.
 pub goes_on : (opening base : State) (rs0 rs1 rs2 : List Receipt) (count : ℕ) (was_down is_down : Bool) (before0 before1 : State) (store0 store1 : Store) (ms : List (ℕ × Message)) (served : Served) (told mine : List (Option Receipt))

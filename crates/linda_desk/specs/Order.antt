@@ -37,7 +37,7 @@ pub record CountsDeeds (opening : State) (count : ℕ) (state : State) : Type 0 
   pub done : AreDone opening deeds state
   pub counted : length deeds ≡ count
 
--- Two images stand for the state after the receipts' deeds, and maybe others after them.
+-- Two images represent the state after the receipts' deeds, and maybe others after them.
 pub record StandsBehind (base : State) (receipts : List Receipt) (left right : List ℕ) : Type 0 where
   pub untold : List Deed
   pub state : State

@@ -66,8 +66,8 @@ pub record WentSome (st : State) (soft : Soft) (ms : List (ℕ × Message)) (old
   pub between : Soft
   pub went : WentAlone st soft old (take many ms) told posted mid between
 
--- The same, and the receipts of the deeds stand after those of before, and each place is told what its message led to,
--- the last one first.
+-- The messages were answered in one step, or went one by one, the receipts of their deeds stand after those of before,
+-- and each place is told what its message led to, the last one first.
 pub record IsHandled (st : State) (soft : Soft) (ms : List (ℕ × Message)) (old_receipts : List Receipt)
     (old_posted : ℕ → Option (List Reply)) (old_told : List Told) (receipts : List Receipt)
     (posted : ℕ → Option (List Reply))

@@ -7,7 +7,7 @@ ghost use Rattle.linda_server.specs.declared.limits.TheConstants.{SNAPSHOT_RECOR
 use linda_server::SNAPSHOT_RECORDS;
 
 /// How long the bank in use was when it was new, and how many records it has at least when a snapshot is tried again.
-#[derive(Clone, Copy, Debug)]
+#[derive(Clone, Copy)]
 pub(crate) struct Pace {
     base: usize,
     not_before: usize,

@@ -26,7 +26,7 @@ synced h fit = record {
   clock = record { ok = omega arith; most = omega arith };
 }
 
--- A sync that tells a failure is not.
+-- A sync that reports a failure is not.
 not_synced : (h : History) (fault : DiskFault) → Syncs {T = Unit {0}} (Err fault) (view_of h) (view_of h)
 not_synced h fault = record {
   seen = tt;

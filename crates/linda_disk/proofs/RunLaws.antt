@@ -63,7 +63,7 @@ one_step step old new durable follows image left =
     let from = follows image left in
     subst (λ (before : List ℕ). step before image) (durable from.0 from.1) from.2
 
--- One write to a durable disk, whether or not it tells a failure.
+-- One write to a durable disk, whether or not it reports a failure.
 pub wrote : {T : Type 0} (at : ℕ) (bytes : List ℕ) (result : Result T DiskFault) (old new : View)
     (P : List ℕ → Type 0)
     → Writes at bytes result old new → IsTimed old → IsDurable old → P old.seen

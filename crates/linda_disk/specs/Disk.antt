@@ -53,7 +53,8 @@ pub record TellsFailures {F : Type 0} (device told : F) (old new : ℕ) : Type 0
   pub cause : told ≡ device → old < new
   pub others : told ≢ device → new ≡ old
 
--- The same of two disks, of which either may have failed.
+-- The fault says whether one of two disks failed: where it is that of a device, the count of one of them rose, and
+-- with each other fault both counts are as they were.
 pub record TellsFailuresOfTwo {F : Type 0} (device told : F) (old_left old_right new_left new_right : ℕ) : Type 0 where
   pub cause : told ≡ device → (old_left < new_left) ⊎ (old_right < new_right)
   pub others : told ≢ device → (new_left ≡ old_left) × (new_right ≡ old_right)

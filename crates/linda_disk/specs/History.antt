@@ -74,7 +74,8 @@ abbrev pub fill_all : ℕ → List DeviceCall → List ℕ → List ℕ
 fill_all b [] file = file
 fill_all b (call ∷ calls) file = fill_all b calls (fill b call file)
 
--- The same of a history.
+-- Of a history: what a read gives, the bytes at the last sync, those with b in each byte that was written since,
+-- and whether its writes fit.
 abbrev pub content : History → List ℕ
 content h = content_from h.first h.calls
 

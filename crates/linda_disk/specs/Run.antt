@@ -6,5 +6,5 @@ use Rattle.linda_disk.specs.View.{View}
 pub record LeavesOnly (old new : View) (P : List ℕ → Type 0) : Type 0 where
   pub later : old.moment ≤ new.moment
   pub each : (image : List ℕ) → new.left_since old.moment image → P image
-  -- the same for a run that began earlier
+  -- a crash since an earlier moment leaves what one could leave before, or an image that has P
   pub before : (t : ℕ) (image : List ℕ) → t ≤ old.moment → new.left_since t image → old.left_since t image ⊎ P image

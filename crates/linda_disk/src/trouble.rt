@@ -5,7 +5,7 @@ ghost use Rattle.linda_disk.specs.declared.trouble.Power.TheVariants.{On};
 ghost use Rattle.linda_disk.specs.Trouble as spec;
 
 /// How long the power is on.
-#[derive(Clone, Copy, Debug, PartialEq, Eq)]
+#[derive(Clone, Copy, PartialEq, Eq)]
 pub(crate) enum Power {
     /// As long as anyone asks.
     On,
@@ -16,7 +16,7 @@ pub(crate) enum Power {
 }
 
 /// What is to go wrong.
-#[derive(Clone, Copy, Debug, PartialEq, Eq)]
+#[derive(Clone, Copy, PartialEq, Eq)]
 pub(crate) struct Trouble {
     /// How long the power is on.
     pub(crate) power: Power,
@@ -25,7 +25,7 @@ pub(crate) struct Trouble {
 }
 
 /// How a call goes.
-#[derive(Clone, Copy, Debug, PartialEq, Eq)]
+#[derive(Clone, Copy, PartialEq, Eq)]
 pub(crate) enum Turn {
     /// It works.
     Works,

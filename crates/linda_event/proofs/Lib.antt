@@ -1,5 +1,5 @@
-pub mod Members
-pub mod Nodes
-pub mod Pushing
-pub mod Seeking
-pub mod Views
+pub mod MemberLaws
+pub mod NodeLaws
+pub mod PushLaws
+pub mod SeekLaws
+pub mod ViewLaws

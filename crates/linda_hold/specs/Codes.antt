@@ -4,7 +4,7 @@ use Rattle.std.specs.Coded.{Coded, code_by, coded×, coded_bool}
 use Rattle.linda_tuple.specs.Template.{Template}
 use Rattle.linda_tuple.specs.Codes.{template_code}
 use Rattle.linda_hold.specs.Request.{request_code}
-use Rattle.linda_hold.specs.declared.asks.Asked.{Asked}
+use Rattle.linda_hold.specs.declared.asked.Asked.{Asked}
 use Rattle.linda_hold.specs.Waits.{Wait}
 
 -- the code of what is asked

@@ -7,7 +7,7 @@ use Rattle.linda_tuple.specs.declared.atom.Atom.TheVariants as atoms
 use Rattle.linda_tuple.specs.contracts.atom.AtomOrd.TheImpl as atom_ord
 use Rattle.linda_bag.specs.Filing.{Rows, IsFiled}
 use Rattle.linda_bag.specs.Candidates.{first_value}
-use Rattle.linda_hold.specs.declared.asks.Asked.{Asked}
+use Rattle.linda_hold.specs.declared.asked.Asked.{Asked}
 use Rattle.linda_hold.specs.declared.firsts.Firsts.{Firsts}
 use Rattle.linda_hold.specs.Numbers.{IsOf}
 

@@ -5,7 +5,7 @@ use Rattle.std.specs.Option.{is_some}
 use Rattle.linda_tuple.specs.declared.atom.Atom.{Atom}
 use Rattle.linda_tuple.specs.contracts.atom.AtomOrd.TheImpl as atom_ord
 use Rattle.linda_bag.specs.Filing.{Rows, HasIds, row_at, placed}
-use Rattle.linda_hold.specs.declared.asks.Asked.{Asked}
+use Rattle.linda_hold.specs.declared.asked.Asked.{Asked}
 use Rattle.linda_hold.specs.declared.group.Group.{Group}
 use Rattle.linda_hold.specs.Firsts.{HasFirsts, first_of}
 

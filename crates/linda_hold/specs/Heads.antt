@@ -7,7 +7,7 @@ use Rattle.linda_bag.specs.declared.heads.Heads.{Heads}
 use Rattle.linda_bag.specs.Filing.{Rows}
 use Rattle.linda_bag.specs.Heads.{HasHeads, with_head}
 use Rattle.linda_bag.specs.Candidates.{first_among}
-use Rattle.linda_hold.specs.declared.asks.Asked.{Asked}
+use Rattle.linda_hold.specs.declared.asked.Asked.{Asked}
 use Rattle.linda_hold.specs.declared.group.Group.{Group}
 use Rattle.linda_hold.specs.Group.{HasGroup, is_reached}
 use Rattle.linda_hold.specs.Waits.{Wait}

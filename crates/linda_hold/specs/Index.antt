@@ -5,7 +5,7 @@ use Rattle.std.specs.Option.{option_map}
 use Rattle.linda_bag.specs.Filing.{Rows}
 use Rattle.linda_hold.specs.declared.index.Index.{Index}
 use Rattle.linda_hold.specs.Named.{Requests, HasNames}
-use Rattle.linda_hold.specs.declared.asks.Asked.{Asked}
+use Rattle.linda_hold.specs.declared.asked.Asked.{Asked}
 use Rattle.linda_hold.specs.Waits.{Wait}
 use Rattle.linda_hold.specs.Heads.{Waiting, HasAsked}
 

@@ -6,7 +6,7 @@ use Rattle.std.specs.BTreeSet.{BTreeSet, contains}
 use Rattle.linda_bag.specs.Filing.{Rows}
 use Rattle.linda_hold.specs.declared.numbers.Numbers.{Numbers}
 use Rattle.linda_hold.specs.declared.numbers.Numbers.TheVariants as numbers
-use Rattle.linda_hold.specs.declared.asks.Asked.{Asked}
+use Rattle.linda_hold.specs.declared.asked.Asked.{Asked}
 
 -- whether the number is one of the set
 abbrev pub has_number : Numbers → ℕ → Bool

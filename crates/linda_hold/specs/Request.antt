@@ -1,8 +1,6 @@
--- Requests: which of them are the same, their order, and how one is stored where a model's value holds it.
+-- Requests: which of them are the same, and how one is stored where a model's value holds it.
 use Rattle.std.specs.Prelude.{ℕ, Bool, ◌==◌, ◌&&◌, refl}
 use Rattle.std.specs.Coded.{Coded, code_by, coded×, coded_ℕ}
-use Rattle.std.specs.declared.cmp.Ordering.{Ordering}
-use Rattle.std.specs.Ordering.{nat_cmp, ordering_then}
 use Rattle.linda_hold.specs.declared.request.Request.{Request}
 
 -- the request that a client makes with a ticket
@@ -12,10 +10,6 @@ request_of client ticket = record { client = client; ticket = ticket }
 -- whether two requests are the same
 abbrev pub same_request : Request → Request → Bool
 same_request p q = (p.client == q.client) && (p.ticket == q.ticket)
-
--- the order of requests: by the client, then by the ticket
-abbrev pub request_cmp : Request → Request → Ordering
-request_cmp p q = ordering_then (nat_cmp p.client q.client) (nat_cmp p.ticket q.ticket)
 
 -- the code of a request
 abbrev pub request_code : Coded Request

@@ -7,7 +7,7 @@ use Rattle.linda_tuple.specs.Tuple.{Tuple}
 use Rattle.linda_tuple.specs.Testing.{is_match}
 use Rattle.linda_hold.specs.declared.request.Request.{Request}
 use Rattle.linda_hold.specs.Request.{same_request}
-use Rattle.linda_hold.specs.declared.asks.Asked.{Asked}
+use Rattle.linda_hold.specs.declared.asked.Asked.{Asked}
 
 -- A wait: a request, and what it asked.
 abbrev pub Wait : Type 0

@@ -6,11 +6,11 @@ ghost use Rattle.std.specs.Option.{option_copied};
 ghost use Rattle.linda_tuple.specs.contracts.atom.AtomOrd.TheImpl as atom_ord;
 ghost use Rattle.linda_bag.specs.Filing.{no_rows, rows_at, place, placed, FindsShelf};
 ghost use Rattle.linda_bag.specs.Filing.{Rows, IsBare, Refiles, RefilesBy};
-ghost use Rattle.linda_hold.specs.declared.asks.Asked as asks;
+ghost use Rattle.linda_hold.specs.declared.asked.Asked as asks;
 ghost use Rattle.linda_hold.specs.Numbers.{IsOf};
 ghost use Rattle.linda_hold.specs.Firsts.{HasFirsts, first_of, int_of, keyed_of, other_of};
 
-use crate::asks::Asked;
+use crate::asked::Asked;
 use crate::numbers::Numbers;
 use linda_bag::{Key, refile, unfile};
 use linda_tuple::Atom;

@@ -6,12 +6,12 @@ ghost use Rattle.std.specs.Option.{option_copied};
 ghost use Rattle.std.specs.Ordering.{nat_cmp};
 ghost use Rattle.std.specs.List.Sorted.{IsStrictlySortedBy};
 ghost use Rattle.linda_bag.specs.Filing.{Rows};
-ghost use Rattle.linda_hold.specs.declared.asks.Asked as asks;
+ghost use Rattle.linda_hold.specs.declared.asked.Asked as asks;
 ghost use Rattle.linda_hold.specs.Arrivals.{has_in};
 ghost use Rattle.linda_hold.specs.Group.{HasGroup, is_reached};
 
 use crate::arrivals::Arrivals;
-use crate::asks::Asked;
+use crate::asked::Asked;
 use crate::firsts::Firsts;
 use linda_bag::Shelf;
 use linda_tuple::Atom;

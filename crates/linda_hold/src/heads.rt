@@ -5,12 +5,12 @@ ghost use Rattle.std.specs.Prelude.{◌≡◌, ℕ, length};
 ghost use Rattle.std.specs.Ordering.{nat_cmp};
 ghost use Rattle.std.specs.List.Sorted.{IsStrictlySortedBy};
 ghost use Rattle.linda_bag.specs.Filing.{Rows};
-ghost use Rattle.linda_hold.specs.declared.asks.Asked as asks;
+ghost use Rattle.linda_hold.specs.declared.asked.Asked as asks;
 ghost use Rattle.linda_hold.specs.Arrivals.{has_in};
 ghost use Rattle.linda_hold.specs.Heads.{HasAsked, may_answer};
 
 use crate::arrivals::Arrivals;
-use crate::asks::Asked;
+use crate::asked::Asked;
 use crate::group::Group;
 use crate::request::Request;
 use linda_bag::{Headed, alike};

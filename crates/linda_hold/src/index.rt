@@ -1,12 +1,11 @@
 //! How requests that wait are found: by themselves, by their client, and by what they ask for.
 
 ghost use Rattle.std.specs.Prelude.{◌≡◌, None, Some, OnOk, OnErr};
-ghost use Rattle.std.specs.BTreeMap as tree;
 ghost use Rattle.linda_bag.specs.Filing.{no_rows, Refiles};
-ghost use Rattle.linda_hold.specs.Request.{request_cmp};
+ghost use Rattle.linda_hold.specs.Named.{number_at};
 ghost use Rattle.linda_hold.specs.Index.{HasWaits};
 
-use crate::asks::Asked;
+use crate::asked::Asked;
 use crate::heads::{Heads, Wait};
 use crate::names::Names;
 use linda_bag::Shelf;
@@ -36,17 +35,17 @@ impl Index {
     ///
     /// `AllocError` where memory runs out, and then each wait is found as before.
     pub(crate) fn put(&mut self, alloc: Global, number: u64, wait: &Wait) -> Result<(), AllocError>
-        requires { tree.get request_cmp self.old.names.by_request wait.now.0 ≡ None }
+        requires { number_at self.old.names.by_client wait.now.0 ≡ None }
         ensures ok { OnOk result (Refiles (HasWaits self.old) (HasWaits self.new)
             number None (Some wait.now)) }
         ensures err { OnErr result (Refiles (HasWaits self.old) (HasWaits self.new)
             number None None) }
     {
-        self.names.put(alloc, number, None, wait.0)?;
+        self.names.put(alloc, number, wait.0)?;
         match self.heads.put(alloc, number, None, &wait.1) {
             Ok(()) => Ok(()),
             Err(error) => {
-                self.names.remove(number, wait.0);
+                self.names.remove(wait.0);
                 Err(error)
             }
         }
@@ -56,7 +55,7 @@ impl Index {
     pub(crate) fn remove(&mut self, number: u64, wait: &Wait)
         ensures { Refiles (HasWaits self.old) (HasWaits self.new) number (Some wait.now) None }
     {
-        self.names.remove(number, wait.0);
+        self.names.remove(wait.0);
         self.heads.remove(number, &wait.1);
     }
 }

@@ -9,21 +9,20 @@
 #![tactic(auto)]
 
 mod arrivals;
-mod asks;
+mod asked;
+mod awaiting;
 mod firsts;
 mod group;
 mod heads;
-mod held;
-mod holding;
+mod holds;
 mod index;
 mod names;
 mod numbers;
 mod request;
-mod waiting;
-mod walks;
+mod waits;
 
-pub use asks::Asked;
-pub use holding::Holds;
+pub use asked::Asked;
+pub use awaiting::Awaiting;
+pub use holds::Holds;
 pub use request::Request;
-pub use waiting::Waits;
-pub use walks::Awaiting;
+pub use waits::Waits;

@@ -1,23 +1,23 @@
-//! Requests by themselves and by their client: which number each has.
+//! Requests by their client and their ticket: which number each has.
 
-ghost use Rattle.std.specs.Prelude.{◌≡◌, None, Some, OnOk, OnErr, length};
-ghost use Rattle.std.specs.Option.{option_copied};
+ghost use Rattle.std.specs.Prelude.{◌≡◌, ℕ, None, Some, IfSome, IfNone, IfOk, OnOk, OnErr, IsSome};
 ghost use Rattle.std.specs.Ordering.{nat_cmp};
 ghost use Rattle.std.specs.BTreeMap as tree;
-ghost use Rattle.linda_bag.specs.Filing.{no_rows, rows_at, placed, place, Finds, Refiles};
-ghost use Rattle.linda_hold.specs.Request.{request_cmp};
-ghost use Rattle.linda_hold.specs.Named.{HasNames, client_of};
+ghost use Rattle.std.specs.BTreeSet.{contains};
+ghost use Rattle.std.specs.List.{list_any};
+ghost use Rattle.linda_bag.specs.Filing.{no_rows, rows_at, HasIds};
+ghost use Rattle.linda_hold.specs.declared.request.Request.{Request};
+ghost use Rattle.linda_hold.specs.Request.{request_of};
+ghost use Rattle.linda_hold.specs.Named.{Requests, HasNames, AreUsed, IsCount, Sets, number_at, client_of};
 
 use crate::request::Request;
-use linda_bag::{refile, unfile};
 use std::alloc::{AllocError, Global};
 use std::collections::{BTreeMap, BTreeSet};
 
-/// The numbers of requests.
+/// The numbers of requests: those of each client by their tickets. A client without a request is not there.
 #[derive(Drop)]
 pub(crate) struct Names {
-    pub(crate) by_request: BTreeMap<Request, u64>,
-    by_client: BTreeMap<u32, BTreeSet<u64>>,
+    pub(crate) by_client: BTreeMap<u32, BTreeMap<u64, u64>>,
 }
 
 impl Names {
@@ -26,27 +26,61 @@ impl Names {
         ensures { HasNames result no_rows }
     {
         Names {
-            by_request: BTreeMap::new(alloc),
             by_client: BTreeMap::new(alloc),
         }
     }
 
     /// The number of the request. Takes no memory.
     pub(crate) fn number_of(&self, request: Request) -> Option<u64>
-        ensures { result ≡ tree.get request_cmp self.now.by_request request }
+        ensures { result ≡ number_at self.now.by_client request }
     {
-        self.by_request.get(&request).copied()
+        match self.by_client.get(&request.client) {
+            Some(tickets) => tickets.get(&request.ticket).copied(),
+            None => None,
+        }
     }
 
-    /// The numbers of the client's requests; nothing where it has none. Takes no memory.
-    pub(crate) fn of_client(&self, client: u32) -> Option<&BTreeSet<u64>>
-        ensures { Finds (HasNames self.now) (rows_at nat_cmp client_of client)
-            (option_copied result) }
+    /// How many requests of the client have a number. It walks over none of them, and takes no memory.
+    pub(crate) fn count_of(&self, client: u32) -> usize
+        ensures { (requests : Requests) → HasNames self.now requests → IsCount client requests result }
     {
-        self.by_client.get(&client)
+        match self.by_client.get(&client) {
+            Some(tickets) => tickets.len(),
+            None => 0,
+        }
     }
 
-    /// Gives the number to the request `new`, and no more to the request `old` that had it before.
+    /// The least ticket of the client's requests; nothing where it has none. Takes no memory.
+    pub(crate) fn first_ticket(&self, client: u32) -> Option<u64>
+        ensures some { IfSome result (λ ticket. IsSome (number_at self.now.by_client (request_of client ticket))) }
+        ensures none { IfNone result ((ticket : ℕ)
+            → number_at self.now.by_client (request_of client ticket) ≡ None) }
+    {
+        match self.by_client.get(&client) {
+            Some(tickets) => {
+                let (ticket, _) = tickets.first_key_value()?;
+                Some(*ticket)
+            }
+            None => None,
+        }
+    }
+
+    /// The numbers of the client's requests.
+    ///
+    /// # Errors
+    ///
+    /// `AllocError` where memory runs out.
+    pub(crate) fn of_client(&self, alloc: Global, client: u32) -> Result<BTreeSet<u64>, AllocError>
+        ensures { IfOk result (λ numbers. (requests : Requests) → HasNames self.now requests
+            → HasIds numbers (rows_at nat_cmp client_of client requests)) }
+    {
+        match self.by_client.get(&client) {
+            Some(tickets) => numbers_of(alloc, tickets),
+            None => Ok(BTreeSet::new(alloc)),
+        }
+    }
+
+    /// Gives the number to the request, which had none.
     ///
     /// # Errors
     ///
@@ -55,45 +89,57 @@ impl Names {
         &mut self,
         alloc: Global,
         number: u64,
-        old: Option<Request>,
-        new: Request,
+        request: Request,
     ) -> Result<(), AllocError>
-        requires { tree.get request_cmp self.old.by_request new ≡ None }
-        ensures ok { OnOk result (Refiles (HasNames self.old) (HasNames self.new)
-            number old (Some new)) }
-        ensures err { OnErr result (Refiles (HasNames self.old) (HasNames self.new)
-            number old old) }
+        ensures ok { OnOk result (Sets (number_at self.old.by_client) (number_at self.new.by_client)
+            request (Some number)) }
+        ensures err { OnErr result ((q : Request)
+            → number_at self.new.by_client q ≡ number_at self.old.by_client q) }
+        ensures used { AreUsed self.old.by_client → AreUsed self.new.by_client }
     {
-        self.by_request.insert(new, number)?;
-        let new_place = client_place(Some(&new));
-        let old_place = client_place(old.as_ref());
-        match refile(&mut self.by_client, alloc, number, old_place, new_place) {
-            Ok(()) => {
-                if let Some(old) = old {
-                    self.by_request.remove(&old);
-                }
-                Ok(())
-            }
-            Err(error) => {
-                self.by_request.remove(&new);
-                Err(error)
-            }
+        if let Some(tickets) = self.by_client.get_mut(&request.client) {
+            return give(tickets, request.ticket, number);
         }
+        let mut tickets = BTreeMap::new(alloc);
+        give(&mut tickets, request.ticket, number)?;
+        self.by_client.insert(request.client, tickets)?;
+        Ok(())
     }
 
-    /// Takes the number from the request, which has it. Takes no memory.
-    pub(crate) fn remove(&mut self, number: u64, request: Request)
-        ensures { Refiles (HasNames self.old) (HasNames self.new) number (Some request) None }
+    /// Takes the number from the request; where it has none, nothing changes. Takes no memory.
+    pub(crate) fn remove(&mut self, request: Request)
+        ensures gone { Sets (number_at self.old.by_client) (number_at self.new.by_client) request None }
+        ensures used { AreUsed self.old.by_client → AreUsed self.new.by_client }
     {
-        self.by_request.remove(&request);
-        unfile(&mut self.by_client, number, &request.client, &request);
+        let Some(tickets) = self.by_client.get_mut(&request.client) else {
+            return;
+        };
+        tickets.remove(&request.ticket);
+        if tickets.is_empty() {
+            self.by_client.remove(&request.client);
+        }
     }
 }
 
-// The client of the request, with the request.
-fn client_place(request: Option<&Request>) -> Option<(&u32, &Request)>
-    ensures { place result ≡ placed client_of (option_copied request.entry) }
+// Gives the number to the ticket.
+fn give(tickets: &mut BTreeMap<u64, u64>, ticket: u64, number: u64) -> Result<(), AllocError>
+    ensures ok { OnOk result (Sets (tree.get nat_cmp tickets.old) (tree.get nat_cmp tickets.new)
+        ticket (Some number)) }
+    ensures err { OnErr result (tickets.new.entries ≡ tickets.old.entries) }
 {
-    let request = request?;
-    Some((&request.client, request))
+    tickets.insert(ticket, number)?;
+    Ok(())
+}
+
+// The numbers of the tickets.
+fn numbers_of(alloc: Global, tickets: &BTreeMap<u64, u64>) -> Result<BTreeSet<u64>, AllocError>
+    ensures has { IfOk result (λ numbers. (q : ℕ)
+        → contains nat_cmp numbers q ≡ list_any (tree.is_at (nat_cmp q)) (tree.values tickets.now)) }
+    ensures ordered { tree.IsOrdered nat_cmp tickets.now }
+{
+    let mut numbers = BTreeSet::new(alloc);
+    for number in tickets.values() {
+        numbers.insert(*number)?;
+    }
+    Ok(numbers)
 }

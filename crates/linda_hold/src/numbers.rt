@@ -6,7 +6,7 @@ ghost use Rattle.std.specs.Ordering.{nat_cmp};
 ghost use Rattle.std.specs.BTreeSet.{contains};
 ghost use Rattle.linda_hold.specs.Numbers.{HasPair};
 
-use crate::asks::Asked;
+use crate::asked::Asked;
 use linda_bag::Shelf;
 use std::alloc::{AllocError, Global};
 use std::collections::BTreeSet;

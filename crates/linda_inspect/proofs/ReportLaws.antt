@@ -1,4 +1,4 @@
--- What is told of the banks of two files is what is told of two disks that hold them.
+-- What is reported of the banks of two files is what is reported of two disks that hold them.
 use Rattle.std.proofs.Common.{◌≡◌, ◌⊎◌, ◌∙◌, ℕ, List, ap, subst, inl, inr}
 use Rattle.linda_state.specs.State.{State}
 use Rattle.linda_disk.specs.History.{History, view_of}

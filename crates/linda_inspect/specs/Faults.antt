@@ -1,4 +1,4 @@
--- What is told of two banks that no server opens.
+-- What is reported of two banks that no server opens.
 use Rattle.std.specs.Prelude.{◌≡◌, ◌⊎◌, ℕ, List}
 use Rattle.linda_state.specs.State.{State}
 use Rattle.linda_disk.specs.declared.fault.DiskFault.{DiskFault}
@@ -16,11 +16,11 @@ use Rattle.linda_inspect.specs.declared.fault.OutputFault.TheVariants as outputs
 abbrev pub MayStand : List ℕ → List ℕ → Type 0
 MayStand left right = (st : State) × Stands left right st
 
--- Nothing is told of the banks: memory ran out, or the output failed. A disk in memory that fails is told so too.
+-- The fault says nothing of the banks: memory ran out, or the output failed; or a disk in memory failed.
 abbrev pub IsOfOutput : InspectFault → Type 0
 IsOfOutput fault = (fault ≡ faults.Memory) ⊎ ((fault ≡ faults.Io) ⊎ (fault ≡ faults.Disk))
 
--- What a fault tells of the bytes of two banks.
+-- What a fault says of the bytes of two banks.
 abbrev pub IsFaultOf : List ℕ → List ℕ → InspectFault → Type 0
 IsFaultOf left right faults.NoStore = IsFaultOfBoth left right choices.NoStore
 IsFaultOf left right (faults.Damaged side offset) = IsFaultOfBoth left right (choices.Damaged side offset)

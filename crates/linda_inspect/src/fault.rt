@@ -1,4 +1,4 @@
-//! Why no bank stands, or why that was not told to its end.
+//! Why no bank stands, or why that was not reported to its end.
 
 ghost use Rattle.std.specs.Prelude.{◌≡◌};
 ghost use Rattle.linda_inspect.specs.Faults.{fault_of_choice, fault_of_disk, fault_of_output};
@@ -78,7 +78,7 @@ impl<T: Drop> From<AllocFailed<T>> for OutputFault {
     }
 }
 
-/// What is told where no bank was chosen.
+/// What is returned where no bank was chosen.
 pub(crate) fn of_choice(fault: ChoiceFault) -> InspectFault
     ensures { result ≡ fault_of_choice fault }
 {

@@ -21,7 +21,7 @@ use std::io::Write;
 ///
 /// # Errors
 ///
-/// `NoStore`, `Damaged` as a server tells them; `Memory`; `Io`, and then some first lines are written.
+/// `NoStore`, `Damaged` as a server returns them; `Memory`; `Io`, and then some first lines are written.
 pub fn write_report<W: Write>(
     alloc: Global,
     writer: &mut W,
@@ -33,7 +33,7 @@ pub fn write_report<W: Write>(
     // It ends well only where a state stands on the two, or both are empty, where a server makes a store;
     ensures opens { OnOk result (((left.items ≡ []) × (right.items ≡ []))
         ⊎ MayStand left.items right.items) }
-    // and there nothing but want of memory and a failed output keeps it from that.
+    // and there nothing but memory that runs out and a failed output keeps it from that.
     ensures stands { (st : State) → Stands left.items right.items st → IfErr result IsOfOutput }
     ensures new { left.items ≡ [] → right.items ≡ [] → IfErr result IsOfOutput }
     // A fault is one of those bytes.

@@ -15,10 +15,10 @@ use std::alloc::{AllocError, Global};
 // The byte of a gate that is closed.
 const CLOSED: u8 = 0;
 
-// How often a front is cut off: at a record that is badly spelled, and then at one with a deed that is not allowed.
+// How often a prefix is cut off: at a record that is badly spelled, and then at one with a deed that is not allowed.
 const CUTS: usize = 2;
 
-/// The bank that is whole before a damage at this offset: the bytes before it, with a closed gate behind them. Where
+/// The bank that is whole before a damage at this offset: the bytes before it, with a closed gate after them. Where
 /// these are damaged in their turn, those before that. None where no record or snapshot is whole.
 ///
 /// # Errors
@@ -49,7 +49,7 @@ pub(crate) fn whole_before(
     Ok(None)
 }
 
-// The bank that the bytes are with a closed gate behind them.
+// The bank that the bytes are with a closed gate after them.
 fn open_front(
     alloc: Global,
     front: &[u8],
@@ -63,7 +63,7 @@ fn open_front(
     }
 }
 
-// The bytes, and a closed gate behind them.
+// The bytes, and a closed gate after them.
 fn closed(alloc: Global, front: &[u8]) -> Result<Vec<u8>, AllocError>
     ensures { IfOk result (λ bytes. bytes.items ≡ front.now ++ CLOSED ∷ []) }
 {

@@ -4,7 +4,7 @@ use Rattle.std.proofs.lemmas.List.{take-append-drop, length-take, length-drop, d
 use Rattle.linda_codec.specs.Formats.{short_number, number}
 use Rattle.linda_codec.specs.Lawful.{IsBytes}
 use Rattle.linda_codec.proofs.FormatLaws.{short_number_is, number_is}
-use Rattle.linda_codec.proofs.Takes.{IsBytes-drop}
+use Rattle.linda_codec.proofs.TakeLaws.{IsBytes-drop}
 use Rattle.linda_tuple.specs.declared.form.Form.{Form}
 use Rattle.linda_tuple.specs.declared.form.Form.TheVariants.{One, Two}
 use Rattle.linda_state.specs.declared.deed.Deed.{Deed}
@@ -20,7 +20,7 @@ use Rattle.linda_journal.specs.Records.{spell_record, spell_records}
 use Rattle.linda_journal.specs.Bank.{digit, magic, IsCandidate, headed, head, IsBank, IsSettled}
 use Rattle.linda_journal.specs.Heading.{IsHeading}
 use Rattle.linda_journal.specs.Image.{IsBroken, IsFaultOfBank}
-use Rattle.linda_journal.proofs.Apart.{format_apart}
+use Rattle.linda_journal.proofs.ApartLaws.{format_apart}
 use Rattle.linda_journal.proofs.RecordLaws.{one_journal, not_both}
 
 -- The offset of the generation: a gate and the letters stand before it.

@@ -1,5 +1,4 @@
-pub mod Apart
-pub mod DeedLaws
+pub mod ApartLaws
 pub mod SizeLaws
 pub mod PayloadLaws
 pub mod RecordLaws

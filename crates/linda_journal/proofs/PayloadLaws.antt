@@ -1,20 +1,20 @@
--- Reading a payload deed after deed.
-use Rattle.std.proofs.Common.{◌≡◌, ℕ, ◌+◌, ◌<◌, ◌≤◌, List, [], ◌∷◌, ◌++◌, All, length, drop, take, get_or, Result, Ok, Err, refl, sym, ap, subst, ◌∙◌, append_assoc, append-nil, length-append, arith}
+-- Counting a payload's deeds one by one, and reading so many.
+use Rattle.std.proofs.Common.{◌≡◌, ℕ, ◌+◌, ◌<◌, ◌≤◌, List, [], ◌∷◌, ◌++◌, All, length, drop, Result, Ok, Err, refl, sym, ap, subst, ◌∙◌, append_assoc, append-nil, length-append, arith}
 use Rattle.std.specs.List.{AllByRecursion}
-use Rattle.std.proofs.lemmas.List.Elements.{recursion_from_All, All-append, All-nil, All-cons, All-get_or}
-use Rattle.std.proofs.lemmas.List.{flat_map_more, drop_at, drop_more, take_all, take_more}
+use Rattle.std.proofs.lemmas.List.Elements.{recursion_from_All, All-append, All-nil, All-cons}
+use Rattle.std.proofs.lemmas.List.{flat_map_more, drop_at}
 use Rattle.linda_codec.specs.declared.fault.ReadFault.{ReadFault}
 use Rattle.linda_codec.specs.Lawful.{IsBytes}
-use Rattle.linda_codec.specs.Steps.{Read, left_by}
+use Rattle.linda_codec.specs.Steps.{Read, left_by, many_at}
 use Rattle.linda_codec.proofs.SkipLaws.{is_fault}
-use Rattle.linda_codec.proofs.Takes.{IsBytes-drop}
+use Rattle.linda_codec.proofs.TakeLaws.{IsBytes-drop}
+use Rattle.linda_codec.proofs.ManyLaws.{many_again}
 use Rattle.linda_tuple.specs.declared.form.Form.{Form}
 use Rattle.linda_state.specs.declared.deed.Deed.{Deed}
 use Rattle.linda_journal.specs.declared.limits.TheConstants.{MAX_DEEDS}
 use Rattle.linda_journal.specs.Records.{deed, spell_deed, FitsDeed, payload, IsRecord, IsPayloadOf, IsNoPayload}
-use Rattle.linda_journal.proofs.Apart.{IsApart, format_apart, first_ones}
-use Rattle.linda_journal.proofs.DeedLaws.{deed_is}
-use Rattle.linda_journal.proofs.SizeLaws.{deed_some}
+use Rattle.linda_journal.proofs.ApartLaws.{IsApart, format_apart, first_ones}
+use Rattle.linda_state.proofs.DeedFormatLaws.{deed_is, deed_some}
 
 pub deeds_apart : (form : Form) → IsApart (spell_deed form) (FitsDeed form)
 deeds_apart form = format_apart (deed_is form)
@@ -22,21 +22,6 @@ deeds_apart form = format_apart (deed_is form)
 -- One item more of a list, each of which has a fact.
 pub all_with : {A : Type 0} (P : A → Type 0) (xs : List A) (x : A) → All P xs → P x → All P (xs ++ x ∷ [])
 all_with P xs x so_far one = All-append P xs (x ∷ []) so_far (All-cons P x [] one (All-nil P))
-
--- The same of the first items of a list.
-pub all_up_to : {A : Type 0} (P : A → Type 0) (xs : List A) (i : ℕ) (x : A) → i < length xs → x ≡ get_or xs i x → All P (take i xs) → P x → All P (take (i + 1) xs)
-all_up_to P xs i x lt is so_far one =
-    let front : take (i + 1) xs ≡ take i xs ++ x ∷ [] = take_more xs i x lt ∙ ap (λ y. take i xs ++ y ∷ []) (sym is) in
-    subst (All P) (sym front) (all_with P (take i xs) x so_far one)
-
--- The spelling of one deed more, appended.
-pub payload_up_to : (form : Form) (ds : List Deed) (i : ℕ) (d : Deed) (start so_far : List ℕ) → i < length ds → d ≡ get_or ds i d → so_far ≡ start ++ payload form (take i ds) → so_far ++ spell_deed form d ≡ start ++ payload form (take (i + 1) ds)
-payload_up_to form ds i d start so_far lt is before =
-    let front : take (i + 1) ds ≡ take i ds ++ d ∷ [] = take_more ds i d lt ∙ ap (λ y. take i ds ++ y ∷ []) (sym is) in
-    ap (λ l. l ++ spell_deed form d) before
-    ∙ append_assoc start (payload form (take i ds)) (spell_deed form d)
-    ∙ ap (λ l. start ++ l) (flat_map_more (spell_deed form) [] (take i ds) d)
-    ∙ ap (λ l. start ++ payload form l) (sym front)
 
 -- ---- while deeds are counted
 
@@ -138,26 +123,17 @@ no_deeds form bytes count rest so_far none no_count es is e =
         let n : length rest ≡ length (spell_deed form d) + length (payload form tail) = ap length rest_is ∙ length-append (spell_deed form d) (payload form tail) in
         omega (arith, n, none, deed_some form d)
 
--- ---- while deeds are read
+-- ---- when deeds are read
 
--- The first of these deeds were read, and the others stand there.
-pub record IsReadOf (form : Form) (ds : List Deed) (i : ℕ) (front : List Deed) (rest : List ℕ) : Type 0 where
-  pub front_is : front ≡ take i ds
-  pub rest_is : rest ≡ payload form (drop i ds)
-
-pub none_read : (form : Form) (ds front : List Deed) (bytes : List ℕ) → front ≡ [] → bytes ≡ payload form ds → IsReadOf form ds 0 front bytes
-none_read form ds front bytes none is = record { front_is = none; rest_is = is }
-
-same_pair : (x y : Deed × List ℕ) → (let a : Read Deed = Ok x in a) ≡ Ok y → x ≡ y
+same_pair : (x y : List Deed × List ℕ) → (let a : Read (List Deed) = Ok x in a) ≡ Ok y → x ≡ y
 same_pair x y e = cc
 
-pub one_more_read : (form : Form) (ds : List Deed) (i : ℕ) (front : List Deed) (rest : List ℕ) (d : Deed) (after : List ℕ) → IsRecord form ds → i < length ds → IsReadOf form ds i front rest → (deed form).read rest ≡ Ok (d, after) → IsReadOf form ds (i + 1) (front ++ d ∷ []) after
-one_more_read form ds i front rest d after is lt so_far e =
-    let next = get_or ds i d in
-    let there : rest ≡ spell_deed form next ++ payload form (drop (i + 1) ds) = so_far.rest_is ∙ ap (payload form) (drop_more ds i d lt) in
-    let again : (deed form).read rest ≡ Ok (next, payload form (drop (i + 1) ds)) = ap (deed form).read there ∙ (deed_is form).again next (payload form (drop (i + 1) ds)) (All-get_or (FitsDeed form) ds i d lt is.fits) in
-    let same = same_pair (d, after) (next, payload form (drop (i + 1) ds)) (sym e ∙ again) in
-    record { front_is = ap (λ l. l ++ d ∷ []) so_far.front_is ∙ ap (λ (x : Deed × List ℕ). take i ds ++ x.0 ∷ []) same ∙ sym (take_more ds i d lt); rest_is = ap (λ (x : Deed × List ℕ). x.1) same }
+-- What a payload is read as, so many deeds, are those that it spells.
+pub deeds_there : (form : Form) (ds : List Deed) (count : ℕ) (bytes : List ℕ) → IsRecord form ds → bytes ≡ payload form ds → length ds ≡ count → many_at (deed form).read count bytes ≡ Ok (ds, [])
+deeds_there form ds count bytes is spelled count_is =
+    let whole : bytes ≡ payload form ds ++ [] = spelled ∙ sym (append-nil (payload form ds)) in
+    rw (sym count_is, whole) (many_again (deed form).read (spell_deed form) (FitsDeed form) (deed_is form).again ds [] is.fits)
 
-pub all_read : (form : Form) (ds : List Deed) (i : ℕ) (front : List Deed) (rest : List ℕ) → IsReadOf form ds i front rest → length ds ≤ i → front ≡ ds
-all_read form ds i front rest so_far le = so_far.front_is ∙ take_all i ds le
+pub deeds_are : (form : Form) (ds : List Deed) (count : ℕ) (bytes : List ℕ) (x : List Deed × List ℕ) → IsRecord form ds → bytes ≡ payload form ds → length ds ≡ count → many_at (deed form).read count bytes ≡ Ok x → x.0 ≡ ds
+deeds_are form ds count bytes x is spelled count_is told =
+    ap (λ (y : List Deed × List ℕ). y.0) (same_pair x (ds, []) (sym told ∙ deeds_there form ds count bytes is spelled count_is))

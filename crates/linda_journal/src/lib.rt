@@ -3,7 +3,6 @@
 
 mod bank;
 mod closed;
-mod deed;
 mod fault;
 mod gate;
 mod heading;

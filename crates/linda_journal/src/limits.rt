@@ -1,7 +1,7 @@
 //! The limits of a record and of a bank.
 
 /// The most deeds of one record.
-pub const MAX_DEEDS: usize = 64;
+pub const MAX_DEEDS: usize = linda_state::MAX_DEEDS;
 
 /// The bytes that every bank has: its first gate, four letters, the generation, and the length of its body.
 pub const MIN_BYTES: usize = 17;

@@ -1,14 +1,14 @@
 //! The payload of a record: its deeds, one after the other, in a form.
 
-ghost use Rattle.std.specs.Prelude.{◌≡◌, ◌++◌, ◌≤◌, ◌↔◌, ℕ, List, All, length, IfOk, IfSome, IfNone};
-ghost use Rattle.std.specs.Prelude.{OnOk, OnErr, IsTrue};
+ghost use Rattle.std.specs.Prelude.{◌≡◌, ◌≤◌, ◌↔◌, ℕ, List, All, length, IfOk, IfSome, IfNone};
+ghost use Rattle.std.specs.Prelude.{OnErr, IsTrue};
 ghost use Rattle.linda_state.specs.declared.deed.Deed as deed;
 ghost use Rattle.linda_journal.specs.declared.limits.TheConstants.{MAX_DEEDS};
 ghost use Rattle.linda_journal.specs.Records as format;
 ghost use Rattle.linda_journal.specs.Records.{IsRecord, IsPayloadOf, IsNoPayload};
 
-use crate::deed::{deed_fits, push_deed, read_deed, skip_deed};
 use crate::limits::MAX_DEEDS;
+use linda_codec::{Spelled, read_list};
 use linda_state::Deed;
 use linda_tuple::Form;
 use std::alloc::{AllocError, Global};
@@ -42,7 +42,7 @@ fn count_deeds(form: Form, payload: &[u8]) -> Option<usize>
         if count >= MAX_DEEDS {
             return None;
         }
-        let Ok(after) = skip_deed(form, rest) else {
+        let Ok(after) = Deed::skip(form, rest) else {
             return None;
         };
         count += 1;
@@ -64,34 +64,16 @@ fn read_deeds(
     ensures { (ds : List deed.Deed) → IsRecord form ds → payload.now ≡ format.payload form ds → length ds ≡ count
         → IfOk result (λ v. v.items ≡ ds) }
 {
-    let mut deeds = Vec::with_capacity(alloc, count)?;
-    let mut rest = payload;
-    for _ in 0..count {
-        let Ok((deed, after)) = read_deed(alloc, form, rest) else {
-            return Err(AllocError);
-        };
-        deeds.push(deed)?;
-        rest = after;
+    match read_list(alloc, form, count, payload) {
+        Ok((deeds, _rest)) => Ok(deeds),
+        Err(_) => Err(AllocError),
     }
-    Ok(deeds)
 }
 
-/// Appends the spellings of the deeds, one after the other. Where memory runs out, a part of them may
-/// stand after the old bytes.
-pub(crate) fn push_payload(form: Form, out: &mut Vec<u8>, deeds: &[Deed]) -> Result<(), AllocError>
-    requires { All (format.FitsDeed form) deeds.now }
-    ensures { OnOk result (out.new.items ≡ out.old.items ++ format.payload form deeds.now) }
-{
-    for deed in deeds {
-        push_deed(form, out, deed)?;
-    }
-    Ok(())
-}
-
-/// Whether each deed has a spelling in the form, as `deed_fits` says. Takes no memory.
+/// Whether each deed has a spelling in the form, as `Deed::fits` says. Takes no memory.
 pub(crate) fn deeds_fit(form: Form, deeds: &[Deed]) -> bool
     ensures exact { IsTrue result ↔ All (format.SuitsForm form) deeds.now }
     ensures spelled { IsTrue result → All (format.FitsDeed form) deeds.now }
 {
-    deeds.iter().all(|deed| deed_fits(form, deed))
+    deeds.iter().all(|deed| deed.fits(form))
 }

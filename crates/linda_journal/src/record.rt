@@ -9,9 +9,9 @@ ghost use Rattle.linda_journal.specs.Records.{FitsDeed, IsRecord, record_body, s
 ghost use Rattle.linda_journal.specs.Journal.{IsNoRecord};
 
 use crate::kinds::CLOSED;
-use crate::payload::{push_payload, read_payload};
+use crate::payload::read_payload;
 use crate::size::RECORD_HEAD;
-use linda_codec::read_u32;
+use linda_codec::{push_list, read_u32};
 use linda_state::Deed;
 use linda_tuple::Form;
 use std::alloc::{AllocError, Global};
@@ -70,7 +70,7 @@ pub(crate) fn spell_body(
 {
     let mut out = Vec::with_capacity(alloc, len)?;
     out.extend_from_slice(&as_length(len - RECORD_HEAD).to_be_bytes())?;
-    push_payload(form, &mut out, deeds)?;
+    push_list(form, &mut out, deeds)?;
     out.push(CLOSED)?;
     Ok(out)
 }

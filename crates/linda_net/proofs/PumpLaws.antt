@@ -92,7 +92,7 @@ pumping_begins input known unread empty =
       many = omega arith;
     })
 
--- the messages that a piece made whole, behind those of before
+-- the messages that a piece made whole, after those of before
 pub piece_taken : (read piece unread rest : List ℕ) (stand : Option ℕ) (old known new : Known)
     → AllTaken read None unread old known → AllTaken (unread ++ piece) stand rest known new
     → AllTaken (read ++ piece) stand rest old new
@@ -172,7 +172,7 @@ pump_read_failed reads input left after old new unread so_far kept = record {
 pub piece_some : (len : ℕ) (bytes : List ℕ) → len ≤ length bytes → (len ≡ 0 → ⊥) → 0 < length (take len bytes)
 piece_some len bytes within some = rw (length-take-le len bytes within) (omega (arith, some))
 
--- a fault of the frame at the front was told
+-- a fault of the frame at the front was returned
 pub fault_told : (bytes left rest : List ℕ) (old new : Known) (fault : FrameFault) (result : Result (Option ℕ) ConverseFault)
     → TakenUpTo bytes left old new
     → IfOk result (λ o. (fault ≢ Memory) × (o ≡ Some (detail_of fault))) → IfErr result (λ told. told ≡ faults.Memory)

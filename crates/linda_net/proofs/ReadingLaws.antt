@@ -25,7 +25,7 @@ reading_then bytes mid rest ms ns first second = record {
       ∙ ap (λ bytes. bytes ++ rest) (sym (flat_map-append message_frame ms ns));
 }
 
--- the same, where more bytes came behind
+-- messages, and then those that what they left spells with more bytes after it
 pub reading_fed : (bytes piece mid rest : List ℕ) (ms ns : List Message)
     → IsReading bytes ms mid → IsReading (mid ++ piece) ns rest → IsReading (bytes ++ piece) (ms ++ ns) rest
 reading_fed bytes piece mid rest ms ns first second =
@@ -42,7 +42,7 @@ reading_one bytes rest m frame = record {
   spelled = frame.0 ∙ ap (λ bytes. bytes ++ rest) (sym (flat_map-cons message_frame m [] ∙ append-nil (message_frame m)));
 }
 
--- ---- messages behind a first one
+-- ---- messages after a first one
 
 pub reads_none : (bytes : List ℕ) (first : Message) → ReadsOn bytes bytes first (first ∷ [])
 reads_none bytes first = ([], (refl, reading_begins bytes))
@@ -58,7 +58,7 @@ reads_more bytes mid rest first m messages now before frame now_is = (
   ),
 )
 
--- a message, and those behind it
+-- a message, and those after it
 pub reading_batch : (bytes mid rest : List ℕ) (first : Message) (messages : List Message)
     → (bytes ≡ message_frame first ++ mid) × FitsMessage first → ReadsOn mid rest first messages → IsReading bytes messages rest
 reading_batch bytes mid rest first messages frame more =

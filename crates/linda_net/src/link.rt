@@ -177,7 +177,7 @@ impl Link {
     }
 }
 
-// What is told of a greeting after which the server is given up; none where it is to be tried again.
+// What is returned for a greeting after which the server is given up; none where it is to be tried again.
 fn given_up(fault: ProxyFault, fresh: bool) -> Option<Arrival> {
     match fault {
         ProxyFault::Refused(code, detail) => {

@@ -32,7 +32,7 @@ pub(crate) struct Marks {
     refused: AtomicU64,
     closed: AtomicU64,
     missed: AtomicU64,
-    // What came of the last snapshot, until it is told.
+    // What came of the last snapshot, until it is reported.
     snapshot: Mutex<Option<Event>>,
 }
 
@@ -69,7 +69,7 @@ impl Marks {
         let _ = self.missed.fetch_add(1, Ordering::SeqCst);
     }
 
-    /// This reply goes out: where it tells that the bank is full, that is counted.
+    /// This reply goes out: where it says that the bank is full, that is counted.
     pub(crate) fn sends(&self, reply: &Reply) {
         if tells_full(reply) {
             let _ = self.refused.fetch_add(1, Ordering::SeqCst);
@@ -81,7 +81,7 @@ impl Marks {
         *self.snapshot.lock(rt) = Some(event);
     }
 
-    /// What came of the last snapshot, if it was not told yet.
+    /// What came of the last snapshot, if it was not reported yet.
     pub(crate) fn take_snapshot<R: Wait>(&self, rt: &R) -> Option<Event> {
         self.snapshot.lock(rt).take()
     }
@@ -98,7 +98,7 @@ impl Marks {
     }
 }
 
-// Whether the reply tells that the bank is full.
+// Whether the reply says that the bank is full.
 fn tells_full(reply: &Reply) -> bool
     ensures { IsTrue result ↔ (reply.now ≡ refused refusals.Full) }
 {

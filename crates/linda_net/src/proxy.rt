@@ -67,7 +67,7 @@ impl Proxy {
     ///
     /// # Errors
     ///
-    /// `Refused`, as the server told; `Lost`; `Memory`. The server may have welcomed the client at the last two.
+    /// `Refused`, as the server said; `Lost`; `Memory`. The server may have welcomed the client at the last two.
     pub fn greet(&mut self, alloc: Global, client: u32, fresh: bool) -> Result<u64, ProxyFault> {
         let hello = Message::Hello {
             version: VERSION,

@@ -7,7 +7,7 @@ use crate::marks::Tally;
 use crate::watching::Event;
 
 /// What was told: of each trouble that it began, and the counts when the last minute began.
-#[derive(Clone, Copy, Debug)]
+#[derive(Clone, Copy)]
 pub(crate) struct Seen {
     since: Tally,
     is_full: bool,
@@ -34,7 +34,7 @@ impl Seen {
         }
     }
 
-    /// A trouble that began, which is told then and not again.
+    /// A trouble that began, which is reported then and not again.
     pub(crate) fn next(&mut self, tally: &Tally, is_down: bool) -> Option<Event>
         ensures full { result ≡ Some events.Full → (self.old.is_full ≡ false) × (self.new.is_full ≡ true) }
         ensures down { result ≡ Some events.Down → (self.old.is_down ≡ false) × (self.new.is_down ≡ true) }

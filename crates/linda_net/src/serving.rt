@@ -29,7 +29,7 @@ const REST: u64 = 10;
 ///
 /// # Errors
 ///
-/// `Down`: the server went down; told at the next connection, or at the end.
+/// `Down`: the server went down; returned at the next connection, or at the end.
 pub fn serve<D: Disk + Send, L: Ledger + Send + Sync, R: Threads + Wait + Clock + Sync>(
     rt: &R,
     alloc: Global,
@@ -49,8 +49,8 @@ pub fn serve<D: Disk + Send, L: Ledger + Send + Sync, R: Threads + Wait + Clock 
     ended(rt, shared)
 }
 
-/// The same, and a thread of its own tells whoever watches what happens, until all connections are over: nobody else
-/// waits for it. It ends as `serve` does, with how often what happened.
+/// Serves as `serve` does, and a thread of its own tells whoever watches what happens, until all connections are over:
+/// nobody else waits for it. It ends as `serve` does, with how often what happened.
 pub fn serve_watched<
     D: Disk + Send,
     L: Ledger + Send + Sync,

@@ -1,4 +1,4 @@
-//! What is told of a server while its connections are served.
+//! What is reported of a server while its connections are served.
 
 use crate::marks::{Marks, Tally};
 use crate::seen::Seen;
@@ -13,7 +13,7 @@ use std::time::{Clock, Duration, Instant};
 /// How long a minute is, in milliseconds.
 const MINUTE: u64 = 60_000;
 
-/// How many troubles there are that are told when they begin.
+/// How many troubles there are that are reported when they begin.
 const TROUBLES: u32 = 4;
 
 /// What happened.
@@ -25,13 +25,13 @@ pub enum Event {
     Snapshot(u64),
     /// A snapshot was refused after so many milliseconds, since the new bank would be full.
     NoSnapshot(u64),
-    /// Puts or takes are refused since the bank is full: told once, and again only after a minute without.
+    /// Puts or takes are refused since the bank is full: reported once, and again only after a minute without.
     Full,
-    /// A connection was closed since no thread could be had: told as `Full` is.
+    /// A connection was closed since no thread could be had: reported as `Full` is.
     Closed,
-    /// A connection could not be had: told as `Full` is.
+    /// A connection could not be had: reported as `Full` is.
     Missed,
-    /// No thread could be had for whoever watches: nothing more is told.
+    /// No thread could be had for whoever watches: nothing more is reported.
     Unwatched,
     /// No thread could be had for snapshots: none is taken.
     NoThread,
@@ -45,8 +45,8 @@ pub trait Watcher {
     fn tell<C: Clock>(&mut self, clock: &C, event: Event, gauge: &Gauge, tally: &Tally);
 }
 
-/// Looks ten times a second until it is over, and then once more, and tells what happened. Only this thread waits where
-/// whoever is told does not go on.
+/// Looks ten times a second until it is over, and then once more, and reports what happened. Only this thread waits
+/// where whoever is told does not go on.
 pub(crate) fn watch<D: Disk, L: Ledger, R: Wait + Clock, T: Watcher>(
     rt: &R,
     shared: &Shared<D, L>,
@@ -91,7 +91,7 @@ pub(crate) fn take_marked<D: Disk, L: Ledger, R: Wait + Clock>(
     }
 }
 
-// Tells each trouble that began.
+// Reports each trouble that began.
 fn tell_troubles<D: Disk, L: Ledger, R: Wait + Clock, T: Watcher>(
     rt: &R,
     shared: &Shared<D, L>,
@@ -109,7 +109,7 @@ fn tell_troubles<D: Disk, L: Ledger, R: Wait + Clock, T: Watcher>(
     }
 }
 
-/// Tells an event, with what the server and its connections come to.
+/// Reports an event, with what the server and its connections come to.
 pub(crate) fn tell<D: Disk, L: Ledger, R: Wait + Clock, T: Watcher>(
     rt: &R,
     shared: &Shared<D, L>,

@@ -126,7 +126,7 @@ module _ (find now : ℕ → Option ℕ) (old new : ℕ → Option Outbox) (c ke
         | inr differs ↦ ap (λ o. is_heard ws q (shown o)) (box_with taken q differs) ∙ heard q
       ]
 
--- What a list with one more behind says of who stands in it.
+-- What a list with one more at its end says of who stands in it.
 pub stands_last : (c : ℕ) (ws : List ℕ) → stands_in c (ws ++ c ∷ []) ≡ true
 stands_last c [] = ap (λ b. cond b true false) (eq-eqb c c refl)
 stands_last c (w ∷ ws) = by (w == c) (stands_last c ws)

@@ -20,7 +20,7 @@ abbrev pub replies_in : Option Outbox → Option (List Reply)
 replies_in None = None
 replies_in (Some o) = Some o.replies.items
 
--- The same, and whether the client stands in the list of those that wait.
+-- The replies in an outbox, where there is one, and whether its client is in the list of those that wait.
 abbrev pub shown : Option Outbox → Option (List Reply × Bool)
 shown None = None
 shown (Some o) = Some (o.replies.items, o.is_listed)

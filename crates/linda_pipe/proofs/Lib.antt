@@ -1,4 +1,3 @@
-pub mod Nodes
-pub mod Steps
-pub mod Ends
+pub mod StepLaws
+pub mod EndLaws
 mod DigitLaws

@@ -3,7 +3,7 @@ use Rattle.std.specs.Prelude.{ℕ, List, Option}
 use Rattle.std.specs.Result.{result_ok}
 use Rattle.std.specs.Io.BufRead.{strip_last}
 use Rattle.hex.specs.Hex.{decode_of}
-use Rattle.linda_pipe.specs.declared.decoding.TheConstants.{CARRIAGE_RETURN}
+use Rattle.linda_pipe.specs.declared.decode.TheConstants.{CARRIAGE_RETURN}
 
 -- the digits of a line: all of it but a carriage return at its end
 abbrev pub digits_of : List ℕ → List ℕ

@@ -1,7 +1,7 @@
 -- Texts as lines, each of which ends with a line feed.
 use Rattle.std.specs.Prelude.{◌≡◌, ◌≢◌, ℕ, List, [], ◌∷◌, ◌++◌, All, Option, Some, None}
 use Rattle.std.specs.List.{flat_map}
-use Rattle.linda_pipe.specs.declared.lines.TheConstants.{LINE_FEED}
+use Rattle.linda_pipe.specs.declared.line.TheConstants.{LINE_FEED}
 
 -- no line feed stands among these bytes
 abbrev pub HasNoFeed : List ℕ → Type 0
@@ -15,10 +15,6 @@ ended line = line ++ LINE_FEED ∷ []
 pub record IsCut (text : List ℕ) (lines : List (List ℕ)) (more : List ℕ) : Type 0 where
   pub spelled : text ≡ flat_map ended lines ++ more
   pub whole : All HasNoFeed lines
-
--- The text begins with this line and a line feed.
-abbrev pub BeginsWithLine : List ℕ → List ℕ → Type 0
-BeginsWithLine line text = HasNoFeed line × ((rest : List ℕ) × (text ≡ line ++ LINE_FEED ∷ rest))
 
 -- An unfinished line gets the front of a text. Behind that front the text has a line feed and a rest; with no line
 -- feed in the text, it all goes to the line.

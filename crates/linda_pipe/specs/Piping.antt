@@ -16,8 +16,8 @@ use Rattle.linda_store.specs.Node.{Node}
 use Rattle.linda_store.specs.Turn.{Point, beginning}
 use Rattle.linda_store.specs.Conversation.{IsConversation}
 use Rattle.linda_store.specs.declared.conversation.TheConstants.{MAX_READS}
-use Rattle.linda_pipe.specs.declared.faults.PipeFault.{PipeFault}
-use Rattle.linda_pipe.specs.declared.faults.PipeFault.TheVariants as faults
+use Rattle.linda_pipe.specs.declared.fault.PipeFault.{PipeFault}
+use Rattle.linda_pipe.specs.declared.fault.PipeFault.TheVariants as faults
 
 -- a reply as a line: the digits of its frame, in lower case, and the line feed
 abbrev pub reply_line : Reply → List ℕ
@@ -27,13 +27,13 @@ reply_line reply = ended (encode_lower (reply_frame reply))
 abbrev pub unused : Node
 unused = record { state = empty_state; soft = no_asks; is_down = false; may_fill = false; lost = [] }
 
--- The lines say pieces of a stream, and these replies are all that is said to it.
-pub record IsAnswered (lines : List (List ℕ)) (said : List Reply) (stage : Stage) : Type 0 where
+-- The lines say pieces of a stream, and these replies are all that a node, which was this one at first, says to it.
+pub record IsAnswered (first : Node) (lines : List (List ℕ)) (said : List Reply) (stage : Stage) : Type 0 where
   pub pieces : List (List ℕ)
   pub unread : List ℕ
   pub to : Point
   pub decoded : map piece_of lines ≡ map Some pieces
-  pub talk : IsConversation (beginning unused) (concat pieces) said stage unread to
+  pub talk : IsConversation (beginning first) (concat pieces) said stage unread to
 
 -- The text goes on with a line that is not hexadecimal.
 pub record HasBadLine (text : List ℕ) : Type 0 where
@@ -70,13 +70,14 @@ GoesOut (Err faults.Write) all written = (k : ℕ) × (written ≡ take k all)
 GoesOut (Err faults.Turns) all written = written ≡ all
 
 -- A text was taken line by line up to here, and this was written.
-pub record HasEnded (text written : List ℕ) (left : Option (List ℕ)) (result : Result Unit PipeFault) : Type 0 where
+pub record HasEnded (first : Node) (text written : List ℕ) (left : Option (List ℕ))
+    (result : Result Unit PipeFault) : Type 0 where
   pub lines : List (List ℕ)
   pub more : List ℕ
   pub said : List Reply
   pub stage : Stage
   pub cut : IsCut text lines more
-  pub answered : IsAnswered lines said stage
+  pub answered : IsAnswered first lines said stage
   pub ending : EndsAs result (length lines) (length text) more left stage
   pub out : GoesOut result (flat_map reply_line said) written
 
@@ -85,8 +86,8 @@ abbrev pub IsTextOf : List ℕ → Option (List ℕ) → List ℕ → Type 0
 IsTextOf read left text = (text ≡ read) ⊎ (IsAtEnd left × (text ≡ ended read))
 
 -- From its reader and its writer as they were to what they are: what was read was taken line by line, and what was
--- written are the lines of the replies.
-pub record IsPiped (reader_old reader_new writer_old writer_new : Option (List ℕ))
+-- written are the lines of the replies of a node that was this one at first.
+pub record IsPipedTo (first : Node) (reader_old reader_new writer_old writer_new : Option (List ℕ))
     (result : Result Unit PipeFault) : Type 0 where
   pub read : List ℕ
   pub text : List ℕ
@@ -94,4 +95,10 @@ pub record IsPiped (reader_old reader_new writer_old writer_new : Option (List �
   pub consumed : Consumes reader_old reader_new read
   pub appended : Appends writer_old writer_new written
   pub text_is : IsTextOf read reader_new text
-  pub ended_so : HasEnded text written reader_new result
+  pub ended_so : HasEnded first text written reader_new result
+
+-- The same of a server in memory that was never used.
+abbrev pub IsPiped : Option (List ℕ) → Option (List ℕ) → Option (List ℕ) → Option (List ℕ)
+    → Result Unit PipeFault → Type 0
+IsPiped reader_old reader_new writer_old writer_new result =
+    IsPipedTo unused reader_old reader_new writer_old writer_new result

@@ -1,7 +1,7 @@
 -- Exit statuses of a program whose pipe gives up.
 use Rattle.std.specs.Prelude.{ℕ}
-use Rattle.linda_pipe.specs.declared.faults.PipeFault.{PipeFault}
-use Rattle.linda_pipe.specs.declared.faults.PipeFault.TheVariants as faults
+use Rattle.linda_pipe.specs.declared.fault.PipeFault.{PipeFault}
+use Rattle.linda_pipe.specs.declared.fault.PipeFault.TheVariants as faults
 
 -- 4 for a fault of a line, 3 for one of the input or the output
 abbrev pub status_of : PipeFault → ℕ

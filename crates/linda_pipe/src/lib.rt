@@ -4,18 +4,18 @@
 //! replies to it. Where it ends otherwise a `PipeFault` says why, and all replies to the lines before are written, or
 //! some first bytes of them where the output failed. `specs/Piping` says all of it.
 //!
-//! What other commands need too stands here as well: `extend_line` and `without_return`, which cut a text into lines
-//! while its pieces arrive, and the exit statuses `REFUSED` and `BAD_LINE`.
+//! What other commands need stands here as well: `extend_line` and `without_return`, which cut a text into lines while
+//! its pieces arrive, and the exit statuses `REFUSED` and `BAD_LINE`.
 #![tactic(auto)]
 
-mod decoding;
-mod exchanges;
-mod faults;
-mod lines;
+mod decode;
+mod exchange;
+mod fault;
+mod line;
 mod piping;
-mod spelling;
+mod reply_line;
 
-pub use decoding::without_return;
-pub use faults::{BAD_LINE, PipeFault, REFUSED};
-pub use lines::extend_line;
+pub use decode::without_return;
+pub use fault::{BAD_LINE, PipeFault, REFUSED};
+pub use line::extend_line;
 pub use piping::pipe;

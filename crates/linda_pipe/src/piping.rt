@@ -1,12 +1,13 @@
 //! `linda pipe`: one connection to one server, over lines of hexadecimal digits.
 
-ghost use Rattle.std.specs.Prelude.{◌≡◌, ◌+◌, ◌<◌, ◌≤◌, ◌^◌, List, ℕ, Option, OnOk};
+ghost use Rattle.std.specs.Prelude.{◌≡◌, ◌+◌, ◌<◌, ◌≤◌, ◌^◌, [], List, ℕ, Option, OnOk};
+ghost use Rattle.linda_store.specs.Node as seen;
 ghost use Rattle.linda_pipe.specs.declared.piping.TheConstants.{BUFFER};
-ghost use Rattle.linda_pipe.specs.Exchanges.{IsPiping, TurnsTo};
-ghost use Rattle.linda_pipe.specs.Piping.{IsPiped};
+ghost use Rattle.linda_pipe.specs.Exchanges.{IsPiping, IsUnderway, TurnsTo};
+ghost use Rattle.linda_pipe.specs.Piping.{IsPiped, IsPipedTo};
 
-use crate::exchanges::Exchange;
-use crate::faults::PipeFault;
+use crate::exchange::Exchange;
+use crate::fault::PipeFault;
 use linda_store::{MAX_READS, Node, Volatile};
 use std::alloc::Global;
 use std::io::{Read, Write};
@@ -33,10 +34,26 @@ pub fn pipe<R: Read, W: Write>(
     ensures { IsPiped (R.remaining reader.old) (R.remaining reader.new)
         (W.contents writer.old) (W.contents writer.new) result }
 {
-    let mut exchange = Exchange::new(alloc);
+    let mut exchange = Exchange::new(alloc, Volatile::new(alloc));
+    serve(alloc, &mut exchange, reader, writer)
+}
+
+// Serves a connection that has just begun, to its end.
+fn serve<N: Node, R: Read, W: Write>(
+    alloc: Global,
+    exchange: &mut Exchange<N>,
+    reader: &mut R,
+    writer: &mut W,
+) -> Result<(), PipeFault>
+    requires no_lines { exchange.old.lines ≡ 0 }
+    requires no_replies { exchange.old.replies.items ≡ [] }
+    ensures { (first : seen.Node) → IsUnderway N.shown first [] [] exchange.old
+        → IsPipedTo first (R.remaining reader.old) (R.remaining reader.new)
+        (W.contents writer.old) (W.contents writer.new) result }
+{
     let mut buffer = [0; BUFFER];
     for _turn in 0..MAX_READS {
-        if !read_once(alloc, &mut exchange, &mut buffer, reader, writer)? {
+        if !read_once(alloc, exchange, &mut buffer, reader, writer)? {
             return Ok(());
         }
     }
@@ -44,19 +61,19 @@ pub fn pipe<R: Read, W: Write>(
 }
 
 // Reads once, takes what was read, and sends the replies; says whether more is to be read.
-fn read_once<R: Read, W: Write>(
+fn read_once<N: Node, R: Read, W: Write>(
     alloc: Global,
-    exchange: &mut Exchange,
+    exchange: &mut Exchange<N>,
     buffer: &mut [u8; BUFFER],
     reader: &mut R,
     writer: &mut W,
 ) -> Result<bool, PipeFault>
     requires { exchange.old.lines + BUFFER + 1 < 2 ^ 64 }
-    ensures turns { (reads : ℕ) (first_left first_written : Option (List ℕ)) →
-        IsPiping reads first_left (R.remaining reader.old) first_written (W.contents writer.old)
-        exchange.old (⟦<Volatile as Node>⟧.shown exchange.old.node) →
-        TurnsTo (reads + 1) first_left (R.remaining reader.new) first_written (W.contents writer.new)
-        exchange.new (⟦<Volatile as Node>⟧.shown exchange.new.node) result }
+    ensures turns { (first : seen.Node) (reads : ℕ) (first_left first_written : Option (List ℕ))
+        → IsPiping N.shown first reads first_left (R.remaining reader.old) first_written (W.contents writer.old)
+        exchange.old
+        → TurnsTo N.shown first (reads + 1) first_left (R.remaining reader.new) first_written (W.contents writer.new)
+        exchange.new result }
     ensures count { OnOk result (exchange.new.lines ≤ exchange.old.lines + BUFFER + 1) }
 {
     let Ok(count) = reader.read(buffer) else {

@@ -1,9 +1,9 @@
--- In a proper list each number of a client stands for one deed alone.
+-- In a proper list each number of a client belongs to one deed alone.
 use Rattle.std.proofs.Common.{◌≡◌, ℕ, zero, suc, ◌+◌, ◌-◌, ◌<◌, ◌≤◌, Bool, true, false, cond, ◌==◌, List, [], ◌∷◌, ◌++◌, Some, None, Contains, ◌⊎◌, inl, inr, refl, sym, ap, ◌∙◌, subst, arith, append_assoc, append-nil, eq-eqb, ne_eqb, length, take, get_or}
 use Rattle.std.proofs.lemmas.Bool.{cond-true, cond-false, cases_eq}
 use Rattle.std.proofs.lemmas.List.{take_more}
 use Rattle.std.proofs.lemmas.List.Elements.{Contains-push_cases}
-use Rattle.linda_bag.proofs.Maps.{get_empty}
+use Rattle.linda_maps.proofs.MapLaws.{get_empty}
 use Rattle.linda_book.specs.Entries.{number_in}
 use Rattle.linda_state.specs.declared.deed.Deed.{Deed}
 use Rattle.linda_state.specs.Deed.{client_of, number_of}
@@ -18,7 +18,7 @@ use Rattle.linda_promise.specs.Deeds.{last_in, NumbersEachOnce}
 nothing_in : {X : Type 0} (x : X) → Contains [] x → ⊥
 nothing_in x there = let within = there.1 in omega (arith, within)
 
--- The last number behind one deed more.
+-- The last number after one deed more.
 pub last_more : (ds : List Deed) (d : Deed) (c : ℕ) → last_in (ds ++ d ∷ []) c ≡ cond (client_of d == c) (number_of d) (last_in ds c)
 last_more ds d c = ap (λ o. number_in (entry_after empty_state c o)) (last_of-joined c ds (d ∷ [])) ∙ by (client_of d == c)
   where

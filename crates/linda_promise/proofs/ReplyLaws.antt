@@ -3,7 +3,7 @@ use Rattle.std.proofs.Common.{◌≡◌, ℕ, true, false, true≢false, cond, �
 use Rattle.std.proofs.lemmas.Option.{none-some, same_Some}
 use Rattle.std.proofs.lemmas.List.Elements.{All-nil, All-cons, All-append, All-map}
 use Rattle.std.specs.FinMap.{get}
-use Rattle.linda_bag.proofs.Maps.{get_empty}
+use Rattle.linda_maps.proofs.MapLaws.{get_empty}
 use Rattle.linda_hold.specs.Waits.{readers, longest}
 use Rattle.linda_wire.specs.declared.message.Message.{Message}
 use Rattle.linda_wire.specs.declared.reply.Reply.{Reply}

@@ -1,9 +1,9 @@
--- Which deed a step does, and how it is told.
+-- Which deed a step does, and how it is reported.
 use Rattle.std.proofs.Common.{◌≡◌, ◌≢◌, ℕ, ◌+◌, Bool, true, false, true≢false, cond, ◌==◌, List, [], ◌∷◌, Option, Some, None, is_some, refl, sym, ap, ◌∙◌, arith, eq-eqb, ne_eqb}
 use Rattle.std.proofs.lemmas.Bool.{cond-true, cond-false}
 use Rattle.std.proofs.lemmas.Option.{none-some, same_Some}
 use Rattle.std.specs.FinMap.{get, remove}
-use Rattle.linda_bag.proofs.Maps.{get_removed_same}
+use Rattle.linda_maps.proofs.MapLaws.{get_removed_same}
 use Rattle.linda_hold.specs.Request.{request_of}
 use Rattle.linda_wire.specs.declared.message.Message.{Message}
 use Rattle.linda_wire.specs.declared.message.Message.TheVariants as messages
@@ -57,7 +57,7 @@ module _ (st : State) (c : ℕ) (old : Soft) where
 pub step_asked : (st new : State) (c : ℕ) (old : Soft) (m : Message) (answered : Answer) (d : Deed) → HoldsWhatIsThere st old → IsStep st old c m answered new → answered.deed ≡ Some d → DoesAsAsked c m answered.soft d
 step_asked st new c old m answered d there step = asked st c old there m answered (course_of st old c m answered step.answer) d
 
--- ---- how it is told
+-- ---- how it is reported
 
 -- Nothing is reported by a refusal.
 refused_behind : (c : ℕ) (m : Message) (why : Refusal) → deed_behind c m ((c, refused why) ∷ []) ≡ None

@@ -5,7 +5,7 @@ use Rattle.std.proofs.lemmas.Option.{none-some, slice_get_within}
 use Rattle.std.proofs.lemmas.List.{take-append-drop, take_more}
 use Rattle.std.proofs.lemmas.List.Elements.{All-nil, All-cons, All-weaker, All-contains, Contains-append_right, Contains-push_cases}
 use Rattle.std.specs.FinMap.{get}
-use Rattle.linda_bag.proofs.Maps.{get_empty}
+use Rattle.linda_maps.proofs.MapLaws.{get_empty}
 use Rattle.linda_tuple.specs.Tuple.{Tuple}
 use Rattle.linda_wire.specs.declared.reply.Reply.TheVariants as replies
 use Rattle.linda_state.specs.declared.deed.Deed.{Deed}
@@ -51,7 +51,7 @@ only_one (z ∷ []) x y few (suc k, within, e) b = absurd (omega (arith, within)
 only_one (z ∷ []) x y few (zero, in_x, e) (suc k, within, f) = absurd (omega (arith, within))
 only_one (z ∷ []) x y few (zero, in_x, e) (zero, in_y, f) = sym e ∙ f
 
--- an element with those before it and behind it
+-- an element with those before it and after it
 split : {X : Type 0} (xs : List X) (x : X) (there : Contains xs x) → xs ≡ take there.0 xs ++ x ∷ drop (suc there.0) xs
 split xs x there =
     sym (take-append-drop there.0 xs) ∙ ap (λ l. take there.0 xs ++ l) (drop-cons xs there.0 x there.1 ∙ ap (λ y. y ∷ drop (suc there.0) xs) there.2)
@@ -84,7 +84,7 @@ take_finds before later c n id proper =
     let room : IsSome (get there.new.bag id) = (proper before (Take c n id) later there.new refl there.after).room.1 in
     subst (λ o. IsSome o) (there.after.bag id) room
 
--- What is taken in a list is in no bag behind it.
+-- What is taken in a list is in no bag after it.
 taken_for_good : (before later more : List Deed) (c n id : ℕ) → is_taken id ((before ++ Take c n id ∷ later) ++ more) ≡ true
 taken_for_good before later more c n id =
     is_taken-joined id (before ++ Take c n id ∷ later) more

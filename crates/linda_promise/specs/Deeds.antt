@@ -13,7 +13,7 @@ use Rattle.linda_state.specs.After.{bag_after, book_after}
 abbrev pub last_in : List Deed → ℕ → ℕ
 last_in ds c = number_in (book_after empty_state ds c)
 
--- A client's numbers go up to that of its last deed, and each stands for one deed alone.
+-- A client's numbers go up to that of its last deed, and each belongs to one deed alone.
 pub record NumbersEachOnce (ds : List Deed) : Type 0 where
   pub low : (d : Deed) → Contains ds d → number_of d ≤ last_in ds (client_of d)
   pub one :

@@ -1,9 +1,9 @@
--- Replies that report a deed: Stored, Taken, Gone and Left; where they are kept, and of which deed they tell.
+-- Replies that report a deed: Stored, Taken, Gone and Left; where they are kept, and which deed they report.
 use Rattle.std.specs.Prelude.{◌≡◌, ℕ, Bool, true, List, ◌∷◌, ◌++◌, All, Option, Some, None, is_some}
 use Rattle.std.specs.FinMap as map
 use Rattle.linda_wire.specs.declared.reply.Reply.{Reply}
 use Rattle.linda_wire.specs.declared.reply.Reply.TheVariants as replies
-use Rattle.linda_book.specs.declared.kept.KeptReply.TheVariants as kept
+use Rattle.linda_book.specs.declared.kept_reply.KeptReply.TheVariants as kept
 use Rattle.linda_book.specs.Entries.{Entry}
 use Rattle.linda_state.specs.declared.deed.Deed.{Deed}
 use Rattle.linda_state.specs.Deed.{client_of, number_of}

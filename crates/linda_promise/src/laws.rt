@@ -55,7 +55,7 @@ pub fn two_takes_of_a_tuple_are_one()
         → IsTakenOnce ds → Contains ds (Take c n id) → Contains ds (Take d m id) → Take c n id ≡ Take d m id }
 {}
 
-/// Each number of a client stands for one deed alone. Who is told Taken did that Take, and is told the tuple that
+/// Each number of a client belongs to one deed alone. Who is told Taken did that Take, and is told the tuple that
 /// was put under the id. Who is told Gone passed on, and took nothing by that number.
 pub fn replies_report_what_was_done()
     ensures once { (ds : List Deed) → IsProper empty_state ds → NumbersEachOnce ds }

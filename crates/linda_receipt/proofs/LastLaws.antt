@@ -15,7 +15,7 @@ use Rattle.linda_receipt.specs.declared.receipt.Receipt.{Receipt}
 use Rattle.linda_receipt.specs.Receipts.{client_in}
 use Rattle.linda_receipt.specs.Till.{Places, IsPlaceOf, receipts_at}
 use Rattle.linda_receipt.specs.Compare.{LastIsKept, NamesLast, NamesNotKept}
-use Rattle.linda_receipt.proofs.PlaceViews.{viewed}
+use Rattle.linda_receipt.proofs.PlaceLaws.{viewed}
 use Rattle.linda_receipt.proofs.TillLaws.{its_own}
 
 -- The last receipt of an entry is kept.

@@ -1,6 +1,6 @@
 mod TillLaws
 mod RingLaws
-mod PlaceViews
+mod PlaceLaws
 mod LastLaws
 mod TellingLaws
 mod WeightLaws

@@ -4,8 +4,8 @@ use Rattle.std.proofs.Math.Seq.{drop-append_seam}
 use Rattle.std.proofs.lemmas.List.{length-map, drop_all}
 use Rattle.linda_wire.specs.declared.message.Message.{Message}
 use Rattle.linda_wire.specs.declared.reply.Reply.{Reply}
-use Rattle.linda_book.specs.declared.kept.KeptReply.{KeptReply}
-use Rattle.linda_book.specs.declared.kept.KeptReply.TheVariants as kept
+use Rattle.linda_book.specs.declared.kept_reply.KeptReply.{KeptReply}
+use Rattle.linda_book.specs.declared.kept_reply.KeptReply.TheVariants as kept
 use Rattle.linda_book.specs.Entries.{Entry}
 use Rattle.linda_state.specs.declared.deed.Deed.{Deed}
 use Rattle.linda_state.specs.Deed.{client_of}
@@ -121,7 +121,7 @@ has_told st new soft behind ms served told told_is is has =
       sends_is = tells.sends;
     }
 
--- One more behind true receipts.
+-- One more after true receipts.
 pub more_true : (st : State) (ds : List Deed) (rs qs : List Receipt) → AreTrue st ds rs → AreTrue st (ds ++ deeds_in rs) qs → AreTrue st ds (rs ++ qs)
 more_true st ds [] qs first later = subst (λ l. AreTrue st l qs) (append-nil ds) later
 more_true st ds (r ∷ rs) qs first later =

@@ -7,8 +7,8 @@ use Rattle.std.specs.Cmp.{unsigned_Decides}
 use Rattle.std.specs.FinMap.{empty, get, insert, remove, entries, len-entries, len-empty}
 use Rattle.std.proofs.lemmas.List.{nil_from_length}
 use Rattle.std.proofs.lemmas.List.Elements.{All-nil, All-weaker}
-use Rattle.linda_bag.proofs.Maps.{get_empty, get_inserted, get_removed, get_removed_same, get_removed_other, get_same, get_other, same_map_by_key}
-use Rattle.linda_bag.proofs.Sums.{sum_inserted}
+use Rattle.linda_maps.proofs.MapLaws.{get_empty, get_inserted, get_removed, get_removed_same, get_removed_other, get_same, get_other, same_map_by_key}
+use Rattle.linda_maps.proofs.SumLaws.{sum_inserted}
 use Rattle.linda_receipt.specs.declared.place.Place.{Place}
 use Rattle.linda_receipt.specs.declared.place.Place.TheVariants as places
 use Rattle.linda_receipt.specs.declared.receipt.Receipt.{Receipt}
@@ -19,7 +19,7 @@ use Rattle.linda_receipt.specs.Till.{Places, receipts_at, IsPlaceOf, is_away, we
 abbrev pub at_place : (Place → ℕ) → Option Place → ℕ
 at_place f o = unwrap_or (option_map f o) 0
 
--- A place that is put in holds what is told of it, and the others hold what they held.
+-- Of a place that is put in holds what is said of it, and of the others what held before.
 own_put : (ps : Places) (c : ℕ) (p : Place) → IsPlaceOf c p → ((q : ℕ) → IfSome (get ps q) (IsPlaceOf q)) → (q : ℕ) → IfSome (get (insert ps c p) q) (IsPlaceOf q)
 own_put ps c p here own q =
     subst (λ o. IfSome o (IsPlaceOf q)) (sym (get_inserted ps c p q))

@@ -4,7 +4,7 @@ use Rattle.std.specs.Coded.{Coded, code_by, coded×, coded⊎, coded_ℕ, coded_
 use Rattle.std.proofs.Common.{inl, inr}
 use Rattle.linda_tuple.specs.Tuple.{Tuple}
 use Rattle.linda_tuple.specs.Codes.{tuple_code}
-use Rattle.linda_book.specs.declared.kept.KeptReply.{KeptReply}
+use Rattle.linda_book.specs.declared.kept_reply.KeptReply.{KeptReply}
 use Rattle.linda_book.specs.Codes.{kept_code}
 use Rattle.linda_state.specs.declared.deed.Deed.{Deed}
 use Rattle.linda_state.specs.declared.deed.Deed.TheVariants as deeds

@@ -4,8 +4,8 @@ use Rattle.std.specs.List.{slice_get, flat_map}
 use Rattle.linda_wire.specs.declared.message.Message.{Message}
 use Rattle.linda_wire.specs.declared.reply.Reply.{Reply}
 use Rattle.linda_wire.specs.declared.reply.Reply.TheVariants as replies
-use Rattle.linda_book.specs.declared.kept.KeptReply.{KeptReply}
-use Rattle.linda_book.specs.declared.kept.KeptReply.TheVariants as kept
+use Rattle.linda_book.specs.declared.kept_reply.KeptReply.{KeptReply}
+use Rattle.linda_book.specs.declared.kept_reply.KeptReply.TheVariants as kept
 use Rattle.linda_state.specs.declared.deed.Deed.{Deed}
 use Rattle.linda_state.specs.State.{State}
 use Rattle.linda_state.specs.Proper.{AreDone}
@@ -46,7 +46,7 @@ receipt_of a = receipt_for a.deed a.sends
 abbrev pub receipts_in : List (Option Receipt) → List Receipt
 receipts_in told = flat_map option_to_list told
 
--- what each message led to, told by its share of all deeds and sends
+-- what each message led to, given by its share of all deeds and sends
 abbrev pub told_by : List Share → List Deed → List (ℕ × Reply) → List (Option Receipt)
 told_by [] ds sends = []
 told_by (s ∷ ss) ds sends =

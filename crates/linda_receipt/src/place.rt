@@ -1,8 +1,8 @@
-//! What stands for a client while its session carries nothing.
+//! What the till has of a client.
 
 use crate::ring::Ring;
 
-/// What stands for a client that has or had a seat.
+/// What the till has of a client that has or had a seat.
 #[derive(Drop)]
 pub enum Place {
     /// Its seat is out, and carries all that it was told.

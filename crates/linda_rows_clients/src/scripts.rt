@@ -5,7 +5,7 @@
 //! begins a script over that many servers; where a row does not say so, it is over one. `script TEXT` runs a script
 //! that stands there as a string, since its blanks and line ends matter, and gives all that it prints. `times N LINE`
 //! is a line that stands there N times: how many lines that prints is written, and the last of them. A tilde in a line
-//! stands for a string of 255 letters. `skip N` is N lines that are passed over.
+//! represents a string of 255 letters. `skip N` is N lines that are passed over.
 //!
 //! In a row of traces each line gives the lines of the trace in place of what is printed, which has to be what is
 //! printed without a trace.
@@ -97,7 +97,7 @@ impl Scripts {
     }
 }
 
-// Tells what was printed, line by line.
+// Writes what was printed, line by line.
 fn tell_lines(printed: &str, came: &mut String) -> Result<(), AllocError> {
     match printed.strip_suffix("\n") {
         Some(lines) => {

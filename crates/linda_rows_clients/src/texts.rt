@@ -1,7 +1,7 @@
 //! Texts of events: what is read, given by the one text that is written of it, or the fault.
 //!
 //! `read TEXT` reads the text, which stands as a string where it begins or ends with a blank or has a tab in it.
-//! `nested COUNT NODE END` reads so many nodes that begin as the first string says, and then the second one, and tells
+//! `nested COUNT NODE END` reads so many nodes that begin as the first string says, and then the second one, and gives
 //! how many bases there are.
 
 use crate::number::place;
@@ -27,7 +27,7 @@ pub fn play_text(alloc: Global, words: &str, came: &mut String) -> Result<(), Wo
     }
 }
 
-// Tells the event that is read.
+// Writes the event that is read.
 fn tell_event(alloc: Global, text: &str, came: &mut String) -> Result<(), WordsFault> {
     match read_event(alloc, text) {
         Ok(event) => {
@@ -38,7 +38,7 @@ fn tell_event(alloc: Global, text: &str, came: &mut String) -> Result<(), WordsF
     }
 }
 
-// Tells how many bases the event has that is read.
+// Writes how many bases the event has that is read.
 fn tell_nested(alloc: Global, words: &str, came: &mut String) -> Result<(), WordsFault> {
     let (count, rest) = split_word(words);
     let (node, behind) = string_at(alloc, rest, 0)?;

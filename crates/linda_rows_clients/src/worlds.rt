@@ -19,14 +19,14 @@
 //! | `close 1 7` | a server ends what waits and what is held for a client |
 //! | `snapshot 0` | a server writes a snapshot |
 //! | `stop 0 with 2 4` | a server is stopped with these packets in hand, and opened |
-//! | `stop 0 with 65 of 0` | the same with packet 0 in hand so often |
-//! | `stop 0 with 4 at 2 kept` | the same inside this device call, with what becomes of what was not synced |
+//! | `stop 0 with 65 of 0` | a server is stopped with packet 0 in hand so often, and opened |
+//! | `stop 0 with 4 at 2 kept` | it is stopped inside this device call, with what becomes of what was not synced |
 //! | `stop snapshot 0 at 4 lost` | a server is stopped inside this device call of a snapshot, and opened |
 //! | `all 7 out; deliver 0` | these events happen in one call |
 //! | `join 6` | a client joins |
 //! | `shows` | what servers 0 and 1 did, what 7 and 8 were given, and which packets were never delivered |
 //!
-//! What was not synced is `kept` or `lost` at a stop, or each byte of it becomes `00`, `01` or `ff`; `each` stands for
+//! What was not synced is `kept` or `lost` at a stop, or each byte of it becomes `00`, `01` or `ff`; `each` means
 //! all five. A stop that does not say so is inside the first device call, and what was not synced is lost. Where as
 //! many are said as there are worlds, as `at 2 kept, 3 lost, 4 each`, they are for a world each, in their order.
 
@@ -87,7 +87,7 @@ impl Worlds {
     }
 }
 
-// Tells what came: once, where it is the same in each world.
+// Writes what came: once, where it is the same in each world.
 fn push_told(told: &[String], came: &mut String) -> Result<(), AllocError> {
     match told {
         [] => Ok(()),

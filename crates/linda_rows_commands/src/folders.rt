@@ -1,4 +1,4 @@
-//! A folder whose files hold bytes, and what is told of it.
+//! A folder whose files hold bytes, and what is printed of it.
 
 use crate::texts::{push_bytes, tell_text};
 use linda_inspect::Lists;
@@ -63,7 +63,7 @@ impl Folders {
         }
     }
 
-    // Tells of the folder, which is there and empty, once both files are in it.
+    // Writes what is printed of the folder, which is there and empty, once both files are in it.
     fn inspect_both(
         &self,
         files: &HostRuntime,
@@ -84,7 +84,7 @@ fn put_bank(files: &HostRuntime, path: &str, bytes: &[u8]) -> Result<(), WordsFa
     Ok(())
 }
 
-// Tells what is printed of the folder, with both lists, and how that ends where it does not end well.
+// Writes what is printed of the folder, with both lists, and how that ends if it does not end well.
 fn inspect(files: &HostRuntime, alloc: Global, came: &mut String) -> Result<(), WordsFault> {
     let lists = Lists {
         tuples: true,

@@ -26,7 +26,7 @@ const TALLY: Tally = Tally {
     missed: 3,
 };
 
-/// What happened so far, line by line, and how many lines of the log were told.
+/// What happened so far, line by line, and how many lines of the log were given.
 #[derive(Drop)]
 pub(crate) struct Logs {
     events: String,
@@ -48,8 +48,8 @@ impl Logs {
         self.told = 0;
     }
 
-    /// Does what the words say: a time is told, or something happens. Then a new log is written of all that happened, and
-    /// its lines are told that were not told before.
+    /// Does what the words say: a time is given, or something happens. Then a new log is written of all that happened,
+    /// and its lines are given that were not given before.
     pub(crate) fn play<C: Clock>(
         &mut self,
         clock: &C,
@@ -72,7 +72,7 @@ impl Logs {
     }
 }
 
-// Tells the time that is so many seconds after 1970 began.
+// Gives the time that is so many seconds after 1970 began.
 fn tell_time(seconds: &str, came: &mut String) -> Result<(), WordsFault> {
     let Ok(seconds) = seconds.parse::<u64>() else {
         return Err(WordsFault::Unknown);
@@ -86,7 +86,7 @@ fn tell_time(seconds: &str, came: &mut String) -> Result<(), WordsFault> {
     }
 }
 
-// Tells a line without its time, and as it is where there are not 20 bytes and a blank in front.
+// Gives a line without its time, and as it is where there are not 20 bytes and a blank in front.
 fn tell_line(line: &str, came: &mut String) -> Result<(), AllocError> {
     match line.split_once(' ') {
         Some((time, rest)) if time.len() == 20 => writeln!(came, "> {rest}"),
@@ -105,7 +105,7 @@ fn log_of<C: Clock>(clock: &C, alloc: Global, events: &str) -> Result<Vec<u8>, W
     Ok(sink)
 }
 
-// Tells the log what happens.
+// Lets the log write what happens.
 fn tell_event<C: Clock>(
     clock: &C,
     log: &mut Log<'_, Vec<u8>>,

@@ -52,7 +52,7 @@ impl Talks {
     }
 
     // Serves the peer by this command. The words say how many bytes the reader gives at once and whether it `ends` or
-    // `fails` behind them, how many the writer takes at once, and for how many it has room.
+    // `fails` after them, how many the writer takes at once, and for how many it has room.
     fn serve(
         &self,
         alloc: Global,
@@ -92,7 +92,7 @@ impl Talks {
         Ok(writeln!(came, ", unread {unread}, failed {failed}")?)
     }
 
-    // Tells how much was written of what is wanted, or all of it where it is something else.
+    // Writes how much was written of what is wanted, or all of it where it is something else.
     fn tell_written(
         &self,
         alloc: Global,

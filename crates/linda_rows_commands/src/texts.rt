@@ -41,7 +41,7 @@ fn read_string(alloc: Global, words: &str) -> Result<String, WordsFault> {
     }
 }
 
-/// Tells what was printed, line by line.
+/// Writes what was printed, line by line.
 pub(crate) fn tell_text(printed: &[u8], came: &mut String) -> Result<(), AllocError> {
     let text = std::str::from_utf8(printed).unwrap_or("no text");
     match text.strip_suffix("\n") {

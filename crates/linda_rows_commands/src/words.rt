@@ -1,4 +1,4 @@
-//! What is read of the command line, and what is told of the faults of a pipe.
+//! What is read of the command line, and what is printed of the faults of a pipe.
 
 use linda_command::{asks_for_version, read_task};
 use linda_pipe::PipeFault;
@@ -22,7 +22,7 @@ pub(crate) fn play_words(alloc: Global, words: &str, came: &mut String) -> Resul
     }
 }
 
-// Tells what the words of a command line ask for, or the exit status where the parser tells a fault, or the help.
+// Writes what the words of a command line ask for, or the exit status of the parser's fault, or of the help.
 fn tell_task(alloc: Global, line: &str, came: &mut String) -> Result<(), WordsFault> {
     match read_task(alloc, &words_of(alloc, line)?) {
         Ok(task) => Ok(writeln!(came, "> {task:?}")?),

@@ -61,7 +61,7 @@ fn open(
     }
 }
 
-// Tells how many records the bank has and where its journal ends.
+// Writes how many records the bank has and where its journal ends.
 fn take_bank(stand: &mut Stand, bank: Bank<MemDisk>, came: &mut String) -> Result<(), WordsFault> {
     let told = writeln!(came, "> {} records, end {}", bank.records(), bank.end());
     stand.bank = Some(bank);

@@ -52,7 +52,7 @@ fn chosen(
     }
 }
 
-// Tells which bank was chosen, and of the state that it stands for.
+// Writes which bank was chosen, and of the state that it represents.
 fn tell_choice(told: Result<Choice, ChoiceFault>, came: &mut String) -> Result<(), WordsFault> {
     match told {
         Ok(chosen) => {
@@ -69,7 +69,7 @@ fn tell_choice(told: Result<Choice, ChoiceFault>, came: &mut String) -> Result<(
     }
 }
 
-// Tells why no bank was chosen.
+// Writes why no bank was chosen.
 fn tell_fault(fault: ChoiceFault, came: &mut String) -> Result<(), WordsFault> {
     match fault {
         ChoiceFault::Memory => Err(WordsFault::Memory),
@@ -121,7 +121,7 @@ fn switched(
     }
 }
 
-// Tells why a server did not switch.
+// Writes why a server did not switch.
 fn tell_switch(fault: Option<SwitchFault>, came: &mut String) -> Result<(), WordsFault> {
     match fault {
         None => Ok(()),

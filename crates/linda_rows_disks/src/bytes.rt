@@ -80,12 +80,12 @@ const NAMED: [(&str, &str); 15] = [
 /// As many equal bytes are given by their number.
 const MANY: usize = 16;
 
-/// The bytes that the words stand for: those of this name; a text, `"abc"`; or pieces of hexadecimal digits, where
-/// `34*00` stands for a byte so many times.
+/// The bytes that the words represent: those of this name; a text, `"abc"`; or pieces of hexadecimal digits, where
+/// `34*00` is a byte so many times.
 ///
 /// # Errors
 ///
-/// `Unknown` where they stand for none; `Memory`.
+/// `Unknown` where they represent none; `Memory`.
 pub(crate) fn read_bytes(alloc: Global, words: &str) -> Result<Vec<u8>, WordsFault> {
     for (name, digits) in NAMED {
         if words == name {

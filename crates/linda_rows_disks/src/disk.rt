@@ -90,7 +90,7 @@ fn tell_length(disk: &mut MemDisk, came: &mut String) -> Result<(), WordsFault> 
     }
 }
 
-// Tells why a call was not done.
+// Writes why a call was not done.
 fn tell_fault(told: Result<(), DiskFault>, came: &mut String) -> Result<(), WordsFault> {
     match told {
         Ok(()) => Ok(()),

@@ -85,7 +85,7 @@ fn batch(alloc: Global, words: &str) -> Result<Vec<(u32, Message)>, WordsFault>
     Ok(messages)
 }
 
-// Tells the replies, or why there are none.
+// Writes the replies, or why there are none.
 fn tell_answer(
     alloc: Global,
     told: Result<Vec<(u32, Reply)>, NodeFault>,
@@ -97,7 +97,7 @@ fn tell_answer(
     }
 }
 
-// Tells why a call was not done.
+// Writes why a call was not done.
 fn tell_nothing(told: Result<(), NodeFault>, came: &mut String) -> Result<(), WordsFault> {
     match told {
         Ok(()) => Ok(()),
@@ -106,7 +106,7 @@ fn tell_nothing(told: Result<(), NodeFault>, came: &mut String) -> Result<(), Wo
 }
 
 // Stops the server inside this device call, and opens it again: `stop 3 kept snapshot`, or in the place of `snapshot`
-// messages, or nothing. Tells how many deeds were added.
+// messages, or nothing. Writes how many deeds were added.
 fn stop(
     alloc: Global,
     server: &mut Durable<MemDisk>,
@@ -149,10 +149,10 @@ fn talk(
     }
 }
 
-/// Tells what the server keeps: the next id, and how many tuples, clients and holds there are.
+/// Writes what the server keeps: the next id, and how many tuples, clients and holds there are.
 pub(crate) fn look(server: &Durable<MemDisk>, came: &mut String) -> Result<(), WordsFault> {
     let state = server.state();
-    let held = server.holds().ids().len();
+    let held = server.holds().len();
     let next = state.next;
     let tuples = state.bag.len();
     let clients = state.book.len();
@@ -162,7 +162,7 @@ pub(crate) fn look(server: &Durable<MemDisk>, came: &mut String) -> Result<(), W
     )?)
 }
 
-// Tells the reply that the server keeps for a client, without its tuple.
+// Writes the reply that the server keeps for a client, without its tuple.
 fn tell_kept(server: &Durable<MemDisk>, words: &str, came: &mut String) -> Result<(), WordsFault> {
     let (client, _rest) = read_numbered(words)?;
     match server.state().book.kept(client) {

@@ -10,7 +10,7 @@ use std::alloc::Global;
 /// More bytes than a snapshot may have.
 const TOO_LONG: usize = 1 << 32;
 
-/// Reads the state that all of the bytes spell, and tells of it; or spells it again.
+/// Reads the state that all of the bytes spell, and writes what it has; or spells it again.
 pub(crate) fn play_state(
     alloc: Global,
     bytes: &[u8],
@@ -54,7 +54,7 @@ fn tell_fault(fault: SnapshotFault, came: &mut String) -> Result<(), WordsFault>
     }
 }
 
-// Tells the next id, and how many tuples and clients there are.
+// Writes the next id, and how many tuples and clients there are.
 fn tell_state(state: &State<ListBag>, came: &mut String) -> Result<(), WordsFault> {
     let next = state.next;
     let tuples = state.bag.len();

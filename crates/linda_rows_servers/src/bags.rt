@@ -1,4 +1,4 @@
-//! Both bags, which do the same and have to tell the same.
+//! Both bags, which do the same and have to answer the same.
 
 use crate::number::{read_number, split_number};
 use linda_bag::{Bag, IndexBag, ListBag};
@@ -46,7 +46,7 @@ impl Bags {
     }
 
     // Takes what many templates ask for, in turn, from both bags: so often in all, `(n % tags, n % keys)`, and at each
-    // tenth turn `(n % tags, ?i)` too. Tells where the two differ.
+    // tenth turn `(n % tags, ?i)` too. Writes where the two differ.
     fn take_all(
         &mut self,
         alloc: Global,
@@ -84,7 +84,7 @@ impl Bags {
     }
 }
 
-// Tells what came of both, or of each where they differ; nothing comes of what has nothing to tell.
+// Writes what came of both, or of each where they differ; nothing comes of what has nothing to give.
 fn tell_both(came: &mut String, plain: &str, index: &str) -> Result<(), WordsFault> {
     if plain != index {
         Ok(writeln!(came, "> plain {plain}, index {index}")?)

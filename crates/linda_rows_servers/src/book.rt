@@ -71,7 +71,7 @@ fn read_kept(alloc: Global, words: &str) -> Result<KeptReply, WordsFault> {
     }
 }
 
-// Tells a reply as a line.
+// Writes a reply as a line.
 fn tell_kept(alloc: Global, reply: &KeptReply, came: &mut String) -> Result<(), WordsFault> {
     came.push_str("> ")?;
     tell_reply(alloc, reply, came)

@@ -69,7 +69,7 @@ fn read_deed(alloc: Global, word: &str, words: &str) -> Result<Deed, WordsFault>
     }
 }
 
-// Tells the deed that is reported of a message of client 7, after its last number, and of the reply, as
+// Writes the deed that is reported of a message of client 7, after its last number, and of the reply, as
 // `1: accept 2 1 4; gone 2`.
 fn report(alloc: Global, words: &str, came: &mut String) -> Result<(), WordsFault> {
     let Some((last, rest)) = words.split_once(": ") else {

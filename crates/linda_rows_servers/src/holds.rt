@@ -69,15 +69,15 @@ fn show(
         let held = holds.of_client(alloc, client)?;
         Ok(writeln!(came, "> {}: {held:?}", holds.count_of(client))?)
     } else if what == "ids" {
-        tell_ids(holds, came)
+        tell_ids(alloc, holds, came)
     } else {
         Err(WordsFault::Unknown)
     }
 }
 
-fn tell_ids(holds: &Holds, came: &mut String) -> Result<(), WordsFault> {
-    write!(came, "> {}:", holds.ids().len())?;
-    for id in holds.ids() {
+fn tell_ids(alloc: Global, holds: &Holds, came: &mut String) -> Result<(), WordsFault> {
+    write!(came, "> {}:", holds.len())?;
+    for id in &holds.ids(alloc)? {
         write!(came, " {id}")?;
     }
     Ok(came.push('\n')?)

@@ -67,7 +67,7 @@ fn stop(
     }
 }
 
-// Tells the replies, or why there are none.
+// Writes the replies, or why there are none.
 fn tell_answer(
     alloc: Global,
     told: Result<Vec<(u32, Reply)>, NodeFault>,

@@ -128,7 +128,7 @@ fn split_form(words: &str) -> (Form, &str) {
     }
 }
 
-// Tells how many bytes the deeds of these messages will spell, or that one has no spelling in the form.
+// Writes how many bytes the deeds of these messages will spell, or that one has no spelling in the form.
 fn tell_size<B: Bag>(
     alloc: Global,
     store: &Store<B>,

@@ -63,7 +63,7 @@ impl Talks {
     }
 
     // The conversation over the stream, which comes in pieces of this size; the reader fails at its end where the
-    // word `fails` stands there, and the writer after so many bytes. Tells what was written, and the end.
+    // word `fails` stands there, and the writer after so many bytes. Gives what was written, and the end.
     fn talk(&mut self, alloc: Global, words: &str, came: &mut String) -> Result<(), WordsFault> {
         let (size, rest) = split_word(words);
         let (word, room) = split_word(rest);
@@ -86,7 +86,7 @@ impl Talks {
     }
 }
 
-// Tells the replies that are written, and the bytes after them that are less than one.
+// Writes the replies that are written, and the bytes after them that are less than one.
 fn tell_written(alloc: Global, written: &[u8], came: &mut String) -> Result<(), WordsFault> {
     let mut feed = ReplyFeed::new(alloc);
     feed.feed(written)?;
@@ -107,7 +107,7 @@ fn tell_written(alloc: Global, written: &[u8], came: &mut String) -> Result<(), 
     Ok(writeln!(came, "> bytes {digits}")?)
 }
 
-// Tells whom the session greeted, how it stands, and how many bytes came after its last message.
+// Writes whom the session greeted, how it stands, and how many bytes came after its last message.
 fn show(session: &Session, came: &mut String) -> Result<(), WordsFault> {
     match session.greeted() {
         Some(client) => write!(came, "> greeted {client}, ")?,

@@ -51,7 +51,7 @@ pub(crate) fn read_request(words: &str) -> Result<Request, WordsFault> {
     Ok(Request { client, ticket })
 }
 
-/// Tells a request, or that there is none.
+/// Writes a request, or that there is none.
 pub(crate) fn tell_request(request: Option<Request>, came: &mut String) -> Result<(), WordsFault> {
     match request {
         Some(request) => Ok(writeln!(came, "> {} {}", request.client, request.ticket)?),
@@ -120,7 +120,7 @@ fn show(
     }
 }
 
-/// Tells whether something is so.
+/// Writes whether something is so.
 pub(crate) fn tell_whether(is_so: bool, came: &mut String) -> Result<(), WordsFault> {
     Ok(came.push_str(if is_so { "> yes\n" } else { "> no\n" })?)
 }

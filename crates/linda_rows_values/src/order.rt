@@ -1,6 +1,6 @@
 //! The order of atoms and of texts, and when tuples and templates are equal.
 //!
-//! `atoms ATOM ..` is told, a line for each of them, how it stands to each: `<`, `=` or `>`. `texts ATOM ..` compares
+//! `atoms ATOM ..` gives a line for each of them, how it stands to each: `<`, `=` or `>`. `texts ATOM ..` compares
 //! what the strings say. `tuples TUPLE | TUPLE` and `templates TEMPLATE | TEMPLATE` give whether they are equal.
 
 use crate::texts::atoms_in;
@@ -48,7 +48,7 @@ fn texts_in(alloc: Global, strings: &str) -> Result<Vec<Text>, WordsFault> {
     Ok(texts)
 }
 
-// A line for each, which tells how it stands to each.
+// A line for each, which says how it stands to each.
 fn tell_orders<T: Ord>(came: &mut String, items: &[T]) -> Result<(), AllocError> {
     for one in items {
         came.push('>')?;

@@ -313,7 +313,7 @@ module _ (laws : OfSteps) (ms : Members) (ps : List Sent) (s : ℕ) (ds es : Lis
       held = held_then news cancels offers offered;
     }
 
--- The deed of a message is the one that is told by the deeds of before and by what is sent.
+-- The deed of a message is the one that the deeds of before and what is sent give.
 pub learned : ((st new : State) (c : ℕ) (old : Soft) (m : Message) (answered : Answer) → IsState st → IsStep st old c m answered new → answered.deed ≡ reported_deed c m (number_in (get st.book c)) answered.sends)
     → (ds es : List Deed) (old new : Node) (c : ℕ) (m : Message) (sends : List (ℕ × Reply)) → IsSound ds old → Works old (says c m ∷ []) (Gives sends) es new → es ≡ option_to_list (reported_deed c m (last_number ds c) sends)
 learned told ds es old new c m sends sound done =

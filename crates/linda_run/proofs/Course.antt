@@ -57,7 +57,7 @@ course w new (events.Snapshot s) told step = serves Saves s [] (saves s) step
 course w new (events.Stop s packets at torn) told step = serves (Halts (comings step.messages)) s packets.items (halts s packets.items step.messages step.in_hand) step.halted
 course w new (events.StopSnapshot s at torn) told step = serves (Halts []) s [] (halts s [] [] refl) step
 
--- A reply that a client receives is one of the packets, and told what was done.
+-- A reply that a client receives is one of the packets, and reports what was done.
 pub received_told : (w : World) (call : Call) (c : ℕ) (ks : List ℕ) → IsCalled w call c ks → OfPackets (IsBacked w.servers) w.packets
     → (s : ℕ) (r : Reply) → call ≡ Receive s r → reports_deed r ≡ true → OfServer w.servers s (λ ds. ReportsOne ds c r)
 received_told w call c ks (own _ _ none) backed s r e tells = absurd (none s r e)

@@ -6,7 +6,7 @@ use Rattle.std.proofs.lemmas.List.{length-set}
 use Rattle.std.proofs.lemmas.List.Elements.{All-nil, All-cons, All-weaker, All-contains, All-contains_itself, Contains-append_left, Contains-push_cases}
 use Rattle.std.specs.FinMap.{get}
 use Rattle.linda_client.specs.declared.limits.TheConstants.{MAX_SERVERS}
-use Rattle.linda_bag.proofs.Maps.{get_empty}
+use Rattle.linda_maps.proofs.MapLaws.{get_empty}
 use Rattle.linda_wire.specs.declared.message.Message.{Message}
 use Rattle.linda_wire.specs.declared.message.Message.TheVariants as messages
 use Rattle.linda_wire.specs.declared.reply.Reply.{Reply}
@@ -52,7 +52,7 @@ use Rattle.linda_run.proofs.DeliverLaws.{of_more}
 use Rattle.linda_run.proofs.CallLaws.{rises, unanswered_from, IsGiven, given_now, given_used}
 use Rattle.linda_run.proofs.Course.{IsCalled, Course, reacts, serves, course, received_told}
 
--- nothing that is told, and what is told where there is no room
+-- nothing that is reported, and what is sent where there is no room
 backed_none : (ds : List Deed) → AreBacked ds []
 backed_none ds = All-nil (λ (send : ℕ × Reply). reports_deed send.1 ≡ true → ReportsOne ds send.0 send.1)
 
@@ -64,7 +64,7 @@ silent_sends task (Ok done) none = refl
 silent_sends task (Err faults.Full) none = none
 silent_sends task (Err faults.Down) none = refl
 
--- What a server is asked leaves it sound, and what it sends tells only of its deeds.
+-- What a server is asked leaves it sound, and what it sends reports only its deeds.
 module _ (laws : OfSound) (ds es : List Deed) (old new : Node) (answer : NodeAnswer) (sound : IsSound ds old) where
   pub does_sound : (task : Task) → Does task old answer es new → IsSound (ds ++ es) new
   does_sound (Takes c m) does = laws.works ds es old new (says c m ∷ []) answer sound does
@@ -91,7 +91,7 @@ module _ (laws : OfSound) (ds es : List Deed) (old new : Node) (answer : NodeAns
   does_backed Saves does = silent_backed (sends_of Saves answer) (ap (sends_of Saves) does.1.1.0 ∙ silent_sends Saves does.0 refl)
   does_backed (Halts xs) does = silent_backed (sends_of (Halts xs) answer) (ap (sends_of (Halts xs)) does.1.1.0 ∙ silent_sends (Halts xs) does.0 refl)
 
--- What was told and earned stays so while deeds stay.
+-- What was reported and earned stays so while deeds stay.
 module _ (w new : World) (stay : DeedsStay w new) where
   of_server_still : (P : List Deed → Type 0) → ((ds more : List Deed) → P ds → P (ds ++ more)) → (s : ℕ) → OfServer w.servers s P → OfServer new.servers s P
   of_server_still P more s old =
@@ -366,7 +366,7 @@ module _ (of_sound : OfSound) (of_deeds : OfDeeds) (of_calls : OfCalls) where
   reached_honest new (joins w _ c reached joined) = joined_honest of_calls c w new (reached_honest w reached) joined
   reached_honest new (goes w _ event told reached step) = step_honest w new told (reached_honest w reached) (course w new event told step)
 
-  -- What tells to be gone was passed over.
+  -- What is reported as gone was passed over.
   gone_right : (w : World) → IsHonest w → (s c : ℕ) (body : Body) → IsBacked w.servers s c body → IsGone w.servers s c body
   gone_right w honest s c (bodies.Message m) told = tt
   gone_right w honest s c (bodies.Reply (replies.Gone n)) told =

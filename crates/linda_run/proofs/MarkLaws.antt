@@ -15,7 +15,7 @@ length_delivered k [] = refl
 length_delivered zero (p ∷ ps) = refl
 length_delivered (suc k) (p ∷ ps) = ap suc (length_delivered k ps)
 
--- What is sent behind does not count as delivered with them.
+-- What is sent after them does not count as delivered with them.
 pub delivered_front : (k : ℕ) (ps more : List Packet) → k < length ps → delivered_at k (ps ++ more) ≡ delivered_at k ps ++ more
 delivered_front k [] more low = absurd (omega (arith, low))
 delivered_front zero (p ∷ ps) more low = refl

@@ -4,7 +4,7 @@ use Rattle.std.specs.Prelude.{Option, Some, None, is_some, All, IsSomeAnd}
 use Rattle.std.proofs.lemmas.Option.{none-some, same_Some}
 use Rattle.std.proofs.lemmas.List.Elements.{All-nil, All-weaker, All-contains, All-contains_itself}
 use Rattle.std.specs.FinMap.{get}
-use Rattle.linda_bag.proofs.Maps.{get_same, get_other, get_empty}
+use Rattle.linda_maps.proofs.MapLaws.{get_same, get_other, get_empty}
 use Rattle.linda_tuple.specs.Tuple.{Tuple}
 use Rattle.linda_hold.specs.declared.request.Request.{Request}
 use Rattle.linda_hold.specs.Request.{request_of}

@@ -24,7 +24,7 @@ pub fn tell_replies(
 }
 
 /// Appends the line of what is kept under an id, and for which request it is held, as `> tuple 1 ("a", 3) free`, or
-/// `> tuple 1 ("a", 3) held 8 2`; `none` stands for a tuple that is not there.
+/// `> tuple 1 ("a", 3) held 8 2`; `none` is written for a tuple that is not there.
 ///
 /// # Errors
 ///

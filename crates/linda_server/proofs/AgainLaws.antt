@@ -5,15 +5,15 @@ use Rattle.linda_tuple.specs.Tuple.{Tuple}
 use Rattle.std.proofs.lemmas.Option.{none-some, same_Some}
 use Rattle.std.proofs.lemmas.List.Elements.{All-weaker}
 use Rattle.std.specs.FinMap.{get}
-use Rattle.linda_bag.proofs.Maps.{get_same, get_other}
+use Rattle.linda_maps.proofs.MapLaws.{get_same, get_other}
 use Rattle.linda_wire.specs.declared.limits.TheConstants.{NUMBER_LIMIT}
 use Rattle.linda_wire.specs.declared.message.Message.{Message}
 use Rattle.linda_wire.specs.declared.message.Message.TheVariants.{Hello, Out, Ask, Accept, Cancel, Leave}
 use Rattle.linda_wire.specs.declared.reply.Reply.{Reply}
-use Rattle.linda_book.specs.declared.classes.Class.{Class}
-use Rattle.linda_book.specs.declared.classes.Class.TheVariants.{Kept}
-use Rattle.linda_book.specs.declared.kept.KeptReply.{KeptReply}
-use Rattle.linda_book.specs.declared.kept.KeptReply.TheVariants as kept
+use Rattle.linda_book.specs.declared.class.Class.{Class}
+use Rattle.linda_book.specs.declared.class.Class.TheVariants.{Kept}
+use Rattle.linda_book.specs.declared.kept_reply.KeptReply.{KeptReply}
+use Rattle.linda_book.specs.declared.kept_reply.KeptReply.TheVariants as kept
 use Rattle.linda_book.specs.Entries.{Entry, left_in, number_in}
 use Rattle.linda_book.specs.Classes.{class_of}
 use Rattle.linda_state.specs.declared.deed.Deed.{Deed}

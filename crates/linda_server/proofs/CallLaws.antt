@@ -19,7 +19,7 @@ use Rattle.linda_step.specs.History.{Coming, comings, history_of, nothing_yet}
 use Rattle.linda_store.specs.Node.{Node, MayRemain}
 use Rattle.linda_step.proofs.HistoryLaws.{happened}
 use Rattle.linda_disk.specs.View.{View, IsTimed}
-use Rattle.linda_journal.proofs.SizeLaws.{deed_some}
+use Rattle.linda_state.proofs.DeedFormatLaws.{deed_some}
 use Rattle.linda_snap.specs.Stands.{Stands}
 use Rattle.linda_server.specs.declared.limits.TheConstants.{RECORD_BYTES}
 use Rattle.linda_disk.specs.declared.disk.Disk.{Ghosts}
@@ -39,7 +39,7 @@ use Rattle.linda_server.proofs.PairLaws.{still, stands_now, up_of}
 
 -- ---- what was served
 
--- Its deeds lead to the state behind them.
+-- Its deeds lead to the state after them.
 pub leads_to : (st : State) (soft : Soft) (ms : List (ℕ × Message)) (told : Served) (new : State) (then : Soft) → IsOrderly st soft → IsServed st soft ms told new then
     → LeadTo st told.deeds.items new
 leads_to st soft ms told new then orderly served opening before is done =
@@ -65,7 +65,7 @@ each_share st soft ms told new then served =
     let counted = told.shares.ok.0 in
     omega (arith, all, counted)
 
--- What is so of what was served is so of what is told in the end, where that is the same.
+-- What is so of what was served is so of what is returned in the end, where that is the same.
 pub told_so : (r : Result Served ServeFault) (served : Served) (P : Served → Type 0) → IfOk r (λ s. s ≡ served) → P served → IfOk r P
 told_so (Ok s) served P same p = subst P (sym same) p
 told_so (Err fault) served P same p = tt
@@ -165,7 +165,7 @@ pub all_remains_up : (before : State) (store : Store) (down : Bool) (lost : List
 all_remains_up before store down lost ms told new then ds is_up served same =
     subst (λ b. MayRemain (shown before store b lost) (comings ms) ds) (sym is_up) (all_remains (shown before store false lost) ms told new then ds served same)
 
--- What holds where a call ended with a fault, told by what holds where it did not.
+-- What holds where a call ended with a fault, given by what holds where it did not.
 pub at_fault : {A E : Type 0} (r : Result A E) (b : Bool) (P : Type 0) → OnOk r (b ≡ false) → OnErr r P → b ≡ true → P
 at_fault (Ok x) b P good bad is = absurd (true≢false (sym is ∙ good))
 at_fault (Err e) b P good bad is = bad

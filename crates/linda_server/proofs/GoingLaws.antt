@@ -19,7 +19,7 @@ module _ {D : Type 0} {g : Ghosts D} (old new : Durable D g) where
         | inr up ↦ inr (up, down, fall up down)
       ]
 
-  -- Told by the fault of a call.
+  -- How the server went, as the fault of a call says.
   pub how_of : {A : Type 0} (fault : ServeFault) → (IsErrOf {T = A} (Err fault) faults.Full → new ≡ old) → (IsErrOf {T = A} (Err fault) faults.Down ↔ (old.down ≡ true)) → (old.down ≡ true → new ≡ old)
       → (IsErrOf {T = A} (Err fault) faults.Disk → new.down ≡ true) × (IsErrOf {T = A} (Err fault) faults.Memory → new.down ≡ true)
       → (fault ≢ faults.Full → old.down ≡ false → new.down ≡ true → Fall old new) → How

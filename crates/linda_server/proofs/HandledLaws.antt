@@ -40,7 +40,7 @@ module _ {D : Type 0} {g : Ghosts D} (old new : Durable D g) (fault : ServeFault
       by faults.Disk not_full was_down goes_down = goes_down.0 refl
       by faults.Memory not_full was_down goes_down = goes_down.1 refl
 
-  -- Where it was down, that is what is told.
+  -- Where it was down, that is what is returned.
   still_down : {A B : Type 0} → (IsErrOf {T = A} (Err fault) faults.Down ↔ (old.down ≡ true)) → old.down ≡ true → IsErrOf {T = B} (Err told) nodes.Down
   still_down was_down down =
       let is : fault ≡ faults.Down = same_fault fault faults.Down (was_down.1 down) in

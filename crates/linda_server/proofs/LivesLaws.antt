@@ -65,7 +65,7 @@ module _ {D : Type 0} {g : Ghosts D} (timed : (d : D) → g.honest d → IsTimed
   abbrev node : Durable D g → Node
   node s = shown s.before.value s.store s.down s.lost.items
 
-  -- Of a server: its deeds are sound, and what was sent tells of them.
+  -- Of a server: its deeds are sound, and what was sent reports them alone.
   record IsKnown (ds : List Deed) (all : List (ℕ × Reply)) (s : Durable D g) : Type 0 where
     sound : IsSound ds (node s)
     backed : AreBacked ds all

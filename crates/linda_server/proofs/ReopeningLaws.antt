@@ -1,4 +1,4 @@
--- Whether the deeds of a call were lost is told by the last number that is kept of one client.
+-- The last number that is kept of one client says whether the deeds of a call were lost.
 use Rattle.std.proofs.Common.{◌≡◌, ℕ, suc, ◌-◌, ◌<◌, ◌≤◌, ◌⊎◌, inl, inr, Bool, true, false, nat_le, if◌then◌else◌, List, [], ◌∷◌, ◌++◌, length, Some, refl, sym, ap, subst, ◌∙◌, append_assoc, append-nil, arith, true≢false}
 use Rattle.std.proofs.Math.Logic.{∥∥₁_elim}
 use Rattle.std.proofs.lemmas.Bool.{cases_eq, le-leb, lt-leb}
@@ -6,7 +6,7 @@ use Rattle.std.specs.Coded.{Coded-set, coded_option, coded_ℕ, coded×}
 use Rattle.std.specs.List.{slice_get}
 use Rattle.std.specs.FinMap.{get}
 use Rattle.linda_tuple.specs.Codes.{tuple_code}
-use Rattle.linda_bag.proofs.Maps.{get_same, get_other}
+use Rattle.linda_maps.proofs.MapLaws.{get_same, get_other}
 use Rattle.linda_book.specs.Entries.{number_in}
 use Rattle.linda_book.specs.Codes.{kept_code}
 use Rattle.linda_state.specs.declared.deed.Deed.{Deed}
@@ -119,7 +119,7 @@ done_then st new d ds is all =
     let e = ends d ds in
     ap (is_done new) e.there ∙ done_here new e.last (number_of e.last) (kept st new e.front e.last is (subst (λ l. AreDone st l new) e.parts all)) (omega arith)
 
--- By the test it is told which of the two states stands.
+-- The test says which of the two states stands.
 by_test : (before new st : State) (lost : List Deed) (b : Bool) → has_done st lost ≡ b → IsState before → AreDone before lost new → (before ≡ st) ⊎ (new ≡ st)
     → IsAfter before (if b then lost else []) st
 by_test before new st lost true e is all (inl same) = absurd (true≢false (sym e ∙ subst (λ s. has_done s lost ≡ false) same (not_yet before new lost is all)))
@@ -129,7 +129,7 @@ by_test before new st [] false e is all (inr same) = subst (λ s. IsAfter before
 by_test before new st (d ∷ ds) false e is all (inr same) =
     absurd (true≢false (sym (subst (λ s. has_done s (d ∷ ds) ≡ true) same (done_then before new d ds is all)) ∙ e))
 
--- It is so of two disks that stand for one of the two.
+-- It is so of two disks that represent one of the two.
 pub reopened : (before st : State) (lost : List Deed) (left right : List ℕ) (b : Bool) → has_done st lost ≡ b → IsWithOrWithout before lost left right → Stands left right st
     → IsAfter before (if b then lost else []) st
 reopened before st lost left right b e some stands = record {
@@ -145,7 +145,7 @@ reopened before st lost left right b e some stands = record {
     so : StandsAround before lost left right → IsAfter before (if b then lost else []) st
     so x = by_test before x.new st lost b e x.ranges x.done (which x.new x.stands)
 
--- What comes back, told by the test.
+-- What comes back, as the test says.
 pub came_back : (before : State) (lost mine ds : List Deed) (server : Store) (left right : List ℕ) (st : State) (b result : Bool) → result ≡ has_done st mine → result ≡ b → st ≡ server.state → mine ≡ lost
     → ds ≡ if b then lost else [] → IsWithOrWithout before lost left right → Stands left right server.state → server.soft ≡ no_asks → IsReopened before lost ds server
 came_back before lost mine ds server left right st b result test is state_is lost_is ds_is some stands soft = record {

@@ -1,4 +1,4 @@
--- Messages that are answered one after another, told in one list of deeds and one of sends.
+-- Messages that are answered one after another, given in one list of deeds and one of sends.
 use Rattle.std.proofs.Common.{◌≡◌, ℕ, ◌+◌, suc, arith, List, [], ◌∷◌, ◌++◌, option_to_list, refl, sym, ap, subst, ◌∙◌, append-nil}
 use Rattle.std.proofs.lemmas.List.{map-append}
 use Rattle.std.proofs.lemmas.Grind.{flat_map-append}

@@ -130,7 +130,7 @@ module _ {D : Type 0} {g : Ghosts D} (timed : (d : D) → g.honest d → IsTimed
       subst (λ s. ∥ IsKeptFor new s ∥₁) same
       (∥∥₁_map (subst (λ s. ∥ IsKeptFor disks s ∥₁) (sym same) kept) goes)
 
--- What stands for a state, stands for it and no deed.
+-- What represents a state, represents it and no deed.
 pub with_none : (st : State) (deeds : List Deed) → deeds ≡ [] → IsState st → (left right : List ℕ) → StandsFor st left right → IsWithOrWithout st deeds left right
 with_none st deeds none is left right some =
     ∥∥₁_map some (λ x. record { new = st; ranges = is; done = subst (λ ds. AreDone st ds st) (sym none) (none_done st is); stands = inl x })

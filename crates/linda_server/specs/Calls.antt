@@ -19,15 +19,15 @@ abbrev pub LeadTo : State → List Deed → State → Type 0
 LeadTo st deeds new = (opening : State) (before : List Deed) → IsState opening
     → AreDone opening before st → AreDone opening (before ++ deeds) new
 
--- The two images stand for the old state, or for the new one.
+-- The two images represent the old state, or the new one.
 abbrev pub IsOldOrNew : State → State → List ℕ → List ℕ → Type 0
 IsOldOrNew old new left right = Stands left right old ⊎ Stands left right new
 
--- The same, of which is not said which.
+-- They represent the one or the other, and it is not said which.
 abbrev pub IsEither : State → State → List ℕ → List ℕ → Type 0
 IsEither old new left right = ∥ IsOldOrNew old new left right ∥₁
 
--- These deeds may be done in the state of before, and they stand for that state, or for the one after them.
+-- These deeds may be done in the state of before, and they represent that state, or the one after them.
 pub record StandsAround (before : State) (deeds : List Deed) (left right : List ℕ) : Type 0 where
   pub new : State
   pub ranges : IsState before
@@ -37,13 +37,13 @@ pub record StandsAround (before : State) (deeds : List Deed) (left right : List 
 abbrev pub IsWithOrWithout : State → List Deed → List ℕ → List ℕ → Type 0
 IsWithOrWithout before deeds left right = ∥ StandsAround before deeds left right ∥₁
 
--- They stand for the state after all that came.
+-- They represent the state after all that came.
 pub record StandsAfter (old : Store) (xs : List Coming) (left right : List ℕ) : Type 0 where
   pub all : History
   pub happens : Happens old.state old.soft xs all
   pub stands : Stands left right all.state
 
--- They stand for the state of before, or for the one after all that came: all deeds of a call are
+-- They represent the state of before, or the one after all that came: all deeds of a call are
 -- there, or none.
 abbrev pub IsBeforeOrAfter : Store → List Coming → List ℕ → List ℕ → Type 0
 IsBeforeOrAfter old xs left right = ∥ Stands left right old.state ⊎ StandsAfter old xs left right ∥₁
@@ -54,11 +54,11 @@ pub record HasHandled (old : Store) (xs : List Coming) (sends : List (ℕ × Rep
   pub deeds : List Deed
   pub happens : Happens old.state old.soft xs (history_of new.state new.soft deeds sends)
 
--- They stand for this state.
+-- They represent this state.
 abbrev pub StandsFor : State → List ℕ → List ℕ → Type 0
 StandsFor st left right = ∥ Stands left right st ∥₁
 
--- They stand for this state, or neither is a bank.
+-- They represent this state, or neither is a bank.
 abbrev pub IsNothingOr : State → List ℕ → List ℕ → Type 0
 IsNothingOr st left right = (IsNoBank left × IsNoBank right) ⊎ Stands left right st
 

@@ -80,7 +80,7 @@ are_same Two Two = true
 abbrev pub is_old : Form → Bool
 is_old form = not (are_same form written)
 
--- The bank in use, in this form, of this generation and with this end, stands for the state, and a crash now
+-- The bank in use, in this form, of this generation and with this end, represents the state, and a crash now
 -- leaves them so.
 abbrev pub IsUpOn : {B D : Type 0} → (B → Form) → (B → ℕ) → (B → ℕ) → (B → View) → (D → View)
     → Disks B D → State → Type 0
@@ -89,7 +89,7 @@ IsUpOn form generation end bank disk (InUse pair) st =
 IsUpOn form generation end bank disk (Shut left right) st = ⊥
 IsUpOn form generation end bank disk Away st = ⊥
 
--- What is known of a bank in use and of the other disk, each as far as the disks are honest: the bank stands for the
+-- What is known of a bank in use and of the other disk, each as far as the disks are honest: the bank represents the
 -- state, a crash leaves the other disk as it reads, and that one holds a lesser bank or none.
 pub record IsKept (is_used_honest is_other_honest : Type 0) (form : Form) (generation end : ℕ) (used other : View)
     (st : State) : Type 0 where

@@ -67,7 +67,7 @@ module _ {D : Type 0} {g : Ghosts D} where
     pub lost : LosesSome old ms new
     pub before : old.down ≡ false → IsErrOf result faults.Full ⊎ (new.before.value ≡ old.store.state)
 
-  -- The same, as a node says it (`handle`, `handle_all`).
+  -- It took these messages, or it did not, as a node says it (`handle`, `handle_all`).
   pub record Handles (old : Durable D g) (ms : List (ℕ × Message)) (result : Result (Vec (ℕ × Reply)) NodeFault)
       (new : Durable D g) : Type 0 where
     pub any_moment : old.down ≡ false → AlwaysLeave old.disks new.disks (IsBeforeOrAfter old.store (comings ms))
@@ -103,7 +103,8 @@ module _ {D : Type 0} {g : Ghosts D} where
     pub goes_down : (IsErrOf result faults.Disk → new.down ≡ true) × (IsErrOf result faults.Memory → new.down ≡ true)
     pub cause : IfErr result (λ fault. TellsFailures faults.Disk fault (failures_of old.disks) (failures_of new.disks))
 
-  -- The same, as a node says it, and every life goes on by it (`snapshot`, `trim`).
+  -- It is down where it says so, and says so where it was, as a node does; and every life goes on by it (`snapshot`,
+  -- `trim`).
   pub record Falls (old : Durable D g) (result : Result (Unit {0}) NodeFault) (new : Durable D g) : Type 0 where
     pub down : IsErrOf result nodes.Down → new.down ≡ true
     pub stays_down : old.down ≡ true → IsErrOf result nodes.Down × (new ≡ old)

@@ -4,7 +4,7 @@ use Rattle.std.specs.Prelude.{List, [], ◌∷◌, ◌++◌, All, Some, IsSome}
 use Rattle.std.specs.FinMap.{get}
 use Rattle.linda_wire.specs.declared.message.Message.{Message}
 use Rattle.linda_wire.specs.declared.reply.Reply.{Reply}
-use Rattle.linda_book.specs.declared.kept.KeptReply.{KeptReply}
+use Rattle.linda_book.specs.declared.kept_reply.KeptReply.{KeptReply}
 use Rattle.linda_state.specs.declared.deed.Deed.{Deed}
 use Rattle.linda_state.specs.Deed.{is_taken}
 use Rattle.linda_state.specs.State.{State, IsState, empty_state}
@@ -41,7 +41,7 @@ module _ {D : Type 0} {g : Ghosts D} where
     pub done : AreDone empty_state ds (state_of s)
     pub ranges : IsState (state_of s)
     pub once : IsTakenOnce ds
-    -- each reply that was ever sent and tells of a deed is the one to a deed that is there,
+    -- each reply that was ever sent and reports a deed is the one to a deed that is there,
     pub backed : AreBacked ds all
     -- and it is kept until its client has done a later one
     pub covered : All (IsCovered (state_of s)) all

@@ -47,7 +47,7 @@ pub record Tells (told : Served) (answers : List Answer) : Type 0 where
   pub shares : told.shares.items ≡ map share_of answers
 
 -- From this state, with these holds and waits, the messages were answered so, and what was served
--- tells it.
+-- says it.
 pub record IsServed (st : State) (soft : Soft) (ms : List (ℕ × Message)) (told : Served)
     (new : State) (then : Soft) : Type 0 where
   pub answers : List Answer

@@ -46,11 +46,11 @@ module _ {D : Type 0} {g : Ghosts D} where
   abbrev pub failures_of : Disks (Bank D g) D → ℕ
   failures_of disks = failures (λ b. g.failures b.disk) g.failures disks
 
-  -- The bank in use stands for the state, and a crash now leaves the two so.
+  -- The bank in use represents the state, and a crash now leaves the two so.
   abbrev pub IsUpFor : Disks (Bank D g) D → State → Type 0
   IsUpFor disks st = IsUpOn (λ b. b.form) (λ b. b.generation) (λ b. b.end) (λ b. g.view b.disk) g.view disks st
 
-  -- The same, each as far as the disks are honest.
+  -- The bank in use represents the state, and a crash now leaves the two so, each as far as the disks are honest.
   abbrev pub IsKeptFor : Disks (Bank D g) D → State → Type 0
   IsKeptFor disks st =
       IsKeptOn (λ b. b.form) (λ b. b.generation) (λ b. b.end) (λ b. g.view b.disk) g.view (λ b. g.honest b.disk) g.honest

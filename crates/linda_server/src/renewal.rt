@@ -40,7 +40,7 @@ pub(crate) fn renew<B: Bag, D: Disk>(
     ensures any_moment { BothHonest disks.old
         → IsUpFor disks.old state.now
         → PairsSince (both_of disks.old) (both_of disks.new) (λ left right. Stands left right state.now) }
-    // at Ok the new bank is in use, and stands for it.
+    // at Ok the new bank is in use, and represents the state.
     ensures kept { IsKeptFor disks.old state.now
         → OnOk result (IsKeptFor disks.new state.now) }
     ensures switched { OnOk result (IsSwitched disks.old disks.new) }

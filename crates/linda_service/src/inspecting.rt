@@ -10,12 +10,12 @@ use std::alloc::Global;
 use std::fs::{File, Files};
 use std::io::Write;
 
-/// Writes what the store in a folder comes to, as `write_report` tells it of the bytes of its two files, of which one
+/// Writes what the store in a folder comes to, as `write_report` does of the bytes of its two files, of which one
 /// that is missing is empty.
 ///
 /// # Errors
 ///
-/// As a server tells them that is not kept from the folder by another one: `NoStore`, `Damaged`, `Disk` where the
+/// As a server returns them that is not kept from the folder by another one: `NoStore`, `Damaged`, `Disk` where the
 /// folder or a file in it cannot be read, `Memory`; `Io` where the output fails. `InUse` where a server went over to
 /// its other bank at each reading.
 pub fn inspect_folder<F: Files<File = File>, W: Write>(

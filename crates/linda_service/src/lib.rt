@@ -1,9 +1,9 @@
-//! The store in a folder: its two files, who has them open, and what is told of them.
+//! The store in a folder: its two files, who has them open, and what is reported of them.
 //!
 //! - `open_store` opens it for this server alone, or creates it where there is none. What it opened is up.
 //! - `serve_folder` serves it to clients that connect to a port of this machine; `serve_logged` writes a `Log` of what
 //!   happens besides, a line for each `Event` of linda_net, one at the begin and one at the end, with its `Cause`.
-//! - `inspect_folder` tells what it comes to, and opens its files for reading alone.
+//! - `inspect_folder` says what it comes to, and opens its files for reading alone.
 //!
 //! Where one of them ends otherwise a `ServingFault` says why.
 #![tactic(auto)]

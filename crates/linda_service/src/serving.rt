@@ -35,8 +35,8 @@ pub(crate) use store::{LEFT, RIGHT};
 ///
 /// # Errors
 ///
-/// As `open_store` tells them, and then `Io` where the port cannot be listened on, or the output fails. `Down` where
-/// the server went down, at the next connection or at the end. `Memory`.
+/// As `open_store` returns them, and then `Io` where the port cannot be listened on, or the output fails. `Down`
+/// where the server went down, at the next connection or at the end. `Memory`.
 pub fn serve_folder<
     F: Files<File = File>,
     S: Net<Listener = TcpListener, Stream = TcpStream> + Threads + Wait + Clock + Sync,
@@ -80,7 +80,8 @@ fn share<
     }
 }
 
-/// The same, and writes a log to a sink of its own, as docs/FORMATS.md has it. A line that cannot be written is lost.
+/// Serves as `serve_folder` does, and writes a log to a sink of its own, as docs/FORMATS.md has it. A line that
+/// cannot be written is lost.
 ///
 /// # Errors
 ///

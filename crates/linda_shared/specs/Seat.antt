@@ -28,7 +28,7 @@ abbrev pub with_told : Account → Option Receipt → Account
 with_told a None = a
 with_told a (Some r) = account_of a.client (a.deeds + 1) a.asked (with_receipt a.ring r)
 
--- the same of several messages, in order
+-- the account, told of what several messages led to, in order
 abbrev pub with_all : Account → List (Option Receipt) → Account
 with_all a [] = a
 with_all a (t ∷ ts) = with_all (with_told a t) ts
@@ -51,7 +51,7 @@ abbrev pub IsToldOf : ℕ → Message → Option Receipt → Type 0
 IsToldOf c m None = Unit {0}
 IsToldOf c m (Some r) = IsDeedOf c m r.deed
 
--- The same of each, by position; there are as many.
+-- Each deed that was told is one that the message at its position asks for; there are as many positions.
 abbrev pub AreToldOf : ℕ → List Message → List (Option Receipt) → Type 0
 AreToldOf c [] [] = Unit {0}
 AreToldOf c [] (t ∷ ts) = ⊥

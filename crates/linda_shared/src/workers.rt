@@ -126,7 +126,7 @@ fn join_all<L: Ledger, R: Threads>(rt: &R, begun: Vec<Begun<L>>, seats: Vec<Seat
     Worked { seats, end }
 }
 
-// Of two ends the one that is told: the fault that stands first in `SharedFault`, if there is one.
+// Of two ends the one that is returned: the fault that stands first in `SharedFault`, if there is one.
 fn first_of(
     one: Result<(), SharedFault>,
     other: Result<(), SharedFault>,

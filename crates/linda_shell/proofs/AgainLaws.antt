@@ -10,7 +10,7 @@ use Rattle.linda_tuple.specs.Template.{Template, IsWithinTemplate}
 use Rattle.linda_text.specs.Letters.{is_blank}
 use Rattle.linda_text.specs.Grammar.{AreBlanks, IsAtomText, IsTemplateText}
 use Rattle.linda_text.specs.Reading.{after_blanks, natural_at, template_at, spaced_atom_at}
-use Rattle.linda_text.proofs.Blanks.{blanks_again}
+use Rattle.linda_text.proofs.BlankLaws.{blanks_again}
 use Rattle.linda_text.proofs.RowLaws.{template_is, spaced_atom_is}
 use Rattle.linda_event.specs.Trees.{Kind, input, read, alarm, always, never, Tree, leaf, choose, wrap, nack, Trees, no_trees, and_tree, members_of}
 use Rattle.linda_text.specs.declared.marks.TheConstants.{COMMA, SPACE, TAB}
@@ -28,7 +28,7 @@ use Rattle.linda_shell.proofs.EventLaws.{rest_at}
 
 -- ---- how a text of an event begins
 
--- A keyword, and what stands behind it.
+-- A keyword, and what stands after it.
 abbrev HasWord : List ℕ → Type 0
 HasWord text = (k : Keyword) × (tail : List ℕ) × (text ≡ keyword_text k ++ tail)
 
@@ -83,7 +83,7 @@ more_ends (and_tree t ts) text rest (before, between, next, others, spaces, more
 
 -- ---- nodes
 
--- A keyword, and what stands behind it.
+-- A keyword, and what stands after it.
 node_again : (k : Keyword) (t : Tree) (room : ℕ) (text tail rest : List ℕ) → text ≡ keyword_text k ++ tail → EndsWord tail → EndsWord rest
     → node_at (event_at room) k (tail ++ rest) ≡ Ok (t, rest) → event_at (suc room) (text ++ rest) ≡ Ok (t, rest)
 unfolding event_at
@@ -141,7 +141,7 @@ more_long (and_tree t ts) text (before, between, next, others, spaces, more, is,
     let all : length (before ++ COMMA ∷ (between ++ (next ++ others))) ≡ length before + suc (length (between ++ (next ++ others))) = length-append before (COMMA ∷ (between ++ (next ++ others))) in
     omega (arith, ap length parts, rest, behind, inner, all)
 
--- What stands behind a member is read as these members.
+-- What stands after a member is read as these members.
 abbrev MoreAgain : ℕ → Trees → List ℕ → List ℕ → Type 0
 MoreAgain room ts text rest =
     (n : ℕ) → count ts ≤ n → (more : Bool × List ℕ) × (mark_at (after_blanks (text ++ rest)) ≡ Ok more) × (rest_at (event_at room) n more ≡ Ok (list_of ts, rest))

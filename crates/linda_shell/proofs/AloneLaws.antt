@@ -5,7 +5,7 @@ use Rattle.std.proofs.lemmas.List.{append-nil}
 use Rattle.linda_text.specs.declared.fault.TextFault.TheVariants.{Memory}
 use Rattle.linda_text.specs.Grammar.{AreBlanks}
 use Rattle.linda_text.specs.Reading.{after_blanks, ended}
-use Rattle.linda_text.proofs.Blanks.{blanks_take, blanks_again}
+use Rattle.linda_text.proofs.BlankLaws.{blanks_take, blanks_again}
 use Rattle.linda_event.specs.Trees.{Tree}
 use Rattle.linda_shell.specs.declared.fault.EventTextFault.{EventTextFault}
 use Rattle.linda_shell.specs.declared.fault.EventTextFault.TheVariants.{Text}
@@ -14,7 +14,7 @@ use Rattle.linda_shell.specs.EventTexts.{IsEventAlone}
 use Rattle.linda_shell.specs.Words.{EndsWord}
 use Rattle.linda_shell.specs.Steps.{lifted, settled_fault}
 use Rattle.linda_shell.specs.Reading.{event_at, only_event}
-use Rattle.linda_text.proofs.Steps.{bind_ok, ok_is}
+use Rattle.linda_text.proofs.StepLaws.{bind_ok, ok_is}
 use Rattle.linda_shell.proofs.EventLaws.{event_takes}
 use Rattle.linda_shell.proofs.AgainLaws.{event_again, event_begins, blank_ends}
 
@@ -53,7 +53,7 @@ only_again bytes t (within, (behind, spaces, (blanks, text, more, is, parts))) =
 pub alone_only : (bytes : List ℕ) (b : Tree) → only_event bytes ≡ Ok b → (a : Tree) → IsEventAlone bytes a → a ≡ b
 alone_only bytes b e a alone = ok_is a b (sym (only_again bytes a alone) ∙ e)
 
--- Where an event stands there, the only fault is want of memory.
+-- Where an event stands there, the only fault is `Memory`.
 pub alone_no_fault : (bytes : List ℕ) (n : ℕ) (fault told : EventTextFault) → (fault ≢ Text Memory → only_event bytes ≡ Err fault) → told ≡ settled_fault n fault
     → (a : Tree) → IsEventAlone bytes a → told ≢ Text Memory → ⊥
 alone_no_fault bytes n fault told fails is_told a alone not_memory =

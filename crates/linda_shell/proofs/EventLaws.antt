@@ -6,7 +6,7 @@ use Rattle.std.proofs.Math.Nat.{max-le}
 use Rattle.linda_tuple.specs.Template.{Template, IsWithinTemplate}
 use Rattle.linda_text.specs.Grammar.{AreBlanks, IsAtomText, IsTemplateText}
 use Rattle.linda_text.specs.Reading.{after_blanks, natural_at, template_at, spaced_atom_at}
-use Rattle.linda_text.proofs.Blanks.{blanks_take}
+use Rattle.linda_text.proofs.BlankLaws.{blanks_take}
 use Rattle.linda_text.proofs.RowLaws.{template_is, spaced_atom_is}
 use Rattle.linda_event.specs.Trees.{Kind, input, read, alarm, always, never, Tree, leaf, choose, wrap, nack, Trees, no_trees, and_tree, members_of}
 use Rattle.linda_text.specs.declared.marks.TheConstants.{COMMA}
@@ -20,21 +20,21 @@ use Rattle.linda_text.specs.Steps.{◌>>=◌}
 use Rattle.linda_text.specs.Reading.{made}
 use Rattle.linda_shell.specs.Steps.{Read, Reader, lifted}
 use Rattle.linda_shell.specs.Reading.{some_members_at, members_at, under_at, node_at, event_at}
-use Rattle.linda_text.proofs.Steps.{bind_ok, ok_is}
-use Rattle.linda_shell.proofs.Lifted.{lifted_ok}
+use Rattle.linda_text.proofs.StepLaws.{bind_ok, ok_is}
+use Rattle.linda_shell.proofs.LiftLaws.{lifted_ok}
 use Rattle.linda_shell.proofs.WordLaws.{ends_front, keyword_takes, number_takes, label_takes, mark_of, mark_takes, opened, open_takes}
 
 -- ---- what is read is a text of the event
 
--- Bytes begin with a text of the event, which is sound and no higher than so much, and these are the bytes behind it.
+-- Bytes begin with a text of the event, which is sound and no higher than so much, and these are the bytes after it.
 abbrev pub HasEvent : ℕ → List ℕ → Tree × List ℕ → Type 0
 HasEvent room bytes x = (text : List ℕ) × IsEventText x.0 text × IsSoundEvent x.0 × (height x.0 ≤ room) × (bytes ≡ text ++ x.1)
 
--- Behind the keyword, bytes begin with the rest of such a text.
+-- After the keyword, bytes begin with the rest of such a text.
 abbrev HasNode : Keyword → ℕ → List ℕ → Tree × List ℕ → Type 0
 HasNode k room bytes x = (tail : List ℕ) × IsEventText x.0 (keyword_text k ++ tail) × IsSoundEvent x.0 × (height x.0 ≤ suc room) × (bytes ≡ tail ++ x.1)
 
--- What is behind a word: blanks, and a text of the value.
+-- What is after a word: blanks, and a text of the value.
 behind_word : (word : List ℕ) (IsRest : List ℕ → Type 0) (blanks text rest bytes : List ℕ) → AreBlanks blanks → IsRest text → EndsWord bytes → bytes ≡ blanks ++ (text ++ rest)
     → Begins word IsRest (word ++ (blanks ++ text)) × (bytes ≡ (blanks ++ text) ++ rest)
 behind_word word IsRest blanks text rest bytes spaces is ends parts =
@@ -101,11 +101,11 @@ under_node k make texts sound high room takes bytes x ends e =
 
 -- ---- members
 
--- A member, and what stands behind it.
+-- A member, and what stands after it.
 abbrev AreSome : Tree → Trees → List ℕ → Type 0
 AreSome t ts text = (blanks first rest : List ℕ) × AreBlanks blanks × IsEventText t first × AreMore ts rest × (text ≡ blanks ++ (first ++ rest))
 
--- Bytes begin with what stands behind a member.
+-- Bytes begin with what stands after a member.
 abbrev HasMore : ℕ → List ℕ → List Tree × List ℕ → Type 0
 HasMore room bytes x = (text : List ℕ) × AreMore (members_of x.0) text × AreSoundEvents (members_of x.0) × (height_of_all (members_of x.0) ≤ room) × (bytes ≡ text ++ x.1)
 
@@ -115,7 +115,7 @@ HasSome room bytes x =
     (t : Tree) × (ts : List Tree) × (text : List ℕ) × (x.0 ≡ t ∷ ts) × AreSome t (members_of ts) text × IsSoundEvent t × AreSoundEvents (members_of ts)
     × (height t ≤ room) × (height_of_all (members_of ts) ≤ room) × (bytes ≡ text ++ x.1)
 
--- The members behind a mark.
+-- The members after a mark.
 abbrev pub rest_at : Reader Tree → ℕ → Bool × List ℕ → Read (List Tree)
 rest_at member most more = cond more.0 (some_members_at member most more.1) (Ok ([], more.1))
 
@@ -157,7 +157,7 @@ both_blanks : (xs ys : List ℕ) → AreBlanks xs → AreBlanks ys → AreBlanks
 both_blanks [] ys all more = more
 both_blanks (b ∷ xs) ys all more = (all.0, both_blanks xs ys all.1 more)
 
--- Members behind blanks and the opening bracket.
+-- Members after blanks and the opening bracket.
 joined : (between text : List ℕ) (t : Tree) (ts : Trees) → AreBlanks between → AreSome t ts text → IsListText (and_tree t ts) (OPENING_BRACKET ∷ (between ++ text))
 joined between text t ts more (blanks, first, rest, spaces, is, others, parts) =
     (between ++ blanks, first, rest, both_blanks between blanks more spaces, is, others, ap (λ (w : List ℕ). OPENING_BRACKET ∷ w) (ap (λ (w : List ℕ). between ++ w) parts ∙ sym (append_assoc between blanks (first ++ rest))))

@@ -1,5 +1,5 @@
-pub mod Lifted
-pub mod MemberLoop
+pub mod LiftLaws
+pub mod MemberLoopLaws
 pub mod TreeLaws
 pub mod WordLaws
 pub mod EventLaws

@@ -1,4 +1,4 @@
--- What reading leaves behind an event, by what each step leaves.
+-- What reading leaves after an event, by what each step leaves.
 use Rattle.std.proofs.Common.{◌≡◌, ℕ, zero, suc, ◌-◌, ◌+◌, ◌≤◌, ◌<◌, Bool, true, false, List, ◌∷◌, length, Result, Ok, Err, refl, sym, ap, ◌∙◌, arith}
 use Rattle.linda_text.specs.declared.fault.TextFault.{TextFault}
 use Rattle.linda_text.specs.declared.fault.TextFault.TheVariants.{SyntaxAt}
@@ -20,7 +20,7 @@ use Rattle.linda_shell.proofs.EventLaws.{rest_at}
 abbrev with_first : Tree → Read (List Tree) → Read (List Tree)
 with_first t read = read >>= λ others. Ok (t ∷ others.0, others.1)
 
--- What is behind a member.
+-- What is after a member.
 abbrev behind_first : Reader Tree → ℕ → Tree × List ℕ → Read (List Tree)
 behind_first member most first = lifted (mark_at (after_blanks first.1)) >>= λ more. rest_at member most more >>= λ others. Ok (first.0 ∷ others.0, others.1)
 
@@ -39,7 +39,7 @@ opens_some member bytes some rest is_some e =
     let k : length rest - 0 ≡ length rest = omega arith in
     rw (e, is_some, k) refl
 
--- What so many members leave, from the first on, by what is behind it.
+-- What so many members leave, from the first on, by what is after it.
 by_first : (member : Reader Tree) (count i : ℕ) (bytes here behind : List ℕ) (total : Result (List ℕ) EventTextFault) → i < count → here ≡ after_blanks bytes → left_by (member here) ≡ Ok behind
     → ((t : Tree) → left_by (behind_first member (count - (i + 1)) (t, behind)) ≡ total) → left_by (some_members_at member (count - i) bytes) ≡ total
 unfolding some_members_at

@@ -8,9 +8,9 @@ use Rattle.linda_text.specs.declared.fault.TextFault.TheVariants.{SyntaxAt}
 use Rattle.linda_text.specs.Grammar.{AreBlanks, EndsNumeral}
 use Rattle.linda_text.specs.Steps.{◌>>=◌}
 use Rattle.linda_text.specs.Reading.{after_blanks, wrong, word_at, natural_at}
-use Rattle.linda_text.proofs.Steps.{bind_ok, ok_is}
-use Rattle.linda_text.proofs.Blanks.{blanks_take, blanks_again, no_blank, beyond_blanks}
-use Rattle.linda_text.proofs.Numerals.{natural_takes, natural_again, natural_begins}
+use Rattle.linda_text.proofs.StepLaws.{bind_ok, ok_is}
+use Rattle.linda_text.proofs.BlankLaws.{blanks_take, blanks_again, no_blank, beyond_blanks}
+use Rattle.linda_text.proofs.NumeralLaws.{natural_takes, natural_again, natural_begins}
 use Rattle.linda_text.proofs.AtomLaws.{word_takes}
 use Rattle.linda_text.specs.declared.marks.TheConstants.{COMMA}
 use Rattle.linda_shell.specs.declared.marks.TheConstants.{OPENING_BRACKET, CLOSING_BRACKET}
@@ -195,7 +195,7 @@ pub close_again : (blanks rest : List ℕ) → AreBlanks blanks → mark_at (aft
 unfolding mark_at after_blanks
 close_again blanks rest all = rw (blanks_again blanks (CLOSING_BRACKET ∷ rest) all) refl
 
--- What stands behind an opening bracket: members, or the closing bracket.
+-- What stands after an opening bracket: members, or the closing bracket.
 abbrev pub opened : Bool × List ℕ → List ℕ
 opened (true, rest) = rest
 opened (false, rest) = CLOSING_BRACKET ∷ rest

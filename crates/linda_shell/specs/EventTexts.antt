@@ -1,4 +1,4 @@
--- The grammar: which texts stand for an event. Texts are lists of bytes.
+-- The grammar: which texts represent an event. Texts are lists of bytes.
 use Rattle.std.specs.Prelude.{◌≡◌, ℕ, List, [], ◌∷◌, ◌++◌}
 use Rattle.std.specs.Fmt.{decimal}
 use Rattle.linda_event.specs.Trees.{Kind, input, read, alarm, always, never}

@@ -13,7 +13,7 @@ use crate::token::end_word;
 use linda_text::{TextFault, skip_word};
 
 /// What an event begins with.
-#[derive(Clone, Copy, Debug, PartialEq, Eq)]
+#[derive(Clone, Copy, PartialEq, Eq)]
 pub(crate) enum Keyword {
     In,
     Rd,

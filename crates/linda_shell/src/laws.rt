@@ -12,7 +12,7 @@ pub fn what_is_written_is_read_again()
     ensures { (event : Tree) → IsAlone IsEventText event (written_event event) }
 {}
 
-/// A text stands for one event, if any.
+/// A text represents one event, if any.
 pub fn a_text_stands_for_one_event()
     ensures { (one other : Tree) (text : List ℕ)
         → IsEventAlone text one → IsEventAlone text other → one ≡ other }

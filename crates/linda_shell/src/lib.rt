@@ -2,7 +2,8 @@
 //! clients.
 //!
 //! `read_event` reads an event; `specs/EventTexts` is the grammar. `run_script` runs a script, a command a line, over a
-//! world of servers, and `trace_script` tells what happens in it too: what it does there is what linda_world proves of every run, and what it prints is shown by tests.
+//! world of servers, and `trace_script` writes what happens in it too: what it does there is what linda_world
+//! proves of every run, and what it prints is shown by tests.
 #![tactic(auto)]
 
 mod event;

@@ -20,7 +20,7 @@ use Rattle.linda_journal.specs.declared.fault.BankFault.TheVariants as banks
 use Rattle.linda_journal.specs.Journal.{deeds_of}
 use Rattle.linda_journal.specs.Bank.{IsCandidate, IsBank, IsSettled}
 use Rattle.linda_journal.specs.Image.{IsFaultOfBank}
-use Rattle.linda_journal.proofs.Apart.{format_apart}
+use Rattle.linda_journal.proofs.ApartLaws.{format_apart}
 use Rattle.linda_journal.proofs.ImageLaws.{digits_apart, is_candidate, one_bank, only_faults}
 use Rattle.linda_snap.specs.declared.replay.ReplayFault.{ReplayFault}
 use Rattle.linda_snap.specs.declared.replay.ReplayFault.TheVariants as replays

@@ -5,10 +5,10 @@ use Rattle.std.specs.FinMap.{FinMap, empty, insert, entries, len, len-empty, len
 use Rattle.std.proofs.lemmas.List.{flat_map_more}
 use Rattle.linda_codec.specs.Formats.{Format}
 use Rattle.linda_codec.specs.Lawful.{IsBytes, IsFormat}
-use Rattle.linda_journal.proofs.Apart.{IsApart, format_apart}
+use Rattle.linda_journal.proofs.ApartLaws.{IsApart, format_apart}
 use Rattle.linda_codec.specs.declared.fault.ReadFault.{ReadFault}
 use Rattle.linda_codec.specs.declared.fault.ReadFault.TheVariants as reading
-use Rattle.linda_codec.proofs.Takes.{ok_is}
+use Rattle.linda_codec.proofs.TakeLaws.{ok_is}
 use Rattle.linda_snap.specs.declared.reading.SnapshotFault.TheVariants.{Memory}
 use Rattle.linda_snap.specs.Reading.{IsRun, IsNoRun, fault_of_read}
 use Rattle.linda_snap.proofs.RisingLaws.{Rising, after_all, rising, inserted, after_more, above_all}

@@ -1,50 +1,20 @@
 -- The format of snapshots is lawful, so bytes are the spelling of one state at most.
-use Rattle.std.proofs.Common.{◌≡◌, ℕ, ◌^◌, ◌<◌, List, [], ◌∷◌, ◌++◌, All, Ok, length, refl, sym, ap, subst, ◌∙◌, append_assoc}
+use Rattle.std.proofs.Common.{◌≡◌, ℕ, ◌^◌, ◌<◌, List, [], ◌++◌, All, length, sym, ap, subst, ◌∙◌, append_assoc}
 use Rattle.std.specs.List.{flat_map}
 use Rattle.std.specs.FinMap.{same_entries_map}
 use Rattle.linda_tuple.specs.declared.form.Form.{Form}
-use Rattle.linda_tuple.specs.declared.form.Form.TheVariants.{One, Two}
 use Rattle.linda_codec.specs.Steps.{many_at}
-use Rattle.linda_codec.specs.Formats.{Format, short_number, no_kind}
+use Rattle.linda_codec.specs.Formats.{Format, short_number}
 use Rattle.linda_codec.specs.Lawful.{Takes, IsFormat}
-use Rattle.linda_codec.proofs.Takes.{bind_ok, Takes-then}
-use Rattle.linda_codec.proofs.Many.{many_takes, many_again}
-use Rattle.linda_codec.proofs.Bounds.{bounded_then, many_bounded}
-use Rattle.linda_codec.proofs.FormatLaws.{short_number_is, number_is, nothing_is, both_is, body_is, made_again, no_kind_is, AreBodies, choice_is}
-use Rattle.linda_codec.proofs.ValueLaws.{tuple_is}
-use Rattle.linda_book.specs.declared.kept.KeptReply.{KeptReply}
-use Rattle.linda_book.specs.declared.kept.KeptReply.TheVariants.{Stored, Taken, Gone, Left}
+use Rattle.linda_codec.proofs.TakeLaws.{bind_ok, Takes-then}
+use Rattle.linda_codec.proofs.ManyLaws.{many_takes, many_again}
+use Rattle.linda_codec.proofs.BoundLaws.{bounded_then, many_bounded}
+use Rattle.linda_codec.proofs.FormatLaws.{short_number_is, number_is, both_is}
+use Rattle.linda_book.proofs.ReplyFormatLaws.{placed_is, reply_is}
 use Rattle.linda_state.specs.State.{State}
-use Rattle.linda_journal.proofs.Apart.{format_apart}
-use Rattle.linda_snap.specs.declared.kinds.TheConstants as kind
+use Rattle.linda_journal.proofs.ApartLaws.{format_apart}
 use Rattle.linda_snap.specs.Snapshot as format
 use Rattle.linda_snap.specs.Snapshot.{listed, Parts, parts_of, spell_state, IsSnapshot}
-
-pub placed_is : (form : Form) → IsFormat (format.placed form)
-placed_is form = both_is number_is (tuple_is form)
-
-left_bodies : (form : Form) → AreBodies (format.spell_reply form) (format.FitsReply form) (format.left_kinds form)
-left_bodies One = tt
-left_bodies Two = (body_is nothing_is (format.spell_reply Two) (format.FitsReply Two) (kind.LEFT ∷ []) (λ _. Left) (λ n. refl) (λ n fits. tt), tt)
-
-reply_bodies : (form : Form) → AreBodies (format.spell_reply form) (format.FitsReply form) (format.reply_kinds form)
-reply_bodies form = (
-  body_is number_is (format.spell_reply form) (format.FitsReply form) (kind.STORED ∷ []) (λ id. Stored id) (λ id. refl) (λ id fits. fits),
-  (
-    body_is (placed_is form) (format.spell_reply form) (format.FitsReply form) (kind.TAKEN ∷ []) (λ p. Taken p.0 p.1) (λ p. refl) (λ p fits. fits),
-    (body_is nothing_is (format.spell_reply form) (format.FitsReply form) (kind.GONE ∷ []) (λ _. Gone) (λ n. refl) (λ n fits. tt), left_bodies form),
-  ),
-)
-
-reply_again : (form : Form) (r : KeptReply) (rest : List ℕ) → format.FitsReply form r → (format.reply form).read (format.spell_reply form r ++ rest) ≡ Ok (r, rest)
-reply_again form (Stored id) rest fits = made_again number_is (λ id. Stored id) id rest fits
-reply_again form (Taken id tuple) rest fits = made_again (placed_is form) (λ p. Taken p.0 p.1) (id, tuple) rest fits
-reply_again form Gone rest fits = refl
-reply_again One Left rest fits = absurd fits
-reply_again Two Left rest fits = refl
-
-reply_is : (form : Form) → IsFormat (format.reply form)
-reply_is form = choice_is (format.spell_reply form) (format.FitsReply form) (format.reply_kinds form) no_kind (reply_bodies form) (no_kind_is (format.spell_reply form) (format.FitsReply form)) (reply_again form)
 
 pub kept_is : (form : Form) → IsFormat (format.kept form)
 kept_is form = both_is short_number_is (both_is number_is (reply_is form))

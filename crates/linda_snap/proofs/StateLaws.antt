@@ -11,18 +11,19 @@ use Rattle.linda_codec.specs.declared.fault.ReadFault.{ReadFault}
 use Rattle.linda_codec.specs.Formats.{Format, short_number, number}
 use Rattle.linda_codec.specs.Lawful.{IsBytes, IsFormat}
 use Rattle.linda_codec.proofs.FormatLaws.{short_number_is, number_is}
-use Rattle.linda_codec.proofs.Takes.{ok_is}
+use Rattle.linda_codec.proofs.TakeLaws.{ok_is}
 use Rattle.linda_book.specs.Entries.{Entry}
 use Rattle.linda_wire.specs.declared.limits.TheConstants.{NUMBER_LIMIT}
 use Rattle.linda_state.specs.State.{State}
-use Rattle.linda_journal.proofs.Apart.{format_apart}
+use Rattle.linda_journal.proofs.ApartLaws.{format_apart}
 use Rattle.linda_snap.specs.declared.reading.SnapshotFault.{SnapshotFault}
 use Rattle.linda_snap.specs.declared.reading.SnapshotFault.TheVariants.{NoSnapshot, Memory}
 use Rattle.linda_snap.specs.Snapshot as format
 use Rattle.linda_snap.specs.Snapshot.{listed, IsSnapshot}
 use Rattle.linda_snap.specs.Reading.{IsRun, IsListed, IsPlacedBelow, IsNumbered, IsNoSnapshot, ANY_COUNT}
 use Rattle.linda_snap.proofs.RisingLaws.{get_in, all_got}
-use Rattle.linda_snap.proofs.SnapshotLaws.{placed_is, kept_is, listed_is, one_snapshot}
+use Rattle.linda_book.proofs.ReplyFormatLaws.{placed_is}
+use Rattle.linda_snap.proofs.SnapshotLaws.{kept_is, listed_is, one_snapshot}
 
 no_value : {A : Type 0} (x : A) (fault : ReadFault) → Ok x ≡ Err fault → ⊥
 no_value x fault e = absurd cc

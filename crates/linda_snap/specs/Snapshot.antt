@@ -1,54 +1,16 @@
 -- The format of a state in each of the two forms of values: a snapshot.
-use Rattle.std.specs.Prelude.{◌≡◌, ℕ, List, [], ◌∷◌, ◌++◌, All, length}
+use Rattle.std.specs.Prelude.{◌≡◌, ℕ, List, ◌++◌, All, length}
 use Rattle.std.specs.List.{flat_map}
 use Rattle.std.specs.FinMap.{entries}
 use Rattle.linda_tuple.specs.declared.form.Form.{Form}
-use Rattle.linda_tuple.specs.declared.form.Form.TheVariants.{One, Two}
 use Rattle.linda_tuple.specs.Tuple.{Tuple}
-use Rattle.linda_codec.specs.Steps.{Reader, ◌>>=◌, many_at}
-use Rattle.linda_codec.specs.Formats.{Format, short_number, number}
-use Rattle.linda_codec.specs.Formats.{nothing, both, made_at, no_kind, choice_at}
-use Rattle.linda_codec.specs.Values as value
-use Rattle.linda_book.specs.declared.kept.KeptReply.{KeptReply}
-use Rattle.linda_book.specs.declared.kept.KeptReply.TheVariants.{Stored, Taken, Gone, Left}
+use Rattle.linda_codec.specs.Steps.{◌>>=◌, many_at}
+use Rattle.linda_codec.specs.Formats.{Format, short_number, number, both}
 use Rattle.linda_book.specs.Entries.{Entry}
+pub use Rattle.linda_book.specs.ReplyFormat.{placed, reply}
 use Rattle.linda_state.specs.State.{State, IsState}
-use Rattle.linda_state.specs.DeedFormat.{HasLeaves}
-use Rattle.linda_snap.specs.declared.kinds.TheConstants as kind
 
 -- ---- entries
-
--- The id of a tuple, and the tuple in the form.
-abbrev pub placed : Form → Format (ℕ × Tuple)
-placed form = both number (value.tuple form)
-
--- A kept reply's kind byte and body.
-abbrev pub spell_reply : Form → KeptReply → List ℕ
-spell_reply form (Stored id) = kind.STORED ∷ number.spell id
-spell_reply form (Taken id tuple) = kind.TAKEN ∷ (placed form).spell (id, tuple)
-spell_reply form Gone = kind.GONE ∷ []
-spell_reply form Left = kind.LEFT ∷ []
-
--- What has a spelling among kept replies; that to a Leave where the form has Leaves.
-abbrev pub FitsReply : Form → KeptReply → Type 0
-FitsReply form (Stored id) = number.Fits id
-FitsReply form (Taken id tuple) = (placed form).Fits (id, tuple)
-FitsReply form Gone = Unit {0}
-FitsReply form Left = HasLeaves form
-
--- The kind of replies to Leaves with its body, where the form has Leaves.
-abbrev pub left_kinds : Form → List (ℕ × Reader KeptReply)
-left_kinds One = []
-left_kinds Two = (kind.LEFT, made_at (λ _. Left) nothing) ∷ []
-
--- The kinds of kept replies, each with its body.
-abbrev pub reply_kinds : Form → List (ℕ × Reader KeptReply)
-reply_kinds form =
-    (kind.STORED, made_at (λ id. Stored id) number) ∷ (kind.TAKEN, made_at (λ p. Taken p.0 p.1) (placed form))
-    ∷ (kind.GONE, made_at (λ _. Gone) nothing) ∷ left_kinds form
-
-abbrev pub reply : Form → Format KeptReply
-reply form = record { spell = spell_reply form; Fits = FitsReply form; read = choice_at (reply_kinds form) no_kind }
 
 -- A client, its last number, and the reply to it.
 abbrev pub kept : Form → Format (ℕ × Entry)

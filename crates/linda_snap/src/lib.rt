@@ -10,13 +10,12 @@
 
 mod choice;
 mod cursor;
-mod kinds;
+mod entry;
 mod laws;
 mod putting;
 mod reading;
 mod renewal;
 mod replay;
-mod reply;
 
 pub use choice::{ChoiceFault, Chosen, choose_bank};
 pub use laws::{an_append_leaves_the_old_state_or_the_new, two_banks_stand_for_one_state};

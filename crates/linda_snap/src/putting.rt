@@ -11,20 +11,12 @@ ghost use Rattle.linda_snap.specs.Snapshot as format;
 ghost use Rattle.linda_snap.specs.Snapshot.{listed, spell_state, FitsState};
 
 use crate::cursor::{kept_after, tuple_from};
-use crate::reply::{placed_len, push_placed, push_reply, reply_len};
+use crate::entry::{kept_len, placed_len, push_kept, push_placed};
 use linda_bag::Bag;
-use linda_book::{Book, KeptReply};
+use linda_book::Book;
+use linda_codec::{NUMBER_BYTES, SHORT_NUMBER_BYTES};
 use linda_state::State;
 use std::alloc::AllocError;
-
-/// The bytes of a count.
-const COUNT: usize = 4;
-
-/// The bytes of the next id.
-const NEXT: usize = 8;
-
-/// The bytes of a client and its number.
-const CLIENT: usize = 12;
 
 /// Appends the spelling of the state in the form of new banks. Where memory runs out, a part of it may stand after the old bytes.
 ///
@@ -77,17 +69,6 @@ fn push_book(out: &mut Vec<u8>, book: &Book) -> Result<(), AllocError>
     Ok(())
 }
 
-// Appends a client, its last number, and the reply to it; likewise.
-fn push_kept(out: &mut Vec<u8>, client: u32, n: u64, reply: &KeptReply) -> Result<(), AllocError>
-    ensures ok { OnOk result (out.new.items
-        ≡ out.old.items ++ (format.kept written).spell (client, (n, reply.now))) }
-    ensures fits { OnOk result ((format.kept written).Fits (client, (n, reply.now))) }
-{
-    out.extend_from_slice(&client.to_be_bytes())?;
-    out.extend_from_slice(&n.to_be_bytes())?;
-    push_reply(out, reply)
-}
-
 // Appends a count.
 fn push_count(out: &mut Vec<u8>, count: usize) -> Result<(), AllocError>
     requires { count < 2 ^ 32 }
@@ -103,7 +84,7 @@ pub(crate) fn room_after<B: Bag>(state: &State<B>, room: usize) -> Option<usize>
     ensures some { IfSome result (λ left. left + length (spell_state written state.now) ≡ room) }
     ensures none { IfNone result (room < length (spell_state written state.now)) }
 {
-    let room = room.checked_sub(NEXT)?;
+    let room = room.checked_sub(NUMBER_BYTES)?;
     let room = room_after_tuples(state, room)?;
     room_after_book(&state.book, room)
 }
@@ -115,7 +96,7 @@ fn room_after_tuples<B: Bag>(state: &State<B>, room: usize) -> Option<usize>
         left + length ((listed (format.placed written)).spell (entries state.now.bag)) ≡ room) }
     ensures none { IfNone result (room < length ((listed (format.placed written)).spell (entries state.now.bag))) }
 {
-    let mut left = room.checked_sub(COUNT)?;
+    let mut left = room.checked_sub(SHORT_NUMBER_BYTES)?;
     let mut from = 0;
     while let Some((id, tuple)) = tuple_from(state, from) {
         left = left.checked_sub(placed_len(tuple))?;
@@ -130,10 +111,10 @@ fn room_after_book(book: &Book, room: usize) -> Option<usize>
         left + length ((listed (format.kept written)).spell (entries book.now)) ≡ room) }
     ensures none { IfNone result (room < length ((listed (format.kept written)).spell (entries book.now))) }
 {
-    let mut left = room.checked_sub(COUNT)?;
+    let mut left = room.checked_sub(SHORT_NUMBER_BYTES)?;
     let mut last = None;
     while let Some((client, entry)) = kept_after(book, last) {
-        left = left.checked_sub(CLIENT + reply_len(entry.1))?;
+        left = left.checked_sub(kept_len(entry.1))?;
         last = Some(client);
     }
     Some(left)

@@ -2,7 +2,6 @@
 
 ghost use Rattle.std.specs.Prelude.{◌≡◌, ◌≢◌, ◌<◌, ◌≤◌, ◌^◌, ℕ, List, true, false, IfOk, IfErr};
 ghost use Rattle.std.specs.FinMap.{entries};
-ghost use Rattle.linda_codec.specs.Steps.{Gives};
 ghost use Rattle.linda_wire.specs.declared.limits.TheConstants.{NUMBER_LIMIT};
 ghost use Rattle.linda_state.specs.State as states;
 ghost use Rattle.linda_snap.specs.declared.reading.SnapshotFault.TheVariants.{Memory};
@@ -13,9 +12,9 @@ ghost use Rattle.linda_snap.specs.Reading.{IsListed, IsNotListed, IsNoSnapshot, 
 ghost use Rattle.linda_snap.specs.Reading.{fault_of_read};
 ghost use Rattle.linda_wire.specs.declared.limits.TheConstants.{MAX_CLIENTS};
 
-use crate::reply::{read_placed, read_reply};
+use crate::entry::{read_kept, read_placed};
 use linda_bag::Bag;
-use linda_book::{Book, KeptReply};
+use linda_book::Book;
 use linda_codec::{ReadFault, read_u32, read_u64};
 use linda_state::{NUMBER_LIMIT, State};
 use linda_tuple::Form;
@@ -185,20 +184,6 @@ fn read_clients(
         rest = after;
     }
     Ok((book, rest))
-}
-
-// Reads a client, its last number, and the reply to it.
-fn read_kept(
-    alloc: Global,
-    form: Form,
-    bytes: &[u8],
-) -> Result<(u32, (u64, KeptReply), &[u8]), ReadFault>
-    ensures { Gives (λ x. ((x.0, x.1), x.2.now)) result ((format.kept form).read bytes.now) }
-{
-    let (client, rest) = read_u32(bytes)?;
-    let (n, rest) = read_u64(rest)?;
-    let (reply, rest) = read_reply(alloc, form, rest)?;
-    Ok((client, (n, reply), rest))
 }
 
 // Whether the client is not below that one, and the number is one that may be kept.

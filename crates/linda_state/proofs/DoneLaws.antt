@@ -5,10 +5,10 @@ use Rattle.std.specs.FinMap.{FinMap, get, insert, remove, len}
 use Rattle.linda_wire.specs.declared.limits.TheConstants.{MAX_CLIENTS}
 use Rattle.linda_wire.specs.declared.limits.TheConstants.{NUMBER_LIMIT}
 use Rattle.linda_tuple.specs.Tuple.{Tuple}
-use Rattle.linda_bag.proofs.Maps.{get_inserted, get_same, get_other, get_removed, get_removed_same, get_removed_other, len_new, len_old}
+use Rattle.linda_maps.proofs.MapLaws.{get_inserted, get_same, get_other, get_removed, get_removed_same, get_removed_other, len_new, len_old}
 use Rattle.linda_state.specs.declared.deed.Deed.{Deed}
 use Rattle.linda_state.specs.declared.deed.Deed.TheVariants.{Out, Take, Pass, Leave}
-use Rattle.linda_book.specs.declared.kept.KeptReply.TheVariants as kept
+use Rattle.linda_book.specs.declared.kept_reply.KeptReply.TheVariants as kept
 use Rattle.linda_state.specs.Deed.{client_of, number_of, put_by, taken_by, outs_of, is_taken}
 use Rattle.linda_book.specs.Entries.{Entry, number_in}
 use Rattle.linda_state.specs.State.{State, IsState}

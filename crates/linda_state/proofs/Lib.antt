@@ -8,3 +8,4 @@ pub mod JoinLaws
 pub mod SumLaws
 pub mod ReplyLaws
 pub mod LeftLaws
+pub mod DeedFormatLaws

@@ -4,8 +4,8 @@ use Rattle.std.specs.Prelude.{List, length, Option, Some, None}
 use Rattle.std.specs.List.{slice_get}
 use Rattle.std.specs.FinMap as map
 use Rattle.linda_tuple.specs.Tuple.{Tuple}
-use Rattle.linda_book.specs.declared.kept.KeptReply.{KeptReply}
-use Rattle.linda_book.specs.declared.kept.KeptReply.TheVariants as kept
+use Rattle.linda_book.specs.declared.kept_reply.KeptReply.{KeptReply}
+use Rattle.linda_book.specs.declared.kept_reply.KeptReply.TheVariants as kept
 use Rattle.linda_book.specs.Entries.{Entry}
 use Rattle.linda_state.specs.declared.deed.Deed.{Deed}
 use Rattle.linda_state.specs.declared.deed.Deed.TheVariants.{Out, Take, Pass, Leave}

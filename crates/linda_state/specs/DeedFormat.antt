@@ -7,6 +7,7 @@ use Rattle.linda_tuple.specs.Tuple.{Tuple, FitsIn}
 use Rattle.linda_codec.specs.Steps.{Reader}
 use Rattle.linda_codec.specs.Formats.{Format, short_number, number, both, made_at, no_kind, choice_at}
 use Rattle.linda_codec.specs.Values as value
+pub use Rattle.linda_book.specs.ReplyFormat.{HasLeaves}
 use Rattle.linda_state.specs.declared.deed.Deed.{Deed}
 use Rattle.linda_state.specs.declared.deed.Deed.TheVariants.{Out, Take, Pass, Leave}
 use Rattle.linda_state.specs.declared.kinds.TheConstants as kind
@@ -29,11 +30,6 @@ leave = both short_number number
 
 abbrev pub leave_of : ℕ × ℕ → Deed
 leave_of p = Leave p.0 p.1
-
--- Banks of the form have Leaves: those of the second form alone.
-abbrev pub HasLeaves : Form → Type 0
-HasLeaves One = ⊥
-HasLeaves Two = Unit {0}
 
 -- A deed's kind byte and body, with its values in the form.
 abbrev pub spell_deed : Form → Deed → List ℕ

@@ -3,6 +3,8 @@
 ghost use Rattle.std.specs.Prelude.{◌≡◌, ◌↔◌, true, IfOk, OnErr};
 ghost use Rattle.linda_state.specs.Deed.{client_of, number_of, PutsTuple};
 
+mod spelled;
+
 use linda_tuple::Tuple;
 use std::alloc::{AllocError, Global};
 

@@ -6,7 +6,7 @@
 ghost use Rattle.std.specs.Prelude.{◌≡◌, ◌∷◌, [], None, ℕ, true, false};
 ghost use Rattle.std.specs.Prelude.{IfOk, OnOk, OnErr, map, option_to_list};
 ghost use Rattle.std.specs.FinMap as maps;
-ghost use Rattle.linda_book.specs.declared.kept.KeptReply.TheVariants as kept_replies;
+ghost use Rattle.linda_book.specs.declared.kept_reply.KeptReply.TheVariants as kept_replies;
 ghost use Rattle.linda_state.specs.declared.deed.Deed.TheVariants as deeds;
 ghost use Rattle.linda_state.specs.State.{IsState, empty_state};
 ghost use Rattle.linda_state.specs.After.{IsAfter};
@@ -22,7 +22,6 @@ use std::marker::Model;
 
 /// All that a server keeps over a restart. The bag may be any that does what `Bag` says. A state may
 /// hold any values; a store keeps them in the ranges of `IsState`.
-#[derive(Drop)]
 pub struct State<B: Bag> {
     /// The tuples of the space, by their ids.
     pub bag: B,
@@ -30,6 +29,16 @@ pub struct State<B: Bag> {
     pub book: Book,
     /// The id that the next tuple gets, from 1 to 2^63; at 2^63 no more tuples are put.
     pub next: u64,
+}
+
+impl<B: Bag> Drop for State<B> {
+    fn drop(self) {
+        let State {
+            bag: _,
+            book: _,
+            next: _,
+        } = self;
+    }
 }
 
 impl<B: Bag> Model for State<B> {

@@ -9,7 +9,7 @@ use Rattle.linda_wire.specs.declared.message.Message.TheVariants.{Hello, Out, As
 use Rattle.linda_wire.specs.declared.refusal.Refusal.{Refusal}
 use Rattle.linda_wire.specs.declared.reply.Reply.{Reply}
 use Rattle.linda_wire.specs.Refusal.{refused}
-use Rattle.linda_book.specs.declared.kept.KeptReply.{KeptReply}
+use Rattle.linda_book.specs.declared.kept_reply.KeptReply.{KeptReply}
 use Rattle.linda_book.specs.Entries.{Entry, number_in}
 use Rattle.linda_state.specs.State.{State}
 use Rattle.linda_step.specs.declared.judge.Demand.{Demand}

@@ -5,7 +5,7 @@ use Rattle.std.proofs.lemmas.Option.{none-some, same_Some}
 use Rattle.std.proofs.lemmas.List.Elements.{All-filter, All-push}
 use Rattle.std.specs.FinMap.{get, insert, remove}
 use Rattle.linda_tuple.specs.Tuple.{Tuple}
-use Rattle.linda_bag.proofs.Maps.{get_same, get_other, get_removed_same, get_removed_other}
+use Rattle.linda_maps.proofs.MapLaws.{get_same, get_other, get_removed_same, get_removed_other}
 use Rattle.linda_hold.specs.declared.request.Request.{Request}
 use Rattle.linda_hold.specs.Request.{request_of, same_request}
 use Rattle.linda_hold.specs.Waits.{Wait, is_waiting, is_reader, without_readers, longest}

@@ -3,7 +3,7 @@ use Rattle.std.proofs.Common.{◌≡◌, ◌≢◌, ℕ, ◌<◌, ◌≤◌, ◌
 use Rattle.std.proofs.lemmas.Option.{none-some}
 use Rattle.std.proofs.lemmas.List.Elements.{All-nil, All-cons, All-append}
 use Rattle.std.specs.FinMap.{get, entries}
-use Rattle.linda_bag.proofs.Maps.{get_same}
+use Rattle.linda_maps.proofs.MapLaws.{get_same}
 use Rattle.linda_tuple.specs.Tuple.{Tuple}
 use Rattle.linda_tuple.specs.Template.{Template}
 use Rattle.linda_hold.specs.declared.request.Request.{Request}
@@ -18,13 +18,13 @@ use Rattle.linda_wire.specs.declared.refusal.Refusal.TheVariants as refusals
 use Rattle.linda_wire.specs.declared.reply.Reply.{Reply}
 use Rattle.linda_wire.specs.declared.reply.Reply.TheVariants as replies
 use Rattle.linda_wire.specs.Refusal.{refused}
-use Rattle.linda_book.specs.declared.classes.Class.{Class}
-use Rattle.linda_book.specs.declared.classes.Class.TheVariants as classes
-use Rattle.linda_book.specs.declared.kept.KeptReply.{KeptReply}
-use Rattle.linda_book.specs.declared.kept.KeptReply.TheVariants as kept
+use Rattle.linda_book.specs.declared.class.Class.{Class}
+use Rattle.linda_book.specs.declared.class.Class.TheVariants as classes
+use Rattle.linda_book.specs.declared.kept_reply.KeptReply.{KeptReply}
+use Rattle.linda_book.specs.declared.kept_reply.KeptReply.TheVariants as kept
 use Rattle.linda_book.specs.Classes.{class_of, IsClass}
 use Rattle.linda_book.specs.Entries.{Entry, left_in, is_left, number_in}
-use Rattle.linda_book.proofs.Meaning.{class_means}
+use Rattle.linda_book.proofs.MeaningLaws.{class_means}
 use Rattle.linda_state.specs.declared.deed.Deed.{Deed}
 use Rattle.linda_state.specs.declared.deed.Deed.TheVariants as deeds
 use Rattle.linda_state.specs.Deed.{client_of}
@@ -238,7 +238,7 @@ module _ (st : State) (soft : Soft) (c : ℕ) (is : IsOrderly st soft) (gone : h
     told _ _ (left n none) =
         first_others k (replies.Left n) _ (other k (allowed_leave st k n is.state_is none).stays) (closed_sent (λ i. i ≢ c) st.bag soft others_ask k)
 
-  -- what is done and kept behind deeds that are done
+  -- what is done and kept after deeds that are done
   kept_by : (ds : List Deed) (new : State) → AreDone st ds new → AreOthers st ds new c
   kept_by ds new all = others_later ds st new c is.state_is all gone
 

@@ -15,7 +15,7 @@ use Rattle.linda_step.specs.Promises.{IsSafe}
 use Rattle.linda_step.proofs.OrderLaws.{new_store_orderly}
 use Rattle.linda_step.proofs.HistoryLaws.{Stands, StandsAfter, happened}
 
--- A front of what is proper behind other deeds is proper there.
+-- A prefix of what is proper after other deeds is proper there.
 pub front_goes_on : (st : State) (ds front all : List Deed) → IsFront front all → IsProper st (ds ++ all) → IsProper st (ds ++ front)
 front_goes_on st ds front all is proper =
     let whole : ds ++ all ≡ (ds ++ front) ++ is.0 = ap (λ l. ds ++ l) (sym is.1) ∙ sym (append_assoc ds front is.0) in

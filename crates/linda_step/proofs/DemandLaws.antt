@@ -1,10 +1,10 @@
--- A message does the deed that it asks for exactly where its demand is met; so the bytes of all deeds in a form can be told,
--- and whether each has a spelling there.
+-- A message does the deed that it asks for exactly where its demand is met; so the bytes of all deeds in a form
+-- can be counted, and whether each has a spelling there is known.
 use Rattle.std.proofs.Common.{◌≡◌, ℕ, ◌+◌, ◌≤◌, ◌<◌, Bool, true, false, cond, ◌==◌, List, [], ◌∷◌, ◌++◌, length, Option, Some, None, All, IfSome, is_some, option_to_list, refl, sym, ap, ◌∙◌, subst, ne_eqb, length-append, append-nil, arith}
 use Rattle.std.proofs.lemmas.Grind.{flat_map-append}
 use Rattle.std.proofs.lemmas.List.Elements.{All-nil, All-cons, All-head, All-tail}
 use Rattle.std.specs.FinMap.{get, insert, len}
-use Rattle.linda_bag.proofs.Maps.{get_inserted, len_new, len_old}
+use Rattle.linda_maps.proofs.MapLaws.{get_inserted, len_new, len_old}
 use Rattle.linda_tuple.specs.Tuple.{Tuple}
 use Rattle.linda_tuple.specs.declared.form.Form.{Form}
 use Rattle.linda_wire.specs.declared.message.Message.{Message}
@@ -81,7 +81,7 @@ outcome_of form st c soft _ _ (left n none) =
 
 -- ---- what a step comes to
 
--- What is done of the message is told by the numbers of before: its bytes, and the numbers behind it.
+-- What is done of the message is known from the numbers of before: its bytes, and the numbers after it.
 record IsTold (form : Form) (st : State) (c : ℕ) (m : Message) (deed : Option Deed) (new : State) : Type 0 where
   bytes : length (payload form (option_to_list deed)) ≡ bytes_of form m (done_of (numbers_of st) c m)
   suits : (later : List Deed) → All (SuitsForm form) (option_to_list deed ++ later) → SuitsIfDone form m (done_of (numbers_of st) c m) × All (SuitsForm form) later

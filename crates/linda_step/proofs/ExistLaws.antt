@@ -5,7 +5,7 @@ use Rattle.std.specs.FinMap.{get}
 use Rattle.linda_tuple.specs.Tuple.{Tuple}
 use Rattle.linda_tuple.specs.Template.{Template}
 use Rattle.linda_tuple.specs.Testing.{is_match}
-use Rattle.linda_tuple.proofs.Deciding.{is_match_decides}
+use Rattle.linda_tuple.proofs.MatchingLaws.{is_match_decides}
 use Rattle.linda_bag.specs.FreeMatch.{IsFreeMatch}
 use Rattle.linda_hold.specs.declared.request.Request.{Request}
 use Rattle.linda_hold.specs.Request.{request_of}

@@ -1,4 +1,4 @@
--- Which tuples are free behind a step: those that were before, those that are new, and the one that is released.
+-- Which tuples are free after a step: those that were before, those that are new, and the one that is released.
 use Rattle.std.proofs.Common.{◌≡◌, ℕ, ◌+◌, ◌<◌, inl, inr, Bool, true, false, ◌||◌, List, [], ◌∷◌, length, Option, None, Some, is_some, option_to_list, Result, Ok, Err, OnOk, IfOk, refl, sym, ap, subst, ◌∙◌, true≢false, eq-eqb, arith}
 use Rattle.std.proofs.lemmas.Bool.{cases_eq, cases_lt}
 use Rattle.std.proofs.lemmas.Option.{none-some}
@@ -6,7 +6,7 @@ use Rattle.std.specs.FinMap.{get, insert, remove}
 use Rattle.linda_tuple.specs.Tuple.{Tuple}
 use Rattle.linda_bag.specs.declared.starts.Starts.{Starts}
 use Rattle.linda_bag.specs.Starts.{AreRight}
-use Rattle.linda_bag.proofs.Maps.{get_same, get_other, get_removed_other}
+use Rattle.linda_maps.proofs.MapLaws.{get_same, get_other, get_removed_other}
 use Rattle.linda_bag.proofs.StartLaws.{stay_right}
 use Rattle.linda_hold.specs.declared.request.Request.{Request}
 use Rattle.linda_hold.specs.Waits.{Wait, longest, without_readers}
@@ -93,10 +93,6 @@ holding_right bag holds now id request next starts is rights =
       | inr other ↦ inr (stored, sym (ap is_some (get_other holds id request k other)) ∙ ap (λ h. is_held h k) (sym is) ∙ free)
     ])
     rights
-
--- What the set of ids says of each id it says of all.
-pub same_held : (contains : ℕ → Bool) (holds : HeldFor) → ((k : ℕ) → contains k ≡ is_held holds k) → contains ≡ is_held holds
-same_held contains holds same = λ j. λ k. same k j
 
 pub on_ok_both : {A E P Q R : Type 0} (r : Result A E) → OnOk r P → OnOk r Q → (P → Q → R) → OnOk r R
 on_ok_both (Ok a) p q then = then p q

@@ -1,10 +1,10 @@
 -- What the verdict on a numbered message says.
 use Rattle.std.proofs.Common.{◌≡◌, ◌+◌, ◌<◌, Bool, true, false, cond, refl}
 use Rattle.linda_wire.specs.declared.refusal.Refusal.TheVariants as refusals
-use Rattle.linda_book.specs.declared.classes.Class.{Class}
-use Rattle.linda_book.specs.declared.classes.Class.TheVariants.{Fresh, Kept, Old, Left, Gap}
+use Rattle.linda_book.specs.declared.class.Class.{Class}
+use Rattle.linda_book.specs.declared.class.Class.TheVariants.{Fresh, Kept, Old, Left, Gap}
 use Rattle.linda_book.specs.Classes.{class_of, IsClass}
-use Rattle.linda_book.proofs.Meaning.{class_means}
+use Rattle.linda_book.proofs.MeaningLaws.{class_means}
 use Rattle.linda_step.specs.declared.judge.Demand.{Demand}
 use Rattle.linda_step.specs.declared.judge.Standing.{Standing}
 use Rattle.linda_step.specs.declared.judge.Verdict.{Verdict}

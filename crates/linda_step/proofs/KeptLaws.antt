@@ -2,10 +2,10 @@
 use Rattle.std.proofs.Common.{◌≡◌, ℕ, ◌+◌, List, [], ◌∷◌, Some, None, IsSome, option_to_list, refl, sym, ap, ◌∙◌, true≢false, arith}
 use Rattle.std.specs.FinMap.{get}
 use Rattle.linda_tuple.specs.Tuple.{Tuple}
-use Rattle.linda_bag.proofs.Maps.{get_same}
+use Rattle.linda_maps.proofs.MapLaws.{get_same}
 use Rattle.linda_hold.specs.Request.{request_of}
-use Rattle.linda_book.specs.declared.kept.KeptReply.{KeptReply}
-use Rattle.linda_book.specs.declared.kept.KeptReply.TheVariants as kept
+use Rattle.linda_book.specs.declared.kept_reply.KeptReply.{KeptReply}
+use Rattle.linda_book.specs.declared.kept_reply.KeptReply.TheVariants as kept
 use Rattle.linda_wire.specs.declared.message.Message.{Message}
 use Rattle.linda_wire.specs.declared.reply.Reply.{Reply}
 use Rattle.linda_wire.specs.declared.reply.Reply.TheVariants as replies
@@ -31,7 +31,7 @@ pub record IsKeptFor (c n : ℕ) (sends : List (ℕ × Reply)) (st : State) : Ty
   pub kept : get st.book c ≡ Some (n, reply)
   pub first : sends ≡ (c, reply_of_kept n reply) ∷ others
 
--- The same, of the number that the message bears.
+-- The first thing that is sent goes to the client, for the number that the message bears, and the book keeps it.
 pub record IsKeptBy (c : ℕ) (m : Message) (sends : List (ℕ × Reply)) (st : State) : Type 0 where
   pub demand : Demand
   pub asked : demand_of m ≡ Some demand

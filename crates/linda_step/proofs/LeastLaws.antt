@@ -7,9 +7,9 @@ use Rattle.std.specs.FinMap.{get, entries, find, get-entries}
 use Rattle.linda_tuple.specs.Tuple.{Tuple}
 use Rattle.linda_tuple.specs.Template.{Template}
 use Rattle.linda_tuple.specs.Testing.{is_match}
-use Rattle.linda_tuple.proofs.Deciding.{is_match_decides}
+use Rattle.linda_tuple.proofs.MatchingLaws.{is_match_decides}
 use Rattle.linda_bag.specs.FreeMatch.{IsFreeMatch}
-use Rattle.linda_bag.proofs.Left.{HasKey}
+use Rattle.linda_bag.proofs.LeftLaws.{HasKey}
 use Rattle.linda_step.specs.Soft.{Bagged}
 use Rattle.linda_step.specs.Looking.{IsLeast}
 

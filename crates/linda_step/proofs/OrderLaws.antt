@@ -38,7 +38,7 @@ use Rattle.linda_step.proofs.PresentLaws.{fewer_asking, taken_asking, held_askin
 use Rattle.linda_state.specs.After.{reply_of_deed, taken_reply}
 use Rattle.linda_state.specs.Deed.{client_of, number_of}
 use Rattle.linda_book.specs.Entries.{left_in, is_left}
-use Rattle.linda_bag.proofs.Maps.{get_same, get_other}
+use Rattle.linda_maps.proofs.MapLaws.{get_same, get_other}
 
 -- Holds and waits are in their ranges beside a bag, and nobody waits in vain.
 pub record IsSettled (bag : Bagged) (soft : Soft) : Type 0 where
@@ -206,7 +206,7 @@ close_orderly st soft c is = record { state_is = is.state_is; soft_is = closing_
 pub no_asks_orderly : (st : State) → IsState st → IsOrderly st no_asks
 no_asks_orderly st is = record { state_is = is; soft_is = no_asks_soft st.bag; rest = no_asks_rest st.bag; present = no_asking (IsHere st) }
 
--- The same, where state, holds and waits are known by other names.
+-- The two laws above, where state, holds and waits are known by other names.
 pub close_at : (old st : State) (was soft new : Soft) (c : ℕ) (sends : List (ℕ × Reply)) → old ≡ st → was ≡ soft → IsOrderly st soft → (let told : Sends = record { sends = sends; soft = new } in told) ≡ on_close old.bag c was → IsOrderly old new
 close_at old st was soft new c sends same soft_same is told =
     subst (IsOrderly old) (sym (ap (λ (t : Sends). t.soft) told)) (close_orderly old was c (subst (λ s. IsOrderly s was) (sym same) (subst (IsOrderly st) (sym soft_same) is)))

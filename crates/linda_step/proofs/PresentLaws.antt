@@ -4,7 +4,7 @@ use Rattle.std.proofs.lemmas.Bool.{cases_eq}
 use Rattle.std.proofs.lemmas.List.Elements.{All-nil, All-append, All-cons, All-filter}
 use Rattle.std.specs.FinMap.{get, insert, remove}
 use Rattle.linda_tuple.specs.Tuple.{Tuple}
-use Rattle.linda_bag.proofs.Maps.{get_same, get_other, get_removed_same, get_removed_other, get_empty}
+use Rattle.linda_maps.proofs.MapLaws.{get_same, get_other, get_removed_same, get_removed_other, get_empty}
 use Rattle.linda_hold.specs.declared.request.Request.{Request}
 use Rattle.linda_hold.specs.Request.{same_request}
 use Rattle.linda_hold.specs.Waits.{Wait, is_reader, is_taker, without_readers, longest}

@@ -12,7 +12,7 @@ use Rattle.linda_hold.specs.declared.request.Request.{Request}
 use Rattle.linda_hold.specs.Request.{same_request}
 use Rattle.linda_wire.specs.declared.limits.TheConstants.{MAX_ASKS}
 use Rattle.linda_tuple.specs.Tuple.{Tuple}
-use Rattle.linda_bag.proofs.Maps.{get_same, get_other, get_removed_same, get_removed_other, get_empty}
+use Rattle.linda_maps.proofs.MapLaws.{get_same, get_other, get_removed_same, get_removed_other, get_empty}
 use Rattle.linda_hold.specs.Waits.{Wait, AreDistinct, is_waiting, is_reader, is_taker, without_readers, longest, waits_of}
 use Rattle.linda_hold.specs.Holds.{HeldFor, IsHeldAt, IsOneEach, held_in}
 use Rattle.linda_step.specs.Soft.{Soft, Bagged, IsSoft, AreApart, open_asks, no_asks}

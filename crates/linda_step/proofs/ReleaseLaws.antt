@@ -7,7 +7,7 @@ use Rattle.std.specs.Ordering.{eq_by_cmp}
 use Rattle.std.specs.Cmp.{unsigned_ties}
 use Rattle.std.specs.FinMap.{get, remove, entries, find, get-entries}
 use Rattle.linda_tuple.specs.Tuple.{Tuple}
-use Rattle.linda_bag.proofs.Maps.{get_removed_same}
+use Rattle.linda_maps.proofs.MapLaws.{get_removed_same}
 use Rattle.linda_hold.specs.declared.request.Request.{Request}
 use Rattle.linda_hold.specs.Request.{same_request}
 use Rattle.linda_hold.specs.Waits.{Wait, is_waiting, is_reader, is_taker, without, without_client, without_readers, longest}

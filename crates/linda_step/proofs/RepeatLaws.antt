@@ -2,8 +2,8 @@
 use Rattle.std.proofs.Common.{◌≡◌, ℕ, Bool, ◌<◌, ◌≤◌, Some, IfSome, IsSome, option_map, ap, ◌∙◌, subst, arith}
 use Rattle.std.specs.FinMap.{get}
 use Rattle.linda_wire.specs.declared.limits.TheConstants.{NUMBER_LIMIT}
-use Rattle.linda_book.specs.declared.classes.Class.TheVariants.{Kept}
-use Rattle.linda_book.specs.declared.kept.KeptReply.{KeptReply}
+use Rattle.linda_book.specs.declared.class.Class.TheVariants.{Kept}
+use Rattle.linda_book.specs.declared.kept_reply.KeptReply.{KeptReply}
 use Rattle.linda_book.specs.Entries.{Entry, left_in, number_in}
 use Rattle.linda_book.specs.Classes.{class_of}
 use Rattle.linda_wire.specs.declared.message.Message.{Message}

@@ -6,9 +6,9 @@ use Rattle.std.proofs.lemmas.List.Elements.{All-nil, All-filter, All-push}
 use Rattle.std.specs.FinMap.{get, insert, remove}
 use Rattle.linda_tuple.specs.Tuple.{Tuple}
 use Rattle.linda_tuple.specs.Testing.{is_match}
-use Rattle.linda_tuple.proofs.Deciding.{is_match_decides}
+use Rattle.linda_tuple.proofs.MatchingLaws.{is_match_decides}
 use Rattle.linda_bag.specs.FreeMatch.{IsFreeMatch}
-use Rattle.linda_bag.proofs.Maps.{get_same, get_other, get_removed_same, get_removed_other}
+use Rattle.linda_maps.proofs.MapLaws.{get_same, get_other, get_removed_same, get_removed_other}
 use Rattle.linda_hold.specs.declared.request.Request.{Request}
 use Rattle.linda_hold.specs.Request.{same_request}
 use Rattle.linda_hold.specs.Waits.{Wait, is_reader, is_taker, without_readers, longest}

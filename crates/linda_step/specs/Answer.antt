@@ -14,8 +14,8 @@ use Rattle.linda_wire.specs.declared.message.Message.{Message}
 use Rattle.linda_wire.specs.declared.message.Message.TheVariants as messages
 use Rattle.linda_wire.specs.declared.reply.Reply.{Reply}
 use Rattle.linda_wire.specs.declared.reply.Reply.TheVariants as replies
-use Rattle.linda_book.specs.declared.kept.KeptReply.{KeptReply}
-use Rattle.linda_book.specs.declared.kept.KeptReply.TheVariants as kept
+use Rattle.linda_book.specs.declared.kept_reply.KeptReply.{KeptReply}
+use Rattle.linda_book.specs.declared.kept_reply.KeptReply.TheVariants as kept
 use Rattle.linda_book.specs.Entries.{Entry, left_in, number_in}
 use Rattle.linda_state.specs.declared.deed.Deed.{Deed}
 use Rattle.linda_state.specs.declared.deed.Deed.TheVariants as deeds
@@ -30,7 +30,7 @@ use Rattle.linda_step.specs.Soft.{Soft}
 use Rattle.linda_step.specs.Dispatch.{Sends, dispatch, on_close}
 use Rattle.linda_step.specs.Asking.{AnswersAsk, AnswersCancel, only_sent}
 
--- A deed or none; the replies with the clients that they go to, in order; and the holds and waits behind it.
+-- A deed or none; the replies with the clients that they go to, in order; and the holds and waits after it.
 pub record Answer : Type 0 where
   pub deed : Option Deed
   pub sends : List (ℕ × Reply)
@@ -147,7 +147,7 @@ SaysAsk true st c ticket remove template soft told =
     told ≡ only_sent ((c, refused (refusals.Left (last_number st c))) ∷ []) soft
 SaysAsk false st c ticket remove template soft told = AnswersAsk st.bag (request_of c ticket) remove template soft told
 
--- an answer without a deed that tells what this says
+-- an answer without a deed that sends what this says
 abbrev pub Tells : (Sends → Type 0) → Answer → Type 0
 Tells says answered = (told : Sends) × (says told × (answered ≡ only_sends told))
 

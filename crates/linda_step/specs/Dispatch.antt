@@ -10,7 +10,7 @@ use Rattle.linda_wire.specs.declared.reply.Reply.{Reply}
 use Rattle.linda_wire.specs.declared.reply.Reply.TheVariants as replies
 use Rattle.linda_step.specs.Soft.{Soft, Bagged}
 
--- what is sent, each reply to a client, in order; and the holds and waits behind it
+-- what is sent, each reply to a client, in order; and the holds and waits after it
 pub record Sends : Type 0 where
   pub sends : List (ℕ × Reply)
   pub soft : Soft

@@ -57,7 +57,7 @@ comings ms = map (λ (m : ℕ × Message). says m.0 m.1) ms
 abbrev pub Answers : State → Soft → List (ℕ × Message) → History → Type 0
 Answers st soft ms all = Happens st soft (comings ms) all
 
--- One thing more came to a server, behind these deeds and sends, and all is this then.
+-- One thing more came to a server, after these deeds and sends, and all is this then.
 pub record IsOneMore (st : State) (soft : Soft) (x : Coming) (deeds : List Deed) (sends : List (ℕ × Reply))
     (all : History) : Type 0 where
   pub answer : Answer

@@ -6,8 +6,8 @@ use Rattle.linda_wire.specs.declared.limits.TheConstants.{MAX_CLIENTS, NUMBER_LI
 use Rattle.linda_wire.specs.declared.message.Message.{Message}
 use Rattle.linda_wire.specs.declared.message.Message.TheVariants as messages
 use Rattle.linda_wire.specs.declared.refusal.Refusal.TheVariants as refusals
-use Rattle.linda_book.specs.declared.classes.Class.{Class}
-use Rattle.linda_book.specs.declared.classes.Class.TheVariants as classes
+use Rattle.linda_book.specs.declared.class.Class.{Class}
+use Rattle.linda_book.specs.declared.class.Class.TheVariants as classes
 use Rattle.linda_book.specs.Classes.{class_of}
 use Rattle.linda_step.specs.declared.judge.Demand.{Demand}
 use Rattle.linda_step.specs.declared.judge.Standing.{Standing}

@@ -63,7 +63,7 @@ pub data LastWord (last : ℕ) : Reply → Type 0 where
   is_known : LastWord last (refused (refusals.Known last))
   is_welcome : LastWord last (replies.Welcome last)
 
--- A client that had left in the first state, behind whatever came: what is kept for it is the same, no deed is its own,
+-- A client that had left in the first state, after whatever came: what is kept for it is the same, no deed is its own,
 -- it holds nothing and does not wait, and it was told nothing but last words.
 pub record IsAway (st : State) (c : ℕ) (all : History) : Type 0 where
   pub kept : map.get all.state.book c ≡ map.get st.book c

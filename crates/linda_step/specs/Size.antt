@@ -1,5 +1,5 @@
 -- Which messages do a deed, whether it has a spelling in a form, and how many bytes: that hangs on numbers, on tuples and
--- on who left alone, so it can be told before anything is done.
+-- on who left alone, so it is known before anything is done.
 use Rattle.std.specs.Prelude.{ℕ, Bool, ◌+◌, ◌==◌, if◌then◌else◌}
 use Rattle.std.specs.Prelude.{List, [], ◌∷◌, length, Option, Some, None}
 use Rattle.std.specs.FinMap as map
@@ -56,7 +56,7 @@ done_by (Some d) at = if_done d (judge d at)
 abbrev pub done_of : Numbers → ℕ → Message → Option Demand
 done_of ns c m = done_by (demand_of m) (standing_in ns c)
 
--- the numbers behind what was done of a client's message
+-- the numbers after what was done of a client's message
 abbrev pub numbers_after : Numbers → ℕ → Option Demand → Numbers
 numbers_after ns c None = ns
 numbers_after ns c (Some d) = record {
@@ -99,7 +99,7 @@ AllSuit form ns [] = Unit {0}
 AllSuit form ns (m ∷ ms) =
     SuitsIfDone form m.1 (done_of ns m.0 m.1) × AllSuit form (numbers_after ns m.0 (done_of ns m.0 m.1)) ms
 
--- what is last of a client behind these, each a client with its number and whether it left; or else this one
+-- what is last of a client after these, each a client with its number and whether it left; or else this one
 abbrev pub last_behind : List (ℕ × Latest) → ℕ → Latest → Latest
 last_behind [] c last = last
 last_behind (e ∷ es) c last = last_behind es c (if e.0 == c then e.1 else last)

@@ -20,7 +20,7 @@ pub record IsOrderly (st : State) (soft : Soft) : Type 0 where
   pub rest : IsAtRest st.bag soft
   pub present : OfAsking (IsHere st) soft
 
--- The state of a server, what it holds and lets wait, and whether the store came to want of memory, after which it does
+-- The state of a server, what it holds and lets wait, and whether memory ran out in the store, after which it does
 -- nothing more.
 pub record Store : Type 0 where
   pub state : State

@@ -1,4 +1,4 @@
-//! What the definitions of states, deeds and steps come to, each told by the contract of a function that does
+//! What the definitions of states, deeds and steps come to, each stated in the contract of a function that does
 //! nothing.
 
 ghost use Rattle.std.specs.Prelude.{◌≡◌, ℕ, ◌++◌, true, List, Option, Some, IsSome, option_to_list};
@@ -70,8 +70,8 @@ pub fn a_list_has_one_outcome()
         → IsOrderly st soft → Happens st soft xs a → Happens st soft xs b → a ≡ b }
 {}
 
-/// The same holds where the server is stopped, too, in whatever it does and however often: it comes back with
-/// some first deeds of what was in hand.
+/// No tuple is taken twice where the server is stopped, too, in whatever it does and however often: it comes back
+/// with some first deeds of what was in hand.
 pub fn no_history_with_stops_takes_a_tuple_twice()
     ensures { (st : State) (soft : Soft) (xs : List Turn) (all : History)
         → IsOrderly st soft → Endures st soft xs all → IsSafe st all }

@@ -4,8 +4,8 @@
 //!   requests wait.
 //! - `Store::step` takes one message and answers with the deed that it did, if it did one, and the replies,
 //!   exactly as the table in `specs/Answer` says. `Store::close` gives up all that a client asked.
-//! - What follows from these definitions, in the words of those who hand jobs out, is told by the functions
-//!   of `laws`.
+//! - What follows from these definitions, in the words of those who hand jobs out, is stated by the
+//!   functions of `laws`.
 #![tactic(auto)]
 
 mod judge;

@@ -1,5 +1,5 @@
-//! How many bytes the deeds of messages will spell in a form, and whether each has a spelling there, told without doing
-//! them.
+//! How many bytes the deeds of messages will spell in a form, and whether each has a spelling there, known without
+//! doing them.
 //!
 //! Whether a message does a deed hangs on numbers alone, and on whether its client left: the last number of its client,
 //! how many clients are kept, and the next id. So these are counted on from message to message.
@@ -17,8 +17,8 @@ use linda_state::{HEAD_BYTES, ID_BYTES, State, has_leaves, tuple_len};
 use linda_tuple::{Form, fits};
 use linda_wire::Message;
 
-/// How many messages one call takes at most.
-pub const MAX_BATCH: usize = 64;
+/// How many messages one call takes at most: as many as there may be deeds of one record.
+pub const MAX_BATCH: usize = linda_state::MAX_DEEDS;
 
 /// How many bytes the deeds of the messages spell in the form, each of its client, one after another; None where one of
 /// them has no spelling there.
@@ -112,7 +112,7 @@ fn deed_bytes(form: Form, message: &Message) -> Option<usize>
     }
 }
 
-// What is last of the client behind these, each a client with its number and whether it left; or else this one.
+// What is last of the client after these, each a client with its number and whether it left; or else this one.
 fn last_behind(lasts: &[(u32, (u64, bool))], client: u32, last: (u64, bool)) -> (u64, bool)
     ensures { result ≡ spec.last_behind lasts.now client last }
 {

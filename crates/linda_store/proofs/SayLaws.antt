@@ -1,4 +1,4 @@
--- What a call has said that puts one answer behind the replies of before.
+-- What a call has said that puts one answer after the replies of before.
 use Rattle.std.proofs.Common.{◌≡◌, ℕ, Bool, true, List, [], ◌∷◌, ◌++◌, refl, ◌∙◌, ap}
 use Rattle.std.specs.Prelude.{Option, Result, Ok, Err, OnOk, IfOk}
 use Rattle.linda_wire.specs.declared.message.Message.{Message}
@@ -6,7 +6,7 @@ use Rattle.linda_wire.specs.declared.reply.Reply.{Reply}
 use Rattle.linda_store.specs.Node.{Node, NodeAnswer, Handles}
 use Rattle.linda_store.specs.Turn.{point_at, told, goes_on, IsAsked, IsTurnedAway, HasSaid}
 
--- the node was asked, and its answer told
+-- the node was asked, and its answer said
 pub asked_said : {E : Type 0} (c : ℕ) (m : Message) (greets : NodeAnswer → Option ℕ) (node now : Node) (was : Option ℕ) (answer : NodeAnswer) (result : Result Bool E) (old new : List Reply)
     → Handles node c m answer now
     → OnOk result (new ≡ old ++ told c answer)

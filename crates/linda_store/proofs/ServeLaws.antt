@@ -1,4 +1,4 @@
--- What comes to a server leaves it sound, and what it sends tells only of its deeds.
+-- What comes to a server leaves it sound, and what it sends reports only its deeds.
 use Rattle.std.proofs.Common.{◌≡◌, ℕ, Bool, true, false, true≢false, List, [], ◌∷◌, ◌++◌, option_to_list, All, refl, sym, ap, ◌∙◌, subst, append-nil, append_assoc}
 use Rattle.std.proofs.lemmas.List.Elements.{All-nil, All-append, All-weaker}
 use Rattle.linda_wire.specs.declared.reply.Reply.{Reply}
@@ -42,7 +42,7 @@ backed_later ds es sends backed =
     All-weaker (λ (s : ℕ × Reply). reports_deed s.1 ≡ true → ReportsOne ds s.0 s.1) (λ (s : ℕ × Reply). reports_deed s.1 ≡ true → ReportsOne (ds ++ es) s.0 s.1)
     (λ s told tells. reply_later ds es s.0 s.1 (told tells)) sends backed
 
--- After these deeds the server is in this state, in order, and what it sent tells of them.
+-- After these deeds the server is in this state, in order, and what it sent reports only them.
 pub record Stands (ds : List Deed) (now : State) (soft : Soft) (sends : List (ℕ × Reply)) : Type 0 where
   pub proper : IsProper empty_state ds
   pub after : IsAfter empty_state ds now
@@ -105,7 +105,7 @@ module _ (ds : List Deed) (old : Node) (sound : IsSound ds old) where
       let whole : ds ++ r.all.deeds ≡ (ds ++ es) ++ r.front.0 = ap (λ l. ds ++ l) (sym r.front.1) ∙ sym (append_assoc ds es r.front.0) in
       front_proper empty_state (ds ++ es) r.front.0 (subst (IsProper empty_state) whole all.proper)
 
-  -- a front of what would go on goes on
+  -- a prefix of what would go on goes on
   front_goes_on : (es all : List Deed) → IsFront es all → IsProper empty_state (ds ++ all) → IsProper empty_state (ds ++ es)
   front_goes_on es all front proper =
       let whole : ds ++ all ≡ (ds ++ es) ++ front.0 = ap (λ l. ds ++ l) (sym front.1) ∙ sym (append_assoc ds es front.0) in
@@ -140,7 +140,7 @@ module _ (ds : List Deed) (old : Node) (sound : IsSound ds old) where
   works_sound xs IsFull es new none = none_more es new none.1 (subst (IsSound ds) (sym none.0.unchanged) sound)
   works_sound xs IsDown es new went = none_more es new went.1 (went_down xs new went.0)
 
-  -- What it sends tells only of its deeds.
+  -- What it sends reports only its deeds.
   pub works_backed : (xs : List Coming) (sends : List (ℕ × Reply)) (es : List Deed) (new : Node) → Works old xs (Sent sends) es new → AreBacked (ds ++ es) sends
   works_backed xs sends es new done = (happened old.state old.soft xs ds [] _ (begins done.was_up) done.happens).backed
 
@@ -161,7 +161,7 @@ module _ (ds : List Deed) (old : Node) (sound : IsSound ds old) where
   stops_sound xs (Err faults.Full) new never = absurd never
   stops_sound xs (Err faults.Down) new went = none_more [] new refl (went_down xs new went)
 
-  -- So does a close, and what it sends tells only of its deeds.
+  -- So does a close, and what it sends reports only its deeds.
   pub closes_sound : (c : ℕ) (answer : NodeAnswer) (new : Node) → Closes old c answer new → IsSound ds new
   closes_sound c (Sent sends) new done = subst (λ l. IsSound l new) (append-nil ds) (works_sound (hangs_up c ∷ []) (Sent sends) [] new done)
   closes_sound c IsFull new never = absurd never

@@ -91,7 +91,7 @@ pub record HasEnded (node : Node) (input left output now : Option (List ℕ))
 abbrev pub KnownBytes : Type 0
 KnownBytes = Option (List ℕ)
 
--- The same, where only the node and the greeted client of that point are told.
+-- A conversation with a node ended so at a point of which only the node and the greeted client are given.
 abbrev pub HasEndedAt :
     Node → KnownBytes → KnownBytes → KnownBytes → KnownBytes → Result End ConverseFault → Node → Option ℕ → Type 0
 HasEndedAt node input left output now result new greeted =

@@ -80,7 +80,7 @@ Works old xs IsDown ds new = WentDown old xs new × (ds ≡ [])
 abbrev pub Handles : Node → ℕ → Message → NodeAnswer → Node → Type 0
 Handles old c m answer new = (ds : List Deed) × Works old (says c m ∷ []) answer ds new
 
--- The same of several messages, one after another.
+-- What a node may answer to several messages, one after another, and where that leaves it.
 abbrev pub HandlesAll : Node → List (ℕ × Message) → NodeAnswer → Node → Type 0
 HandlesAll old ms answer new = (ds : List Deed) × Works old (comings ms) answer ds new
 

@@ -9,8 +9,8 @@ abbrev pub HasSent : {A E : Type 0} → Option (List ℕ) → Option (List ℕ) 
 HasSent old new bytes (Ok done) = Appends old new bytes
 HasSent old new bytes (Err fault) = (k : ℕ) × Appends old new (take k bytes)
 
--- The same of bytes that are made before they are sent: where memory runs out nothing has gone out, and no other fault
--- comes.
+-- Of bytes that are made before they are sent, all where all went well, some first ones where writing failed, and none
+-- where memory ran out; no other fault comes.
 abbrev pub HasWritten : {A : Type 0} → Option (List ℕ) → Option (List ℕ) → List ℕ → Result A ConverseFault → Type 0
 HasWritten old new bytes (Ok done) = Appends old new bytes
 HasWritten old new bytes (Err faults.Write) = (k : ℕ) × Appends old new (take k bytes)

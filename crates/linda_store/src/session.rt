@@ -17,13 +17,24 @@ use std::alloc::{AllocError, Global};
 use std::marker::Model;
 
 /// A connection of a client to a node. How the client's bytes are cut into pieces does not matter.
-#[derive(Debug, Drop)]
+#[derive(Debug)]
 pub struct Session {
     feed: Feed,
     greeted: Option<u32>,
     stage: Stage,
     // Whether memory ran out.
     spent: bool,
+}
+
+impl Drop for Session {
+    fn drop(self) {
+        let Session {
+            feed: _,
+            greeted: _,
+            stage: _,
+            spent: _,
+        } = self;
+    }
 }
 
 impl Model for Session {

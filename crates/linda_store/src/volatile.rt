@@ -20,11 +20,19 @@ use std::snapshot::Snapshot;
 /// A server in memory alone. It keeps its state over a stop, and is never full: ids, numbers and clients
 /// have their limits, and a message beyond them gets a refusal. Once memory ran out it is down for good,
 /// to a stop too.
-#[derive(Drop)]
 pub struct Volatile {
     store: Store<IndexBag>,
     // The state before the last call, which contracts alone see.
     before: Snapshot<State<IndexBag>>,
+}
+
+impl Drop for Volatile {
+    fn drop(self) {
+        let Volatile {
+            store: _,
+            before: _,
+        } = self;
+    }
 }
 
 impl Volatile {

@@ -14,7 +14,7 @@ use std::{io, thread};
 #[derive(Clone, Copy)]
 struct Row<'a> {
     calls: &'a [(u32, &'a str)],
-    // So many connections are lost right behind their Hello before one is served.
+    // So many connections are lost right after their Hello before one is served.
     lost: usize,
 }
 
@@ -83,7 +83,7 @@ fn tells_that_there_is_no_connection(rt: HostRuntime) -> io::Result<()> {
     Ok(())
 }
 
-/// Plays the calls of a row over one server in memory. What they print; behind what a call prints stands how it ends.
+/// Plays the calls of a row over one server in memory. What they print; after what a call prints stands how it ends.
 fn play<S: Net<Listener = TcpListener, Stream = TcpStream> + Threads + Wait + Clock + Sync>(
     rt: &S,
     alloc: Global,
@@ -115,7 +115,7 @@ fn play<S: Net<Listener = TcpListener, Stream = TcpStream> + Threads + Wait + Cl
     })
 }
 
-// Ends so many connections behind their Hello, and then serves so many, one after the other.
+// Ends so many connections after their Hello, and then serves so many, one after the other.
 fn serve(alloc: Global, listener: &TcpListener, lost: usize, connections: usize) {
     let mut node = Volatile::new(alloc);
     let mut seen: usize = 0;

@@ -40,7 +40,7 @@ fn serves_a_folder_that_keeps_what_was_done(rt: HostRuntime) -> io::Result<()> {
     Ok(())
 }
 
-// What a call prints to a server on the folder, which ends behind it, and how both end.
+// What a call prints to a server on the folder, which ends after it, and how both end.
 fn served<
     F: Files<File = File>,
     S: Net<Listener = TcpListener, Stream = TcpStream> + Threads + Wait + Clock + Sync,

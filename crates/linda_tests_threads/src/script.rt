@@ -2,7 +2,7 @@
 //!
 //! `greet hello 2 7 fresh` greets; `7 out 1 ("a", 3)` submits a message of client 7, and
 //! `all 7 out 1 ("a", 3); 7 cancel 2` several at once; `leave 7`, `snapshot`, and `finish 7 8`, which gives both seats
-//! back. What comes of a line is told: `7 did 1` of a receipt for message 1, a fault in words, and then all replies
+//! back. What comes of a line is written: `7 did 1` of a receipt for message 1, a fault in words, and then all replies
 //! that are there, session by session.
 
 ghost use Rattle.std.specs.Prelude.{◌≡◌, ◌≤◌, ◌<◌, true, length, All, IfOk};
@@ -48,7 +48,7 @@ impl<L: Ledger> Sessions<L> {
         shared.into_server()
     }
 
-    /// Does what the line says, and tells what comes of it.
+    /// Does what the line says, and writes what comes of it.
     pub(super) fn play<R: Wait>(
         &mut self,
         rt: &R,
@@ -196,7 +196,7 @@ impl<L: Ledger> Sessions<L> {
         }
     }
 
-    // Tells the replies that are there, session by session.
+    // Writes the replies that are there, session by session.
     fn tell_replies<R: Wait>(
         &mut self,
         rt: &R,
@@ -212,7 +212,7 @@ impl<L: Ledger> Sessions<L> {
     }
 }
 
-// Tells replies to a client.
+// Writes replies to a client.
 fn tell_all(
     alloc: Global,
     client: u32,
@@ -226,7 +226,7 @@ fn tell_all(
     Ok(())
 }
 
-// Tells of a receipt, if there is one.
+// Writes a receipt, if there is one.
 fn tell_receipt(receipt: &Option<Receipt>, came: &mut String) -> Result<(), WordsFault> {
     match receipt {
         Some(receipt) => Ok(writeln!(came, "> {} did {}", receipt.client(), receipt.number())?),

@@ -1,4 +1,4 @@
-//! Steps of sessions in one thread, with what each is to tell.
+//! Steps of sessions in one thread, with what is to come of each.
 
 use super::script::Sessions;
 use super::stand::{Kept, Scene, kept, kept_on_disks};
@@ -11,24 +11,24 @@ use std::sync::Wait;
 use std::sync::ledger::Ledger;
 use std::test::Fail;
 
-/// What is done, all that is told of it, and what the server keeps after it.
+/// What is done, all that comes of it, and what the server keeps after it.
 pub(super) type Step = (&'static str, &'static str, Kept);
 
-/// All is told as the steps say.
+/// All comes as the steps say.
 #[derive(Clone, Copy)]
 pub(super) struct Strictly {
     pub(super) steps: &'static [Step],
 }
 
-/// All is told as the steps say, until an allocation is refused. Then a call says that memory ran out, and
-/// done again it tells what it does else; or the server is down, and what it keeps on its disks is what it kept before
+/// All comes as the steps say, until an allocation is refused. Then a call says that memory ran out, and
+/// done again it gives what it does else; or the server is down, and what it keeps on its disks is what it kept before
 /// the step, or after it. A batch that goes one by one may be cut short after its first message, which is kept: what
 /// it led to stands beside `down` then, and nothing else ever does.
 #[derive(Clone, Copy)]
 pub(super) struct AsFarAsMemoryGoes {
     pub(super) limit: usize,
     pub(super) steps: &'static [Step],
-    /// All that is told of the batch that was cut short, if one may be.
+    /// All that comes of the batch that was cut short, if one may be.
     pub(super) cut_short: Option<&'static str>,
 }
 
@@ -54,7 +54,7 @@ impl Scene for Strictly {
     }
 }
 
-/// Does the steps; all is told as they say. Gives what the server is to keep after them.
+/// Does the steps; all comes as they say. Gives what the server is to keep after them.
 pub(super) fn done_as_said<L: Ledger, R: Wait + Abort>(
     rt: &R,
     alloc: Global,
@@ -132,7 +132,7 @@ fn is(came: &String, told: &str) -> bool {
     came.as_str() == told
 }
 
-// Does what is said, and gives what is told of it.
+// Does what is said, and gives what comes of it.
 fn done<L: Ledger, R: Wait + Abort>(
     rt: &R,
     alloc: Global,

@@ -163,7 +163,7 @@ fn told_by(report: Result<Report, SharedFault>) -> (u64, u64) {
     }
 }
 
-// The same, with a ledger of its own.
+// Does what `play_crew` does, with a ledger of its own.
 fn crew_works<R: Threads + Wait + Clock + Abort + Sync>(
     rt: &R,
     alloc: Global,
@@ -274,7 +274,7 @@ fn deeds_of(kept: Kept) -> u64 {
     puts.saturating_add(takes)
 }
 
-// The same, with a ledger of its own.
+// Does what `play_cut` does, with a ledger of its own.
 fn crew_is_cut<R: Threads + Wait + Clock + Abort + Sync>(
     rt: &R,
     alloc: Global,

@@ -1,11 +1,11 @@
-pub mod Steps
-pub mod Loop
+pub mod StepLaws
+pub mod LoopLaws
 pub mod SkipLaws
-pub mod Numerals
-pub mod Blanks
+pub mod NumeralLaws
+pub mod BlankLaws
 pub mod AtomLaws
 pub mod Utf8Laws
-pub mod Contents
+pub mod ContentLaws
 pub mod RowLaws
 pub mod PlaceLaws
 pub mod WrittenLaws

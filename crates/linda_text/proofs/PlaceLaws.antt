@@ -8,8 +8,8 @@ use Rattle.linda_text.specs.Grammar.{AreBlanks, Stands, IsAlone}
 use Rattle.linda_text.specs.Steps.{Reader}
 use Rattle.linda_text.specs.Reading.{after_blanks, ended, only_of}
 use Rattle.linda_text.specs.Places.{placed, told}
-use Rattle.linda_text.proofs.Steps.{bind_ok, ok_is}
-use Rattle.linda_text.proofs.Blanks.{blanks_take, blanks_again}
+use Rattle.linda_text.proofs.StepLaws.{bind_ok, ok_is}
+use Rattle.linda_text.proofs.BlankLaws.{blanks_take, blanks_again}
 use Rattle.linda_text.proofs.RowLaws.{IsSpaced, Anything}
 
 -- The end of bytes begins at the count of what stands before it.
@@ -39,7 +39,7 @@ is_only {A = A} {read = read} is bytes tail at x is_tail e a rest fits ends stan
     let same : pair ≡ x = ok_is pair x (sym found ∙ e) in
     (ap (λ (y : A × List ℕ). y.0) same, ap (λ (y : A × List ℕ). y.1) same)
 
--- Where a value stands from the offset on, the only fault is want of memory.
+-- Where a value stands from the offset on, the only fault is `Memory`.
 pub no_fault : {A : Type 0} {IsText : A → List ℕ → Type 0} {Fits : A → Type 0} {Ends : List ℕ → Type 0} {read : Reader A} → IsSpaced IsText Fits Ends read → (bytes tail : List ℕ) (at n : ℕ) (fault told : TextFault)
     → tail ≡ drop at bytes → (fault ≢ Memory → read tail ≡ Err fault) → told ≡ placed n fault → (a : A) (rest : List ℕ) → Fits a → Ends rest → Stands IsText a (drop at bytes) rest → told ≢ Memory → ⊥
 no_fault {read = read} is bytes tail at n fault told is_tail fails is_told a rest fits ends stands not_memory =

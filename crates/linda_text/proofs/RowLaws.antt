@@ -13,12 +13,12 @@ use Rattle.linda_text.specs.declared.fault.TextFault.TheVariants.{TooManyFields}
 use Rattle.linda_text.specs.Grammar.{AreBlanks, Stands, IsAtomText, EndsNumeral, AreFields, IsRowText, IsTupleText, IsTemplateText}
 use Rattle.linda_text.specs.Steps.{Read, Reader, ◌>>=◌}
 use Rattle.linda_text.specs.Reading.{after_blanks, wrong, word_at, made, more_at, no_more_at, fields_at, atom_at, tag_at, row_at, tuple_of, template_of, tuple_at, template_at, spaced_atom_at}
-use Rattle.linda_text.proofs.Steps.{bind_ok, ok_is}
-use Rattle.linda_text.proofs.Blanks.{no_blank, blanks_take, blanks_again, blanks_end}
+use Rattle.linda_text.proofs.StepLaws.{bind_ok, ok_is}
+use Rattle.linda_text.proofs.BlankLaws.{no_blank, blanks_take, blanks_again, blanks_end}
 use Rattle.linda_text.proofs.AtomLaws.{IsReading, Begins, word_takes, atom_is, pattern_is}
 use Rattle.linda_text.specs.declared.marks.TheConstants as mark
 
--- ---- the mark between fields and behind them
+-- ---- the mark between fields and after them
 
 abbrev mark_of : Bool → ℕ
 mark_of true = mark.COMMA
@@ -81,7 +81,7 @@ one_more IsText Fits room bytes after behind rest a others e first more =
       whole ∙ regroup m.0 b.0 first.0 more.0 rest,
     )
 
--- What reads the fields behind a field.
+-- What reads the fields after a field.
 abbrev others_read : {A : Type 0} → Reader A → ℕ → A × List ℕ → Read (List A)
 others_read field room first = fields_at field room first.1 >>= λ others. Ok (first.0 ∷ others.0, others.1)
 
@@ -116,7 +116,7 @@ fields_takes {A = A} {IsText = IsText} {Fits = Fits} {field = field} is (suc roo
     let m = bind_ok (more_at (after_blanks bytes)) (λ more. cond more.0 (field (after_blanks more.1) >>= others_read field room) (Ok ([], more.1))) x e in
     fields_by is room bytes m.0.1 m.0.0 x m.1 (fields_takes is room) m.2
 
--- Behind a field stand blanks and a mark.
+-- After a field stand blanks and a mark.
 fields_end : {A : Type 0} (IsText : A → List ℕ → Type 0) (items : List A) (text rest : List ℕ) → AreFields IsText items text → EndsNumeral (text ++ rest)
 fields_end IsText [] text rest is =
     rw (is.2, append_assoc is.0 (mark.CLOSING ∷ []) rest) (blanks_end is.0 mark.CLOSING rest is.1 refl)
@@ -195,7 +195,7 @@ row_again {A = A} {IsText = IsText} {Fits = Fits} {field = field} is row text re
 
 -- ---- readers that pass over blanks first
 
--- What is read stands there behind blanks, and fits; each value that fits and stands there is read, where what follows ends it.
+-- What is read stands there after blanks, and fits; each value that fits and stands there is read, where what follows ends it.
 pub record IsSpaced {A : Type 0} (IsText : A → List ℕ → Type 0) (Fits : A → Type 0) (Ends : List ℕ → Type 0) (read : Reader A) : Type 0 where
   pub takes : (bytes : List ℕ) (x : A × List ℕ) → read bytes ≡ Ok x → Fits x.0 × Stands IsText x.0 bytes x.1
   pub again : (a : A) (bytes rest : List ℕ) → Stands IsText a bytes rest → Fits a → Ends rest → read bytes ≡ Ok (a, rest)

@@ -1,4 +1,4 @@
--- What reading leaves behind the value, by what each step leaves.
+-- What reading leaves after the value, by what each step leaves.
 use Rattle.std.proofs.Common.{◌≡◌, ℕ, suc, ◌-◌, ◌+◌, ◌≤◌, ◌<◌, Bool, true, false, List, [], ◌∷◌, Result, Ok, Err, refl, sym, ap, ◌∙◌, arith}
 use Rattle.std.specs.Prelude.{IsOk}
 use Rattle.linda_text.specs.declared.fault.TextFault.{TextFault}
@@ -10,7 +10,7 @@ pub is_there : {F A : Type 0} (read : Result (A × List ℕ) F) (rest : List ℕ
 is_there (Ok x) rest e = refl
 is_there (Err fault) rest e = absurd cc
 
--- A fault that is told of what is left is the fault.
+-- A fault that is returned for what is left is the fault.
 pub is_fault : {F A : Type 0} (read : Result (A × List ℕ) F) (fault : F) → left_by read ≡ Err fault → read ≡ Err fault
 is_fault (Ok x) fault e = absurd cc
 is_fault (Err f) fault e = cc
@@ -92,7 +92,7 @@ left_alone : (A : Type 0) (step : Result (List ℕ) TextFault) → left_by (step
 left_alone A (Ok rest) = refl
 left_alone A (Err fault) = refl
 
--- Behind the last field that may stand there.
+-- After the last field that may stand there.
 pub ends : {A : Type 0} (field : Reader A) (count i : ℕ) (bytes : List ℕ) (total : Result (List ℕ) TextFault) → count ≤ i
     → left_by (fields_at field (count - i) bytes) ≡ total → total ≡ no_more_at bytes
 unfolding fields_at

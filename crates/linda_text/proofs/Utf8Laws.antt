@@ -1,4 +1,4 @@
--- What stands between quotes is UTF-8 exactly where what it says is: an escape is of ASCII and stands for a byte of ASCII.
+-- What stands between quotes is UTF-8 exactly where what it says is: an escape is of ASCII and represents a byte of ASCII.
 use Rattle.std.proofs.Common.{◌≡◌, inl, inr, ℕ, zero, suc, ◌+◌, ◌-◌, ◌<◌, Bool, true, false, cond, List, [], ◌∷◌, ◌++◌, length, take, drop, Ok, refl, sym, ap, subst, ◌∙◌, append_assoc, arith}
 use Rattle.std.specs.Prelude.{Some, None, ◌==◌, ◌&&◌}
 use Rattle.std.specs.Str.{IsUtf8, is_utf8}
@@ -59,7 +59,7 @@ nothing_is_text = is_utf8-from_IsUtf8 [] IsUtf8-nil
 
 -- ---- escapes
 
--- The letter of an escape is of ASCII, and so is the byte that it stands for.
+-- The letter of an escape is of ASCII, and so is the byte that it represents.
 low_by : (quote backslash feed tab return : Bool) (e b : ℕ) → (e == mark.QUOTE) ≡ quote → (e == mark.BACKSLASH) ≡ backslash → (e == mark.FEED_LETTER) ≡ feed → (e == mark.TAB_LETTER) ≡ tab
     → (e == mark.RETURN_LETTER) ≡ return
     → cond quote (Some mark.QUOTE) (cond backslash (Some mark.BACKSLASH) (cond feed (Some mark.LINE_FEED) (cond tab (Some mark.TAB) (cond return (Some mark.CARRIAGE_RETURN) None)))) ≡ Some b

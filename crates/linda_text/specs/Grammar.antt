@@ -1,4 +1,4 @@
--- The grammar: which texts stand for an atom, a pattern, a tuple, a template. Texts are lists of
+-- The grammar: which texts represent an atom, a pattern, a tuple, a template. Texts are lists of
 -- bytes.
 use Rattle.std.specs.Prelude.{◌≡◌, ℕ, true, false, List, [], ◌∷◌, ◌++◌, ◌⊎◌, Some}
 use Rattle.std.specs.Prelude.{drop}
@@ -25,7 +25,7 @@ AreBlanks bytes = AllByRecursion (λ b. is_blank b ≡ true) bytes
 abbrev pub IsPlain : ℕ → List ℕ → Type 0
 IsPlain b form = (is_special b ≡ false) × (form ≡ b ∷ [])
 
--- A byte that stands as an escape: a backslash, and the letter that stands for the byte.
+-- A byte that stands as an escape: a backslash, and the letter that represents the byte.
 abbrev pub IsEscape : ℕ → List ℕ → Type 0
 IsEscape b form = (e : ℕ) × (escaped e ≡ Some b) × (form ≡ mark.BACKSLASH ∷ e ∷ [])
 
@@ -79,7 +79,7 @@ IsRowText IsText tag fields text =
 abbrev pub IsTupleText : Tuple → List ℕ → Type 0
 IsTupleText tuple text = IsRowText IsAtomText tuple.tag tuple.fields text
 
--- A text of the template, likewise.
+-- A text of the template, from its parenthesis to its parenthesis.
 abbrev pub IsTemplateText : Template → List ℕ → Type 0
 IsTemplateText template text = IsRowText IsPatternText template.tag template.fields text
 

@@ -12,7 +12,7 @@ is_blank b = b == mark.SPACE || b == mark.TAB
 abbrev pub is_special : ℕ → Bool
 is_special b = b == mark.QUOTE || b == mark.BACKSLASH || b == mark.LINE_FEED || b == mark.CARRIAGE_RETURN
 
--- What a letter after a backslash stands for: \" \\ \n \t \r.
+-- What a letter after a backslash represents: \" \\ \n \t \r.
 abbrev pub escaped : ℕ → Option ℕ
 escaped e =
     if e == mark.QUOTE then Some mark.QUOTE

@@ -39,7 +39,7 @@ word_at (w ∷ word) [] = Err (SyntaxAt 0)
 word_at (w ∷ word) (b ∷ rest) =
     if b == w then word_at word rest else Err (SyntaxAt (suc (length rest)))
 
--- The word, and what it stands for.
+-- The word, and what it represents.
 abbrev pub named : {A : Type 0} → A → List ℕ → Reader A
 named a word bytes = word_at word bytes >>= λ rest. Ok (a, rest)
 
@@ -94,7 +94,7 @@ integer_at (b ∷ rest) =
 
 -- ---- strings
 
--- The byte that a letter after a backslash stands for, if it is one.
+-- The byte that a letter after a backslash represents, if it is one.
 abbrev pub chosen : Option ℕ → List ℕ → List ℕ → Read (Option ℕ)
 chosen None here rest = wrong here
 chosen (Some b) here rest = Ok (Some b, rest)
@@ -115,7 +115,7 @@ said_at (b ∷ rest) =
 abbrev pub with_byte : ℕ → Read (List ℕ) → Read (List ℕ)
 with_byte b read = read >>= λ x. Ok (b ∷ x.0, x.1)
 
--- The byte that an escape stands for, if it is one, and the bytes of the string after it.
+-- The byte that an escape represents, if it is one, and the bytes of the string after it.
 abbrev pub with_escape : Option ℕ → Read (List ℕ) → Read (List ℕ) → Read (List ℕ)
 with_escape None fault read = fault
 with_escape (Some b) fault read = with_byte b read

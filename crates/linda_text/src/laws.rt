@@ -16,7 +16,7 @@ pub fn what_is_written_stands_for_its_value()
     ensures templates { (template : Template) → IsAlone IsTemplateText template (written_template template) }
 {}
 
-/// A text stands for one tuple and for one template, if any.
+/// A text represents one tuple and one template, if any.
 pub fn a_text_stands_for_one_value()
     ensures tuples { (one other : Tuple) (text : List ℕ)
         → IsTupleAlone text one → IsTupleAlone text other → one ≡ other }

@@ -63,5 +63,5 @@ pub const TEXT_LETTER: u8 = b's';
 /// The letter of the formal of any truth value.
 pub const BOOL_LETTER: u8 = b'b';
 
-/// What stands for anything.
+/// The wildcard, which any value fits.
 pub const WILDCARD: u8 = b'_';

@@ -1,8 +1,8 @@
 //! Strings between quotes: each character stands as itself or as an escape.
 //!
 //! A string is judged first, which takes no memory, and then read into room for as many bytes as it
-//! says. Whether it says UTF-8 is judged by its bytes as they stand: an escape is of ASCII and stands
-//! for a byte of ASCII, and each other byte stands for itself.
+//! says. Whether it says UTF-8 is judged by its bytes as they stand: an escape is of ASCII and
+//! represents a byte of ASCII, and each other byte represents itself.
 
 ghost use Rattle.std.specs.Prelude.{◌≡◌, ◌<◌, false, length, IfOk, IsOk, IsErrOf};
 ghost use Rattle.linda_text.specs.Reading.{content_at, short_at, said_at, escape_at, string_at, made};

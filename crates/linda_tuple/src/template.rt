@@ -13,10 +13,16 @@ use std::alloc::{AllocError, Global};
 use std::marker::Model;
 
 /// A tag and the patterns that follow it: at most 32, with texts of at most 4,095 bytes.
-#[derive(Debug, Drop)]
+#[derive(Debug)]
 pub struct Template {
     tag: Atom,
     fields: Vec<Pattern>,
+}
+
+impl Drop for Template {
+    fn drop(self) {
+        let Template { tag: _, fields: _ } = self;
+    }
 }
 
 impl Model for Template {

@@ -15,9 +15,15 @@ use std::marker::Model;
 
 /// A text of any length, always UTF-8. It is made from a `String` and gives it back without taking
 /// memory.
-#[derive(Debug, Drop)]
+#[derive(Debug)]
 pub struct Text {
     string: String,
+}
+
+impl Drop for Text {
+    fn drop(self) {
+        let Text { string: _ } = self;
+    }
 }
 
 impl Model for Text {

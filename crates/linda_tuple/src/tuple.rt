@@ -11,10 +11,16 @@ use std::alloc::{AllocError, Global};
 use std::marker::Model;
 
 /// A tag and the fields that follow it: at most 32, with texts of at most 4,095 bytes.
-#[derive(Debug, Drop)]
+#[derive(Debug)]
 pub struct Tuple {
     tag: Atom,
     fields: Vec<Atom>,
+}
+
+impl Drop for Tuple {
+    fn drop(self) {
+        let Tuple { tag: _, fields: _ } = self;
+    }
 }
 
 impl Model for Tuple {

@@ -6,7 +6,7 @@ use Rattle.std.proofs.lemmas.List.{take_at, drop_at, take-append-drop, take-appe
 use Rattle.std.proofs.lemmas.List.Elements.{recursion_from_All}
 use Rattle.linda_codec.specs.Formats.{Format}
 use Rattle.linda_codec.specs.Lawful.{IsBytes}
-use Rattle.linda_codec.proofs.Takes.{IsBytes-drop, IsBytes-take}
+use Rattle.linda_codec.proofs.TakeLaws.{IsBytes-drop, IsBytes-take}
 use Rattle.linda_wire.specs.declared.fault.FrameFault.{FrameFault}
 use Rattle.linda_wire.specs.declared.fault.FrameFault.TheVariants.{Memory, EmptyFrame, FrameTooLong, Malformed}
 use Rattle.linda_wire.specs.Frames.{length_field, told_length, frame}

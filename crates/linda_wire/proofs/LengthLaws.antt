@@ -6,7 +6,7 @@ use Rattle.std.proofs.lemmas.Bool.Decides.{nat_tests}
 use Rattle.std.proofs.lemmas.List.{take-append-le, length-append, length-take}
 use Rattle.std.proofs.lemmas.Nat.{be_bytes_4, from_be_bytes-to_be_bytes_4}
 use Rattle.linda_codec.specs.Lawful.{IsBytes}
-use Rattle.linda_codec.proofs.Takes.{IsBytes-take}
+use Rattle.linda_codec.proofs.TakeLaws.{IsBytes-take}
 use Rattle.linda_wire.specs.declared.fault.FrameFault.{FrameFault}
 use Rattle.linda_wire.specs.declared.fault.FrameFault.TheVariants.{Memory, EmptyFrame, FrameTooLong, Malformed}
 use Rattle.linda_wire.specs.declared.limits.TheConstants.{LENGTH_BYTES, MAX_PAYLOAD}

@@ -19,10 +19,16 @@ use std::marker::{Model, PhantomData};
 /// stream was cut does not matter.
 ///
 /// Feeding and reading cost time that is linear in the bytes fed.
-#[derive(Debug, Drop)]
+#[derive(Debug)]
 pub struct FrameFeed<T: Framed> {
     unread: Unread,
     of: PhantomData<T>,
+}
+
+impl<T: Framed> Drop for FrameFeed<T> {
+    fn drop(self) {
+        let FrameFeed { unread: _, of: _ } = self;
+    }
 }
 
 /// The bytes of a client's messages that are not read yet.

@@ -5,8 +5,7 @@ use Rattle.std.specs.Option.{option_map}
 use Rattle.std.specs.BTreeMap as tree
 use Rattle.std.specs.FinMap.{get, insert, from_entries}
 use Rattle.std.proofs.lemmas.Bool.Decides.{eqb_tells}
-use Rattle.linda_bag.proofs.Maps.{get_same, get_other, same_map_by_key, one_set}
-use Rattle.linda_bag.proofs.Viewed.{viewed}
+use Rattle.linda_maps.proofs.MapLaws.{get_same, get_other, same_map_by_key, one_set, viewed}
 use Rattle.linda_client.specs.React.{Call, react}
 use Rattle.linda_run.specs.declared.packet.Packet.{Packet}
 use Rattle.linda_run.specs.declared.seen.Seen.{Seen}

@@ -3,7 +3,7 @@ use Rattle.std.proofs.Common.{◌≡◌, ℕ, ◌+◌, ◌-◌, ◌<◌, List, �
 use Rattle.std.proofs.lemmas.Bool.{cases_eq}
 use Rattle.std.proofs.lemmas.List.{take-append-le, take_all}
 use Rattle.std.specs.FinMap.{empty, get, insert}
-use Rattle.linda_bag.proofs.Maps.{get_same, get_other, get_empty}
+use Rattle.linda_maps.proofs.MapLaws.{get_same, get_other, get_empty}
 use Rattle.linda_state.specs.declared.deed.Deed.{Deed}
 use Rattle.linda_state.specs.Deed.{client_of, number_of}
 use Rattle.linda_promise.specs.Deeds.{last_in}
@@ -35,7 +35,7 @@ one_noted ds k lasts d was low is = record { within = omega (arith, low); each =
           ∙ sym (last_of_other ds (k + 1) d c (omega arith) (omega (arith, low)) here other))
     ]
 
--- More deeds behind them are not noted yet.
+-- More deeds after them are not noted yet.
 pub still_noted : (ds more : List Deed) (k : ℕ) (lasts : Lasts) → AreNoted ds k lasts → AreNoted (ds ++ more) k lasts
 still_noted ds more k lasts was =
     let within = was.within in

@@ -65,7 +65,7 @@ module _ (task : Task) (s : ℕ) (servers : List Server) (members : Members) (ps
 pub server_there : (w : World) (s : ℕ) → s < length w.servers → refusal_at w s ≡ None
 server_there w s within = cond-true (nat_lt s (length w.servers)) None (Some faults.NoServer) (lt-ltb s (length w.servers) within)
 
--- the same, where the servers are those of a vector
+-- a server that is there is asked, where the servers are those of a vector
 pub there_at : (s : ℕ) (servers : List Server) (members : Members) (ps : List Packet) (w : World) → (let scene : World = record { servers = servers; members = members; packets = ps } in scene) ≡ w → s < length servers → refusal_at w s ≡ None
 there_at s servers members ps w w_is within = subst (λ (x : World). refusal_at x s ≡ None) w_is (server_there (record { servers = servers; members = members; packets = ps }) s within)
 
@@ -80,7 +80,7 @@ pub stop_allowed : (s : ℕ) (ks : List ℕ) (servers : List Server) (members : 
     → s < length servers → list_all (is_message_at ps s) ks ≡ true → length ks ≤ MAX_BATCH → refusal_of_stop w s ks ≡ None
 stop_allowed s ks servers members ps w w_is within are few = subst (λ (x : World). refusal_of_stop x s ks ≡ None) w_is (stop_lawful (record { servers = servers; members = members; packets = ps }) s ks within are few)
 
--- the same, where the servers are those of a vector, and the answer has another name
+-- a server was asked, where the servers are those of a vector, and the answer has another name
 pub asked_at : {E : Type 0} (task : Task) (s : ℕ) (servers : List Server) (members : Members) (ps later : List Packet) (server now : Server) → s < length servers → server ≡ get_or servers s server
     → (w : World) → (let scene : World = record { servers = servers; members = members; packets = ps } in scene) ≡ w → (told : Result Told E) (result : Result Seen WorldFault) → result ≡ seen_of told → ServesOrNot task s server ps told now later
     → AsksOrNot (HasServed task s []) (refusal_at w s) w result (record { servers = set servers s now; members = members; packets = later })
@@ -106,7 +106,7 @@ pub silent_at : {E : Type 0} (task : Task) (s : ℕ) (server : Server) (ps : Lis
 silent_at task s server ps now (Ok told) serves = silent_serves task s server ps now told serves
 silent_at task s server ps now (Err short) same = (same.0, refl)
 
--- What was told is answered so: a step, or want of memory.
+-- What was returned is answered so: a step, or memory that ran out.
 pub done_at : (Comes : World → Told → World → Type 0) (refused : Option WorldFault) (w new : World) (told : Told) (result : Result Seen WorldFault) → result ≡ answer_of told → refused ≡ None → Comes w told new
     → AsksOrNot Comes refused w result new
 done_at Comes refused w new (Ok seen) result result_is allowed comes = subst (λ r. AsksOrNot Comes refused w r new) (sym result_is) (allowed, comes)

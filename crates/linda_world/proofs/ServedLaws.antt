@@ -77,7 +77,7 @@ module _ (task : Task) (s : ℕ) (was : Server) (ds : List Deed) (old new : Node
     told_is = refl;
   })
 
--- A node took a message: the deed that was told is the one that it did.
+-- A node took a message: the deed that was reported is the one that it did.
 pub took : Learned → (s c : ℕ) (m : Message) (was : Server) (ds : List Deed) (old new : Node) → (let server : Server = record { deeds = ds; node = old } in server) ≡ was → (ps later : List Packet)
     → (sends : List (ℕ × Reply)) (last : ℕ) (deed : Option Deed) (now : List Deed) (seen : Seen) → seen ≡ seen_served → IsSound was.deeds was.node → Handles old c m (Sent sends) new
     → last ≡ last_number ds c → deed ≡ reported_deed c m last sends → now ≡ ds ++ option_to_list deed → later ≡ ps ++ map (sent_from s) sends

@@ -35,7 +35,7 @@ TriesOrNot Comes refused early old result new =
     Tells (λ told. (refused ≡ None) × Comes old told new) (λ fault. (refused ≡ Some fault) × (new ≡ old))
     ((early ≡ None) × IsShownAs old new) result
 
--- The same, where memory runs out only if it is not refused.
+-- As `TriesOrNot`, where memory runs out only if it is not refused.
 abbrev pub AsksOrNot : (World → Told → World → Type 0) → Option WorldFault → World
     → Result Seen WorldFault → World → Type 0
 AsksOrNot Comes refused old result new = TriesOrNot Comes refused refused old result new

@@ -20,11 +20,16 @@ use std::marker::Model;
 
 /// Servers, numbered from 0, and clients with a network between them. Packets are numbered from 0, in the
 /// order of sending, and are never removed.
-#[derive(Drop)]
 pub struct World<N: Node> {
     scene: Scene<N>,
     // Whether memory ran out; then the world does nothing more.
     spent: bool,
+}
+
+impl<N: Node> Drop for World<N> {
+    fn drop(self) {
+        let World { scene: _, spent: _ } = self;
+    }
 }
 
 impl<N: Node> Model for World<N> {

@@ -4,8 +4,8 @@ ghost use Rattle.std.specs.Prelude.{◌≡◌, true, map};
 ghost use Rattle.std.specs.String.{string_bytes};
 ghost use Rattle.linda_command.specs.Commands.{AsksForVersion};
 
-/// What is told of the program: its version, the forms of banks and frames that it reads and writes, and the kit that
-/// it is proved with.
+/// What is printed of the program: its version, the forms of banks and frames that it reads and writes, and the kit
+/// that it is proved with.
 pub const VERSION_LINES: &str =
     "linda 0.7.0\nbank LND2\nframe 2\nkit rattle-kit-13b logic dac8208d650f15bf\n";
 

@@ -31,7 +31,7 @@ impl<D: Disk, L: Ledger> Held<D, L> {
             → ∥ IsReplayed self.now.base.value self.now.receipts.items self.now.server.store.state ∥₁ }
         ensures orderly { IsOrderly self.now.server.store.state self.now.server.store.soft }
         ensures stands { result ≡ false → StandNow self.now.server.disks self.now.server.store.state }
-        // Down: all that crashes leave stands for the receipts' deeds, and maybe others after them.
+        // Down: all that crashes leave represents the state after the receipts' deeds, and maybe others after them.
         ensures down { result ≡ true → BothHonest self.now.server.disks
             → PairsNow (both_of self.now.server.disks)
             (λ left right. ∥ StandsBehind self.now.base.value self.now.receipts.items left right ∥₁) }

@@ -27,7 +27,7 @@ fn tell<A: Drop, L: Ledger>(
 }
 
 /// Tells each what it led to, and counts.
-#[tactic(auto, using(crate::proofs::Told::receipts_snoc, crate::proofs::Told::map_back, crate::proofs::Told::behind))]
+#[tactic(auto, using(crate::proofs::ToldLaws::receipts_snoc, crate::proofs::ToldLaws::map_back, crate::proofs::ToldLaws::behind))]
 pub(super) fn settle_all<A: Drop, L: Ledger>(
     till: &mut Till<L>,
     count: &mut u64,
@@ -59,7 +59,7 @@ pub(super) fn settle_all<A: Drop, L: Ledger>(
 }
 
 /// Tells each that nothing was done.
-#[tactic(auto, using(crate::proofs::Told::map_back, crate::proofs::Told::behind))]
+#[tactic(auto, using(crate::proofs::ToldLaws::map_back, crate::proofs::ToldLaws::behind))]
 pub(super) fn fail_all<A: Drop, L: Ledger>(
     till: &mut Till<L>,
     asked: &mut Vec<Asked<A, L>>,

@@ -4,10 +4,10 @@ use crate::number::place;
 use linda_script::{WordsFault, split_word};
 use std::alloc::{AllocError, Global};
 
-/// How long the string is that a tilde stands for.
+/// How long the string is that a tilde represents.
 const LONG: usize = 255;
 
-/// Appends a line of a script. A tilde in it stands for a string of 255 letters, in its quotation marks.
+/// Appends a line of a script. A tilde in it represents a string of 255 letters, in its quotation marks.
 pub fn push_line(script: &mut String, words: &str) -> Result<(), AllocError> {
     for (place, piece) in words.split('~').enumerate() {
         if place > 0 {
@@ -35,7 +35,7 @@ pub fn push_skipped(script: &mut String, words: &str) -> Result<(), WordsFault> 
     Ok(())
 }
 
-/// Tells of many lines how many they are, and the last one.
+/// Writes of many lines how many they are, and the last one.
 pub fn tell_last(printed: &str, came: &mut String) -> Result<(), AllocError> {
     let Some(lines) = printed.strip_suffix("\n") else {
         return writeln!(came, "> ? no line feed behind {printed}");

@@ -136,7 +136,7 @@ fn durable_nodes(
     nodes_of(alloc, first, None)
 }
 
-/// The first server, and behind it the other one if there is one.
+/// The first server, and after it the other one if there is one.
 fn nodes_of<N: Node>(alloc: Global, first: N, other: Option<N>) -> Result<Vec<N>, AllocError>
     requires first { IsUnused (N.shown first) }
     requires other { IfSome other (λ n. IsUnused (N.shown n)) }

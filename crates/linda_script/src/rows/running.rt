@@ -32,7 +32,7 @@ pub fn run_rows<R: Input + Print + Eprint + AllocGlobal, P: Player>(
     }
 }
 
-// Whether what came is the text that was read; it is written, and what is told of it.
+// Whether what came is the text that was read; it is written, and what is reported of it.
 fn rows_come_so<R: Input + Print + Eprint + AllocGlobal, P: Player>(
     rt: &R,
     player: &mut P,

@@ -1,8 +1,8 @@
-//! What is told of words, with those one after another of which the same is told as one.
+//! What is reported of words, one after another; those of which the same is reported are one run.
 
 use std::alloc::{AllocError, Global};
 
-/// Words one after another, of which the same is told.
+/// Words one after another, of which the same is reported.
 #[derive(Drop)]
 struct Run {
     first: String,
@@ -10,7 +10,7 @@ struct Run {
     told: String,
 }
 
-/// What is told of words.
+/// What is reported of words.
 #[derive(Drop)]
 pub(super) struct Runs {
     runs: Vec<Run>,
@@ -24,7 +24,7 @@ impl Runs {
         }
     }
 
-    /// Takes the next word, and what is told of it.
+    /// Takes the next word, and what is reported of it.
     pub(super) fn take(&mut self, alloc: Global, word: &str, told: &str) -> Result<(), AllocError> {
         let word = String::from_str(alloc, word)?;
         if let Some(run) = self.runs.last_mut() {
@@ -51,7 +51,7 @@ impl Runs {
         Ok(())
     }
 
-    /// All runs in one, as `kept to lost 1, filled 00 2`; of the empty word only what is told of it.
+    /// All runs in one, as `kept to lost 1, filled 00 2`; of the empty word only what came of it.
     pub(super) fn joined(&self, alloc: Global) -> Result<String, AllocError> {
         let mut text = String::new(alloc);
         for run in &self.runs {

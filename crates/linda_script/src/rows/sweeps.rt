@@ -7,10 +7,11 @@ use std::alloc::{AllocError, Global};
 
 /// A player whose rows may sweep: their lines that begin with `| ` are kept, and `sweep 0-3 by kept, lost` plays all of
 /// them for each word of the first list and each of the second, from the beginning, with these words in the places of
-/// `$1` and `$2`. `A-B` stands for all numbers from A to B, and without ` by ` there is one list.
+/// `$1` and `$2`. `A-B` means all numbers from A to B, and without ` by ` there is one list.
 ///
-/// Told is for each word of the first list which outcome each of the second had, by numbers; words one after another
-/// of which the same is told are told as one, `0 to 3`. After that stands what came of each outcome, line by line.
+/// For each word of the first list a line says which outcome each of the second had, by numbers; words one after
+/// another of which the same is said share a line, `0 to 3`. After that stands what came of each outcome, line by
+/// line.
 #[derive(Drop)]
 pub struct Sweeps<P: Drop> {
     player: P,
@@ -28,7 +29,7 @@ impl<P: Player + Drop> Sweeps<P> {
         }
     }
 
-    // Plays what is kept in each case, and tells what came.
+    // Plays what is kept in each case, and writes what came.
     fn sweep(&mut self, alloc: Global, cases: &str, came: &mut String) -> Result<(), WordsFault> {
         let (firsts, seconds) = match cases.split_once(" by ") {
             Some(lists) => lists,
@@ -46,7 +47,7 @@ impl<P: Player + Drop> Sweeps<P> {
         tell_outcomes(came, &outcomes)
     }
 
-    // Plays what is kept with this word and each of the second list, and tells which outcome each has.
+    // Plays what is kept with this word and each of the second list, and gives which outcome each has.
     fn sweep_seconds(
         &mut self,
         alloc: Global,

@@ -1,6 +1,6 @@
 //! The bytes of the two banks of a folder, of one moment, though a server may be at work on them.
 //!
-//! A file is read from the front to its end: a record is there before its gate opens, and stands behind it. Where both
+//! A file is read from the front to its end: a record is there before its gate opens, and stands after it. Where both
 //! files begin afterwards as they did, no bank was begun anew meanwhile.
 
 use crate::serving::{LEFT, RIGHT, ServingFault};
@@ -12,7 +12,7 @@ use std::io::{ErrorKind, Read};
 // How often they are read where a bank is begun anew meanwhile.
 const READINGS: u32 = 100;
 
-// The bytes of a bank that tell which one it is: its gate, four letters and the generation.
+// The bytes of a bank that say which one it is: its gate, four letters and the generation.
 const FRONT: usize = 13;
 
 /// The bytes of both banks; none of a file that is missing.
@@ -97,7 +97,7 @@ fn open_bank<F: Files<File = File>>(files: &F, path: &str) -> Result<Option<File
     }
 }
 
-// What is told where a file was not read.
+// What is returned where a file was not read.
 fn fault_of(error: &io::Error) -> ServingFault {
     if error.kind() == ErrorKind::OutOfMemory {
         return ServingFault::Memory;

@@ -1,4 +1,4 @@
-//! Which bank of a folder is in use, told from what both files begin with.
+//! Which bank of a folder is in use, by what both files begin with.
 
 use super::store::{LEFT, RIGHT};
 use linda_journal::{Heading, MIN_BYTES, read_heading};

@@ -21,7 +21,7 @@ pub enum Cause {
     Memory,
 }
 
-/// A log, and what its last line of a minute told of what was done since.
+/// A log, and what was done when its last line of a minute was written.
 #[derive(Drop)]
 pub struct Log<'a, W: Write> {
     sink: &'a mut W,

@@ -9,7 +9,7 @@ use std::alloc::{AllocError, Global};
 
 /// What a line of a script asks for. Servers are named by any number: whether there is such a server is judged
 /// later.
-#[derive(Debug, Drop)]
+#[derive(Drop)]
 pub(crate) enum Command {
     /// A client puts a tuple.
     Out { client: u32, tuple: Tuple },

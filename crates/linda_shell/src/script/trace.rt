@@ -1,7 +1,7 @@
 //! The trace of a script, a line an event, as docs/TRACE.md has it.
 //!
-//! What was told before is kept: how many packets, and of each server how many deeds, and what it holds. So after an
-//! event only what is new is told, and only the server that the event reached is looked at.
+//! What was written before is kept: how many packets, and of each server how many deeds, and what it holds. So after
+//! an event only what is new is written, and only the server that the event reached is looked at.
 
 mod held;
 mod words;
@@ -14,16 +14,16 @@ use linda_world::{Body, Packet, World};
 use std::alloc::{AllocError, Global};
 use words::{write_deed, write_message, write_reply};
 
-/// The lines that were not written yet, and what was told so far.
+/// The lines that did not go out yet, and how far they and those before them went.
 #[derive(Drop)]
 pub(crate) struct Trace {
     lines: String,
-    /// How many packets were told.
+    /// How many packets were written.
     packets: usize,
     servers: Vec<Told>,
 }
 
-// How many deeds of a server were told, and which holds.
+// How many deeds of a server were written, and which holds.
 #[derive(Drop)]
 struct Told {
     deeds: usize,
@@ -110,7 +110,7 @@ impl Trace {
         writeln!(self.lines, "open {server}")
     }
 
-    /// The packets that were sent since they were last told.
+    /// The packets that were sent since they were last written.
     pub(crate) fn send(&mut self, alloc: Global, packets: &[Packet]) -> Result<(), AllocError> {
         let Some(new) = packets.get(self.packets..) else {
             return Ok(());

@@ -119,7 +119,7 @@ impl Soft {
         ensures right { AreRight (B.contents bag.now) (is_held self.now.holds) next starts.new }
     {
         if remove {
-            starts.least_match(alloc, bag, template, self.holds.ids(), next)
+            starts.least_match(alloc, bag, template, &self.holds, next)
         } else {
             bag.least_match(template, &BTreeSet::new(alloc))
         }

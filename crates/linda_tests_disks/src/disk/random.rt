@@ -61,7 +61,7 @@ struct Plan {
 }
 
 impl Plan {
-    /// A plan for some ten calls, told to the disk.
+    /// A plan for some ten calls, by which the disk stops and fails.
     fn new(random: &mut Random, disk: &mut MemDisk) -> Plan {
         let plan = Plan {
             stops_in: random.below(16),

@@ -45,7 +45,7 @@ fn opened(rt: &impl Abort, alloc: Global, stand: &mut Stand) -> Result<Told, Fai
     Ok(told)
 }
 
-/// A step, what it tells, and what the server keeps after it.
+/// A step, what comes of it, and what the server keeps after it.
 type Row = (Do, Told, Told);
 
 const ROWS: &[Row] = &[
@@ -71,7 +71,7 @@ const ROWS: &[Row] = &[
 const AWAY: Told = Told::Standing(1, true);
 
 /// Does a step. Where there is no memory for it, the server is down, and opened again it keeps what it kept before, or
-/// what it keeps after the step; done again, the step tells what it does else.
+/// what it keeps after the step; done again, the step gives what it does else.
 fn borne(
     rt: &impl Abort,
     alloc: Global,

@@ -41,7 +41,7 @@ pub(super) enum Do {
     StopSnapshot(u64, Torn),
 }
 
-/// What a step tells.
+/// What comes of a step.
 #[derive(Clone, Copy, Debug, PartialEq, Eq)]
 pub(super) enum Told {
     /// It was done.
@@ -108,7 +108,7 @@ fn of_stop(told: Result<Vec<Deed>, NodeFault>) -> Told {
 
 fn look(server: &Durable<MemDisk>) -> Told {
     let state = server.state();
-    let held = server.holds().ids().len();
+    let held = server.holds().len();
     Told::State(state.next, state.bag.len(), state.book.len(), held)
 }
 

@@ -1,6 +1,6 @@
 use Rattle.std.proofs.Common.{sym}
 use Rattle.linda_bag.specs.Candidates.{first_value}
-use Rattle.linda_bag.proofs.Placing.{bare_first}
+use Rattle.linda_bag.proofs.PlaceLaws.{bare_first}
 use Rattle.linda_bag.proofs.index.candidates.Goals as goal
 
 pub returns-in_err-group : goal.returns-in_err-group

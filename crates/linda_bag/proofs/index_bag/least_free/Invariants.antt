@@ -1,10 +1,10 @@
 use Rattle.std.proofs.Common.{◌≤◌, nat_cmp, ◌≡◌, true}
 use Rattle.std.specs.BTreeSet.{contains}
 use Rattle.linda_bag.specs.FreeMatch.{IsFreeMatch}
-use Rattle.linda_bag.proofs.Ahead.{IsAhead}
+use Rattle.linda_bag.proofs.AheadLaws.{IsAhead}
 use Rattle.linda_bag.proofs.index_bag.least_free.Given as goal
 
 -- The ids that are left have each free match among the ids from there on.
 abbrev pub invariant-loop-id : goal.invariant-loop-id
-invariant-loop-id l =
-    IsAhead (λ k. (l.from ≤ k) × (contains nat_cmp l.ids k ≡ true) × IsFreeMatch l.tuples l.template (contains nat_cmp l.passed) k) l.id-iterator
+invariant-loop-id g l =
+    IsAhead (λ k. (l.from ≤ k) × (contains nat_cmp l.ids k ≡ true) × IsFreeMatch l.tuples l.template (g.P.IdSet.has l.passed) k) l.id-iterator

@@ -2,7 +2,7 @@ use Rattle.std.proofs.Common.{◌≡◌, Err, sym, ap, refl, ◌∙◌, arith, l
 use Rattle.linda_codec.specs.declared.fault.ReadFault.TheVariants.{Memory}
 use Rattle.linda_codec.specs.Places.{placed}
 use Rattle.linda_codec.proofs.PlaceLaws.{is_found, is_only, no_fault}
-use Rattle.linda_codec.proofs.Bounds.{is_place}
+use Rattle.linda_codec.proofs.BoundLaws.{is_place}
 use Rattle.linda_codec.proofs.offset.get.Goals as goal
 
 pub overflow_sub-result : goal.overflow_sub-result
@@ -30,7 +30,7 @@ returns-in-Err g c =
           absurd (no_fault c.requires c.args.bytes.now c.tail.result.now c.args.at _ c.in-Err.fault c.placed.result c.tail.ensures c.in-Err.ensures.value c.placed.ensures.value a rest fits spelled not_memory);
       exact = λ not_memory.
           rw (sym c.tail.ensures, c.in-Err.ensures.value (λ m. not_memory (c.placed.ensures.value ∙ ap (placed (length c.args.bytes.now)) m)), c.placed.ensures.value) refl;
-      place = is_place (g.V.Value.format c.args.form).read c.requires.bounded c.args.bytes.now c.tail.result.now c.args.at c.in-Err.fault c.placed.result c.tail.ensures c.in-Err.ensures.value c.placed.ensures.value;
+      place = is_place (g.V.Spelled.format c.args.form).read c.requires.bounded c.args.bytes.now c.tail.result.now c.args.at c.in-Err.fault c.placed.result c.tail.ensures c.in-Err.ensures.value c.placed.ensures.value;
       memory = λ e.
           let told : c.placed.result ≡ Memory = cc in
           let fault : c.in-Err.fault ≡ Memory = c.placed.ensures.memory told in

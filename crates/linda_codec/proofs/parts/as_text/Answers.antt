@@ -1,5 +1,5 @@
 use Rattle.std.proofs.lemmas.Str.{is_utf8-from_IsUtf8}
-use Rattle.linda_codec.proofs.Takes.{is_utf8-not}
+use Rattle.linda_codec.proofs.TakeLaws.{is_utf8-not}
 use Rattle.linda_codec.proofs.parts.as_text.Goals as goal
 
 pub returns-in-Ok : goal.returns-in-Ok

@@ -1,5 +1,5 @@
 use Rattle.std.proofs.Common.{refl}
-use Rattle.linda_command.proofs.Tasks.{call_asked, inspect_asked, never_other, serve_asked}
+use Rattle.linda_command.proofs.TaskLaws.{call_asked, inspect_asked, never_other, serve_asked}
 use Rattle.linda_command.proofs.command.other_of.Goals as goal
 
 pub returns-in-Some-clause-exact : goal.returns-in-Some-clause-exact

@@ -4,8 +4,8 @@ use Rattle.clap.specs.Words.{App, HasKind, fault_of, is_simple, is_simple_and_fr
 use Rattle.std.specs.Prelude.{Option, IfSome}
 use Rattle.linda_command.specs.declared.command.Task.{Task}
 use Rattle.linda_command.specs.Commands.{AsksFor, linda}
-use Rattle.linda_command.proofs.Parsing.{is_free, is_simple_command, passed_on}
-use Rattle.linda_command.proofs.Tasks.{has_servers, matched_on, memory_alone, refused_kinds, refused_some, task_is_free}
+use Rattle.linda_command.proofs.ParsingLaws.{is_free, is_simple_command, passed_on}
+use Rattle.linda_command.proofs.TaskLaws.{has_servers, matched_on, memory_alone, refused_kinds, refused_some, task_is_free}
 use Rattle.linda_command.proofs.command.read_task.Goals as goal
 
 pub returns-in_err-matches-clause-taken : goal.returns-in_err-matches-clause-taken

@@ -1,6 +1,6 @@
 use Rattle.std.proofs.Common.{◌≡◌, ◌∙◌, ap, refl, sym, true, false, Some}
 use Rattle.clap.specs.Words.{found_of}
-use Rattle.linda_command.proofs.Tasks.{exactly_pipe, exactly_run, pipe_asked, run_asked}
+use Rattle.linda_command.proofs.TaskLaws.{exactly_pipe, exactly_run, pipe_asked, run_asked}
 use Rattle.linda_command.proofs.command.task_of.Goals as goal
 
 pub returns-then-is_some-clause-exact : goal.returns-then-is_some-clause-exact

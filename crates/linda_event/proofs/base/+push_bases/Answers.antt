@@ -1,7 +1,7 @@
 use Rattle.std.proofs.Common.{rules}
 use Rattle.linda_event.specs.declared.event.Event.{the_lemmas}
-use Rattle.linda_event.proofs.Pushing.{part_more, part_none}
-use Rattle.linda_event.proofs.Views.{pushed_base, bases_Choose, bases_Wrap, bases_Nack, bases_more, bases_end}
+use Rattle.linda_event.proofs.PushLaws.{part_more, part_none}
+use Rattle.linda_event.proofs.ViewLaws.{pushed_base, bases_Choose, bases_Wrap, bases_Nack, bases_more, bases_end}
 use Rattle.linda_event.proofs.base.+push_bases.Goals as goal
 
 pub loop-member-preserved : goal.loop-member-preserved

@@ -1,7 +1,7 @@
 use Rattle.std.proofs.Common.{◌≡◌, ◌++◌, map}
 use Rattle.linda_event.specs.Bases.{kind_of}
-use Rattle.linda_event.proofs.Nodes.{bases_in}
-use Rattle.linda_event.proofs.Members.{rest_nodes}
+use Rattle.linda_event.proofs.NodeLaws.{bases_in}
+use Rattle.linda_event.proofs.MemberLaws.{rest_nodes}
 use Rattle.linda_event.proofs.base.+push_bases.Given as goal
 
 abbrev pub invariant-loop-member : goal.invariant-loop-member

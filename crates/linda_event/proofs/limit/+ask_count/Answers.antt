@@ -1,8 +1,8 @@
 use Rattle.std.proofs.Common.{ap}
 use Rattle.std.specs.Prelude.{count_by}
 use Rattle.linda_event.specs.Limits.{is_ask}
-use Rattle.linda_event.proofs.Seeking.{sum_more, sum_end, sum_fits}
-use Rattle.linda_event.proofs.Views.{bases_Choose, bases_Wrap, bases_Nack, asks_more, bases_end}
+use Rattle.linda_event.proofs.SeekLaws.{sum_more, sum_end, sum_fits}
+use Rattle.linda_event.proofs.ViewLaws.{bases_Choose, bases_Wrap, bases_Nack, asks_more, bases_end}
 use Rattle.linda_event.proofs.limit.+ask_count.Goals as goal
 
 pub loop-member-preserved : goal.loop-member-preserved

@@ -1,8 +1,8 @@
 use Rattle.std.proofs.Common.{◌≡◌, ◌+◌, ◌≤◌, min}
 use Rattle.std.specs.Prelude.{count_by}
 use Rattle.linda_event.specs.Limits.{is_ask}
-use Rattle.linda_event.proofs.Nodes.{bases_in}
-use Rattle.linda_event.proofs.Members.{rest_nodes}
+use Rattle.linda_event.proofs.NodeLaws.{bases_in}
+use Rattle.linda_event.proofs.MemberLaws.{rest_nodes}
 use Rattle.linda_event.proofs.limit.+ask_count.Given as goal
 
 abbrev pub invariant-loop-member : goal.invariant-loop-member

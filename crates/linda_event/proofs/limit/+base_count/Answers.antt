@@ -1,6 +1,6 @@
 use Rattle.std.proofs.Common.{length, length-append, ap, ◌∙◌}
-use Rattle.linda_event.proofs.Seeking.{sum_more, sum_end, sum_fits}
-use Rattle.linda_event.proofs.Views.{bases_Choose, bases_Wrap, bases_Nack, bases_more, bases_end}
+use Rattle.linda_event.proofs.SeekLaws.{sum_more, sum_end, sum_fits}
+use Rattle.linda_event.proofs.ViewLaws.{bases_Choose, bases_Wrap, bases_Nack, bases_more, bases_end}
 use Rattle.linda_event.proofs.limit.+base_count.Goals as goal
 
 pub loop-member-preserved : goal.loop-member-preserved

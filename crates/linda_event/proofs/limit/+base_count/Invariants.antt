@@ -1,6 +1,6 @@
 use Rattle.std.proofs.Common.{◌≡◌, ◌+◌, ◌≤◌, min, length}
-use Rattle.linda_event.proofs.Nodes.{bases_in}
-use Rattle.linda_event.proofs.Members.{rest_nodes}
+use Rattle.linda_event.proofs.NodeLaws.{bases_in}
+use Rattle.linda_event.proofs.MemberLaws.{rest_nodes}
 use Rattle.linda_event.proofs.limit.+base_count.Given as goal
 
 abbrev pub invariant-loop-member : goal.invariant-loop-member

@@ -1,6 +1,6 @@
 use Rattle.std.proofs.Common.{◌∙◌, lit<}
-use Rattle.linda_event.proofs.Seeking.{deep_in, deep_not_in, deep_below, any_end}
-use Rattle.linda_event.proofs.Views.{leaves_Choose, leaves_Wrap, leaves_Nack, leaves_more, leaves_end}
+use Rattle.linda_event.proofs.SeekLaws.{deep_in, deep_not_in, deep_below, any_end}
+use Rattle.linda_event.proofs.ViewLaws.{leaves_Choose, leaves_Wrap, leaves_Nack, leaves_more, leaves_end}
 use Rattle.linda_event.proofs.limit.+is_deep.Goals as goal
 
 pub returns-then-is_deep : goal.returns-then-is_deep

@@ -2,8 +2,8 @@ use Rattle.std.proofs.Common.{◌≡◌, ◌+◌, length}
 use Rattle.std.specs.Prelude.{ltb}
 use Rattle.std.specs.List.{list_any}
 use Rattle.linda_event.specs.declared.limits.TheConstants.{MAX_DEPTH}
-use Rattle.linda_event.proofs.Nodes.{leaves_in}
-use Rattle.linda_event.proofs.Members.{rest_nodes}
+use Rattle.linda_event.proofs.NodeLaws.{leaves_in}
+use Rattle.linda_event.proofs.MemberLaws.{rest_nodes}
 use Rattle.linda_event.proofs.limit.+is_deep.Given as goal
 
 abbrev pub decreases-is_deep : goal.decreases-is_deep

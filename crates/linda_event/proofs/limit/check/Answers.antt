@@ -1,5 +1,5 @@
 use Rattle.linda_event.specs.Trees.{tree_of}
-use Rattle.linda_event.proofs.Seeking.{not_too_deep}
+use Rattle.linda_event.proofs.SeekLaws.{not_too_deep}
 use Rattle.linda_event.proofs.limit.check.Goals as goal
 
 pub returns-then-base_count-gt-MAX_BASES-clause-deep : goal.returns-then-base_count-gt-MAX_BASES-clause-deep

@@ -1,8 +1,8 @@
 use Rattle.std.proofs.Common.{sym, ◌∙◌}
 use Rattle.linda_event.specs.Trees.{tree_of}
 use Rattle.linda_event.specs.Paths.{leaves}
-use Rattle.linda_event.proofs.Seeking.{placed_here, found_under, found_later, passed_more, passed_all}
-use Rattle.linda_event.proofs.Views.{leaves_Choose, leaves_Wrap, leaves_Nack, leaves_more, leaves_end}
+use Rattle.linda_event.proofs.SeekLaws.{placed_here, found_under, found_later, passed_more, passed_all}
+use Rattle.linda_event.proofs.ViewLaws.{leaves_Choose, leaves_Wrap, leaves_Nack, leaves_more, leaves_end}
 use Rattle.linda_event.proofs.path.+descent.Goals as goal
 
 pub descend-returns-in-None : goal.descend-returns-in-None

@@ -1,7 +1,7 @@
 use Rattle.std.proofs.Common.{◌≡◌, ◌+◌, length}
 use Rattle.std.specs.Prelude.{slice_get}
-use Rattle.linda_event.proofs.Nodes.{leaves_in}
-use Rattle.linda_event.proofs.Members.{rest_nodes}
+use Rattle.linda_event.proofs.NodeLaws.{leaves_in}
+use Rattle.linda_event.proofs.MemberLaws.{rest_nodes}
 use Rattle.linda_event.proofs.path.+descent.Given as goal
 
 abbrev pub invariant-descend-loop-number : goal.invariant-descend-loop-number

@@ -1,6 +1,6 @@
 use Rattle.std.proofs.Common.{sym, ap, ◌∙◌, ◌++◌}
-use Rattle.linda_event.proofs.Pushing.{part_more, part_none, part_after}
-use Rattle.linda_event.proofs.Views.{labels_Choose, labels_Wrap, labels_Nack, labels_more, labels_end, some_now, no_labels}
+use Rattle.linda_event.proofs.PushLaws.{part_more, part_none, part_after}
+use Rattle.linda_event.proofs.ViewLaws.{labels_Choose, labels_Wrap, labels_Nack, labels_more, labels_end, some_now, no_labels}
 use Rattle.linda_event.proofs.path.+push_labels.Goals as goal
 
 pub returns-then-is_none : goal.returns-then-is_none

@@ -1,6 +1,6 @@
 use Rattle.std.proofs.Common.{◌≡◌, ◌++◌, option_map}
-use Rattle.linda_event.proofs.Nodes.{labels_on}
-use Rattle.linda_event.proofs.Members.{rest_nodes}
+use Rattle.linda_event.proofs.NodeLaws.{labels_on}
+use Rattle.linda_event.proofs.MemberLaws.{rest_nodes}
 use Rattle.linda_event.proofs.path.+push_labels.Given as goal
 
 abbrev pub decreases-push_labels : goal.decreases-push_labels

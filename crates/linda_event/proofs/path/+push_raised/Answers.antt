@@ -1,6 +1,6 @@
 use Rattle.std.proofs.Common.{sym, ap, ◌∙◌, ◌++◌}
-use Rattle.linda_event.proofs.Pushing.{part_more, part_none, part_after, part_on}
-use Rattle.linda_event.proofs.Views.{nacks_Choose, nacks_Wrap, nacks_Nack_on, nacks_Nack_off, nacks_more, nacks_end, some_now}
+use Rattle.linda_event.proofs.PushLaws.{part_more, part_none, part_after, part_on}
+use Rattle.linda_event.proofs.ViewLaws.{nacks_Choose, nacks_Wrap, nacks_Nack_on, nacks_Nack_off, nacks_more, nacks_end, some_now}
 use Rattle.linda_event.proofs.path.+push_raised.Goals.{then-is_none+in_ok-push-in-Nack, else-is_none}
 use Rattle.linda_event.proofs.path.+push_raised.Goals as goal
 

@@ -1,6 +1,6 @@
 use Rattle.std.proofs.Common.{◌≡◌, ◌++◌, option_map}
-use Rattle.linda_event.proofs.Nodes.{nacks_off}
-use Rattle.linda_event.proofs.Members.{rest_nodes}
+use Rattle.linda_event.proofs.NodeLaws.{nacks_off}
+use Rattle.linda_event.proofs.MemberLaws.{rest_nodes}
 use Rattle.linda_event.proofs.path.+push_raised.Given as goal
 
 abbrev pub invariant-loop-number : goal.invariant-loop-number

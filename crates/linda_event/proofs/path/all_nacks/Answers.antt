@@ -1,7 +1,7 @@
 use Rattle.linda_event.specs.Trees.{tree_of}
 use Rattle.linda_event.specs.Paths.{nodes}
-use Rattle.linda_event.proofs.Nodes.{nacks_off_none}
-use Rattle.linda_event.proofs.Pushing.{part_alone}
+use Rattle.linda_event.proofs.NodeLaws.{nacks_off_none}
+use Rattle.linda_event.proofs.PushLaws.{part_alone}
 use Rattle.linda_event.proofs.path.all_nacks.Goals as goal
 
 pub returns : goal.returns

@@ -1,6 +1,6 @@
 use Rattle.std.proofs.Common.{◌∙◌}
-use Rattle.linda_event.proofs.Seeking.{any_end}
-use Rattle.linda_event.proofs.Views.{bases_Choose, bases_Wrap, bases_Nack, bases_end, ready_after, ready_here}
+use Rattle.linda_event.proofs.SeekLaws.{any_end}
+use Rattle.linda_event.proofs.ViewLaws.{bases_Choose, bases_Wrap, bases_Nack, bases_end, ready_after, ready_here}
 use Rattle.linda_event.proofs.ready.+is_any_ready.Goals as goal
 
 pub returns-then-is_any_ready : goal.returns-then-is_any_ready

@@ -1,8 +1,8 @@
 use Rattle.std.proofs.Common.{◌≡◌}
 use Rattle.std.specs.List.{list_any}
 use Rattle.linda_event.specs.Bases.{is_ready}
-use Rattle.linda_event.proofs.Nodes.{bases_in}
-use Rattle.linda_event.proofs.Members.{rest_nodes}
+use Rattle.linda_event.proofs.NodeLaws.{bases_in}
+use Rattle.linda_event.proofs.MemberLaws.{rest_nodes}
 use Rattle.linda_event.proofs.ready.+is_any_ready.Given as goal
 
 -- One of the members that are left is ready where one of all is.

@@ -7,8 +7,8 @@ use Rattle.linda_bag.specs.Candidates.{first_among}
 use Rattle.linda_hold.specs.Arrivals.{has_in}
 use Rattle.linda_hold.specs.Group.{is_reached}
 use Rattle.linda_hold.specs.Heads.{tag_of, count_of}
-use Rattle.linda_hold.proofs.Parts.{empty_sorted}
-use Rattle.linda_hold.proofs.WaitParts.{none_reached}
+use Rattle.linda_hold.proofs.PartLaws.{empty_sorted}
+use Rattle.linda_hold.proofs.WaitLaws.{none_reached}
 use Rattle.linda_hold.proofs.heads.arrivals.Goals as goal
 
 first_got : (fields : List Atom) → slice_get fields 0 ≡ first_among fields

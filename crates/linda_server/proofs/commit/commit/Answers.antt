@@ -33,7 +33,7 @@ returns-in-Ok-clause-kept g c st now kept leads =
     c.append.new.self.form c.append.new.self.generation c.append.new.self.end (g.D.Disk.view c.append.new.self.disk) c.args.deeds.now
     c.in-InUse.is c.append.ensures.same.0 c.append.ensures.same.1 c.append.ensures.honest.1 c.in-Ok.ensures.done st now kept leads
 
--- The record is not refused, so a fault that is not want of memory is the device's.
+-- The record is not refused, so a fault other than `Memory` is the device's.
 pub returns-in-Err-clause-cause : goal.returns-in-Err-clause-cause
 returns-in-Err-clause-cause g c =
     let pair = c.in-InUse.pair in

@@ -2,7 +2,7 @@ use Rattle.std.proofs.Common.{ap, map, length, arith}
 use Rattle.std.proofs.lemmas.Result.{err_from_is_err_and}
 use Rattle.linda_event.specs.Trees.{tree_of}
 use Rattle.linda_shell.specs.Reading.{event_at, members_at}
-use Rattle.linda_shell.proofs.MemberLoop.{open_fails, opens_none, opens_some, goes_on, closes, fails_inside, fails_behind, ends}
+use Rattle.linda_shell.proofs.MemberLoopLaws.{open_fails, opens_none, opens_some, goes_on, closes, fails_inside, fails_behind, ends}
 use Rattle.linda_shell.proofs.TreeLaws.{tree_Choose, trees_more, choice_read, choice_fails}
 use Rattle.linda_shell.proofs.node.+node.Goals as goal
 

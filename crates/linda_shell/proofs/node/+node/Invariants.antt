@@ -1,7 +1,7 @@
 use Rattle.std.proofs.Common.{◌≡◌, ◌-◌, ◌+◌, ◌*◌, map, length}
 use Rattle.linda_event.specs.Trees.{tree_of}
 use Rattle.linda_shell.specs.Reading.{event_at, some_members_at, members_at}
-use Rattle.linda_shell.proofs.MemberLoop.{with_front}
+use Rattle.linda_shell.proofs.MemberLoopLaws.{with_front}
 use Rattle.linda_shell.proofs.node.+node.Given as goal
 
 abbrev pub decreases-build_event : goal.decreases-build_event

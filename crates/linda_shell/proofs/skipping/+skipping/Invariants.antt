@@ -9,7 +9,7 @@ decreases-skip_event l = 2 * l.room
 abbrev pub decreases-skip_members : goal.decreases-skip_members
 decreases-skip_members l = 2 * l.room + 1
 
--- What is left behind the members that are still to be passed is what is left behind all.
+-- What is left after the members that are still to be passed is what is left after all of them.
 abbrev pub invariant-skip_members-loop : goal.invariant-skip_members-loop
 invariant-skip_members-loop l =
     left_by (some_members_at (event_at l.room) (length l.initial.rest - l.counter) l.rest) ≡ left_by (members_at (event_at l.room) l.bytes)

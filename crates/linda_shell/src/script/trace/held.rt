@@ -1,10 +1,10 @@
-//! What a server holds, as it was told.
+//! What a server holds, as it was written.
 
 use linda_hold::{Holds, Request};
 use std::alloc::{AllocError, Global};
 use std::collections::BTreeMap;
 
-/// The holds of a server that were told, and not yet released.
+/// The holds of a server that were written, and not yet released.
 #[derive(Drop)]
 pub(super) struct Held {
     by_id: BTreeMap<u64, Request>,
@@ -56,10 +56,10 @@ impl Held {
         Ok(lost)
     }
 
-    // The ids that are held, and were told of nobody, rising.
+    // The ids that are held and were not written as held, rising.
     fn gained(&self, alloc: Global, holds: &Holds) -> Result<Vec<u64>, AllocError> {
         let mut gained = Vec::new(alloc);
-        for id in holds.ids() {
+        for id in &holds.ids(alloc)? {
             if !self.by_id.contains_key(id) {
                 gained.push(*id)?;
             }

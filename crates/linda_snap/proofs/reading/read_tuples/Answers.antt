@@ -2,7 +2,7 @@ use Rattle.std.proofs.Common.{arith, rules}
 use Rattle.std.proofs.lemmas.Result.{err_from_is_err_and}
 use Rattle.linda_snap.specs.Snapshot as format
 use Rattle.linda_snap.specs.Reading.{IsPlacedBelow}
-use Rattle.linda_snap.proofs.SnapshotLaws.{placed_is}
+use Rattle.linda_book.proofs.ReplyFormatLaws.{placed_is}
 use Rattle.linda_snap.proofs.ReadingLaws.{none_read, one_read, none_there, bad_there}
 use Rattle.linda_snap.proofs.reading.read_tuples.Goals as goal
 

@@ -76,7 +76,7 @@ fn made_of(alloc: Global, client: &mut Client, call: Call) -> Made {
     }
 }
 
-/// The same, where a call that runs out of memory is made again.
+/// What the client makes of it, where a call that runs out of memory is made again.
 fn made_at_last(alloc: Global, client: &mut Client, call: Call) -> Result<Reaction, Fail> {
     match made_of(alloc, client, call)? {
         Err(ClientFault::Memory) => Ok(made_of(alloc, client, call)??),

@@ -1,7 +1,7 @@
 use Rattle.std.proofs.lemmas.Result.{err_from_is_err_and}
 use Rattle.linda_tuple.specs.declared.limits.TheConstants.{MAX_FIELDS}
 use Rattle.linda_text.specs.Reading.{fields_at}
-use Rattle.linda_text.proofs.Loop.{starts, goes_on, closes, fails_between, fails_inside, is_full, fails_full}
+use Rattle.linda_text.proofs.LoopLaws.{starts, goes_on, closes, fails_between, fails_inside, is_full, fails_full}
 use Rattle.linda_text.proofs.field.read_fields.Goals as goal
 
 pub loop-init : goal.loop-init

@@ -1,7 +1,7 @@
 use Rattle.std.proofs.Common.{◌≡◌, ◌-◌}
 use Rattle.linda_tuple.specs.declared.limits.TheConstants.{MAX_FIELDS}
 use Rattle.linda_text.specs.Reading.{fields_at}
-use Rattle.linda_text.proofs.Loop.{with_front}
+use Rattle.linda_text.proofs.LoopLaws.{with_front}
 use Rattle.linda_text.proofs.field.read_fields.Given as goal
 
 -- What was read so far and what is still read are what there is to read.

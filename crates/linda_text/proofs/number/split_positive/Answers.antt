@@ -1,4 +1,4 @@
-use Rattle.linda_text.proofs.Numerals.{is_numeral, is_text}
+use Rattle.linda_text.proofs.NumeralLaws.{is_numeral, is_text}
 use Rattle.linda_text.proofs.number.split_positive.Goals as goal
 
 pub number_of-requires-clause-digits : goal.number_of-requires-clause-digits

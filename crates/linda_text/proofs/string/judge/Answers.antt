@@ -1,5 +1,5 @@
 use Rattle.std.proofs.lemmas.Result.{err_from_is_err_and}
-use Rattle.linda_text.proofs.Contents.{is_string, is_no_text, no_string}
+use Rattle.linda_text.proofs.ContentLaws.{is_string, is_no_text, no_string}
 use Rattle.linda_text.proofs.string.judge.Goals as goal
 
 pub returns-in_err-count : goal.returns-in_err-count

@@ -2,7 +2,7 @@ use Rattle.std.proofs.Common.{◌∙◌, false, length, ap, arith}
 use Rattle.std.specs.Prelude.{not}
 use Rattle.std.proofs.lemmas.Result.{err_from_is_err_and}
 use Rattle.linda_text.specs.Reading.{content_at, made}
-use Rattle.linda_text.proofs.Contents.{counts_on, counts_done, count_fails, is_short, short_fails, is_long, long_fails}
+use Rattle.linda_text.proofs.ContentLaws.{counts_on, counts_done, count_fails, is_short, short_fails, is_long, long_fails}
 use Rattle.linda_text.proofs.string.measure.Goals as goal
 
 pub returns-in_err-said-clause-value : goal.returns-in_err-said-clause-value

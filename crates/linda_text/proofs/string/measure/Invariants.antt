@@ -1,7 +1,7 @@
 use Rattle.std.proofs.Common.{◌≡◌, ◌≤◌, false, length}
 use Rattle.linda_tuple.specs.declared.limits.TheConstants.{MAX_TEXT}
 use Rattle.linda_text.specs.Reading.{content_at, made}
-use Rattle.linda_text.proofs.Contents.{counted}
+use Rattle.linda_text.proofs.ContentLaws.{counted}
 use Rattle.linda_text.proofs.string.measure.Given as goal
 
 -- What was counted and what is still said are what there is to count.

@@ -1,7 +1,7 @@
 use Rattle.std.proofs.Common.{false}
 use Rattle.std.proofs.lemmas.Result.{err_from_is_err_and}
 use Rattle.linda_text.specs.Reading.{content_at}
-use Rattle.linda_text.proofs.Contents.{goes_on, is_done, fails}
+use Rattle.linda_text.proofs.ContentLaws.{goes_on, is_done, fails}
 use Rattle.linda_text.proofs.string.read_content.Goals as goal
 
 pub returns-in_err-said : goal.returns-in_err-said

@@ -1,6 +1,6 @@
 use Rattle.std.proofs.Common.{◌≡◌, false, length}
 use Rattle.linda_text.specs.Reading.{content_at}
-use Rattle.linda_text.proofs.Loop.{with_front}
+use Rattle.linda_text.proofs.LoopLaws.{with_front}
 use Rattle.linda_text.proofs.string.read_content.Given as goal
 
 -- What was read and what is still said are what there is to read.

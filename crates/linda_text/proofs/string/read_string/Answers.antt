@@ -1,7 +1,7 @@
 use Rattle.std.proofs.Common.{rules}
 use Rattle.std.specs.Prelude.{IsOk}
 use Rattle.std.proofs.lemmas.Result.{err_from_is_err_and}
-use Rattle.linda_text.proofs.Contents.{is_read, read_fails}
+use Rattle.linda_text.proofs.ContentLaws.{is_read, read_fails}
 use Rattle.linda_text.proofs.string.read_string.Goals as goal
 
 pub returns-in_err-said-clause-value : goal.returns-in_err-said-clause-value

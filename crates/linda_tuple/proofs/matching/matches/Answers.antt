@@ -1,5 +1,5 @@
 use Rattle.std.proofs.Common.{rules}
-use Rattle.linda_tuple.proofs.Deciding.{told_by_test}
+use Rattle.linda_tuple.proofs.MatchingLaws.{told_by_test}
 use Rattle.linda_tuple.proofs.matching.matches.Goals as goal
 
 pub returns-then-eq-clause-test : goal.returns-then-eq-clause-test

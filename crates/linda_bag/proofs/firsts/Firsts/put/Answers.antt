@@ -5,8 +5,8 @@ use Rattle.linda_tuple.specs.contracts.atom.AtomOrd.TheImpl as atom_ord
 use Rattle.linda_bag.specs.Filing.{IsFiled, place}
 use Rattle.linda_bag.specs.Ids.{IsOf}
 use Rattle.linda_bag.specs.Firsts.{int_of, other_of}
-use Rattle.linda_bag.proofs.Placing.{no_other}
-use Rattle.linda_bag.proofs.Refiling.{refiled_as, same_rows}
+use Rattle.linda_bag.proofs.PlaceLaws.{no_other}
+use Rattle.linda_bag.proofs.FilingLaws.{refiled_as, same_rows}
 use Rattle.linda_bag.proofs.firsts.Firsts.put.Goals as goal
 
 on_err_there : {T E P : Type 0} (r : Result T E) → P → OnErr r P

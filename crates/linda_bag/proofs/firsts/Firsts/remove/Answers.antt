@@ -1,6 +1,6 @@
 use Rattle.std.proofs.Common.{refl}
 use Rattle.linda_bag.specs.Firsts.{int_of, other_of}
-use Rattle.linda_bag.proofs.Refiling.{refiled_as}
+use Rattle.linda_bag.proofs.FilingLaws.{refiled_as}
 use Rattle.linda_bag.proofs.firsts.Firsts.remove.Goals as goal
 
 pub returns : goal.returns

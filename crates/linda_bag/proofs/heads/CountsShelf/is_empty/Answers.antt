@@ -1,5 +1,5 @@
-use Rattle.linda_bag.proofs.Ordered.{number_itself}
-use Rattle.linda_bag.proofs.Bare.{map_bare}
+use Rattle.linda_bag.proofs.OrderLaws.{number_itself}
+use Rattle.linda_bag.proofs.BareLaws.{map_bare}
 use Rattle.linda_bag.proofs.heads.CountsShelf.is_empty.Goals as goal
 
 pub returns : goal.returns

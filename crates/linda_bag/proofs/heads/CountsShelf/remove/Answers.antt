@@ -1,6 +1,6 @@
 use Rattle.std.proofs.Common.{Some, refl}
-use Rattle.linda_bag.proofs.Placing.{key_placed}
-use Rattle.linda_bag.proofs.Refiling.{refiled_as}
+use Rattle.linda_bag.proofs.PlaceLaws.{key_placed}
+use Rattle.linda_bag.proofs.FilingLaws.{refiled_as}
 use Rattle.linda_bag.proofs.heads.CountsShelf.remove.Goals as goal
 
 pub returns : goal.returns

@@ -1,5 +1,5 @@
-use Rattle.linda_bag.proofs.Ordered.{atom_itself}
-use Rattle.linda_bag.proofs.Bare.{map_bare}
+use Rattle.linda_bag.proofs.OrderLaws.{atom_itself}
+use Rattle.linda_bag.proofs.BareLaws.{map_bare}
 use Rattle.linda_bag.proofs.heads.HeadsShelf.is_empty.Goals as goal
 
 pub returns : goal.returns

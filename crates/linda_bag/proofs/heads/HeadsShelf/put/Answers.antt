@@ -2,8 +2,8 @@ use Rattle.std.proofs.Common.{Some, ap, sym, ◌∙◌}
 use Rattle.std.specs.Option.{option_copied}
 use Rattle.std.proofs.lemmas.Result.{on_ok_weaker, on_err_weaker}
 use Rattle.linda_bag.specs.Filing.{placed}
-use Rattle.linda_bag.proofs.Placing.{key_placed}
-use Rattle.linda_bag.proofs.Refiling.{refiled_as}
+use Rattle.linda_bag.proofs.PlaceLaws.{key_placed}
+use Rattle.linda_bag.proofs.FilingLaws.{refiled_as}
 use Rattle.linda_bag.proofs.heads.HeadsShelf.put.Goals as goal
 
 pub returns-in_default-clause-ok : goal.returns-in_default-clause-ok

@@ -1,6 +1,6 @@
 use Rattle.std.proofs.Common.{ap, sym, ◌∙◌, is_some, true≢false}
-use Rattle.linda_bag.proofs.Bare.{set_bare}
-use Rattle.linda_bag.proofs.Ordered.{number_itself}
+use Rattle.linda_bag.proofs.BareLaws.{set_bare}
+use Rattle.linda_bag.proofs.OrderLaws.{number_itself}
 use Rattle.linda_bag.proofs.ids.IdsShelf.is_empty.Goals as goal
 
 pub returns-in-One : goal.returns-in-One

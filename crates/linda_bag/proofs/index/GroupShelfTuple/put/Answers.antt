@@ -3,10 +3,10 @@ use Rattle.std.specs.Result.{OnErr}
 use Rattle.std.specs.Option.{option_copied}
 use Rattle.linda_bag.specs.Ids.{has_id, IsOf}
 use Rattle.linda_bag.specs.Firsts.{HasFirsts}
-use Rattle.linda_bag.proofs.Noted.{any_row}
-use Rattle.linda_bag.proofs.Bare.{no_such}
-use Rattle.linda_bag.proofs.Kept.{undone}
-use Rattle.linda_bag.proofs.Refiling.{same_rows}
+use Rattle.linda_bag.proofs.NotedLaws.{any_row}
+use Rattle.linda_bag.proofs.BareLaws.{no_such}
+use Rattle.linda_bag.proofs.KeptLaws.{undone}
+use Rattle.linda_bag.proofs.FilingLaws.{same_rows}
 use Rattle.linda_bag.proofs.index.GroupShelfTuple.put.Goals as goal
 
 copied : {T : Type 0} (o : Option (Bor T)) → is_some (option_copied o) ≡ is_some o

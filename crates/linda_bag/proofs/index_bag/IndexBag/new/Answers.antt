@@ -1,7 +1,7 @@
 use Rattle.std.proofs.Common.{sym, ap, subst, ◌∙◌}
 use Rattle.std.specs.FinMap.{get}
-use Rattle.linda_bag.proofs.Maps.{get_empty}
-use Rattle.linda_bag.proofs.Placing.{HasIndex}
+use Rattle.linda_maps.proofs.MapLaws.{get_empty}
+use Rattle.linda_bag.proofs.PlaceLaws.{HasIndex}
 use Rattle.linda_bag.proofs.index_bag.IndexBag.new.Goals as goal
 
 pub invariant_of-result : goal.invariant_of-result

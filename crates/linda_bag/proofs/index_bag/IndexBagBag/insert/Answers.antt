@@ -1,7 +1,7 @@
 use Rattle.std.proofs.Common.{sym, ap, subst, ◌∙◌}
 use Rattle.std.specs.FinMap as map
-use Rattle.linda_bag.proofs.Placing.{HasIndex}
-use Rattle.linda_bag.proofs.Kept.{as_before, as_after, undone, rows_set}
+use Rattle.linda_bag.proofs.PlaceLaws.{HasIndex}
+use Rattle.linda_bag.proofs.KeptLaws.{as_before, as_after, undone, rows_set}
 use Rattle.linda_bag.proofs.index_bag.IndexBagBag.insert.Goals as goal
 
 pub invariant_of-self : goal.invariant_of-self

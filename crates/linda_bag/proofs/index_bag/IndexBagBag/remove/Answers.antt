@@ -1,8 +1,8 @@
 use Rattle.std.proofs.Common.{None, sym, ap, subst, ◌∙◌}
 use Rattle.std.specs.FinMap as map
-use Rattle.linda_bag.proofs.Placing.{HasIndex}
-use Rattle.linda_bag.proofs.Kept.{as_after, rows_gone}
-use Rattle.linda_bag.proofs.Refiling.{same_row}
+use Rattle.linda_bag.proofs.PlaceLaws.{HasIndex}
+use Rattle.linda_bag.proofs.KeptLaws.{as_after, rows_gone}
+use Rattle.linda_bag.proofs.FilingLaws.{same_row}
 use Rattle.linda_bag.proofs.index_bag.IndexBagBag.remove.Goals as goal
 
 pub invariant_of-self : goal.invariant_of-self

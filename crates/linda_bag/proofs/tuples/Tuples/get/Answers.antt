@@ -1,6 +1,6 @@
 use Rattle.std.proofs.Common.{Some, sym, ap, ◌∙◌}
 use Rattle.std.specs.Option.{option_copied}
-use Rattle.linda_bag.proofs.Unboxed.{behind, seen_behind}
+use Rattle.linda_bag.proofs.TuplesLaws.{behind, seen_behind}
 use Rattle.linda_bag.proofs.tuples.Tuples.get.Goals as goal
 
 pub returns-in_err-tuple : goal.returns-in_err-tuple

@@ -1,6 +1,6 @@
 use Rattle.std.proofs.Common.{sym, ap, ◌∙◌}
 use Rattle.std.specs.FinMap as map
-use Rattle.linda_bag.proofs.Unboxed.{behind, seen_behind, one_set_behind}
+use Rattle.linda_bag.proofs.TuplesLaws.{behind, seen_behind, one_set_behind}
 use Rattle.linda_bag.proofs.tuples.Tuples.insert.Goals as goal
 
 pub returns-in-Ok-clause-ok : goal.returns-in-Ok-clause-ok

@@ -1,6 +1,6 @@
 use Rattle.std.proofs.Common.{sym, ap, ◌∙◌}
 use Rattle.std.specs.FinMap as map
-use Rattle.linda_bag.proofs.Unboxed.{len_behind}
+use Rattle.linda_bag.proofs.TuplesLaws.{len_behind}
 use Rattle.linda_bag.proofs.tuples.Tuples.len.Goals as goal
 
 pub returns : goal.returns

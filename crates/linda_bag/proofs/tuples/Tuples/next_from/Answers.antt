@@ -1,7 +1,7 @@
 use Rattle.std.proofs.Common.{Option, None, Some}
 use Rattle.std.specs.Option.{IfNone}
 use Rattle.std.proofs.lemmas.Option.{IfSome_then}
-use Rattle.linda_bag.proofs.Unboxed.{none_behind, some_behind}
+use Rattle.linda_bag.proofs.TuplesLaws.{none_behind, some_behind}
 use Rattle.linda_bag.proofs.tuples.Tuples.next_from.Goals as goal
 
 IfNone_then : {X P Q : Type 0} (r : Option X) → IfNone r P → (P → Q) → IfNone r Q

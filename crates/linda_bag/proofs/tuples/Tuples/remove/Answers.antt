@@ -1,6 +1,6 @@
 use Rattle.std.proofs.Common.{Some, sym, ap, ◌∙◌}
 use Rattle.std.specs.FinMap as map
-use Rattle.linda_bag.proofs.Unboxed.{behind, seen_behind, one_gone_behind}
+use Rattle.linda_bag.proofs.TuplesLaws.{behind, seen_behind, one_gone_behind}
 use Rattle.linda_bag.proofs.tuples.Tuples.remove.Goals as goal
 
 pub returns-in_err-tuple-clause-value : goal.returns-in_err-tuple-clause-value

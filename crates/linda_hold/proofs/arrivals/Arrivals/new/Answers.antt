@@ -7,7 +7,7 @@ use Rattle.linda_hold.specs.declared.numbers.Numbers.{Numbers}
 use Rattle.linda_hold.specs.declared.numbers.Numbers.TheVariants as numbers
 use Rattle.linda_hold.specs.Numbers.{has_any}
 use Rattle.linda_hold.specs.Arrivals.{has_in}
-use Rattle.linda_hold.proofs.Arriving.{rising, has_with}
+use Rattle.linda_hold.proofs.ArrivalLaws.{rising, has_with}
 use Rattle.linda_hold.proofs.arrivals.Arrivals.new.Goals as goal
 
 pub returns-in-One-clause-ordered : goal.returns-in-One-clause-ordered

@@ -4,7 +4,7 @@ use Rattle.linda_tuple.specs.contracts.atom.AtomOrd.TheImpl as atom_ord
 use Rattle.linda_bag.specs.Filing.{IsShelved, row_at, rows_at, placed}
 use Rattle.linda_hold.specs.Numbers.{IsOf}
 use Rattle.linda_hold.specs.Firsts.{first_of, other_of}
-use Rattle.linda_hold.proofs.Beginning.{bool_first}
+use Rattle.linda_hold.proofs.BeginningLaws.{bool_first}
 use Rattle.linda_hold.proofs.firsts.Firsts.get.Goals as goal
 
 pub returns-in-Bool : goal.returns-in-Bool

@@ -1,5 +1,5 @@
 use Rattle.std.proofs.Common.{sym, ◌∙◌, true≢false}
-use Rattle.linda_hold.proofs.Beginning.{firsts_bare}
+use Rattle.linda_hold.proofs.BeginningLaws.{firsts_bare}
 use Rattle.linda_hold.proofs.firsts.Firsts.is_empty.Goals as goal
 
 pub returns-then-is_empty : goal.returns-then-is_empty

@@ -1,7 +1,7 @@
 use Rattle.std.proofs.Common.{◌||◌, Some, is_some, ap, ◌∙◌, nat_cmp}
 use Rattle.std.specs.BTreeSet.{contains}
 use Rattle.linda_hold.specs.Group.{keyed_at}
-use Rattle.linda_hold.proofs.Arriving.{found_any}
+use Rattle.linda_hold.proofs.ArrivalLaws.{found_any}
 use Rattle.linda_hold.proofs.group.Group.arrivals.Goals as goal
 
 pub returns-in-Some-clause-has : goal.returns-in-Some-clause-has

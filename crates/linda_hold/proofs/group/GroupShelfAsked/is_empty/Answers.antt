@@ -1,8 +1,8 @@
 use Rattle.std.proofs.Common.{sym, ap, ◌∙◌, true≢false}
-use Rattle.linda_bag.proofs.Bare.{set_bare}
+use Rattle.linda_bag.proofs.BareLaws.{set_bare}
 use Rattle.linda_hold.specs.Firsts.{keyed_in}
 use Rattle.linda_hold.specs.Group.{unkeyed_at, unkeyed_of}
-use Rattle.linda_hold.proofs.Beginning.{no_request}
+use Rattle.linda_hold.proofs.BeginningLaws.{no_request}
 use Rattle.linda_hold.proofs.group.GroupShelfAsked.is_empty.Goals as goal
 
 pub returns-then-is_empty : goal.returns-then-is_empty

@@ -2,9 +2,9 @@ use Rattle.std.proofs.Common.{Some, true, false, is_some, Result, Ok, Err, sym, 
 use Rattle.std.specs.Result.{OnErr}
 use Rattle.std.specs.Option.{option_copied}
 use Rattle.linda_bag.specs.Filing.{HasIds}
-use Rattle.linda_bag.proofs.Refiling.{same_rows}
+use Rattle.linda_bag.proofs.FilingLaws.{same_rows}
 use Rattle.linda_hold.specs.Group.{if_unkeyed, unkeyed_of}
-use Rattle.linda_hold.proofs.Beginning.{unkeyed_with, unfiled}
+use Rattle.linda_hold.proofs.BeginningLaws.{unkeyed_with, unfiled}
 use Rattle.linda_hold.proofs.group.GroupShelfAsked.put.Goals as goal
 
 on_err_there : {T E P : Type 0} (r : Result T E) → P → OnErr r P

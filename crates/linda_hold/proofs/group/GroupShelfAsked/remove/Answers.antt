@@ -1,4 +1,4 @@
-use Rattle.linda_hold.proofs.Beginning.{unkeyed_with}
+use Rattle.linda_hold.proofs.BeginningLaws.{unkeyed_with}
 use Rattle.std.proofs.Common.{None, false, refl}
 use Rattle.linda_hold.proofs.group.GroupShelfAsked.remove.Goals as goal
 

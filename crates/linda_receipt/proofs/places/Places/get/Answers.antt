@@ -1,5 +1,5 @@
 use Rattle.std.proofs.Common.{sym, ◌∙◌}
-use Rattle.linda_receipt.proofs.PlaceViews.{viewed}
+use Rattle.linda_receipt.proofs.PlaceLaws.{viewed}
 use Rattle.linda_receipt.proofs.places.Places.get.Goals as goal
 
 pub returns : goal.returns

@@ -1,8 +1,8 @@
 -- The tree was set at the client; where it was not, it had nothing there.
 use Rattle.std.proofs.Common.{ap, ◌∙◌, rules}
 use Rattle.std.specs.FinMap.{insert}
-use Rattle.linda_bag.proofs.Maps.{one_set}
-use Rattle.linda_receipt.proofs.PlaceViews.{viewed}
+use Rattle.linda_maps.proofs.MapLaws.{one_set}
+use Rattle.linda_receipt.proofs.PlaceLaws.{viewed}
 use Rattle.linda_receipt.proofs.places.Places.put.Goals as goal
 
 pub returns-clause-ok : goal.returns-clause-ok

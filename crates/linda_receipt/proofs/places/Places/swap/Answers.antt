@@ -1,8 +1,8 @@
 -- A client that has a place has one in the tree, and its entry is set there.
 use Rattle.std.proofs.Common.{◌≡◌, None, IsSome, sym, ap, ◌∙◌, subst, rules}
 use Rattle.std.specs.FinMap as map
-use Rattle.linda_bag.proofs.Maps.{one_set}
-use Rattle.linda_receipt.proofs.PlaceViews.{viewed}
+use Rattle.linda_maps.proofs.MapLaws.{one_set}
+use Rattle.linda_receipt.proofs.PlaceLaws.{viewed}
 use Rattle.linda_receipt.proofs.places.Places.swap.Goals as goal
 
 pub unreachable-requires : goal.unreachable-requires

@@ -1,9 +1,7 @@
-use Rattle.std.proofs.Common.{true, false, is_some, sym, ap, subst, ◌∙◌, nat_cmp}
+use Rattle.std.proofs.Common.{true, false, sym, ap, subst, nat_cmp}
 use Rattle.std.specs.BTreeSet.{contains}
-use Rattle.std.specs.FinMap.{get}
 use Rattle.linda_bag.specs.Starts.{AreRight}
-use Rattle.linda_step.specs.Looking.{IsLeast, passed_over}
-use Rattle.linda_step.proofs.FreeLaws.{same_held}
+use Rattle.linda_step.specs.Looking.{IsLeast, is_held, passed_over}
 use Rattle.linda_step.proofs.LookingLaws.{least_found}
 use Rattle.linda_step.proofs.soft.Soft.least_match.Goals as goal
 
@@ -12,8 +10,8 @@ returns-then-remove-clause-least g c =
     subst
     (λ remove. IsLeast (g.B.Bag.contents c.args.bag.now) c.args.template.now (passed_over remove c.args.self.now.holds) c.least_match.result)
     (sym c.if-remove.true)
-    (least_found (g.B.Bag.contents c.args.bag.now) c.args.template.now (contains nat_cmp c.ids.result.now) (passed_over true c.args.self.now.holds)
-    (λ k. c.ids.ensures k ∙ ap (λ s. is_some (get s.holds k)) c.self.view_is)
+    (least_found (g.B.Bag.contents c.args.bag.now) c.args.template.now (is_held c.self.inside.holds) (passed_over true c.args.self.now.holds)
+    (λ k. ap (λ s. is_held s.holds k) c.self.view_is)
     c.least_match.result c.least_match.ensures.found c.least_match.ensures.least c.least_match.ensures.none)
 
 pub returns-else-remove-clause-least : goal.returns-else-remove-clause-least
@@ -25,13 +23,11 @@ returns-else-remove-clause-least g c =
     (λ k. ap (λ keys. contains nat_cmp (record { keys = keys }) k) c.new.ensures.empty)
     c.least_match-else-remove.result c.least_match-else-remove.ensures.found c.least_match-else-remove.ensures.least c.least_match-else-remove.ensures.none)
 
--- The ids that are held are those of the holds.
+-- What is held is what the holds have.
 pub least_match-requires : goal.least_match-requires
 least_match-requires g c =
-    let same = same_held (contains nat_cmp c.ids.result.now) c.args.self.now.holds (λ k. c.ids.ensures k ∙ ap (λ s. is_some (get s.holds k)) c.self.view_is) in
-    subst (λ passed. AreRight (g.B.Bag.contents c.args.bag.now) passed c.args.next c.args.starts.now) (sym same) c.requires
+    subst (λ s. AreRight (g.B.Bag.contents c.args.bag.now) (is_held s.holds) c.args.next c.args.starts.now) (sym c.self.view_is) c.requires
 
 pub returns-then-remove-clause-right : goal.returns-then-remove-clause-right
 returns-then-remove-clause-right g c =
-    let same = same_held (contains nat_cmp c.ids.result.now) c.args.self.now.holds (λ k. c.ids.ensures k ∙ ap (λ s. is_some (get s.holds k)) c.self.view_is) in
-    subst (λ passed. AreRight (g.B.Bag.contents c.args.bag.now) passed c.args.next c.least_match.new.self) same c.least_match.ensures.right
+    subst (λ s. AreRight (g.B.Bag.contents c.args.bag.now) (is_held s.holds) c.args.next c.least_match.new.self) c.self.view_is c.least_match.ensures.right

@@ -1,6 +1,6 @@
 use Rattle.std.proofs.Common.{is_some, sym, ap, subst, ◌∙◌}
 use Rattle.linda_bag.specs.Starts.{AreRight}
-use Rattle.linda_bag.proofs.Maps.{get_same}
+use Rattle.linda_maps.proofs.MapLaws.{get_same}
 use Rattle.linda_step.specs.Looking.{is_held}
 use Rattle.linda_step.proofs.FreeLaws.{holding_right}
 use Rattle.linda_step.proofs.soft.Soft.serve.Goals as goal

@@ -1,6 +1,6 @@
 use Rattle.std.proofs.Common.{Some, ap, ◌∙◌}
 use Rattle.std.specs.Option.{option_map}
-use Rattle.linda_bag.proofs.Viewed.{viewed}
+use Rattle.linda_maps.proofs.MapLaws.{viewed}
 use Rattle.linda_run.specs.World.{Member}
 use Rattle.linda_world.proofs.member.Members.got.Goals as goal
 

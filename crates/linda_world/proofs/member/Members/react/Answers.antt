@@ -1,5 +1,5 @@
 use Rattle.std.proofs.Common.{refl, sym, ap, ◌∙◌}
-use Rattle.linda_bag.proofs.Viewed.{viewed}
+use Rattle.linda_maps.proofs.MapLaws.{viewed}
 use Rattle.linda_client.specs.Call.{call_of}
 use Rattle.linda_world.specs.Member.{refusal_to}
 use Rattle.linda_world.proofs.MemberLaws.{reacted_in, tree_view}

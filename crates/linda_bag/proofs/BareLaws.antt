@@ -1,0 +1,65 @@
+-- What has no keys has no rows, and the other way round.
+use Rattle.std.proofs.Common.{◌≡◌, ℕ, arith, ◌||◌, true, false, cond, List, [], ◌∷◌, Option, Some, None, is_some, length, ◌↔◌, refl, sym, ap, subst, ◌∙◌, nat_cmp, true≢false}
+use Rattle.std.specs.declared.cmp.Ordering.{Ordering}
+use Rattle.std.specs.Ordering.{is_eq}
+use Rattle.std.specs.List.{list_any}
+use Rattle.std.specs.Map.{lookup}
+use Rattle.std.specs.BTreeMap as tree
+use Rattle.std.specs.BTreeMap.{BTreeMap, is_at}
+use Rattle.linda_bag.specs.Filing.{Rows, IsBare, IsShelved, row_at, placed, IsFiled}
+use Rattle.linda_bag.proofs.OrderLaws.{number_itself}
+
+pub no_such : {T : Type 0} (o : Option T) → is_some o ≡ false → o ≡ None
+no_such None e = refl
+no_such (Some row) e = absurd (true≢false e)
+
+-- Of a set of ids.
+none_among : (keys : List ℕ) → length keys ≡ 0 → (q : ℕ) → list_any (is_at (nat_cmp q)) keys ≡ false
+none_among [] none q = refl
+none_among (k ∷ keys) none q = absurd (omega arith)
+
+no_keys : (keys : List ℕ) → ((q : ℕ) → list_any (is_at (nat_cmp q)) keys ≡ false) → length keys ≡ 0
+no_keys [] none = refl
+no_keys (k ∷ keys) none = absurd (true≢false (sym (ap (λ b. b || list_any (is_at (nat_cmp k)) keys) (number_itself k)) ∙ none k))
+
+pub set_bare : {T : Type 0} (keys : List ℕ) (rows : Rows T) → ((q : ℕ) → list_any (is_at (nat_cmp q)) keys ≡ is_some (rows q)) → (length keys ≡ 0) ↔ IsBare rows
+set_bare keys rows same = (
+  (λ none q. no_such (rows q) (sym (same q) ∙ none_among keys none q)),
+  (λ bare. no_keys keys (λ q. same q ∙ ap is_some (bare q))),
+)
+
+-- Of shelves under keys, where each row has a key.
+module _ {K S T : Type 0} (cmp : K → K → Ordering) (itself : (k : K) → is_eq (cmp k k) ≡ true) (Has : S → Rows T → Type 0) where
+  none_under : (m : BTreeMap K S) → length m.entries ≡ 0 → (q : K) → tree.get cmp m q ≡ None
+  none_under m none q = lookup_none m.entries none
+    where
+      lookup_none : (es : List (K × S)) → length es ≡ 0 → lookup (is_at (cmp q)) es ≡ None
+      lookup_none [] none = refl
+      lookup_none (e ∷ es) none = absurd (omega arith)
+
+  no_entries : (es : List (K × S)) → ((q : K) → lookup (is_at (cmp q)) es ≡ None) → length es ≡ 0
+  no_entries [] none = refl
+  no_entries (e ∷ es) none =
+      let found : lookup (is_at (cmp e.0)) (e ∷ es) ≡ Some e.1 = ap (λ b. cond b (Some e.1) (lookup (is_at (cmp e.0)) es)) (itself e.0) in
+      absurd (true≢false (ap is_some (sym found ∙ none e.0)))
+
+  shelf_none : (o : Option S) (rows : Rows T) → IsBare rows → IsShelved Has o rows → o ≡ None
+  shelf_none None rows bare known = refl
+  shelf_none (Some shelf) rows bare known = absurd (known.1 bare)
+
+  none_shelf : (o : Option S) (rows : Rows T) → o ≡ None → IsShelved Has o rows → IsBare rows
+  none_shelf o rows none known = subst (λ s. IsShelved Has s rows) none known
+
+  module _ (key_of : T → K) where
+    own_key : (o : Option T) → ((q : K) → row_at cmp q (placed (λ row. Some (key_of row)) o) ≡ None) → o ≡ None
+    own_key None none = refl
+    own_key (Some row) none = absurd (true≢false (ap is_some (sym (ap (λ b. cond b (Some row) None) (itself (key_of row))) ∙ none (key_of row))))
+
+    at_none : (o : Option T) (q : K) → o ≡ None → row_at cmp q (placed (λ row. Some (key_of row)) o) ≡ None
+    at_none o q none = ap (λ p. row_at cmp q (placed (λ row. Some (key_of row)) p)) none
+
+    pub map_bare : (m : BTreeMap K S) (rows : Rows T) → IsFiled cmp Has (λ row. Some (key_of row)) m rows → (length m.entries ≡ 0) ↔ IsBare rows
+    map_bare m rows filed = (
+      (λ none id. own_key (rows id) (λ q. none_shelf (tree.get cmp m q) _ (none_under m none q) (filed q) id)),
+      (λ bare. no_entries m.entries (λ q. shelf_none (tree.get cmp m q) _ (λ id. at_none (rows id) q (bare id)) (filed q))),
+    )

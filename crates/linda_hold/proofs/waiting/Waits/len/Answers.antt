@@ -1,7 +1,0 @@
-use Rattle.std.proofs.Common.{subst}
-use Rattle.linda_hold.specs.Waits.{AreDistinct}
-use Rattle.linda_hold.proofs.Entries.{distinct}
-use Rattle.linda_hold.proofs.waiting.Waits.len.Goals as goal
-
-pub returns-clause-distinct : goal.returns-clause-distinct
-returns-clause-distinct c = subst AreDistinct c.self.view_is (distinct c.self.inside.by_arrival c.self.invariant.0 c.self.invariant.1.0.0)

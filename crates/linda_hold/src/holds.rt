@@ -1,0 +1,181 @@
+//! The tuples that are held for requests.
+
+ghost use Rattle.std.specs.Prelude.{◌≡◌, ℕ, None, Some, IfOk, OnOk, OnErr, length};
+ghost use Rattle.std.specs.Option.{is_some};
+ghost use Rattle.std.specs.Ordering.{nat_cmp};
+ghost use Rattle.std.specs.FinMap as map;
+ghost use Rattle.std.specs.BTreeSet as set;
+ghost use Rattle.linda_hold.specs.Holds.{IsHeldAt, IsOneEach, held_in};
+
+use crate::names::Names;
+use crate::request::Request;
+use linda_bag::IdSet;
+use std::alloc::{AllocError, Global};
+use std::collections::{BTreeMap, BTreeSet};
+use std::marker::Model;
+
+/// Which tuple is held for which request: each tuple, named by its id, for at most one request, and
+/// for each request at most one tuple. Any 64-bit number may be an id.
+pub struct Holds {
+    alloc: Global,
+    by_id: BTreeMap<u64, Request>,
+    names: Names,
+}
+
+impl Drop for Holds {
+    fn drop(self) {
+        let Holds {
+            alloc: _,
+            by_id: _,
+            names: _,
+        } = self;
+    }
+}
+
+impl Model for Holds {
+    ghost use Rattle.std.specs.Coded.{coded_ℕ};
+    ghost use Rattle.std.specs.Ordering.{nat_cmp};
+    ghost use Rattle.std.specs.FinMap as map;
+    ghost use Rattle.std.specs.BTreeMap as tree;
+    ghost use Rattle.linda_hold.specs.Request.{request_code};
+    ghost use Rattle.linda_hold.specs.Holds.{HeldFor};
+    ghost use Rattle.linda_hold.specs.Named.{HasNames};
+
+    ghost Value = { HeldFor };
+
+    ghost coded = { map.code coded_ℕ request_code };
+
+    ghost view = { λ h. map.from_entries h.by_id.entries };
+
+    ghost invariant = { λ h. tree.IsOrdered nat_cmp h.by_id
+        × HasNames h.names (tree.get nat_cmp h.by_id) };
+}
+
+impl Holds {
+    /// No holds. Takes no memory until one is inserted.
+    pub fn new(alloc: Global) -> Holds
+        ensures { result ≡ map.empty }
+    {
+        Holds {
+            alloc,
+            by_id: BTreeMap::new(alloc),
+            names: Names::empty(alloc),
+        }
+    }
+
+    /// The request that the tuple is held for. Takes no memory.
+    pub fn get(&self, id: u64) -> Option<Request>
+        ensures value { result ≡ map.get self.now id }
+        ensures one_each { IsOneEach self.now }
+    {
+        self.by_id.get(&id).copied()
+    }
+
+    /// The id of the tuple that is held for the request. Takes no memory.
+    pub fn find(&self, request: Request) -> Option<u64>
+        ensures value { IsHeldAt self.now request result }
+        ensures one_each { IsOneEach self.now }
+    {
+        self.names.number_of(request)
+    }
+
+    /// How many tuples are held. Takes no memory.
+    pub fn len(&self) -> usize
+        ensures { result ≡ map.len self.now }
+    {
+        self.by_id.len()
+    }
+
+    /// The ids of all tuples that are held.
+    ///
+    /// # Errors
+    ///
+    /// `AllocError` where memory runs out.
+    pub fn ids(&self, alloc: Global) -> Result<BTreeSet<u64>, AllocError>
+        ensures { IfOk result (λ ids. (id : ℕ) → set.contains nat_cmp ids id ≡ is_some (map.get self.now id)) }
+    {
+        let mut ids = BTreeSet::new(alloc);
+        for id in self.by_id.keys() {
+            ids.insert(*id)?;
+        }
+        Ok(ids)
+    }
+
+    /// The ids that are held for the client, rising. It looks at the holds of this client alone.
+    ///
+    /// # Errors
+    ///
+    /// `AllocError` where memory runs out.
+    pub fn of_client(&self, alloc: Global, client: u32) -> Result<Vec<u64>, AllocError>
+        ensures { IfOk result (λ v. v.items ≡ held_in client (map.entries self.now)) }
+    {
+        let ids = self.names.of_client(alloc, client)?;
+        copied(alloc, &ids)
+    }
+
+    /// How many tuples are held for the client. It walks over none of them, and takes no memory.
+    pub fn count_of(&self, client: u32) -> usize
+        ensures { result ≡ length (held_in client (map.entries self.now)) }
+    {
+        self.names.count_of(client)
+    }
+
+    /// Lets the tuple be held for the request. If it was held for another, it is held for that no
+    /// more.
+    ///
+    /// # Errors
+    ///
+    /// `AllocError` where memory runs out, and then the holds are as before.
+    pub fn insert(&mut self, id: u64, request: Request) -> Result<(), AllocError>
+        requires { IsHeldAt self.old request None }
+        ensures ok { OnOk result (self.new ≡ map.insert self.old id request) }
+        ensures err { OnErr result (self.new ≡ self.old) }
+    {
+        self.names.put(self.alloc, id, request)?;
+        match self.by_id.insert(id, request) {
+            Ok(old) => {
+                if let Some(old) = old {
+                    self.names.remove(old);
+                }
+                Ok(())
+            }
+            Err(_) => {
+                // Only a new id can be refused: it was held for no other request.
+                self.names.remove(request);
+                Err(AllocError)
+            }
+        }
+    }
+
+    /// Lets the tuple be held for nobody; where it is not held, nothing changes. Takes no memory.
+    pub fn remove(&mut self, id: u64)
+        ensures { self.new ≡ map.remove self.old id }
+    {
+        if let Some(request) = self.by_id.remove(&id) {
+            self.names.remove(request);
+        }
+    }
+}
+
+impl IdSet for Holds {
+    ghost use Rattle.std.specs.Option.{is_some};
+    ghost use Rattle.std.specs.FinMap as map;
+
+    ghost has = { λ holds id. is_some (map.get holds id) };
+
+    fn has(&self, id: u64) -> bool {
+        self.by_id.contains_key(&id)
+    }
+}
+
+// The numbers of the set, rising.
+fn copied(alloc: Global, numbers: &BTreeSet<u64>) -> Result<Vec<u64>, AllocError>
+    ensures keys { IfOk result (λ v. v.items ≡ numbers.now.keys) }
+    ensures ordered { set.IsOrdered nat_cmp numbers.now }
+{
+    let mut found = Vec::new(alloc);
+    for number in numbers {
+        found.push(*number)?;
+    }
+    Ok(found)
+}

@@ -1,0 +1,217 @@
+//! The requests that wait for a tuple.
+
+ghost use Rattle.std.specs.Prelude.{◌≡◌, ◌<◌, ◌++◌, ◌∷◌, [], All, false, true, length, map};
+ghost use Rattle.std.specs.Prelude.{IfOk, OnOk, OnErr, IfSome, IfNone};
+ghost use Rattle.std.specs.Option.{option_map};
+ghost use Rattle.std.specs.BTreeMap as tree;
+ghost use Rattle.linda_hold.specs.Request.{request_of};
+ghost use Rattle.linda_hold.specs.Waits.{AreDistinct, is_awaited, is_waiting, longest, readers};
+ghost use Rattle.linda_hold.specs.Waits.{waits_of, without, without_client, without_readers};
+
+use crate::asked::Asked;
+use crate::awaiting::{Awaiting, awaiting_among, first_input, is_answering_one};
+use crate::heads::{Wait, arrivals};
+use crate::index::Index;
+use crate::request::Request;
+use linda_tuple::Tuple;
+use std::alloc::{AllocError, Global};
+use std::collections::BTreeMap;
+use std::marker::Model;
+
+/// The requests that no tuple has answered yet, in order of arrival, each of them once.
+///
+/// Each has a number, greater than those of all that came before it and wait still.
+pub struct Waits {
+    alloc: Global,
+    by_arrival: BTreeMap<u64, Wait>,
+    index: Index,
+}
+
+impl Drop for Waits {
+    fn drop(self) {
+        let Waits {
+            alloc: _,
+            by_arrival: _,
+            index: _,
+        } = self;
+    }
+}
+
+impl Model for Waits {
+    ghost use Rattle.std.specs.Prelude.{List};
+    ghost use Rattle.std.specs.Ordering.{nat_cmp};
+    ghost use Rattle.std.specs.BTreeMap as tree;
+    ghost use Rattle.linda_hold.specs.Waits as seen;
+    ghost use Rattle.linda_hold.specs.Index.{HasWaits};
+
+    ghost Value = { List seen.Wait };
+
+    ghost view = { λ w. tree.values w.by_arrival };
+
+    ghost invariant = { λ w. tree.IsOrdered nat_cmp w.by_arrival
+        × HasWaits w.index (tree.get nat_cmp w.by_arrival) };
+}
+
+impl Waits {
+    /// No waits. Takes no memory until one is added.
+    pub fn new(alloc: Global) -> Waits
+        ensures { result ≡ [] }
+    {
+        Waits {
+            alloc,
+            by_arrival: BTreeMap::new(alloc),
+            index: Index::empty(alloc),
+        }
+    }
+
+    /// How many requests wait.
+    pub fn len(&self) -> usize
+        ensures count { result ≡ length self.now }
+        ensures distinct { AreDistinct self.now }
+    {
+        self.by_arrival.len()
+    }
+
+    /// Whether the request waits. Takes no memory.
+    pub fn contains(&self, request: Request) -> bool
+        ensures { result ≡ is_waiting request self.now }
+    {
+        self.index.names.number_of(request).is_some()
+    }
+
+    /// Lets the request wait, last in order.
+    ///
+    /// # Errors
+    ///
+    /// `AllocError` where memory runs out, or the numbers do, which takes 2^64 arrivals while somebody
+    /// waits; and then the waits are as before and what was asked is dropped.
+    pub fn add(&mut self, request: Request, asked: Asked) -> Result<(), AllocError>
+        requires { is_waiting request self.old ≡ false }
+        ensures ok { OnOk result (self.new ≡ self.old ++ (request, asked) ∷ []) }
+        ensures err { OnErr result (self.new ≡ self.old) }
+    {
+        let number = next_number(&self.by_arrival)?;
+        let wait = (request, asked);
+        self.index.put(self.alloc, number, &wait)?;
+        match self.by_arrival.insert(number, wait) {
+            Ok(_) => Ok(()),
+            Err(refused) => {
+                self.index.remove(number, &refused.value.1);
+                Err(AllocError)
+            }
+        }
+    }
+
+    /// Takes out the request; where it does not wait, nothing changes. The others keep their order.
+    /// Takes no memory, and walks over nobody's waits.
+    pub fn remove(&mut self, request: Request)
+        ensures { self.new ≡ without request self.old }
+    {
+        if let Some(number) = self.index.names.number_of(request) {
+            if let Some(wait) = self.by_arrival.remove(&number) {
+                self.index.remove(number, &wait);
+            }
+        }
+    }
+
+    /// Takes out all waits of the client. The others keep their order. Takes no memory, and walks
+    /// over the client's own waits alone.
+    pub fn remove_client(&mut self, client: u32)
+        ensures { self.new ≡ without_client client self.old }
+    {
+        while let Some(ticket) = self.first_ticket(client) {
+            self.remove(Request { client, ticket });
+        }
+    }
+
+    // The least ticket of the client's requests that wait; nothing where none does.
+    fn first_ticket(&self, client: u32) -> Option<u64>
+        ensures waits { IfSome result (λ ticket. is_waiting (request_of client ticket) self.now ≡ true) }
+        ensures none { IfNone result (waits_of client self.now ≡ []) }
+    {
+        self.index.names.first_ticket(client)
+    }
+
+    /// Takes out the reads that the tuple answers, and gives them in order of arrival. The others keep
+    /// their order.
+    ///
+    /// # Errors
+    ///
+    /// `AllocError` where memory runs out, and then the waits are as before.
+    pub fn take_readers(&mut self, alloc: Global, tuple: &Tuple) -> Result<Vec<Request>, AllocError>
+        ensures found { IfOk result (λ v. v.items ≡ map (λ w. w.0) (readers tuple.now self.old)) }
+        ensures left { OnOk result (self.new ≡ without_readers tuple.now self.old) }
+        ensures err { OnErr result (self.new ≡ self.old) }
+    {
+        let awaiting = self.take_awaiting(alloc, tuple)?;
+        Ok(awaiting.readers)
+    }
+
+    /// Takes out the reads that the tuple answers, and gives them in order of arrival, with the input that
+    /// has waited longest of those that the tuple answers: it waits still. The others keep their order.
+    /// It goes once through the requests that the tuple may answer, and takes no memory where it answers
+    /// no read.
+    ///
+    /// # Errors
+    ///
+    /// `AllocError` where memory runs out, and then the waits are as before.
+    pub fn take_awaiting(&mut self, alloc: Global, tuple: &Tuple) -> Result<Awaiting, AllocError>
+        ensures readers { IfOk result (λ a. a.readers.items ≡ map (λ w. w.0) (readers tuple.now self.old)) }
+        ensures longest { IfOk result (λ a. a.longest ≡ option_map (λ w. w.0) (longest tuple.now self.old)) }
+        ensures left { OnOk result (self.new ≡ without_readers tuple.now self.old) }
+        ensures err { OnErr result (self.new ≡ self.old) }
+    {
+        let found = self.awaiting(alloc, tuple)?;
+        for request in &found.readers {
+            self.remove(*request);
+        }
+        Ok(found)
+    }
+
+    // The requests that wait for the tuple.
+    fn awaiting(&self, alloc: Global, tuple: &Tuple) -> Result<Awaiting, AllocError>
+        ensures readers { IfOk result (λ a. a.readers.items ≡ map (λ w. w.0) (readers tuple.now self.now)) }
+        ensures longest { IfOk result (λ a. a.longest ≡ option_map (λ w. w.0) (longest tuple.now self.now)) }
+        ensures distinct { AreDistinct self.now }
+    {
+        awaiting_among(
+            alloc,
+            &self.by_arrival,
+            arrivals(&self.index.heads, tuple),
+            tuple,
+        )
+    }
+
+    /// Whether some request waits that the tuple answers. It looks at those alone that ask for its tag, its
+    /// number of fields, and its first field or no value there, and takes no memory.
+    pub fn is_awaited(&self, tuple: &Tuple) -> bool
+        ensures { result ≡ is_awaited tuple.now self.now }
+    {
+        is_answering_one(&self.by_arrival, arrivals(&self.index.heads, tuple), tuple)
+    }
+
+    /// The input that has waited longest of those that the tuple answers. It looks at those alone that ask
+    /// for its tag, its number of fields, and its first field or no value there, and takes no memory.
+    pub fn longest(&self, tuple: &Tuple) -> Option<Request>
+        ensures { result ≡ option_map (λ w. w.0) (longest tuple.now self.now) }
+    {
+        first_input(&self.by_arrival, arrivals(&self.index.heads, tuple), tuple)
+    }
+
+    /// How many requests of the client wait. It walks over none of them, and takes no memory.
+    pub fn count_of(&self, client: u32) -> usize
+        ensures { result ≡ length (waits_of client self.now) }
+    {
+        self.index.names.count_of(client)
+    }
+}
+
+// The number of the next to arrive, which is greater than all that are there.
+fn next_number(by_arrival: &BTreeMap<u64, Wait>) -> Result<u64, AllocError>
+    ensures { IfOk result (λ k. All (λ q. q < k) (tree.keys by_arrival.now)) }
+{
+    match by_arrival.last_key_value() {
+        Some((last, _)) => last.checked_add(1).ok_or(AllocError),
+        None => Ok(0),
+    }
+}

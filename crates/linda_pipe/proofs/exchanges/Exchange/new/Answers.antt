@@ -1,5 +1,0 @@
-use Rattle.linda_pipe.proofs.Steps.{first}
-use Rattle.linda_pipe.proofs.exchanges.Exchange.new.Goals as goal
-
-pub returns-clause-underway : goal.returns-clause-underway
-returns-clause-underway c = first c.new.result c.new-2.result c.new-3.result c.new-4.result c.new.ensures c.new-2.ensures c.new-3.ensures.items c.new-4.ensures.items
