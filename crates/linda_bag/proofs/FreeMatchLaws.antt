@@ -13,7 +13,8 @@ use Rattle.linda_tuple.specs.declared.pattern.Pattern.TheVariants as patterns
 use Rattle.linda_tuple.specs.contracts.atom.AtomOrd.TheImpl as atom_ord
 use Rattle.linda_tuple.specs.Tuple.{Tuple}
 use Rattle.linda_tuple.specs.Template.{Template}
-use Rattle.linda_tuple.specs.Matching.{Matches, Fits}
+use Rattle.linda_tuple.specs.Matching.{Matches}
+use Rattle.linda_tuple.proofs.MatchingLaws.{Fits, fits_itself, matched}
 use Rattle.linda_bag.specs.FreeMatch.{IsFreeMatch}
 use Rattle.linda_bag.specs.Filing.{Rows, IsBare, row_at, placed, keyed, rows_at}
 use Rattle.linda_bag.specs.Heads.{with_head}
@@ -56,7 +57,7 @@ first_there : (fields : List Pattern) (rows : Rows Tuple) (id : ℕ) (row : Tupl
 first_there [] rows id row atoms same fit there = there
 first_there (patterns.Value v ∷ rest) rows id row [] same fit there = absurd fit
 first_there (patterns.Value v ∷ rest) rows id row (atom ∷ atoms) same fit there =
-    at_own atom_ord.ghosts.cmp first_of rows id row atom v there (sym (ap first_among same)) (atom_tie v atom fit.0)
+    at_own atom_ord.ghosts.cmp first_of rows id row atom v there (sym (ap first_among same)) (atom_tie v atom (fits_itself v atom fit.0))
 first_there (patterns.IntFormal ∷ rest) rows id row atoms same fit there = there
 first_there (patterns.TextFormal ∷ rest) rows id row atoms same fit there = there
 first_there (patterns.BoolFormal ∷ rest) rows id row atoms same fit there = there
@@ -64,10 +65,11 @@ first_there (patterns.Any ∷ rest) rows id row atoms same fit there = there
 
 pub candidate_there : (shape : Template) (rows : Rows Tuple) (id : ℕ) (row : Tuple) → Matches shape row → rows id ≡ Some row → candidates shape rows id ≡ Some row
 candidate_there shape rows id row match there =
-    let tagged = at_own atom_ord.ghosts.cmp (λ r. Some (tag_of r)) rows id row row.tag shape.tag there refl (atom_tie shape.tag row.tag match.tag) in
-    let long = AllZip-long Fits shape.fields row.fields match.fields in
+    let is = matched shape row match in
+    let tagged = at_own atom_ord.ghosts.cmp (λ r. Some (tag_of r)) rows id row row.tag shape.tag there refl (atom_tie shape.tag row.tag is.tag) in
+    let long = AllZip-long Fits shape.fields row.fields is.fields in
     let counted = at_own nat_cmp (λ r. Some (count_of r)) (rows_at atom_ord.ghosts.cmp (λ r. Some (tag_of r)) shape.tag rows) id row (length row.fields) (length shape.fields) tagged refl (subst (λ n. is_eq (nat_cmp (length row.fields) n) ≡ true) long (number_itself (length row.fields))) in
-    first_there shape.fields (with_head tag_of count_of shape.tag (length shape.fields) rows) id row row.fields refl match.fields counted
+    first_there shape.fields (with_head tag_of count_of shape.tag (length shape.fields) rows) id row row.fields refl is.fields counted
 
 -- So where there is no candidate there is no match.
 pub no_candidate : (shape : Template) (rows : Rows Tuple) (id : ℕ) (row : Tuple) → IsBare (candidates shape rows) → Matches shape row → rows id ≡ Some row → ⊥

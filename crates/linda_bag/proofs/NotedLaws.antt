@@ -1,5 +1,5 @@
 -- The ids of a set are those of the rows, also after the set and one row were changed.
-use Rattle.std.proofs.Common.{◌≡◌, ℕ, Bool, true, false, not, cond, Option, is_some, refl, sym, ap, ◌∙◌, nat_cmp, true≢false}
+use Rattle.std.proofs.Common.{◌≡◌, ℕ, Bool, true, false, cond, Option, is_some, refl, ◌∙◌, nat_cmp}
 use Rattle.std.specs.Ordering.{is_eq}
 use Rattle.linda_bag.specs.Filing.{Rows, with_row}
 

@@ -1,10 +1,9 @@
 -- What becomes of right starts where one of them changes, where a tuple is held or free again, and where the bag changes.
-use Rattle.std.proofs.Common.{◌≡◌, ℕ, suc, ◌≤◌, ◌<◌, ◌⊎◌, inl, inr, Bool, true, false, cond, Option, None, Some, is_some, IfSome, IfNone, unwrap_or, List, [], ◌∷◌, IsTrue, refl, sym, ap, subst, ◌∙◌, nat_cmp, true≢false, arith}
+use Rattle.std.proofs.Common.{◌≡◌, ℕ, ◌≤◌, ◌<◌, ◌⊎◌, inl, inr, Bool, true, false, cond, Option, None, Some, is_some, IfSome, IfNone, unwrap_or, refl, sym, ap, subst, ◌∙◌, true≢false, arith}
 use Rattle.std.specs.Bool.{Decides}
 use Rattle.std.specs.Ordering.{is_eq}
 use Rattle.std.specs.FinMap as map
 use Rattle.std.specs.BTreeMap as tree
-use Rattle.std.specs.BTreeSet.{BTreeSet, contains}
 use Rattle.std.proofs.lemmas.Bool.{cases_eq, cases_lt}
 use Rattle.std.proofs.lemmas.Bool.Decides.{Decides-and, Decides-like}
 use Rattle.std.specs.Cmp.Lexicographic.{pointwise, pointwise_decides}
@@ -15,6 +14,7 @@ use Rattle.linda_tuple.specs.contracts.atom.AtomOrd.TheImpl as atom_ord
 use Rattle.linda_tuple.specs.Tuple.{Tuple}
 use Rattle.linda_tuple.specs.Template.{Template}
 use Rattle.linda_tuple.specs.Sameness.{same_atom, same_pattern, same_template, same_atom-decides, same_pattern-decides}
+use Rattle.linda_tuple.proofs.MatchingLaws.{matched}
 use Rattle.linda_bag.specs.FreeMatch.{IsFreeMatch}
 use Rattle.linda_bag.specs.declared.starts.Start.{Start}
 use Rattle.linda_bag.specs.declared.starts.Starts.{Starts}
@@ -122,7 +122,7 @@ module _ (bag : Bagged) (before after : ℕ → Bool) (next id : ℕ) (row : Tup
           elim (cases_eq j id) [
             | inl is ↦
                 let one = some_same (sym free.stored ∙ ap (map.get bag) is ∙ stored) in
-                let tag = sym (ap (λ (t : Tuple). t.tag) one) ∙ sym free.matches.tag ∙ was.0 in
+                let tag = sym (ap (λ (t : Tuple). t.tag) one) ∙ sym (matched s.template free.row free.matches).tag ∙ was.0 in
                 absurd (true≢false (sym (subst (λ x. is_eq (atom_ord.ghosts.cmp row.tag x) ≡ true) tag (atom_itself row.tag)) ∙ off))
             | inr apart ↦ was.1.each j (still_free s.template j apart free)
           ];

@@ -7,7 +7,7 @@ use Rattle.std.specs.Cmp.{nat_cmp_total, eq_by_cmp_equiv, unsigned_ties}
 use Rattle.std.specs.Map.{lookup, keys_of}
 use Rattle.std.specs.List.Sorted.{IsStrictlySortedBy}
 use Rattle.std.specs.BTreeMap as tree
-use Rattle.std.specs.FinMap.{FinMap, get, insert, remove, len, entries, find, from_entries, get-from_entries, len-entries}
+use Rattle.std.specs.FinMap.{FinMap, get, insert, remove, len, from_entries, get-from_entries}
 use Rattle.linda_tuple.specs.Tuple.{Tuple}
 use Rattle.linda_bag.specs.Tuples.{unboxed}
 use Rattle.linda_maps.proofs.MapLaws.{same_map, get_inserted, get_removed, find_is_lookup, get_is_lookup, len_sorted}

@@ -1,20 +1,14 @@
 -- A base that an event asks for, or that is ready, is one of its bases, and gets what its kind can get.
 use Rattle.std.proofs.Common.{◌≡◌, ℕ, zero, suc, ◌+◌, ◌-◌, ◌≤◌, nat_lt, Bool, true, false, cond, List, [], ◌∷◌, refl, sym, ap, subst, ◌∙◌, arith}
 use Rattle.std.specs.Prelude.{Option, Some, None, IsSomeAnd, filter_map, find, slice_get, nat_le, option_map}
-use Rattle.std.specs.List.{enumerate_from, cons_option, position_or_len, AllZip}
+use Rattle.std.specs.List.{enumerate_from, cons_option, position_or_len}
 use Rattle.std.proofs.lemmas.Bool.{false≢true}
 use Rattle.std.proofs.lemmas.Bool.Decides.{nat_tests}
 use Rattle.std.proofs.lemmas.Option.{none-some, same_Some}
 use Rattle.std.proofs.lemmas.List.Folds.{find_at}
-use Rattle.linda_tuple.specs.declared.atom.Atom.{Atom}
-use Rattle.linda_tuple.specs.declared.atom.Atom.TheVariants as atoms
-use Rattle.linda_tuple.specs.declared.pattern.Pattern.{Pattern}
-use Rattle.linda_tuple.specs.declared.pattern.Pattern.TheVariants as patterns
 use Rattle.linda_tuple.specs.Tuple.{Tuple}
 use Rattle.linda_tuple.specs.Template.{Template}
-use Rattle.linda_tuple.specs.Matching.{Fits, Matches, bindings_of}
-use Rattle.linda_tuple.specs.Sameness.{same_atom, same_atom-decides}
-use Rattle.linda_tuple.specs.Testing.{are_fit, is_fit, is_match}
+use Rattle.linda_tuple.specs.Matching.{Matches, bindings_of}
 use Rattle.linda_event.specs.Trees.{Tree, Kind, input, read, alarm, always, never}
 use Rattle.linda_event.specs.Paths.{bases_of}
 use Rattle.linda_client.specs.declared.ask.Ask.{Ask}
@@ -25,35 +19,6 @@ use Rattle.linda_client.specs.Ask.{ask_of, alarm_of, asks, alarms, first_alarm, 
 use Rattle.linda_client.specs.Pending.{Pending, ask_at}
 use Rattle.linda_client.specs.Ending.{BaseGets, CanGet}
 use Rattle.linda_client.proofs.TestLaws.{both}
-
-same_atoms : (a b : Atom) → same_atom a b ≡ true → a ≡ b
-same_atoms a b e = (same_atom-decides a b).0 e
-
-formal_fits : (p : Pattern) (a : Atom) → is_fit p a ≡ true → Fits p a
-formal_fits (patterns.Value v) a e = same_atoms v a e
-formal_fits patterns.IntFormal (atoms.Int n) e = tt
-formal_fits patterns.IntFormal (atoms.Text t) e = cc
-formal_fits patterns.IntFormal (atoms.Bool b) e = cc
-formal_fits patterns.TextFormal (atoms.Int n) e = cc
-formal_fits patterns.TextFormal (atoms.Text t) e = tt
-formal_fits patterns.TextFormal (atoms.Bool b) e = cc
-formal_fits patterns.BoolFormal (atoms.Int n) e = cc
-formal_fits patterns.BoolFormal (atoms.Text t) e = cc
-formal_fits patterns.BoolFormal (atoms.Bool b) e = tt
-formal_fits patterns.Any a e = tt
-
-all_fits : (ps : List Pattern) (xs : List Atom) → are_fit ps xs ≡ true → AllZip Fits ps xs
-all_fits [] [] e = tt
-all_fits [] (x ∷ xs) e = cc
-all_fits (p ∷ ps) [] e = cc
-all_fits (p ∷ ps) (x ∷ xs) e = let parts = both (is_fit p x) (are_fit ps xs) e in (formal_fits p x parts.0, all_fits ps xs parts.1)
-
--- What the test of a match says.
-pub match_found : (shape : Template) (row : Tuple) → is_match shape row ≡ true → Matches shape row
-unfolding is_match
-match_found shape row e =
-    let parts = both (same_atom shape.tag row.tag) (are_fit shape.fields row.fields) e in
-    record { tag = same_atoms shape.tag row.tag parts.0; fields = all_fits shape.fields row.fields parts.1 }
 
 -- an item that was made of a base: which base, and how
 record Made {X : Type 0} (h : ℕ × Kind → Option X) (n : ℕ) (kinds : List Kind) (x : X) : Type 0 where

@@ -6,8 +6,7 @@ use Rattle.std.specs.List.{list_any}
 use Rattle.std.proofs.lemmas.Bool.{false≢true}
 use Rattle.std.proofs.lemmas.Option.{none-some, same_Some}
 use Rattle.linda_tuple.specs.Tuple.{Tuple}
-use Rattle.linda_tuple.specs.Matching.{Matches}
-use Rattle.linda_tuple.specs.Testing.{is_match}
+use Rattle.linda_tuple.specs.Matching.{Matches, is_match}
 use Rattle.linda_wire.specs.declared.limits.TheConstants.{NUMBER_LIMIT}
 use Rattle.linda_event.specs.Trees.{Tree}
 use Rattle.linda_event.specs.Paths.{all_nacks}
@@ -34,7 +33,7 @@ use Rattle.linda_client.specs.React.{Call, Out, Sync, Receive, Tick, Resend, Rec
 use Rattle.linda_client.specs.Ending.{BaseGets, GotBy, spared_for}
 use Rattle.linda_client.specs.Progress.{IsGone}
 use Rattle.linda_client.specs.Uses.{is_repeat}
-use Rattle.linda_client.proofs.BaseLaws.{alarm_gets, input_gets, match_found, read_gets}
+use Rattle.linda_client.proofs.BaseLaws.{alarm_gets, input_gets, read_gets}
 use Rattle.linda_client.proofs.AskLaws.{limits_kept}
 use Rattle.linda_client.proofs.ListLaws.{kept_there}
 use Rattle.linda_client.proofs.TestLaws.{apart, both, by_test, neither, not_false}
@@ -165,10 +164,10 @@ module _ (c : Client) (is : IsClient c) where
       task = pending_task c.task pending e
 
       fit_parts : (b : Bool) (ask : Ask) → is_fit ask b a.tuple ≡ true → (ask.remove ≡ true → b ≡ true) × Matches ask.template a.tuple
-      fit_parts true ask fits = (λ _. refl, match_found ask.template a.tuple (both ask.remove (is_match ask.template a.tuple) fits).1)
+      fit_parts true ask fits = (λ _. refl, (both ask.remove (is_match ask.template a.tuple) fits).1)
       fit_parts false ask fits =
           let parts = both (not ask.remove) (is_match ask.template a.tuple) fits in
-          (λ input. absurd (false≢true (sym (ap not input) ∙ parts.0)), match_found ask.template a.tuple parts.1)
+          (λ input. absurd (false≢true (sym (ap not input) ∙ parts.0)), parts.1)
 
       by : (o : Option Ask) → ask_at pending a.ticket ≡ o → CourseOn c call (spec.on_arrival_for c pending remove a o)
       by None there = strays call remove a within other
@@ -255,7 +254,7 @@ module _ (c : Client) (is : IsClient c) where
           let called : Receive server (replies.Taken n id row) ≡ Receive own.server (replies.Taken own.n own.id row) =
           ap (λ s. Receive s (replies.Taken n id row)) (sym same.0) ∙ ap (λ m. Receive own.server (replies.Taken m id row)) (sym same.1) ∙ ap (λ i. Receive own.server (replies.Taken own.n i row)) (sym same_id) in
           commits pending c.clock (spared pending) ask.base (spec.got_by_input ask server id row) task (subst (λ o. AcceptAnswered o (Receive server (replies.Taken n id row))) (sym some) (inr (row, called))) refl
-          (input_gets c.clock pending own.ticket ask server id row there parts.0 (match_found ask.template row parts.1))
+          (input_gets c.clock pending own.ticket ask server id row there parts.0 parts.1)
           (record { pending = pending; own = own; pending_is = ap pending_in task; accepted = some; answers = called; server_is = sym same.0; id_is = sym same_id; asked = subst (λ o. IsSomeAnd o (λ x. (x.base ≡ ask.base) × (x.remove ≡ true))) (sym there) (refl, parts.0) }))
           (λ _. rests c.clock (other (Receive server (replies.Taken n id row)) refl))
 

@@ -4,8 +4,7 @@ use Rattle.std.specs.Prelude.{not, if◌then◌else◌, List, [], ◌∷◌, ◌
 use Rattle.std.specs.Prelude.{None, All, IfSome, IsSomeAnd, slice_get}
 use Rattle.std.specs.List.{list_any}
 use Rattle.linda_tuple.specs.Tuple.{Tuple}
-use Rattle.linda_tuple.specs.Matching.{Matches}
-use Rattle.linda_tuple.specs.Testing.{is_match}
+use Rattle.linda_tuple.specs.Matching.{Matches, is_match}
 use Rattle.linda_wire.specs.declared.limits.TheConstants.{NUMBER_LIMIT}
 use Rattle.linda_event.specs.Trees.{Tree}
 use Rattle.linda_event.specs.Limits.{IsWithinLimits}

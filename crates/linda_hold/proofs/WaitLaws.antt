@@ -17,9 +17,8 @@ use Rattle.linda_tuple.specs.declared.pattern.Pattern.{Pattern}
 use Rattle.linda_tuple.specs.declared.pattern.Pattern.TheVariants as patterns
 use Rattle.linda_tuple.specs.contracts.atom.AtomOrd.TheImpl as atom_ord
 use Rattle.linda_tuple.specs.Tuple.{Tuple}
-use Rattle.linda_tuple.specs.Matching.{Fits}
-use Rattle.linda_tuple.specs.Testing.{is_match}
-use Rattle.linda_tuple.proofs.MatchingLaws.{is_match_decides}
+use Rattle.linda_tuple.specs.Matching.{is_match}
+use Rattle.linda_tuple.proofs.MatchingLaws.{Fits, fits_itself, matched}
 use Rattle.linda_bag.specs.Filing.{row_at, rows_at, placed, keyed}
 use Rattle.linda_bag.specs.Candidates.{first_among, first_value}
 use Rattle.linda_bag.proofs.OrderLaws.{atom_itself, number_itself}
@@ -78,7 +77,7 @@ reached (p ∷ ps) (x ∷ xs) asked is fits = ap (λ qs. is_some (row_at atom_or
   where
     at : (p : Pattern) → Fits p x → (is_some (row_at atom_ord.ghosts.cmp x (keyed (first_value (p ∷ ps)) asked)) || is_some (if_unkeyed (first_value (p ∷ ps)) asked)) ≡ true
     at (patterns.Value v) same =
-        ap (λ b. is_some (cond b (Some asked) None) || false) (subst (λ y. is_eq (atom_ord.ghosts.cmp y x) ≡ true) (sym same) (atom_itself x))
+        ap (λ b. is_some (cond b (Some asked) None) || false) (subst (λ y. is_eq (atom_ord.ghosts.cmp y x) ≡ true) (sym (fits_itself v x same)) (atom_itself x))
     at patterns.IntFormal fits = refl
     at patterns.TextFormal fits = refl
     at patterns.BoolFormal fits = refl
@@ -87,7 +86,7 @@ reached (p ∷ ps) (x ∷ xs) asked is fits = ap (λ qs. is_some (row_at atom_or
 -- A tuple that a template matches may answer it.
 pub met_where_matched : (row : Tuple) (w : Wait) → is_match w.1.template row ≡ true → may_meet row w ≡ true
 met_where_matched row w is =
-    let match = (is_match_decides w.1.template row).0 is in
+    let match = matched w.1.template row is in
     let long = AllZip-long Fits w.1.template.fields row.fields match.fields in
     ap (is_reached (first_among row.fields))
     (same_head row w.1

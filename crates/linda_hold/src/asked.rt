@@ -2,7 +2,7 @@
 
 ghost use Rattle.std.specs.Prelude.{◌≡◌, ◌&&◌, not};
 ghost use Rattle.std.specs.Option.{option_copied};
-ghost use Rattle.linda_tuple.specs.Testing.{is_match};
+ghost use Rattle.linda_tuple.specs.Matching.{is_match};
 ghost use Rattle.linda_hold.specs.Firsts.{first_of};
 
 use linda_tuple::{Atom, Pattern, Template, Tuple, matches};

@@ -6,8 +6,7 @@ use Rattle.std.proofs.lemmas.List.Elements.{All-contains_itself, All-filter}
 use Rattle.std.specs.FinMap.{get, insert, remove, entries}
 use Rattle.linda_tuple.specs.Tuple.{Tuple}
 use Rattle.linda_tuple.specs.Template.{Template}
-use Rattle.linda_tuple.specs.Testing.{is_match}
-use Rattle.linda_tuple.proofs.MatchingLaws.{is_match_decides}
+use Rattle.linda_tuple.specs.Matching.{is_match}
 use Rattle.linda_bag.specs.FreeMatch.{IsFreeMatch}
 use Rattle.linda_hold.specs.declared.request.Request.{Request}
 use Rattle.linda_hold.specs.Request.{request_of}
@@ -107,7 +106,7 @@ module _ (Known : ℕ → Reply → Type 0) (bag : Bagged) (x : Coming) where
   module _ (c ticket : ℕ) (remove : Bool) (shape : Template) (x_is : IsAskOf x (wait_of (request_of c ticket) remove shape)) (known : Known c (refused (refusals.TooManyAsks ticket))) (old : Soft) where
     found : (b : Bool) → remove ≡ b → (id : ℕ) → IsFreeMatch bag shape (passed_over b old.holds) id → Move Known bag x old (serve bag (request_of c ticket) b shape (Some id) old)
     found true is id free =
-        offers old id (wait_of (request_of c ticket) remove shape) free.row x_is is free.stored ((is_match_decides shape free.row).1 free.matches)
+        offers old id (wait_of (request_of c ticket) remove shape) free.row x_is is free.stored free.matches
     found false is id free = reads old id (request_of c ticket)
 
     serve_move : (least : Option ℕ) → IsLeast bag shape (passed_over remove old.holds) least → Move Known bag x old (serve bag (request_of c ticket) remove shape least old)

@@ -5,7 +5,7 @@ use Rattle.std.proofs.lemmas.Bool.{and_parts}
 use Rattle.std.proofs.lemmas.List.Elements.{All-nil, All-cons, All-append, All-map, All-push, All-filter, All-weaker, All-contains, All-contains_itself, Contains-append_left, Contains-append_right}
 use Rattle.std.specs.FinMap.{get, insert}
 use Rattle.linda_tuple.specs.Tuple.{Tuple}
-use Rattle.linda_tuple.specs.Testing.{is_match}
+use Rattle.linda_tuple.specs.Matching.{is_match}
 use Rattle.linda_hold.specs.declared.request.Request.{Request}
 use Rattle.linda_hold.specs.Request.{request_of, same_request}
 use Rattle.linda_hold.specs.Waits.{Wait, is_reader, is_taker, readers, without_readers, longest}

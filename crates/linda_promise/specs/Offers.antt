@@ -2,7 +2,7 @@
 use Rattle.std.specs.Prelude.{◌≡◌, ℕ, true, false, Bool, List, ◌⊎◌, Some, Contains}
 use Rattle.std.specs.FinMap as map
 use Rattle.linda_tuple.specs.Tuple.{Tuple}
-use Rattle.linda_tuple.specs.Testing.{is_match}
+use Rattle.linda_tuple.specs.Matching.{Matches}
 use Rattle.linda_hold.specs.declared.request.Request.{Request}
 use Rattle.linda_hold.specs.Waits.{Wait}
 use Rattle.linda_wire.specs.declared.message.Message.TheVariants as messages
@@ -25,7 +25,7 @@ pub record HasTaker (soft : Soft) (x : Coming) (request : Request) (tuple : Tupl
   pub seeks : Seeks soft x wait
   pub request_is : wait.0 ≡ request
   pub removes : wait.1.remove ≡ true
-  pub matches : is_match wait.1.template tuple ≡ true
+  pub matches : Matches wait.1.template tuple
 
 -- The tuple of this id is in the bag, is offered now for this request, and has a taker in it.
 pub record MakesOffer (bag : Bagged) (soft : Soft) (x : Coming) (sends : List (ℕ × Reply)) (id : ℕ)

@@ -4,8 +4,7 @@ use Rattle.std.proofs.lemmas.Bool.{cases_lt, and_parts, and_from, not-true, not_
 use Rattle.std.specs.FinMap.{get}
 use Rattle.linda_tuple.specs.Tuple.{Tuple}
 use Rattle.linda_tuple.specs.Template.{Template}
-use Rattle.linda_tuple.specs.Testing.{is_match}
-use Rattle.linda_tuple.proofs.MatchingLaws.{is_match_decides}
+use Rattle.linda_tuple.specs.Matching.{is_match}
 use Rattle.linda_bag.specs.FreeMatch.{IsFreeMatch}
 use Rattle.linda_hold.specs.declared.request.Request.{Request}
 use Rattle.linda_hold.specs.Request.{request_of}
@@ -74,11 +73,11 @@ module _ (st : State) (is : IsState st) where
         by None there e = absurd (true≢false (sym e))
         by (Some tuple) there e =
             let parts = and_parts (is_match shape tuple) (not (passed id)) e in
-            record { row = tuple; stored = there; matches = (is_match_decides shape tuple).0 parts.0; free = not-true (passed id) parts.1 }
+            record { row = tuple; stored = there; matches = parts.0; free = not-true (passed id) parts.1 }
 
     fits_free : (id : ℕ) → IsFreeMatch st.bag shape passed id → fits (passed id) (get st.bag id) ≡ true
     fits_free id f =
-        ap (fits (passed id)) f.stored ∙ and_from (is_match shape f.row) (not (passed id)) ((is_match_decides shape f.row).1 f.matches) (not_from_false (passed id) f.free)
+        ap (fits (passed id)) f.stored ∙ and_from (is_match shape f.row) (not (passed id)) f.matches (not_from_false (passed id) f.free)
 
     least_of : (o : Option ℕ) × IsLeast st.bag shape passed o
     least_of = by (search_below (λ id. fits (passed id) (get st.bag id)) st.next)

@@ -6,8 +6,7 @@ use Rattle.std.specs.Cmp.{unsigned_ties, unsigned_Decides}
 use Rattle.std.specs.FinMap.{get, entries, find, get-entries}
 use Rattle.linda_tuple.specs.Tuple.{Tuple}
 use Rattle.linda_tuple.specs.Template.{Template}
-use Rattle.linda_tuple.specs.Testing.{is_match}
-use Rattle.linda_tuple.proofs.MatchingLaws.{is_match_decides}
+use Rattle.linda_tuple.specs.Matching.{is_match}
 use Rattle.linda_bag.specs.FreeMatch.{IsFreeMatch}
 use Rattle.linda_bag.proofs.LeftLaws.{HasKey}
 use Rattle.linda_step.specs.Soft.{Bagged}
@@ -49,9 +48,9 @@ has_key k row (e ∷ es) found =
 
 module _ (bag : Bagged) (shape : Template) (passed : ℕ → Bool) where
   by_tests : (k : ℕ) (row : Tuple) → get bag k ≡ Some row → (fits out : Bool) → is_match shape row ≡ fits → passed k ≡ out → IsFreeMatch bag shape passed k ⊎ (IsFreeMatch bag shape passed k → ⊥)
-  by_tests k row stored true false fits free = inl record { row = row; stored = stored; matches = (is_match_decides shape row).0 fits; free = free }
+  by_tests k row stored true false fits free = inl record { row = row; stored = stored; matches = fits; free = free }
   by_tests k row stored true true fits free = inr (λ is. true≢false (sym free ∙ is.free))
-  by_tests k row stored false out fits free = inr (λ is. true≢false (sym ((is_match_decides shape is.row).1 is.matches) ∙ ap (is_match shape) (same_Some is.row row (sym is.stored ∙ stored)) ∙ fits))
+  by_tests k row stored false out fits free = inr (λ is. true≢false (sym is.matches ∙ ap (is_match shape) (same_Some is.row row (sym is.stored ∙ stored)) ∙ fits))
 
   by_get : (k : ℕ) (there : Option Tuple) → get bag k ≡ there → IsFreeMatch bag shape passed k ⊎ (IsFreeMatch bag shape passed k → ⊥)
   by_get k None none = inr (λ is. none-some is.row (sym none ∙ is.stored))

@@ -5,8 +5,7 @@ use Rattle.std.proofs.lemmas.Option.{none-some, same_Some}
 use Rattle.std.proofs.lemmas.List.Elements.{All-nil, All-filter, All-push}
 use Rattle.std.specs.FinMap.{get, insert, remove}
 use Rattle.linda_tuple.specs.Tuple.{Tuple}
-use Rattle.linda_tuple.specs.Testing.{is_match}
-use Rattle.linda_tuple.proofs.MatchingLaws.{is_match_decides}
+use Rattle.linda_tuple.specs.Matching.{is_match}
 use Rattle.linda_bag.specs.FreeMatch.{IsFreeMatch}
 use Rattle.linda_maps.proofs.MapLaws.{get_same, get_other, get_removed_same, get_removed_other}
 use Rattle.linda_hold.specs.declared.request.Request.{Request}
@@ -54,7 +53,7 @@ module _ (bag : Bagged) (id : ℕ) (row : Tuple) (stored : get bag id ≡ Some r
         | inl same ↦
             let here : get bag id ≡ Some may.row = subst (λ i. get bag i ≡ Some may.row) same may.stored in
             let row_is : may.row ≡ row = same_Some may.row row (sym here ∙ stored) in
-            let fits : is_match w.1.template row ≡ true = subst (λ r. is_match w.1.template r ≡ true) row_is ((is_match_decides w.1.template may.row).1 may.matches) in
+            let fits : is_match w.1.template row ≡ true = subst (λ r. is_match w.1.template r ≡ true) row_is may.matches in
             let takes : w.1.remove ≡ true = no_read w.1.remove (is_match w.1.template row) left fits in
             barred fits takes (subst (λ i. get new i ≡ None) same (not_held w.1.remove (get new k) may.free takes))
         | inr other ↦ rest k other (record { row = may.row; stored = may.stored; matches = may.matches; free = passed_alike w.1.remove (get new k) (get old k) (apart k other) may.free })

@@ -1,64 +1,37 @@
--- The tests of `specs/Testing` decide what the definitions of `specs/Matching` say.
-use Rattle.std.proofs.Common.{◌≡◌, ◌↔◌, IsTrue, Bool, true, false, List, [], ◌∷◌, refl}
-use Rattle.std.specs.Bool.{Decides}
+-- What follows where a template matches a tuple.
+use Rattle.std.proofs.Common.{◌≡◌, true, List, [], ◌∷◌}
+use Rattle.std.specs.Prelude.{IsTrue}
 use Rattle.std.specs.List.{AllZip}
-use Rattle.std.proofs.lemmas.Bool.{false≢true}
-use Rattle.std.proofs.lemmas.Bool.Decides.{same_from_decides, Decides-and, Decides-like}
+use Rattle.std.proofs.lemmas.Bool.{false≢true, and_parts}
 use Rattle.linda_tuple.specs.declared.atom.Atom.{Atom}
-use Rattle.linda_tuple.specs.declared.atom.Atom.TheVariants as atoms
 use Rattle.linda_tuple.specs.declared.pattern.Pattern.{Pattern}
 use Rattle.linda_tuple.specs.declared.pattern.Pattern.TheVariants as patterns
 use Rattle.linda_tuple.specs.Tuple.{Tuple}
-use Rattle.linda_tuple.specs.Atom.{IsInt, IsText, IsBool}
 use Rattle.linda_tuple.specs.Template.{Template}
-use Rattle.linda_tuple.specs.Matching.{Fits, Matches}
-use Rattle.linda_tuple.specs.Sameness.{same_atom-decides}
-use Rattle.linda_tuple.specs.Testing.{is_int, is_text, is_bool, is_fit, are_fit, is_match}
+use Rattle.linda_tuple.specs.Matching.{Matches, are_fit, is_fit, is_match}
+use Rattle.linda_tuple.specs.Sameness.{same_atom, same_atom-decides}
 
--- What always holds, and what never does.
-always : {P : Type 0} → P → Decides true P
-always p = ((λ _. p), (λ _. refl))
+-- The pattern fits the atom.
+abbrev pub Fits : Pattern → Atom → Type 0
+Fits pattern atom = IsTrue (is_fit pattern atom)
 
-never : {P : Type 0} → (P → ⊥) → Decides false P
-never none = ((λ e. absurd (false≢true e)), (λ p. absurd (none p)))
+-- A value fits itself alone.
+pub fits_itself : (v atom : Atom) → Fits (patterns.Value v) atom → v ≡ atom
+fits_itself v atom fits = (same_atom-decides v atom).0 fits
 
-is_int_decides : (a : Atom) → Decides (is_int a) (IsInt a)
-is_int_decides (atoms.Int n) = always tt
-is_int_decides (atoms.Text t) = never (λ h. h)
-is_int_decides (atoms.Bool b) = never (λ h. h)
+all_fit : (ps : List Pattern) (xs : List Atom) → are_fit ps xs ≡ true → AllZip Fits ps xs
+all_fit [] [] e = tt
+all_fit [] (x ∷ xs) e = absurd (false≢true e)
+all_fit (p ∷ ps) [] e = absurd (false≢true e)
+all_fit (p ∷ ps) (x ∷ xs) e = let parts = and_parts (is_fit p x) (are_fit ps xs) e in (parts.0, all_fit ps xs parts.1)
 
-is_text_decides : (a : Atom) → Decides (is_text a) (IsText a)
-is_text_decides (atoms.Int n) = never (λ h. h)
-is_text_decides (atoms.Text t) = always tt
-is_text_decides (atoms.Bool b) = never (λ h. h)
+-- The parts of a match.
+pub record Matched (template : Template) (tuple : Tuple) : Type 0 where
+  pub tag : template.tag ≡ tuple.tag
+  pub fields : AllZip Fits template.fields tuple.fields
 
-is_bool_decides : (a : Atom) → Decides (is_bool a) (IsBool a)
-is_bool_decides (atoms.Int n) = never (λ h. h)
-is_bool_decides (atoms.Text t) = never (λ h. h)
-is_bool_decides (atoms.Bool b) = always tt
-
-is_fit_decides : (p : Pattern) (a : Atom) → Decides (is_fit p a) (Fits p a)
-is_fit_decides (patterns.Value v) a = same_atom-decides v a
-is_fit_decides patterns.IntFormal a = is_int_decides a
-is_fit_decides patterns.TextFormal a = is_text_decides a
-is_fit_decides patterns.BoolFormal a = is_bool_decides a
-is_fit_decides patterns.Any a = always tt
-
-are_fit_decides : (ps : List Pattern) (xs : List Atom) → Decides (are_fit ps xs) (AllZip Fits ps xs)
-are_fit_decides [] [] = always tt
-are_fit_decides [] (x ∷ xs) = never (λ h. h)
-are_fit_decides (p ∷ ps) [] = never (λ h. h)
-are_fit_decides (p ∷ ps) (x ∷ xs) = Decides-and _ _ (is_fit_decides p x) (are_fit_decides ps xs)
-
--- The test of a match is true exactly where the template matches the tuple.
-pub is_match_decides : (shape : Template) (row : Tuple) → Decides (is_match shape row) (Matches shape row)
+pub matched : (template : Template) (tuple : Tuple) → Matches template tuple → Matched template tuple
 unfolding is_match
-is_match_decides shape row =
-    Decides-like _
-    (λ h. record { tag = h.0; fields = h.1 })
-    (λ h. (h.tag, h.fields))
-    (Decides-and _ _ (same_atom-decides shape.tag row.tag) (are_fit_decides shape.fields row.fields))
-
--- What is true exactly where the template matches is what the test answers.
-pub told_by_test : (told : Bool) (shape : Template) (row : Tuple) → (IsTrue told ↔ Matches shape row) → told ≡ is_match shape row
-told_by_test told shape row exact = same_from_decides told (is_match shape row) exact (is_match_decides shape row)
+matched template tuple matches =
+    let parts = and_parts (same_atom template.tag tuple.tag) (are_fit template.fields tuple.fields) matches in
+    record { tag = (same_atom-decides template.tag tuple.tag).0 parts.0; fields = all_fit template.fields tuple.fields parts.1 }

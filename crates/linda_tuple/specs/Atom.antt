@@ -1,5 +1,5 @@
 -- Atoms: which have a spelling in a form, and of which kind one is.
-use Rattle.std.specs.Prelude.{◌≡◌, ◌≤◌, true, length, FitsSigned}
+use Rattle.std.specs.Prelude.{◌≡◌, ◌≤◌, Bool, true, false, length, FitsSigned}
 use Rattle.std.specs.Int.{w64}
 use Rattle.std.specs.Str.{is_utf8}
 use Rattle.linda_tuple.specs.declared.atom.Atom.{Atom}
@@ -19,20 +19,20 @@ IsSoundIn form (atoms.Bool b) = Unit {0}
 abbrev pub IsSound : Atom → Type 0
 IsSound atom = IsSoundIn Two atom
 
--- The atom is an integer.
-abbrev pub IsInt : Atom → Type 0
-IsInt (atoms.Int n) = Unit {0}
-IsInt (atoms.Text t) = ⊥
-IsInt (atoms.Bool b) = ⊥
+-- whether the atom is an integer
+abbrev pub is_int : Atom → Bool
+is_int (atoms.Int n) = true
+is_int (atoms.Text t) = false
+is_int (atoms.Bool b) = false
 
--- The atom is a text.
-abbrev pub IsText : Atom → Type 0
-IsText (atoms.Int n) = ⊥
-IsText (atoms.Text t) = Unit {0}
-IsText (atoms.Bool b) = ⊥
+-- whether the atom is a text
+abbrev pub is_text : Atom → Bool
+is_text (atoms.Int n) = false
+is_text (atoms.Text t) = true
+is_text (atoms.Bool b) = false
 
--- The atom is a truth value.
-abbrev pub IsBool : Atom → Type 0
-IsBool (atoms.Int n) = ⊥
-IsBool (atoms.Text t) = ⊥
-IsBool (atoms.Bool b) = Unit {0}
+-- whether the atom is a truth value
+abbrev pub is_bool : Atom → Bool
+is_bool (atoms.Int n) = false
+is_bool (atoms.Text t) = false
+is_bool (atoms.Bool b) = true

@@ -4,5 +4,4 @@ pub mod Tuple
 pub mod Template
 pub mod Matching
 pub mod Sameness
-pub mod Testing
 pub mod Codes

@@ -1,26 +1,36 @@
 -- What a template matches, and what a match binds.
-use Rattle.std.specs.Prelude.{◌≡◌, Bool, true, false, List, map, filter, zip}
-use Rattle.std.specs.List.{AllZip}
+use Rattle.std.specs.Prelude.{IsTrue, Bool, true, false, ◌&&◌, List, [], ◌∷◌, map, filter, zip}
 use Rattle.linda_tuple.specs.declared.atom.Atom.{Atom}
 use Rattle.linda_tuple.specs.declared.pattern.Pattern.{Pattern}
 use Rattle.linda_tuple.specs.declared.pattern.Pattern.TheVariants as patterns
-use Rattle.linda_tuple.specs.Atom.{IsInt, IsText, IsBool}
+use Rattle.linda_tuple.specs.Atom.{is_int, is_text, is_bool}
+use Rattle.linda_tuple.specs.Sameness.{same_atom}
 use Rattle.linda_tuple.specs.Tuple.{Tuple}
 use Rattle.linda_tuple.specs.Template.{Template}
 
 -- What a pattern fits: a value fits itself, a formal each atom of its kind, a wildcard every atom.
-abbrev pub Fits : Pattern → Atom → Type 0
-Fits (patterns.Value v) atom = v ≡ atom
-Fits patterns.IntFormal atom = IsInt atom
-Fits patterns.TextFormal atom = IsText atom
-Fits patterns.BoolFormal atom = IsBool atom
-Fits patterns.Any atom = Unit {0}
+abbrev pub is_fit : Pattern → Atom → Bool
+is_fit (patterns.Value v) atom = same_atom v atom
+is_fit patterns.IntFormal atom = is_int atom
+is_fit patterns.TextFormal atom = is_text atom
+is_fit patterns.BoolFormal atom = is_bool atom
+is_fit patterns.Any atom = true
 
--- A template matches a tuple: the tags are equal, there are as many fields as patterns, and at each
--- place the pattern fits the field.
-pub record Matches (template : Template) (tuple : Tuple) : Type 0 where
-  pub tag : template.tag ≡ tuple.tag
-  pub fields : AllZip Fits template.fields tuple.fields
+-- There are as many patterns as atoms, and at each place the pattern fits the atom.
+abbrev pub are_fit : List Pattern → List Atom → Bool
+are_fit [] [] = true
+are_fit [] (atom ∷ atoms) = false
+are_fit (pattern ∷ patterns) [] = false
+are_fit (pattern ∷ patterns) (atom ∷ atoms) = is_fit pattern atom && are_fit patterns atoms
+
+-- Whether a template matches a tuple, as a test, which filters and searches of lists take: the tags are equal, there are
+-- as many fields as patterns, and at each place the pattern fits the field.
+unfoldable pub is_match : Template → Tuple → Bool
+is_match template tuple = same_atom template.tag tuple.tag && are_fit template.fields tuple.fields
+
+-- A template matches a tuple.
+abbrev pub Matches : Template → Tuple → Type 0
+Matches template tuple = IsTrue (is_match template tuple)
 
 -- Whether the pattern is a formal, which binds what it fits.
 abbrev pub is_formal : Pattern → Bool

@@ -1,9 +1,7 @@
 //! Which tuples a template matches, and what it binds there.
 
-ghost use Rattle.std.specs.Prelude.{◌≡◌, ◌↔◌, IfOk, IsTrue};
-ghost use Rattle.std.specs.List.{AllZip};
-ghost use Rattle.linda_tuple.specs.Matching.{Fits, Matches, bindings_of};
-ghost use Rattle.linda_tuple.specs.Testing.{is_match};
+ghost use Rattle.std.specs.Prelude.{◌≡◌, IfOk};
+ghost use Rattle.linda_tuple.specs.Matching.{Matches, are_fit, bindings_of, is_match};
 
 use crate::atom::Atom;
 use crate::pattern::Pattern;
@@ -13,15 +11,15 @@ use std::alloc::{AllocError, Global};
 
 /// Whether the template matches the tuple: the tags are equal, there are as many fields as patterns,
 /// and each pattern fits the field at its place. Takes no memory.
+#[tactic(auto, unfolding(crate::specs::Matching::is_match))]
 pub fn matches(template: &Template, tuple: &Tuple) -> bool
-    ensures exact { IsTrue result ↔ Matches template.now tuple.now }
-    ensures test { result ≡ is_match template.now tuple.now }
+    ensures { result ≡ is_match template.now tuple.now }
 {
     *template.tag() == *tuple.tag() && all_fit(template.fields(), tuple.fields())
 }
 
 fn all_fit(patterns: &[Pattern], atoms: &[Atom]) -> bool
-    ensures { IsTrue result ↔ AllZip Fits patterns.now atoms.now }
+    ensures { result ≡ are_fit patterns.now atoms.now }
 {
     match patterns {
         [] => atoms.is_empty(),

@@ -2,7 +2,7 @@
 
 ghost use Rattle.std.specs.Prelude.{◌≡◌, ◌↔◌, IfOk, IsTrue};
 ghost use Rattle.linda_tuple.specs.Template.{IsSoundPattern};
-ghost use Rattle.linda_tuple.specs.Matching.{Fits, is_formal};
+ghost use Rattle.linda_tuple.specs.Matching.{is_fit, is_formal};
 
 use crate::atom::Atom;
 use std::alloc::{AllocError, Global};
@@ -48,7 +48,7 @@ impl Pattern {
 
     /// Whether the atom is what the pattern asks for. Takes no memory.
     pub fn fits(&self, atom: &Atom) -> bool
-        ensures { IsTrue result ↔ Fits self.now atom.now }
+        ensures { result ≡ is_fit self.now atom.now }
     {
         match self {
             Pattern::Value(value) => *value == *atom,

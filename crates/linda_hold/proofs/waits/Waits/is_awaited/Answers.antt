@@ -1,6 +1,6 @@
 use Rattle.std.proofs.Common.{nat_cmp, ap, ◌∙◌}
 use Rattle.std.specs.BTreeMap as tree
-use Rattle.linda_tuple.specs.Testing.{is_match}
+use Rattle.linda_tuple.specs.Matching.{is_match}
 use Rattle.linda_hold.specs.Waits.{is_awaited}
 use Rattle.linda_hold.specs.Index.{asked_of}
 use Rattle.linda_hold.proofs.ListLaws.{any_within}
