@@ -2,12 +2,16 @@
 //!
 //! `Memory` is returned last: only of bytes at whose front a whole value stands.
 
-ghost use Rattle.std.specs.Prelude.{◌≡◌, IsOk, IsErrOf};
-ghost use Rattle.linda_codec.specs.Steps.{Gives};
+ghost use Rattle.std.specs.Prelude.{◌≡◌, ◌∷◌, IsOk, IsErrOf};
+ghost use Rattle.linda_tuple.specs.declared.atom.Atom.TheVariants as atoms;
+ghost use Rattle.linda_tuple.specs.declared.pattern.Pattern.TheVariants as patterns;
+ghost use Rattle.linda_codec.specs.Steps.{Gives, GivesAlways};
+ghost use Rattle.linda_codec.specs.Formats.{body_at, integer, made_at, no_kind, truth};
 ghost use Rattle.linda_codec.specs.Values as format;
 
 use crate::fault::ReadFault;
 use crate::kinds::{BOOL_FORMAL, INT_FORMAL, INTEGER, TEXT, TEXT_FORMAL, TRUTH, WILDCARD};
+use crate::limits::KIND_BYTES;
 use crate::list::read_list;
 use crate::number::{read_bool, read_i64};
 use crate::parts::{read_count, split_text};
@@ -26,21 +30,52 @@ pub fn read_atom(alloc: Global, form: Form, bytes: &[u8]) -> Result<(Atom, &[u8]
 {
     match bytes {
         [] => Err(ReadFault::Short),
-        [INTEGER, rest @ ..] => {
-            let (number, rest) = read_i64(rest)?;
-            Ok((Atom::Int(number), rest))
-        }
-        [TEXT, rest @ ..] => {
-            let (text, rest) = split_text(form, rest)?;
-            let string = String::from_str(alloc, text)?;
-            Ok((Atom::Text(Text::new(string)), rest))
-        }
-        [TRUTH, rest @ ..] => {
-            let (truth, rest) = read_bool(rest)?;
-            Ok((Atom::Bool(truth), rest))
-        }
-        [_, ..] => Err(ReadFault::BadKind(bytes.len())),
+        [kind, rest @ ..] => read_atom_body(alloc, form, *kind, rest),
     }
+}
+
+// Reads an atom of that kind, of which the kind is read and the body is at the front.
+fn read_atom_body(
+    alloc: Global,
+    form: Form,
+    kind: u8,
+    bytes: &[u8],
+) -> Result<(Atom, &[u8]), ReadFault>
+    ensures value { Gives (λ x. (x.0, x.1.now)) result (body_at (format.atom_kinds form) no_kind kind bytes.now) }
+    ensures memory { IsErrOf result ReadFault.Memory → IsOk (body_at (format.atom_kinds form) no_kind kind bytes.now) }
+{
+    match kind {
+        INTEGER => read_integer(bytes),
+        TEXT => read_text(alloc, form, bytes),
+        TRUTH => read_truth(bytes),
+        _ => Err(ReadFault::BadKind(KIND_BYTES + bytes.len())),
+    }
+}
+
+// Reads an integer, as an atom.
+fn read_integer(bytes: &[u8]) -> Result<(Atom, &[u8]), ReadFault>
+    ensures { GivesAlways (λ x. (x.0, x.1.now)) result (made_at (λ n. atoms.Int n) integer bytes.now) }
+{
+    let (number, rest) = read_i64(bytes)?;
+    Ok((Atom::Int(number), rest))
+}
+
+// Reads a text, as an atom.
+fn read_text(alloc: Global, form: Form, bytes: &[u8]) -> Result<(Atom, &[u8]), ReadFault>
+    ensures value { Gives (λ x. (x.0, x.1.now)) result (made_at (λ t. atoms.Text t) (format.text form) bytes.now) }
+    ensures memory { IsErrOf result ReadFault.Memory → IsOk (made_at (λ t. atoms.Text t) (format.text form) bytes.now) }
+{
+    let (text, rest) = split_text(form, bytes)?;
+    let string = String::from_str(alloc, text)?;
+    Ok((Atom::Text(Text::new(string)), rest))
+}
+
+// Reads a truth value, as an atom.
+fn read_truth(bytes: &[u8]) -> Result<(Atom, &[u8]), ReadFault>
+    ensures { GivesAlways (λ x. (x.0, x.1.now)) result (made_at (λ b. atoms.Bool b) truth bytes.now) }
+{
+    let (truth, rest) = read_bool(bytes)?;
+    Ok((Atom::Bool(truth), rest))
 }
 
 /// Reads a tuple, and gives the bytes after it.
@@ -119,13 +154,39 @@ pub(crate) fn read_pattern(
 {
     match bytes {
         [] => Err(ReadFault::Short),
-        [INT_FORMAL, rest @ ..] => Ok((Pattern::IntFormal, rest)),
-        [TEXT_FORMAL, rest @ ..] => Ok((Pattern::TextFormal, rest)),
-        [BOOL_FORMAL, rest @ ..] => Ok((Pattern::BoolFormal, rest)),
-        [WILDCARD, rest @ ..] => Ok((Pattern::Any, rest)),
-        [_, ..] => {
-            let (value, rest) = read_atom(alloc, form, bytes)?;
-            Ok((Pattern::Value(value), rest))
-        }
+        [kind, rest @ ..] => read_pattern_body(alloc, form, *kind, rest),
     }
+}
+
+// Reads a pattern of that kind, of which the kind is read.
+fn read_pattern_body(
+    alloc: Global,
+    form: Form,
+    kind: u8,
+    bytes: &[u8],
+) -> Result<(Pattern, &[u8]), ReadFault>
+    ensures value { Gives (λ x. (x.0, x.1.now)) result (body_at format.formal_kinds (made_at (λ v. patterns.Value v) (format.atom form)) kind bytes.now) }
+    ensures memory { IsErrOf result ReadFault.Memory → IsOk (body_at format.formal_kinds (made_at (λ v. patterns.Value v) (format.atom form)) kind bytes.now) }
+{
+    match kind {
+        INT_FORMAL => Ok((Pattern::IntFormal, bytes)),
+        TEXT_FORMAL => Ok((Pattern::TextFormal, bytes)),
+        BOOL_FORMAL => Ok((Pattern::BoolFormal, bytes)),
+        WILDCARD => Ok((Pattern::Any, bytes)),
+        _ => read_value(alloc, form, kind, bytes),
+    }
+}
+
+// Reads an atom, as a pattern, of which the kind is read.
+fn read_value(
+    alloc: Global,
+    form: Form,
+    kind: u8,
+    bytes: &[u8],
+) -> Result<(Pattern, &[u8]), ReadFault>
+    ensures value { Gives (λ x. (x.0, x.1.now)) result (made_at (λ v. patterns.Value v) (format.atom form) (kind ∷ bytes.now)) }
+    ensures memory { IsErrOf result ReadFault.Memory → IsOk (made_at (λ v. patterns.Value v) (format.atom form) (kind ∷ bytes.now)) }
+{
+    let (value, rest) = read_atom_body(alloc, form, kind, bytes)?;
+    Ok((Pattern::Value(value), rest))
 }

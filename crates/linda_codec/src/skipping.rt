@@ -1,14 +1,19 @@
 //! Passing over tuples and templates: what their readers leave and which fault they return, without taking memory.
 
-ghost use Rattle.std.specs.Prelude.{◌≡◌};
+ghost use Rattle.std.specs.Prelude.{◌≡◌, ◌∷◌};
+ghost use Rattle.linda_tuple.specs.Form.{most_fields};
+ghost use Rattle.linda_tuple.specs.declared.pattern.Pattern.TheVariants as patterns;
 ghost use Rattle.linda_codec.specs.Steps.{GivesAlways, left_by};
+ghost use Rattle.linda_codec.specs.Formats.{body_at, both, counted, integer, made_at, no_kind, truth};
 ghost use Rattle.linda_codec.specs.Values as format;
 
 use crate::fault::ReadFault;
 use crate::kinds::{BOOL_FORMAL, INT_FORMAL, INTEGER, TEXT, TEXT_FORMAL, TRUTH, WILDCARD};
+use crate::limits::KIND_BYTES;
 use crate::list::skip_list;
 use crate::number::{read_bool, read_i64};
 use crate::parts::{read_count, split_text};
+use crate::spelled::Spelled;
 use linda_tuple::{Atom, Form, Pattern};
 
 /// The bytes after the tuple at the front.
@@ -19,9 +24,7 @@ use linda_tuple::{Atom, Form, Pattern};
 pub fn skip_tuple(form: Form, bytes: &[u8]) -> Result<&[u8], ReadFault>
     ensures { GivesAlways (λ rest. rest.now) result (left_by ((format.tuple form).read bytes.now)) }
 {
-    let rest = skip_atom(form, bytes)?;
-    let (count, rest) = read_count(form, rest)?;
-    skip_list::<Atom>(form, count, rest)
+    skip_tagged::<Atom>(form, bytes)
 }
 
 /// The bytes after the template at the front.
@@ -32,9 +35,16 @@ pub fn skip_tuple(form: Form, bytes: &[u8]) -> Result<&[u8], ReadFault>
 pub fn skip_template(form: Form, bytes: &[u8]) -> Result<&[u8], ReadFault>
     ensures { GivesAlways (λ rest. rest.now) result (left_by ((format.template form).read bytes.now)) }
 {
+    skip_tagged::<Pattern>(form, bytes)
+}
+
+// The bytes after a tag and so many values as are counted after it.
+fn skip_tagged<V: Spelled>(form: Form, bytes: &[u8]) -> Result<&[u8], ReadFault>
+    ensures { GivesAlways (λ rest. rest.now) result (left_by ((both (format.atom form) (counted (most_fields form) (V.format form))).read bytes.now)) }
+{
     let rest = skip_atom(form, bytes)?;
     let (count, rest) = read_count(form, rest)?;
-    skip_list::<Pattern>(form, count, rest)
+    skip_list::<V>(form, count, rest)
 }
 
 /// The bytes after the atom at the front.
@@ -43,20 +53,44 @@ pub(crate) fn skip_atom(form: Form, bytes: &[u8]) -> Result<&[u8], ReadFault>
 {
     match bytes {
         [] => Err(ReadFault::Short),
-        [INTEGER, rest @ ..] => {
-            let (_number, rest) = read_i64(rest)?;
-            Ok(rest)
-        }
-        [TEXT, rest @ ..] => {
-            let (_text, rest) = split_text(form, rest)?;
-            Ok(rest)
-        }
-        [TRUTH, rest @ ..] => {
-            let (_truth, rest) = read_bool(rest)?;
-            Ok(rest)
-        }
-        [_, ..] => Err(ReadFault::BadKind(bytes.len())),
+        [kind, rest @ ..] => skip_atom_body(form, *kind, rest),
     }
+}
+
+// The bytes after an atom of that kind, of which the kind is read and the body is at the front.
+fn skip_atom_body(form: Form, kind: u8, bytes: &[u8]) -> Result<&[u8], ReadFault>
+    ensures { GivesAlways (λ rest. rest.now) result (left_by (body_at (format.atom_kinds form) no_kind kind bytes.now)) }
+{
+    match kind {
+        INTEGER => skip_integer(bytes),
+        TEXT => skip_text(form, bytes),
+        TRUTH => skip_truth(bytes),
+        _ => Err(ReadFault::BadKind(KIND_BYTES + bytes.len())),
+    }
+}
+
+// The bytes after the integer at the front.
+fn skip_integer(bytes: &[u8]) -> Result<&[u8], ReadFault>
+    ensures { GivesAlways (λ rest. rest.now) result (left_by (integer.read bytes.now)) }
+{
+    let (_number, rest) = read_i64(bytes)?;
+    Ok(rest)
+}
+
+// The bytes after the text at the front.
+fn skip_text(form: Form, bytes: &[u8]) -> Result<&[u8], ReadFault>
+    ensures { GivesAlways (λ rest. rest.now) result (left_by ((format.text form).read bytes.now)) }
+{
+    let (_text, rest) = split_text(form, bytes)?;
+    Ok(rest)
+}
+
+// The bytes after the truth value at the front.
+fn skip_truth(bytes: &[u8]) -> Result<&[u8], ReadFault>
+    ensures { GivesAlways (λ rest. rest.now) result (left_by (truth.read bytes.now)) }
+{
+    let (_truth, rest) = read_bool(bytes)?;
+    Ok(rest)
 }
 
 /// The bytes after the pattern at the front.
@@ -65,10 +99,26 @@ pub(crate) fn skip_pattern(form: Form, bytes: &[u8]) -> Result<&[u8], ReadFault>
 {
     match bytes {
         [] => Err(ReadFault::Short),
-        [INT_FORMAL, rest @ ..] => Ok(rest),
-        [TEXT_FORMAL, rest @ ..] => Ok(rest),
-        [BOOL_FORMAL, rest @ ..] => Ok(rest),
-        [WILDCARD, rest @ ..] => Ok(rest),
-        [_, ..] => skip_atom(form, bytes),
+        [kind, rest @ ..] => skip_pattern_body(form, *kind, rest),
     }
+}
+
+// The bytes after a pattern of that kind, of which the kind is read.
+fn skip_pattern_body(form: Form, kind: u8, bytes: &[u8]) -> Result<&[u8], ReadFault>
+    ensures { GivesAlways (λ rest. rest.now) result (left_by (body_at format.formal_kinds (made_at (λ v. patterns.Value v) (format.atom form)) kind bytes.now)) }
+{
+    match kind {
+        INT_FORMAL => Ok(bytes),
+        TEXT_FORMAL => Ok(bytes),
+        BOOL_FORMAL => Ok(bytes),
+        WILDCARD => Ok(bytes),
+        _ => skip_value(form, kind, bytes),
+    }
+}
+
+// The bytes after an atom, as a pattern, of which the kind is read.
+fn skip_value(form: Form, kind: u8, bytes: &[u8]) -> Result<&[u8], ReadFault>
+    ensures { GivesAlways (λ rest. rest.now) result (left_by (made_at (λ v. patterns.Value v) (format.atom form) (kind ∷ bytes.now))) }
+{
+    skip_atom_body(form, kind, bytes)
 }

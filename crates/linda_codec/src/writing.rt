@@ -1,16 +1,18 @@
 //! Writing atoms, tuples and templates: each has one spelling.
 
-ghost use Rattle.std.specs.Prelude.{◌≡◌, ◌≤◌, ◌++◌, length, take, OnOk, OnErr};
-ghost use Rattle.linda_tuple.specs.Form.{longest_text};
+ghost use Rattle.std.specs.Prelude.{◌≡◌, ◌≤◌, ◌∷◌, ◌++◌, All, length, take, OnOk, OnErr};
+ghost use Rattle.linda_tuple.specs.Form.{longest_text, most_fields};
 ghost use Rattle.linda_tuple.specs.Atom.{IsSoundIn};
 ghost use Rattle.linda_tuple.specs.Tuple.{FitsIn};
 ghost use Rattle.linda_tuple.specs.Template.{IsSoundPatternIn, FitsTemplateIn};
+ghost use Rattle.linda_codec.specs.declared.kinds.TheConstants.{INTEGER, TEXT, TRUTH};
+ghost use Rattle.linda_codec.specs.Formats as formats;
 ghost use Rattle.linda_codec.specs.Values as format;
 
 use crate::kinds::{BOOL_FORMAL, INT_FORMAL, INTEGER, TEXT, TEXT_FORMAL, TRUTH, WILDCARD};
 use crate::list::push_list;
 use crate::spelled::Spelled;
-use linda_tuple::{Atom, Form, Pattern, Template, Tuple};
+use linda_tuple::{Atom, Form, Pattern, Template, Text, Tuple};
 use std::alloc::AllocError;
 
 /// Appends the spelling of the atom.
@@ -86,9 +88,7 @@ pub(crate) fn push_tuple(form: Form, out: &mut Vec<u8>, tuple: &Tuple) -> Result
     ensures front { take (length out.old.items) out.new.items ≡ out.old.items }
 {
     let fields = tuple.fields();
-    push_atom(form, out, tuple.tag())?;
-    out.push(fields.len() as u8)?;
-    push_list(form, out, fields)
+    push_tagged(form, out, tuple.tag(), fields)
 }
 
 /// Appends the spelling of the template; likewise.
@@ -102,9 +102,25 @@ pub(crate) fn push_template(
     ensures front { take (length out.old.items) out.new.items ≡ out.old.items }
 {
     let patterns = template.fields();
-    push_atom(form, out, template.tag())?;
-    out.push(patterns.len() as u8)?;
-    push_list(form, out, patterns)
+    push_tagged(form, out, template.tag(), patterns)
+}
+
+// Appends the spelling of the tag, the count of the values, and their spellings; likewise.
+fn push_tagged<V: Spelled>(
+    form: Form,
+    out: &mut Vec<u8>,
+    tag: &Atom,
+    values: &[V],
+) -> Result<(), AllocError>
+    requires tag { IsSoundIn form tag.now }
+    requires count { length values.now ≤ most_fields form }
+    requires values { All (V.format form).Fits values.now }
+    ensures ok { OnOk result (out.new.items ≡ out.old.items ++ (formats.both (format.atom form) (formats.counted (most_fields form) (V.format form))).spell (tag.now, values.now)) }
+    ensures front { take (length out.old.items) out.new.items ≡ out.old.items }
+{
+    push_atom(form, out, tag)?;
+    out.push(values.len() as u8)?;
+    push_list(form, out, values)
 }
 
 /// Appends the spelling of the pattern; likewise.
@@ -135,21 +151,40 @@ pub(crate) fn push_atom(form: Form, out: &mut Vec<u8>, atom: &Atom) -> Result<()
     ensures front { take (length out.old.items) out.new.items ≡ out.old.items }
 {
     match atom {
-        Atom::Int(number) => {
-            out.push(INTEGER)?;
-            out.extend_from_slice(&number.to_be_bytes())
-        }
-        Atom::Text(text) => {
-            out.push(TEXT)?;
-            push_text_length(form, out, text.len())?;
-            out.extend_from_slice(text.as_str().as_bytes())
-        }
-        Atom::Bool(truth) => {
-            out.push(TRUTH)?;
-            out.push(u8::from(*truth))?;
-            Ok(())
-        }
+        Atom::Int(number) => push_integer(out, *number),
+        Atom::Text(text) => push_text(form, out, text),
+        Atom::Bool(truth) => push_truth(out, *truth),
     }
+}
+
+// Appends the kind of an integer and the integer; where memory runs out, a part of it may stand after the old bytes.
+fn push_integer(out: &mut Vec<u8>, number: i64) -> Result<(), AllocError>
+    ensures ok { OnOk result (out.new.items ≡ out.old.items ++ INTEGER ∷ formats.integer.spell number) }
+    ensures front { take (length out.old.items) out.new.items ≡ out.old.items }
+{
+    out.push(INTEGER)?;
+    out.extend_from_slice(&number.to_be_bytes())
+}
+
+// Appends the kind of a text, its length and the text; likewise.
+fn push_text(form: Form, out: &mut Vec<u8>, text: &Text) -> Result<(), AllocError>
+    requires { length text.now ≤ longest_text form }
+    ensures ok { OnOk result (out.new.items ≡ out.old.items ++ TEXT ∷ (format.text form).spell text.now) }
+    ensures front { take (length out.old.items) out.new.items ≡ out.old.items }
+{
+    out.push(TEXT)?;
+    push_text_length(form, out, text.len())?;
+    out.extend_from_slice(text.as_str().as_bytes())
+}
+
+// Appends the kind of a truth value and the truth value; likewise.
+fn push_truth(out: &mut Vec<u8>, truth: bool) -> Result<(), AllocError>
+    ensures ok { OnOk result (out.new.items ≡ out.old.items ++ TRUTH ∷ formats.truth.spell truth) }
+    ensures front { take (length out.old.items) out.new.items ≡ out.old.items }
+{
+    out.push(TRUTH)?;
+    out.push(u8::from(truth))?;
+    Ok(())
 }
 
 // Appends the length of a text; where memory runs out, a part of it may stand after the old bytes.

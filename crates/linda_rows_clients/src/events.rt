@@ -13,7 +13,7 @@
 
 mod made;
 
-use crate::number::{number, place};
+use crate::number::place;
 use crate::words::push_numbers;
 use linda_event::{
     Base, Event, all_nacks, ask_count, base_count, bases, check, is_any_ready, labels_of, nacks_of,
@@ -45,26 +45,52 @@ impl Events {
         came: &mut String,
     ) -> Result<(), WordsFault> {
         let (verb, rest) = split_word(words);
-        if verb == "event" {
-            self.event = event_of(alloc, rest)?;
-            Ok(())
-        } else if verb == "check" {
-            Ok(tell_check(&self.event, came)?)
-        } else if verb == "count" {
-            Ok(tell_count(&self.event, came)?)
-        } else if verb == "bases" {
-            Ok(tell_bases(alloc, &self.event, came)?)
-        } else if verb == "at" {
-            Ok(tell_ready(&self.event, number(rest)?, came)?)
-        } else if verb == "base" {
-            Ok(tell_base(alloc, &self.event, place(rest)?, came)?)
-        } else if verb == "nothing" {
-            Ok(tell_nothing(alloc, &self.event, came)?)
-        } else if verb == "labels" {
-            Ok(tell_labels(alloc, &self.event, place(rest)?, came)?)
-        } else {
-            Err(WordsFault::Unknown)
+        match verb {
+            "event" => self.renew(alloc, rest),
+            "check" | "count" | "bases" | "nothing" => {
+                Ok(tell_whole(alloc, &self.event, verb, came)?)
+            }
+            "at" | "base" | "labels" => {
+                Ok(tell_at(alloc, &self.event, verb, place(rest)?, came)?)
+            }
+            _ => Err(WordsFault::Unknown),
         }
+    }
+
+    // Goes on with the event that the words say.
+    fn renew(&mut self, alloc: Global, words: &str) -> Result<(), WordsFault> {
+        self.event = event_of(alloc, words)?;
+        Ok(())
+    }
+}
+
+// Writes what the verb asks of the whole event.
+fn tell_whole(
+    alloc: Global,
+    event: &Event,
+    verb: &str,
+    came: &mut String,
+) -> Result<(), AllocError> {
+    match verb {
+        "check" => tell_check(event, came),
+        "count" => tell_count(event, came),
+        "bases" => tell_bases(alloc, event, came),
+        _ => tell_nothing(alloc, event, came),
+    }
+}
+
+// Writes what the verb asks of the event at this time, or of its base of this number.
+fn tell_at(
+    alloc: Global,
+    event: &Event,
+    verb: &str,
+    number: usize,
+    came: &mut String,
+) -> Result<(), AllocError> {
+    match verb {
+        "at" => tell_ready(event, number as u64, came),
+        "base" => tell_base(alloc, event, number, came),
+        _ => tell_labels(alloc, event, number, came),
     }
 }
 
@@ -123,18 +149,15 @@ fn tell_base(
     base: usize,
     came: &mut String,
 ) -> Result<(), AllocError> {
-    let labels = labels_of(alloc, event, base)?;
-    let raised = nacks_of(alloc, event, base)?;
     came.push('>')?;
-    push_numbers(came, "labels", labels.as_slice())?;
-    push_numbers(came, "raised", raised.as_slice())?;
+    push_numbers(came, "labels", &labels_of(alloc, event, base)?)?;
+    push_numbers(came, "raised", &nacks_of(alloc, event, base)?)?;
     came.push('\n')
 }
 
 fn tell_nothing(alloc: Global, event: &Event, came: &mut String) -> Result<(), AllocError> {
-    let raised = all_nacks(alloc, event)?;
     came.push('>')?;
-    push_numbers(came, "raised", raised.as_slice())?;
+    push_numbers(came, "raised", &all_nacks(alloc, event)?)?;
     came.push('\n')
 }
 

@@ -15,6 +15,7 @@ enum Subject {
     Clients,
     Texts,
     Scripts,
+    Traces,
     Worlds,
 }
 
@@ -41,27 +42,34 @@ impl Players {
     }
 }
 
+// Puts a new value into its place.
+fn put<T: Drop>(place: &mut T, new: T) {
+    *place = new;
+}
+
+// The subject of this name.
+fn subject_of(name: &str) -> Result<Subject, WordsFault> {
+    match name {
+        "event" => Ok(Subject::Events),
+        "client" => Ok(Subject::Clients),
+        "text" => Ok(Subject::Texts),
+        "script" => Ok(Subject::Scripts),
+        "trace" => Ok(Subject::Traces),
+        "world" => Ok(Subject::Worlds),
+        _ => Err(WordsFault::Unknown),
+    }
+}
+
 impl Player for Players {
     fn begin(&mut self, alloc: Global, subject: &str) -> Result<(), WordsFault> {
-        if subject == "event" {
-            self.subject = Subject::Events;
-            self.events = Events::new();
-        } else if subject == "client" {
-            self.subject = Subject::Clients;
-            self.clients.begin(alloc)?;
-        } else if subject == "text" {
-            self.subject = Subject::Texts;
-        } else if subject == "script" {
-            self.subject = Subject::Scripts;
-            self.scripts = Scripts::new(alloc, false);
-        } else if subject == "trace" {
-            self.subject = Subject::Scripts;
-            self.scripts = Scripts::new(alloc, true);
-        } else if subject == "world" {
-            self.subject = Subject::Worlds;
-            self.worlds = Worlds::new(alloc);
-        } else {
-            return Err(WordsFault::Unknown);
+        self.subject = subject_of(subject)?;
+        match self.subject {
+            Subject::Events => put(&mut self.events, Events::new()),
+            Subject::Clients => return self.clients.begin(alloc),
+            Subject::Texts => (),
+            Subject::Scripts => put(&mut self.scripts, Scripts::new(alloc, false)),
+            Subject::Traces => put(&mut self.scripts, Scripts::new(alloc, true)),
+            Subject::Worlds => put(&mut self.worlds, Worlds::new(alloc)),
         }
         Ok(())
     }
@@ -71,7 +79,7 @@ impl Player for Players {
             Subject::Events => self.events.play(alloc, words, came),
             Subject::Clients => self.clients.play(alloc, words, came),
             Subject::Texts => play_text(alloc, words, came),
-            Subject::Scripts => self.scripts.play(alloc, words, came),
+            Subject::Scripts | Subject::Traces => self.scripts.play(alloc, words, came),
             Subject::Worlds => self.worlds.play(alloc, words, came),
         }
     }

@@ -49,51 +49,93 @@ impl Scripts {
         came: &mut String,
     ) -> Result<(), WordsFault> {
         let (verb, rest) = split_word(words);
-        if verb == "servers" {
-            *self = Scripts::new(alloc, self.are_traced);
-            self.servers = small_number(rest)?;
-            return Ok(());
+        match verb {
+            "servers" => self.begin(alloc, rest),
+            "skip" => push_skipped(&mut self.script, rest),
+            "script" => self.play_script(alloc, rest, came),
+            "times" => self.play_lines(alloc, rest, came),
+            _ => self.play_line(alloc, words, came),
         }
-        if verb == "skip" {
-            return push_skipped(&mut self.script, rest);
-        }
-        if verb == "script" {
-            let (script, _behind) = string_at(alloc, rest, 0)?;
-            self.script = script;
-            self.printed = String::new(alloc);
-        } else if verb == "times" {
-            push_lines(&mut self.script, rest)?;
-            return self.run(alloc, came, true);
-        } else {
-            push_line(&mut self.script, words)?;
-        }
+    }
+
+    // Begins a script over so many servers.
+    fn begin(&mut self, alloc: Global, servers: &str) -> Result<(), WordsFault> {
+        let servers = small_number(servers)?;
+        *self = Scripts::new(alloc, self.are_traced);
+        self.servers = servers;
+        Ok(())
+    }
+
+    // Runs the script that stands there as a string.
+    fn play_script(
+        &mut self,
+        alloc: Global,
+        words: &str,
+        came: &mut String,
+    ) -> Result<(), WordsFault> {
+        let (script, _behind) = string_at(alloc, words, 0)?;
+        self.script = script;
+        self.printed.clear();
+        self.run(alloc, came, false)
+    }
+
+    // Runs the script with a line that stands there so many times.
+    fn play_lines(
+        &mut self,
+        alloc: Global,
+        words: &str,
+        came: &mut String,
+    ) -> Result<(), WordsFault> {
+        push_lines(&mut self.script, words)?;
+        self.run(alloc, came, true)
+    }
+
+    // Runs the script with one more line.
+    fn play_line(
+        &mut self,
+        alloc: Global,
+        line: &str,
+        came: &mut String,
+    ) -> Result<(), WordsFault> {
+        push_line(&mut self.script, line)?;
         self.run(alloc, came, false)
     }
 
     // Runs the script, and gives what it printed that it had not printed before: all of it, or only the last line where
     // there are many.
     fn run(&mut self, alloc: Global, came: &mut String, are_many: bool) -> Result<(), WordsFault> {
-        let script = self.script.as_str();
         let (printed, end) = if self.are_traced {
-            traced_by(alloc, script, self.servers)?
+            traced_by(alloc, &self.script, self.servers)?
         } else {
-            printed_by(alloc, script, self.servers)?
+            printed_by(alloc, &self.script, self.servers)?
         };
-        let Some(more) = printed.as_str().strip_prefix(self.printed.as_str()) else {
-            return Ok(came.push_str("> ? what was printed before does not come again\n")?);
-        };
-        if are_many {
-            tell_last(more, came)?;
-        } else {
-            tell_lines(more, came)?;
-        }
+        tell_more(&printed, &self.printed, are_many, came)?;
         self.printed = printed;
-        match end {
-            Ok(()) => Ok(()),
-            Err(ScriptFault::Memory) => Err(WordsFault::Memory),
-            Err(ScriptFault::Line(_, LineFault::Memory)) => Err(WordsFault::Memory),
-            Err(fault) => Ok(writeln!(came, "> {fault}")?),
-        }
+        tell_end(end, came)
+    }
+}
+
+// Writes what was printed after what had been printed before.
+fn tell_more(
+    printed: &str,
+    before: &str,
+    are_many: bool,
+    came: &mut String,
+) -> Result<(), AllocError> {
+    match printed.strip_prefix(before) {
+        None => came.push_str("> ? what was printed before does not come again\n"),
+        Some(more) if are_many => tell_last(more, came),
+        Some(more) => tell_lines(more, came),
+    }
+}
+
+// Writes the fault that a script ended with, if there is one.
+fn tell_end(end: Result<(), ScriptFault>, came: &mut String) -> Result<(), WordsFault> {
+    match end {
+        Ok(()) => Ok(()),
+        Err(ScriptFault::Memory) => Err(WordsFault::Memory),
+        Err(ScriptFault::Line(_, LineFault::Memory)) => Err(WordsFault::Memory),
+        Err(fault) => Ok(writeln!(came, "> {fault}")?),
     }
 }
 

@@ -15,16 +15,18 @@ use std::alloc::{AllocError, Global};
 /// Plays a line of a row of texts.
 pub fn play_text(alloc: Global, words: &str, came: &mut String) -> Result<(), WordsFault> {
     let (verb, rest) = split_word(words);
-    if verb == "nested" {
-        tell_nested(alloc, rest, came)
-    } else if verb != "read" {
-        Err(WordsFault::Unknown)
-    } else if rest.starts_with('"') {
-        let (text, _behind) = string_at(alloc, rest, 0)?;
-        tell_event(alloc, text.as_str(), came)
-    } else {
-        tell_event(alloc, rest, came)
+    match verb {
+        "nested" => tell_nested(alloc, rest, came),
+        "read" if rest.starts_with('"') => tell_quoted(alloc, rest, came),
+        "read" => tell_event(alloc, rest, came),
+        _ => Err(WordsFault::Unknown),
     }
+}
+
+// Writes the event that is read of a text that stands there as a string.
+fn tell_quoted(alloc: Global, words: &str, came: &mut String) -> Result<(), WordsFault> {
+    let (text, _behind) = string_at(alloc, words, 0)?;
+    tell_event(alloc, &text, came)
 }
 
 // Writes the event that is read.
@@ -43,12 +45,13 @@ fn tell_nested(alloc: Global, words: &str, came: &mut String) -> Result<(), Word
     let (count, rest) = split_word(words);
     let (node, behind) = string_at(alloc, rest, 0)?;
     let (end, _behind) = string_at(alloc, rest, behind)?;
-    let text = nested(alloc, place(count)?, node.as_str(), end.as_str())?;
-    match read_event(alloc, text.as_str()) {
-        Ok(event) => {
-            let count = base_count(&event);
-            Ok(writeln!(came, "> bases {count}")?)
-        }
+    tell_bases(alloc, &nested(alloc, place(count)?, &node, &end)?, came)
+}
+
+// Writes how many bases the event of the text has.
+fn tell_bases(alloc: Global, text: &str, came: &mut String) -> Result<(), WordsFault> {
+    match read_event(alloc, text) {
+        Ok(event) => Ok(writeln!(came, "> bases {}", base_count(&event))?),
         Err(fault) => tell_fault(fault, came),
     }
 }

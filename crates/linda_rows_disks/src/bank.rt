@@ -1,115 +1,127 @@
 //! A bank on the left disk.
 
+use crate::disk::taken;
 use crate::number::{read_number, read_size};
-use crate::stand::Stand;
+use crate::telling::tell;
 use linda_disk::MemDisk;
 use linda_journal::{Bank, BankFault};
 use linda_script::{WordsFault, split_word};
 use linda_state::Deed;
 use linda_text::read_tuple;
 use std::alloc::Global;
-use std::mem;
+use std::slice;
 
-/// Does with a bank what the words say.
+/// The body of a new bank: the snapshot of an empty state.
+const EMPTY: [u8; 16] = [0, 0, 0, 0, 0, 0, 0, 1, 0, 0, 0, 0, 0, 0, 0, 0];
+
+/// Does with the bank what the words say.
 pub(crate) fn play_bank(
     alloc: Global,
-    stand: &mut Stand,
+    disk: &mut MemDisk,
+    bank: &mut Option<Bank<MemDisk>>,
     words: &str,
     came: &mut String,
 ) -> Result<(), WordsFault> {
     let (word, rest) = split_word(words);
-    if word == "create" {
-        create(alloc, stand, read_size(rest)?, came)
-    } else if word == "open" {
-        open(alloc, stand, read_size(rest)?, came)
-    } else if word == "shut" {
-        give_back(stand)
-    } else {
-        match &mut stand.bank {
-            Some(bank) => play_open(alloc, bank, word, rest, came),
-            None => Err(WordsFault::Unknown),
-        }
+    match word {
+        "create" => create(alloc, disk, bank, rest, came),
+        "open" => open(alloc, disk, bank, rest, came),
+        "shut" => give_back(disk, bank),
+        "fuse" => fuse(bank, rest),
+        "put" => put(alloc, bank, rest, came),
+        _ => Err(WordsFault::Unknown),
     }
 }
 
 // Makes a bank of generation 1, whose body is the snapshot of an empty state.
 fn create(
     alloc: Global,
-    stand: &mut Stand,
-    limit: usize,
+    disk: &mut MemDisk,
+    bank: &mut Option<Bank<MemDisk>>,
+    limit: &str,
     came: &mut String,
 ) -> Result<(), WordsFault> {
-    let body = [0, 0, 0, 0, 0, 0, 0, 1, 0, 0, 0, 0, 0, 0, 0, 0];
-    let disk = mem::replace(&mut stand.left, MemDisk::new(alloc));
-    match Bank::create(alloc, disk, 1, &body, limit) {
-        Ok(bank) => take_bank(stand, bank, came),
-        Err((fault, disk)) => take_disk(stand, fault, disk, came),
+    let limit = read_size(limit)?;
+    match Bank::create(alloc, taken(alloc, disk), 1, &EMPTY, limit) {
+        Ok(made) => take_bank(bank, made, came),
+        Err((fault, back)) => take_disk(disk, fault, back, came),
     }
 }
 
 // Opens the bank that the disk holds.
 fn open(
     alloc: Global,
-    stand: &mut Stand,
-    limit: usize,
+    disk: &mut MemDisk,
+    bank: &mut Option<Bank<MemDisk>>,
+    limit: &str,
     came: &mut String,
 ) -> Result<(), WordsFault> {
-    let disk = mem::replace(&mut stand.left, MemDisk::new(alloc));
-    match Bank::open(alloc, disk, limit) {
-        Ok((bank, _, _)) => take_bank(stand, bank, came),
-        Err((fault, disk)) => take_disk(stand, fault, disk, came),
+    let limit = read_size(limit)?;
+    match Bank::open(alloc, taken(alloc, disk), limit) {
+        Ok((opened, _, _)) => take_bank(bank, opened, came),
+        Err((fault, back)) => take_disk(disk, fault, back, came),
     }
 }
 
+// Takes the bank that was made or opened, and writes what it has.
+fn take_bank(
+    bank: &mut Option<Bank<MemDisk>>,
+    begun: Bank<MemDisk>,
+    came: &mut String,
+) -> Result<(), WordsFault> {
+    let told = tell_bank(&begun, came);
+    *bank = Some(begun);
+    told
+}
+
 // Writes how many records the bank has and where its journal ends.
-fn take_bank(stand: &mut Stand, bank: Bank<MemDisk>, came: &mut String) -> Result<(), WordsFault> {
-    let told = writeln!(came, "> {} records, end {}", bank.records(), bank.end());
-    stand.bank = Some(bank);
-    Ok(told?)
+fn tell_bank(bank: &Bank<MemDisk>, came: &mut String) -> Result<(), WordsFault> {
+    Ok(writeln!(came, "> {} records, end {}", bank.records(), bank.end())?)
 }
 
 // Takes the disk back, and says why it holds no bank.
 fn take_disk(
-    stand: &mut Stand,
+    disk: &mut MemDisk,
     fault: BankFault,
-    disk: MemDisk,
+    back: MemDisk,
     came: &mut String,
 ) -> Result<(), WordsFault> {
-    stand.left = disk;
+    *disk = back;
     tell_fault(fault, came)
 }
 
 // The bank gives its disk back.
-fn give_back(stand: &mut Stand) -> Result<(), WordsFault> {
-    match stand.bank.take() {
-        None => Err(WordsFault::Unknown),
-        Some(bank) => {
-            stand.left = bank.into_disk();
-            Ok(())
-        }
-    }
+fn give_back(disk: &mut MemDisk, bank: &mut Option<Bank<MemDisk>>) -> Result<(), WordsFault> {
+    let Some(bank) = bank.take() else {
+        return Err(WordsFault::Unknown);
+    };
+    *disk = bank.into_disk();
+    Ok(())
 }
 
-// A call of the bank: the power is to go off inside a device call, or client 7 puts a tuple by its message 1.
-fn play_open(
+// Lets the power go off inside a device call of the bank.
+fn fuse(bank: &mut Option<Bank<MemDisk>>, call: &str) -> Result<(), WordsFault> {
+    let Some(bank) = bank else {
+        return Err(WordsFault::Unknown);
+    };
+    bank.fuse(read_number(call)?);
+    Ok(())
+}
+
+// Client 7 puts a tuple by its message 1.
+fn put(
     alloc: Global,
-    bank: &mut Bank<MemDisk>,
-    word: &str,
-    rest: &str,
+    bank: &mut Option<Bank<MemDisk>>,
+    tuple: &str,
     came: &mut String,
 ) -> Result<(), WordsFault> {
-    if word == "fuse" {
-        bank.fuse(read_number(rest)?);
-        Ok(())
-    } else if word == "put" {
-        let mut deeds = Vec::new(alloc);
-        deeds.push(put_by_7(alloc, rest)?)?;
-        match bank.append(alloc, &deeds) {
-            Ok(()) => Ok(()),
-            Err(fault) => tell_fault(fault, came),
-        }
-    } else {
-        Err(WordsFault::Unknown)
+    let Some(bank) = bank else {
+        return Err(WordsFault::Unknown);
+    };
+    let deed = put_by_7(alloc, tuple)?;
+    match bank.append(alloc, slice::from_ref(&deed)) {
+        Ok(()) => Ok(()),
+        Err(fault) => tell_fault(fault, came),
     }
 }
 
@@ -122,8 +134,8 @@ fn put_by_7(alloc: Global, tuple: &str) -> Result<Deed, WordsFault> {
 }
 
 fn tell_fault(fault: BankFault, came: &mut String) -> Result<(), WordsFault> {
-    if fault == BankFault::Memory {
-        return Err(WordsFault::Memory);
+    match fault {
+        BankFault::Memory => Err(WordsFault::Memory),
+        fault => tell(came, fault),
     }
-    Ok(writeln!(came, "> {fault}")?)
 }

@@ -1,15 +1,30 @@
 //! One disk: its calls, what is to go wrong in them, and what it holds.
 
-use crate::bytes::{name_or_pieces, pieces_of, read_bytes};
+use crate::bytes::{push_bytes, read_bytes, tell_name, tell_pieces};
 use crate::number::{read_number, read_size};
+use crate::telling::{tell, tell_two};
 use linda_disk::{Disk, DiskFault, MemDisk, Torn};
 use linda_script::{WordsFault, read_numbered, split_word};
-use std::alloc::Global;
+use std::alloc::{AllocError, Global};
+use std::mem;
 
-/// A disk that holds these bytes.
-pub(crate) fn disk_of(alloc: Global, bytes: Vec<u8>) -> Result<MemDisk, WordsFault> {
+/// The disk, in whose place an empty one stands then.
+pub(crate) fn taken(alloc: Global, disk: &mut MemDisk) -> MemDisk {
+    mem::replace(disk, MemDisk::new(alloc))
+}
+
+/// Lets the disk hold the bytes of these words, all of them synced.
+pub(crate) fn hold_words(alloc: Global, disk: &mut MemDisk, words: &str) -> Result<(), WordsFault> {
+    hold(alloc, disk, read_bytes(alloc, words)?)
+}
+
+// Lets the disk hold these bytes, all of them synced.
+fn hold(alloc: Global, disk: &mut MemDisk, bytes: Vec<u8>) -> Result<(), WordsFault> {
     match MemDisk::from_bytes(alloc, bytes) {
-        Ok(disk) => Ok(disk),
+        Ok(held) => {
+            *disk = held;
+            Ok(())
+        }
         Err(_) => Err(WordsFault::Memory),
     }
 }
@@ -37,25 +52,28 @@ pub(crate) fn play_disk(
     came: &mut String,
 ) -> Result<(), WordsFault> {
     let (word, rest) = split_word(words);
-    if word == "fuse" {
-        disk.fuse(read_number(rest)?);
-        Ok(())
-    } else if word == "fail" {
-        disk.fail_once(read_number(rest)?);
-        Ok(())
-    } else if word == "write" {
-        write_at(alloc, disk, rest, came)
-    } else if word == "cut" {
-        cut_to(disk, read_size(rest)?, came)
-    } else if word == "sync" {
-        tell_fault(disk.sync(), came)
-    } else if word == "length" {
-        tell_length(disk, came)
-    } else if word == "read" {
-        tell_fault(disk.read_at(0, &mut []), came)
-    } else {
-        hold_or_show(alloc, disk, word, rest, came)
+    match word {
+        "fuse" => fuse(disk, rest),
+        "fail" => fail(disk, rest),
+        "write" => write_at(alloc, disk, rest, came),
+        "cut" => cut_to(disk, rest, came),
+        "sync" => tell_done(disk.sync(), came),
+        "length" => tell_length(disk, came),
+        "read" => tell_done(disk.read_at(0, &mut []), came),
+        _ => show_or_hold(alloc, disk, word, rest, came),
     }
+}
+
+// Lets the power go off inside a call of the device.
+fn fuse(disk: &mut MemDisk, call: &str) -> Result<(), WordsFault> {
+    disk.fuse(read_number(call)?);
+    Ok(())
+}
+
+// Lets a call of the device fail.
+fn fail(disk: &mut MemDisk, call: &str) -> Result<(), WordsFault> {
+    disk.fail_once(read_number(call)?);
+    Ok(())
 }
 
 // Writes at an offset within the disk.
@@ -67,126 +85,127 @@ fn write_at(
 ) -> Result<(), WordsFault> {
     let (at, bytes) = split_word(words);
     let at = read_size(at)?;
-    let bytes = read_bytes(alloc, bytes)?;
     if at > disk.bytes().len() {
         return Err(WordsFault::Unknown);
     }
-    tell_fault(disk.write_at(at, &bytes), came)
+    tell_done(disk.write_at(at, &read_bytes(alloc, bytes)?), came)
 }
 
 // Cuts the disk to a length within it.
-fn cut_to(disk: &mut MemDisk, len: usize, came: &mut String) -> Result<(), WordsFault> {
+fn cut_to(disk: &mut MemDisk, len: &str, came: &mut String) -> Result<(), WordsFault> {
+    let len = read_size(len)?;
     if len > disk.bytes().len() {
         return Err(WordsFault::Unknown);
     }
-    tell_fault(disk.cut(len), came)
+    tell_done(disk.cut(len), came)
 }
 
 // Asks the disk for its length, and gives it.
 fn tell_length(disk: &mut MemDisk, came: &mut String) -> Result<(), WordsFault> {
     match disk.len() {
-        Ok(len) => Ok(writeln!(came, "> {len}")?),
-        Err(fault) => tell_fault(Err(fault), came),
+        Ok(len) => tell(came, len),
+        Err(fault) => tell_done(Err(fault), came),
     }
 }
 
 // Writes why a call was not done.
-fn tell_fault(told: Result<(), DiskFault>, came: &mut String) -> Result<(), WordsFault> {
-    match told {
+fn tell_done(done: Result<(), DiskFault>, came: &mut String) -> Result<(), WordsFault> {
+    match done {
         Ok(()) => Ok(()),
         Err(DiskFault::Memory) => Err(WordsFault::Memory),
-        Err(DiskFault::Device) => Ok(came.push_str("> failed\n")?),
+        Err(DiskFault::Device) => tell(came, "failed"),
     }
 }
 
-// Lets the disk hold other bytes, all of them synced, or shows what it has.
-fn hold_or_show(
+// Shows what the disk holds, how often it failed, or whether it holds an open gate and what stands after it; or lets it
+// hold other bytes.
+fn show_or_hold(
     alloc: Global,
     disk: &mut MemDisk,
     word: &str,
     rest: &str,
     came: &mut String,
 ) -> Result<(), WordsFault> {
-    if word == "front" {
-        hold_front(alloc, disk, read_size(rest)?)
-    } else if word == "byte" {
-        hold_byte(alloc, disk, rest)
-    } else if word == "more" {
-        hold_more(alloc, disk, rest)
-    } else if word == "clients" {
-        hold_clients(alloc, disk, rest)
-    } else if word == "reads" {
-        let bytes = name_or_pieces(alloc, disk.bytes())?;
-        Ok(writeln!(came, "> {bytes}")?)
-    } else if word == "bytes" {
-        let bytes = pieces_of(alloc, disk.bytes())?;
-        Ok(writeln!(came, "> {bytes}")?)
-    } else {
-        show(disk, word, came)
+    match word {
+        "reads" => tell_name(alloc, disk.bytes(), came),
+        "bytes" => tell_pieces(alloc, disk.bytes(), came),
+        "text" => tell_text(disk.bytes(), came),
+        "failures" => tell_two(came, disk.failures(), "failures"),
+        "gate" => tell(came, gate_of(disk.bytes())),
+        _ => hold_changed(alloc, disk, word, rest),
     }
 }
 
-// Shows what the disk holds as a text, how often it failed, or whether it holds an open gate and what stands after it.
-fn show(disk: &MemDisk, word: &str, came: &mut String) -> Result<(), WordsFault> {
-    if word == "text" {
-        match str::from_utf8(disk.bytes()) {
-            Ok(text) => Ok(writeln!(came, "> \"{text}\"")?),
-            Err(_) => Ok(came.push_str("> no text\n")?),
-        }
-    } else if word == "failures" {
-        Ok(writeln!(came, "> {} failures", disk.failures())?)
-    } else if word == "gate" {
-        let is_open = has_bank(disk.bytes());
-        Ok(came.push_str(if is_open { "> open\n" } else { "> closed\n" })?)
-    } else {
-        Err(WordsFault::Unknown)
+// Writes the text that the bytes are.
+fn tell_text(bytes: &[u8], came: &mut String) -> Result<(), WordsFault> {
+    match str::from_utf8(bytes) {
+        Ok(text) => Ok(writeln!(came, "> \"{text}\"")?),
+        Err(_) => tell(came, "no text"),
     }
 }
 
 // Whether the bytes are a bank's, 17 at least, of which the first is an open gate.
-fn has_bank(bytes: &[u8]) -> bool {
-    bytes.len() >= 17 && bytes[0] == 1
+fn gate_of(bytes: &[u8]) -> &'static str {
+    if bytes.len() >= 17 && bytes[0] == 1 {
+        "open"
+    } else {
+        "closed"
+    }
 }
 
-// Holds the first bytes of what it held.
-fn hold_front(alloc: Global, disk: &mut MemDisk, len: usize) -> Result<(), WordsFault> {
+// Lets the disk hold what it held with a change, all of it synced.
+fn hold_changed(
+    alloc: Global,
+    disk: &mut MemDisk,
+    word: &str,
+    rest: &str,
+) -> Result<(), WordsFault> {
     let mut bytes = Vec::from_slice(alloc, disk.bytes())?;
-    bytes.truncate(len);
-    *disk = disk_of(alloc, bytes)?;
+    change(alloc, &mut bytes, word, rest)?;
+    hold(alloc, disk, bytes)
+}
+
+fn change(alloc: Global, bytes: &mut Vec<u8>, word: &str, rest: &str) -> Result<(), WordsFault> {
+    match word {
+        "front" => keep_front(bytes, rest),
+        "byte" => set_byte(bytes, rest),
+        "more" => push_bytes(alloc, bytes, rest),
+        "clients" => push_clients(bytes, rest),
+        _ => Err(WordsFault::Unknown),
+    }
+}
+
+// Only the first bytes are left.
+fn keep_front(bytes: &mut Vec<u8>, len: &str) -> Result<(), WordsFault> {
+    bytes.truncate(read_size(len)?);
     Ok(())
 }
 
-// Holds what it held with another byte at an offset; both are decimal numbers.
-fn hold_byte(alloc: Global, disk: &mut MemDisk, words: &str) -> Result<(), WordsFault> {
+// Another byte stands at an offset; both are decimal numbers.
+fn set_byte(bytes: &mut Vec<u8>, words: &str) -> Result<(), WordsFault> {
     let (at, byte) = split_word(words);
     let at = read_size(at)?;
-    let mut bytes = Vec::from_slice(alloc, disk.bytes())?;
-    match (bytes.get_mut(at), byte.parse::<u8>()) {
-        (Some(slot), Ok(byte)) => *slot = byte,
-        _ => return Err(WordsFault::Unknown),
-    }
-    *disk = disk_of(alloc, bytes)?;
+    let Ok(byte) = byte.parse::<u8>() else {
+        return Err(WordsFault::Unknown);
+    };
+    let Some(slot) = bytes.get_mut(at) else {
+        return Err(WordsFault::Unknown);
+    };
+    *slot = byte;
     Ok(())
 }
 
-// Holds what it held, and more bytes after it.
-fn hold_more(alloc: Global, disk: &mut MemDisk, words: &str) -> Result<(), WordsFault> {
-    let mut bytes = Vec::from_slice(alloc, disk.bytes())?;
-    bytes.extend_from_slice(&read_bytes(alloc, words)?)?;
-    *disk = disk_of(alloc, bytes)?;
-    Ok(())
-}
-
-// Holds what it held, and after it of each client from the first on, below the second, that its message 1 got a Gone, as
-// a snapshot says it.
-fn hold_clients(alloc: Global, disk: &mut MemDisk, words: &str) -> Result<(), WordsFault> {
+// Of each client from the first on, below the second, stands there that its message 1 got a Gone, as a snapshot says it.
+fn push_clients(bytes: &mut Vec<u8>, words: &str) -> Result<(), WordsFault> {
     let (first, end) = read_numbered(words)?;
     let (end, _rest) = read_numbered(end)?;
-    let mut bytes = Vec::from_slice(alloc, disk.bytes())?;
     for client in first..end {
-        bytes.extend_from_slice(&client.to_be_bytes())?;
-        bytes.extend_from_slice(&[0, 0, 0, 0, 0, 0, 0, 1, 3])?;
+        push_client(bytes, client)?;
     }
-    *disk = disk_of(alloc, bytes)?;
     Ok(())
+}
+
+fn push_client(bytes: &mut Vec<u8>, client: u32) -> Result<(), AllocError> {
+    bytes.extend_from_slice(&client.to_be_bytes())?;
+    bytes.extend_from_slice(&[0, 0, 0, 0, 0, 0, 0, 1, 3])
 }

@@ -1,17 +1,14 @@
 //! Long tuples: each has a tag of 255 letters and no field.
 
-ghost use Rattle.std.specs.Prelude.{IfOk, ◌≤◌, length};
-ghost use Rattle.linda_step.specs.declared.size.TheConstants.{MAX_BATCH};
-
 use crate::number::read_number;
+use crate::serving::few;
+use crate::telling::{tell, tell_two};
 use linda_bag::Bag;
 use linda_disk::MemDisk;
-use linda_script::{WordsFault, read_message, split_word};
+use linda_script::{WordsFault, read_messages, split_word};
 use linda_server::Durable;
-use linda_step::MAX_BATCH;
 use linda_store::Node;
 use linda_text::write_tuple;
-use linda_wire::Message;
 use std::alloc::{AllocError, Global};
 
 /// The letters of a tag.
@@ -26,58 +23,89 @@ pub(crate) fn play_long(
     came: &mut String,
 ) -> Result<(), WordsFault> {
     let (word, rest) = split_word(words);
-    if word == "puts" {
-        let (first, count) = split_word(rest);
-        let messages = puts(alloc, read_number(first)?, read_number(count)?)?;
-        match server.handle_all(alloc, &messages) {
-            Ok(sends) => Ok(writeln!(came, "> {} replies", sends.len())?),
-            Err(fault) => Ok(writeln!(came, "> {fault}")?),
-        }
-    } else if word == "kept" {
-        let count = count_long(alloc, server)?;
-        Ok(writeln!(came, "> {count} long")?)
-    } else {
-        Err(WordsFault::Unknown)
+    match word {
+        "puts" => put(alloc, server, rest, came),
+        "kept" => tell_kept(alloc, server, came),
+        _ => Err(WordsFault::Unknown),
     }
 }
 
-// So many messages, few enough for one call, from this number on.
-fn puts(alloc: Global, first: u64, count: u64) -> Result<Vec<(u32, Message)>, WordsFault>
-    ensures { IfOk result (λ messages. length messages.items ≤ MAX_BATCH) }
-{
-    let tuple = long_tuple(alloc)?;
-    let mut messages = Vec::new(alloc);
+// Client 7 puts so many long tuples.
+fn put(
+    alloc: Global,
+    server: &mut Durable<MemDisk>,
+    words: &str,
+    came: &mut String,
+) -> Result<(), WordsFault> {
+    let (first, count) = split_word(words);
+    let script = puts(alloc, read_number(first)?, read_number(count)?)?;
+    let messages = few(read_messages(alloc, &script)?)?;
+    match server.handle_all(alloc, &messages) {
+        Ok(sends) => tell_two(came, sends.len(), "replies"),
+        Err(fault) => tell(came, fault),
+    }
+}
+
+// The script of so many messages, from this number on.
+fn puts(alloc: Global, first: u64, count: u64) -> Result<String, AllocError> {
+    let mut script = String::new(alloc);
+    push_puts(&mut script, first, count, &long_tuple(alloc)?)?;
+    Ok(script)
+}
+
+fn push_puts(script: &mut String, first: u64, count: u64, tuple: &str) -> Result<(), AllocError> {
     for k in 0..count {
         let n = first.saturating_add(k);
-        let words = format!(in alloc; "out {n} {tuple}")?;
-        messages.push((7, read_message(alloc, &words)?))?;
+        writeln!(script, "7 out {n} {tuple}")?;
     }
-    if messages.len() > MAX_BATCH {
-        return Err(WordsFault::Unknown);
-    }
-    Ok(messages)
+    Ok(())
 }
 
 // The text of a long tuple.
 fn long_tuple(alloc: Global) -> Result<String, AllocError> {
-    let mut text = String::from_str(alloc, "(\"")?;
-    for _ in 0..LETTERS {
-        text.push('a')?;
-    }
-    text.push_str("\")")?;
+    let mut text = String::new(alloc);
+    push_long(&mut text)?;
     Ok(text)
 }
 
-// How many of the tuples that the server keeps are long.
-fn count_long(alloc: Global, server: &Durable<MemDisk>) -> Result<u64, AllocError> {
-    let long = long_tuple(alloc)?;
+fn push_long(text: &mut String) -> Result<(), AllocError> {
+    text.push_str("(\"")?;
+    for _ in 0..LETTERS {
+        text.push('a')?;
+    }
+    text.push_str("\")")
+}
+
+// Writes how many of the tuples that the server keeps are long.
+fn tell_kept(
+    alloc: Global,
+    server: &Durable<MemDisk>,
+    came: &mut String,
+) -> Result<(), WordsFault> {
+    let count = count_long(alloc, server, &long_tuple(alloc)?)?;
+    tell_two(came, count, "long")
+}
+
+// How many of the tuples that the server keeps have this text.
+fn count_long(alloc: Global, server: &Durable<MemDisk>, long: &str) -> Result<u64, AllocError> {
     let mut count: u64 = 0;
     for id in 0..server.state().next {
-        if let Some(tuple) = server.state().bag.get(id) {
-            if write_tuple(alloc, tuple)?.as_str() == long.as_str() {
-                count = count.saturating_add(1);
-            }
+        if keeps(alloc, server, id, long)? {
+            count = count.saturating_add(1);
         }
     }
     Ok(count)
+}
+
+// Whether the server keeps a tuple of this id and of this text.
+fn keeps(
+    alloc: Global,
+    server: &Durable<MemDisk>,
+    id: u64,
+    text: &str,
+) -> Result<bool, AllocError> {
+    match server.state().bag.get(id) {
+        Some(tuple) => Ok(write_tuple(alloc, tuple)?.as_str() == text),
+        None => Ok(false),
+    }
 }

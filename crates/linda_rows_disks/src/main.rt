@@ -8,12 +8,14 @@ mod bank;
 mod banks;
 mod bytes;
 mod disk;
+mod disks;
 mod long;
 mod making;
 mod number;
 mod serving;
 mod stand;
 mod state;
+mod telling;
 
 use linda_script::{Sweeps, run_rows};
 use stand::Stand;

@@ -1,60 +1,86 @@
 //! How a server on both disks is made and opened, and gives them back.
 
+use crate::disks::Disks;
 use crate::number::read_size;
 use crate::serving::look;
-use crate::stand::Stand;
+use crate::telling::tell;
 use linda_disk::MemDisk;
 use linda_script::WordsFault;
 use linda_server::{Durable, OpenFault};
 use std::alloc::Global;
-use std::mem;
 
-/// Makes or opens a server of this limit on the two disks, and says what it keeps, or why there is none.
-pub(crate) fn begin(
+/// Makes a server of this limit on the two disks, and says what it keeps, or why there is none.
+pub(crate) fn create(
     alloc: Global,
-    stand: &mut Stand,
+    disks: &mut Disks,
+    server: &mut Option<Durable<MemDisk>>,
     limit: &str,
-    is_new: bool,
     came: &mut String,
 ) -> Result<(), WordsFault> {
     let limit = read_size(limit)?;
-    let left = mem::replace(&mut stand.left, MemDisk::new(alloc));
-    let right = mem::replace(&mut stand.right, MemDisk::new(alloc));
-    let begun = if is_new {
-        Durable::create(alloc, left, right, limit)
-    } else {
-        Durable::open(alloc, left, right, limit)
-    };
+    let Disks { left, right } = disks.take(alloc);
+    take(
+        disks,
+        server,
+        Durable::create(alloc, left, right, limit),
+        came,
+    )
+}
+
+/// Opens the server of this limit on the two disks, and says what it keeps, or why there is none.
+pub(crate) fn open(
+    alloc: Global,
+    disks: &mut Disks,
+    server: &mut Option<Durable<MemDisk>>,
+    limit: &str,
+    came: &mut String,
+) -> Result<(), WordsFault> {
+    let limit = read_size(limit)?;
+    let Disks { left, right } = disks.take(alloc);
+    take(
+        disks,
+        server,
+        Durable::open(alloc, left, right, limit),
+        came,
+    )
+}
+
+// Takes the server that was made or opened, or takes the disks back.
+fn take(
+    disks: &mut Disks,
+    server: &mut Option<Durable<MemDisk>>,
+    begun: Result<Durable<MemDisk>, (OpenFault, MemDisk, MemDisk)>,
+    came: &mut String,
+) -> Result<(), WordsFault> {
     match begun {
-        Ok(server) => {
-            let told = look(&server, came);
-            stand.server = Some(server);
+        Ok(begun) => {
+            let told = look(&begun, came);
+            *server = Some(begun);
             told
         }
         Err((fault, left, right)) => {
-            stand.left = left;
-            stand.right = right;
+            *disks = Disks { left, right };
             tell_fault(fault, came)
         }
     }
 }
 
 fn tell_fault(fault: OpenFault, came: &mut String) -> Result<(), WordsFault> {
-    if fault == OpenFault::Memory {
-        return Err(WordsFault::Memory);
+    match fault {
+        OpenFault::Memory => Err(WordsFault::Memory),
+        fault => tell(came, fault),
     }
-    Ok(writeln!(came, "> {fault}")?)
 }
 
 /// The server gives its disks back.
-pub(crate) fn give_back(stand: &mut Stand) -> Result<(), WordsFault> {
-    match stand.server.take() {
-        None => Err(WordsFault::Unknown),
-        Some(server) => {
-            let (left, right) = server.into_disks();
-            stand.left = left;
-            stand.right = right;
-            Ok(())
-        }
-    }
+pub(crate) fn give_back(
+    disks: &mut Disks,
+    server: &mut Option<Durable<MemDisk>>,
+) -> Result<(), WordsFault> {
+    let Some(server) = server.take() else {
+        return Err(WordsFault::Unknown);
+    };
+    let (left, right) = server.into_disks();
+    *disks = Disks { left, right };
+    Ok(())
 }

@@ -22,15 +22,14 @@ pub(crate) fn read_size(text: &str) -> Result<usize, WordsFault> {
 /// The way to crash that begins the text, as `kept`, `lost` or `filled ff`, and what stands after it.
 pub(crate) fn split_torn(text: &str) -> Result<(Torn, &str), WordsFault> {
     let (word, rest) = split_word(text);
-    if word == "kept" {
-        Ok((Torn::Kept, rest))
-    } else if word == "lost" {
-        Ok((Torn::Lost, rest))
-    } else if word == "filled" {
-        let (digits, rest) = split_word(rest);
-        Ok((Torn::Filled(read_byte(digits)?), rest))
-    } else {
-        Err(WordsFault::Unknown)
+    match word {
+        "kept" => Ok((Torn::Kept, rest)),
+        "lost" => Ok((Torn::Lost, rest)),
+        "filled" => {
+            let (digits, rest) = split_word(rest);
+            Ok((Torn::Filled(read_byte(digits)?), rest))
+        }
+        _ => Err(WordsFault::Unknown),
     }
 }
 

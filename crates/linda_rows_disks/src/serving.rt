@@ -2,10 +2,12 @@
 
 ghost use Rattle.std.specs.Prelude.{IfOk, ◌≤◌, length};
 ghost use Rattle.linda_step.specs.declared.size.TheConstants.{MAX_BATCH};
+ghost use Rattle.linda_store.specs.Node.{IsBatch};
 
-use crate::bytes::{pieces_of, read_bytes};
+use crate::bytes::{read_bytes, tell_pieces};
 use crate::long::play_long;
 use crate::number::{read_number, split_torn};
+use crate::telling::{tell, tell_two};
 use linda_bag::Bag;
 use linda_book::KeptReply;
 use linda_disk::MemDisk;
@@ -37,26 +39,28 @@ fn serve(
     came: &mut String,
 ) -> Result<(), WordsFault> {
     let (word, rest) = split_word(words);
-    if word == "snapshot" {
-        tell_nothing(server.snapshot(alloc), came)
-    } else if word == "trim" {
-        tell_nothing(server.trim(), came)
-    } else if word == "look" {
-        look(server, came)
-    } else if word == "stop" {
-        stop(alloc, server, rest, came)
-    } else if word == "talk" {
-        talk(alloc, server, rest, came)
-    } else if word == "all" {
-        let messages = batch(alloc, rest)?;
-        tell_answer(alloc, server.handle_all(alloc, &messages), came)
-    } else if word == "long" {
-        play_long(alloc, server, rest, came)
-    } else if word == "kept" {
-        tell_kept(server, rest, came)
-    } else {
-        say(alloc, server, words, came)
+    match word {
+        "snapshot" => tell_done(server.snapshot(alloc), came),
+        "trim" => tell_done(server.trim(), came),
+        "look" => look(server, came),
+        "stop" => stop(alloc, server, rest, came),
+        "talk" => talk(alloc, server, rest, came),
+        "all" => say_all(alloc, server, rest, came),
+        "long" => play_long(alloc, server, rest, came),
+        "kept" => tell_kept(server, rest, came),
+        _ => say(alloc, server, words, came),
     }
+}
+
+// Takes messages of clients, all at once.
+fn say_all(
+    alloc: Global,
+    server: &mut Durable<MemDisk>,
+    words: &str,
+    came: &mut String,
+) -> Result<(), WordsFault> {
+    let messages = batch(alloc, words)?;
+    tell_answer(alloc, server.handle_all(alloc, &messages), came)
 }
 
 // Takes a message of a client, or lets the client leave, as `7 leaves`.
@@ -74,11 +78,17 @@ fn say(
     tell_answer(alloc, server.handle(alloc, client, &message), came)
 }
 
-// The messages, which are few enough for one call.
+// The messages that the words say, which are few enough for one call.
 fn batch(alloc: Global, words: &str) -> Result<Vec<(u32, Message)>, WordsFault>
     ensures { IfOk result (λ messages. length messages.items ≤ MAX_BATCH) }
 {
-    let messages = read_batch(alloc, words)?;
+    few(read_batch(alloc, words)?)
+}
+
+/// The same messages, if they are few enough for one call.
+pub(crate) fn few(messages: Vec<(u32, Message)>) -> Result<Vec<(u32, Message)>, WordsFault>
+    ensures { IfOk result (λ messages. length messages.items ≤ MAX_BATCH) }
+{
     if messages.len() > MAX_BATCH {
         return Err(WordsFault::Unknown);
     }
@@ -88,20 +98,24 @@ fn batch(alloc: Global, words: &str) -> Result<Vec<(u32, Message)>, WordsFault>
 // Writes the replies, or why there are none.
 fn tell_answer(
     alloc: Global,
-    told: Result<Vec<(u32, Reply)>, NodeFault>,
+    answer: Result<Vec<(u32, Reply)>, NodeFault>,
     came: &mut String,
 ) -> Result<(), WordsFault> {
-    match told {
-        Ok(sends) => Ok(tell_replies(alloc, came, &sends)?),
-        Err(fault) => Ok(writeln!(came, "> {fault}")?),
+    match answer {
+        Ok(sends) => tell_sends(alloc, &sends, came),
+        Err(fault) => tell(came, fault),
     }
 }
 
+fn tell_sends(alloc: Global, sends: &[(u32, Reply)], came: &mut String) -> Result<(), WordsFault> {
+    Ok(tell_replies(alloc, came, sends)?)
+}
+
 // Writes why a call was not done.
-fn tell_nothing(told: Result<(), NodeFault>, came: &mut String) -> Result<(), WordsFault> {
-    match told {
+fn tell_done(done: Result<(), NodeFault>, came: &mut String) -> Result<(), WordsFault> {
+    match done {
         Ok(()) => Ok(()),
-        Err(fault) => Ok(writeln!(came, "> {fault}")?),
+        Err(fault) => tell(came, fault),
     }
 }
 
@@ -116,17 +130,25 @@ fn stop(
     let (at, rest) = split_word(words);
     let at = read_number(at)?;
     let (torn, rest) = split_torn(rest)?;
-    if rest == "snapshot" {
-        return tell_deeds(server.stop(alloc, Work::Snapshot, at, torn), came);
-    }
-    let work = Work::Messages(batch(alloc, rest)?);
+    let work = work_of(alloc, rest)?;
     tell_deeds(server.stop(alloc, work, at, torn), came)
 }
 
+// What the server is at work on.
+fn work_of(alloc: Global, words: &str) -> Result<Work, WordsFault>
+    ensures { IfOk result (λ work. IsBatch work) }
+{
+    if words == "snapshot" {
+        return Ok(Work::Snapshot);
+    }
+    Ok(Work::Messages(batch(alloc, words)?))
+}
+
+// Writes how many deeds there are, or why there are none.
 fn tell_deeds(told: Result<Vec<Deed>, NodeFault>, came: &mut String) -> Result<(), WordsFault> {
     match told {
-        Ok(deeds) => Ok(writeln!(came, "> {} deeds", deeds.len())?),
-        Err(fault) => Ok(writeln!(came, "> {fault}")?),
+        Ok(deeds) => tell_two(came, deeds.len(), "deeds"),
+        Err(fault) => tell(came, fault),
     }
 }
 
@@ -138,14 +160,10 @@ fn talk(
     came: &mut String,
 ) -> Result<(), WordsFault> {
     let sent = read_bytes(alloc, words)?;
-    let mut reader = sent.as_slice();
     let mut written = Vec::new(alloc);
-    match converse(alloc, server, &mut reader, &mut written) {
-        Ok(_) => {
-            let written = pieces_of(alloc, &written)?;
-            Ok(writeln!(came, "> {written}")?)
-        }
-        Err(fault) => Ok(writeln!(came, "> {fault}")?),
+    match converse(alloc, server, &mut sent.as_slice(), &mut written) {
+        Ok(_) => tell_pieces(alloc, &written, came),
+        Err(fault) => tell(came, fault),
     }
 }
 
@@ -166,10 +184,21 @@ pub(crate) fn look(server: &Durable<MemDisk>, came: &mut String) -> Result<(), W
 fn tell_kept(server: &Durable<MemDisk>, words: &str, came: &mut String) -> Result<(), WordsFault> {
     let (client, _rest) = read_numbered(words)?;
     match server.state().book.kept(client) {
-        Some((n, KeptReply::Stored(id))) => Ok(writeln!(came, "> stored {n} {id}")?),
-        Some((n, KeptReply::Taken(id, _))) => Ok(writeln!(came, "> taken {n} {id}")?),
-        Some((n, KeptReply::Gone)) => Ok(writeln!(came, "> gone {n}")?),
-        Some((n, KeptReply::Left)) => Ok(writeln!(came, "> left {n}")?),
-        None => Ok(came.push_str("> nothing\n")?),
+        Some((n, reply)) => tell_reply(came, n, reply),
+        None => tell(came, "nothing"),
     }
+}
+
+fn tell_reply(came: &mut String, n: u64, reply: &KeptReply) -> Result<(), WordsFault> {
+    match reply {
+        KeptReply::Stored(id) => tell_place(came, "stored", n, *id),
+        KeptReply::Taken(id, _) => tell_place(came, "taken", n, *id),
+        KeptReply::Gone => tell_two(came, "gone", n),
+        KeptReply::Left => tell_two(came, "left", n),
+    }
+}
+
+// Writes what came of a message, and the id of its tuple.
+fn tell_place(came: &mut String, word: &str, n: u64, id: u64) -> Result<(), WordsFault> {
+    Ok(writeln!(came, "> {word} {n} {id}")?)
 }

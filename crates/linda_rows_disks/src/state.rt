@@ -1,7 +1,8 @@
 //! Snapshots of states, as the bytes of a disk.
 
-use crate::bytes::pieces_of;
-use linda_bag::{Bag, ListBag};
+use crate::bytes::tell_pieces;
+use crate::telling::{tell, tell_state};
+use linda_bag::ListBag;
 use linda_script::WordsFault;
 use linda_snap::{SnapshotFault, get_state, put_state};
 use linda_state::{BANK_FORM, State};
@@ -17,22 +18,26 @@ pub(crate) fn play_state(
     word: &str,
     came: &mut String,
 ) -> Result<(), WordsFault> {
-    if word == "read" {
-        let told: Result<State<ListBag>, SnapshotFault> = get_state(alloc, BANK_FORM, bytes);
-        match told {
-            Ok(state) => tell_state(&state, came),
-            Err(fault) => tell_fault(fault, came),
-        }
-    } else if word == "spelled" {
-        match spelled(alloc, bytes) {
-            Ok(bytes) => {
-                let bytes = pieces_of(alloc, &bytes)?;
-                Ok(writeln!(came, "> {bytes}")?)
-            }
-            Err(fault) => tell_fault(fault, came),
-        }
-    } else {
-        Err(WordsFault::Unknown)
+    match word {
+        "read" => read(alloc, bytes, came),
+        "spelled" => spell(alloc, bytes, came),
+        _ => Err(WordsFault::Unknown),
+    }
+}
+
+// Writes what the state has that the bytes spell.
+fn read(alloc: Global, bytes: &[u8], came: &mut String) -> Result<(), WordsFault> {
+    match get_state(alloc, BANK_FORM, bytes) {
+        Ok(state) => tell_state(came, "", &state),
+        Err(fault) => tell_fault(fault, came),
+    }
+}
+
+// Writes how the state is spelled that the bytes spell.
+fn spell(alloc: Global, bytes: &[u8], came: &mut String) -> Result<(), WordsFault> {
+    match spelled(alloc, bytes) {
+        Ok(bytes) => tell_pieces(alloc, &bytes, came),
+        Err(fault) => tell_fault(fault, came),
     }
 }
 
@@ -50,14 +55,6 @@ fn spelled(alloc: Global, bytes: &[u8]) -> Result<Vec<u8>, SnapshotFault> {
 fn tell_fault(fault: SnapshotFault, came: &mut String) -> Result<(), WordsFault> {
     match fault {
         SnapshotFault::Memory => Err(WordsFault::Memory),
-        SnapshotFault::NoSnapshot => Ok(came.push_str("> no snapshot\n")?),
+        fault => tell(came, fault),
     }
-}
-
-// Writes the next id, and how many tuples and clients there are.
-fn tell_state(state: &State<ListBag>, came: &mut String) -> Result<(), WordsFault> {
-    let next = state.next;
-    let tuples = state.bag.len();
-    let clients = state.book.len();
-    Ok(writeln!(came, "> next {next}, tuples {tuples}, clients {clients}")?)
 }

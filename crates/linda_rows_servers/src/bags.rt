@@ -1,12 +1,14 @@
 //! Both bags, which do the same and have to answer the same.
 
-use crate::number::{read_number, split_number};
+use crate::number::{read_number, split_number, template_of, tuple_of};
+use crate::told::{done, tell};
 use linda_bag::{Bag, IndexBag, ListBag};
 use linda_script::{WordsFault, split_word};
-use linda_text::{read_template, read_tuple, write_tuple};
+use linda_text::write_tuple;
 use linda_tuple::Tuple;
 use std::alloc::{AllocError, Global};
 use std::collections::BTreeSet;
+use std::fmt::Display;
 
 /// The plain bag, the bag with an index, and the ids that a look-up passes over.
 #[derive(Drop)]
@@ -33,16 +35,30 @@ impl Bags {
         words: &str,
         came: &mut String,
     ) -> Result<(), WordsFault> {
-        if let Some(id) = words.strip_prefix("pass ") {
-            self.passed.insert(read_number(id)?)?;
-            return Ok(());
+        let (word, rest) = split_word(words);
+        match word {
+            "pass" => {
+                self.passed.insert(read_number(rest)?)?;
+                Ok(())
+            }
+            "takes" => self.take_all(alloc, rest, came),
+            _ => self.do_both(alloc, words, came),
         }
-        if let Some(words) = words.strip_prefix("takes ") {
-            return self.take_all(alloc, words, came);
-        }
-        let plain = play_bag(alloc, &mut self.plain, &self.passed, words)?;
-        let index = play_bag(alloc, &mut self.index, &self.passed, words)?;
+    }
+
+    // Does this on both bags, and says what came of it.
+    fn do_both(&mut self, alloc: Global, words: &str, came: &mut String) -> Result<(), WordsFault> {
+        let (plain, index) = self.both(alloc, words)?;
         tell_both(came, &plain, &index)
+    }
+
+    // What comes of the words at the plain bag, and at the one with an index.
+    fn both(&mut self, alloc: Global, words: &str) -> Result<(String, String), WordsFault> {
+        let mut plain = String::new(alloc);
+        let mut index = String::new(alloc);
+        play_bag(alloc, &mut self.plain, &self.passed, words, &mut plain)?;
+        play_bag(alloc, &mut self.index, &self.passed, words, &mut index)?;
+        Ok((plain, index))
     }
 
     // Takes what many templates ask for, in turn, from both bags: so often in all, `(n % tags, n % keys)`, and at each
@@ -56,42 +72,45 @@ impl Bags {
         let (times, tags, keys) = read_three(words)?;
         for n in 0..times {
             let tag = rest_of(n, tags);
-            let key = rest_of(n, keys);
-            let words = format!(in alloc; "take ({tag}, {key})")?;
-            self.take_alike(alloc, &words, came)?;
+            self.take_alike(alloc, tag, rest_of(n, keys), came)?;
             if n % 10 == 0 {
-                let words = format!(in alloc; "take ({tag}, ?i)")?;
-                self.take_alike(alloc, &words, came)?;
+                self.take_alike(alloc, tag, "?i", came)?;
             }
         }
         Ok(())
     }
 
-    // Does this on both bags, and says what came where they differ.
-    fn take_alike(
+    // Takes what the template of this tag and key asks for from both bags, and says what came where they differ.
+    fn take_alike<K: Display + Drop>(
         &mut self,
         alloc: Global,
-        words: &str,
+        tag: u64,
+        key: K,
         came: &mut String,
     ) -> Result<(), WordsFault> {
-        let plain = play_bag(alloc, &mut self.plain, &self.passed, words)?;
-        let index = play_bag(alloc, &mut self.index, &self.passed, words)?;
-        if plain.as_str() == index.as_str() {
-            Ok(())
-        } else {
-            Ok(writeln!(came, "> {words}: {plain} or {index}")?)
-        }
+        let words = format!(in alloc; "take ({tag}, {key})")?;
+        let (plain, index) = self.both(alloc, &words)?;
+        tell_unlike(came, &words, &plain, &index)
     }
 }
 
 // Writes what came of both, or of each where they differ; nothing comes of what has nothing to give.
 fn tell_both(came: &mut String, plain: &str, index: &str) -> Result<(), WordsFault> {
     if plain != index {
-        Ok(writeln!(came, "> plain {plain}, index {index}")?)
+        done(writeln!(came, "> plain {plain}, index {index}"))
     } else if plain.is_empty() {
         Ok(())
     } else {
-        Ok(writeln!(came, "> {plain}")?)
+        tell(came, plain)
+    }
+}
+
+// Writes what came of the words at each, where they differ.
+fn tell_unlike(came: &mut String, words: &str, plain: &str, index: &str) -> Result<(), WordsFault> {
+    if plain == index {
+        Ok(())
+    } else {
+        done(writeln!(came, "> {words}: {plain} or {index}"))
     }
 }
 
@@ -107,81 +126,107 @@ fn rest_of(n: u64, by: u64) -> u64 {
     n.checked_rem(by).unwrap_or(0)
 }
 
-// What comes of the words at this bag.
+// Lets this bag do what the words say, and appends what comes of it.
 fn play_bag<B: Bag>(
     alloc: Global,
     bag: &mut B,
     passed: &BTreeSet<u64>,
     words: &str,
-) -> Result<String, WordsFault> {
+    came: &mut String,
+) -> Result<(), WordsFault> {
     let (word, rest) = split_word(words);
-    if word == "put" {
-        put(alloc, bag, rest)
-    } else if word == "fill" {
-        fill(alloc, bag, rest)
-    } else if word == "get" {
-        Ok(told_tuple(alloc, bag.get(read_number(rest)?))?)
-    } else if word == "remove" {
-        Ok(told_tuple(alloc, bag.remove(read_number(rest)?).as_ref())?)
-    } else if word == "least" {
-        let template = read_template(alloc, rest)?;
-        Ok(told_id(alloc, bag.least_match(&template, passed))?)
-    } else if word == "take" {
-        take(alloc, bag, passed, rest)
-    } else if word == "next" {
-        Ok(told_id(alloc, bag.next_from(read_number(rest)?))?)
-    } else if word == "count" {
-        Ok(format!(in alloc; "{} tuples", bag.len())?)
-    } else {
-        Err(WordsFault::Unknown)
+    match word {
+        "put" => put(alloc, bag, rest),
+        "fill" => fill(alloc, bag, rest),
+        "least" => least(alloc, bag, passed, rest, came),
+        "take" => take(alloc, bag, passed, rest, came),
+        "count" => done(write!(came, "{} tuples", bag.len())),
+        _ => play_id(alloc, bag, word, read_number(rest)?, came),
+    }
+}
+
+// Appends what the word asks of an id: the tuple, which is taken out or not, or the first id from this one on.
+fn play_id<B: Bag>(
+    alloc: Global,
+    bag: &mut B,
+    word: &str,
+    id: u64,
+    came: &mut String,
+) -> Result<(), WordsFault> {
+    match word {
+        "get" => done(push_tuple(alloc, bag.get(id), came)),
+        "remove" => done(push_tuple(alloc, bag.remove(id).as_ref(), came)),
+        "next" => done(push_id(bag.next_from(id), came)),
+        _ => Err(WordsFault::Unknown),
     }
 }
 
 // Puts a tuple under an id.
-fn put<B: Bag>(alloc: Global, bag: &mut B, words: &str) -> Result<String, WordsFault> {
+fn put<B: Bag>(alloc: Global, bag: &mut B, words: &str) -> Result<(), WordsFault> {
     let (id, rest) = split_number(words)?;
-    bag.insert(id, read_tuple(alloc, rest)?)?;
-    Ok(String::new(alloc))
+    done(bag.insert(id, tuple_of(alloc, rest)?))
 }
 
 // Puts so many tuples `(n % tags, n % keys)` under the ids n, from 0 on.
-fn fill<B: Bag>(alloc: Global, bag: &mut B, words: &str) -> Result<String, WordsFault> {
+fn fill<B: Bag>(alloc: Global, bag: &mut B, words: &str) -> Result<(), WordsFault> {
     let (times, tags, keys) = read_three(words)?;
     for n in 0..times {
-        let words = format!(in alloc; "({}, {})", rest_of(n, tags), rest_of(n, keys))?;
-        bag.insert(n, read_tuple(alloc, &words)?)?;
+        let words = format!(in alloc; "{n} ({}, {})", rest_of(n, tags), rest_of(n, keys))?;
+        put(alloc, bag, &words)?;
     }
-    Ok(String::new(alloc))
+    Ok(())
 }
 
-// Takes the tuple of the least id that the template matches; gives the id, the tuple, and which id comes next.
+// Appends the least id that the template matches.
+fn least<B: Bag>(
+    alloc: Global,
+    bag: &B,
+    passed: &BTreeSet<u64>,
+    words: &str,
+    came: &mut String,
+) -> Result<(), WordsFault> {
+    let template = template_of(alloc, words)?;
+    done(push_id(bag.least_match(&template, passed), came))
+}
+
+// Takes the tuple of the least id that the template matches; appends the id, the tuple, and which id comes next.
 fn take<B: Bag>(
     alloc: Global,
     bag: &mut B,
     passed: &BTreeSet<u64>,
     words: &str,
-) -> Result<String, WordsFault> {
-    let template = read_template(alloc, words)?;
+    came: &mut String,
+) -> Result<(), WordsFault> {
+    let template = template_of(alloc, words)?;
     match bag.least_match(&template, passed) {
-        None => Ok(String::from_str(alloc, "none")?),
-        Some(id) => {
-            let tuple = told_tuple(alloc, bag.remove(id).as_ref())?;
-            let next = told_id(alloc, bag.next_from(id))?;
-            Ok(format!(in alloc; "{id} {tuple}, next {next}")?)
-        }
+        None => done(came.push_str("none")),
+        Some(id) => done(take_out(alloc, bag, id, came)),
     }
 }
 
-fn told_tuple(alloc: Global, tuple: Option<&Tuple>) -> Result<String, AllocError> {
+// Takes the tuple of this id; appends the id, the tuple, and which id comes next.
+fn take_out<B: Bag>(
+    alloc: Global,
+    bag: &mut B,
+    id: u64,
+    came: &mut String,
+) -> Result<(), AllocError> {
+    write!(came, "{id} ")?;
+    push_tuple(alloc, bag.remove(id).as_ref(), came)?;
+    came.push_str(", next ")?;
+    push_id(bag.next_from(id), came)
+}
+
+fn push_tuple(alloc: Global, tuple: Option<&Tuple>, came: &mut String) -> Result<(), AllocError> {
     match tuple {
-        Some(tuple) => write_tuple(alloc, tuple),
-        None => String::from_str(alloc, "none"),
+        Some(tuple) => came.push_str(&write_tuple(alloc, tuple)?),
+        None => came.push_str("none"),
     }
 }
 
-fn told_id(alloc: Global, id: Option<u64>) -> Result<String, AllocError> {
+fn push_id(id: Option<u64>, came: &mut String) -> Result<(), AllocError> {
     match id {
-        Some(id) => format!(in alloc; "{id}"),
-        None => String::from_str(alloc, "none"),
+        Some(id) => write!(came, "{id}"),
+        None => came.push_str("none"),
     }
 }

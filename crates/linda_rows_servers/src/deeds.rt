@@ -1,51 +1,41 @@
 //! What is said of deeds.
 
-use crate::number::{read_client, read_number, split_number};
+use crate::number::{read_client, read_number, split_number, tuple_of};
 use crate::step::tell_deed;
+use crate::told::{done, tell, tell_two};
 use linda_promise::{last_number, reported_deed, taker_of};
 use linda_script::{WordsFault, read_message, read_numbered, read_reply, split_word};
 use linda_state::Deed;
-use linda_text::read_tuple;
 use linda_wire::Reply;
 use std::alloc::Global;
 
-/// Deeds, in order.
-#[derive(Drop)]
-pub(crate) struct Deeds {
-    deeds: Vec<Deed>,
+/// Does what the words say of the deeds: another deed, as `take 7 1 3`; the last number of a client; who takes a tuple;
+/// or which deed is reported of a message.
+pub(crate) fn play_deeds(
+    alloc: Global,
+    deeds: &mut Vec<Deed>,
+    words: &str,
+    came: &mut String,
+) -> Result<(), WordsFault> {
+    let (word, rest) = split_word(words);
+    match word {
+        "last" => tell(came, last_number(deeds.as_slice(), read_client(rest)?)),
+        "taker" => tell_taker(taker_of(deeds.as_slice(), read_number(rest)?), came),
+        "reported" => report(alloc, rest, came),
+        _ => add(alloc, deeds, word, rest),
+    }
 }
 
-impl Deeds {
-    /// No deeds.
-    pub(crate) fn new(alloc: Global) -> Deeds {
-        Deeds {
-            deeds: Vec::new(alloc),
-        }
-    }
+// Adds another deed.
+fn add(alloc: Global, deeds: &mut Vec<Deed>, word: &str, words: &str) -> Result<(), WordsFault> {
+    Ok(deeds.push(read_deed(alloc, word, words)?)?)
+}
 
-    /// Does what the words say: another deed, as `take 7 1 3`; the last number of a client; who takes a tuple; or
-    /// which deed is reported of a message.
-    pub(crate) fn play(
-        &mut self,
-        alloc: Global,
-        words: &str,
-        came: &mut String,
-    ) -> Result<(), WordsFault> {
-        let (word, rest) = split_word(words);
-        if word == "last" {
-            let last = last_number(&self.deeds, read_client(rest)?);
-            Ok(writeln!(came, "> {last}")?)
-        } else if word == "taker" {
-            match taker_of(&self.deeds, read_number(rest)?) {
-                Some((client, n)) => Ok(writeln!(came, "> {client} {n}")?),
-                None => Ok(came.push_str("> none\n")?),
-            }
-        } else if word == "reported" {
-            report(alloc, rest, came)
-        } else {
-            self.deeds.push(read_deed(alloc, word, rest)?)?;
-            Ok(())
-        }
+// Writes who took a tuple, by which number, or that nobody did.
+fn tell_taker(taker: Option<(u32, u64)>, came: &mut String) -> Result<(), WordsFault> {
+    match taker {
+        Some((client, n)) => tell_two(came, client, n),
+        None => tell(came, "none"),
     }
 }
 
@@ -53,36 +43,43 @@ impl Deeds {
 fn read_deed(alloc: Global, word: &str, words: &str) -> Result<Deed, WordsFault> {
     let (client, rest) = read_numbered(words)?;
     let (n, rest) = split_number(rest)?;
-    if word == "put" {
-        let tuple = read_tuple(alloc, rest)?;
-        Ok(Deed::Out { client, n, tuple })
-    } else if word == "take" {
-        let id = read_number(rest)?;
-        Ok(Deed::Take { client, n, id })
-    } else if word == "pass" {
-        let id = read_number(rest)?;
-        Ok(Deed::Pass { client, n, id })
-    } else if word == "leave" {
-        Ok(Deed::Leave { client, n })
-    } else {
-        Err(WordsFault::Unknown)
+    match word {
+        "put" => {
+            let tuple = tuple_of(alloc, rest)?;
+            Ok(Deed::Out { client, n, tuple })
+        }
+        "take" => {
+            let id = read_number(rest)?;
+            Ok(Deed::Take { client, n, id })
+        }
+        "pass" => {
+            let id = read_number(rest)?;
+            Ok(Deed::Pass { client, n, id })
+        }
+        "leave" => Ok(Deed::Leave { client, n }),
+        _ => Err(WordsFault::Unknown),
     }
 }
 
 // Writes the deed that is reported of a message of client 7, after its last number, and of the reply, as
 // `1: accept 2 1 4; gone 2`.
 fn report(alloc: Global, words: &str, came: &mut String) -> Result<(), WordsFault> {
+    let (last, message, reply) = split_report(words)?;
+    let mut sends: Vec<(u32, Reply)> = Vec::new(alloc);
+    sends.push((7, read_reply(alloc, reply)?))?;
+    match reported_deed(7, read_message(alloc, message)?, last, &sends) {
+        Some(deed) => done(tell_deed(alloc, came, &deed)),
+        None => tell(came, "none"),
+    }
+}
+
+// The last number, and the words of the message and of the reply.
+fn split_report(words: &str) -> Result<(u64, &str, &str), WordsFault> {
     let Some((last, rest)) = words.split_once(": ") else {
         return Err(WordsFault::Unknown);
     };
     let Some((message, reply)) = rest.split_once("; ") else {
         return Err(WordsFault::Unknown);
     };
-    let message = read_message(alloc, message)?;
-    let mut sends: Vec<(u32, Reply)> = Vec::new(alloc);
-    sends.push((7, read_reply(alloc, reply)?))?;
-    match reported_deed(7, message, read_number(last)?, &sends) {
-        Some(deed) => Ok(tell_deed(alloc, came, &deed)?),
-        None => Ok(came.push_str("> none\n")?),
-    }
+    Ok((read_number(last)?, message, reply))
 }

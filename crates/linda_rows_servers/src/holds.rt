@@ -1,50 +1,37 @@
 //! Which tuple is held for which request.
 
 use crate::number::{read_client, read_number, split_number};
+use crate::told::{done, tell_found, tell_two};
 use crate::waits::{read_request, tell_request};
-use linda_hold::{Holds, Request};
+use linda_hold::Holds;
 use linda_script::{WordsFault, split_word};
-use std::alloc::Global;
+use std::alloc::{AllocError, Global};
 
-/// What is held.
-#[derive(Drop)]
-pub(crate) struct HoldsRow {
-    holds: Holds,
-}
-
-impl HoldsRow {
-    /// Nothing is held.
-    pub(crate) fn new(alloc: Global) -> HoldsRow {
-        HoldsRow {
-            holds: Holds::new(alloc),
-        }
-    }
-
-    /// Does what the words say.
-    pub(crate) fn play(
-        &mut self,
-        alloc: Global,
-        words: &str,
-        came: &mut String,
-    ) -> Result<(), WordsFault> {
-        let (word, rest) = split_word(words);
-        if word == "hold" {
-            let (id, rest) = split_number(rest)?;
-            hold(&mut self.holds, id, read_request(rest)?, came)
-        } else if word == "free" {
-            self.holds.remove(read_number(rest)?);
+/// Lets what is held change, or shows it, as the words say.
+pub(crate) fn play_holds(
+    alloc: Global,
+    holds: &mut Holds,
+    words: &str,
+    came: &mut String,
+) -> Result<(), WordsFault> {
+    let (word, rest) = split_word(words);
+    match word {
+        "hold" => hold(holds, rest, came),
+        "free" => {
+            holds.remove(read_number(rest)?);
             Ok(())
-        } else {
-            show(alloc, &self.holds, word, rest, came)
         }
+        _ => show(alloc, holds, word, rest, came),
     }
 }
 
-// Lets the tuple be held for the request; where that holds one already, its id is given.
-fn hold(holds: &mut Holds, id: u64, request: Request, came: &mut String) -> Result<(), WordsFault> {
+// Lets the tuple be held for the request, as `1 2 3`; where that holds one already, its id is given.
+fn hold(holds: &mut Holds, words: &str, came: &mut String) -> Result<(), WordsFault> {
+    let (id, rest) = split_number(words)?;
+    let request = read_request(rest)?;
     match holds.find(request) {
-        Some(held) => Ok(writeln!(came, "> holds {held}")?),
-        None => Ok(holds.insert(id, request)?),
+        Some(held) => tell_two(came, "holds", held),
+        None => done(holds.insert(id, request)),
     }
 }
 
@@ -57,28 +44,31 @@ fn show(
     which: &str,
     came: &mut String,
 ) -> Result<(), WordsFault> {
-    if what == "of" {
-        tell_request(holds.get(read_number(which)?), came)
-    } else if what == "held" {
-        match holds.find(read_request(which)?) {
-            Some(id) => Ok(writeln!(came, "> {id}")?),
-            None => Ok(came.push_str("> none\n")?),
-        }
-    } else if what == "client" {
-        let client = read_client(which)?;
-        let held = holds.of_client(alloc, client)?;
-        Ok(writeln!(came, "> {}: {held:?}", holds.count_of(client))?)
-    } else if what == "ids" {
-        tell_ids(alloc, holds, came)
-    } else {
-        Err(WordsFault::Unknown)
+    match what {
+        "of" => tell_request(holds.get(read_number(which)?), came),
+        "held" => tell_found(came, holds.find(read_request(which)?)),
+        "client" => done(tell_held(alloc, holds, read_client(which)?, came)),
+        "ids" => done(tell_ids(alloc, holds, came)),
+        _ => Err(WordsFault::Unknown),
     }
 }
 
-fn tell_ids(alloc: Global, holds: &Holds, came: &mut String) -> Result<(), WordsFault> {
+// Writes how many tuples a client holds, and which.
+fn tell_held(
+    alloc: Global,
+    holds: &Holds,
+    client: u32,
+    came: &mut String,
+) -> Result<(), AllocError> {
+    let held = holds.of_client(alloc, client)?;
+    writeln!(came, "> {}: {held:?}", holds.count_of(client))
+}
+
+// Writes how many tuples are held, and which.
+fn tell_ids(alloc: Global, holds: &Holds, came: &mut String) -> Result<(), AllocError> {
     write!(came, "> {}:", holds.len())?;
     for id in &holds.ids(alloc)? {
         write!(came, " {id}")?;
     }
-    Ok(came.push('\n')?)
+    came.push('\n')
 }

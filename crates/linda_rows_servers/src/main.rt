@@ -14,6 +14,7 @@ mod pipe;
 mod stand;
 mod step;
 mod talks;
+mod told;
 mod waits;
 
 use linda_script::{Sweeps, run_rows};

@@ -4,11 +4,10 @@ ghost use Rattle.std.specs.Prelude.{IfOk, ◌≤◌, length};
 ghost use Rattle.linda_step.specs.declared.size.TheConstants.{MAX_BATCH};
 
 use crate::number::{read_client, read_number};
-use linda_bag::Bag;
+use crate::step::tell_held_tuple;
+use crate::told::{done, tell, tell_two};
 use linda_disk::Torn;
-use linda_script::{
-    WordsFault, read_batch, read_message, read_numbered, split_word, tell_replies, tell_tuple,
-};
+use linda_script::{WordsFault, read_batch, read_message, read_numbered, split_word, tell_replies};
 use linda_step::MAX_BATCH;
 use linda_store::{Node, NodeFault, Volatile, Work};
 use linda_wire::{Message, Reply};
@@ -22,28 +21,46 @@ pub(crate) fn play_node(
     came: &mut String,
 ) -> Result<(), WordsFault> {
     let (word, rest) = split_word(words);
-    if word == "close" {
-        tell_answer(alloc, node.close(alloc, read_client(rest)?), came)
-    } else if word == "all" {
-        let messages = batch(alloc, rest)?;
-        tell_answer(alloc, node.handle_all(alloc, &messages), came)
-    } else if word == "stop" {
-        stop(alloc, node, rest, came)
-    } else if word == "snapshot" {
-        match node.snapshot(alloc) {
-            Ok(()) => Ok(()),
-            Err(fault) => Ok(writeln!(came, "> {fault}")?),
+    match word {
+        "close" => close(alloc, node, rest, came),
+        "all" => answer_all(alloc, node, rest, came),
+        "stop" => stop(alloc, node, rest, came),
+        "snapshot" => snapshot(alloc, node, came),
+        _ => {
+            if let Ok((client, words)) = read_numbered(words) {
+                answer(alloc, node, client, words, came)
+            } else {
+                show(alloc, node, word, rest, came)
+            }
         }
-    } else if let Ok((client, words)) = read_numbered(words) {
-        let message = read_message(alloc, words)?;
-        tell_answer(alloc, node.handle(alloc, client, &message), came)
-    } else {
-        show(alloc, node, word, rest, came)
     }
 }
 
-// The messages, which are few enough for one call.
-fn batch(alloc: Global, words: &str) -> Result<Vec<(u32, Message)>, WordsFault>
+// Lets the node end what a client waits for and holds.
+fn close(
+    alloc: Global,
+    node: &mut Volatile,
+    client: &str,
+    came: &mut String,
+) -> Result<(), WordsFault> {
+    let client = read_client(client)?;
+    tell_answer(alloc, node.close(alloc, client), came)
+}
+
+// Lets the node answer the message of a client.
+fn answer(
+    alloc: Global,
+    node: &mut Volatile,
+    client: u32,
+    words: &str,
+    came: &mut String,
+) -> Result<(), WordsFault> {
+    let message = read_message(alloc, words)?;
+    tell_answer(alloc, node.handle(alloc, client, &message), came)
+}
+
+/// The messages, which are few enough for one call.
+pub(crate) fn batch(alloc: Global, words: &str) -> Result<Vec<(u32, Message)>, WordsFault>
     ensures { IfOk result (λ messages. length messages.items ≤ MAX_BATCH) }
 {
     let messages = read_batch(alloc, words)?;
@@ -51,6 +68,17 @@ fn batch(alloc: Global, words: &str) -> Result<Vec<(u32, Message)>, WordsFault>
         return Err(WordsFault::Unknown);
     }
     Ok(messages)
+}
+
+// Lets the node answer several messages at once.
+fn answer_all(
+    alloc: Global,
+    node: &mut Volatile,
+    words: &str,
+    came: &mut String,
+) -> Result<(), WordsFault> {
+    let messages = batch(alloc, words)?;
+    tell_answer(alloc, node.handle_all(alloc, &messages), came)
 }
 
 // Stops the node at its work on the messages, and says how many deeds were added.
@@ -62,8 +90,16 @@ fn stop(
 ) -> Result<(), WordsFault> {
     let work = Work::Messages(batch(alloc, words)?);
     match node.stop(alloc, work, 0, Torn::Lost) {
-        Ok(deeds) => Ok(writeln!(came, "> {} deeds", deeds.len())?),
-        Err(fault) => Ok(writeln!(came, "> {fault}")?),
+        Ok(deeds) => tell_two(came, deeds.len(), "deeds"),
+        Err(fault) => tell(came, fault),
+    }
+}
+
+// Lets the node write a snapshot, and says why it does not.
+fn snapshot(alloc: Global, node: &mut Volatile, came: &mut String) -> Result<(), WordsFault> {
+    match node.snapshot(alloc) {
+        Ok(()) => Ok(()),
+        Err(fault) => tell(came, fault),
     }
 }
 
@@ -74,8 +110,8 @@ fn tell_answer(
     came: &mut String,
 ) -> Result<(), WordsFault> {
     match told {
-        Ok(sends) => Ok(tell_replies(alloc, came, &sends)?),
-        Err(fault) => Ok(writeln!(came, "> {fault}")?),
+        Ok(sends) => done(tell_replies(alloc, came, &sends)),
+        Err(fault) => tell(came, fault),
     }
 }
 
@@ -87,16 +123,10 @@ fn show(
     which: &str,
     came: &mut String,
 ) -> Result<(), WordsFault> {
-    if what == "tuple" {
-        let id = read_number(which)?;
-        let tuple = node.state().bag.get(id);
-        let held = node.holds().get(id).map(|r| (r.client, r.ticket));
-        Ok(tell_tuple(alloc, came, id, tuple, held)?)
-    } else if what == "next" {
-        Ok(writeln!(came, "> next {}", node.state().next)?)
-    } else if what == "is" {
-        Ok(came.push_str(if node.is_down() { "> down\n" } else { "> up\n" })?)
-    } else {
-        Err(WordsFault::Unknown)
+    match what {
+        "tuple" => tell_held_tuple(alloc, node.state(), node.holds(), read_number(which)?, came),
+        "next" => tell_two(came, "next", node.state().next),
+        "is" => tell(came, if node.is_down() { "down" } else { "up" }),
+        _ => Err(WordsFault::Unknown),
     }
 }

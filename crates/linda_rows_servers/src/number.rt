@@ -1,6 +1,9 @@
-//! Numbers in a text.
+//! Numbers, tuples and templates in a text.
 
 use linda_script::{WordsFault, split_word};
+use linda_text::{read_template, read_tuple};
+use linda_tuple::{Template, Tuple};
+use std::alloc::Global;
 
 /// The number that the text is.
 pub(crate) fn read_number(text: &str) -> Result<u64, WordsFault> {
@@ -30,4 +33,14 @@ pub(crate) fn read_size(text: &str) -> Result<usize, WordsFault> {
 pub(crate) fn split_number(text: &str) -> Result<(u64, &str), WordsFault> {
     let (word, rest) = split_word(text);
     Ok((read_number(word)?, rest))
+}
+
+/// The tuple that the text is.
+pub(crate) fn tuple_of(alloc: Global, text: &str) -> Result<Tuple, WordsFault> {
+    Ok(read_tuple(alloc, text)?)
+}
+
+/// The template that the text is.
+pub(crate) fn template_of(alloc: Global, text: &str) -> Result<Template, WordsFault> {
+    Ok(read_template(alloc, text)?)
 }

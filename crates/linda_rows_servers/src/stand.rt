@@ -1,14 +1,19 @@
 //! What the rows play with: a value of each subject.
 
 use crate::bags::Bags;
-use crate::book::BookRow;
-use crate::deeds::Deeds;
-use crate::holds::HoldsRow;
+use crate::book::play_book;
+use crate::deeds::play_deeds;
+use crate::holds::play_holds;
 use crate::node::play_node;
-use crate::step::StepRow;
+use crate::step::play_store;
 use crate::talks::Talks;
-use crate::waits::WaitsRow;
+use crate::waits::play_waits;
+use linda_bag::IndexBag;
+use linda_book::Book;
+use linda_hold::{Holds, Waits};
 use linda_script::{Player, WordsFault};
+use linda_state::Deed;
+use linda_step::Store;
 use linda_store::Volatile;
 use std::alloc::Global;
 
@@ -30,11 +35,11 @@ enum Subject {
 pub(crate) struct Stand {
     subject: Subject,
     bags: Bags,
-    waits: WaitsRow,
-    holds: HoldsRow,
-    book: BookRow,
-    step: StepRow,
-    deeds: Deeds,
+    waits: Waits,
+    holds: Holds,
+    book: Book,
+    store: Store<IndexBag>,
+    deeds: Vec<Deed>,
     node: Volatile,
     talks: Talks,
 }
@@ -45,74 +50,48 @@ impl Stand {
         Stand {
             subject: Subject::Step,
             bags: Bags::new(alloc),
-            waits: WaitsRow::new(alloc),
-            holds: HoldsRow::new(alloc),
-            book: BookRow::new(alloc),
-            step: StepRow::new(alloc),
-            deeds: Deeds::new(alloc),
+            waits: Waits::new(alloc),
+            holds: Holds::new(alloc),
+            book: Book::new(alloc),
+            store: Store::new(alloc),
+            deeds: Vec::new(alloc),
             node: Volatile::new(alloc),
             talks: Talks::new(alloc),
         }
     }
-
-    // Takes a new value for the subject.
-    fn renew(&mut self, alloc: Global, subject: Subject) {
-        self.subject = subject;
-        match subject {
-            Subject::Bag => put(&mut self.bags, Bags::new(alloc)),
-            Subject::Waits => put(&mut self.waits, WaitsRow::new(alloc)),
-            Subject::Holds => put(&mut self.holds, HoldsRow::new(alloc)),
-            Subject::Book => put(&mut self.book, BookRow::new(alloc)),
-            Subject::Step => put(&mut self.step, StepRow::new(alloc)),
-            Subject::Promise => put(&mut self.deeds, Deeds::new(alloc)),
-            Subject::Store => put(&mut self.node, Volatile::new(alloc)),
-            Subject::Session => put(&mut self.talks, Talks::new(alloc)),
-        }
-    }
-}
-
-// Puts a new value into its place.
-fn put<T: Drop>(place: &mut T, new: T) {
-    *place = new;
 }
 
 // The subject of this name.
 fn subject_of(name: &str) -> Result<Subject, WordsFault> {
-    if name == "bag" {
-        Ok(Subject::Bag)
-    } else if name == "waits" {
-        Ok(Subject::Waits)
-    } else if name == "holds" {
-        Ok(Subject::Holds)
-    } else if name == "book" {
-        Ok(Subject::Book)
-    } else if name == "step" {
-        Ok(Subject::Step)
-    } else if name == "promise" {
-        Ok(Subject::Promise)
-    } else if name == "store" {
-        Ok(Subject::Store)
-    } else if name == "session" || name == "conversation" {
-        Ok(Subject::Session)
-    } else {
-        Err(WordsFault::Unknown)
+    match name {
+        "bag" => Ok(Subject::Bag),
+        "waits" => Ok(Subject::Waits),
+        "holds" => Ok(Subject::Holds),
+        "book" => Ok(Subject::Book),
+        "step" => Ok(Subject::Step),
+        "promise" => Ok(Subject::Promise),
+        "store" => Ok(Subject::Store),
+        "session" | "conversation" => Ok(Subject::Session),
+        _ => Err(WordsFault::Unknown),
     }
 }
 
 impl Player for Stand {
     fn begin(&mut self, alloc: Global, subject: &str) -> Result<(), WordsFault> {
-        self.renew(alloc, subject_of(subject)?);
+        let subject = subject_of(subject)?;
+        *self = Stand::new(alloc);
+        self.subject = subject;
         Ok(())
     }
 
     fn play(&mut self, alloc: Global, words: &str, came: &mut String) -> Result<(), WordsFault> {
         match self.subject {
             Subject::Bag => self.bags.play(alloc, words, came),
-            Subject::Waits => self.waits.play(alloc, words, came),
-            Subject::Holds => self.holds.play(alloc, words, came),
-            Subject::Book => self.book.play(alloc, words, came),
-            Subject::Step => self.step.play(alloc, words, came),
-            Subject::Promise => self.deeds.play(alloc, words, came),
+            Subject::Waits => play_waits(alloc, &mut self.waits, words, came),
+            Subject::Holds => play_holds(alloc, &mut self.holds, words, came),
+            Subject::Book => play_book(alloc, &mut self.book, words, came),
+            Subject::Step => play_store(alloc, &mut self.store, words, came),
+            Subject::Promise => play_deeds(alloc, &mut self.deeds, words, came),
             Subject::Store => play_node(alloc, &mut self.node, words, came),
             Subject::Session => self.talks.play(alloc, words, came),
         }

@@ -1,88 +1,88 @@
 //! A store: what clients say to it, and what comes of it.
 
+use crate::node::batch;
 use crate::number::{read_client, read_number};
+use crate::told::{done, tell, tell_two};
 use linda_bag::{Bag, IndexBag};
+use linda_hold::Holds;
 use linda_script::{
-    WordsFault, read_batch, read_hex, read_message, read_numbered, split_word, tell_replies,
-    tell_tuple,
+    WordsFault, read_hex, read_message, read_numbered, split_word, tell_replies, tell_tuple,
 };
 use linda_snap::{SnapshotFault, get_state};
 use linda_state::{BANK_FORM, Deed, State};
-use linda_step::{MAX_BATCH, Step, Store};
+use linda_step::{Step, Store};
 use linda_text::write_tuple;
 use linda_tuple::Form;
 use std::alloc::{AllocError, Global};
+use std::fmt::Display;
 
-/// A store over the bag with an index.
-#[derive(Drop)]
-pub(crate) struct StepRow {
-    store: Store<IndexBag>,
-}
-
-impl StepRow {
-    /// A new store.
-    pub(crate) fn new(alloc: Global) -> StepRow {
-        StepRow {
-            store: Store::new(alloc),
-        }
-    }
-
-    /// Does what the words say.
-    pub(crate) fn play(
-        &mut self,
-        alloc: Global,
-        words: &str,
-        came: &mut String,
-    ) -> Result<(), WordsFault> {
-        match words.strip_prefix("state ") {
-            Some(digits) => self.take_state(alloc, digits),
-            None => play_store(alloc, &mut self.store, words, came),
-        }
-    }
-
-    // Takes the store of the state that these bytes spell.
-    fn take_state(&mut self, alloc: Global, digits: &str) -> Result<(), WordsFault> {
-        let bytes = read_hex(alloc, digits)?;
-        let state: State<IndexBag> = match get_state(alloc, BANK_FORM, &bytes) {
-            Ok(state) => state,
-            Err(SnapshotFault::Memory) => return Err(WordsFault::Memory),
-            Err(SnapshotFault::NoSnapshot) => return Err(WordsFault::Unknown),
-        };
-        self.store = Store::from_state(alloc, state);
-        Ok(())
-    }
-}
-
-fn play_store<B: Bag>(
+/// Lets the store do what the words say.
+pub(crate) fn play_store(
     alloc: Global,
-    store: &mut Store<B>,
+    store: &mut Store<IndexBag>,
     words: &str,
     came: &mut String,
 ) -> Result<(), WordsFault> {
     let (word, rest) = split_word(words);
-    if word == "close" {
-        let sends = store.close(alloc, read_client(rest)?)?;
-        Ok(tell_replies(alloc, came, &sends)?)
-    } else if word == "puts" {
-        puts(alloc, store, rest)
-    } else if word == "asks" {
-        asks(alloc, store, read_number(rest)?)
-    } else if word == "passes" {
-        passes(alloc, store, rest)
-    } else if word == "size" {
-        tell_size(alloc, store, rest, came)
-    } else if let Ok((client, words)) = read_numbered(words) {
-        let step = say(alloc, store, client, words)?;
-        Ok(tell_step(alloc, came, &step)?)
-    } else {
-        show(alloc, store, word, rest, came)
+    match word {
+        "state" => take_state(alloc, store, rest),
+        "close" => close(alloc, store, rest, came),
+        "puts" => puts(alloc, store, rest),
+        "asks" => asks(alloc, store, rest),
+        "passes" => passes(alloc, store, rest),
+        "size" => tell_size(alloc, store, rest, came),
+        _ => {
+            if let Ok((client, words)) = read_numbered(words) {
+                answer(alloc, store, client, words, came)
+            } else {
+                show(alloc, store, word, rest, came)
+            }
+        }
     }
 }
 
-// What comes of the words of a client.
-fn say<B: Bag>(
+// Takes the store of the state that these bytes spell.
+fn take_state(alloc: Global, store: &mut Store<IndexBag>, digits: &str) -> Result<(), WordsFault> {
+    let bytes = read_hex(alloc, digits)?;
+    let state: State<IndexBag> = match get_state(alloc, BANK_FORM, &bytes) {
+        Ok(state) => state,
+        Err(SnapshotFault::Memory) => return Err(WordsFault::Memory),
+        Err(SnapshotFault::NoSnapshot) => return Err(WordsFault::Unknown),
+    };
+    *store = Store::from_state(alloc, state);
+    Ok(())
+}
+
+// Ends what a client waits for and holds, and says what comes of it.
+fn close(
     alloc: Global,
-    store: &mut Store<B>,
+    store: &mut Store<IndexBag>,
+    client: &str,
+    came: &mut String,
+) -> Result<(), WordsFault> {
+    let sends = store.close(alloc, read_client(client)?)?;
+    done(tell_replies(alloc, came, &sends))
+}
+
+// Says what comes of the words of a client.
+fn answer(
+    alloc: Global,
+    store: &mut Store<IndexBag>,
+    client: u32,
+    words: &str,
+    came: &mut String,
+) -> Result<(), WordsFault> {
+    let step = step_of(alloc, store, client, words)?;
+    if let Some(deed) = &step.deed {
+        tell_deed(alloc, came, deed)?;
+    }
+    done(tell_replies(alloc, came, &step.sends))
+}
+
+// What comes of the words of a client.
+fn step_of(
+    alloc: Global,
+    store: &mut Store<IndexBag>,
     client: u32,
     words: &str,
 ) -> Result<Step, WordsFault> {
@@ -91,33 +91,61 @@ fn say<B: Bag>(
 }
 
 // Client 7 puts tuples of these fields, as its messages from 1 on.
-fn puts<B: Bag>(alloc: Global, store: &mut Store<B>, fields: &str) -> Result<(), WordsFault> {
+fn puts(alloc: Global, store: &mut Store<IndexBag>, fields: &str) -> Result<(), WordsFault> {
     let mut n: u64 = 0;
     for field in fields.split_whitespace() {
         n = n.saturating_add(1);
-        let words = format!(in alloc; "out {n} (\"a\", {field})")?;
-        let _ = say(alloc, store, 7, &words)?;
+        hear_of(alloc, store, 7, "out", n, field)?;
     }
     Ok(())
 }
 
 // Client 8 asks by the tickets from 1 on, below this one, for the tuple 5: to take it by an odd one, else to read it.
-fn asks<B: Bag>(alloc: Global, store: &mut Store<B>, end: u64) -> Result<(), WordsFault> {
+fn asks(alloc: Global, store: &mut Store<IndexBag>, end: &str) -> Result<(), WordsFault> {
+    let end = read_number(end)?;
     for ticket in 1..end {
         let verb = if ticket % 2 == 1 { "in" } else { "rd" };
-        let words = format!(in alloc; "{verb} {ticket} (\"a\", 5)")?;
-        let _ = say(alloc, store, 8, &words)?;
+        hear_of(alloc, store, 8, verb, ticket, "5")?;
     }
     Ok(())
 }
 
 // Each client from the first on, below the second, accepts what nobody offered it.
-fn passes<B: Bag>(alloc: Global, store: &mut Store<B>, clients: &str) -> Result<(), WordsFault> {
+fn passes(alloc: Global, store: &mut Store<IndexBag>, clients: &str) -> Result<(), WordsFault> {
     let (first, end) = read_numbered(clients)?;
-    for client in first..read_client(end)? {
-        let _ = say(alloc, store, client, "accept 1 1 1")?;
+    let end = read_client(end)?;
+    for client in first..end {
+        hear(alloc, store, client, "accept 1 1 1")?;
     }
     Ok(())
+}
+
+// The store does what a client says, of which nothing is said.
+fn hear(
+    alloc: Global,
+    store: &mut Store<IndexBag>,
+    client: u32,
+    words: &str,
+) -> Result<(), WordsFault> {
+    let _ = step_of(alloc, store, client, words)?;
+    Ok(())
+}
+
+// The store does what a client says, by this number, of the tuple `("a", FIELD)`.
+fn hear_of(
+    alloc: Global,
+    store: &mut Store<IndexBag>,
+    client: u32,
+    verb: &str,
+    n: u64,
+    field: &str,
+) -> Result<(), WordsFault> {
+    hear(
+        alloc,
+        store,
+        client,
+        &format!(in alloc; "{verb} {n} (\"a\", {field})")?,
+    )
 }
 
 // The form that is asked for, which is that of new banks where none is, and the words after it.
@@ -129,64 +157,76 @@ fn split_form(words: &str) -> (Form, &str) {
 }
 
 // Writes how many bytes the deeds of these messages will spell, or that one has no spelling in the form.
-fn tell_size<B: Bag>(
+fn tell_size(
     alloc: Global,
-    store: &Store<B>,
+    store: &Store<IndexBag>,
     words: &str,
     came: &mut String,
 ) -> Result<(), WordsFault> {
     let (form, words) = split_form(words);
-    let messages = read_batch(alloc, words)?;
-    if messages.len() > MAX_BATCH {
-        return Err(WordsFault::Unknown);
-    }
+    let messages = batch(alloc, words)?;
     match store.size_of(form, &messages) {
-        Some(bytes) => Ok(writeln!(came, "> {bytes} bytes")?),
-        None => Ok(came.push_str("> no spelling\n")?),
+        Some(bytes) => tell_two(came, bytes, "bytes"),
+        None => tell(came, "no spelling"),
     }
-}
-
-// Appends a line for the deed, if there is one, and a line for each reply.
-fn tell_step(alloc: Global, came: &mut String, step: &Step) -> Result<(), AllocError> {
-    if let Some(deed) = &step.deed {
-        tell_deed(alloc, came, deed)?;
-    }
-    tell_replies(alloc, came, &step.sends)
 }
 
 /// Appends a line for a deed, as `> put 7 1 ("a", 3)`, `> take 7 1 1`, `> pass 7 1 1` or `> leave 7 1`.
 pub(crate) fn tell_deed(alloc: Global, came: &mut String, deed: &Deed) -> Result<(), AllocError> {
     match deed {
         Deed::Out { client, n, tuple } => {
-            let tuple = write_tuple(alloc, tuple)?;
-            writeln!(came, "> put {client} {n} {tuple}")
+            tell_act(came, "put", *client, *n, write_tuple(alloc, tuple)?)
         }
-        Deed::Take { client, n, id } => writeln!(came, "> take {client} {n} {id}"),
-        Deed::Pass { client, n, id } => writeln!(came, "> pass {client} {n} {id}"),
+        Deed::Take { client, n, id } => tell_act(came, "take", *client, *n, *id),
+        Deed::Pass { client, n, id } => tell_act(came, "pass", *client, *n, *id),
         Deed::Leave { client, n } => writeln!(came, "> leave {client} {n}"),
     }
 }
 
+// Appends a line for what a client did, by which number, to what.
+fn tell_act<T: Display + Drop>(
+    came: &mut String,
+    verb: &str,
+    client: u32,
+    n: u64,
+    what: T,
+) -> Result<(), AllocError> {
+    writeln!(came, "> {verb} {client} {n} {what}")
+}
+
 // Appends what the store has, where these words ask.
-fn show<B: Bag>(
+fn show(
     alloc: Global,
-    store: &Store<B>,
+    store: &Store<IndexBag>,
     what: &str,
     which: &str,
     came: &mut String,
 ) -> Result<(), WordsFault> {
-    if what == "tuple" {
-        let id = read_number(which)?;
-        let tuple = store.state().bag.get(id);
-        let held = store.holds().get(id).map(|r| (r.client, r.ticket));
-        Ok(tell_tuple(alloc, came, id, tuple, held)?)
-    } else if what == "waiting" {
-        Ok(writeln!(came, "> waiting {}", store.waits().len())?)
-    } else if what == "clients" {
-        Ok(writeln!(came, "> clients {}", store.state().book.len())?)
-    } else if what == "next" {
-        Ok(writeln!(came, "> next {}", store.state().next)?)
-    } else {
-        Err(WordsFault::Unknown)
+    match what {
+        "tuple" => {
+            tell_held_tuple(
+                alloc,
+                store.state(),
+                store.holds(),
+                read_number(which)?,
+                came,
+            )
+        }
+        "waiting" => tell_two(came, "waiting", store.waits().len()),
+        "clients" => tell_two(came, "clients", store.state().book.len()),
+        "next" => tell_two(came, "next", store.state().next),
+        _ => Err(WordsFault::Unknown),
     }
+}
+
+/// Writes the tuple that a state keeps under an id, and for whom it is held.
+pub(crate) fn tell_held_tuple(
+    alloc: Global,
+    state: &State<IndexBag>,
+    holds: &Holds,
+    id: u64,
+    came: &mut String,
+) -> Result<(), WordsFault> {
+    let held = holds.get(id).map(|r| (r.client, r.ticket));
+    done(tell_tuple(alloc, came, id, state.bag.get(id), held))
 }

@@ -3,10 +3,11 @@
 use crate::node::play_node;
 use crate::number::read_size;
 use crate::pipe::{Pieces, Room};
+use crate::told::{done, tell, tell_two};
 use linda_script::{WordsFault, said_frames, split_word, write_reply};
-use linda_store::{End, Session, Stage, Volatile, converse};
-use linda_wire::ReplyFeed;
-use std::alloc::Global;
+use linda_store::{End, Session, Stage, Taken, Volatile, converse};
+use linda_wire::{Reply, ReplyFeed};
+use std::alloc::{AllocError, Global};
 
 /// A node, a session with it, and the stream that a client is to say to it in a conversation.
 #[derive(Drop)]
@@ -34,32 +35,26 @@ impl Talks {
         came: &mut String,
     ) -> Result<(), WordsFault> {
         let (word, rest) = split_word(words);
-        if word == "says" {
-            Ok(self.stream.extend_from_slice(&said_frames(alloc, rest)?)?)
-        } else if word == "talk" {
-            self.talk(alloc, rest, came)
-        } else if word == "takes" {
-            self.take(alloc, rest, came)
-        } else if word == "session" {
-            show(&self.session, came)
-        } else {
-            play_node(alloc, &mut self.node, words, came)
+        match word {
+            "says" => self.hear(alloc, rest),
+            "talk" => self.talk(alloc, rest, came),
+            "takes" => self.take(alloc, rest, came),
+            "session" => done(show(&self.session, came)),
+            _ => play_node(alloc, &mut self.node, words, came),
         }
+    }
+
+    // The stream goes on with a message, or with bytes.
+    fn hear(&mut self, alloc: Global, words: &str) -> Result<(), WordsFault> {
+        let piece = said_frames(alloc, words)?;
+        done(self.stream.extend_from_slice(&piece))
     }
 
     // The session takes a piece, a message or bytes; gives the replies, and whether it goes on.
     fn take(&mut self, alloc: Global, words: &str, came: &mut String) -> Result<(), WordsFault> {
         let piece = said_frames(alloc, words)?;
         let taken = self.session.take(alloc, &mut self.node, &piece)?;
-        for reply in &taken.replies {
-            let words = write_reply(alloc, reply)?;
-            writeln!(came, "> {words}")?;
-        }
-        Ok(came.push_str(if taken.goes_on {
-            "> goes on\n"
-        } else {
-            "> ends\n"
-        })?)
+        tell_taken(alloc, &taken, came)
     }
 
     // The conversation over the stream, which comes in pieces of this size; the reader fails at its end where the
@@ -67,23 +62,48 @@ impl Talks {
     fn talk(&mut self, alloc: Global, words: &str, came: &mut String) -> Result<(), WordsFault> {
         let (size, rest) = split_word(words);
         let (word, room) = split_word(rest);
+        self.converse(
+            alloc,
+            read_size(size)?,
+            word == "fails",
+            read_size(room)?,
+            came,
+        )
+    }
+
+    fn converse(
+        &mut self,
+        alloc: Global,
+        size: usize,
+        fails: bool,
+        room: usize,
+        came: &mut String,
+    ) -> Result<(), WordsFault> {
         let mut reader = Pieces {
             bytes: self.stream.as_slice(),
-            size: read_size(size)?,
-            fails: word == "fails",
+            size,
+            fails,
         };
         let mut writer = Room {
             taken: Vec::new(alloc),
-            room: read_size(room)?,
+            room,
         };
         let end = converse(alloc, &mut self.node, &mut reader, &mut writer);
         tell_written(alloc, &writer.taken, came)?;
         match end {
-            Ok(End::Ended { rest }) => Ok(writeln!(came, "> ended, rest {rest}")?),
-            Ok(End::Malformed(at)) => Ok(writeln!(came, "> malformed at {at}")?),
-            Err(fault) => Ok(writeln!(came, "> {fault}")?),
+            Ok(End::Ended { rest }) => tell_two(came, "ended, rest", rest),
+            Ok(End::Malformed(at)) => tell_two(came, "malformed at", at),
+            Err(fault) => tell(came, fault),
         }
     }
+}
+
+// Writes what the session said, and whether it goes on.
+fn tell_taken(alloc: Global, taken: &Taken, came: &mut String) -> Result<(), WordsFault> {
+    for reply in &taken.replies {
+        tell_reply(alloc, reply, came)?;
+    }
+    tell(came, if taken.goes_on { "goes on" } else { "ends" })
 }
 
 // Writes the replies that are written, and the bytes after them that are less than one.
@@ -92,31 +112,41 @@ fn tell_written(alloc: Global, written: &[u8], came: &mut String) -> Result<(), 
     feed.feed(written)?;
     for _ in 0..written.len() {
         match feed.next(alloc) {
-            Ok(Some(reply)) => {
-                let words = write_reply(alloc, &reply)?;
-                writeln!(came, "> {words}")?;
-            }
+            Ok(Some(reply)) => tell_reply(alloc, &reply, came)?,
             _ => break,
         }
     }
     let (_, rest) = written.split_at(written.len().saturating_sub(feed.rest()));
+    tell_rest(alloc, rest, came)
+}
+
+// Writes a reply as a line.
+fn tell_reply(alloc: Global, reply: &Reply, came: &mut String) -> Result<(), WordsFault> {
+    tell(came, write_reply(alloc, reply)?)
+}
+
+// Writes the bytes that are less than a reply, if there are any.
+fn tell_rest(alloc: Global, rest: &[u8], came: &mut String) -> Result<(), WordsFault> {
     if rest.is_empty() {
         return Ok(());
     }
-    let digits = hex::encode(alloc, rest)?;
-    Ok(writeln!(came, "> bytes {digits}")?)
+    tell_two(came, "bytes", hex::encode(alloc, rest)?)
 }
 
 // Writes whom the session greeted, how it stands, and how many bytes came after its last message.
-fn show(session: &Session, came: &mut String) -> Result<(), WordsFault> {
+fn show(session: &Session, came: &mut String) -> Result<(), AllocError> {
     match session.greeted() {
         Some(client) => write!(came, "> greeted {client}, ")?,
-        None => write!(came, "> greeted nobody, ")?,
+        None => came.push_str("> greeted nobody, ")?,
     }
-    let rest = session.rest();
-    match session.stage() {
-        Stage::Open => Ok(writeln!(came, "open, rest {rest}")?),
-        Stage::Malformed(at) => Ok(writeln!(came, "malformed at {at}, rest {rest}")?),
-        Stage::Down => Ok(writeln!(came, "down, rest {rest}")?),
+    push_stage(session.stage(), came)?;
+    writeln!(came, ", rest {}", session.rest())
+}
+
+fn push_stage(stage: Stage, came: &mut String) -> Result<(), AllocError> {
+    match stage {
+        Stage::Open => came.push_str("open"),
+        Stage::Malformed(at) => write!(came, "malformed at {at}"),
+        Stage::Down => came.push_str("down"),
     }
 }

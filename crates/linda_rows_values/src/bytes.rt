@@ -10,14 +10,14 @@
 
 use crate::hexadecimal::{bytes_of, tell_bytes};
 use crate::texts::{atoms_in, split_offset};
-use crate::told::{tell_front, tell_placed, tell_rest};
+use crate::told::{done, tell_front, tell_placed, tell_rest};
+use crate::typed::Typed;
 use linda_codec::{
     get_atom, get_template, get_tuple, put_atom, put_template, put_tuple, read_atom, read_bool,
     read_template, read_tuple, read_u8, read_u32, read_u64, skip_template, skip_tuple,
 };
 use linda_script::{WordsFault, split_word};
-use linda_text::{read_template as typed_template, read_tuple as typed_tuple};
-use linda_tuple::{Form, Template, Tuple, fits};
+use linda_tuple::{Atom, Form, Template, Tuple, fits};
 use std::alloc::{AllocError, Global};
 
 // The line for a value that the form has no spelling for.
@@ -35,20 +35,8 @@ pub(crate) fn play_bytes(alloc: Global, words: &str, came: &mut String) -> Resul
     match verb {
         "spell" => spell(alloc, form, came, kind, rest),
         "put" => put(alloc, form, came, kind, rest),
-        "get" => {
-            let (at, digits) = split_offset(rest)?;
-            get(
-                alloc,
-                form,
-                came,
-                kind,
-                bytes_of(alloc, digits)?.as_slice(),
-                at,
-            )
-        }
-        "read" => read(alloc, form, came, kind, bytes_of(alloc, rest)?.as_slice()),
-        "skip" => skip(alloc, form, came, kind, bytes_of(alloc, rest)?.as_slice()),
-        _ => Err(WordsFault::Unknown),
+        "get" => play_get(alloc, form, came, kind, rest),
+        _ => play_digits(alloc, form, came, verb, kind, rest),
     }
 }
 
@@ -70,8 +58,8 @@ fn spell(
     text: &str,
 ) -> Result<(), WordsFault> {
     match kind {
-        "tuple" => Ok(spell_tuple(alloc, form, came, &typed_tuple(alloc, text)?)?),
-        "template" => spell_template(alloc, form, came, &typed_template(alloc, text)?),
+        "tuple" => done(spell_tuple(alloc, form, came, &Tuple::of_words(alloc, text)?)),
+        "template" => spell_template(alloc, form, came, &Template::of_words(alloc, text)?),
         _ => Err(WordsFault::Unknown),
     }
 }
@@ -87,7 +75,7 @@ fn spell_tuple(
     }
     let mut bytes = Vec::new(alloc);
     put_tuple(form, &mut bytes, tuple)?;
-    tell_bytes(alloc, came, bytes.as_slice())
+    tell_bytes(alloc, came, &bytes)
 }
 
 // Templates are put in the second form alone, in which each has a spelling: its patterns are within the limits.
@@ -103,7 +91,7 @@ fn spell_template(
     let _patterns = template.fields();
     let mut bytes = Vec::new(alloc);
     put_template(Form::Two, &mut bytes, template)?;
-    Ok(tell_bytes(alloc, came, bytes.as_slice())?)
+    done(tell_bytes(alloc, came, &bytes))
 }
 
 fn put(
@@ -114,13 +102,37 @@ fn put(
     atoms: &str,
 ) -> Result<(), WordsFault> {
     let mut bytes = bytes_of(alloc, front)?;
-    for atom in &atoms_in(alloc, atoms)? {
+    let atoms = atoms_in(alloc, atoms)?;
+    done(put_atoms(alloc, form, came, &mut bytes, &atoms))
+}
+
+// Appends the bytes with the atoms' after them, where each has a spelling.
+fn put_atoms(
+    alloc: Global,
+    form: Form,
+    came: &mut String,
+    bytes: &mut Vec<u8>,
+    atoms: &[Atom],
+) -> Result<(), AllocError> {
+    for atom in atoms {
         if !atom.fits(form) {
-            return Ok(came.push_str(NO_SPELLING)?);
+            return came.push_str(NO_SPELLING);
         }
-        put_atom(form, &mut bytes, atom)?;
+        put_atom(form, bytes, atom)?;
     }
-    Ok(tell_bytes(alloc, came, bytes.as_slice())?)
+    tell_bytes(alloc, came, bytes)
+}
+
+fn play_get(
+    alloc: Global,
+    form: Form,
+    came: &mut String,
+    kind: &str,
+    words: &str,
+) -> Result<(), WordsFault> {
+    let (at, digits) = split_offset(words)?;
+    let bytes = bytes_of(alloc, digits)?;
+    get(alloc, form, came, kind, &bytes, at)
 }
 
 fn get(
@@ -132,9 +144,26 @@ fn get(
     at: usize,
 ) -> Result<(), WordsFault> {
     match kind {
-        "tuple" => Ok(tell_placed(alloc, came, get_tuple(alloc, form, bytes, at))?),
-        "template" => Ok(tell_placed(alloc, came, get_template(alloc, form, bytes, at))?),
-        "atom" => Ok(tell_placed(alloc, came, get_atom(alloc, form, bytes, at))?),
+        "tuple" => done(tell_placed(alloc, came, get_tuple(alloc, form, bytes, at))),
+        "template" => done(tell_placed(alloc, came, get_template(alloc, form, bytes, at))),
+        "atom" => done(tell_placed(alloc, came, get_atom(alloc, form, bytes, at))),
+        _ => Err(WordsFault::Unknown),
+    }
+}
+
+// Plays a line that says bytes after the kind.
+fn play_digits(
+    alloc: Global,
+    form: Form,
+    came: &mut String,
+    verb: &str,
+    kind: &str,
+    digits: &str,
+) -> Result<(), WordsFault> {
+    let bytes = bytes_of(alloc, digits)?;
+    match verb {
+        "read" => read(alloc, form, came, kind, &bytes),
+        "skip" => skip(alloc, form, came, kind, &bytes),
         _ => Err(WordsFault::Unknown),
     }
 }
@@ -147,13 +176,13 @@ fn read(
     bytes: &[u8],
 ) -> Result<(), WordsFault> {
     match kind {
-        "tuple" => Ok(tell_front(alloc, came, read_tuple(alloc, form, bytes))?),
-        "template" => Ok(tell_front(alloc, came, read_template(alloc, form, bytes))?),
-        "atom" => Ok(tell_front(alloc, came, read_atom(alloc, form, bytes))?),
-        "u8" => Ok(tell_front(alloc, came, read_u8(bytes))?),
-        "u32" => Ok(tell_front(alloc, came, read_u32(bytes))?),
-        "u64" => Ok(tell_front(alloc, came, read_u64(bytes))?),
-        "bool" => Ok(tell_front(alloc, came, read_bool(bytes))?),
+        "tuple" => done(tell_front(alloc, came, read_tuple(alloc, form, bytes))),
+        "template" => done(tell_front(alloc, came, read_template(alloc, form, bytes))),
+        "atom" => done(tell_front(alloc, came, read_atom(alloc, form, bytes))),
+        "u8" => done(tell_front(alloc, came, read_u8(bytes))),
+        "u32" => done(tell_front(alloc, came, read_u32(bytes))),
+        "u64" => done(tell_front(alloc, came, read_u64(bytes))),
+        "bool" => done(tell_front(alloc, came, read_bool(bytes))),
         _ => Err(WordsFault::Unknown),
     }
 }
@@ -166,8 +195,8 @@ fn skip(
     bytes: &[u8],
 ) -> Result<(), WordsFault> {
     match kind {
-        "tuple" => Ok(tell_rest(alloc, came, skip_tuple(form, bytes))?),
-        "template" => Ok(tell_rest(alloc, came, skip_template(form, bytes))?),
+        "tuple" => done(tell_rest(alloc, came, skip_tuple(form, bytes))),
+        "template" => done(tell_rest(alloc, came, skip_template(form, bytes))),
         _ => Err(WordsFault::Unknown),
     }
 }

@@ -3,10 +3,10 @@
 //! `tuple TUPLE` and `template TEMPLATE` give a copy. `text LETTERS` gives the text's count of bytes, whether it
 //! is empty, its letters, whether a copy is equal to it, and the letters that the copy gives back.
 
-use crate::notation::tell;
+use crate::told::{done, tell_value};
+use crate::typed::Typed;
 use linda_script::{WordsFault, split_word};
-use linda_text::{push_template, read_template, read_tuple, write_tuple};
-use linda_tuple::Text;
+use linda_tuple::{Template, Text, Tuple};
 use std::alloc::{AllocError, Global};
 
 /// Plays a line of a row about copies.
@@ -17,40 +17,41 @@ use std::alloc::{AllocError, Global};
 pub(crate) fn play_copies(alloc: Global, words: &str, came: &mut String) -> Result<(), WordsFault> {
     let (verb, rest) = split_word(words);
     match verb {
-        "tuple" => copy_tuple(alloc, came, rest),
-        "template" => copy_template(alloc, came, rest),
-        "text" => Ok(copy_text(alloc, came, rest)?),
+        "tuple" => tell_copy::<Tuple>(alloc, came, rest),
+        "template" => tell_copy::<Template>(alloc, came, rest),
+        "text" => done(copy_text(alloc, came, rest)),
         _ => Err(WordsFault::Unknown),
     }
 }
 
-fn copy_tuple(alloc: Global, came: &mut String, text: &str) -> Result<(), WordsFault> {
-    let copy = read_tuple(alloc, text)?.try_clone(alloc)?;
-    Ok(tell(came, write_tuple(alloc, &copy)?.as_str())?)
+fn tell_copy<V: Typed>(alloc: Global, came: &mut String, text: &str) -> Result<(), WordsFault> {
+    let value = V::of_words(alloc, text)?;
+    done(tell_copied(alloc, came, &value))
 }
 
-fn copy_template(alloc: Global, came: &mut String, text: &str) -> Result<(), WordsFault> {
-    let copy = read_template(alloc, text)?.try_clone(alloc)?;
-    let mut written = String::new(alloc);
-    push_template(&mut written, &copy)?;
-    Ok(tell(came, written.as_str())?)
+fn tell_copied<V: Typed>(alloc: Global, came: &mut String, value: &V) -> Result<(), AllocError> {
+    let copy = value.copied(alloc)?;
+    tell_value(alloc, came, &copy)
 }
 
 fn copy_text(alloc: Global, came: &mut String, letters: &str) -> Result<(), AllocError> {
     let text = Text::new(String::from_str(alloc, letters)?);
-    writeln!(came, "> {} bytes", text.len())?;
-    came.push_str(if text.is_empty() {
-        "> empty\n"
+    tell_text(came, &text, text.try_clone(alloc)?)
+}
+
+// Appends what the text says of itself, whether the copy is equal to it, and what the copy gives back.
+fn tell_text(came: &mut String, text: &Text, copy: Text) -> Result<(), AllocError> {
+    let count = text.len();
+    let is_empty = if text.is_empty() {
+        "empty"
     } else {
-        "> not empty\n"
-    })?;
-    writeln!(came, "> letters {}", text.as_str())?;
-    let copy = text.try_clone(alloc)?;
-    came.push_str(if copy == text {
-        "> copy equal\n"
-    } else {
-        "> copy not equal\n"
-    })?;
+        "not empty"
+    };
+    let is_equal = if copy == *text { "equal" } else { "not equal" };
+    let letters = text.as_str();
     let back = copy.into_string();
-    writeln!(came, "> back {}", back.as_str())
+    writeln!(
+        came,
+        "> {count} bytes\n> {is_empty}\n> letters {letters}\n> copy {is_equal}\n> back {back}"
+    )
 }

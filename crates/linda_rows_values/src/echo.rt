@@ -4,8 +4,9 @@
 //! how many rows there are, what came, and what came otherwise.
 
 use crate::notation::tell;
-use linda_script::{Player, WordsFault, play_rows, split_word};
-use std::alloc::Global;
+use crate::told::done;
+use linda_script::{Played, Player, WordsFault, play_rows, split_word};
+use std::alloc::{AllocError, Global};
 
 /// Says what it is told to say.
 #[derive(Drop)]
@@ -22,7 +23,7 @@ impl Player for Echo {
 
     fn play(&mut self, _alloc: Global, words: &str, came: &mut String) -> Result<(), WordsFault> {
         match words.strip_prefix("say ") {
-            Some(words) => Ok(writeln!(came, "> {words}")?),
+            Some(words) => done(writeln!(came, "> {words}")),
             None => Err(WordsFault::Unknown),
         }
     }
@@ -39,15 +40,26 @@ pub(crate) fn play_rows_in_text(
     came: &mut String,
 ) -> Result<(), WordsFault> {
     let (verb, rows) = split_word(words);
-    if verb != "rows" {
-        return Err(WordsFault::Unknown);
+    match verb {
+        "rows" => tell_rows(alloc, came, rows),
+        _ => Err(WordsFault::Unknown),
     }
+}
+
+fn tell_rows(alloc: Global, came: &mut String, rows: &str) -> Result<(), WordsFault> {
     let played = play_rows(alloc, &mut Echo, rows)?;
+    done(tell_played(came, &played))
+}
+
+fn tell_played(came: &mut String, played: &Played) -> Result<(), AllocError> {
     writeln!(came, "> {} rows", played.rows)?;
-    tell(came, played.came.as_str())?;
-    if played.others.is_empty() {
-        Ok(came.push_str("> all as they say\n")?)
-    } else {
-        Ok(tell(came, played.others.as_str())?)
-    }
+    tell(came, &played.came)?;
+    tell(
+        came,
+        if played.others.is_empty() {
+            "all as they say"
+        } else {
+            &played.others
+        },
+    )
 }

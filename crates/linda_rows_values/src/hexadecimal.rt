@@ -1,7 +1,7 @@
 //! Bytes in rows, as hexadecimal digits.
 
-use hex::FromHexError;
-use linda_script::WordsFault;
+use crate::told::done;
+use linda_script::{WordsFault, read_hex};
 use std::alloc::{AllocError, Global};
 
 /// The bytes of these digits, between which blanks may stand.
@@ -12,36 +12,45 @@ use std::alloc::{AllocError, Global};
 pub(crate) fn bytes_of(alloc: Global, digits: &str) -> Result<Vec<u8>, WordsFault> {
     let mut bytes = Vec::new(alloc);
     for group in digits.split(' ') {
-        match hex::decode(alloc, group.as_bytes()) {
-            Ok(some) => bytes.extend_from_slice(some.as_slice())?,
-            Err(FromHexError::OutOfMemory) => return Err(WordsFault::Memory),
-            Err(_) => return Err(WordsFault::Unknown),
-        }
+        bytes.extend_from_slice(&read_hex(alloc, group)?)?;
     }
     Ok(bytes)
+}
+
+/// Appends a line that gives the bytes that were made.
+///
+/// # Errors
+///
+/// Why none were made; `Memory` where memory runs out.
+pub(crate) fn tell_made(
+    alloc: Global,
+    came: &mut String,
+    made: Result<Vec<u8>, WordsFault>,
+) -> Result<(), WordsFault> {
+    let bytes = made?;
+    done(tell_bytes(alloc, came, &bytes))
 }
 
 /// Appends a line that gives the bytes.
 ///
 /// # Errors
 ///
-/// `AllocError` where memory runs out; a part of the line may then stand there.
+/// `AllocError` where memory runs out.
 pub(crate) fn tell_bytes(alloc: Global, came: &mut String, bytes: &[u8]) -> Result<(), AllocError> {
-    came.push_str("> ")?;
-    push_digits(alloc, came, bytes)?;
-    came.push('\n')
+    push_digits(alloc, came, "> ", bytes)
 }
 
-/// Appends the digits of the bytes.
+/// Appends what stands before the bytes, their digits, and the end of the line.
 ///
 /// # Errors
 ///
-/// `AllocError` where memory runs out.
+/// `AllocError` where memory runs out; a part of them may then stand there.
 pub(crate) fn push_digits(
     alloc: Global,
     came: &mut String,
+    front: &str,
     bytes: &[u8],
 ) -> Result<(), AllocError> {
     let digits = hex::encode(alloc, bytes)?;
-    came.push_str(digits.as_str())
+    writeln!(came, "{front}{digits}")
 }

@@ -3,10 +3,8 @@
 //! `tuple TAG FIELD ..` and `template TAG PATTERN ..` give what is made. A part is a number, `true`, `_`, or else
 //! the text that it is.
 
-use crate::notation::tell;
-use crate::told::tell_fault;
+use crate::told::{done, tell_alone};
 use linda_script::{WordsFault, split_word};
-use linda_text::{push_template, write_tuple};
 use linda_tuple::{Atom, Pattern, Template, Text, Tuple};
 use std::alloc::{AllocError, Global};
 
@@ -18,59 +16,64 @@ use std::alloc::{AllocError, Global};
 pub(crate) fn play_limits(alloc: Global, words: &str, came: &mut String) -> Result<(), WordsFault> {
     let (verb, rest) = split_word(words);
     let (tag, parts) = split_word(rest);
-    let tag = atom_of(alloc, tag)?;
     match verb {
-        "tuple" => Ok(make_tuple(alloc, came, tag, parts)?),
-        "template" => Ok(make_template(alloc, came, tag, parts)?),
+        "tuple" => done(make_tuple(alloc, came, tag, parts)),
+        "template" => done(make_template(alloc, came, tag, parts)),
         _ => Err(WordsFault::Unknown),
     }
 }
 
-fn make_tuple(alloc: Global, came: &mut String, tag: Atom, parts: &str) -> Result<(), AllocError> {
-    let mut fields = Vec::new(alloc);
-    for part in parts.split_whitespace() {
-        fields.push(atom_of(alloc, part)?)?;
-    }
-    match Tuple::new(tag, fields) {
-        Ok(tuple) => tell(came, write_tuple(alloc, &tuple)?.as_str()),
-        Err(fault) => tell_fault(came, fault),
-    }
+fn make_tuple(alloc: Global, came: &mut String, tag: &str, parts: &str) -> Result<(), AllocError> {
+    let fields = all_of(alloc, parts)?;
+    tell_alone(alloc, came, Tuple::new(Atom::of_part(alloc, tag)?, fields))
 }
 
 fn make_template(
     alloc: Global,
     came: &mut String,
-    tag: Atom,
+    tag: &str,
     parts: &str,
 ) -> Result<(), AllocError> {
-    let mut patterns = Vec::new(alloc);
-    for part in parts.split_whitespace() {
-        patterns.push(pattern_of(alloc, part)?)?;
-    }
-    match Template::new(tag, patterns) {
-        Ok(template) => {
-            let mut text = String::new(alloc);
-            push_template(&mut text, &template)?;
-            tell(came, text.as_str())
+    let patterns = all_of(alloc, parts)?;
+    tell_alone(
+        alloc,
+        came,
+        Template::new(Atom::of_part(alloc, tag)?, patterns),
+    )
+}
+
+/// What a part says.
+trait Part: Drop {
+    fn of_part(alloc: Global, part: &str) -> Result<Self, AllocError>;
+}
+
+impl Part for Atom {
+    fn of_part(alloc: Global, part: &str) -> Result<Atom, AllocError> {
+        if part == "true" {
+            return Ok(Atom::Bool(true));
         }
-        Err(fault) => tell_fault(came, fault),
+        match part.parse::<i64>() {
+            Ok(number) => Ok(Atom::Int(number)),
+            Err(_) => Ok(Atom::Text(Text::new(String::from_str(alloc, part)?))),
+        }
     }
 }
 
-fn atom_of(alloc: Global, part: &str) -> Result<Atom, AllocError> {
-    if part == "true" {
-        return Ok(Atom::Bool(true));
-    }
-    match part.parse::<i64>() {
-        Ok(number) => Ok(Atom::Int(number)),
-        Err(_) => Ok(Atom::Text(Text::new(String::from_str(alloc, part)?))),
+impl Part for Pattern {
+    fn of_part(alloc: Global, part: &str) -> Result<Pattern, AllocError> {
+        if part == "_" {
+            Ok(Pattern::Any)
+        } else {
+            Ok(Pattern::Value(Atom::of_part(alloc, part)?))
+        }
     }
 }
 
-fn pattern_of(alloc: Global, part: &str) -> Result<Pattern, AllocError> {
-    if part == "_" {
-        Ok(Pattern::Any)
-    } else {
-        Ok(Pattern::Value(atom_of(alloc, part)?))
+// What the parts say, between which blanks stand.
+fn all_of<P: Part>(alloc: Global, parts: &str) -> Result<Vec<P>, AllocError> {
+    let mut all = Vec::new(alloc);
+    for part in parts.split_whitespace() {
+        all.push(P::of_part(alloc, part)?)?;
     }
+    Ok(all)
 }

@@ -5,12 +5,14 @@
 //! is kept, or of none, and held for that request; `sent CLIENT REPLY | CLIENT REPLY` what is said of two replies.
 
 use crate::notation::{push_written, tell};
+use crate::told::done;
+use crate::typed::Typed;
 use crate::words::split_pair;
 use linda_script::{
     WordsFault, read_numbered, read_reply, said, split_word, tell_replies, tell_tuple, tidied, told,
 };
-use linda_text::read_tuple;
 use linda_tuple::Tuple;
+use linda_wire::Reply;
 use std::alloc::{AllocError, Global};
 
 /// Plays a line of a row about lines.
@@ -21,8 +23,8 @@ use std::alloc::{AllocError, Global};
 pub(crate) fn play_lines(alloc: Global, words: &str, came: &mut String) -> Result<(), WordsFault> {
     let (verb, rest) = split_word(words);
     match verb {
-        "line" => Ok(tell_line(came, rest)?),
-        "tidied" => Ok(tell(came, tidied(alloc, rest)?.as_str())?),
+        "line" => done(tell_line(came, rest)),
+        "tidied" => done(tell_tidied(alloc, came, rest)),
         "kept" => keep(alloc, came, rest),
         "sent" => send(alloc, came, rest),
         _ => Err(WordsFault::Unknown),
@@ -45,18 +47,23 @@ fn tell_part(came: &mut String, verb: &str, part: Option<&str>) -> Result<(), Al
     }
 }
 
+fn tell_tidied(alloc: Global, came: &mut String, script: &str) -> Result<(), AllocError> {
+    let lines = tidied(alloc, script)?;
+    tell(came, &lines)
+}
+
 fn keep(alloc: Global, came: &mut String, words: &str) -> Result<(), WordsFault> {
     let (id, rest) = read_numbered(words)?;
-    match rest.split_once(" | ") {
-        Some((tuple, request)) => {
-            let tuple = kept_tuple(alloc, tuple)?;
-            let held = request_of(request)?;
-            Ok(tell_tuple(alloc, came, u64::from(id), tuple.as_ref(), Some(held))?)
-        }
-        None => {
-            let tuple = kept_tuple(alloc, rest)?;
-            Ok(tell_tuple(alloc, came, u64::from(id), tuple.as_ref(), None)?)
-        }
+    let (tuple, held) = split_held(rest)?;
+    let tuple = kept_tuple(alloc, tuple)?;
+    done(tell_tuple(alloc, came, u64::from(id), tuple.as_ref(), held))
+}
+
+// The words before the bar, and the request after it, if there is one.
+fn split_held(words: &str) -> Result<(&str, Option<(u32, u64)>), WordsFault> {
+    match words.split_once(" | ") {
+        Some((tuple, request)) => Ok((tuple, Some(request_of(request)?))),
+        None => Ok((words, None)),
     }
 }
 
@@ -64,7 +71,7 @@ fn kept_tuple(alloc: Global, text: &str) -> Result<Option<Tuple>, WordsFault> {
     if text == "none" {
         Ok(None)
     } else {
-        Ok(Some(read_tuple(alloc, text)?))
+        Ok(Some(Tuple::of_words(alloc, text)?))
     }
 }
 
@@ -79,10 +86,12 @@ fn request_of(words: &str) -> Result<(u32, u64), WordsFault> {
 
 fn send(alloc: Global, came: &mut String, words: &str) -> Result<(), WordsFault> {
     let (one, other) = split_pair(words)?;
-    let mut replies = Vec::new(alloc);
-    for words in [one, other] {
-        let (client, words) = read_numbered(words)?;
-        replies.push((client, read_reply(alloc, words)?))?;
-    }
-    Ok(tell_replies(alloc, came, &replies)?)
+    let replies = [sent_of(alloc, one)?, sent_of(alloc, other)?];
+    done(tell_replies(alloc, came, &replies))
+}
+
+// The client and the reply that it is sent.
+fn sent_of(alloc: Global, words: &str) -> Result<(u32, Reply), WordsFault> {
+    let (client, words) = read_numbered(words)?;
+    Ok((client, read_reply(alloc, words)?))
 }

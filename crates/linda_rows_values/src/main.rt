@@ -18,6 +18,7 @@ mod player;
 mod streams;
 mod texts;
 mod told;
+mod typed;
 mod words;
 
 use crate::player::ValuePlayer;

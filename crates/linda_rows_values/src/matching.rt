@@ -3,10 +3,12 @@
 //! `match TEMPLATE | TUPLE` gives what the template binds in the tuple. `fits TEMPLATE | TUPLE` gives of each field
 //! of the tuple whether the template's first pattern fits it.
 
+use crate::told::done;
+use crate::typed::Typed;
 use crate::words::split_pair;
 use linda_script::{WordsFault, split_word};
-use linda_text::{push_atom, read_template, read_tuple};
-use linda_tuple::{Atom, Template, Tuple, bindings, matches};
+use linda_text::push_atom;
+use linda_tuple::{Atom, Pattern, Template, Tuple, bindings, matches};
 use std::alloc::{AllocError, Global};
 
 /// Plays a line of a row about matching.
@@ -21,10 +23,10 @@ pub(crate) fn play_matching(
 ) -> Result<(), WordsFault> {
     let (verb, rest) = split_word(words);
     let (template, tuple) = split_pair(rest)?;
-    let template = read_template(alloc, template)?;
-    let tuple = read_tuple(alloc, tuple)?;
+    let template = Template::of_words(alloc, template)?;
+    let tuple = Tuple::of_words(alloc, tuple)?;
     match verb {
-        "match" => Ok(tell_bindings(alloc, came, &template, &tuple)?),
+        "match" => done(tell_bindings(alloc, came, &template, &tuple)),
         "fits" => tell_fits(came, &template, &tuple),
         _ => Err(WordsFault::Unknown),
     }
@@ -40,7 +42,7 @@ fn tell_bindings(
         return came.push_str("> no match\n");
     }
     came.push_str("> binds")?;
-    push_atoms(came, bindings(alloc, template, tuple)?.as_slice())?;
+    push_atoms(came, &bindings(alloc, template, tuple)?)?;
     came.push('\n')
 }
 
@@ -54,12 +56,17 @@ fn push_atoms(came: &mut String, atoms: &[Atom]) -> Result<(), AllocError> {
 }
 
 fn tell_fits(came: &mut String, template: &Template, tuple: &Tuple) -> Result<(), WordsFault> {
-    let Some(pattern) = template.fields().first() else {
-        return Err(WordsFault::Unknown);
-    };
+    match template.fields().first() {
+        Some(pattern) => done(tell_fitting(came, pattern, tuple.fields())),
+        None => Err(WordsFault::Unknown),
+    }
+}
+
+// A line that says of each atom whether the pattern fits it.
+fn tell_fitting(came: &mut String, pattern: &Pattern, atoms: &[Atom]) -> Result<(), AllocError> {
     came.push('>')?;
-    for atom in tuple.fields() {
+    for atom in atoms {
         came.push_str(if pattern.fits(atom) { " yes" } else { " no" })?;
     }
-    Ok(came.push('\n')?)
+    came.push('\n')
 }

@@ -4,6 +4,7 @@
 //! after a blank is there, as `{255 a}`.
 
 use crate::hexadecimal::bytes_of;
+use crate::told::done;
 use linda_script::WordsFault;
 use std::alloc::{AllocError, Global};
 use std::str;
@@ -24,15 +25,17 @@ const LONG: u64 = 20;
 ///
 /// `Unknown` where braces hold something else, or are not closed; `Memory` where memory runs out.
 pub(crate) fn spread(alloc: Global, written: &str) -> Result<String, WordsFault> {
-    let mut text = String::new(alloc);
     match written.split_once('{') {
-        None => text.push_str(written)?,
-        Some((front, rest)) => {
-            text.push_str(front)?;
-            for part in rest.split('{') {
-                push_part(alloc, &mut text, part)?;
-            }
-        }
+        Some((front, parts)) => spread_parts(alloc, front, parts),
+        None => Ok(String::from_str(alloc, written)?),
+    }
+}
+
+// The text that begins so, before all braces, and of which each part begins in braces.
+fn spread_parts(alloc: Global, front: &str, parts: &str) -> Result<String, WordsFault> {
+    let mut text = String::from_str(alloc, front)?;
+    for part in parts.split('{') {
+        push_part(alloc, &mut text, part)?;
     }
     Ok(text)
 }
@@ -42,11 +45,15 @@ fn push_part(alloc: Global, text: &mut String, part: &str) -> Result<(), WordsFa
     let Some((inside, behind)) = part.split_once('}') else {
         return Err(WordsFault::Unknown);
     };
+    push_inside(alloc, text, inside)?;
+    done(text.push_str(behind))
+}
+
+fn push_inside(alloc: Global, text: &mut String, inside: &str) -> Result<(), WordsFault> {
     match inside.split_once(' ') {
-        Some((count, repeated)) => push_times(text, count, repeated)?,
-        None => push_bytes(alloc, text, inside)?,
+        Some((count, repeated)) => push_times(text, count, repeated),
+        None => push_bytes(alloc, text, inside),
     }
-    Ok(text.push_str(behind)?)
 }
 
 fn push_times(text: &mut String, count: &str, repeated: &str) -> Result<(), WordsFault> {
@@ -61,8 +68,8 @@ fn push_times(text: &mut String, count: &str, repeated: &str) -> Result<(), Word
 
 fn push_bytes(alloc: Global, text: &mut String, digits: &str) -> Result<(), WordsFault> {
     let bytes = bytes_of(alloc, digits)?;
-    match str::from_utf8(bytes.as_slice()) {
-        Ok(letters) => Ok(text.push_str(letters)?),
+    match str::from_utf8(&bytes) {
+        Ok(letters) => done(text.push_str(letters)),
         Err(_) => Err(WordsFault::Unknown),
     }
 }

@@ -4,10 +4,11 @@
 //! what the strings say. `tuples TUPLE | TUPLE` and `templates TEMPLATE | TEMPLATE` give whether they are equal.
 
 use crate::texts::atoms_in;
+use crate::told::done;
+use crate::typed::{Typed, is_said};
 use crate::words::split_pair;
 use linda_script::{WordsFault, split_word};
-use linda_text::{read_template, read_tuple};
-use linda_tuple::{Atom, Text};
+use linda_tuple::{Atom, Template, Text, Tuple};
 use std::alloc::{AllocError, Global};
 use std::cmp::Ordering;
 
@@ -19,19 +20,10 @@ use std::cmp::Ordering;
 pub(crate) fn play_order(alloc: Global, words: &str, came: &mut String) -> Result<(), WordsFault> {
     let (verb, rest) = split_word(words);
     match verb {
-        "atoms" => Ok(tell_orders(came, &atoms_in(alloc, rest)?)?),
-        "texts" => Ok(tell_orders(came, &texts_in(alloc, rest)?)?),
-        "tuples" => {
-            let (one, other) = split_pair(rest)?;
-            tell_same(came, read_tuple(alloc, one)? == read_tuple(alloc, other)?)
-        }
-        "templates" => {
-            let (one, other) = split_pair(rest)?;
-            tell_same(
-                came,
-                read_template(alloc, one)? == read_template(alloc, other)?,
-            )
-        }
+        "atoms" => tell_orders(came, atoms_in(alloc, rest)),
+        "texts" => tell_orders(came, texts_in(alloc, rest)),
+        "tuples" => tell_same::<Tuple>(alloc, came, rest),
+        "templates" => tell_same::<Template>(alloc, came, rest),
         _ => Err(WordsFault::Unknown),
     }
 }
@@ -48,8 +40,17 @@ fn texts_in(alloc: Global, strings: &str) -> Result<Vec<Text>, WordsFault> {
     Ok(texts)
 }
 
+// Appends the lines of what was read.
+fn tell_orders<T: Ord + Drop>(
+    came: &mut String,
+    read: Result<Vec<T>, WordsFault>,
+) -> Result<(), WordsFault> {
+    let items = read?;
+    done(push_orders(came, &items))
+}
+
 // A line for each, which says how it stands to each.
-fn tell_orders<T: Ord>(came: &mut String, items: &[T]) -> Result<(), AllocError> {
+fn push_orders<T: Ord>(came: &mut String, items: &[T]) -> Result<(), AllocError> {
     for one in items {
         came.push('>')?;
         push_order(came, one, items)?;
@@ -73,6 +74,14 @@ fn sign_of(order: Ordering) -> &'static str {
     }
 }
 
-fn tell_same(came: &mut String, same: bool) -> Result<(), WordsFault> {
-    Ok(came.push_str(if same { "> equal\n" } else { "> not equal\n" })?)
+// Appends whether the two values are equal.
+fn tell_same<V: Typed + PartialEq>(
+    alloc: Global,
+    came: &mut String,
+    words: &str,
+) -> Result<(), WordsFault> {
+    let (one, other) = split_pair(words)?;
+    let one = V::of_words(alloc, one)?;
+    let same = is_said(alloc, &one, other)?;
+    done(came.push_str(if same { "> equal\n" } else { "> not equal\n" }))
 }

@@ -67,6 +67,28 @@ impl ValuePlayer {
             replies: Stream::new(alloc),
         }
     }
+
+    // Plays a line in which nothing stands in braces any more.
+    fn play_spread(
+        &mut self,
+        alloc: Global,
+        words: &str,
+        came: &mut String,
+    ) -> Result<(), WordsFault> {
+        match self.subject {
+            Subject::Matching => play_matching(alloc, words, came),
+            Subject::Limits => play_limits(alloc, words, came),
+            Subject::Order => play_order(alloc, words, came),
+            Subject::Copies => play_copies(alloc, words, came),
+            Subject::Texts => play_texts(alloc, words, came),
+            Subject::Bytes => play_bytes(alloc, words, came),
+            Subject::Messages => self.messages.play(alloc, words, came),
+            Subject::Replies => self.replies.play(alloc, words, came),
+            Subject::Words => play_words(alloc, words, came),
+            Subject::Lines => play_lines(alloc, words, came),
+            Subject::Rows => play_rows_in_text(alloc, words, came),
+        }
+    }
 }
 
 impl Player for ValuePlayer {
@@ -84,19 +106,6 @@ impl Player for ValuePlayer {
 
     fn play(&mut self, alloc: Global, words: &str, came: &mut String) -> Result<(), WordsFault> {
         let words = spread(alloc, words)?;
-        let words = words.as_str();
-        match self.subject {
-            Subject::Matching => play_matching(alloc, words, came),
-            Subject::Limits => play_limits(alloc, words, came),
-            Subject::Order => play_order(alloc, words, came),
-            Subject::Copies => play_copies(alloc, words, came),
-            Subject::Texts => play_texts(alloc, words, came),
-            Subject::Bytes => play_bytes(alloc, words, came),
-            Subject::Messages => self.messages.play(alloc, words, came),
-            Subject::Replies => self.replies.play(alloc, words, came),
-            Subject::Words => play_words(alloc, words, came),
-            Subject::Lines => play_lines(alloc, words, came),
-            Subject::Rows => play_rows_in_text(alloc, words, came),
-        }
+        self.play_spread(alloc, &words, came)
     }
 }

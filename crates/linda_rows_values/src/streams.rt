@@ -8,8 +8,8 @@
 //! the last one, and what comes after, and gives what is next after each, and how many bytes are left.
 
 use crate::frames::{Spoken, frame_of, push_words_of_copy};
-use crate::hexadecimal::{bytes_of, tell_bytes};
-use crate::told::push_fault;
+use crate::hexadecimal::{bytes_of, tell_made};
+use crate::told::{done, push_fault};
 use linda_script::{WordsFault, split_word};
 use linda_wire::FrameFeed;
 use std::alloc::{AllocError, Global};
@@ -44,18 +44,48 @@ impl<T: Spoken> Stream<T> {
     ) -> Result<(), WordsFault> {
         let (verb, rest) = split_word(words);
         match verb {
-            "frame" => Ok(tell_bytes(alloc, came, frame_of::<T>(alloc, rest)?.as_slice())?),
-            "feed" => Ok(self.feed.feed(bytes_of(alloc, rest)?.as_slice())?),
-            "next" => Ok(tell_next(alloc, came, &mut self.feed)?),
-            "left" => Ok(writeln!(came, "> {}", self.feed.rest())?),
-            "bytewise" => self.feed_bytewise(alloc, came, bytes_of(alloc, rest)?.as_slice()),
-            "behind" => {
-                self.behind = bytes_of(alloc, rest)?;
-                Ok(())
-            }
-            "fault" => self.tell_fault(alloc, came, bytes_of(alloc, rest)?.as_slice()),
+            "frame" => tell_made(alloc, came, frame_of::<T>(alloc, rest)),
+            "next" => done(tell_next(alloc, came, &mut self.feed)),
+            "left" => self.tell_left(came),
+            _ => self.play_digits(alloc, verb, rest, came),
+        }
+    }
+
+    fn tell_left(&self, came: &mut String) -> Result<(), WordsFault> {
+        done(writeln!(came, "> {}", self.feed.rest()))
+    }
+
+    // Plays a line of which the rest says bytes.
+    fn play_digits(
+        &mut self,
+        alloc: Global,
+        verb: &str,
+        digits: &str,
+        came: &mut String,
+    ) -> Result<(), WordsFault> {
+        let bytes = bytes_of(alloc, digits)?;
+        self.play_bytes(alloc, verb, &bytes, came)
+    }
+
+    fn play_bytes(
+        &mut self,
+        alloc: Global,
+        verb: &str,
+        bytes: &[u8],
+        came: &mut String,
+    ) -> Result<(), WordsFault> {
+        match verb {
+            "feed" => done(self.feed.feed(bytes)),
+            "bytewise" => self.feed_bytewise(alloc, came, bytes),
+            "behind" => self.keep_behind(bytes),
+            "fault" => self.tell_fault(alloc, came, bytes),
             _ => Err(WordsFault::Unknown),
         }
+    }
+
+    fn keep_behind(&mut self, bytes: &[u8]) -> Result<(), WordsFault> {
+        self.behind.clear();
+        done(self.behind.extend_from_slice(bytes))
     }
 
     fn feed_bytewise(
@@ -71,7 +101,7 @@ impl<T: Spoken> Stream<T> {
             }
             self.feed.feed(&[*byte])?;
         }
-        Ok(writeln!(came, "> nothing before {count} bytes")?)
+        done(writeln!(came, "> nothing before {count} bytes"))
     }
 
     fn tell_fault(&self, alloc: Global, came: &mut String, bytes: &[u8]) -> Result<(), WordsFault> {
@@ -82,8 +112,8 @@ impl<T: Spoken> Stream<T> {
         came.push_str("> ")?;
         push_piece(alloc, came, &mut feed, front)?;
         push_piece(alloc, came, &mut feed, &[*last])?;
-        push_piece(alloc, came, &mut feed, self.behind.as_slice())?;
-        Ok(writeln!(came, "{} left", feed.rest())?)
+        push_piece(alloc, came, &mut feed, &self.behind)?;
+        done(writeln!(came, "{} left", feed.rest()))
     }
 }
 

@@ -1,7 +1,8 @@
 //! What is read, or why nothing is, as lines.
 
 use crate::hexadecimal::push_digits;
-use crate::notation::push_written;
+use crate::notation::{push_written, tell};
+use linda_script::WordsFault;
 use linda_text::{push_template, write_atom, write_tuple};
 use linda_tuple::{Atom, Template, Tuple};
 use std::alloc::{AllocError, Global};
@@ -57,15 +58,22 @@ impl Written for bool {
     }
 }
 
+/// The end of playing a line whose text was appended so.
+///
+/// # Errors
+///
+/// `Memory` where memory ran out.
+pub(crate) fn done(appended: Result<(), AllocError>) -> Result<(), WordsFault> {
+    Ok(appended?)
+}
+
 /// Appends a line that gives the fault.
 ///
 /// # Errors
 ///
 /// `AllocError` where memory runs out; a part of the line may then stand there.
 pub(crate) fn tell_fault<F: Display + Drop>(came: &mut String, fault: F) -> Result<(), AllocError> {
-    came.push_str("> ")?;
-    push_fault(came, fault)?;
-    came.push('\n')
+    writeln!(came, "> {fault}")
 }
 
 /// Appends what is said of the fault.
@@ -88,12 +96,23 @@ pub(crate) fn tell_alone<V: Written, F: Display + Drop>(
     read: Result<V, F>,
 ) -> Result<(), AllocError> {
     match read {
-        Ok(value) => {
-            push_value(alloc, came, &value)?;
-            came.push('\n')
-        }
+        Ok(value) => tell_value(alloc, came, &value),
         Err(fault) => tell_fault(came, fault),
     }
+}
+
+/// Appends a line that gives the value.
+///
+/// # Errors
+///
+/// `AllocError` where memory runs out; a part of the line may then stand there.
+pub(crate) fn tell_value<V: Written>(
+    alloc: Global,
+    came: &mut String,
+    value: &V,
+) -> Result<(), AllocError> {
+    let text = value.written(alloc)?;
+    tell(came, &text)
 }
 
 /// Appends a line that gives the value and the offset after it, or the fault.
@@ -159,14 +178,12 @@ fn push_rest(alloc: Global, came: &mut String, rest: &[u8]) -> Result<(), AllocE
     if rest.is_empty() {
         came.push_str("then nothing\n")
     } else {
-        came.push_str("then ")?;
-        push_digits(alloc, came, rest)?;
-        came.push('\n')
+        push_digits(alloc, came, "then ", rest)
     }
 }
 
 // Appends the beginning of a line that gives the value.
 fn push_value<V: Written>(alloc: Global, came: &mut String, value: &V) -> Result<(), AllocError> {
     came.push_str("> ")?;
-    push_written(came, value.written(alloc)?.as_str())
+    push_written(came, &value.written(alloc)?)
 }

@@ -3,11 +3,11 @@
 //! `message WORDS` and `reply WORDS` give what is read, in words. `said LINE` and `told LINE` give the frames
 //! of a script's line. `numbered WORDS` gives the number at the front, and what stands after it.
 
-use crate::frames::tell_said;
-use crate::hexadecimal::tell_bytes;
-use crate::told::tell_fault;
-use linda_script::{WordsFault, read_numbered, said_frames, split_word, told_frames};
-use linda_wire::{Message, Reply};
+use crate::hexadecimal::tell_made;
+use crate::told::{done, tell_alone, tell_fault};
+use linda_script::{
+    WordsFault, read_message, read_numbered, read_reply, said_frames, split_word, told_frames,
+};
 use std::alloc::{AllocError, Global};
 
 /// Plays a line of a row about words.
@@ -18,11 +18,11 @@ use std::alloc::{AllocError, Global};
 pub(crate) fn play_words(alloc: Global, words: &str, came: &mut String) -> Result<(), WordsFault> {
     let (verb, rest) = split_word(words);
     match verb {
-        "message" => Ok(tell_said::<Message>(alloc, came, rest)?),
-        "reply" => Ok(tell_said::<Reply>(alloc, came, rest)?),
-        "said" => Ok(tell_bytes(alloc, came, said_frames(alloc, rest)?.as_slice())?),
-        "told" => Ok(tell_bytes(alloc, came, told_frames(alloc, rest)?.as_slice())?),
-        "numbered" => Ok(tell_numbered(came, rest)?),
+        "message" => done(tell_alone(alloc, came, read_message(alloc, rest))),
+        "reply" => done(tell_alone(alloc, came, read_reply(alloc, rest))),
+        "said" => tell_made(alloc, came, said_frames(alloc, rest)),
+        "told" => tell_made(alloc, came, told_frames(alloc, rest)),
+        "numbered" => done(tell_numbered(came, rest)),
         _ => Err(WordsFault::Unknown),
     }
 }

@@ -2,12 +2,14 @@
 
 ghost use Rattle.std.specs.Prelude.{◌≡◌, IfOk};
 ghost use Rattle.std.specs.String.{string_bytes};
+ghost use Rattle.linda_wire.specs.declared.message.Message.TheVariants.{Ask, Hello, Out};
 ghost use Rattle.linda_script.specs.Words.{message_words};
 
 use crate::fault::WordsFault;
 use crate::lines::said;
 use crate::number::{read_numbered, split_number, split_word};
 use linda_text::{push_template, read_template, read_tuple, write_tuple};
+use linda_tuple::{Template, Tuple};
 use linda_wire::Message;
 use std::alloc::{AllocError, Global};
 
@@ -19,33 +21,49 @@ use std::alloc::{AllocError, Global};
 pub fn write_message(alloc: Global, message: &Message) -> Result<String, AllocError>
     ensures { IfOk result (λ s. string_bytes s ≡ message_words message.now) }
 {
-    let mut out = String::new(alloc);
     match message {
         Message::Hello {
             version,
             client,
             fresh,
-        } => {
-            let word = if *fresh { "fresh" } else { "known" };
-            write!(out, "hello {version} {client} {word}")?;
-        }
-        Message::Out { n, tuple } => {
-            let tuple = write_tuple(alloc, tuple)?;
-            write!(out, "out {n} {tuple}")?;
-        }
+        } => hello_words(alloc, *version, *client, *fresh),
+        Message::Out { n, tuple } => out_words(alloc, *n, tuple),
         Message::Ask {
             ticket,
             remove,
             template,
-        } => {
-            let word = if *remove { "in" } else { "rd" };
-            write!(out, "{word} {ticket} ")?;
-            push_template(&mut out, template)?;
-        }
-        Message::Accept { n, ticket, id } => write!(out, "accept {n} {ticket} {id}")?,
-        Message::Cancel { ticket } => write!(out, "cancel {ticket}")?,
-        Message::Leave { n } => write!(out, "leave {n}")?,
+        } => ask_words(alloc, *ticket, *remove, template),
+        Message::Accept { n, ticket, id } => format!(in alloc; "accept {n} {ticket} {id}"),
+        Message::Cancel { ticket } => format!(in alloc; "cancel {ticket}"),
+        Message::Leave { n } => format!(in alloc; "leave {n}"),
     }
+}
+
+fn hello_words(alloc: Global, version: u8, client: u32, fresh: bool) -> Result<String, AllocError>
+    ensures { IfOk result (λ s. string_bytes s ≡ message_words (Hello version client fresh)) }
+{
+    let word = if fresh { "fresh" } else { "known" };
+    format!(in alloc; "hello {version} {client} {word}")
+}
+
+fn out_words(alloc: Global, n: u64, tuple: &Tuple) -> Result<String, AllocError>
+    ensures { IfOk result (λ s. string_bytes s ≡ message_words (Out n tuple.now)) }
+{
+    let tuple = write_tuple(alloc, tuple)?;
+    format!(in alloc; "out {n} {tuple}")
+}
+
+fn ask_words(
+    alloc: Global,
+    ticket: u64,
+    remove: bool,
+    template: &Template,
+) -> Result<String, AllocError>
+    ensures { IfOk result (λ s. string_bytes s ≡ message_words (Ask ticket remove template.now)) }
+{
+    let word = if remove { "in" } else { "rd" };
+    let mut out = format!(in alloc; "{word} {ticket} ")?;
+    push_template(&mut out, template)?;
     Ok(out)
 }
 
@@ -101,26 +119,15 @@ pub fn read_batch(alloc: Global, words: &str) -> Result<Vec<(u32, Message)>, Wor
 // The message that the words may say.
 fn message_in(alloc: Global, text: &str) -> Result<Message, WordsFault> {
     let (word, rest) = split_word(text);
-    if word == "hello" {
-        hello_in(rest)
-    } else if word == "out" {
-        let (n, rest) = split_number(rest)?;
-        let tuple = read_tuple(alloc, rest)?;
-        Ok(Message::Out { n, tuple })
-    } else if word == "in" {
-        ask_in(alloc, rest, true)
-    } else if word == "rd" {
-        ask_in(alloc, rest, false)
-    } else if word == "accept" {
-        accept_in(rest)
-    } else if word == "cancel" {
-        let (ticket, _rest) = split_number(rest)?;
-        Ok(Message::Cancel { ticket })
-    } else if word == "leave" {
-        let (n, _rest) = split_number(rest)?;
-        Ok(Message::Leave { n })
-    } else {
-        Err(WordsFault::Unknown)
+    match word {
+        "hello" => hello_in(rest),
+        "out" => out_in(alloc, rest),
+        "in" => ask_in(alloc, rest, true),
+        "rd" => ask_in(alloc, rest, false),
+        "accept" => accept_in(rest),
+        "cancel" => cancel_in(rest),
+        "leave" => leave_in(rest),
+        _ => Err(WordsFault::Unknown),
     }
 }
 
@@ -135,6 +142,12 @@ fn hello_in(text: &str) -> Result<Message, WordsFault> {
         }),
         _ => Err(WordsFault::Unknown),
     }
+}
+
+fn out_in(alloc: Global, text: &str) -> Result<Message, WordsFault> {
+    let (n, rest) = split_number(text)?;
+    let tuple = read_tuple(alloc, rest)?;
+    Ok(Message::Out { n, tuple })
 }
 
 fn ask_in(alloc: Global, text: &str, remove: bool) -> Result<Message, WordsFault> {
@@ -152,4 +165,14 @@ fn accept_in(text: &str) -> Result<Message, WordsFault> {
     let (ticket, rest) = split_number(rest)?;
     let (id, _rest) = split_number(rest)?;
     Ok(Message::Accept { n, ticket, id })
+}
+
+fn cancel_in(text: &str) -> Result<Message, WordsFault> {
+    let (ticket, _rest) = split_number(text)?;
+    Ok(Message::Cancel { ticket })
+}
+
+fn leave_in(text: &str) -> Result<Message, WordsFault> {
+    let (n, _rest) = split_number(text)?;
+    Ok(Message::Leave { n })
 }

@@ -2,7 +2,7 @@
 
 ghost use Rattle.std.specs.Prelude.{◌≡◌, IfOk};
 ghost use Rattle.std.specs.String.{string_bytes};
-ghost use Rattle.linda_script.specs.Words.{reply_words};
+ghost use Rattle.linda_script.specs.Words.{entry_words, reply_words};
 
 use crate::fault::WordsFault;
 use crate::number::{split_number, split_word};
@@ -22,22 +22,27 @@ pub fn write_reply(alloc: Global, reply: &Reply) -> Result<String, AllocError>
     match reply {
         Reply::Welcome { last } => format!(in alloc; "welcome {last}"),
         Reply::Stored { n, id } => format!(in alloc; "stored {n} {id}"),
-        Reply::Offer { ticket, id, tuple } => {
-            let tuple = write_tuple(alloc, tuple)?;
-            format!(in alloc; "offer {ticket} {id} {tuple}")
-        }
-        Reply::Read { ticket, id, tuple } => {
-            let tuple = write_tuple(alloc, tuple)?;
-            format!(in alloc; "read {ticket} {id} {tuple}")
-        }
-        Reply::Taken { n, id, tuple } => {
-            let tuple = write_tuple(alloc, tuple)?;
-            format!(in alloc; "taken {n} {id} {tuple}")
-        }
+        Reply::Offer { ticket, id, tuple } => words_of_entry(alloc, "offer", *ticket, *id, tuple),
+        Reply::Read { ticket, id, tuple } => words_of_entry(alloc, "read", *ticket, *id, tuple),
+        Reply::Taken { n, id, tuple } => words_of_entry(alloc, "taken", *n, *id, tuple),
         Reply::Gone { n } => format!(in alloc; "gone {n}"),
         Reply::Refused { code, detail } => format!(in alloc; "refused {code} {detail}"),
         Reply::Left { n } => format!(in alloc; "left {n}"),
     }
+}
+
+// A word, two numbers and a tuple.
+fn words_of_entry(
+    alloc: Global,
+    word: &str,
+    number: u64,
+    id: u64,
+    tuple: &Tuple,
+) -> Result<String, AllocError>
+    ensures { IfOk result (λ s. string_bytes s ≡ entry_words word.now number id tuple.now) }
+{
+    let tuple = write_tuple(alloc, tuple)?;
+    format!(in alloc; "{word} {number} {id} {tuple}")
 }
 
 /// The reply that the words say, in the one way in which it is written.
@@ -61,29 +66,24 @@ pub fn read_reply(alloc: Global, text: &str) -> Result<Reply, WordsFault>
 fn reply_in(alloc: Global, text: &str) -> Result<Reply, WordsFault> {
     let (word, rest) = split_word(text);
     let (first, rest) = split_number(rest)?;
-    if word == "welcome" {
-        Ok(Reply::Welcome { last: first })
-    } else if word == "gone" {
-        Ok(Reply::Gone { n: first })
-    } else if word == "left" {
-        Ok(Reply::Left { n: first })
-    } else {
-        reply_of_two(alloc, word, first, rest)
+    match word {
+        "welcome" => Ok(Reply::Welcome { last: first }),
+        "gone" => Ok(Reply::Gone { n: first }),
+        "left" => Ok(Reply::Left { n: first }),
+        _ => reply_of_two(alloc, word, first, rest),
     }
 }
 
 // The reply of two numbers or more that the words may say after the first number.
 fn reply_of_two(alloc: Global, word: &str, first: u64, text: &str) -> Result<Reply, WordsFault> {
     let (second, rest) = split_number(text)?;
-    if word == "stored" {
-        Ok(Reply::Stored {
+    match word {
+        "stored" => Ok(Reply::Stored {
             n: first,
             id: second,
-        })
-    } else if word == "refused" {
-        refusal(first, second)
-    } else {
-        with_tuple(word, first, second, read_tuple(alloc, rest)?)
+        }),
+        "refused" => refusal(first, second),
+        _ => with_tuple(word, first, second, read_tuple(alloc, rest)?),
     }
 }
 
@@ -97,25 +97,22 @@ fn refusal(code: u64, detail: u64) -> Result<Reply, WordsFault> {
 
 // The reply of this word, two numbers and a tuple.
 fn with_tuple(word: &str, first: u64, id: u64, tuple: Tuple) -> Result<Reply, WordsFault> {
-    if word == "offer" {
-        Ok(Reply::Offer {
+    match word {
+        "offer" => Ok(Reply::Offer {
             ticket: first,
             id,
             tuple,
-        })
-    } else if word == "read" {
-        Ok(Reply::Read {
+        }),
+        "read" => Ok(Reply::Read {
             ticket: first,
             id,
             tuple,
-        })
-    } else if word == "taken" {
-        Ok(Reply::Taken {
+        }),
+        "taken" => Ok(Reply::Taken {
             n: first,
             id,
             tuple,
-        })
-    } else {
-        Err(WordsFault::Unknown)
+        }),
+        _ => Err(WordsFault::Unknown),
     }
 }

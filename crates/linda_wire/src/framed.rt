@@ -1,6 +1,6 @@
 //! What frames are made of, and how a value is written as a frame.
 
-ghost use Rattle.std.specs.Prelude.{◌≡◌, ◌+◌, ◌≤◌, ◌++◌, length, take, drop, OnOk, OnErr};
+ghost use Rattle.std.specs.Prelude.{◌≡◌, ◌+◌, ◌≤◌, ◌∷◌, ◌++◌, length, take, drop, OnOk, OnErr};
 ghost use Rattle.linda_tuple.specs.Tuple.{FitsIn};
 ghost use Rattle.linda_tuple.specs.Template.{FitsTemplateIn};
 ghost use Rattle.linda_codec.specs.Steps.{Read, Gives, GivesAlways, left_by};
@@ -58,6 +58,15 @@ pub(crate) fn rest_of<T: Drop>(read: Result<(T, &[u8]), ReadFault>) -> Result<&[
         Ok((_value, rest)) => Ok(rest),
         Err(fault) => Err(fault),
     }
+}
+
+/// Appends a kind byte and a number; where memory runs out, a part of them may stand after the old bytes.
+pub(crate) fn push_numbered(out: &mut Vec<u8>, kind: u8, n: u64) -> Result<(), AllocError>
+    ensures ok { OnOk result (out.new.items ≡ out.old.items ++ (kind ∷ number.spell n)) }
+    ensures front { take (length out.old.items) out.new.items ≡ out.old.items }
+{
+    out.push(kind)?;
+    out.extend_from_slice(&n.to_be_bytes())
 }
 
 /// Appends two numbers; where memory runs out, a part of them may stand after the old bytes.

@@ -10,22 +10,36 @@ use std::alloc::Global;
 /// The call that the words say.
 pub fn call_of(alloc: Global, words: &str) -> Result<Call, WordsFault> {
     let (verb, rest) = split_word(words);
-    if verb == "out" {
-        Ok(Call::Out(read_tuple(alloc, rest)?))
-    } else if verb == "sync" {
-        Ok(Call::Sync(event_of(alloc, rest)?))
-    } else if verb == "tick" {
-        Ok(Call::Tick(number(rest)?))
-    } else if verb == "resend" {
-        Ok(Call::Resend)
-    } else if verb == "reconnected" {
-        Ok(Call::Reconnected(small_number(rest)?))
-    } else if verb == "abandon" {
-        Ok(Call::Abandon)
-    } else if verb == "leave" {
-        Ok(Call::Leave)
-    } else {
-        let (server, words) = read_numbered(words)?;
-        Ok(Call::Receive(server, read_reply(alloc, words)?))
+    match verb {
+        "out" => out_of(alloc, rest),
+        "sync" => sync_of(alloc, rest),
+        "tick" => tick_of(rest),
+        "resend" => Ok(Call::Resend),
+        "reconnected" => reconnected_of(rest),
+        "abandon" => Ok(Call::Abandon),
+        "leave" => Ok(Call::Leave),
+        _ => receive_of(alloc, words),
     }
+}
+
+fn out_of(alloc: Global, tuple: &str) -> Result<Call, WordsFault> {
+    Ok(Call::Out(read_tuple(alloc, tuple)?))
+}
+
+fn sync_of(alloc: Global, event: &str) -> Result<Call, WordsFault> {
+    Ok(Call::Sync(event_of(alloc, event)?))
+}
+
+fn tick_of(now: &str) -> Result<Call, WordsFault> {
+    Ok(Call::Tick(number(now)?))
+}
+
+fn reconnected_of(server: &str) -> Result<Call, WordsFault> {
+    Ok(Call::Reconnected(small_number(server)?))
+}
+
+// The reply that stands after the number of the server that it comes from.
+fn receive_of(alloc: Global, words: &str) -> Result<Call, WordsFault> {
+    let (server, words) = read_numbered(words)?;
+    Ok(Call::Receive(server, read_reply(alloc, words)?))
 }

@@ -4,13 +4,13 @@ use crate::number::place;
 use crate::words::typed_event;
 use linda_event::Event;
 use linda_script::{WordsFault, split_word};
-use std::alloc::{AllocError, Global};
+use std::alloc::Global;
 
 /// The event that the words say: typed; a choice of so many bases alike, as `40 inputs, 24 reads, 192 alarms`; or one
 /// of these under so many labels, as `64 labels over never`.
 pub fn event_of(alloc: Global, words: &str) -> Result<Event, WordsFault> {
     match words.split_once(" labels over ") {
-        Some((count, below)) => Ok(labelled(alloc, place(count)?, unlabelled(alloc, below)?)?),
+        Some((count, below)) => labelled(alloc, place(count)?, unlabelled(alloc, below)?),
         None => unlabelled(alloc, words),
     }
 }
@@ -23,7 +23,7 @@ fn unlabelled(alloc: Global, words: &str) -> Result<Event, WordsFault> {
 }
 
 // The event under so many labels, of which the innermost is 0.
-fn labelled(alloc: Global, count: usize, below: Event) -> Result<Event, AllocError> {
+fn labelled(alloc: Global, count: usize, below: Event) -> Result<Event, WordsFault> {
     let mut event = below;
     let mut label: u64 = 0;
     for _ in 0..count {
@@ -46,13 +46,10 @@ fn choice_of(alloc: Global, words: &str) -> Result<Event, WordsFault> {
 }
 
 fn member_of(alloc: Global, kind: &str) -> Result<Event, WordsFault> {
-    if kind == "inputs" {
-        typed_event(alloc, r#"in ("a", ?i)"#)
-    } else if kind == "reads" {
-        typed_event(alloc, r#"rd ("a", ?i)"#)
-    } else if kind == "alarms" {
-        Ok(Event::Alarm(3))
-    } else {
-        Err(WordsFault::Unknown)
+    match kind {
+        "inputs" => typed_event(alloc, r#"in ("a", ?i)"#),
+        "reads" => typed_event(alloc, r#"rd ("a", ?i)"#),
+        "alarms" => Ok(Event::Alarm(3)),
+        _ => Err(WordsFault::Unknown),
     }
 }

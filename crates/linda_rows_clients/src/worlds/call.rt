@@ -29,17 +29,19 @@ pub struct Seat {
 /// What the words ask of the world that has this place.
 pub fn call_of(alloc: Global, words: &str, seat: Seat) -> Result<Call, WordsFault> {
     let (verb, rest) = split_word(words);
-    if words == "shows" {
-        Ok(Call::Show)
-    } else if verb == "join" {
-        Ok(Call::Join(small_number(rest)?))
-    } else if verb == "all" {
-        let mut events = Vec::new(alloc);
-        for words in rest.split(';') {
-            events.push(event_of(alloc, words.trim(), seat)?)?;
-        }
-        Ok(Call::Run(events))
-    } else {
-        Ok(Call::Step(event_of(alloc, words, seat)?))
+    match verb {
+        "shows" if rest.is_empty() => Ok(Call::Show),
+        "join" => Ok(Call::Join(small_number(rest)?)),
+        "all" => all_of(alloc, rest, seat),
+        _ => Ok(Call::Step(event_of(alloc, words, seat)?)),
     }
+}
+
+// All events of one call.
+fn all_of(alloc: Global, words: &str, seat: Seat) -> Result<Call, WordsFault> {
+    let mut events = Vec::new(alloc);
+    for words in words.split(';') {
+        events.push(event_of(alloc, words.trim(), seat)?)?;
+    }
+    Ok(Call::Run(events))
 }

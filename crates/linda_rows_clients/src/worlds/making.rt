@@ -38,12 +38,24 @@ pub fn push_worlds(
         "2" => true,
         _ => return Err(WordsFault::Unknown),
     };
-    if kind == "in memory" {
-        return Ok(worlds.push(AnyWorld::InMemory(in_memory(alloc, two)?))?);
+    match kind.strip_prefix("on disks") {
+        Some(options) => push_on_disks(alloc, options, two, worlds),
+        None if kind == "in memory" => push_in_memory(alloc, two, worlds),
+        None => Err(WordsFault::Unknown),
     }
-    let Some(options) = kind.strip_prefix("on disks") else {
-        return Err(WordsFault::Unknown);
-    };
+}
+
+fn push_in_memory(alloc: Global, two: bool, worlds: &mut Vec<AnyWorld>) -> Result<(), WordsFault> {
+    Ok(worlds.push(AnyWorld::InMemory(in_memory(alloc, two)?))?)
+}
+
+// Appends the worlds over disks that the options say.
+fn push_on_disks(
+    alloc: Global,
+    options: &str,
+    two: bool,
+    worlds: &mut Vec<AnyWorld>,
+) -> Result<(), WordsFault> {
     let (times, disks) = disks_of(options)?;
     for _ in 0..times {
         worlds.push(AnyWorld::OnDisks(on_disks(alloc, disks, two)?))?;

@@ -22,17 +22,24 @@ pub fn stop_of(alloc: Global, words: &str, seat: Seat) -> Result<WorldEvent, Wor
         Some((what, moments)) => (what, moment_of(alloc, moments, seat)?),
         None => (words, (0, Torn::Lost)),
     };
-    if let Some(server) = what.strip_prefix("snapshot ") {
-        let server = small_number(server)?;
-        return Ok(WorldEvent::StopSnapshot { server, at, torn });
+    match what.strip_prefix("snapshot ") {
+        Some(server) => {
+            let server = small_number(server)?;
+            Ok(WorldEvent::StopSnapshot { server, at, torn })
+        }
+        None => stop_with(alloc, what, at, torn),
     }
-    let (server, packets) = match what.split_once(" with ") {
-        Some((server, packets)) => (server, packets_of(alloc, packets)?),
-        None => (what, Vec::new(alloc)),
+}
+
+// The stop at this moment of the server that the words say, with the packets in hand that they say.
+fn stop_with(alloc: Global, words: &str, at: u64, torn: Torn) -> Result<WorldEvent, WordsFault> {
+    let (server, packets) = match words.split_once(" with ") {
+        Some((server, packets)) => (server, packets),
+        None => (words, ""),
     };
     Ok(WorldEvent::Stop {
         server: small_number(server)?,
-        packets,
+        packets: packets_of(alloc, packets)?,
         at,
         torn,
     })
@@ -80,18 +87,22 @@ fn torn_of(way: &str) -> Result<Torn, WordsFault> {
     }
 }
 
-// The numbers of packets, or so many times one.
+// The numbers of packets, or so many times one; none where there are no words.
 fn packets_of(alloc: Global, words: &str) -> Result<Vec<usize>, WordsFault> {
-    let mut packets = Vec::new(alloc);
     if let Some((count, packet)) = words.split_once(" of ") {
-        let packet = place(packet)?;
-        for _ in 0..place(count)? {
-            packets.push(packet)?;
-        }
-    } else {
-        for packet in words.split(' ') {
-            packets.push(place(packet)?)?;
-        }
+        return repeated(alloc, place(packet)?, place(count)?);
+    }
+    let mut packets = Vec::new(alloc);
+    for packet in words.split_whitespace() {
+        packets.push(place(packet)?)?;
+    }
+    Ok(packets)
+}
+
+fn repeated(alloc: Global, packet: usize, count: usize) -> Result<Vec<usize>, WordsFault> {
+    let mut packets = Vec::new(alloc);
+    for _ in 0..count {
+        packets.push(packet)?;
     }
     Ok(packets)
 }

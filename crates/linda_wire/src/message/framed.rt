@@ -1,12 +1,15 @@
 //! A message in a frame: read, passed over and written.
 
 ghost use Rattle.std.specs.Prelude.{◌≡◌, ◌++◌, length, take, OnOk};
+ghost use Rattle.linda_tuple.specs.Tuple.{FitsIn};
+ghost use Rattle.linda_tuple.specs.Template.{FitsTemplateIn};
 ghost use Rattle.linda_codec.specs.Steps.{Gives, GivesAlways, left_by};
 ghost use Rattle.linda_codec.specs.Formats.{made_at, number};
 ghost use Rattle.linda_wire.specs.Frames as format;
+ghost use Rattle.linda_wire.specs.Frames.{spoken};
 ghost use Rattle.linda_wire.specs.declared.message.Message.TheVariants.{Hello, Out, Ask, Accept, Cancel, Leave};
 
-use crate::framed::{Framed, push_pair, push_template, push_tuple, rest_of};
+use crate::framed::{Framed, push_numbered, push_pair, push_template, push_tuple, rest_of};
 use crate::kinds::{ACCEPT, ASK, CANCEL, HELLO, LEAVE, OUT};
 use crate::limits::FORM;
 use crate::message::Message;
@@ -14,6 +17,7 @@ use linda_codec::{
     ReadFault, read_bool, read_template, read_tuple, read_u8, read_u32, read_u64, skip_template,
     skip_tuple,
 };
+use linda_tuple::{Template, Tuple};
 use std::alloc::{AllocError, Global};
 
 impl Framed for Message {
@@ -56,43 +60,60 @@ impl Framed for Message {
                 version,
                 client,
                 fresh,
-            } => {
-                out.push(HELLO)?;
-                out.push(*version)?;
-                out.extend_from_slice(&client.to_be_bytes())?;
-                out.push(u8::from(*fresh))?;
-                Ok(())
-            }
-            Message::Out { n, tuple } => {
-                out.push(OUT)?;
-                out.extend_from_slice(&n.to_be_bytes())?;
-                push_tuple(out, tuple)
-            }
+            } => push_hello(out, *version, *client, *fresh),
+            Message::Out { n, tuple } => push_out(out, *n, tuple),
             Message::Ask {
                 ticket,
                 remove,
                 template,
-            } => {
-                out.push(ASK)?;
-                out.extend_from_slice(&ticket.to_be_bytes())?;
-                out.push(u8::from(*remove))?;
-                push_template(out, template)
-            }
-            Message::Accept { n, ticket, id } => {
-                out.push(ACCEPT)?;
-                out.extend_from_slice(&n.to_be_bytes())?;
-                push_pair(out, *ticket, *id)
-            }
-            Message::Cancel { ticket } => {
-                out.push(CANCEL)?;
-                out.extend_from_slice(&ticket.to_be_bytes())
-            }
-            Message::Leave { n } => {
-                out.push(LEAVE)?;
-                out.extend_from_slice(&n.to_be_bytes())
-            }
+            } => push_ask(out, *ticket, *remove, template),
+            Message::Accept { n, ticket, id } => push_accept(out, *n, *ticket, *id),
+            Message::Cancel { ticket } => push_numbered(out, CANCEL, *ticket),
+            Message::Leave { n } => push_numbered(out, LEAVE, *n),
         }
     }
+}
+
+fn push_hello(out: &mut Vec<u8>, version: u8, client: u32, fresh: bool) -> Result<(), AllocError>
+    ensures ok { OnOk result (out.new.items ≡ out.old.items ++ format.spell_message (Hello version client fresh)) }
+    ensures front { take (length out.old.items) out.new.items ≡ out.old.items }
+{
+    out.push(HELLO)?;
+    out.push(version)?;
+    out.extend_from_slice(&client.to_be_bytes())?;
+    Ok(out.push(u8::from(fresh))?)
+}
+
+fn push_out(out: &mut Vec<u8>, n: u64, tuple: &Tuple) -> Result<(), AllocError>
+    ensures ok { OnOk result (out.new.items ≡ out.old.items ++ format.spell_message (Out n tuple.now)) }
+    ensures front { take (length out.old.items) out.new.items ≡ out.old.items }
+    ensures within { OnOk result (FitsIn spoken tuple.now) }
+{
+    push_numbered(out, OUT, n)?;
+    push_tuple(out, tuple)
+}
+
+fn push_ask(
+    out: &mut Vec<u8>,
+    ticket: u64,
+    remove: bool,
+    template: &Template,
+) -> Result<(), AllocError>
+    ensures ok { OnOk result (out.new.items ≡ out.old.items ++ format.spell_message (Ask ticket remove template.now)) }
+    ensures front { take (length out.old.items) out.new.items ≡ out.old.items }
+    ensures within { OnOk result (FitsTemplateIn spoken template.now) }
+{
+    push_numbered(out, ASK, ticket)?;
+    out.push(u8::from(remove))?;
+    push_template(out, template)
+}
+
+fn push_accept(out: &mut Vec<u8>, n: u64, ticket: u64, id: u64) -> Result<(), AllocError>
+    ensures ok { OnOk result (out.new.items ≡ out.old.items ++ format.spell_message (Accept n ticket id)) }
+    ensures front { take (length out.old.items) out.new.items ≡ out.old.items }
+{
+    push_numbered(out, ACCEPT, n)?;
+    push_pair(out, ticket, id)
 }
 
 fn hello_from(body: &[u8]) -> Result<(Message, &[u8]), ReadFault>

@@ -8,7 +8,7 @@ ghost use Rattle.linda_wire.specs.Frames as format;
 ghost use Rattle.linda_wire.specs.Frames.{spoken};
 ghost use Rattle.linda_wire.specs.declared.reply.Reply.TheVariants as replies;
 
-use crate::framed::{Framed, push_pair, push_tuple, rest_of};
+use crate::framed::{Framed, push_numbered, push_pair, push_tuple, rest_of};
 use crate::kinds::{GONE, LEFT, OFFER, READ, REFUSED, STORED, TAKEN, WELCOME};
 use crate::limits::FORM;
 use crate::reply::Reply;
@@ -65,30 +65,14 @@ impl Framed for Reply {
 
     fn push(&self, out: &mut Vec<u8>) -> Result<(), AllocError> {
         match self {
-            Reply::Welcome { last } => {
-                out.push(WELCOME)?;
-                out.extend_from_slice(&last.to_be_bytes())
-            }
-            Reply::Stored { n, id } => {
-                out.push(STORED)?;
-                push_pair(out, *n, *id)
-            }
+            Reply::Welcome { last } => push_numbered(out, WELCOME, *last),
+            Reply::Stored { n, id } => push_stored(out, *n, *id),
             Reply::Offer { ticket, id, tuple } => push_entry(out, OFFER, *ticket, *id, tuple),
             Reply::Read { ticket, id, tuple } => push_entry(out, READ, *ticket, *id, tuple),
             Reply::Taken { n, id, tuple } => push_entry(out, TAKEN, *n, *id, tuple),
-            Reply::Gone { n } => {
-                out.push(GONE)?;
-                out.extend_from_slice(&n.to_be_bytes())
-            }
-            Reply::Refused { code, detail } => {
-                out.push(REFUSED)?;
-                out.push(*code)?;
-                out.extend_from_slice(&detail.to_be_bytes())
-            }
-            Reply::Left { n } => {
-                out.push(LEFT)?;
-                out.extend_from_slice(&n.to_be_bytes())
-            }
+            Reply::Gone { n } => push_numbered(out, GONE, *n),
+            Reply::Refused { code, detail } => push_refused(out, *code, *detail),
+            Reply::Left { n } => push_numbered(out, LEFT, *n),
         }
     }
 }
@@ -150,6 +134,23 @@ fn skip_entry(body: &[u8]) -> Result<&[u8], ReadFault>
     skip_tuple(FORM, rest)
 }
 
+fn push_stored(out: &mut Vec<u8>, n: u64, id: u64) -> Result<(), AllocError>
+    ensures ok { OnOk result (out.new.items ≡ out.old.items ++ format.spell_reply (replies.Stored n id)) }
+    ensures front { take (length out.old.items) out.new.items ≡ out.old.items }
+{
+    out.push(STORED)?;
+    push_pair(out, n, id)
+}
+
+fn push_refused(out: &mut Vec<u8>, code: u8, detail: u64) -> Result<(), AllocError>
+    ensures ok { OnOk result (out.new.items ≡ out.old.items ++ format.spell_reply (replies.Refused code detail)) }
+    ensures front { take (length out.old.items) out.new.items ≡ out.old.items }
+{
+    out.push(REFUSED)?;
+    out.push(code)?;
+    out.extend_from_slice(&detail.to_be_bytes())
+}
+
 // Appends a kind byte, two numbers and a tuple.
 fn push_entry(
     out: &mut Vec<u8>,
@@ -162,8 +163,7 @@ fn push_entry(
     ensures front { take (length out.old.items) out.new.items ≡ out.old.items }
     ensures within { OnOk result (FitsIn spoken tuple.now) }
 {
-    out.push(kind)?;
-    out.extend_from_slice(&number.to_be_bytes())?;
+    push_numbered(out, kind, number)?;
     out.extend_from_slice(&id.to_be_bytes())?;
     push_tuple(out, tuple)
 }

@@ -1,0 +1,35 @@
+//! What came, as lines.
+
+use linda_bag::{Bag, ListBag};
+use linda_script::WordsFault;
+use linda_state::State;
+use std::fmt::Display;
+
+/// Writes a line of what came.
+pub(crate) fn tell<T: Display + Drop>(came: &mut String, what: T) -> Result<(), WordsFault> {
+    Ok(writeln!(came, "> {what}")?)
+}
+
+/// Writes a line of two words, as `3 deeds`.
+pub(crate) fn tell_two<A: Display + Drop, B: Display + Drop>(
+    came: &mut String,
+    first: A,
+    second: B,
+) -> Result<(), WordsFault> {
+    Ok(writeln!(came, "> {first} {second}")?)
+}
+
+/// Writes the next id of a state, and how many tuples and clients there are, after these words.
+pub(crate) fn tell_state(
+    came: &mut String,
+    words: &str,
+    state: &State<ListBag>,
+) -> Result<(), WordsFault> {
+    let next = state.next;
+    let tuples = state.bag.len();
+    let clients = state.book.len();
+    Ok(writeln!(
+        came,
+        "> {words}next {next}, tuples {tuples}, clients {clients}"
+    )?)
+}
