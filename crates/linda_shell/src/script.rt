@@ -81,9 +81,7 @@ impl Script {
             None => Ok(()),
             Some(None) => Err(LineFault::NotACommand),
             Some(Some(command)) => {
-                if let Some(trace) = out.trace() {
-                    trace.begin(number, line)?;
-                }
+                out.begin(number, line)?;
                 self.obey(alloc, command, out)?;
                 self.deliver_all(alloc, out)
             }
@@ -94,12 +92,10 @@ impl Script {
     fn obey(&mut self, alloc: Global, command: Command, out: &mut Output) -> Result<(), LineFault> {
         match command {
             Command::Out { client, tuple } => {
-                self.meet(alloc, client)?;
-                self.call(alloc, client, WorldEvent::Out { client, tuple }, out)
+                self.call_any(alloc, client, WorldEvent::Out { client, tuple }, out)
             }
             Command::Sync { client, event } => {
-                self.meet(alloc, client)?;
-                self.call(alloc, client, WorldEvent::Sync { client, event }, out)
+                self.call_any(alloc, client, WorldEvent::Sync { client, event }, out)
             }
             Command::Abandon(client) => {
                 self.call_known(alloc, client, WorldEvent::Abandon(client), out)
@@ -108,29 +104,13 @@ impl Script {
                 self.call_known(alloc, client, WorldEvent::Leave(client), out)
             }
             Command::Tick(now) => self.tick(alloc, now, out),
-            Command::Snapshot(server) => self.snapshot(alloc, self.server(server)?, out),
-            Command::Stop(server) => {
-                let server = self.server(server)?;
-                let packets = Vec::new(alloc);
-                let event = WorldEvent::Stop {
-                    server,
-                    packets,
-                    at: 0,
-                    torn: Torn::Kept,
-                };
-                self.stop(alloc, server, None, event, out)
-            }
+            Command::Snapshot(server) => self.snapshot(alloc, server, out),
+            Command::Stop(server) => self.stop_at_rest(alloc, server, out),
             Command::StopSnapshot { server, call, byte } => {
-                let server = self.server(server)?;
-                let event = WorldEvent::StopSnapshot {
-                    server,
-                    at: call,
-                    torn: Torn::Filled(byte),
-                };
-                self.stop(alloc, server, Some(call), event, out)
+                self.stop_snapshot(alloc, server, call, byte, out)
             }
             Command::Repeat => self.repeat(alloc, out),
-            Command::State(server) => self.show(alloc, self.server(server)?, out),
+            Command::State(server) => self.show(alloc, server, out),
         }
     }
 
@@ -169,16 +149,30 @@ impl Script {
         out: &mut Output,
     ) -> Result<(), LineFault> {
         match self.world.step(alloc, event) {
-            Ok(seen) => {
-                if let Some(trace) = out.trace() {
-                    trace.send(alloc, self.world.packets())?;
-                }
-                print_seen(alloc, &seen, out)
-            }
+            Ok(seen) => self.print_call(alloc, &seen, out),
             Err(WorldFault::Client(fault)) => print_refusal(alloc, client, fault, out),
-            Err(WorldFault::Down(server)) => Err(LineFault::Down(server)),
-            Err(_) => Err(LineFault::Memory),
+            Err(fault) => Err(line_fault(fault)),
         }
+    }
+
+    // What was seen of a call, after what it sent.
+    fn print_call(&self, alloc: Global, seen: &Seen, out: &mut Output) -> Result<(), LineFault> {
+        if let Some(trace) = out.trace() {
+            trace.send(alloc, self.world.packets())?;
+        }
+        Ok(print_seen(alloc, seen, out)?)
+    }
+
+    // An event of a client, which is made where it was not named before.
+    fn call_any(
+        &mut self,
+        alloc: Global,
+        client: u32,
+        event: WorldEvent,
+        out: &mut Output,
+    ) -> Result<(), LineFault> {
+        self.meet(alloc, client)?;
+        self.call(alloc, client, event, out)
     }
 
     // An event of a client that was named before; one that was not has nothing to give up.
@@ -204,17 +198,47 @@ impl Script {
         Ok(())
     }
 
-    fn snapshot(&mut self, alloc: Global, server: u32, out: &mut Output) -> Result<(), LineFault> {
-        let full = match self.world.step(alloc, WorldEvent::Snapshot(server)) {
-            Ok(seen) => seen.full,
-            Err(WorldFault::Down(server)) => return Err(LineFault::Down(server)),
-            Err(_) => return Err(LineFault::Memory),
-        };
-        if let Some(trace) = out.trace() {
-            trace.snapshot(server)?;
+    fn snapshot(&mut self, alloc: Global, server: u64, out: &mut Output) -> Result<(), LineFault> {
+        let server = self.server(server)?;
+        match self.world.step(alloc, WorldEvent::Snapshot(server)) {
+            Ok(seen) => print_snapshot(alloc, server, seen.full, out),
+            Err(fault) => Err(line_fault(fault)),
         }
-        let what = if full { "full" } else { "snapshot" };
-        print_of_server(alloc, server, what, out)
+    }
+
+    // Stops the server with nothing in hand.
+    fn stop_at_rest(
+        &mut self,
+        alloc: Global,
+        server: u64,
+        out: &mut Output,
+    ) -> Result<(), LineFault> {
+        let server = self.server(server)?;
+        let event = WorldEvent::Stop {
+            server,
+            packets: Vec::new(alloc),
+            at: 0,
+            torn: Torn::Kept,
+        };
+        self.stop(alloc, server, None, event, out)
+    }
+
+    // Stops the server inside the device call of this number of a snapshot.
+    fn stop_snapshot(
+        &mut self,
+        alloc: Global,
+        server: u64,
+        call: u64,
+        byte: u8,
+        out: &mut Output,
+    ) -> Result<(), LineFault> {
+        let server = self.server(server)?;
+        let event = WorldEvent::StopSnapshot {
+            server,
+            at: call,
+            torn: Torn::Filled(byte),
+        };
+        self.stop(alloc, server, Some(call), event, out)
     }
 
     // Stops the server so, inside a device call or with nothing in hand, and tells each client that it was opened.
@@ -226,21 +250,36 @@ impl Script {
         event: WorldEvent,
         out: &mut Output,
     ) -> Result<(), LineFault> {
-        match self.world.step(alloc, event) {
-            Ok(_) => {}
-            Err(WorldFault::Down(server)) => return Err(LineFault::Down(server)),
-            Err(_) => return Err(LineFault::Memory),
-        }
-        if let Some(trace) = out.trace() {
-            trace.stop(alloc, &self.world, server, call)?;
-        }
-        print_of_server(alloc, server, "opened", out)?;
+        self.step_unseen(alloc, event)?;
+        self.print_stop(alloc, server, call, out)?;
         for place in 0..self.clients.len() {
             if let Some(client) = self.clients.get(place).copied() {
                 self.call(alloc, client, WorldEvent::Reconnect { client, server }, out)?;
             }
         }
         Ok(())
+    }
+
+    // One event, of which nothing is printed.
+    fn step_unseen(&mut self, alloc: Global, event: WorldEvent) -> Result<(), LineFault> {
+        match self.world.step(alloc, event) {
+            Ok(_) => Ok(()),
+            Err(fault) => Err(line_fault(fault)),
+        }
+    }
+
+    // The line of a server that was stopped and opened.
+    fn print_stop(
+        &self,
+        alloc: Global,
+        server: u32,
+        call: Option<u64>,
+        out: &mut Output,
+    ) -> Result<(), AllocError> {
+        if let Some(trace) = out.trace() {
+            trace.stop(alloc, &self.world, server, call)?;
+        }
+        print_of_server(alloc, server, "opened", out)
     }
 
     // Delivers every packet that was sent before, again.
@@ -269,18 +308,27 @@ impl Script {
 
     fn deliver(&mut self, alloc: Global, packet: usize, out: &mut Output) -> Result<(), LineFault> {
         match self.world.step(alloc, WorldEvent::Deliver(packet)) {
-            Ok(seen) => {
-                if let Some(trace) = out.trace() {
-                    trace.deliver(alloc, &self.world, packet)?;
-                }
-                print_seen(alloc, &seen, out)
-            }
-            Err(WorldFault::Down(server)) => Err(LineFault::Down(server)),
-            Err(_) => Err(LineFault::Memory),
+            Ok(seen) => self.print_delivery(alloc, packet, &seen, out),
+            Err(fault) => Err(line_fault(fault)),
         }
     }
 
-    fn show(&mut self, alloc: Global, server: u32, out: &mut Output) -> Result<(), LineFault> {
+    // What was seen of a delivery, after what it led to.
+    fn print_delivery(
+        &self,
+        alloc: Global,
+        packet: usize,
+        seen: &Seen,
+        out: &mut Output,
+    ) -> Result<(), LineFault> {
+        if let Some(trace) = out.trace() {
+            trace.deliver(alloc, &self.world, packet)?;
+        }
+        Ok(print_seen(alloc, seen, out)?)
+    }
+
+    fn show(&mut self, alloc: Global, server: u64, out: &mut Output) -> Result<(), LineFault> {
+        let server = self.server(server)?;
         match self.world.node(server) {
             Some(node) => {
                 let lines = list_state(alloc, server, node.state(), node.holds())?;
@@ -316,7 +364,7 @@ fn unused_node(alloc: Global) -> Result<Durable<MemDisk>, AllocError>
 }
 
 // The lines of what was seen of an event.
-fn print_seen(alloc: Global, seen: &Seen, out: &mut Output) -> Result<(), LineFault> {
+fn print_seen(alloc: Global, seen: &Seen, out: &mut Output) -> Result<(), AllocError> {
     let Some(client) = seen.client else {
         return Ok(());
     };
@@ -345,15 +393,35 @@ fn print_refusal(
     }
 }
 
+// The line of a server that was asked for a snapshot, and may have no room for it.
+fn print_snapshot(
+    alloc: Global,
+    server: u32,
+    full: bool,
+    out: &mut Output,
+) -> Result<(), LineFault> {
+    if let Some(trace) = out.trace() {
+        trace.snapshot(server)?;
+    }
+    let what = if full { "full" } else { "snapshot" };
+    Ok(print_of_server(alloc, server, what, out)?)
+}
+
 // A line about a server.
 fn print_of_server(
     alloc: Global,
     server: u32,
     what: &str,
     out: &mut Output,
-) -> Result<(), LineFault> {
-    let mut line = String::new(alloc);
-    writeln!(line, "server {server} {what}")?;
-    out.print(&line)?;
-    Ok(())
+) -> Result<(), AllocError> {
+    let line = format!(in alloc; "server {server} {what}\n")?;
+    out.print(&line)
+}
+
+// Why a line was not done, where the world did not do an event of it.
+fn line_fault(fault: WorldFault) -> LineFault {
+    match fault {
+        WorldFault::Down(server) => LineFault::Down(server),
+        _ => LineFault::Memory,
+    }
 }

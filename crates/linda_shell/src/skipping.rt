@@ -1,9 +1,11 @@
 //! Passing over events: what reading leaves and which fault it returns, without taking memory.
 
 ghost use Rattle.std.specs.Prelude.{◌≡◌};
-ghost use Rattle.linda_shell.specs.Reading.{event_at, members_at};
+ghost use Rattle.linda_event.specs.Trees.{nack, wrap};
+ghost use Rattle.linda_text.specs.Reading.{after_blanks, natural_at, spaced_atom_at, template_at};
 ghost use Rattle.linda_text.specs.Steps.{left_by};
-ghost use Rattle.linda_shell.specs.Steps.{GivesAlways};
+ghost use Rattle.linda_shell.specs.Reading.{event_at, members_at, under_at};
+ghost use Rattle.linda_shell.specs.Steps.{GivesAlways, lifted};
 
 use crate::fault::EventTextFault;
 use crate::keyword::{Keyword, read_keyword};
@@ -12,7 +14,7 @@ use linda_text::{TextFault, skip_blanks, skip_spaced_atom, skip_template, split_
 
 /// The bytes after the event at the front, of at most so many nested nodes.
 #[cycle(skipping)]
-#[tactic(auto, unfolding(crate::specs::Reading::event_at, crate::specs::Reading::under_at))]
+#[tactic(auto, unfolding(crate::specs::Reading::event_at))]
 pub(crate) fn skip_event(bytes: &[u8], room: usize) -> Result<&[u8], EventTextFault>
     ensures { GivesAlways (λ rest. rest.now) result (left_by (event_at room bytes.now)) }
 {
@@ -21,24 +23,50 @@ pub(crate) fn skip_event(bytes: &[u8], room: usize) -> Result<&[u8], EventTextFa
     }
     let (keyword, rest) = read_keyword(bytes)?;
     match keyword {
-        Keyword::In => Ok(skip_template(rest)?),
-        Keyword::Rd => Ok(skip_template(rest)?),
-        Keyword::Alarm => {
-            let (_time, rest) = split_number(skip_blanks(rest))?;
-            Ok(rest)
-        }
-        Keyword::Always => Ok(skip_spaced_atom(rest)?),
+        Keyword::In => skip_pattern(rest),
+        Keyword::Rd => skip_pattern(rest),
+        Keyword::Alarm => skip_time(rest),
+        Keyword::Always => skip_value(rest),
         Keyword::Never => Ok(rest),
         Keyword::Choose => skip_members(rest, room - 1),
-        Keyword::Wrap => {
-            let (_label, rest) = read_label(rest)?;
-            skip_event(skip_blanks(rest), room - 1)
-        }
-        Keyword::Nack => {
-            let (_number, rest) = read_label(rest)?;
-            skip_event(skip_blanks(rest), room - 1)
-        }
+        Keyword::Wrap => skip_under(rest, room - 1),
+        Keyword::Nack => skip_under(rest, room - 1),
     }
+}
+
+// The bytes after a template.
+fn skip_pattern(bytes: &[u8]) -> Result<&[u8], EventTextFault>
+    ensures { GivesAlways (λ rest. rest.now) result (left_by (lifted (template_at bytes.now))) }
+{
+    Ok(skip_template(bytes)?)
+}
+
+// The bytes after a time.
+fn skip_time(bytes: &[u8]) -> Result<&[u8], EventTextFault>
+    ensures { GivesAlways (λ rest. rest.now) result (left_by (lifted (natural_at (after_blanks bytes.now)))) }
+{
+    let (_time, rest) = split_number(skip_blanks(bytes))?;
+    Ok(rest)
+}
+
+// The bytes after a value.
+fn skip_value(bytes: &[u8]) -> Result<&[u8], EventTextFault>
+    ensures { GivesAlways (λ rest. rest.now) result (left_by (lifted (spaced_atom_at bytes.now))) }
+{
+    Ok(skip_spaced_atom(bytes)?)
+}
+
+// The bytes after a number and the event under it.
+#[cycle(skipping)]
+#[tactic(auto, unfolding(crate::specs::Reading::under_at))]
+fn skip_under(bytes: &[u8], room: usize) -> Result<&[u8], EventTextFault>
+    ensures wrap { GivesAlways (λ rest. rest.now) result
+        (left_by (under_at (λ label event. wrap label event) (event_at room) bytes.now)) }
+    ensures nack { GivesAlways (λ rest. rest.now) result
+        (left_by (under_at (λ number event. nack number event) (event_at room) bytes.now)) }
+{
+    let (_number, rest) = read_label(bytes)?;
+    skip_event(skip_blanks(rest), room)
 }
 
 // The bytes after the members of a choice and their brackets.

@@ -64,12 +64,10 @@ fn push_tuple(
     tuple: &Tuple,
     held: Option<Request>,
 ) -> Result<(), AllocError> {
-    let text = write_tuple(alloc, tuple)?;
+    push_entry(alloc, lines, "tuple", id, tuple)?;
     match held {
-        None => writeln!(lines, "tuple {id} {text} free"),
-        Some(Request { client, ticket }) => {
-            writeln!(lines, "tuple {id} {text} held {client} {ticket}")
-        }
+        None => lines.push_str(" free\n"),
+        Some(Request { client, ticket }) => writeln!(lines, " held {client} {ticket}"),
     }
 }
 
@@ -99,13 +97,29 @@ fn push_client(
     number: u64,
     reply: &KeptReply,
 ) -> Result<(), AllocError> {
+    write!(lines, "client {client} {number} ")?;
+    push_kept(alloc, lines, reply)?;
+    lines.push('\n')
+}
+
+// The reply that is kept for a client.
+fn push_kept(alloc: Global, lines: &mut String, reply: &KeptReply) -> Result<(), AllocError> {
     match reply {
-        KeptReply::Stored(id) => writeln!(lines, "client {client} {number} stored {id}"),
-        KeptReply::Taken(id, tuple) => {
-            let text = write_tuple(alloc, tuple)?;
-            writeln!(lines, "client {client} {number} taken {id} {text}")
-        }
-        KeptReply::Gone => writeln!(lines, "client {client} {number} gone"),
-        KeptReply::Left => writeln!(lines, "client {client} {number} left"),
+        KeptReply::Stored(id) => write!(lines, "stored {id}"),
+        KeptReply::Taken(id, tuple) => push_entry(alloc, lines, "taken", *id, tuple),
+        KeptReply::Gone => lines.push_str("gone"),
+        KeptReply::Left => lines.push_str("left"),
     }
+}
+
+// A word, an id and its tuple.
+fn push_entry(
+    alloc: Global,
+    lines: &mut String,
+    word: &str,
+    id: u64,
+    tuple: &Tuple,
+) -> Result<(), AllocError> {
+    let text = write_tuple(alloc, tuple)?;
+    write!(lines, "{word} {id} {text}")
 }

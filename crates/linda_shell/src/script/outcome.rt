@@ -1,7 +1,7 @@
 //! What came of a client's call, as the line that is printed.
 
 use linda_client::{ClientFault, Got, Outcome};
-use linda_text::{write_atom, write_tuple};
+use linda_text::{push_atom, write_tuple};
 use linda_tuple::{Atom, Tuple};
 use std::alloc::{AllocError, Global};
 
@@ -11,26 +11,8 @@ use std::alloc::{AllocError, Global};
 ///
 /// `AllocError` where memory runs out.
 pub fn write_outcome(alloc: Global, client: u32, outcome: &Outcome) -> Result<String, AllocError> {
-    let mut line = String::new(alloc);
-    write!(line, "{client} ")?;
-    match outcome {
-        Outcome::Stored { server, id } => write!(line, "stored {server} {id}")?,
-        Outcome::Synced {
-            got,
-            labels,
-            raised,
-            ..
-        } => {
-            push_got(alloc, &mut line, got)?;
-            push_numbers(&mut line, " labels", labels.as_slice())?;
-            push_numbers(&mut line, " raised", raised.as_slice())?;
-        }
-        Outcome::Dropped { raised } => {
-            line.push_str("dropped")?;
-            push_numbers(&mut line, " raised", raised.as_slice())?;
-        }
-        Outcome::Left => line.push_str("left")?,
-    }
+    let mut line = format!(in alloc; "{client} ")?;
+    push_outcome(alloc, &mut line, outcome)?;
     line.push('\n')?;
     Ok(line)
 }
@@ -45,20 +27,25 @@ pub fn write_refusal(
     client: u32,
     fault: ClientFault,
 ) -> Result<Option<String>, AllocError> {
-    let words = match fault {
-        ClientFault::Left => "left",
-        ClientFault::Busy => "busy",
-        ClientFault::Idle => "idle",
-        ClientFault::TooDeep => "too deep",
-        ClientFault::TooManyBases => "too many bases",
-        ClientFault::Spent => "spent",
-        ClientFault::ServersRange => return Ok(None),
-        ClientFault::NoServer => return Ok(None),
-        ClientFault::Memory => return Ok(None),
+    let Some(words) = refusal_words(fault) else {
+        return Ok(None);
     };
-    let mut line = String::new(alloc);
-    writeln!(line, "{client} refused {words}")?;
-    Ok(Some(line))
+    Ok(Some(format!(in alloc; "{client} refused {words}\n")?))
+}
+
+// Why a client refused a call; `None` for a fault that no call of a script has.
+fn refusal_words(fault: ClientFault) -> Option<&'static str> {
+    match fault {
+        ClientFault::Left => Some("left"),
+        ClientFault::Busy => Some("busy"),
+        ClientFault::Idle => Some("idle"),
+        ClientFault::TooDeep => Some("too deep"),
+        ClientFault::TooManyBases => Some("too many bases"),
+        ClientFault::Spent => Some("spent"),
+        ClientFault::ServersRange => None,
+        ClientFault::NoServer => None,
+        ClientFault::Memory => None,
+    }
 }
 
 /// The line of a refusal that a server sent to this client, with its line feed.
@@ -72,9 +59,35 @@ pub(crate) fn write_fault(
     fault: (u32, u8, u64),
 ) -> Result<String, AllocError> {
     let (server, code, detail) = fault;
-    let mut line = String::new(alloc);
-    writeln!(line, "{client} fault {server} {code} {detail}")?;
-    Ok(line)
+    format!(in alloc; "{client} fault {server} {code} {detail}\n")
+}
+
+// What came of a call.
+fn push_outcome(alloc: Global, line: &mut String, outcome: &Outcome) -> Result<(), AllocError> {
+    match outcome {
+        Outcome::Stored { server, id } => write!(line, "stored {server} {id}"),
+        Outcome::Synced {
+            got,
+            labels,
+            raised,
+            ..
+        } => push_synced(alloc, line, got, labels.as_slice(), raised.as_slice()),
+        Outcome::Dropped { raised } => push_numbers(line, "dropped raised", raised.as_slice()),
+        Outcome::Left => line.push_str("left"),
+    }
+}
+
+// What a synchronization got, its labels, and the numbers of the nacks that it raised.
+fn push_synced(
+    alloc: Global,
+    line: &mut String,
+    got: &Got,
+    labels: &[u64],
+    raised: &[u64],
+) -> Result<(), AllocError> {
+    push_got(alloc, line, got)?;
+    push_numbers(line, " labels", labels)?;
+    push_numbers(line, " raised", raised)
 }
 
 // What a synchronization got.
@@ -85,44 +98,63 @@ fn push_got(alloc: Global, line: &mut String, got: &Got) -> Result<(), AllocErro
             id,
             tuple,
             bindings,
-        } => {
-            write!(line, "took {server} {id}")?;
-            push_bound(alloc, line, tuple, bindings.as_slice())
-        }
+        } => push_match(
+            alloc,
+            line,
+            "took",
+            (*server, *id),
+            tuple,
+            bindings.as_slice(),
+        ),
         Got::Copied {
             server,
             id,
             tuple,
             bindings,
-        } => {
-            write!(line, "read {server} {id}")?;
-            push_bound(alloc, line, tuple, bindings.as_slice())
-        }
+        } => push_match(
+            alloc,
+            line,
+            "read",
+            (*server, *id),
+            tuple,
+            bindings.as_slice(),
+        ),
         Got::Alarm => line.push_str("alarm"),
-        Got::Always(value) => {
-            line.push_str("always ")?;
-            line.push_str(&write_atom(alloc, value)?)
-        }
+        Got::Always(value) => push_always(line, value),
     }
 }
 
-// A tuple and what its template bound.
-fn push_bound(
+// A word, a tuple, at which server and under which id it was, and what its template bound.
+fn push_match(
     alloc: Global,
     line: &mut String,
+    word: &str,
+    place: (u32, u64),
     tuple: &Tuple,
     bindings: &[Atom],
 ) -> Result<(), AllocError> {
-    line.push(' ')?;
+    let (server, id) = place;
+    write!(line, "{word} {server} {id} ")?;
     line.push_str(&write_tuple(alloc, tuple)?)?;
+    push_bindings(line, bindings)
+}
+
+// What a template bound.
+fn push_bindings(line: &mut String, bindings: &[Atom]) -> Result<(), AllocError> {
     line.push_str(" binds [")?;
     for (place, value) in bindings.iter().enumerate() {
         if place > 0 {
             line.push_str(", ")?;
         }
-        line.push_str(&write_atom(alloc, value)?)?;
+        push_atom(line, value)?;
     }
     line.push(']')
+}
+
+// A value that is always there.
+fn push_always(line: &mut String, value: &Atom) -> Result<(), AllocError> {
+    line.push_str("always ")?;
+    push_atom(line, value)
 }
 
 // A name and a list of numbers.

@@ -57,6 +57,18 @@ impl Output {
         self.trace.as_mut()
     }
 
+    /// The command of the line of this number begins.
+    ///
+    /// # Errors
+    ///
+    /// `AllocError` where memory runs out.
+    pub(crate) fn begin(&mut self, number: u64, line: &[u8]) -> Result<(), AllocError> {
+        match &mut self.trace {
+            Some(trace) => trace.begin(number, line),
+            None => Ok(()),
+        }
+    }
+
     /// Appends lines that are printed, each with its line feed.
     ///
     /// # Errors

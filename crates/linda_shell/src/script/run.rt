@@ -33,8 +33,8 @@ pub fn run_script<R: Read, W: Write>(
     let Ok(script) = Script::new(alloc, servers) else {
         return Err(ScriptFault::Memory);
     };
-    let lines = Lines::new(alloc, script, Output::new(alloc));
-    play(alloc, reader, writer, &mut sink(), lines)
+    let mut lines = Lines::new(alloc, script, Output::new(alloc));
+    play(alloc, reader, writer, &mut sink(), &mut lines)
 }
 
 /// Runs a script as `run_script` does, and writes its trace too: of each line, after what the line printed.
@@ -62,7 +62,7 @@ pub fn trace_script<R: Read, W: Write, T: Write>(
     put(tracer, out.told())?;
     let mut lines = Lines::new(alloc, script, out);
     lines.out.clear();
-    play(alloc, reader, writer, tracer, lines)
+    play(alloc, reader, writer, tracer, &mut lines)
 }
 
 // Plays the lines of a script to its end.
@@ -71,7 +71,7 @@ fn play<R: Read, W: Write, T: Write>(
     reader: &mut R,
     writer: &mut W,
     tracer: &mut T,
-    mut lines: Lines,
+    lines: &mut Lines,
 ) -> Result<(), ScriptFault> {
     let mut buffer = [0; BUFFER];
     for _turn in 0..u32::MAX {

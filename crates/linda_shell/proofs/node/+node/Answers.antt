@@ -1,22 +1,23 @@
 use Rattle.std.proofs.Common.{ap, map, length, arith}
 use Rattle.std.proofs.lemmas.Result.{err_from_is_err_and}
 use Rattle.linda_event.specs.Trees.{tree_of}
+use Rattle.linda_shell.specs.declared.keyword.Keyword.TheVariants as keywords
 use Rattle.linda_shell.specs.Reading.{event_at, members_at}
 use Rattle.linda_shell.proofs.MemberLoopLaws.{open_fails, opens_none, opens_some, goes_on, closes, fails_inside, fails_behind, ends}
-use Rattle.linda_shell.proofs.TreeLaws.{tree_Choose, trees_more, choice_read, choice_fails}
+use Rattle.linda_shell.proofs.TreeLaws.{node_is, trees_more}
 use Rattle.linda_shell.proofs.node.+node.Goals as goal
 
-pub build_event-returns-in_err-members-in-Choose : goal.build_event-returns-in_err-members-in-Choose
-build_event-returns-in_err-members-in-Choose t c =
-    let p = err_from_is_err_and c.from_residual-in_err-members-in-Choose.result c.from_residual-in_err-members-in-Choose.ensures.1 in
-    rw (p.1, p.2)
-    (choice_fails c.args.room c.args.bytes.now c.in_ok-keyword.keyword c.in_ok-keyword.rest.now c.in_err-members-in-Choose.field-0.0 (omega (arith, c.if-room-eq0.false)) c.in-Choose.is c.in_ok-keyword.ensures c.in_err-members-in-Choose.ensures)
+pub build_event-returns-in-Choose : goal.build_event-returns-in-Choose
+build_event-returns-in-Choose t c =
+    rw (node_is c.args.room c.args.bytes.now c.in_ok-keyword.keyword c.in_ok-keyword.rest.now keywords.Choose (omega (arith, c.if-room-eq0.false)) c.in-Choose.is c.in_ok-keyword.ensures) c.build_choice.ensures
 
-pub build_event-returns-in_ok-members-in-Choose : goal.build_event-returns-in_ok-members-in-Choose
-build_event-returns-in_ok-members-in-Choose t c =
-    rw (tree_Choose c.in_ok-members-in-Choose.members)
-    (choice_read c.args.room c.args.bytes.now c.in_ok-keyword.keyword c.in_ok-keyword.rest.now (map tree_of c.in_ok-members-in-Choose.members.items) c.in_ok-members-in-Choose.rest.now
-    (omega (arith, c.if-room-eq0.false)) c.in-Choose.is c.in_ok-keyword.ensures c.in_ok-members-in-Choose.ensures)
+pub build_event-returns-in-Wrap : goal.build_event-returns-in-Wrap
+build_event-returns-in-Wrap t c =
+    rw (node_is c.args.room c.args.bytes.now c.in_ok-keyword.keyword c.in_ok-keyword.rest.now keywords.Wrap (omega (arith, c.if-room-eq0.false)) c.in-Wrap.is c.in_ok-keyword.ensures) c.build_wrap.ensures
+
+pub build_event-returns-in-Nack : goal.build_event-returns-in-Nack
+build_event-returns-in-Nack t c =
+    rw (node_is c.args.room c.args.bytes.now c.in_ok-keyword.keyword c.in_ok-keyword.rest.now keywords.Nack (omega (arith, c.if-room-eq0.false)) c.in-Nack.is c.in_ok-keyword.ensures) c.build_nack.ensures
 
 pub build_members-returns-in_err-some : goal.build_members-returns-in_err-some
 build_members-returns-in_err-some t c =

@@ -5,10 +5,19 @@ use Rattle.linda_shell.proofs.MemberLoopLaws.{with_front}
 use Rattle.linda_shell.proofs.node.+node.Given as goal
 
 abbrev pub decreases-build_event : goal.decreases-build_event
-decreases-build_event l = 2 * l.room
+decreases-build_event l = 3 * l.room
+
+abbrev pub decreases-build_wrap : goal.decreases-build_wrap
+decreases-build_wrap l = 3 * l.room + 1
+
+abbrev pub decreases-build_nack : goal.decreases-build_nack
+decreases-build_nack l = 3 * l.room + 1
 
 abbrev pub decreases-build_members : goal.decreases-build_members
-decreases-build_members l = 2 * l.room + 1
+decreases-build_members l = 3 * l.room + 1
+
+abbrev pub decreases-build_choice : goal.decreases-build_choice
+decreases-build_choice l = 3 * l.room + 2
 
 -- What was read so far and what is still read are what there is to read.
 abbrev pub invariant-build_members-loop : goal.invariant-build_members-loop

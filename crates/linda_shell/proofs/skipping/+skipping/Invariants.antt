@@ -9,6 +9,9 @@ decreases-skip_event l = 2 * l.room
 abbrev pub decreases-skip_members : goal.decreases-skip_members
 decreases-skip_members l = 2 * l.room + 1
 
+abbrev pub decreases-skip_under : goal.decreases-skip_under
+decreases-skip_under l = 2 * l.room + 1
+
 -- What is left after the members that are still to be passed is what is left after all of them.
 abbrev pub invariant-skip_members-loop : goal.invariant-skip_members-loop
 invariant-skip_members-loop l =
