@@ -6,5 +6,6 @@ pub mod FormatLaws
 pub mod ValueLaws
 pub mod PlaceLaws
 pub mod SkipLaws
+pub mod ChoiceLaws
 pub mod FrontLaws
 pub mod LengthLaws
