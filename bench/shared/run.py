@@ -21,7 +21,7 @@ PLAIN_BYTES = 34
 PLAIN_ROUNDS = 1_000
 HERE = os.path.dirname(os.path.abspath(__file__))
 TOP = os.path.join(HERE, "..", "..")
-NEEDED = ["linda_moment", "linda_tuple", "linda_codec", "linda_disk", "linda_wire", "linda_bag", "linda_hold", "linda_book", "linda_state",
+NEEDED = ["linda_maps", "linda_moment", "linda_tuple", "linda_codec", "linda_disk", "linda_wire", "linda_bag", "linda_hold", "linda_book", "linda_state",
           "linda_journal", "linda_snap", "linda_step", "linda_promise", "linda_store", "linda_server", "linda_receipt", "linda_outbox", "linda_desk",
           "linda_mail", "linda_shared"]
 
