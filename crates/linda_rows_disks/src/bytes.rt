@@ -5,8 +5,8 @@ use crate::telling::tell;
 use linda_script::{WordsFault, read_hex, split_word};
 use std::alloc::{AllocError, Global};
 
-/// Bytes that have a name, a line of each: the name, and the digits after it; the rows show what each is made of. Names of
-/// banks in the first form begin with `old`, and those of banks in which client 7 left with `away`.
+/// Bytes that have a name, a line of each: the name, and the digits after it; the rows show what each is made of.
+/// Names of banks in the first form begin with `old`, and those of banks in which client 7 left with `away`.
 const NAMED: &str = "\
     none \n\
     shut 00\n\

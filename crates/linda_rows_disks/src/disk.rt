@@ -195,7 +195,7 @@ fn set_byte(bytes: &mut Vec<u8>, words: &str) -> Result<(), WordsFault> {
     Ok(())
 }
 
-// Of each client from the first on, below the second, stands there that its message 1 got a Gone, as a snapshot says it.
+// Of each client from the first on, below the second, a snapshot would say that its message 1 got a Gone.
 fn push_clients(bytes: &mut Vec<u8>, words: &str) -> Result<(), WordsFault> {
     let (first, end) = read_numbered(words)?;
     let (end, _rest) = read_numbered(end)?;
