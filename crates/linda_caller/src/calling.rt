@@ -24,8 +24,8 @@ use std::time::Clock;
 const BUFFER: usize = 4096;
 
 /// Plays lines as a client of this number over the servers that listen on these ports of this machine, which are
-/// numbered from 0: `out TUPLE`, `sync EVENT` and `leave`, one at a time. Each outcome is written and flushed before the
-/// next line is looked at. A carriage return at a line's end is dropped; the last line may lack its line feed.
+/// numbered from 0: `out TUPLE`, `sync EVENT` and `leave`, one at a time. Each outcome is written and flushed before
+/// the next line is looked at. A carriage return at a line's end is dropped; the last line may lack its line feed.
 ///
 /// All servers are greeted before the first line is. A connection that is lost is greeted again, and what is pending is
 /// sent again. A tick of the client's clock is a millisecond since the call began.

@@ -2,8 +2,11 @@
 use Rattle.std.proofs.Common.{◌≡◌, ℕ, suc, ◌-◌, ◌+◌, ◌≤◌, ◌<◌, List, ◌∷◌, Result, Ok, Err, refl, sym, ◌∙◌, arith}
 use Rattle.std.specs.Prelude.{IsOk}
 use Rattle.linda_codec.specs.declared.fault.ReadFault.{ReadFault}
-use Rattle.linda_codec.specs.Formats.{Format, both}
+use Rattle.linda_codec.specs.Formats.{Format, both, count_at, counted}
 use Rattle.linda_codec.specs.Steps.{Read, Reader, ◌>>=◌, left_by, many_at}
+use Rattle.linda_codec.specs.Values.{atom, tagged}
+use Rattle.linda_tuple.specs.declared.form.Form.{Form}
+use Rattle.linda_tuple.specs.Form.{most_fields}
 
 -- Where bytes are left, a value stands before them.
 pub is_there : {A : Type 0} (read : Read A) (rest : List ℕ) → left_by read ≡ Ok rest → IsOk read
@@ -36,6 +39,22 @@ left_made (Err fault) make = refl
 -- Behind what the first of two formats reads, the second one leaves what both leave.
 pub left_behind : {A B : Type 0} (f : Format A) (g : Format B) (bytes : List ℕ) (a : A) (rest : List ℕ) → f.read bytes ≡ Ok (a, rest) → left_by ((both f g).read bytes) ≡ left_by (g.read rest)
 left_behind f g bytes a rest e = rw e (left_made (g.read rest) (λ b. (a, b)))
+
+-- Behind a tag and a count, so many values leave what all of it leaves.
+pub left_tagged : {A : Type 0} (form : Form) (f : Format A) (bytes rest : List ℕ) (count : ℕ × List ℕ) → left_by ((atom form).read bytes) ≡ Ok rest → count_at (most_fields form) rest ≡ Ok count
+    → left_by ((tagged form f).read bytes) ≡ left_by (many_at f.read count.0 count.1)
+left_tagged form f bytes rest count tag some =
+    left_then ((atom form).read bytes) (λ a. (counted (most_fields form) f).read a.1 >>= λ b. Ok ((a.0, b.0), b.1)) rest (left_by (many_at f.read count.0 count.1)) tag
+    (λ a. rw some (left_made (many_at f.read count.0 count.1) (λ b. (a, b))))
+
+-- A fault of the tag.
+pub tag_fault : {A : Type 0} (form : Form) (f : Format A) (bytes : List ℕ) (fault : ReadFault) → left_by ((atom form).read bytes) ≡ Err fault → left_by ((tagged form f).read bytes) ≡ Err fault
+tag_fault form f bytes fault e = left_fault ((atom form).read bytes) (λ a. (counted (most_fields form) f).read a.1 >>= λ b. Ok ((a.0, b.0), b.1)) fault e
+
+-- A fault of the count.
+pub count_fault : {A : Type 0} (form : Form) (f : Format A) (bytes rest : List ℕ) (fault : ReadFault) → left_by ((atom form).read bytes) ≡ Ok rest → count_at (most_fields form) rest ≡ Err fault → left_by ((tagged form f).read bytes) ≡ Err fault
+count_fault form f bytes rest fault tag none =
+    left_then ((atom form).read bytes) (λ a. (counted (most_fields form) f).read a.1 >>= λ b. Ok ((a.0, b.0), b.1)) rest (Err fault) tag (λ a. rw none refl)
 
 -- ---- many values, as a loop passes over them
 

@@ -12,7 +12,7 @@ use Rattle.linda_tuple.specs.Tuple.{Tuple, FitsIn, IsWithin}
 use Rattle.linda_tuple.specs.Template.{Template, IsSoundPattern, IsSoundPatternIn, FitsTemplateIn, IsWithinTemplate}
 use Rattle.linda_codec.specs.declared.kinds.TheConstants.{INTEGER, TEXT, TRUTH, INT_FORMAL, TEXT_FORMAL, BOOL_FORMAL, WILDCARD}
 use Rattle.linda_codec.specs.Lawful.{IsFormat}
-use Rattle.linda_codec.specs.Formats.{made_at, no_kind}
+use Rattle.linda_codec.specs.Formats.{no_kind}
 use Rattle.linda_codec.specs.Values as format
 use Rattle.linda_codec.proofs.FormatLaws.{byte_is, short_length_is, integer_is, truth_is, nothing_is, both_is, body_is, made_again, made_is, known_as_is, sized_text_is, counted_is, no_kind_is, choice_is, AreBodies}
 
@@ -68,7 +68,7 @@ formal_bodies form = (
   ),
 )
 
-value_again : (form : Form) (a : Atom) (rest : List ℕ) → IsSoundIn form a → made_at (λ v. patterns.Value v) (format.atom form) ((format.atom form).spell a ++ rest) ≡ Ok (patterns.Value a, rest)
+value_again : (form : Form) (a : Atom) (rest : List ℕ) → IsSoundIn form a → format.value_at form ((format.atom form).spell a ++ rest) ≡ Ok (patterns.Value a, rest)
 value_again form a rest sound = made_again (atom_is form) (λ v. patterns.Value v) a rest sound
 
 pattern_again : (form : Form) (p : Pattern) (rest : List ℕ) → IsSoundPatternIn form p → (format.pattern form).read ((format.pattern form).spell p ++ rest) ≡ Ok (p, rest)
@@ -82,7 +82,7 @@ pattern_again form patterns.Any rest sound = refl
 
 pub pattern_is : (form : Form) → IsFormat (format.pattern form)
 pattern_is form =
-    choice_is (format.spell_pattern form) (IsSoundPatternIn form) format.formal_kinds (made_at (λ v. patterns.Value v) (format.atom form)) (formal_bodies form)
+    choice_is (format.spell_pattern form) (IsSoundPatternIn form) format.formal_kinds (format.value_at form) (formal_bodies form)
     (body_is (atom_is form) (format.spell_pattern form) (IsSoundPatternIn form) [] (λ v. patterns.Value v) (λ v. refl) (λ v fits. fits)) (pattern_again form)
 
 -- ---- tuples and templates

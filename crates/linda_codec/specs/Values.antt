@@ -14,7 +14,7 @@ use Rattle.linda_codec.specs.declared.kinds.TheConstants.{INTEGER, TEXT, TRUTH, 
 use Rattle.linda_codec.specs.declared.kinds.TheConstants.{TEXT_FORMAL, BOOL_FORMAL, WILDCARD}
 use Rattle.linda_codec.specs.Steps.{Reader}
 use Rattle.linda_codec.specs.Formats.{Format, byte, short_length, integer, truth, nothing, both, made_at, made}
-use Rattle.linda_codec.specs.Formats.{known_as, sized_text, counted, no_kind, choice_at}
+use Rattle.linda_codec.specs.Formats.{known_as, sized_text, counted, no_kind, body_at, choice_at}
 
 -- A text's length: a byte, or a number of two bytes that is not above the limit.
 abbrev pub text_length : Form → Format ℕ
@@ -38,6 +38,10 @@ atom_kinds form =
     ∷ (TEXT, made_at (λ t. atoms.Text t) (text form))
     ∷ (TRUTH, made_at (λ b. atoms.Bool b) truth) ∷ []
 
+-- An atom of that kind, of which the kind is read.
+abbrev pub atom_body_at : Form → ℕ → Reader Atom
+atom_body_at form = body_at (atom_kinds form) no_kind
+
 abbrev pub atom : Form → Format Atom
 atom form = record { spell = spell_atom form; Fits = IsSoundIn form; read = choice_at (atom_kinds form) no_kind }
 
@@ -55,23 +59,33 @@ formal_kinds =
     (INT_FORMAL, made_at (λ n. patterns.IntFormal) nothing) ∷ (TEXT_FORMAL, made_at (λ n. patterns.TextFormal) nothing)
     ∷ (BOOL_FORMAL, made_at (λ n. patterns.BoolFormal) nothing) ∷ (WILDCARD, made_at (λ n. patterns.Any) nothing) ∷ []
 
+-- An atom, as a pattern.
+abbrev pub value_at : Form → Reader Pattern
+value_at form = made_at (λ v. patterns.Value v) (atom form)
+
+-- A pattern of that kind, of which the kind is read.
+abbrev pub pattern_body_at : Form → ℕ → Reader Pattern
+pattern_body_at form = body_at formal_kinds (value_at form)
+
 abbrev pub pattern : Form → Format Pattern
 pattern form = record {
   spell = spell_pattern form;
   Fits = IsSoundPatternIn form;
-  read = choice_at formal_kinds (made_at (λ v. patterns.Value v) (atom form));
+  read = choice_at formal_kinds (value_at form);
 }
+
+-- A tag, the count of the values behind it, and the values.
+abbrev pub tagged : {A : Type 0} → Form → Format A → Format (Atom × List A)
+tagged form f = both (atom form) (counted (most_fields form) f)
 
 -- A tuple: the tag, the count of the fields, the fields.
 abbrev pub tuple : Form → Format Tuple
 tuple form =
     known_as (FitsIn form)
-    (made (λ p. record { tag = p.0; fields = p.1 }) (λ t. (t.tag, t.fields))
-    (both (atom form) (counted (most_fields form) (atom form))))
+    (made (λ p. record { tag = p.0; fields = p.1 }) (λ t. (t.tag, t.fields)) (tagged form (atom form)))
 
 -- A template: the tag, the count of the patterns, the patterns.
 abbrev pub template : Form → Format Template
 template form =
     known_as (FitsTemplateIn form)
-    (made (λ p. record { tag = p.0; fields = p.1 }) (λ t. (t.tag, t.fields))
-    (both (atom form) (counted (most_fields form) (pattern form))))
+    (made (λ p. record { tag = p.0; fields = p.1 }) (λ t. (t.tag, t.fields)) (tagged form (pattern form)))

@@ -4,9 +4,8 @@
 
 ghost use Rattle.std.specs.Prelude.{◌≡◌, ◌∷◌, IsOk, IsErrOf};
 ghost use Rattle.linda_tuple.specs.declared.atom.Atom.TheVariants as atoms;
-ghost use Rattle.linda_tuple.specs.declared.pattern.Pattern.TheVariants as patterns;
 ghost use Rattle.linda_codec.specs.Steps.{Gives, GivesAlways};
-ghost use Rattle.linda_codec.specs.Formats.{body_at, integer, made_at, no_kind, truth};
+ghost use Rattle.linda_codec.specs.Formats.{integer, made_at, truth};
 ghost use Rattle.linda_codec.specs.Values as format;
 
 use crate::fault::ReadFault;
@@ -41,8 +40,8 @@ fn read_atom_body(
     kind: u8,
     bytes: &[u8],
 ) -> Result<(Atom, &[u8]), ReadFault>
-    ensures value { Gives (λ x. (x.0, x.1.now)) result (body_at (format.atom_kinds form) no_kind kind bytes.now) }
-    ensures memory { IsErrOf result ReadFault.Memory → IsOk (body_at (format.atom_kinds form) no_kind kind bytes.now) }
+    ensures value { Gives (λ x. (x.0, x.1.now)) result (format.atom_body_at form kind bytes.now) }
+    ensures memory { IsErrOf result ReadFault.Memory → IsOk (format.atom_body_at form kind bytes.now) }
 {
     match kind {
         INTEGER => read_integer(bytes),
@@ -63,7 +62,8 @@ fn read_integer(bytes: &[u8]) -> Result<(Atom, &[u8]), ReadFault>
 // Reads a text, as an atom.
 fn read_text(alloc: Global, form: Form, bytes: &[u8]) -> Result<(Atom, &[u8]), ReadFault>
     ensures value { Gives (λ x. (x.0, x.1.now)) result (made_at (λ t. atoms.Text t) (format.text form) bytes.now) }
-    ensures memory { IsErrOf result ReadFault.Memory → IsOk (made_at (λ t. atoms.Text t) (format.text form) bytes.now) }
+    ensures memory { IsErrOf result ReadFault.Memory
+        → IsOk (made_at (λ t. atoms.Text t) (format.text form) bytes.now) }
 {
     let (text, rest) = split_text(form, bytes)?;
     let string = String::from_str(alloc, text)?;
@@ -165,8 +165,8 @@ fn read_pattern_body(
     kind: u8,
     bytes: &[u8],
 ) -> Result<(Pattern, &[u8]), ReadFault>
-    ensures value { Gives (λ x. (x.0, x.1.now)) result (body_at format.formal_kinds (made_at (λ v. patterns.Value v) (format.atom form)) kind bytes.now) }
-    ensures memory { IsErrOf result ReadFault.Memory → IsOk (body_at format.formal_kinds (made_at (λ v. patterns.Value v) (format.atom form)) kind bytes.now) }
+    ensures value { Gives (λ x. (x.0, x.1.now)) result (format.pattern_body_at form kind bytes.now) }
+    ensures memory { IsErrOf result ReadFault.Memory → IsOk (format.pattern_body_at form kind bytes.now) }
 {
     match kind {
         INT_FORMAL => Ok((Pattern::IntFormal, bytes)),
@@ -184,8 +184,8 @@ fn read_value(
     kind: u8,
     bytes: &[u8],
 ) -> Result<(Pattern, &[u8]), ReadFault>
-    ensures value { Gives (λ x. (x.0, x.1.now)) result (made_at (λ v. patterns.Value v) (format.atom form) (kind ∷ bytes.now)) }
-    ensures memory { IsErrOf result ReadFault.Memory → IsOk (made_at (λ v. patterns.Value v) (format.atom form) (kind ∷ bytes.now)) }
+    ensures value { Gives (λ x. (x.0, x.1.now)) result (format.value_at form (kind ∷ bytes.now)) }
+    ensures memory { IsErrOf result ReadFault.Memory → IsOk (format.value_at form (kind ∷ bytes.now)) }
 {
     let (value, rest) = read_atom_body(alloc, form, kind, bytes)?;
     Ok((Pattern::Value(value), rest))

@@ -1,10 +1,8 @@
 //! Passing over tuples and templates: what their readers leave and which fault they return, without taking memory.
 
 ghost use Rattle.std.specs.Prelude.{◌≡◌, ◌∷◌};
-ghost use Rattle.linda_tuple.specs.Form.{most_fields};
-ghost use Rattle.linda_tuple.specs.declared.pattern.Pattern.TheVariants as patterns;
 ghost use Rattle.linda_codec.specs.Steps.{GivesAlways, left_by};
-ghost use Rattle.linda_codec.specs.Formats.{body_at, both, counted, integer, made_at, no_kind, truth};
+ghost use Rattle.linda_codec.specs.Formats.{integer, truth};
 ghost use Rattle.linda_codec.specs.Values as format;
 
 use crate::fault::ReadFault;
@@ -40,7 +38,7 @@ pub fn skip_template(form: Form, bytes: &[u8]) -> Result<&[u8], ReadFault>
 
 // The bytes after a tag and so many values as are counted after it.
 fn skip_tagged<V: Spelled>(form: Form, bytes: &[u8]) -> Result<&[u8], ReadFault>
-    ensures { GivesAlways (λ rest. rest.now) result (left_by ((both (format.atom form) (counted (most_fields form) (V.format form))).read bytes.now)) }
+    ensures { GivesAlways (λ rest. rest.now) result (left_by ((format.tagged form (V.format form)).read bytes.now)) }
 {
     let rest = skip_atom(form, bytes)?;
     let (count, rest) = read_count(form, rest)?;
@@ -59,7 +57,7 @@ pub(crate) fn skip_atom(form: Form, bytes: &[u8]) -> Result<&[u8], ReadFault>
 
 // The bytes after an atom of that kind, of which the kind is read and the body is at the front.
 fn skip_atom_body(form: Form, kind: u8, bytes: &[u8]) -> Result<&[u8], ReadFault>
-    ensures { GivesAlways (λ rest. rest.now) result (left_by (body_at (format.atom_kinds form) no_kind kind bytes.now)) }
+    ensures { GivesAlways (λ rest. rest.now) result (left_by (format.atom_body_at form kind bytes.now)) }
 {
     match kind {
         INTEGER => skip_integer(bytes),
@@ -105,7 +103,7 @@ pub(crate) fn skip_pattern(form: Form, bytes: &[u8]) -> Result<&[u8], ReadFault>
 
 // The bytes after a pattern of that kind, of which the kind is read.
 fn skip_pattern_body(form: Form, kind: u8, bytes: &[u8]) -> Result<&[u8], ReadFault>
-    ensures { GivesAlways (λ rest. rest.now) result (left_by (body_at format.formal_kinds (made_at (λ v. patterns.Value v) (format.atom form)) kind bytes.now)) }
+    ensures { GivesAlways (λ rest. rest.now) result (left_by (format.pattern_body_at form kind bytes.now)) }
 {
     match kind {
         INT_FORMAL => Ok(bytes),
@@ -118,7 +116,7 @@ fn skip_pattern_body(form: Form, kind: u8, bytes: &[u8]) -> Result<&[u8], ReadFa
 
 // The bytes after an atom, as a pattern, of which the kind is read.
 fn skip_value(form: Form, kind: u8, bytes: &[u8]) -> Result<&[u8], ReadFault>
-    ensures { GivesAlways (λ rest. rest.now) result (left_by (made_at (λ v. patterns.Value v) (format.atom form) (kind ∷ bytes.now))) }
+    ensures { GivesAlways (λ rest. rest.now) result (left_by (format.value_at form (kind ∷ bytes.now))) }
 {
     skip_atom_body(form, kind, bytes)
 }

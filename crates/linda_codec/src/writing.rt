@@ -115,7 +115,8 @@ fn push_tagged<V: Spelled>(
     requires tag { IsSoundIn form tag.now }
     requires count { length values.now ≤ most_fields form }
     requires values { All (V.format form).Fits values.now }
-    ensures ok { OnOk result (out.new.items ≡ out.old.items ++ (formats.both (format.atom form) (formats.counted (most_fields form) (V.format form))).spell (tag.now, values.now)) }
+    ensures ok { OnOk result
+        (out.new.items ≡ out.old.items ++ (format.tagged form (V.format form)).spell (tag.now, values.now)) }
     ensures front { take (length out.old.items) out.new.items ≡ out.old.items }
 {
     push_atom(form, out, tag)?;

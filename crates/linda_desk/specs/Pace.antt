@@ -2,8 +2,8 @@
 use Rattle.std.specs.Prelude.{ℕ, Bool, ◌-◌, ◌&&◌, ◌||◌, nat_le}
 use Rattle.linda_server.specs.declared.limits.TheConstants.{SNAPSHOT_RECORDS}
 
--- There are records enough, and they have at least as many bytes as the bank had when it was new, or half of the limit is
--- taken.
+-- There are records enough, and they have at least as many bytes as the bank had when it was new, or half of the
+-- limit is taken.
 abbrev pub pays : ℕ → ℕ → ℕ → ℕ → Bool
 pays base records used limit =
     nat_le SNAPSHOT_RECORDS records && (nat_le base (used - base) || nat_le (limit - used) used)

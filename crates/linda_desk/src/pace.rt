@@ -32,16 +32,16 @@ impl Pace {
         self.not_before = records.saturating_add(SNAPSHOT_RECORDS);
     }
 
-    /// Whether a snapshot of a bank with so many records, of which so many bytes are taken, pays for itself; or is to be
-    /// taken all the same, since the bank is not in the form of new banks.
+    /// Whether a snapshot of a bank with so many records, of which so many bytes are taken, pays for itself; or is to
+    /// be taken all the same, since the bank is not in the form of new banks.
     pub(crate) fn is_due(&self, is_old: bool, records: usize, used: usize, limit: usize) -> bool
         ensures { result ≡ is_due is_old self.now.base self.now.not_before records used limit }
     {
         records >= self.not_before && (is_old || self.pays(records, used, limit))
     }
 
-    // Whether there are records enough, and they have at least as many bytes as the bank had when it was new, or half of
-    // the limit is taken.
+    // Whether there are records enough, and they have at least as many bytes as the bank had when it was new, or half
+    // of the limit is taken.
     fn pays(&self, records: usize, used: usize, limit: usize) -> bool
         ensures { result ≡ pays self.now.base records used limit }
     {

@@ -5,8 +5,8 @@ use linda_text::read_atom_at;
 use linda_tuple::Atom;
 use std::alloc::{AllocError, Global};
 
-/// Appends what the words say: a string between quotes, the bytes of hexadecimal digits after the word `bytes`, with blanks
-/// between them, or else a line as it stands, with its line feed.
+/// Appends what the words say: a string between quotes, the bytes of hexadecimal digits after the word `bytes`, with
+/// blanks between them, or else a line as it stands, with its line feed.
 pub(crate) fn push_bytes(
     alloc: Global,
     bytes: &mut Vec<u8>,

@@ -67,7 +67,8 @@ fn build_alarm(bytes: &[u8]) -> Result<(Event, &[u8]), EventTextFault>
 
 // The same for a value that is always there.
 fn build_always(alloc: Global, bytes: &[u8]) -> Result<(Event, &[u8]), EventTextFault>
-    ensures { Gives (λ x. (tree_of x.0, x.1.now)) result (made (λ a. leaf (always a)) (lifted (spaced_atom_at bytes.now))) }
+    ensures { Gives (λ x. (tree_of x.0, x.1.now)) result
+        (made (λ a. leaf (always a)) (lifted (spaced_atom_at bytes.now))) }
 {
     let (value, rest) = split_spaced_atom(alloc, bytes)?;
     Ok((Event::Always(value), rest))

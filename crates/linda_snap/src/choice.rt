@@ -289,7 +289,8 @@ fn choose(left: Heading, right: Heading) -> Result<bool, ChoiceFault>
     }
 }
 
-// The state that a body in the form and the records after it come to. The memory of the body is given back before they are done.
+// The state that a body in the form and the records after it come to. The memory of the body is given back before
+// they are done.
 fn recover<B: Bag>(
     alloc: Global,
     form: Form,

@@ -18,7 +18,8 @@ use linda_codec::{NUMBER_BYTES, SHORT_NUMBER_BYTES};
 use linda_state::State;
 use std::alloc::AllocError;
 
-/// Appends the spelling of the state in the form of new banks. Where memory runs out, a part of it may stand after the old bytes.
+/// Appends the spelling of the state in the form of new banks. Where memory runs out, a part of it may stand after
+/// the old bytes.
 ///
 /// # Errors
 ///

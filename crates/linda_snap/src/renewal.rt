@@ -52,8 +52,8 @@ impl From<DiskFault> for SwitchFault {
 }
 
 /// Makes a new bank of the next generation on the disk that is not in use, whose body is a snapshot of the state and
-/// whose journal is empty; and gives it, with the disk of the bank that was in use. That disk is not touched. The new bank
-/// is in the form of new banks, whatever the form of the one in use is.
+/// whose journal is empty; and gives it, with the disk of the bank that was in use. That disk is not touched. The new
+/// bank is in the form of new banks, whatever the form of the one in use is.
 ///
 /// # Errors
 ///

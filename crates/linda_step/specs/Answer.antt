@@ -133,8 +133,8 @@ abbrev pub on_accept : State → ℕ → ℕ → ℕ → ℕ → Option Reply �
 on_accept st c n ticket id (Some reply) soft = only_reply c reply soft
 on_accept st c n ticket id None soft = take_or_pass c n id (held_tuple st (request_of c ticket) id soft) soft
 
--- The answer to a Leave, given the reply where it makes no deed. Where it does, the client's reply comes first, and then
--- all that it asked is given up, as where its connection ends.
+-- The answer to a Leave, given the reply where it makes no deed. Where it does, the client's reply comes first, and
+-- then all that it asked is given up, as where its connection ends.
 abbrev pub on_leave : State → ℕ → ℕ → Option Reply → Soft → Answer
 on_leave st c n (Some reply) soft = only_reply c reply soft
 on_leave st c n None soft =

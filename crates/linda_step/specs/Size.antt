@@ -1,5 +1,5 @@
--- Which messages do a deed, whether it has a spelling in a form, and how many bytes: that hangs on numbers, on tuples and
--- on who left alone, so it is known before anything is done.
+-- Which messages do a deed, whether it has a spelling in a form, and how many bytes: that hangs on numbers, on tuples
+-- and on who left alone, so it is known before anything is done.
 use Rattle.std.specs.Prelude.{ℕ, Bool, ◌+◌, ◌==◌, if◌then◌else◌}
 use Rattle.std.specs.Prelude.{List, [], ◌∷◌, length, Option, Some, None}
 use Rattle.std.specs.FinMap as map
@@ -82,7 +82,8 @@ bytes_from form ns [] = 0
 bytes_from form ns (m ∷ ms) =
     bytes_of form m.1 (done_of ns m.0 m.1) + bytes_from form (numbers_after ns m.0 (done_of ns m.0 m.1)) ms
 
--- The tuple that a message brings, where it brings one, has a spelling in the form, and a Leave where the form has them.
+-- The tuple that a message brings, where it brings one, has a spelling in the form, and a Leave where the form has
+-- them.
 abbrev pub Suits : Form → Message → Type 0
 Suits form (messages.Out n tuple) = FitsIn form tuple
 Suits form (messages.Leave n) = HasLeaves form

@@ -98,9 +98,9 @@ pub fn a_closed_client_asks_nothing()
         → IsSoft bag soft → IsClosed client (on_close bag client soft) }
 {}
 
-/// Once a client's Leave is done it has left for good: whatever comes to the server, stops too, what is kept for it stays,
-/// no deed is its own, it holds nothing and does not wait, and it is told nothing but that it left, or that a number is
-/// older; and to a Hello what any client gets.
+/// Once a client's Leave is done it has left for good: whatever comes to the server, stops too, what is kept for it
+/// stays, no deed is its own, it holds nothing and does not wait, and it is told nothing but that it left, or that a
+/// number is older; and to a Hello what any client gets.
 pub fn a_client_that_left_stays_away()
     ensures leaves { (st new : State) (soft : Soft) (c d n : ℕ) (m : Message) (answered : Answer)
         → IsState st → IsStep st soft c m answered new → answered.deed ≡ Some (Leave d n)

@@ -67,7 +67,8 @@ pub(crate) fn bytes_of_one<B: Bag>(
     client: u32,
     message: &Message,
 ) -> Option<usize>
-    ensures bytes { IfSome result (λ bytes. bytes ≡ bytes_from form (numbers_of state.now) ((client, message.now) ∷ [])) }
+    ensures bytes { IfSome result (λ bytes.
+        bytes ≡ bytes_from form (numbers_of state.now) ((client, message.now) ∷ [])) }
     ensures suit { IfSome result (λ bytes. AllSuit form (numbers_of state.now) ((client, message.now) ∷ [])) }
     ensures none { IfNone result (AllSuit form (numbers_of state.now) ((client, message.now) ∷ []) → ⊥) }
 {

@@ -23,8 +23,8 @@ are_fit [] (atom ∷ atoms) = false
 are_fit (pattern ∷ patterns) [] = false
 are_fit (pattern ∷ patterns) (atom ∷ atoms) = is_fit pattern atom && are_fit patterns atoms
 
--- Whether a template matches a tuple, as a test, which filters and searches of lists take: the tags are equal, there are
--- as many fields as patterns, and at each place the pattern fits the field.
+-- Whether a template matches a tuple, as a test, which filters and searches of lists take: the tags are equal, there
+-- are as many fields as patterns, and at each place the pattern fits the field.
 unfoldable pub is_match : Template → Tuple → Bool
 is_match template tuple = same_atom template.tag tuple.tag && are_fit template.fields tuple.fields
 

@@ -1,11 +1,13 @@
 //! A kept reply as bytes: a kind byte, and the id and the tuple that it gives.
 
-ghost use Rattle.std.specs.Prelude.{◌≡◌, ◌∷◌, ◌++◌, ◌↔◌, length, take, IsOk, IsErrOf, IsTrue};
+ghost use Rattle.std.specs.Prelude.{◌≡◌, [], ◌∷◌, ◌++◌, ◌↔◌, length, take, IsOk, IsErrOf, IsTrue};
 ghost use Rattle.std.specs.Prelude.{OnOk};
 ghost use Rattle.linda_tuple.specs.declared.form.Form.TheVariants.{Two};
+ghost use Rattle.linda_tuple.specs.Tuple.{FitsIn};
 ghost use Rattle.linda_codec.specs.Steps.{Gives, GivesAlways, left_by};
-ghost use Rattle.linda_codec.specs.Formats.{choice_at, made_at, no_kind, number};
+ghost use Rattle.linda_codec.specs.Formats.{body_at, made_at, no_kind, number};
 ghost use Rattle.linda_book.specs.declared.kept_reply.KeptReply.TheVariants.{Stored, Taken};
+ghost use Rattle.linda_book.specs.declared.kinds.TheConstants as kind;
 ghost use Rattle.linda_book.specs.ReplyFormat as format;
 
 use crate::kept_reply::KeptReply;
@@ -30,48 +32,23 @@ impl Spelled for KeptReply {
     fn read(alloc: Global, form: Form, bytes: &[u8]) -> Result<(KeptReply, &[u8]), ReadFault> {
         match bytes {
             [] => Err(ReadFault::Short),
-            [STORED, body @ ..] => stored_from(body),
-            [TAKEN, body @ ..] => taken_from(alloc, form, body),
-            [GONE, rest @ ..] => Ok((KeptReply::Gone, rest)),
-            [kind, rest @ ..] => other_from(form, *kind, rest),
+            [kind, body @ ..] => read_body(alloc, form, *kind, body),
         }
     }
 
     fn skip(form: Form, bytes: &[u8]) -> Result<&[u8], ReadFault> {
         match bytes {
             [] => Err(ReadFault::Short),
-            [STORED, body @ ..] => {
-                let (_reply, rest) = stored_from(body)?;
-                Ok(rest)
-            }
-            [TAKEN, body @ ..] => skip_taken(form, body),
-            [GONE, rest @ ..] => Ok(rest),
-            [kind, rest @ ..] => {
-                let (_reply, rest) = other_from(form, *kind, rest)?;
-                Ok(rest)
-            }
+            [kind, body @ ..] => skip_body(form, *kind, body),
         }
     }
 
     fn push(&self, form: Form, out: &mut Vec<u8>) -> Result<(), AllocError> {
         match self {
-            KeptReply::Stored(id) => {
-                out.push(STORED)?;
-                out.extend_from_slice(&id.to_be_bytes())
-            }
-            KeptReply::Taken(id, tuple) => {
-                out.push(TAKEN)?;
-                out.extend_from_slice(&id.to_be_bytes())?;
-                tuple.push(form, out)
-            }
-            KeptReply::Gone => {
-                out.push(GONE)?;
-                Ok(())
-            }
-            KeptReply::Left => {
-                out.push(LEFT)?;
-                Ok(())
-            }
+            KeptReply::Stored(id) => push_stored(out, *id),
+            KeptReply::Taken(id, tuple) => push_taken(form, out, *id, tuple),
+            KeptReply::Gone => push_kind(out, GONE),
+            KeptReply::Left => push_kind(out, LEFT),
         }
     }
 
@@ -85,14 +62,34 @@ impl Spelled for KeptReply {
     }
 }
 
-fn stored_from(body: &[u8]) -> Result<(KeptReply, &[u8]), ReadFault>
+// Reads a kept reply of that kind, of which the kind is read and the body is at the front.
+fn read_body(
+    alloc: Global,
+    form: Form,
+    kind: u8,
+    body: &[u8],
+) -> Result<(KeptReply, &[u8]), ReadFault>
+    ensures value { Gives (λ x. (x.0, x.1.now)) result (format.reply_body_at form kind body.now) }
+    ensures memory { IsErrOf result ReadFault.Memory → IsOk (format.reply_body_at form kind body.now) }
+{
+    match kind {
+        STORED => read_stored(body),
+        TAKEN => read_taken(alloc, form, body),
+        GONE => Ok((KeptReply::Gone, body)),
+        _ => read_left(form, kind, body),
+    }
+}
+
+// Reads a Stored.
+fn read_stored(body: &[u8]) -> Result<(KeptReply, &[u8]), ReadFault>
     ensures { GivesAlways (λ x. (x.0, x.1.now)) result (made_at (λ id. Stored id) number body.now) }
 {
     let (id, rest) = read_u64(body)?;
     Ok((KeptReply::Stored(id), rest))
 }
 
-fn taken_from(alloc: Global, form: Form, body: &[u8]) -> Result<(KeptReply, &[u8]), ReadFault>
+// Reads a Taken.
+fn read_taken(alloc: Global, form: Form, body: &[u8]) -> Result<(KeptReply, &[u8]), ReadFault>
     ensures value { Gives (λ x. (x.0, x.1.now)) result (made_at (λ p. Taken p.0 p.1) (format.placed form) body.now) }
     ensures memory { IsErrOf result ReadFault.Memory
         → IsOk (made_at (λ p. Taken p.0 p.1) (format.placed form) body.now) }
@@ -102,6 +99,37 @@ fn taken_from(alloc: Global, form: Form, body: &[u8]) -> Result<(KeptReply, &[u8
     Ok((KeptReply::Taken(id, tuple), rest))
 }
 
+// Reads a Left, of which the kind is read, where the form has Leaves; of another kind that is the fault.
+fn read_left(form: Form, kind: u8, rest: &[u8]) -> Result<(KeptReply, &[u8]), ReadFault>
+    ensures { GivesAlways (λ x. (x.0, x.1.now)) result (body_at (format.left_kinds form) no_kind kind rest.now) }
+{
+    if kind == LEFT && has_leaves(form) {
+        return Ok((KeptReply::Left, rest));
+    }
+    Err(ReadFault::BadKind(KIND_BYTES + rest.len()))
+}
+
+// The bytes after a kept reply of that kind, of which the kind is read and the body is at the front.
+fn skip_body(form: Form, kind: u8, body: &[u8]) -> Result<&[u8], ReadFault>
+    ensures { GivesAlways (λ rest. rest.now) result (left_by (format.reply_body_at form kind body.now)) }
+{
+    match kind {
+        STORED => skip_stored(body),
+        TAKEN => skip_taken(form, body),
+        GONE => Ok(body),
+        _ => skip_left(form, kind, body),
+    }
+}
+
+// The bytes after a Stored.
+fn skip_stored(body: &[u8]) -> Result<&[u8], ReadFault>
+    ensures { GivesAlways (λ rest. rest.now) result (left_by (made_at (λ id. Stored id) number body.now)) }
+{
+    let (_id, rest) = read_u64(body)?;
+    Ok(rest)
+}
+
+// The bytes after a Taken.
 fn skip_taken(form: Form, body: &[u8]) -> Result<&[u8], ReadFault>
     ensures { GivesAlways (λ rest. rest.now) result
         (left_by (made_at (λ p. Taken p.0 p.1) (format.placed form) body.now)) }
@@ -110,20 +138,43 @@ fn skip_taken(form: Form, body: &[u8]) -> Result<&[u8], ReadFault>
     Tuple::skip(form, rest)
 }
 
-// What stands after a kind byte that not every form has: the reply to a Leave, where the form has Leaves.
-fn other_from(form: Form, kind: u8, rest: &[u8]) -> Result<(KeptReply, &[u8]), ReadFault>
-    ensures { GivesAlways (λ x. (x.0, x.1.now)) result (choice_at (format.left_kinds form) no_kind (kind ∷ rest.now)) }
+// The bytes after a Left, of which the kind is read.
+fn skip_left(form: Form, kind: u8, rest: &[u8]) -> Result<&[u8], ReadFault>
+    ensures { GivesAlways (λ rest. rest.now) result
+        (left_by (body_at (format.left_kinds form) no_kind kind rest.now)) }
 {
-    match form {
-        Form::One => Err(ReadFault::BadKind(1 + rest.len())),
-        Form::Two => {
-            if kind == LEFT {
-                Ok((KeptReply::Left, rest))
-            } else {
-                Err(ReadFault::BadKind(1 + rest.len()))
-            }
-        }
-    }
+    let (_left, rest) = read_left(form, kind, rest)?;
+    Ok(rest)
+}
+
+// Appends a Stored; where memory runs out, a part of it may stand after the old bytes.
+fn push_stored(out: &mut Vec<u8>, id: u64) -> Result<(), AllocError>
+    ensures ok { OnOk result (out.new.items ≡ out.old.items ++ kind.STORED ∷ number.spell id) }
+    ensures front { take (length out.old.items) out.new.items ≡ out.old.items }
+{
+    out.push(STORED)?;
+    out.extend_from_slice(&id.to_be_bytes())
+}
+
+// Appends a Taken; likewise.
+fn push_taken(form: Form, out: &mut Vec<u8>, id: u64, tuple: &Tuple) -> Result<(), AllocError>
+    requires { FitsIn form tuple.now }
+    ensures ok { OnOk result
+        (out.new.items ≡ out.old.items ++ kind.TAKEN ∷ (format.placed form).spell (id, tuple.now)) }
+    ensures front { take (length out.old.items) out.new.items ≡ out.old.items }
+{
+    out.push(TAKEN)?;
+    out.extend_from_slice(&id.to_be_bytes())?;
+    tuple.push(form, out)
+}
+
+// Appends the kind of a reply that has no body; likewise.
+fn push_kind(out: &mut Vec<u8>, byte: u8) -> Result<(), AllocError>
+    ensures ok { OnOk result (out.new.items ≡ out.old.items ++ byte ∷ []) }
+    ensures front { take (length out.old.items) out.new.items ≡ out.old.items }
+{
+    out.push(byte)?;
+    Ok(())
 }
 
 impl KeptReply {

@@ -48,8 +48,8 @@ impl<D: Disk, L: Ledger> Held<D, L> {
         self.server.is_down()
     }
 
-    /// Whether a snapshot is due: there are so many records since the last one, or the bank in use is not in the form of
-    /// new banks.
+    /// Whether a snapshot is due: there are so many records since the last one, or the bank in use is not in the form
+    /// of new banks.
     pub fn needs_snapshot(&self) -> bool
         ensures { result ≡ (is_old (form_in_use self.now.server.disks)
             || nat_le SNAPSHOT_RECORDS (records_in_use self.now.server.disks)) }

@@ -78,8 +78,8 @@ impl<D: Disk> Durable<D> {
         self.settle(alloc, served)
     }
 
-    // How many bytes the deeds of the messages will spell in the form of the bank in use; None where one of them will have
-    // no spelling there.
+    // How many bytes the deeds of the messages will spell in the form of the bank in use; None where one of them will
+    // have no spelling there.
     fn size_of(&self, batch: Batch<'_>) -> Option<u64>
         requires { length (messages_of batch) ≤ MAX_BATCH }
         ensures bytes { (all : History) → Answers self.now.store.state self.now.store.soft (messages_of batch.entry) all
