@@ -5,33 +5,11 @@ ghost use Rattle.std.specs.Prelude.{length, ◌≡◌};
 
 use linda_disk::{Disk, DiskFault, FileDisk, MemDisk};
 use std::alloc::Global;
-use std::fs::{self, OpenOptions};
+use std::fs::{self, File, Files, OpenOptions};
+use std::io;
 use std::process::Abort;
-use std::test::Fail;
 
 const PATH: &str = "linda_disk_test_file";
-
-/// The device failed.
-const FAILED: Result<(), DiskFault> = Err(DiskFault::Device);
-
-/// Writes at the front of any disk, syncs, and reads all of it.
-fn write_and_read<D: Disk>(
-    alloc: Global,
-    disk: &mut D,
-    bytes: &[u8],
-) -> Result<Vec<u8>, DiskFault> {
-    disk.write_at(0, bytes)?;
-    disk.sync()?;
-    read_all(alloc, disk)
-}
-
-/// Reads all of any disk.
-fn read_all<D: Disk>(alloc: Global, disk: &mut D) -> Result<Vec<u8>, DiskFault> {
-    let len = disk.len()?;
-    let mut buffer = vec![in alloc; 0; len]?;
-    disk.read_at(0, &mut buffer)?;
-    Ok(buffer)
-}
 
 /// Cuts any disk to nothing, and syncs.
 fn empty<D: Disk>(disk: &mut D) -> Result<(), DiskFault> {
@@ -39,89 +17,167 @@ fn empty<D: Disk>(disk: &mut D) -> Result<(), DiskFault> {
     disk.sync()
 }
 
-#[test]
-fn any_disk_gives_what_was_written(rt: HostRuntime) -> Result<(), Fail> {
-    let alloc = rt.alloc();
-    let mut disk = MemDisk::new(alloc);
-    assert_eq!(rt;
-        write_and_read(alloc, &mut disk, b"abc")?.as_slice(),
-        b"abc".as_slice()
-    );
-    empty(&mut disk)?;
-    assert_eq!(rt; read_all(alloc, &mut disk)?.len(), 0);
+/// All of any disk is this.
+fn has<D: Disk>(
+    rt: &impl Abort,
+    alloc: Global,
+    disk: &mut D,
+    bytes: &[u8],
+) -> Result<(), DiskFault> {
+    let len = disk.len()?;
+    let mut all = vec![in alloc; 0; len]?;
+    disk.read_at(0, &mut all)?;
+    assert_eq!(rt; all.as_slice(), bytes);
     Ok(())
 }
 
+/// What is written at the front of any disk is all of it.
+fn keeps<D: Disk>(
+    rt: &impl Abort,
+    alloc: Global,
+    disk: &mut D,
+    bytes: &[u8],
+) -> Result<(), DiskFault> {
+    disk.write_at(0, bytes)?;
+    disk.sync()?;
+    has(rt, alloc, disk, bytes)
+}
+
+/// A call was done.
+fn is_done(rt: &impl Abort, told: Result<(), DiskFault>) {
+    assert_eq!(rt; told, Ok(()));
+}
+
+/// A call was not done, as the device failed.
+fn is_failure(rt: &impl Abort, told: Result<(), DiskFault>) {
+    assert_eq!(rt; told, Err(DiskFault::Device));
+}
+
+/// There are so many bytes.
+fn is_long(rt: &impl Abort, disk: &mut FileDisk, len: usize) {
+    assert_eq!(rt; disk.len(), Ok(len));
+}
+
+/// The device has failed so often.
+fn has_failed(rt: &impl Abort, disk: &FileDisk, times: u64) {
+    assert_eq!(rt; disk.failures(), times);
+}
+
+/// The file of this path as a disk.
+fn opened<F: Files<File = File>>(rt: &F, path: &str) -> io::Result<FileDisk> {
+    match OpenOptions::new().read(true).write(true).open(rt, path) {
+        Ok(file) => Ok(FileDisk::new(file)),
+        Err(fault) => Err(fault),
+    }
+}
+
 #[test]
-fn a_file_has_what_was_written_when_it_is_opened_again(rt: HostRuntime) -> Result<(), Fail> {
-    let alloc = rt.alloc();
+fn any_disk_gives_what_was_written(rt: HostRuntime) {
+    let mut disk = MemDisk::new(rt.alloc());
+    let told = gives_what_was_written(&rt, rt.alloc(), &mut disk);
+    is_done(&rt, told);
+}
+
+/// A disk keeps what is written, and nothing after a cut.
+fn gives_what_was_written<D: Disk>(
+    rt: &impl Abort,
+    alloc: Global,
+    disk: &mut D,
+) -> Result<(), DiskFault> {
+    keeps(rt, alloc, disk, b"abc")?;
+    empty(disk)?;
+    has(rt, alloc, disk, b"")
+}
+
+#[test]
+fn a_file_has_what_was_written_when_it_is_opened_again(rt: HostRuntime) -> io::Result<()> {
     let mut disk = FileDisk::new(fs::create(&rt, PATH)?);
-    assert_eq!(rt; disk.write_at(0, b"abcdef"), Ok(()));
-    assert_eq!(rt; disk.write_at(4, b"EFGH"), Ok(()));
-    assert_eq!(rt; disk.cut(7), Ok(()));
-    assert_eq!(rt; disk.sync(), Ok(()));
-    assert_eq!(rt; disk.len(), Ok(7));
+    takes_writes_and_a_cut(&rt, &mut disk);
     drop(disk);
-    let mut again = FileDisk::new(OpenOptions::new().read(true).write(true).open(&rt, PATH)?);
-    assert_eq!(rt;
-        read_all(alloc, &mut again)?.as_slice(),
-        b"abcdEFG".as_slice()
-    );
-    let mut middle = [0; 3];
-    assert_eq!(rt; again.read_at(2, &mut middle), Ok(()));
-    assert_eq!(rt; middle, *b"cdE");
-    empty(&mut again)?;
-    assert_eq!(rt;
-        write_and_read(alloc, &mut again, b"xy")?.as_slice(),
-        b"xy".as_slice()
-    );
-    assert_eq!(rt; again.failures(), 0);
+    let mut again = opened(&rt, PATH)?;
+    let told = has_what_was_written(&rt, rt.alloc(), &mut again);
+    is_done(&rt, told);
     drop(again);
-    fs::remove_file(&rt, PATH)?;
+    fs::remove_file(&rt, PATH)
+}
+
+/// The file takes two writes, of which one goes over the other, and a cut.
+fn takes_writes_and_a_cut(rt: &impl Abort, disk: &mut FileDisk) {
+    is_done(rt, disk.write_at(0, b"abcdef"));
+    is_done(rt, disk.write_at(4, b"EFGH"));
+    is_done(rt, disk.cut(7));
+    is_done(rt, disk.sync());
+    is_long(rt, disk, 7);
+}
+
+/// The file has what these left, and takes something else after that.
+fn has_what_was_written(
+    rt: &impl Abort,
+    alloc: Global,
+    again: &mut FileDisk,
+) -> Result<(), DiskFault> {
+    has(rt, alloc, again, b"abcdEFG")?;
+    has_in_the_middle(rt, again, *b"cdE");
+    empty(again)?;
+    keeps(rt, alloc, again, b"xy")?;
+    has_failed(rt, again, 0);
+    Ok(())
+}
+
+/// From place 2 on these bytes stand.
+fn has_in_the_middle(rt: &impl Abort, disk: &mut FileDisk, bytes: [u8; 3]) {
+    let mut middle = [0; 3];
+    is_done(rt, disk.read_at(2, &mut middle));
+    assert_eq!(rt; middle, bytes);
+}
+
+#[test]
+fn a_full_device_is_a_failure(rt: HostRuntime) -> io::Result<()> {
+    let mut disk = opened(&rt, "/dev/full")?;
+    is_failure(&rt, disk.write_at(0, b"a"));
+    is_failure(&rt, disk.write_at(0, b"a"));
+    has_failed(&rt, &disk, 2);
     Ok(())
 }
 
 #[test]
-fn a_full_device_is_a_failure(rt: HostRuntime) -> Result<(), Fail> {
-    let full = OpenOptions::new()
-        .read(true)
-        .write(true)
-        .open(&rt, "/dev/full")?;
-    let mut disk = FileDisk::new(full);
-    assert_eq!(rt; disk.write_at(0, b"a"), FAILED);
-    assert_eq!(rt; disk.write_at(0, b"a"), FAILED);
-    assert_eq!(rt; disk.failures(), 2);
-    Ok(())
-}
-
-#[test]
-fn a_file_for_reading_only_takes_no_write(rt: HostRuntime) -> Result<(), Fail> {
+fn a_file_for_reading_only_takes_no_write(rt: HostRuntime) -> io::Result<()> {
     const READ_ONLY: &str = "linda_disk_test_read_only";
     fs::write(&rt, READ_ONLY, b"abc".as_slice())?;
     let mut disk = FileDisk::new(fs::open(&rt, READ_ONLY)?);
-    assert_eq!(rt; disk.write_at(0, b"x"), FAILED);
-    assert_eq!(rt; disk.cut(0), FAILED);
-    assert_eq!(rt; disk.failures(), 2);
-    assert_eq!(rt;
-        read_all(rt.alloc(), &mut disk)?.as_slice(),
-        b"abc".as_slice()
-    );
-    assert_eq!(rt; disk.failures(), 2);
-    fs::remove_file(&rt, READ_ONLY)?;
+    let told = is_read_only(&rt, rt.alloc(), &mut disk);
+    is_done(&rt, told);
+    drop(disk);
+    fs::remove_file(&rt, READ_ONLY)
+}
+
+/// The file takes no write and no cut, and still has what it had.
+fn is_read_only(rt: &impl Abort, alloc: Global, disk: &mut FileDisk) -> Result<(), DiskFault> {
+    is_failure(rt, disk.write_at(0, b"x"));
+    is_failure(rt, disk.cut(0));
+    has_failed(rt, disk, 2);
+    has(rt, alloc, disk, b"abc")?;
+    has_failed(rt, disk, 2);
     Ok(())
 }
 
 #[test]
-fn offsets_that_no_file_has_are_failures(rt: HostRuntime) -> Result<(), Fail> {
+fn offsets_that_no_file_has_are_failures(rt: HostRuntime) -> io::Result<()> {
     const SHORT: &str = "linda_disk_test_short";
     fs::write(&rt, SHORT, b"abc".as_slice())?;
-    let mut disk = FileDisk::new(OpenOptions::new().read(true).write(true).open(&rt, SHORT)?);
+    let mut disk = opened(&rt, SHORT)?;
+    refuses_offsets(&rt, &mut disk);
+    drop(disk);
+    fs::remove_file(&rt, SHORT)
+}
+
+/// The file of three bytes refuses what reaches past its end, and what no file can reach.
+fn refuses_offsets(rt: &impl Abort, disk: &mut FileDisk) {
     let mut two = [0; 2];
-    assert_eq!(rt; disk.read_at(2, &mut two), FAILED);
-    assert_eq!(rt; disk.read_at(usize::MAX, &mut two), FAILED);
-    assert_eq!(rt; disk.write_at(usize::MAX, b"x"), FAILED);
-    assert_eq!(rt; disk.cut(usize::MAX), FAILED);
-    assert_eq!(rt; (disk.failures(), disk.len()), (4, Ok(3)));
-    fs::remove_file(&rt, SHORT)?;
-    Ok(())
+    is_failure(rt, disk.read_at(2, &mut two));
+    is_failure(rt, disk.read_at(usize::MAX, &mut two));
+    is_failure(rt, disk.write_at(usize::MAX, b"x"));
+    is_failure(rt, disk.cut(usize::MAX));
+    has_failed(rt, disk, 4);
+    is_long(rt, disk, 3);
 }

@@ -5,9 +5,8 @@ ghost use Rattle.std.specs.Prelude.{◌<◌};
 
 use super::model::Model;
 use linda_disk::{Disk, DiskFault, MemDisk, Torn};
-use std::alloc::Global;
+use std::alloc::{AllocError, Global};
 use std::process::Abort;
-use std::test::Fail;
 
 /// A generator of numbers that look random (xorshift).
 #[derive(Clone, Copy)]
@@ -34,7 +33,7 @@ impl Random {
     }
 
     /// A few bytes.
-    fn bytes(&mut self, alloc: Global) -> Result<Vec<u8>, Fail> {
+    fn bytes(&mut self, alloc: Global) -> Result<Vec<u8>, AllocError> {
         let mut bytes = Vec::new(alloc);
         for _ in 0..self.below(10) {
             bytes.push(b'a' + self.below(20) as u8)?;
@@ -120,7 +119,7 @@ struct Pair {
 
 impl Pair {
     /// An empty disk.
-    fn new(alloc: Global, random: &mut Random) -> Result<Pair, Fail> {
+    fn new(alloc: Global, random: &mut Random) -> Result<Pair, AllocError> {
         let mut disk = MemDisk::new(alloc);
         let plan = Plan::new(random, &mut disk);
         Ok(Pair {
@@ -133,7 +132,7 @@ impl Pair {
     }
 
     /// Writes on both, and answers whether the disk returns what it should.
-    fn write(&mut self, random: &mut Random) -> Result<bool, Fail> {
+    fn write(&mut self, random: &mut Random) -> Result<bool, AllocError> {
         let at = random.below(self.disk.bytes().len() + 1);
         let bytes = random.bytes(self.alloc)?;
         let goes = self.plan.call();
@@ -156,7 +155,7 @@ impl Pair {
     }
 
     /// Syncs both.
-    fn sync(&mut self) -> Result<bool, Fail> {
+    fn sync(&mut self) -> Result<bool, AllocError> {
         let goes = self.plan.call();
         if goes == Goes::Well {
             self.model.sync()?;
@@ -183,7 +182,7 @@ impl Pair {
     }
 
     /// Makes one call on both.
-    fn step(&mut self, random: &mut Random) -> Result<bool, Fail> {
+    fn step(&mut self, random: &mut Random) -> Result<bool, AllocError> {
         match random.below(10) {
             0..=4 => self.write(random),
             5..=6 => Ok(self.cut(random)),
@@ -193,22 +192,22 @@ impl Pair {
     }
 
     /// Makes a list of calls on both, and then both crash. Answers whether they agree.
-    fn round(&mut self, random: &mut Random, torn: Torn) -> Result<bool, Fail> {
+    fn round(&mut self, random: &mut Random, torn: Torn) -> Result<bool, AllocError> {
         for _ in 0..random.below(20) {
             if !self.step(random)? {
                 return Ok(false);
             }
         }
         let left = self.model.left(self.alloc, torn)?;
-        self.disk.crash(torn)?;
+        let crashed = self.disk.crash(torn).is_ok();
         self.model = Model::new(self.alloc, &left)?;
         self.plan = Plan::new(random, &mut self.disk);
-        Ok(self.disk.bytes() == self.model.seen())
+        Ok(crashed && self.disk.bytes() == self.model.seen())
     }
 }
 
 /// Plays lists of calls from this seed, each with a crash at its end.
-fn agrees(alloc: Global, seed: u64, torn: Torn) -> Result<bool, Fail> {
+fn agrees(alloc: Global, seed: u64, torn: Torn) -> Result<bool, AllocError> {
     let mut random = Random {
         state: seed.wrapping_mul(0x9e37_79b9_7f4a_7c15),
     };
@@ -222,7 +221,7 @@ fn agrees(alloc: Global, seed: u64, torn: Torn) -> Result<bool, Fail> {
 }
 
 /// Plays from each of 200 seeds: a thousand lists of calls.
-fn expect_all(rt: &impl Abort, alloc: Global, torn: Torn) -> Result<(), Fail> {
+fn expect_all(rt: &impl Abort, alloc: Global, torn: Torn) -> Result<(), AllocError> {
     for seed in 1..=200 {
         assert!(rt; agrees(alloc, seed, torn)?, "seed {seed}, {torn:?}");
     }
@@ -230,16 +229,16 @@ fn expect_all(rt: &impl Abort, alloc: Global, torn: Torn) -> Result<(), Fail> {
 }
 
 #[test]
-fn both_keep_the_same(rt: HostRuntime) -> Result<(), Fail> {
+fn both_keep_the_same(rt: HostRuntime) -> Result<(), AllocError> {
     expect_all(&rt, rt.alloc(), Torn::Kept)
 }
 
 #[test]
-fn both_lose_the_same(rt: HostRuntime) -> Result<(), Fail> {
+fn both_lose_the_same(rt: HostRuntime) -> Result<(), AllocError> {
     expect_all(&rt, rt.alloc(), Torn::Lost)
 }
 
 #[test]
-fn both_fill_the_same(rt: HostRuntime) -> Result<(), Fail> {
+fn both_fill_the_same(rt: HostRuntime) -> Result<(), AllocError> {
     expect_all(&rt, rt.alloc(), Torn::Filled(b'z'))
 }

@@ -9,7 +9,6 @@ use linda_disk::Torn;
 use linda_server::OpenFault;
 use std::alloc::{AllocError, Global};
 use std::process::Abort;
-use std::test::Fail;
 
 /// Does the step, and once more where memory ran out for the script.
 fn surely(alloc: Global, stand: &mut Stand, what: Do) -> Result<Told, AllocError> {
@@ -20,7 +19,7 @@ fn surely(alloc: Global, stand: &mut Stand, what: Do) -> Result<Told, AllocError
 }
 
 /// Makes the server; where there is no memory for that, what is opened on the disks is new, or nothing is.
-fn made(rt: &impl Abort, alloc: Global, stand: &mut Stand) -> Result<bool, Fail> {
+fn made(rt: &impl Abort, alloc: Global, stand: &mut Stand) -> Result<bool, AllocError> {
     let told = surely(alloc, stand, Do::Create(200))?;
     if told == EMPTY {
         return Ok(true);
@@ -35,7 +34,7 @@ fn made(rt: &impl Abort, alloc: Global, stand: &mut Stand) -> Result<bool, Fail>
 }
 
 /// Opens the server; where there is no memory for that, once more.
-fn opened(rt: &impl Abort, alloc: Global, stand: &mut Stand) -> Result<Told, Fail> {
+fn opened(rt: &impl Abort, alloc: Global, stand: &mut Stand) -> Result<Told, AllocError> {
     let told = surely(alloc, stand, Do::Open(200))?;
     if told != Told::Refused(OpenFault::Memory) {
         return Ok(told);
@@ -70,6 +69,19 @@ const ROWS: &[Row] = &[
 /// Where a client stands that left by its first message.
 const AWAY: Told = Told::Standing(1, true);
 
+/// This comes of a step.
+fn expect(
+    rt: &impl Abort,
+    alloc: Global,
+    stand: &mut Stand,
+    what: Do,
+    want: Told,
+) -> Result<(), AllocError> {
+    let told = surely(alloc, stand, what)?;
+    assert_eq!(rt; told, want, "{what:?}");
+    Ok(())
+}
+
 /// Does a step. Where there is no memory for it, the server is down, and opened again it keeps what it kept before, or
 /// what it keeps after the step; done again, the step gives what it does else.
 fn borne(
@@ -78,40 +90,59 @@ fn borne(
     stand: &mut Stand,
     before: Told,
     row: Row,
-) -> Result<(), Fail> {
+) -> Result<(), AllocError> {
     let (what, want, after) = row;
     let told = surely(alloc, stand, what)?;
     if told == want {
         return Ok(());
     }
     assert_eq!(rt; told, Told::Down, "{what:?}");
-    assert_eq!(rt; surely(alloc, stand, Do::Snapshot)?, Told::Down);
-    assert_eq!(rt; surely(alloc, stand, Do::Shut)?, Told::Done);
-    let kept = opened(rt, alloc, stand)?;
+    let kept = kept_by_a_server_that_is_down(rt, alloc, stand)?;
     assert!(rt; kept == before || kept == after, "{what:?} {kept:?}");
-    assert_eq!(rt; surely(alloc, stand, what)?, want, "{what:?}");
-    Ok(())
+    expect(rt, alloc, stand, what, want)
 }
 
-/// Does all steps, and opens the server once more at the end.
-fn all_borne(rt: &impl Abort, alloc: Global, stand: &mut Stand) -> Result<(), Fail> {
+/// The server stays down; what it keeps once it is opened again.
+fn kept_by_a_server_that_is_down(
+    rt: &impl Abort,
+    alloc: Global,
+    stand: &mut Stand,
+) -> Result<Told, AllocError> {
+    expect(rt, alloc, stand, Do::Snapshot, Told::Down)?;
+    expect(rt, alloc, stand, Do::Shut, Told::Done)?;
+    opened(rt, alloc, stand)
+}
+
+/// Does all steps, and gives what the server is to keep after them.
+fn all_borne(
+    rt: &impl Abort,
+    alloc: Global,
+    stand: &mut Stand,
+    rows: &[Row],
+) -> Result<Told, AllocError> {
     let mut before = EMPTY;
-    for row in ROWS {
+    for row in rows {
         borne(rt, alloc, stand, before, *row)?;
         let (_, _, after) = *row;
         before = after;
     }
-    assert_eq!(rt; surely(alloc, stand, Do::Shut)?, Told::Done);
+    Ok(before)
+}
+
+/// Does all steps, and opens the server once more at the end.
+fn played(rt: &impl Abort, alloc: Global, stand: &mut Stand) -> Result<(), AllocError> {
+    if !made(rt, alloc, stand)? {
+        return Ok(());
+    }
+    let last = all_borne(rt, alloc, stand, ROWS)?;
+    expect(rt, alloc, stand, Do::Shut, Told::Done)?;
     let kept = opened(rt, alloc, stand)?;
-    assert_eq!(rt; kept, before);
+    assert_eq!(rt; kept, last);
     Ok(())
 }
 
 #[test]
-fn want_of_memory_loses_nothing(rt: HostRuntime) -> Result<(), Fail> {
+fn want_of_memory_loses_nothing(rt: HostRuntime) -> Result<(), AllocError> {
     let mut stand = empty_stand(rt.alloc());
-    if made(&rt, rt.alloc(), &mut stand)? {
-        all_borne(&rt, rt.alloc(), &mut stand)?;
-    }
-    Ok(())
+    played(&rt, rt.alloc(), &mut stand)
 }
