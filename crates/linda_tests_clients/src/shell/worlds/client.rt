@@ -2,13 +2,13 @@
 //! it is made again, and then gives what it gives else. It is made to be run with each allocation refused, one after
 //! another; where the allocation is one of the test's own, the test fails and says that memory ran out.
 
-use linda_client::{Client, ClientFault, Reaction};
+use linda_client::{Client, ClientFault, Outcome, Reaction};
 use linda_script::write_message;
 use linda_shell::{read_event, write_outcome};
 use linda_text::read_tuple;
 use linda_tuple::Tuple;
-use linda_wire::Reply;
-use std::alloc::Global;
+use linda_wire::{Message, Reply};
+use std::alloc::{AllocError, Global};
 use std::process::Abort;
 use std::test::Fail;
 
@@ -85,26 +85,71 @@ fn made_at_last(alloc: Global, client: &mut Client, call: Call) -> Result<Reacti
 }
 
 /// The packets, each with its server, and the line of the outcome.
-fn in_words(alloc: Global, reaction: &Reaction) -> Result<String, Fail> {
+fn in_words(alloc: Global, reaction: &Reaction) -> Result<String, AllocError> {
     let mut words = String::new(alloc);
     for (server, message) in &reaction.packets {
-        let message = write_message(alloc, message)?;
-        write!(words, "{server} {message}; ")?;
+        push_packet(alloc, &mut words, *server, message)?;
     }
     if let Some(outcome) = &reaction.outcome {
-        words.push_str(&write_outcome(alloc, 7, outcome)?)?;
+        push_line(alloc, &mut words, outcome)?;
     }
     Ok(words)
+}
+
+fn push_packet(
+    alloc: Global,
+    words: &mut String,
+    server: u32,
+    message: &Message,
+) -> Result<(), AllocError> {
+    let message = write_message(alloc, message)?;
+    Ok(write!(words, "{server} {message}; ")?)
+}
+
+fn push_line(alloc: Global, words: &mut String, outcome: &Outcome) -> Result<(), AllocError> {
+    let line = write_outcome(alloc, 7, outcome)?;
+    Ok(words.push_str(&line)?)
 }
 
 /// Client 7 over two servers makes this of the calls.
 fn makes(rt: &impl Abort, alloc: Global, calls: &[(Call, &str)]) -> Result<(), Fail> {
     let mut client = Client::new(alloc, 7, 2)?;
+    makes_all(rt, alloc, &mut client, calls)
+}
+
+fn makes_all(
+    rt: &impl Abort,
+    alloc: Global,
+    client: &mut Client,
+    calls: &[(Call, &str)],
+) -> Result<(), Fail> {
     for (call, want) in calls {
-        let reaction = made_at_last(alloc, &mut client, *call)?;
-        let words = in_words(alloc, &reaction)?;
-        assert_eq!(rt; words.as_str(), *want);
+        makes_this(rt, alloc, client, *call, want)?;
     }
+    Ok(())
+}
+
+/// The client makes this of a call.
+fn makes_this(
+    rt: &impl Abort,
+    alloc: Global,
+    client: &mut Client,
+    call: Call,
+    want: &str,
+) -> Result<(), Fail> {
+    let reaction = made_at_last(alloc, client, call)?;
+    Ok(is_told(rt, alloc, &reaction, want)?)
+}
+
+/// The client's reaction is this, in words.
+fn is_told(
+    rt: &impl Abort,
+    alloc: Global,
+    reaction: &Reaction,
+    want: &str,
+) -> Result<(), AllocError> {
+    let words = in_words(alloc, reaction)?;
+    assert_eq!(rt; words.as_str(), want);
     Ok(())
 }
 

@@ -6,7 +6,7 @@ ghost use Rattle.linda_run.specs.Reached.{IsUnused};
 use linda_disk::MemDisk;
 use linda_server::Durable;
 use linda_store::{Node, Volatile};
-use linda_world::World;
+use linda_world::{World, WorldFault};
 use std::alloc::{AllocError, Global};
 use std::test::Fail;
 
@@ -39,8 +39,12 @@ fn with_clients<N: Node>(alloc: Global, node: N) -> Result<World<N>, Fail>
     let mut nodes = Vec::new(alloc);
     nodes.push(node)?;
     let mut world = World::new(alloc, nodes)?;
+    add_clients(alloc, &mut world)?;
+    Ok(world)
+}
+
+fn add_clients<N: Node>(alloc: Global, world: &mut World<N>) -> Result<(), WorldFault> {
     world.add_client(alloc, 7)?;
     world.add_client(alloc, 8)?;
-    world.add_client(alloc, 9)?;
-    Ok(world)
+    world.add_client(alloc, 9)
 }

@@ -40,23 +40,56 @@ fn counts<N: Node>(world: &World<N>) -> (usize, usize, usize) {
 fn goes_on<N: Node>(
     rt: &impl Abort,
     alloc: Global,
-    world: World<N>,
+    mut world: World<N>,
     opens_again: bool,
 ) -> Result<(), Fail> {
-    let mut world = world;
+    does_all(rt, alloc, &mut world, opens_again)
+}
+
+fn does_all<N: Node>(
+    rt: &impl Abort,
+    alloc: Global,
+    world: &mut World<N>,
+    opens_again: bool,
+) -> Result<(), Fail> {
     for step in &TAKES {
-        let before = counts(&world);
-        let event = event_of(alloc, *step)?;
-        if let Err(fault) = world.step(alloc, event) {
-            assert_eq!(rt; counts(&world), before);
-            is_over(rt, alloc, &mut world, fault);
-            if opens_again && fault == WorldFault::Down(0) {
-                is_opened(rt, alloc, &mut world)?;
-            }
-            return Ok(());
+        let before = counts(world);
+        if let Some(fault) = fault_of(alloc, world, *step)? {
+            shows(rt, world, before);
+            return is_borne(rt, alloc, world, fault, opens_again);
         }
     }
-    assert_eq!(rt; counts(&world), (6, 2, 1));
+    shows(rt, world, (6, 2, 1));
+    Ok(())
+}
+
+/// There are so many packets, deeds and tuples.
+fn shows<N: Node>(rt: &impl Abort, world: &World<N>, want: (usize, usize, usize)) {
+    assert_eq!(rt; counts(world), want);
+}
+
+/// Does a step, and tells the fault, if there is one.
+fn fault_of<N: Node>(
+    alloc: Global,
+    world: &mut World<N>,
+    step: Do,
+) -> Result<Option<WorldFault>, Fail> {
+    let event = event_of(alloc, step)?;
+    Ok(world.step(alloc, event).err())
+}
+
+/// The world goes no further, but for a server that may be opened again.
+fn is_borne<N: Node>(
+    rt: &impl Abort,
+    alloc: Global,
+    world: &mut World<N>,
+    fault: WorldFault,
+    opens_again: bool,
+) -> Result<(), Fail> {
+    is_over(rt, alloc, world, fault);
+    if opens_again && fault == WorldFault::Down(0) {
+        is_opened(rt, alloc, world)?;
+    }
     Ok(())
 }
 
@@ -73,11 +106,11 @@ fn fault_of_a_snapshot<N: Node>(alloc: Global, world: &mut World<N>) -> Option<W
 /// A stop opens the server, which has at most one deed more then, that of the call in which it went down.
 fn is_opened<N: Node>(rt: &impl Abort, alloc: Global, world: &mut World<N>) -> Result<(), Fail> {
     let (packets, deeds, given) = counts(world);
-    let told = world.step(alloc, event_of(alloc, Do::Stop(0, &[]))?);
-    assert!(rt; told.is_ok());
-    let (packets_now, deeds_now, given_now) = counts(world);
-    assert_eq!(rt; (packets_now, given_now), (packets, given));
+    let fault = fault_of(alloc, world, Do::Stop(0, &[]))?;
+    assert!(rt; fault.is_none());
+    let (_, deeds_now, _) = counts(world);
     assert!(rt; deeds_now == deeds || deeds_now == deeds.saturating_add(1));
+    shows(rt, world, (packets, deeds_now, given));
     Ok(())
 }
 
