@@ -1,10 +1,12 @@
 //! Calls over sockets of this machine, to servers in memory.
 
+use super::serves::{bound, free_port, tell_printed};
 use linda_caller::{CallFault, call};
 use linda_store::{Volatile, converse};
-use std::alloc::Global;
+use std::alloc::{AllocError, Global};
 use std::io::Read;
-use std::net::{Ipv4Addr, Net, SocketAddr, TcpListener, TcpStream};
+use std::net::{Net, TcpListener, TcpStream};
+use std::process::Abort;
 use std::sync::Wait;
 use std::thread::Threads;
 use std::time::Clock;
@@ -33,8 +35,7 @@ fn puts_takes_and_leaves_over_a_socket(rt: HostRuntime) -> io::Result<()> {
         calls: &calls,
         lost: 0,
     };
-    assert_eq!(rt; play(&rt, rt.alloc(), row)?.as_str(), told);
-    Ok(())
+    expect(&rt, rt.alloc(), row, told)
 }
 
 #[test]
@@ -55,8 +56,7 @@ fn ends_at_a_refusal_and_at_a_bad_line(rt: HostRuntime) -> io::Result<()> {
         calls: &calls,
         lost: 0,
     };
-    assert_eq!(rt; play(&rt, rt.alloc(), row)?.as_str(), told);
-    Ok(())
+    expect(&rt, rt.alloc(), row, told)
 }
 
 #[test]
@@ -67,52 +67,95 @@ fn greets_again_where_the_connection_is_lost(rt: HostRuntime) -> io::Result<()> 
         calls: &calls,
         lost: 2,
     };
-    assert_eq!(rt; play(&rt, rt.alloc(), row)?.as_str(), told);
-    Ok(())
+    expect(&rt, rt.alloc(), row, told)
 }
 
 #[test]
 fn tells_that_there_is_no_connection(rt: HostRuntime) -> io::Result<()> {
-    let port = TcpListener::bind(&rt, SocketAddr::from((Ipv4Addr::LOCALHOST, 0)))?
-        .local_addr()?
-        .port();
-    let mut lines = "out (\"a\", 3)\n".as_bytes();
-    let mut printed: Vec<u8> = Vec::new(rt.alloc());
-    let ended = call(&rt, rt.alloc(), &mut lines, &mut printed, 7, &[port]);
-    assert_eq!(rt; ended, Err(CallFault::NoConnection(0)));
+    let port = free_port(&rt)?;
+    assert_eq!(rt;
+        call_alone(&rt, rt.alloc(), port),
+        Err(CallFault::NoConnection(0))
+    );
     Ok(())
 }
 
-/// Plays the calls of a row over one server in memory. What they print; after what a call prints stands how it ends.
+// How a call of client 7 ends that prints nowhere.
+fn call_alone<S: Net<Listener = TcpListener, Stream = TcpStream> + Threads + Wait + Clock + Sync>(
+    rt: &S,
+    alloc: Global,
+    port: u16,
+) -> Result<(), CallFault> {
+    let mut lines = "out (\"a\", 3)\n".as_bytes();
+    let mut printed: Vec<u8> = Vec::new(alloc);
+    call(rt, alloc, &mut lines, &mut printed, 7, &[port])
+}
+
+/// The calls of a row over one server in memory print this; after what a call prints stands how it ends.
+fn expect<
+    S: Net<Listener = TcpListener, Stream = TcpStream> + Threads + Wait + Clock + Abort + Sync,
+>(rt: &S, alloc: Global, row: Row<'_>, want: &str) -> io::Result<()> {
+    let mut told = String::new(alloc);
+    play(rt, alloc, row, &mut told)?;
+    assert_eq!(rt; told.as_str(), want);
+    Ok(())
+}
+
+// Plays the calls of a row, and writes what they print.
 fn play<S: Net<Listener = TcpListener, Stream = TcpStream> + Threads + Wait + Clock + Sync>(
     rt: &S,
     alloc: Global,
     row: Row<'_>,
-) -> io::Result<String> {
-    let listener = TcpListener::bind(rt, SocketAddr::from((Ipv4Addr::LOCALHOST, 0)))?;
-    let port = listener.local_addr()?.port();
-    let lent = &listener;
+    told: &mut String,
+) -> io::Result<()> {
+    let (listener, port) = bound(rt)?;
+    play_over(rt, alloc, row, &listener, port, told)
+}
+
+// Plays them over this listener.
+fn play_over<S: Net<Listener = TcpListener, Stream = TcpStream> + Threads + Wait + Clock + Sync>(
+    rt: &S,
+    alloc: Global,
+    row: Row<'_>,
+    listener: &TcpListener,
+    port: u16,
+    told: &mut String,
+) -> io::Result<()> {
     let connections = row.calls.len();
     let lost = row.lost;
-    let mut told = String::new(alloc);
     thread::scope(thread::scope_env(), rt, |scope| {
         let _ = scope
-            .spawn(move || serve(alloc, lent, lost, connections))
+            .spawn(move || serve(alloc, listener, lost, connections))
             .is_err();
-        for (client, lines) in row.calls {
-            let mut text = lines.as_bytes();
-            let mut out: Vec<u8> = Vec::new(alloc);
-            let ended = call(rt, alloc, &mut text, &mut out, *client, &[port]);
-            if let Ok(printed) = std::str::from_utf8(&out) {
-                told.push_str(printed)?;
-            }
-            match ended {
-                Ok(()) => told.push_str("end\n")?,
-                Err(fault) => writeln!(told, "{fault}")?,
-            }
-        }
-        Ok(told)
+        call_all(rt, alloc, row.calls, port, told)?;
+        Ok(())
     })
+}
+
+// Makes the calls, one after the other.
+fn call_all<S: Net<Listener = TcpListener, Stream = TcpStream> + Threads + Wait + Clock + Sync>(
+    rt: &S,
+    alloc: Global,
+    calls: &[(u32, &str)],
+    port: u16,
+    told: &mut String,
+) -> Result<(), AllocError> {
+    for (client, lines) in calls {
+        let mut text = lines.as_bytes();
+        let mut out: Vec<u8> = Vec::new(alloc);
+        let ended = call(rt, alloc, &mut text, &mut out, *client, &[port]);
+        tell_printed(&out, told)?;
+        tell_end(ended, told)?;
+    }
+    Ok(())
+}
+
+// How a call ends.
+fn tell_end(ended: Result<(), CallFault>, told: &mut String) -> Result<(), AllocError> {
+    match ended {
+        Ok(()) => Ok(told.push_str("end\n")?),
+        Err(fault) => Ok(writeln!(told, "{fault}")?),
+    }
 }
 
 // Ends so many connections after their Hello, and then serves so many, one after the other.

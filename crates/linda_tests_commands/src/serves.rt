@@ -3,6 +3,8 @@
 use linda_bag::Bag;
 use linda_book::KeptReply;
 use linda_caller::{CallFault, call};
+use linda_disk::FileDisk;
+use linda_server::Durable;
 use linda_service::{ServingFault, open_store, serve_folder};
 use linda_text::write_tuple;
 use std::alloc::{AllocError, Global};
@@ -20,44 +22,66 @@ const FOLDER: &str = "linda_test_folder";
 
 const LINES: &str = "out (\"a\", 3)\nsync in (\"a\", ?i)\n";
 
+/// What is told of a folder that was served to one call, and opened again.
+const TOLD: &str =
+    "7 stored 0 1\n7 took 0 1 (\"a\", 3) binds [3] labels [] raised []\ncall ends\nserver ends\n\
+    next 2 tuples 0 clients 1\n\
+    7 2 took 1 (\"a\", 3)\n\
+    store: in use\n";
+
 #[test]
 fn serves_a_folder_that_keeps_what_was_done(rt: HostRuntime) -> io::Result<()> {
-    let alloc = rt.alloc();
     fs::create_dir(&rt, FOLDER)?;
-    let told = served(&rt, &rt, alloc)?;
-    let kept = kept(&rt, alloc);
+    let told = served_and_kept(&rt, &rt, rt.alloc());
     fs::remove_dir_all(&rt, FOLDER)?;
-    assert_eq!(rt;
-        told.as_str(),
-        "7 stored 0 1\n7 took 0 1 (\"a\", 3) binds [3] labels [] raised []\ncall ends\nserver ends\n"
-    );
-    assert_eq!(rt;
-        kept?.as_str(),
-        "next 2 tuples 0 clients 1\n\
-        7 2 took 1 (\"a\", 3)\n\
-        store: in use\n"
-    );
+    let told = told?;
+    assert_eq!(rt; told.as_str(), TOLD);
     Ok(())
+}
+
+// What is told while the folder is served, and of what it keeps after that.
+fn served_and_kept<
+    F: Files<File = File>,
+    S: Net<Listener = TcpListener, Stream = TcpStream> + Threads + Wait + Clock + Sync,
+>(files: &F, rt: &S, alloc: Global) -> io::Result<String> {
+    let mut told = String::new(alloc);
+    served(files, rt, alloc, &mut told)?;
+    tell_kept(files, alloc, &mut told)?;
+    Ok(told)
 }
 
 // What a call prints to a server on the folder, which ends after it, and how both end.
 fn served<
     F: Files<File = File>,
     S: Net<Listener = TcpListener, Stream = TcpStream> + Threads + Wait + Clock + Sync,
->(files: &F, rt: &S, alloc: Global) -> io::Result<String> {
+>(files: &F, rt: &S, alloc: Global, told: &mut String) -> io::Result<()> {
     let port = free_port(rt)?;
     let printed: Mutex<Vec<u8>> = Mutex::new(Vec::new(alloc));
     let ended = serve_and_call(files, rt, alloc, port, &printed);
-    let printed: Vec<u8> = printed.into_inner();
-    let mut told = String::new(alloc);
-    if let Ok(text) = std::str::from_utf8(printed.as_slice()) {
-        told.push_str(text)?;
+    tell_printed(&printed.into_inner(), told)?;
+    tell_end(ended, told)?;
+    Ok(())
+}
+
+// What a call printed, where that is text.
+pub(super) fn tell_printed(printed: &[u8], told: &mut String) -> Result<(), AllocError> {
+    match std::str::from_utf8(printed) {
+        Ok(text) => Ok(told.push_str(text)?),
+        Err(_) => Ok(()),
     }
+}
+
+// How a server ends.
+fn tell_end(ended: Result<(), ServingFault>, told: &mut String) -> Result<(), AllocError> {
     match ended {
-        Ok(()) => told.push_str("server ends\n")?,
-        Err(fault) => writeln!(told, "{fault}")?,
+        Ok(()) => Ok(told.push_str("server ends\n")?),
+        Err(fault) => tell_fault(&fault, told),
     }
-    Ok(told)
+}
+
+// Why a folder is not served, or not opened.
+fn tell_fault(fault: &ServingFault, told: &mut String) -> Result<(), AllocError> {
+    Ok(writeln!(told, "{fault}")?)
 }
 
 // Serves the folder on this port, while a thread calls the server.
@@ -88,44 +112,93 @@ fn call_server<S: Net<Listener = TcpListener, Stream = TcpStream> + Threads + Wa
     printed: &Mutex<Vec<u8>>,
 ) {
     for _ in 0..TRIES {
-        let mut text = LINES.as_bytes();
         let mut out: Vec<u8> = Vec::new(alloc);
+        let mut text = LINES.as_bytes();
         let ended = call(rt, alloc, &mut text, &mut out, 7, &[port]);
-        if ended == Err(CallFault::NoConnection(0)) {
-            thread::sleep(rt, Duration::from_millis(1));
-        } else {
-            if ended.is_ok() {
-                let _ = out.extend_from_slice("call ends\n".as_bytes()).is_err();
-            }
+        if ended != Err(CallFault::NoConnection(0)) {
+            push_end(ended, &mut out);
             *printed.lock(rt) = out;
             return;
         }
+        thread::sleep(rt, Duration::from_millis(1));
+    }
+}
+
+// Writes that a call ended well, if it did.
+fn push_end(ended: Result<(), CallFault>, out: &mut Vec<u8>) {
+    if ended.is_ok() {
+        let _ = out.extend_from_slice("call ends\n".as_bytes()).is_err();
     }
 }
 
 // A port that nobody listens on.
-fn free_port<S: Net<Listener = TcpListener, Stream = TcpStream>>(rt: &S) -> io::Result<u16> {
+pub(super) fn free_port<S: Net<Listener = TcpListener, Stream = TcpStream>>(
+    rt: &S,
+) -> io::Result<u16> {
+    let (_, port) = bound(rt)?;
+    Ok(port)
+}
+
+// A listener of this machine, and its port.
+pub(super) fn bound<S: Net<Listener = TcpListener, Stream = TcpStream>>(
+    rt: &S,
+) -> io::Result<(TcpListener, u16)> {
     let listener = TcpListener::bind(rt, SocketAddr::from((Ipv4Addr::LOCALHOST, 0)))?;
-    Ok(listener.local_addr()?.port())
+    let port = listener.local_addr()?.port();
+    Ok((listener, port))
 }
 
 // What the folder keeps, and that it is in use while it is open.
-fn kept<S: Files<File = File>>(rt: &S, alloc: Global) -> Result<String, AllocError> {
-    let mut told = String::new(alloc);
+fn tell_kept<S: Files<File = File>>(
+    rt: &S,
+    alloc: Global,
+    told: &mut String,
+) -> Result<(), AllocError> {
     match open_store(rt, alloc, FOLDER) {
-        Ok(server) => {
-            let state = server.state();
-            let (next, tuples, clients) = (state.next, state.bag.len(), state.book.len());
-            writeln!(told, "next {next} tuples {tuples} clients {clients}")?;
-            if let Some((n, KeptReply::Taken(id, tuple))) = state.book.kept(7) {
-                writeln!(told, "7 {n} took {id} {}", write_tuple(alloc, tuple)?)?;
-            }
-            match open_store(rt, alloc, FOLDER) {
-                Ok(_) => told.push_str("open\n")?,
-                Err(fault) => writeln!(told, "{fault}")?,
-            }
-        }
-        Err(fault) => writeln!(told, "{fault}")?,
+        Ok(server) => tell_server(rt, alloc, &server, told),
+        Err(fault) => tell_fault(&fault, told),
     }
-    Ok(told)
+}
+
+// What the server keeps, while it is open.
+fn tell_server<S: Files<File = File>>(
+    rt: &S,
+    alloc: Global,
+    server: &Durable<FileDisk>,
+    told: &mut String,
+) -> Result<(), AllocError> {
+    let state = server.state();
+    let counts = (state.next, state.bag.len(), state.book.len());
+    tell_state(alloc, counts, state.book.kept(7), told)?;
+    tell_open(rt, alloc, told)
+}
+
+// The next id, how many tuples and clients there are, and what client 7 took last.
+fn tell_state(
+    alloc: Global,
+    counts: (u64, usize, usize),
+    last: Option<(u64, &KeptReply)>,
+    told: &mut String,
+) -> Result<(), AllocError> {
+    let (next, tuples, clients) = counts;
+    writeln!(told, "next {next} tuples {tuples} clients {clients}")?;
+    match last {
+        Some((n, KeptReply::Taken(id, tuple))) => {
+            let tuple = write_tuple(alloc, tuple)?;
+            Ok(writeln!(told, "7 {n} took {id} {tuple}")?)
+        }
+        _ => Ok(()),
+    }
+}
+
+// Whether the folder may be opened.
+fn tell_open<S: Files<File = File>>(
+    rt: &S,
+    alloc: Global,
+    told: &mut String,
+) -> Result<(), AllocError> {
+    match open_store(rt, alloc, FOLDER).err() {
+        None => Ok(told.push_str("open\n")?),
+        Some(fault) => tell_fault(&fault, told),
+    }
 }
