@@ -1,3 +1,4 @@
+pub mod CommandLaws
 pub mod ParsingLaws
 mod LongSpellingLaws
 pub mod RunWalkLaws

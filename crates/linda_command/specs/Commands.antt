@@ -3,9 +3,11 @@ use Rattle.std.specs.Prelude.{◌≡◌, ◌≢◌, ◌<◌, ◌≤◌, ◌⊎�
 use Rattle.std.specs.Prelude.{List, [], ◌∷◌, ◌++◌, length, Option, Some, IfSome, pos}
 use Rattle.std.specs.Prelude.{codes, Result, IsErrAnd}
 use Rattle.std.specs.Str.Parse.{IsNumeral, digits_value, without_leading_plus}
-use Rattle.clap.specs.Words.{App, Kinds, Rule, HasKind, new_app, new_rule, with_rule, with_subcommand}
+use Rattle.clap.specs.Words.{App, Kinds, Rule, HasKind, app_of, new_app, new_rule, with_rule, with_subcommand}
 use Rattle.clap.specs.Simple.{on_top}
 use Rattle.clap.specs.declared.builder.action.ArgAction.TheVariants.{Set, SetTrue}
+use Rattle.clap.specs.declared.builder.command.Command.{Command}
+use Rattle.clap.specs.declared.builder.command.Command.TheViews.{out-Command as fields_of}
 use Rattle.clap.specs.declared.builder.value_parser.ValueParser.TheVariants as parsers
 use Rattle.clap.specs.declared.error.Error.{Error}
 use Rattle.clap.specs.declared.error.kind.ErrorKind.TheVariants as kinds
@@ -15,110 +17,117 @@ use Rattle.linda_command.specs.declared.command.Task.{Task}
 use Rattle.linda_command.specs.declared.command.Task.TheVariants as tasks
 use Rattle.linda_client.specs.declared.limits.TheConstants.{MAX_SERVERS}
 
--- the option `--servers`, which must be there, with a number from 1 to the most servers
-abbrev pub servers_rule : Rule
-servers_rule = record (new_rule (codes "servers")) {
-  long = Some (codes "servers");
+-- an option of this name, which may be there, with a value
+abbrev pub option_rule : List ℕ → Rule
+option_rule name = record (new_rule name) {
+  long = Some name;
+  value_names = 1;
+  action = Some Set;
+}
+
+-- an option of this name, which may be there, and stands alone
+abbrev pub flag_rule : List ℕ → Rule
+flag_rule name = record (new_rule name) {
+  long = Some name;
+  action = Some SetTrue;
+}
+
+-- words of this name, of which there must be one at least
+abbrev pub word_rule : List ℕ → Rule
+word_rule name = record (new_rule name) {
   value_names = 1;
   required = true;
   action = Some Set;
+}
+
+-- the option `--servers`, which must be there, with a number from 1 to the most servers
+abbrev pub servers_rule : Rule
+servers_rule = record (option_rule (codes "servers")) {
+  required = true;
   parser = Some (parsers.Signed (pos 1) (pos MAX_SERVERS));
 }
 
 -- the option `--trace`, which may be there, with a text
 abbrev pub trace_rule : Rule
-trace_rule = record (new_rule (codes "trace")) {
-  long = Some (codes "trace");
-  value_names = 1;
-  action = Some Set;
-}
+trace_rule = option_rule (codes "trace")
 
 -- the option `--client`, which must be there, with a number of 32 bits
 abbrev pub client_rule : Rule
-client_rule = record (new_rule (codes "client")) {
-  long = Some (codes "client");
-  value_names = 1;
+client_rule = record (option_rule (codes "client")) {
   required = true;
-  action = Some Set;
   parser = Some (parsers.Signed (pos 0) (pos 4294967295));
 }
 
 -- the words that name ports, of which there must be as many as servers there may be, and one at least
 abbrev pub ports_rule : Rule
-ports_rule = record (new_rule (codes "ports")) {
-  value_names = 1;
-  required = true;
-  action = Some Set;
+ports_rule = record (word_rule (codes "ports")) {
   range = Some (record { start_inclusive = 1; end_inclusive = MAX_SERVERS });
   parser = Some (parsers.Signed (pos 1) (pos 65535));
 }
 
 -- the option `--port`, which must be there, with a number of 16 bits
 abbrev pub port_rule : Rule
-port_rule = record (new_rule (codes "port")) {
-  long = Some (codes "port");
-  value_names = 1;
+port_rule = record (option_rule (codes "port")) {
   required = true;
-  action = Some Set;
   parser = Some (parsers.Signed (pos 0) (pos 65535));
 }
 
 -- the option `--dir`, which must be there, with a text
 abbrev pub dir_rule : Rule
-dir_rule = record (new_rule (codes "dir")) {
-  long = Some (codes "dir");
-  value_names = 1;
-  required = true;
-  action = Some Set;
-}
+dir_rule = record (option_rule (codes "dir")) { required = true }
 
 -- the option `--sessions`, which may be there, with a number of 32 bits
 abbrev pub sessions_rule : Rule
-sessions_rule = record (new_rule (codes "sessions")) {
-  long = Some (codes "sessions");
-  value_names = 1;
-  action = Some Set;
+sessions_rule = record (option_rule (codes "sessions")) {
   parser = Some (parsers.Signed (pos 0) (pos 4294967295));
 }
 
 -- the option `--log`, which may be there, and stands alone
 abbrev pub log_rule : Rule
-log_rule = record (new_rule (codes "log")) {
-  long = Some (codes "log");
-  action = Some SetTrue;
-}
+log_rule = flag_rule (codes "log")
 
 -- the word that names the folder of a store, which must be there
 abbrev pub folder_rule : Rule
-folder_rule = record (new_rule (codes "dir")) {
-  value_names = 1;
-  required = true;
-  action = Some Set;
-}
+folder_rule = word_rule (codes "dir")
 
 -- the option `--tuples`, which may be there, and stands alone
 abbrev pub tuples_rule : Rule
-tuples_rule = record (new_rule (codes "tuples")) {
-  long = Some (codes "tuples");
-  action = Some SetTrue;
-}
+tuples_rule = flag_rule (codes "tuples")
 
 -- the option `--clients`, which may be there, and stands alone
 abbrev pub clients_rule : Rule
-clients_rule = record (new_rule (codes "clients")) {
-  long = Some (codes "clients");
-  action = Some SetTrue;
-}
+clients_rule = flag_rule (codes "clients")
+
+-- The commands below the program's own, as the parser has them.
+abbrev pub pipe_command : App
+pipe_command = new_app (codes "pipe")
+
+abbrev pub run_command : App
+run_command = with_rule (with_rule (new_app (codes "run")) servers_rule) trace_rule
+
+abbrev pub call_command : App
+call_command = with_rule (with_rule (new_app (codes "call")) client_rule) ports_rule
+
+abbrev pub serve_command : App
+serve_command = with_rule (with_rule (with_rule (with_rule (new_app (codes "serve")) port_rule) dir_rule) sessions_rule)
+    log_rule
+
+abbrev pub inspect_command : App
+inspect_command = with_rule (with_rule (with_rule (new_app (codes "inspect")) folder_rule) tuples_rule) clients_rule
+
+-- the program's command with none below it: it wants one
+abbrev pub bare_linda : App
+bare_linda = on_top (λ s. record s { subcommand_required = true }) (new_app (codes "linda"))
 
 -- The program's command as the parser has it: it wants a command below it, `pipe`, `run`, `call`, `serve` or `inspect`.
 abbrev pub linda : App
-linda = with_subcommand (with_subcommand (with_subcommand (with_subcommand (with_subcommand
-    (on_top (λ s. record s { subcommand_required = true }) (new_app (codes "linda"))) (new_app (codes "pipe")).top)
-    (with_rule (with_rule (new_app (codes "run")) servers_rule) trace_rule).top)
-    (with_rule (with_rule (new_app (codes "call")) client_rule) ports_rule).top)
-    (with_rule (with_rule (with_rule (with_rule (new_app (codes "serve")) port_rule) dir_rule) sessions_rule)
-    log_rule).top)
-    (with_rule (with_rule (with_rule (new_app (codes "inspect")) folder_rule) tuples_rule) clients_rule).top
+linda = with_subcommand (with_subcommand (with_subcommand (with_subcommand (with_subcommand bare_linda
+    pipe_command.top) run_command.top) call_command.top) serve_command.top) inspect_command.top
+
+-- The command is this one, and has no argument that goes for the commands below it too.
+pub record IsCommand (app : App) (command : Command) : Type 0 where
+  pub is : app_of command ≡ app
+  pub local : (fields_of command).has_globals ≡ false
 
 -- no word, or the `--` that ends options
 abbrev pub IsEnd : List (List ℕ) → Type 0

@@ -7,13 +7,13 @@ ghost use Rattle.std.specs.Prelude.{◌≡◌, ℕ, List, [], Some, None, false,
 ghost use Rattle.std.specs.String.{string_bytes};
 ghost use Rattle.clap.specs.Lexer.{without_minus};
 ghost use Rattle.clap.specs.Matches.{first_value, one_text, subcommand_name_of};
-ghost use Rattle.clap.specs.Words.{Kinds, app_of, fault_of, found_of, kind_of, rule_of};
-ghost use Rattle.clap.specs.Words.{subcommand_of, subcommand_rows_of};
+ghost use Rattle.clap.specs.Words.{App, Kinds, app_of, fault_of, found_of, kind_of, new_app, rule_of};
+ghost use Rattle.clap.specs.Words.{subcommand_of, subcommand_rows_of, with_subcommand};
+ghost use Rattle.linda_command.specs.Commands as spec;
 ghost use Rattle.linda_command.specs.Commands.{AsksExactlyFor, AsksFor, AsksForPipe, AsksForRun, HasServers, Spells};
-ghost use Rattle.linda_command.specs.Commands.{IsCall, IsInspect, IsRefusedAs, IsServe, IsTracedRun, Refuses, client_rule};
-ghost use Rattle.linda_command.specs.Commands.{clients_rule, trace_rule};
-ghost use Rattle.linda_command.specs.Commands.{dir_rule, folder_rule, linda, port_rule, ports_rule, servers_rule};
-ghost use Rattle.linda_command.specs.Commands.{log_rule, sessions_rule, tuples_rule};
+ghost use Rattle.linda_command.specs.Commands.{IsCall, IsCommand, IsInspect, IsRefusedAs, IsServe, IsTracedRun};
+ghost use Rattle.linda_command.specs.Commands.{Refuses, client_rule, dir_rule, flag_rule, linda, option_rule};
+ghost use Rattle.linda_command.specs.Commands.{port_rule, ports_rule, servers_rule, sessions_rule, word_rule};
 ghost use Rattle.linda_command.specs.declared.command.Task.TheVariants as tasks;
 
 use clap::error::ErrorKind;
@@ -203,43 +203,76 @@ fn inspect_of(alloc: Global, below: &ArgMatches) -> Result<Option<Task>, AllocEr
 fn command<'a>(alloc: Global) -> Result<Command<'a>, AllocError>
     ensures { IfOk result (λ c. app_of c ≡ linda) }
 {
-    let pipe = Command::new(alloc, PIPE).about(
-        "Serve one connection over lines of hexadecimal digits",
-    );
-    let run = Command::new(alloc, RUN)
-        .about("Play a script from standard input with servers in memory")
-        .after_help(SCRIPT)
-        .arg(servers(alloc))?
-        .arg(trace_option(alloc))?;
-    let call = Command::new(alloc, CALL)
-        .about("Put and take tuples at servers that listen on ports of this machine")
-        .after_help(LINES)
-        .arg(client(alloc))?
-        .arg(port_words(alloc))?;
-    let serve = Command::new(alloc, SERVE)
-        .about("Serve the store in a folder on a port of this machine")
-        .after_help(SERVING)
+    let bare = bare_command(alloc, "linda", "A tuple space", VERSION).subcommand_required(true);
+    let piping = bare.subcommand(pipe_command(alloc))?;
+    let running = with_command(piping, run_command(alloc))?;
+    let calling = with_command(running, call_command(alloc))?;
+    let serving = with_command(calling, serve_command(alloc))?;
+    with_command(serving, inspect_command(alloc))
+}
+
+// The command with one more below it, if there was memory for that.
+fn with_command<'a>(
+    command: Command<'a>,
+    below: Result<Command<'a>, AllocError>,
+) -> Result<Command<'a>, AllocError>
+    ensures { (app : App) → IfOk below.entry (IsCommand app)
+        → IfOk result (λ c. app_of c ≡ with_subcommand (app_of command.entry) app.top) }
+{
+    command.subcommand(below?)
+}
+
+// A command of this name with no argument.
+fn bare_command<'a>(alloc: Global, name: &'a str, about: &'a str, after: &'a str) -> Command<'a>
+    ensures { IsCommand (new_app name.entry.now) result }
+{
+    Command::new(alloc, name).about(about).after_help(after)
+}
+
+// The command that serves standard input and output.
+fn pipe_command<'a>(alloc: Global) -> Command<'a>
+    ensures { IsCommand spec.pipe_command result }
+{
+    Command::new(alloc, PIPE).about("Serve one connection over lines of hexadecimal digits")
+}
+
+// The command that plays a script.
+fn run_command<'a>(alloc: Global) -> Result<Command<'a>, AllocError>
+    ensures { IfOk result (IsCommand spec.run_command) }
+{
+    let about = "Play a script from standard input with servers in memory";
+    let trace = option(alloc, TRACE, "FILE", "Write what happened to this file, a line an event");
+    bare_command(alloc, RUN, about, SCRIPT).arg(servers(alloc))?.arg(trace)
+}
+
+// The command of a client.
+fn call_command<'a>(alloc: Global) -> Result<Command<'a>, AllocError>
+    ensures { IfOk result (IsCommand spec.call_command) }
+{
+    let about = "Put and take tuples at servers that listen on ports of this machine";
+    bare_command(alloc, CALL, about, LINES).arg(client(alloc))?.arg(port_words(alloc))
+}
+
+// The command that serves a folder.
+fn serve_command<'a>(alloc: Global) -> Result<Command<'a>, AllocError>
+    ensures { IfOk result (IsCommand spec.serve_command) }
+{
+    bare_command(alloc, SERVE, "Serve the store in a folder on a port of this machine", SERVING)
         .arg(port_option(alloc))?
         .arg(dir_option(alloc))?
         .arg(sessions_option(alloc))?
-        .arg(log_flag(alloc))?;
-    let inspect = Command::new(alloc, INSPECT)
-        .about(
-            "Tell what the store in a folder holds, and whether it would be served; nothing is written",
-        )
-        .after_help(INSPECTING)
-        .arg(folder_word(alloc))?
-        .arg(tuples_flag(alloc))?
-        .arg(clients_flag(alloc))?;
-    Command::new(alloc, "linda")
-        .about("A tuple space")
-        .after_help(VERSION)
-        .subcommand_required(true)
-        .subcommand(pipe)?
-        .subcommand(run)?
-        .subcommand(call)?
-        .subcommand(serve)?
-        .subcommand(inspect)
+        .arg(flag(alloc, LOG, "Write a log to standard error: a line a minute, and one at each event"))
+}
+
+// The command that says what a folder holds.
+fn inspect_command<'a>(alloc: Global) -> Result<Command<'a>, AllocError>
+    ensures { IfOk result (IsCommand spec.inspect_command) }
+{
+    let about = "Tell what the store in a folder holds, and whether it would be served; nothing is written";
+    bare_command(alloc, INSPECT, about, INSPECTING)
+        .arg(word(alloc, DIR, "DIR", "The folder of the store"))?
+        .arg(flag(alloc, TUPLES, "A line for each tuple"))?
+        .arg(flag(alloc, CLIENTS, "A line for each client, with its kept reply"))
 }
 
 // The option that says how many servers there are.
@@ -247,25 +280,9 @@ fn servers<'a>(alloc: Global) -> Arg<'a>
     ensures rule { rule_of result ≡ servers_rule }
     ensures own { result.global ≡ false }
 {
-    Arg::new(alloc, SERVERS)
-        .long(SERVERS)
-        .value_name("N")
-        .help("How many servers, from 1 to 16")
+    option(alloc, SERVERS, "N", "How many servers, from 1 to 16")
         .required(true)
-        .action(ArgAction::Set)
         .value_parser(value_parser!(u32).range(1..=i64::from(MAX_SERVERS)))
-}
-
-// The option that names the file of the trace.
-fn trace_option<'a>(alloc: Global) -> Arg<'a>
-    ensures rule { rule_of result ≡ trace_rule }
-    ensures own { result.global ≡ false }
-{
-    Arg::new(alloc, TRACE)
-        .long(TRACE)
-        .value_name("FILE")
-        .help("Write what happened to this file, a line an event")
-        .action(ArgAction::Set)
 }
 
 // The option that says which client it is.
@@ -273,12 +290,8 @@ fn client<'a>(alloc: Global) -> Arg<'a>
     ensures rule { rule_of result ≡ client_rule }
     ensures own { result.global ≡ false }
 {
-    Arg::new(alloc, CLIENT)
-        .long(CLIENT)
-        .value_name("C")
-        .help("Which client it is, a number that no other client has")
+    option(alloc, CLIENT, "C", "Which client it is, a number that no other client has")
         .required(true)
-        .action(ArgAction::Set)
         .value_parser(value_parser!(u32))
 }
 
@@ -287,11 +300,7 @@ fn port_words<'a>(alloc: Global) -> Arg<'a>
     ensures rule { rule_of result ≡ ports_rule }
     ensures own { result.global ≡ false }
 {
-    Arg::new(alloc, PORTS)
-        .value_name("PORT")
-        .help("Where servers 0, 1, .. listen, from 1 to 16 of them")
-        .required(true)
-        .action(ArgAction::Set)
+    word(alloc, PORTS, "PORT", "Where servers 0, 1, .. listen, from 1 to 16 of them")
         .num_args(1..=MAX_SERVERS as usize)
         .value_parser(value_parser!(u16).range(1..))
 }
@@ -301,12 +310,8 @@ fn port_option<'a>(alloc: Global) -> Arg<'a>
     ensures rule { rule_of result ≡ port_rule }
     ensures own { result.global ≡ false }
 {
-    Arg::new(alloc, PORT)
-        .long(PORT)
-        .value_name("P")
-        .help("Where the server listens; 0 for any free port")
+    option(alloc, PORT, "P", "Where the server listens; 0 for any free port")
         .required(true)
-        .action(ArgAction::Set)
         .value_parser(value_parser!(u16))
 }
 
@@ -315,12 +320,8 @@ fn dir_option<'a>(alloc: Global) -> Arg<'a>
     ensures rule { rule_of result ≡ dir_rule }
     ensures own { result.global ≡ false }
 {
-    Arg::new(alloc, DIR)
-        .long(DIR)
-        .value_name("D")
-        .help("The folder of the store, which is created in it where there is none")
-        .required(true)
-        .action(ArgAction::Set)
+    let help = "The folder of the store, which is created in it where there is none";
+    option(alloc, DIR, "D", help).required(true)
 }
 
 // The option that says after how many connections the server ends.
@@ -328,57 +329,31 @@ fn sessions_option<'a>(alloc: Global) -> Arg<'a>
     ensures rule { rule_of result ≡ sessions_rule }
     ensures own { result.global ≡ false }
 {
-    Arg::new(alloc, SESSIONS)
-        .long(SESSIONS)
-        .value_name("K")
-        .help("End after so many connections")
-        .action(ArgAction::Set)
-        .value_parser(value_parser!(u32))
+    option(alloc, SESSIONS, "K", "End after so many connections").value_parser(value_parser!(u32))
 }
 
-// The option that asks for a log.
-fn log_flag<'a>(alloc: Global) -> Arg<'a>
-    ensures rule { rule_of result ≡ log_rule }
+// An option of this name, with a value that help calls so.
+fn option<'a>(alloc: Global, name: &'a str, value: &'a str, help: &'a str) -> Arg<'a>
+    ensures rule { rule_of result ≡ option_rule name.entry.now }
     ensures own { result.global ≡ false }
 {
-    Arg::new(alloc, LOG)
-        .long(LOG)
-        .help("Write a log to standard error: a line a minute, and one at each event")
-        .action(ArgAction::SetTrue)
+    Arg::new(alloc, name).long(name).value_name(value).help(help).action(ArgAction::Set)
 }
 
-// The word that names the folder of a store.
-fn folder_word<'a>(alloc: Global) -> Arg<'a>
-    ensures rule { rule_of result ≡ folder_rule }
+// An option of this name that stands alone.
+fn flag<'a>(alloc: Global, name: &'a str, help: &'a str) -> Arg<'a>
+    ensures rule { rule_of result ≡ flag_rule name.entry.now }
     ensures own { result.global ≡ false }
 {
-    Arg::new(alloc, DIR)
-        .value_name("DIR")
-        .help("The folder of the store")
-        .required(true)
-        .action(ArgAction::Set)
+    Arg::new(alloc, name).long(name).help(help).action(ArgAction::SetTrue)
 }
 
-// The option that asks for a line for each tuple.
-fn tuples_flag<'a>(alloc: Global) -> Arg<'a>
-    ensures rule { rule_of result ≡ tuples_rule }
+// A word that must be there, which help calls so.
+fn word<'a>(alloc: Global, name: &'a str, value: &'a str, help: &'a str) -> Arg<'a>
+    ensures rule { rule_of result ≡ word_rule name.entry.now }
     ensures own { result.global ≡ false }
 {
-    Arg::new(alloc, TUPLES)
-        .long(TUPLES)
-        .help("A line for each tuple")
-        .action(ArgAction::SetTrue)
-}
-
-// The option that asks for a line for each client.
-fn clients_flag<'a>(alloc: Global) -> Arg<'a>
-    ensures rule { rule_of result ≡ clients_rule }
-    ensures own { result.global ≡ false }
-{
-    Arg::new(alloc, CLIENTS)
-        .long(CLIENTS)
-        .help("A line for each client, with its kept reply")
-        .action(ArgAction::SetTrue)
+    Arg::new(alloc, name).value_name(value).help(help).required(true).action(ArgAction::Set)
 }
 
 const PIPE: &str = "pipe";
