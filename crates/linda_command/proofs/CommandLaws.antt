@@ -1,13 +1,11 @@
 -- How a command is put together.
-use Rattle.std.proofs.Common.{◌≡◌, ◌∙◌, ◌||◌, Bool, List, ℕ, ap, ap₂, false, sym}
-use Rattle.std.specs.Prelude.{Result, Ok, Err, IfOk}
+use Rattle.std.proofs.Common.{◌≡◌, ◌∙◌, ◌||◌, Bool, ap, ap₂, false}
+use Rattle.std.specs.Prelude.{Result, IfOk}
 use Rattle.std.proofs.lemmas.Result.{IfOk-weaker}
-use Rattle.clap.specs.Words.{AddsArg, AddsSubcommand, App, Rule, app_of, new_app, rule_of, with_rule, with_subcommand}
-use Rattle.clap.specs.Simple.{app_of_fields}
+use Rattle.clap.specs.Words.{AddsArg, AddsSubcommand, App, Rule, app_of, rule_of, with_rule, with_subcommand}
 use Rattle.clap.specs.declared.builder.arg.Arg.{Arg}
 use Rattle.clap.specs.declared.builder.command.Command.{Command}
 use Rattle.clap.specs.declared.builder.command.Command.TheOpen.{Command-F}
-use Rattle.clap.specs.declared.builder.command.Command.TheViews.{out-Command}
 use Rattle.linda_command.specs.Commands.{IsCommand}
 
 abbrev pub globals_of : Command-F Command → Bool

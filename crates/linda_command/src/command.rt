@@ -7,8 +7,8 @@ ghost use Rattle.std.specs.Prelude.{◌≡◌, ℕ, List, [], Some, None, false,
 ghost use Rattle.std.specs.String.{string_bytes};
 ghost use Rattle.clap.specs.Lexer.{without_minus};
 ghost use Rattle.clap.specs.Matches.{first_value, one_text, subcommand_name_of};
-ghost use Rattle.clap.specs.Words.{App, Kinds, app_of, fault_of, found_of, kind_of, new_app, rule_of};
-ghost use Rattle.clap.specs.Words.{subcommand_of, subcommand_rows_of, with_subcommand};
+ghost use Rattle.clap.specs.Words.{App, FailsBy, Kinds, Rule, app_of, fault_of, found_of, kind_of, new_app};
+ghost use Rattle.clap.specs.Words.{rule_of, subcommand_of, subcommand_rows_of, with_rule, with_subcommand};
 ghost use Rattle.linda_command.specs.Commands as spec;
 ghost use Rattle.linda_command.specs.Commands.{AsksExactlyFor, AsksFor, AsksForPipe, AsksForRun, HasServers, Spells};
 ghost use Rattle.linda_command.specs.Commands.{IsCall, IsCommand, IsInspect, IsRefusedAs, IsServe, IsTracedRun};
@@ -16,6 +16,7 @@ ghost use Rattle.linda_command.specs.Commands.{Refuses, client_rule, dir_rule, f
 ghost use Rattle.linda_command.specs.Commands.{port_rule, ports_rule, servers_rule, sessions_rule, word_rule};
 ghost use Rattle.linda_command.specs.declared.command.Task.TheVariants as tasks;
 
+use clap::builder::ValueParser;
 use clap::error::ErrorKind;
 use clap::{Arg, ArgAction, ArgMatches, Command, Error, value_parser};
 use linda_client::MAX_SERVERS;
@@ -76,12 +77,38 @@ pub fn read_task(alloc: Global, words: &[String]) -> Result<Task, Error>
         → Refuses kinds result }
 {
     let mut linda = command(alloc)?;
-    let matches = linda.try_get_matches_from_mut(words)?;
-    let found = task_of(alloc, &matches)?;
-    if let Some(task) = found {
-        return Ok(task);
+    task_by(alloc, &mut linda, words)
+}
+
+// The task that the words ask for, by the program's command.
+fn task_by<'a>(alloc: Global, linda: &mut Command<'a>, words: &'a [String]) -> Result<Task, Error>
+    requires { app_of linda.old ≡ spec.linda }
+    ensures asked { IfOk result (λ task. AsksFor (map string_bytes words.entry.now) task) }
+    ensures taken { (task : Task) → AsksExactlyFor (map string_bytes words.entry.now) task
+        → MatchResult result (λ found. found ≡ task) (λ e. kind_of e ≡ ErrorKind.OutOfMemory) }
+    ensures refused { (kinds : Kinds) → IsRefusedAs (map string_bytes words.entry.now) kinds
+        → Refuses kinds result }
+{
+    match found_by(alloc, linda, words)? {
+        Some(task) => Ok(task),
+        None => Err(linda.error(ErrorKind::MissingSubcommand, "a command is required")?),
     }
-    Err(linda.error(ErrorKind::MissingSubcommand, "a command is required")?)
+}
+
+// What the program's command finds that the words ask for.
+fn found_by<'a>(
+    alloc: Global,
+    linda: &mut Command<'a>,
+    words: &'a [String],
+) -> Result<Option<Task>, Error>
+    requires { app_of linda.old ≡ spec.linda }
+    ensures kinds { FailsBy (fault_of spec.linda (map string_bytes words.entry.now)) result }
+    ensures found { IfOk result (λ found. IfSome found (AsksFor (map string_bytes words.entry.now))) }
+    ensures exact { (task : Task) → AsksExactlyFor (map string_bytes words.entry.now) task
+        → IfOk result (λ found. found ≡ Some task) }
+{
+    let matches = linda.try_get_matches_from_mut(words)?;
+    Ok(task_of(alloc, &matches)?)
 }
 
 // What the parser found that the words ask for.
@@ -204,22 +231,33 @@ fn command<'a>(alloc: Global) -> Result<Command<'a>, AllocError>
     ensures { IfOk result (λ c. app_of c ≡ linda) }
 {
     let bare = bare_command(alloc, "linda", "A tuple space", VERSION).subcommand_required(true);
-    let piping = bare.subcommand(pipe_command(alloc))?;
-    let running = with_command(piping, run_command(alloc))?;
-    let calling = with_command(running, call_command(alloc))?;
-    let serving = with_command(calling, serve_command(alloc))?;
+    let piping = bare.subcommand(pipe_command(alloc));
+    let running = with_command(piping, run_command(alloc));
+    let calling = with_command(running, call_command(alloc));
+    let serving = with_command(calling, serve_command(alloc));
     with_command(serving, inspect_command(alloc))
 }
 
-// The command with one more below it, if there was memory for that.
+// The command with one more below it, if there was memory for both.
 fn with_command<'a>(
-    command: Command<'a>,
+    command: Result<Command<'a>, AllocError>,
     below: Result<Command<'a>, AllocError>,
 ) -> Result<Command<'a>, AllocError>
-    ensures { (app : App) → IfOk below.entry (IsCommand app)
-        → IfOk result (λ c. app_of c ≡ with_subcommand (app_of command.entry) app.top) }
+    ensures { (old app : App) → IfOk command.entry (λ c. app_of c ≡ old) → IfOk below.entry (IsCommand app)
+        → IfOk result (λ c. app_of c ≡ with_subcommand old app.top) }
 {
-    command.subcommand(below?)
+    command?.subcommand(below?)
+}
+
+// The command with one more argument, if there was memory for it so far.
+fn with_arg<'a>(
+    command: Result<Command<'a>, AllocError>,
+    arg: Arg<'a>,
+) -> Result<Command<'a>, AllocError>
+    ensures { (app : App) (rule : Rule) → IfOk command.entry (IsCommand app) → rule_of arg.entry ≡ rule
+        → arg.entry.global ≡ false → IfOk result (IsCommand (with_rule app rule)) }
+{
+    command?.arg(arg)
 }
 
 // A command of this name with no argument.
@@ -241,8 +279,16 @@ fn run_command<'a>(alloc: Global) -> Result<Command<'a>, AllocError>
     ensures { IfOk result (IsCommand spec.run_command) }
 {
     let about = "Play a script from standard input with servers in memory";
-    let trace = option(alloc, TRACE, "FILE", "Write what happened to this file, a line an event");
-    bare_command(alloc, RUN, about, SCRIPT).arg(servers(alloc))?.arg(trace)
+    let first = bare_command(alloc, RUN, about, SCRIPT).arg(servers(alloc));
+    with_arg(
+        first,
+        option(
+            alloc,
+            TRACE,
+            "FILE",
+            "Write what happened to this file, a line an event",
+        ),
+    )
 }
 
 // The command of a client.
@@ -250,29 +296,39 @@ fn call_command<'a>(alloc: Global) -> Result<Command<'a>, AllocError>
     ensures { IfOk result (IsCommand spec.call_command) }
 {
     let about = "Put and take tuples at servers that listen on ports of this machine";
-    bare_command(alloc, CALL, about, LINES).arg(client(alloc))?.arg(port_words(alloc))
+    let first = bare_command(alloc, CALL, about, LINES).arg(client(alloc));
+    with_arg(first, port_words(alloc))
 }
 
 // The command that serves a folder.
 fn serve_command<'a>(alloc: Global) -> Result<Command<'a>, AllocError>
     ensures { IfOk result (IsCommand spec.serve_command) }
 {
-    bare_command(alloc, SERVE, "Serve the store in a folder on a port of this machine", SERVING)
-        .arg(port_option(alloc))?
-        .arg(dir_option(alloc))?
-        .arg(sessions_option(alloc))?
-        .arg(flag(alloc, LOG, "Write a log to standard error: a line a minute, and one at each event"))
+    let about = "Serve the store in a folder on a port of this machine";
+    let first = bare_command(alloc, SERVE, about, SERVING).arg(port_option(alloc));
+    let second = with_arg(first, dir_option(alloc));
+    let third = with_arg(second, sessions_option(alloc));
+    let help = "Write a log to standard error: a line a minute, and one at each event";
+    with_arg(third, flag(alloc, LOG, help))
 }
 
 // The command that says what a folder holds.
 fn inspect_command<'a>(alloc: Global) -> Result<Command<'a>, AllocError>
     ensures { IfOk result (IsCommand spec.inspect_command) }
 {
-    let about = "Tell what the store in a folder holds, and whether it would be served; nothing is written";
-    bare_command(alloc, INSPECT, about, INSPECTING)
-        .arg(word(alloc, DIR, "DIR", "The folder of the store"))?
-        .arg(flag(alloc, TUPLES, "A line for each tuple"))?
-        .arg(flag(alloc, CLIENTS, "A line for each client, with its kept reply"))
+    let about =
+        "Tell what the store in a folder holds, and whether it would be served; nothing is written";
+    let folder = word(alloc, DIR, "DIR", "The folder of the store");
+    let first = bare_command(alloc, INSPECT, about, INSPECTING).arg(folder);
+    let second = with_arg(first, flag(alloc, TUPLES, "A line for each tuple"));
+    with_arg(
+        second,
+        flag(
+            alloc,
+            CLIENTS,
+            "A line for each client, with its kept reply",
+        ),
+    )
 }
 
 // The option that says how many servers there are.
@@ -280,9 +336,15 @@ fn servers<'a>(alloc: Global) -> Arg<'a>
     ensures rule { rule_of result ≡ servers_rule }
     ensures own { result.global ≡ false }
 {
-    option(alloc, SERVERS, "N", "How many servers, from 1 to 16")
-        .required(true)
-        .value_parser(value_parser!(u32).range(1..=i64::from(MAX_SERVERS)))
+    let parser = value_parser!(u32).range(1..=i64::from(MAX_SERVERS));
+    number_option(
+        alloc,
+        SERVERS,
+        "N",
+        "How many servers, from 1 to 16",
+        parser,
+    )
+    .required(true)
 }
 
 // The option that says which client it is.
@@ -290,9 +352,8 @@ fn client<'a>(alloc: Global) -> Arg<'a>
     ensures rule { rule_of result ≡ client_rule }
     ensures own { result.global ≡ false }
 {
-    option(alloc, CLIENT, "C", "Which client it is, a number that no other client has")
-        .required(true)
-        .value_parser(value_parser!(u32))
+    let help = "Which client it is, a number that no other client has";
+    number_option(alloc, CLIENT, "C", help, value_parser!(u32)).required(true)
 }
 
 // The words that say where the servers listen.
@@ -300,9 +361,14 @@ fn port_words<'a>(alloc: Global) -> Arg<'a>
     ensures rule { rule_of result ≡ ports_rule }
     ensures own { result.global ≡ false }
 {
-    word(alloc, PORTS, "PORT", "Where servers 0, 1, .. listen, from 1 to 16 of them")
-        .num_args(1..=MAX_SERVERS as usize)
-        .value_parser(value_parser!(u16).range(1..))
+    word(
+        alloc,
+        PORTS,
+        "PORT",
+        "Where servers 0, 1, .. listen, from 1 to 16 of them",
+    )
+    .num_args(1..=MAX_SERVERS as usize)
+    .value_parser(value_parser!(u16).range(1..))
 }
 
 // The option that says where the server listens.
@@ -310,9 +376,8 @@ fn port_option<'a>(alloc: Global) -> Arg<'a>
     ensures rule { rule_of result ≡ port_rule }
     ensures own { result.global ≡ false }
 {
-    option(alloc, PORT, "P", "Where the server listens; 0 for any free port")
-        .required(true)
-        .value_parser(value_parser!(u16))
+    let help = "Where the server listens; 0 for any free port";
+    number_option(alloc, PORT, "P", help, value_parser!(u16)).required(true)
 }
 
 // The option that names the folder.
@@ -329,7 +394,27 @@ fn sessions_option<'a>(alloc: Global) -> Arg<'a>
     ensures rule { rule_of result ≡ sessions_rule }
     ensures own { result.global ≡ false }
 {
-    option(alloc, SESSIONS, "K", "End after so many connections").value_parser(value_parser!(u32))
+    number_option(
+        alloc,
+        SESSIONS,
+        "K",
+        "End after so many connections",
+        value_parser!(u32),
+    )
+}
+
+// An option of this name, with a number that the parser takes.
+fn number_option<'a>(
+    alloc: Global,
+    name: &'a str,
+    value: &'a str,
+    help: &'a str,
+    parser: ValueParser<'a>,
+) -> Arg<'a>
+    ensures rule { rule_of result ≡ record (option_rule name.entry.now) { parser = Some parser.entry } }
+    ensures own { result.global ≡ false }
+{
+    option(alloc, name, value, help).value_parser(parser)
 }
 
 // An option of this name, with a value that help calls so.
@@ -337,7 +422,11 @@ fn option<'a>(alloc: Global, name: &'a str, value: &'a str, help: &'a str) -> Ar
     ensures rule { rule_of result ≡ option_rule name.entry.now }
     ensures own { result.global ≡ false }
 {
-    Arg::new(alloc, name).long(name).value_name(value).help(help).action(ArgAction::Set)
+    Arg::new(alloc, name)
+        .long(name)
+        .value_name(value)
+        .help(help)
+        .action(ArgAction::Set)
 }
 
 // An option of this name that stands alone.
@@ -345,7 +434,10 @@ fn flag<'a>(alloc: Global, name: &'a str, help: &'a str) -> Arg<'a>
     ensures rule { rule_of result ≡ flag_rule name.entry.now }
     ensures own { result.global ≡ false }
 {
-    Arg::new(alloc, name).long(name).help(help).action(ArgAction::SetTrue)
+    Arg::new(alloc, name)
+        .long(name)
+        .help(help)
+        .action(ArgAction::SetTrue)
 }
 
 // A word that must be there, which help calls so.
@@ -353,7 +445,11 @@ fn word<'a>(alloc: Global, name: &'a str, value: &'a str, help: &'a str) -> Arg<
     ensures rule { rule_of result ≡ word_rule name.entry.now }
     ensures own { result.global ≡ false }
 {
-    Arg::new(alloc, name).value_name(value).help(help).required(true).action(ArgAction::Set)
+    Arg::new(alloc, name)
+        .value_name(value)
+        .help(help)
+        .required(true)
+        .action(ArgAction::Set)
 }
 
 const PIPE: &str = "pipe";

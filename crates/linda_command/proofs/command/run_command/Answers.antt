@@ -1,7 +1,7 @@
-use Rattle.linda_command.proofs.CommandLaws.{if_with_arg, with_arg}
+use Rattle.linda_command.proofs.CommandLaws.{if_with_arg}
 use Rattle.linda_command.proofs.command.run_command.Goals as goal
 
 pub returns : goal.returns
 returns c =
-    let with_1 = with_arg _ _ _ _ _ c.bare_command.ensures c.servers.ensures.rule c.servers.ensures.own c.in_ok-arg.ensures in
-    if_with_arg _ _ _ c.arg-2.result _ with_1 c.option-trace.ensures.rule c.option-trace.ensures.own c.arg-2.ensures
+    let first = if_with_arg _ _ _ c.arg-first.result _ c.bare_command.ensures c.servers.ensures.rule c.servers.ensures.own c.arg-first.ensures in
+    c.with_arg.ensures _ _ first c.option.ensures.rule c.option.ensures.own
