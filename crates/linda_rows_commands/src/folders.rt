@@ -1,11 +1,11 @@
 //! A folder whose files hold bytes, and what is printed of it.
 
-use crate::texts::{push_bytes, tell_text};
+use crate::texts::{done, push_bytes, tell_text};
 use linda_inspect::Lists;
 use linda_script::{WordsFault, split_word};
 use linda_service::inspect_folder;
-use std::alloc::Global;
-use std::fs;
+use std::alloc::{AllocError, Global};
+use std::{fs, io};
 
 /// The folder, which is there while a line is played.
 const FOLDER: &str = "linda_rows_folder";
@@ -49,18 +49,22 @@ impl Folders {
             "left" => push_bytes(alloc, &mut self.left, rest),
             "right" => push_bytes(alloc, &mut self.right, rest),
             "missing" => inspect(files, alloc, came),
-            "inspect" => {
-                if fs::create_dir(files, FOLDER).is_err() {
-                    return Err(WordsFault::Unknown);
-                }
-                let done = self.inspect_both(files, alloc, came);
-                if fs::remove_dir_all(files, FOLDER).is_err() {
-                    return Err(WordsFault::Unknown);
-                }
-                done
-            }
+            "inspect" => self.inspect_made(files, alloc, came),
             _ => Err(WordsFault::Unknown),
         }
+    }
+
+    // Writes what is printed of the folder, which is made for that and removed after it.
+    fn inspect_made(
+        &self,
+        files: &HostRuntime,
+        alloc: Global,
+        came: &mut String,
+    ) -> Result<(), WordsFault> {
+        known(fs::create_dir(files, FOLDER))?;
+        let told = self.inspect_both(files, alloc, came);
+        known(fs::remove_dir_all(files, FOLDER))?;
+        told
     }
 
     // Writes what is printed of the folder, which is there and empty, once both files are in it.
@@ -78,14 +82,27 @@ impl Folders {
 
 // The file holds these bytes, or is missing where there are none.
 fn put_bank(files: &HostRuntime, path: &str, bytes: &[u8]) -> Result<(), WordsFault> {
-    if !bytes.is_empty() && fs::write(files, path, bytes).is_err() {
-        return Err(WordsFault::Unknown);
+    if bytes.is_empty() {
+        return Ok(());
     }
-    Ok(())
+    known(fs::write(files, path, bytes))
+}
+
+// A line is not understood where the files fail.
+fn known(ended: io::Result<()>) -> Result<(), WordsFault> {
+    match ended {
+        Ok(()) => Ok(()),
+        Err(_) => Err(WordsFault::Unknown),
+    }
+}
+
+// Writes what is printed of the folder.
+fn inspect(files: &HostRuntime, alloc: Global, came: &mut String) -> Result<(), WordsFault> {
+    done(tell_folder(files, alloc, came))
 }
 
 // Writes what is printed of the folder, with both lists, and how that ends if it does not end well.
-fn inspect(files: &HostRuntime, alloc: Global, came: &mut String) -> Result<(), WordsFault> {
+fn tell_folder(files: &HostRuntime, alloc: Global, came: &mut String) -> Result<(), AllocError> {
     let lists = Lists {
         tuples: true,
         clients: true,
@@ -95,6 +112,6 @@ fn inspect(files: &HostRuntime, alloc: Global, came: &mut String) -> Result<(), 
     tell_text(&out, came)?;
     match ended {
         Ok(()) => Ok(()),
-        Err(fault) => Ok(writeln!(came, "> {fault}")?),
+        Err(fault) => writeln!(came, "> {fault}"),
     }
 }

@@ -1,5 +1,6 @@
 //! The lines of a log, and their times.
 
+use crate::texts::done;
 use linda_script::{WordsFault, read_numbered, split_word};
 use linda_service::{Cause, Event, Gauge, InUse, Log, Tally, Watcher, stamp_of};
 use std::alloc::{AllocError, Global};
@@ -60,10 +61,20 @@ impl Logs {
         if let Some(seconds) = words.strip_prefix("time ") {
             return tell_time(seconds, came);
         }
-        self.events.push_str(words)?;
-        self.events.push('\n')?;
+        done(self.note(words))?;
         let sink = log_of(clock, alloc, self.events.as_str())?;
-        let text = std::str::from_utf8(&sink).unwrap_or("no text");
+        done(self.tell_new(&sink, came))
+    }
+
+    // Keeps what happens.
+    fn note(&mut self, words: &str) -> Result<(), AllocError> {
+        self.events.push_str(words)?;
+        self.events.push('\n')
+    }
+
+    // Gives the lines of the log that were not given before.
+    fn tell_new(&mut self, sink: &[u8], came: &mut String) -> Result<(), AllocError> {
+        let text = std::str::from_utf8(sink).unwrap_or("no text");
         for line in text.lines().skip(self.told) {
             tell_line(line, came)?;
             self.told = self.told.saturating_add(1);
@@ -72,17 +83,22 @@ impl Logs {
     }
 }
 
-// Gives the time that is so many seconds after 1970 began.
+// Gives the time that is so many seconds, as the text says, after 1970 began.
 fn tell_time(seconds: &str, came: &mut String) -> Result<(), WordsFault> {
-    let Ok(seconds) = seconds.parse::<u64>() else {
-        return Err(WordsFault::Unknown);
-    };
+    match seconds.parse::<u64>() {
+        Ok(seconds) => done(tell_stamp(seconds, came)),
+        Err(_) => Err(WordsFault::Unknown),
+    }
+}
+
+// Gives the time that is so many seconds after 1970 began, or says that there is none.
+fn tell_stamp(seconds: u64, came: &mut String) -> Result<(), AllocError> {
     match stamp_of(seconds) {
         Some(bytes) => {
             let text = std::str::from_utf8(bytes.as_slice()).unwrap_or("no text");
-            Ok(writeln!(came, "> {text}")?)
+            writeln!(came, "> {text}")
         }
-        None => Ok(came.push_str("> none\n")?),
+        None => came.push_str("> none\n"),
     }
 }
 
@@ -97,12 +113,31 @@ fn tell_line(line: &str, came: &mut String) -> Result<(), AllocError> {
 // The log of what happens.
 fn log_of<C: Clock>(clock: &C, alloc: Global, events: &str) -> Result<Vec<u8>, WordsFault> {
     let mut sink: Vec<u8> = Vec::new(alloc);
-    let mut log = Log::new(alloc, &mut sink)?;
-    for words in events.lines() {
-        tell_event(clock, &mut log, words)?;
-    }
-    drop(log);
+    write_log(clock, alloc, &mut sink, events)?;
     Ok(sink)
+}
+
+// Writes the log of what happens.
+fn write_log<C: Clock>(
+    clock: &C,
+    alloc: Global,
+    sink: &mut Vec<u8>,
+    events: &str,
+) -> Result<(), WordsFault> {
+    let mut log = Log::new(alloc, sink)?;
+    tell_events(clock, &mut log, events)
+}
+
+// Lets the log write all that happens.
+fn tell_events<C: Clock>(
+    clock: &C,
+    log: &mut Log<'_, Vec<u8>>,
+    events: &str,
+) -> Result<(), WordsFault> {
+    for words in events.lines() {
+        tell_event(clock, log, words)?;
+    }
+    Ok(())
 }
 
 // Lets the log write what happens.

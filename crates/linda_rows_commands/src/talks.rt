@@ -1,7 +1,7 @@
 //! What a pipe, a conversation and a script write to a peer, and how they end.
 
 use crate::peers::{Narrow, Pieces};
-use crate::texts::push_bytes;
+use crate::texts::{done, push_bytes};
 use linda_pipe::pipe;
 use linda_script::{WordsFault, read_numbered, split_word};
 use linda_shell::run_script;
@@ -42,17 +42,19 @@ impl Talks {
         match word {
             "says" => push_bytes(alloc, &mut self.said, rest),
             "wants" => push_bytes(alloc, &mut self.wanted, rest),
-            "front" => {
-                let (len, _) = read_numbered(rest)?;
-                self.said.truncate(len as usize);
-                Ok(())
-            }
+            "front" => self.cut(rest),
             _ => self.serve(alloc, word, rest, came),
         }
     }
 
-    // Serves the peer by this command. The words say how many bytes the reader gives at once and whether it `ends` or
-    // `fails` after them, how many the writer takes at once, and for how many it has room.
+    // Only so many bytes are said.
+    fn cut(&mut self, words: &str) -> Result<(), WordsFault> {
+        let (len, _) = read_numbered(words)?;
+        self.said.truncate(len as usize);
+        Ok(())
+    }
+
+    // Serves the peer by this command, within the bounds that the words give, and tells what came of it.
     fn serve(
         &self,
         alloc: Global,
@@ -60,36 +62,38 @@ impl Talks {
         words: &str,
         came: &mut String,
     ) -> Result<(), WordsFault> {
-        let (size, rest) = read_numbered(words)?;
-        let (end, rest) = split_word(rest);
-        let (width, rest) = read_numbered(rest)?;
-        let (room, _) = read_numbered(rest)?;
+        let bounds = bounds_of(words)?;
         let unflushed = Cell::new(false);
         let mut reader = Pieces {
             bytes: &self.said,
-            size: size as usize,
-            fails: end == "fails",
+            size: bounds.size,
+            fails: bounds.fails,
             unflushed: &unflushed,
             failed: 0,
         };
         let mut writer = Narrow {
             bytes: Vec::new(alloc),
-            width: width as usize,
-            room: room as usize,
+            width: bounds.width,
+            room: bounds.room,
             unflushed: &unflushed,
             failed: 0,
         };
-        let ended = match command {
-            "pipe" => piped(alloc, &mut reader, &mut writer)?,
-            "converse" => conversed(alloc, &mut reader, &mut writer)?,
-            "run" => ran(alloc, &mut reader, &mut writer)?,
-            _ => return Err(WordsFault::Unknown),
-        };
-        write!(came, "> {ended}, wrote ")?;
-        self.tell_written(alloc, &writer, came)?;
+        served(alloc, command, &mut reader, &mut writer, came)?;
+        done(self.tell(alloc, &reader, &writer, came))
+    }
+
+    // Writes how much was written, how much was not read, and how many calls failed.
+    fn tell(
+        &self,
+        alloc: Global,
+        reader: &Pieces,
+        writer: &Narrow,
+        came: &mut String,
+    ) -> Result<(), AllocError> {
+        self.tell_written(alloc, writer, came)?;
         let unread = reader.bytes.len();
         let failed = reader.failed.saturating_add(writer.failed);
-        Ok(writeln!(came, ", unread {unread}, failed {failed}")?)
+        writeln!(came, ", unread {unread}, failed {failed}")
     }
 
     // Writes how much was written of what is wanted, or all of it where it is something else.
@@ -98,48 +102,99 @@ impl Talks {
         alloc: Global,
         writer: &Narrow,
         came: &mut String,
-    ) -> Result<(), WordsFault> {
+    ) -> Result<(), AllocError> {
         let written = writer.bytes.as_slice();
         let wanted = self.wanted.as_slice();
         if !wanted.starts_with(written) {
             let digits = hex::encode(alloc, written)?;
-            return Ok(write!(came, "other bytes {digits}")?);
+            return write!(came, "other bytes {digits}");
         }
         if written.len() == wanted.len() {
-            return Ok(came.push_str("all")?);
+            return came.push_str("all");
         }
         if written.len() == writer.room {
-            return Ok(came.push_str("its room")?);
+            return came.push_str("its room");
         }
-        Ok(write!(came, "{}", written.len())?)
+        write!(came, "{}", written.len())
     }
 }
 
-// How a pipe ends.
-fn piped(alloc: Global, reader: &mut Pieces, writer: &mut Narrow) -> Result<String, AllocError> {
+/// How many bytes the reader gives at once and whether it `ends` or `fails` after them, how many the writer takes at
+/// once, and for how many it has room.
+#[derive(Clone, Copy)]
+struct Bounds {
+    size: usize,
+    fails: bool,
+    width: usize,
+    room: usize,
+}
+
+// The bounds that the words give, in this order.
+fn bounds_of(words: &str) -> Result<Bounds, WordsFault> {
+    let (size, rest) = read_numbered(words)?;
+    let (end, rest) = split_word(rest);
+    let (width, rest) = read_numbered(rest)?;
+    let (room, _) = read_numbered(rest)?;
+    Ok(Bounds {
+        size: size as usize,
+        fails: end == "fails",
+        width: width as usize,
+        room: room as usize,
+    })
+}
+
+// Serves by this command, and writes how that ends.
+fn served(
+    alloc: Global,
+    command: &str,
+    reader: &mut Pieces,
+    writer: &mut Narrow,
+    came: &mut String,
+) -> Result<(), WordsFault> {
+    match command {
+        "pipe" => done(piped(alloc, reader, writer, came)),
+        "converse" => done(conversed(alloc, reader, writer, came)),
+        "run" => done(ran(alloc, reader, writer, came)),
+        _ => Err(WordsFault::Unknown),
+    }
+}
+
+// Writes how a pipe ends.
+fn piped(
+    alloc: Global,
+    reader: &mut Pieces,
+    writer: &mut Narrow,
+    came: &mut String,
+) -> Result<(), AllocError> {
     let end = pipe(alloc, reader, writer);
-    format!(in alloc; "{end:?}")
+    write!(came, "> {end:?}, wrote ")
 }
 
-// How a script over one server ends.
-fn ran(alloc: Global, reader: &mut Pieces, writer: &mut Narrow) -> Result<String, AllocError> {
+// Writes how a script over one server ends.
+fn ran(
+    alloc: Global,
+    reader: &mut Pieces,
+    writer: &mut Narrow,
+    came: &mut String,
+) -> Result<(), AllocError> {
     let end = run_script(alloc, reader, writer, 1);
-    format!(in alloc; "{end:?}")
+    write!(came, "> {end:?}, wrote ")
 }
 
-// How a conversation with a new server ends; at the end of the stream, how many bytes its whole messages have.
+// Writes how a conversation with a new server ends; at the end of the stream, how many bytes its whole messages have.
 fn conversed(
     alloc: Global,
     reader: &mut Pieces,
     writer: &mut Narrow,
-) -> Result<String, AllocError> {
+    came: &mut String,
+) -> Result<(), AllocError> {
     let len = reader.bytes.len();
     let mut node = Volatile::new(alloc);
     match converse(alloc, &mut node, reader, writer) {
         Ok(End::Ended { rest }) => {
             let whole = len.saturating_sub(reader.bytes.len()).saturating_sub(rest);
-            format!(in alloc; "whole {whole}")
+            write!(came, "> whole {whole}, wrote ")
         }
-        end => format!(in alloc; "{end:?}"),
+        end => write!(came, "> {end:?}, wrote "),
     }
 }

@@ -13,15 +13,29 @@ pub(crate) fn push_bytes(
     words: &str,
 ) -> Result<(), WordsFault> {
     if words.starts_with('"') {
-        return Ok(bytes.extend_from_slice(read_string(alloc, words)?.as_bytes())?);
+        return push_string(alloc, bytes, words);
     }
     match words.strip_prefix("bytes ") {
         Some(pieces) => push_pieces(alloc, bytes, pieces),
-        None => {
-            bytes.extend_from_slice(words.as_bytes())?;
-            Ok(bytes.push(b'\n')?)
-        }
+        None => done(push_line(bytes, words)),
     }
+}
+
+/// What was written, or the fault that memory ran out.
+pub(crate) fn done(written: Result<(), AllocError>) -> Result<(), WordsFault> {
+    Ok(written?)
+}
+
+// Appends a string between quotes.
+fn push_string(alloc: Global, bytes: &mut Vec<u8>, words: &str) -> Result<(), WordsFault> {
+    let text = read_string(alloc, words)?;
+    Ok(bytes.extend_from_slice(text.as_bytes())?)
+}
+
+// Appends a line as it stands.
+fn push_line(bytes: &mut Vec<u8>, words: &str) -> Result<(), AllocError> {
+    bytes.extend_from_slice(words.as_bytes())?;
+    Ok(bytes.push(b'\n')?)
 }
 
 // Appends the bytes of pieces of digits.
