@@ -26,6 +26,7 @@ ghost use Rattle.std.specs.Prelude.{◌≡◌, ◌≢◌, ◌≤◌, ◌⊎◌};
 ghost use Rattle.linda_client.specs.declared.limits.TheConstants.{MAX_SERVERS};
 ghost use Rattle.std.specs.Process.{exit_status};
 ghost use Rattle.clap.specs.Words.{kind_of};
+ghost use Rattle.linda_command.specs.Commands.{HasServers};
 ghost use Rattle.linda.specs.Statuses.{status_after, status_after_call, status_after_script};
 ghost use Rattle.clap.specs.declared.error.kind.ErrorKind.TheVariants as kinds;
 
@@ -52,34 +53,56 @@ use std::{env, io};
 const USAGE: u8 = 2;
 
 fn main(rt: HostRuntime) -> ExitCode {
-    let words = match words(&rt) {
-        Ok(words) => words,
-        Err(error) => {
-            if error.kind() == ErrorKind::OutOfMemory {
-                return end(&rt, "memory", REFUSED);
-            }
-            return end(&rt, "error: an argument is not UTF-8", USAGE);
-        }
-    };
-    if asks_for_version(&words) {
-        return tell_version(&rt);
+    match words(&rt) {
+        Ok(words) => answer(&rt, &rt, &words),
+        Err(error) => refuse(&rt, &error),
     }
-    match read_task(rt.alloc(), &words) {
-        Ok(Task::Pipe) => run_pipe(&rt),
-        Ok(Task::Run { servers }) => run_servers(&rt, servers),
-        Ok(Task::TracedRun { servers, file }) => run_traced(&rt, servers, &file),
-        Ok(Task::Call { client, ports }) => run_call(&rt, &rt, client, &ports),
-        Ok(
-            Task::Serve {
-                port,
-                dir,
-                sessions,
-                log,
-            },
-        ) => run_serve(&rt, &rt, port, &dir, sessions, log),
-        Ok(Task::Inspect { dir, lists }) => run_inspect(&rt, &dir, lists),
-        Err(error) => show(&rt, &error),
+}
+
+// Does what the words of the command line ask for.
+fn answer<S: Net<Listener = TcpListener, Stream = TcpStream> + Threads + Wait + Clock + Sync>(
+    rt: &HostRuntime,
+    threads: &S,
+    words: &[String],
+) -> ExitCode {
+    if asks_for_version(words) {
+        return tell_version(rt);
     }
+    match read_task(rt.alloc(), words) {
+        Ok(task) => perform(rt, threads, &task),
+        Err(error) => show(rt, &error),
+    }
+}
+
+// Does this task.
+fn perform<S: Net<Listener = TcpListener, Stream = TcpStream> + Threads + Wait + Clock + Sync>(
+    rt: &HostRuntime,
+    threads: &S,
+    task: &Task,
+) -> ExitCode
+    requires { HasServers task.now }
+{
+    match task {
+        Task::Pipe => run_pipe(rt),
+        Task::Run { servers } => run_servers(rt, *servers),
+        Task::TracedRun { servers, file } => run_traced(rt, *servers, file),
+        Task::Call { client, ports } => run_call(rt, threads, *client, ports),
+        Task::Serve {
+            port,
+            dir,
+            sessions,
+            log,
+        } => run_serve(rt, threads, *port, dir, *sessions, *log),
+        Task::Inspect { dir, lists } => run_inspect(rt, dir, *lists),
+    }
+}
+
+// Ends where the words of the command line could not be read.
+fn refuse(rt: &HostRuntime, error: &io::Error) -> ExitCode {
+    if error.kind() == ErrorKind::OutOfMemory {
+        return end(rt, "memory", REFUSED);
+    }
+    end(rt, "error: an argument is not UTF-8", USAGE)
 }
 
 // The words of the command line.
