@@ -15,9 +15,12 @@ ghost use Rattle.linda_run.specs.Reached.{IsUnused};
 use command::{Command, read_command};
 pub use command::{Request, read_request};
 pub use fault::{LineFault, ScriptFault};
-use linda_client::ClientFault;
+use linda_bag::Bag;
+use linda_client::{ClientFault, Outcome};
 use linda_disk::{MemDisk, Torn};
+use linda_hold::Holds;
 use linda_server::Durable;
+use linda_state::State;
 use linda_store::Node;
 use linda_world::{Seen, World, WorldEvent, WorldFault};
 use listing::list_state;
@@ -150,8 +153,7 @@ impl Script {
     ) -> Result<(), LineFault> {
         match self.world.step(alloc, event) {
             Ok(seen) => self.print_call(alloc, &seen, out),
-            Err(WorldFault::Client(fault)) => print_refusal(alloc, client, fault, out),
-            Err(fault) => Err(line_fault(fault)),
+            Err(fault) => print_world_fault(alloc, client, fault, out),
         }
     }
 
@@ -160,7 +162,7 @@ impl Script {
         if let Some(trace) = out.trace() {
             trace.send(alloc, self.world.packets())?;
         }
-        Ok(print_seen(alloc, seen, out)?)
+        printed(print_seen(alloc, seen, out))
     }
 
     // An event of a client, which is made where it was not named before.
@@ -324,19 +326,29 @@ impl Script {
         if let Some(trace) = out.trace() {
             trace.deliver(alloc, &self.world, packet)?;
         }
-        Ok(print_seen(alloc, seen, out)?)
+        printed(print_seen(alloc, seen, out))
     }
 
     fn show(&mut self, alloc: Global, server: u64, out: &mut Output) -> Result<(), LineFault> {
         let server = self.server(server)?;
         match self.world.node(server) {
-            Some(node) => {
-                let lines = list_state(alloc, server, node.state(), node.holds())?;
-                out.print(&lines)?;
-                Ok(())
-            }
+            Some(node) => printed(print_state(alloc, server, node.state(), node.holds(), out)),
             None => Err(LineFault::NoServer),
         }
+    }
+}
+
+// The lines of what a server keeps.
+fn print_state<B: Bag>(
+    alloc: Global,
+    server: u32,
+    state: &State<B>,
+    holds: &Holds,
+    out: &mut Output,
+) -> Result<(), AllocError> {
+    match list_state(alloc, server, state, holds) {
+        Ok(lines) => out.print(&lines),
+        Err(fault) => Err(fault),
     }
 }
 
@@ -365,16 +377,65 @@ fn unused_node(alloc: Global) -> Result<Durable<MemDisk>, AllocError>
 
 // The lines of what was seen of an event.
 fn print_seen(alloc: Global, seen: &Seen, out: &mut Output) -> Result<(), AllocError> {
-    let Some(client) = seen.client else {
-        return Ok(());
-    };
+    match seen.client {
+        Some(client) => print_client(alloc, client, seen, out),
+        None => Ok(()),
+    }
+}
+
+// The lines of what a client saw.
+fn print_client(
+    alloc: Global,
+    client: u32,
+    seen: &Seen,
+    out: &mut Output,
+) -> Result<(), AllocError> {
     if let Some(outcome) = &seen.outcome {
-        out.print(&write_outcome(alloc, client, outcome)?)?;
+        print_outcome(alloc, client, outcome, out)?;
     }
-    if let Some(fault) = seen.fault {
-        out.print(&write_fault(alloc, client, fault)?)?;
+    match seen.fault {
+        Some(fault) => print_fault(alloc, client, fault, out),
+        None => Ok(()),
     }
-    Ok(())
+}
+
+// The line of what came of a client's call.
+fn print_outcome(
+    alloc: Global,
+    client: u32,
+    outcome: &Outcome,
+    out: &mut Output,
+) -> Result<(), AllocError> {
+    match write_outcome(alloc, client, outcome) {
+        Ok(line) => out.print(&line),
+        Err(fault) => Err(fault),
+    }
+}
+
+// The line of a refusal that a server sent to a client.
+fn print_fault(
+    alloc: Global,
+    client: u32,
+    fault: (u32, u8, u64),
+    out: &mut Output,
+) -> Result<(), AllocError> {
+    match write_fault(alloc, client, fault) {
+        Ok(line) => out.print(&line),
+        Err(fault) => Err(fault),
+    }
+}
+
+// The line of a call that the client refused; where the world did not do it for another reason, the line was not done.
+fn print_world_fault(
+    alloc: Global,
+    client: u32,
+    fault: WorldFault,
+    out: &mut Output,
+) -> Result<(), LineFault> {
+    match fault {
+        WorldFault::Client(fault) => print_refusal(alloc, client, fault, out),
+        fault => Err(line_fault(fault)),
+    }
 }
 
 // The line of a call that the client refused.
@@ -385,11 +446,16 @@ fn print_refusal(
     out: &mut Output,
 ) -> Result<(), LineFault> {
     match write_refusal(alloc, client, fault)? {
-        Some(line) => {
-            out.print(&line)?;
-            Ok(())
-        }
+        Some(line) => printed(out.print(&line)),
         None => Err(LineFault::Memory),
+    }
+}
+
+// That something was printed, or that memory ran out.
+fn printed(done: Result<(), AllocError>) -> Result<(), LineFault> {
+    match done {
+        Ok(()) => Ok(()),
+        Err(_) => Err(LineFault::Memory),
     }
 }
 
@@ -404,7 +470,7 @@ fn print_snapshot(
         trace.snapshot(server)?;
     }
     let what = if full { "full" } else { "snapshot" };
-    Ok(print_of_server(alloc, server, what, out)?)
+    printed(print_of_server(alloc, server, what, out))
 }
 
 // A line about a server.
