@@ -31,9 +31,25 @@ pub fn call_of(alloc: Global, words: &str, seat: Seat) -> Result<Call, WordsFaul
     let (verb, rest) = split_word(words);
     match verb {
         "shows" if rest.is_empty() => Ok(Call::Show),
-        "join" => Ok(Call::Join(small_number(rest)?)),
+        "join" => join_of(rest),
         "all" => all_of(alloc, rest, seat),
-        _ => Ok(Call::Step(event_of(alloc, words, seat)?)),
+        _ => step_of(alloc, words, seat),
+    }
+}
+
+// The client joins that has this number.
+fn join_of(client: &str) -> Result<Call, WordsFault> {
+    match small_number(client) {
+        Ok(client) => Ok(Call::Join(client)),
+        Err(fault) => Err(fault),
+    }
+}
+
+// One event.
+fn step_of(alloc: Global, words: &str, seat: Seat) -> Result<Call, WordsFault> {
+    match event_of(alloc, words, seat) {
+        Ok(event) => Ok(Call::Step(event)),
+        Err(fault) => Err(fault),
     }
 }
 
@@ -41,7 +57,20 @@ pub fn call_of(alloc: Global, words: &str, seat: Seat) -> Result<Call, WordsFaul
 fn all_of(alloc: Global, words: &str, seat: Seat) -> Result<Call, WordsFault> {
     let mut events = Vec::new(alloc);
     for words in words.split(';') {
-        events.push(event_of(alloc, words.trim(), seat)?)?;
+        push_event(alloc, &mut events, words.trim(), seat)?;
     }
     Ok(Call::Run(events))
+}
+
+fn push_event(
+    alloc: Global,
+    events: &mut Vec<WorldEvent>,
+    words: &str,
+    seat: Seat,
+) -> Result<(), WordsFault> {
+    let event = event_of(alloc, words, seat)?;
+    match events.push(event) {
+        Ok(()) => Ok(()),
+        Err(_) => Err(WordsFault::Memory),
+    }
 }
