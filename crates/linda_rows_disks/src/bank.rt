@@ -2,7 +2,7 @@
 
 use crate::disk::taken;
 use crate::number::{read_number, read_size};
-use crate::telling::tell;
+use crate::telling::{done, tell};
 use linda_disk::MemDisk;
 use linda_journal::{Bank, BankFault};
 use linda_script::{WordsFault, split_word};
@@ -76,7 +76,7 @@ fn take_bank(
 
 // Writes how many records the bank has and where its journal ends.
 fn tell_bank(bank: &Bank<MemDisk>, came: &mut String) -> Result<(), WordsFault> {
-    Ok(writeln!(came, "> {} records, end {}", bank.records(), bank.end())?)
+    done(writeln!(came, "> {} records, end {}", bank.records(), bank.end()))
 }
 
 // Takes the disk back, and says why it holds no bank.
@@ -104,7 +104,8 @@ fn fuse(bank: &mut Option<Bank<MemDisk>>, call: &str) -> Result<(), WordsFault> 
     let Some(bank) = bank else {
         return Err(WordsFault::Unknown);
     };
-    bank.fuse(read_number(call)?);
+    let call = read_number(call)?;
+    bank.fuse(call);
     Ok(())
 }
 
@@ -126,11 +127,14 @@ fn put(
 }
 
 fn put_by_7(alloc: Global, tuple: &str) -> Result<Deed, WordsFault> {
-    Ok(Deed::Out {
-        client: 7,
-        n: 1,
-        tuple: read_tuple(alloc, tuple)?,
-    })
+    match read_tuple(alloc, tuple) {
+        Ok(tuple) => Ok(Deed::Out {
+            client: 7,
+            n: 1,
+            tuple,
+        }),
+        Err(fault) => Err(fault.into()),
+    }
 }
 
 fn tell_fault(fault: BankFault, came: &mut String) -> Result<(), WordsFault> {

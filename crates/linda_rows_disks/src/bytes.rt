@@ -1,7 +1,7 @@
 //! Bytes as words: a name, a text, or hexadecimal digits.
 
 use crate::number::{read_byte, read_size};
-use crate::telling::tell;
+use crate::telling::{done, tell};
 use linda_script::{WordsFault, read_hex, split_word};
 use std::alloc::{AllocError, Global};
 
@@ -72,7 +72,7 @@ pub(crate) fn push_bytes(
 // Appends a text, before which a quotation mark stood, and after which one stands.
 fn push_text(bytes: &mut Vec<u8>, text: &str) -> Result<(), WordsFault> {
     match text.strip_suffix('"') {
-        Some(text) => Ok(bytes.extend_from_slice(text.as_bytes())?),
+        Some(text) => done(bytes.extend_from_slice(text.as_bytes())),
         None => Err(WordsFault::Unknown),
     }
 }
@@ -112,13 +112,20 @@ fn push_piece(alloc: Global, bytes: &mut Vec<u8>, piece: &str) -> Result<(), Wor
 }
 
 fn push_digits(alloc: Global, bytes: &mut Vec<u8>, digits: &str) -> Result<(), WordsFault> {
-    Ok(bytes.extend_from_slice(&read_hex(alloc, digits)?)?)
+    match read_hex(alloc, digits) {
+        Ok(read) => done(bytes.extend_from_slice(&read)),
+        Err(fault) => Err(fault),
+    }
 }
 
 // Appends the byte of these digits, so many times.
 fn push_times(bytes: &mut Vec<u8>, count: &str, digits: &str) -> Result<(), WordsFault> {
     let count = read_size(count)?;
     let byte = read_byte(digits)?;
+    done(push_equal(bytes, byte, count))
+}
+
+fn push_equal(bytes: &mut Vec<u8>, byte: u8, count: usize) -> Result<(), AllocError> {
     for _ in 0..count {
         bytes.push(byte)?;
     }
@@ -127,8 +134,10 @@ fn push_times(bytes: &mut Vec<u8>, count: &str, digits: &str) -> Result<(), Word
 
 /// Writes the name of the bytes, or where they have none, their pieces.
 pub(crate) fn tell_name(alloc: Global, bytes: &[u8], came: &mut String) -> Result<(), WordsFault> {
-    let pieces = pieces_of(alloc, bytes)?;
-    tell(came, name_of(&pieces))
+    match pieces_of(alloc, bytes) {
+        Ok(pieces) => tell(came, name_of(&pieces)),
+        Err(_) => Err(WordsFault::Memory),
+    }
 }
 
 /// Writes the pieces of the bytes.
@@ -137,7 +146,10 @@ pub(crate) fn tell_pieces(
     bytes: &[u8],
     came: &mut String,
 ) -> Result<(), WordsFault> {
-    tell(came, pieces_of(alloc, bytes)?)
+    match pieces_of(alloc, bytes) {
+        Ok(pieces) => tell(came, pieces),
+        Err(_) => Err(WordsFault::Memory),
+    }
 }
 
 // The name of the bytes of these digits, or where they have none, the digits.
@@ -176,7 +188,11 @@ fn write_piece(text: &mut String, byte: u8, count: usize) -> Result<(), AllocErr
         return write!(text, " {count}*{byte:02x} ");
     }
     for _ in 0..count {
-        write!(text, "{byte:02x}")?;
+        write_byte(text, byte)?;
     }
     Ok(())
+}
+
+fn write_byte(text: &mut String, byte: u8) -> Result<(), AllocError> {
+    write!(text, "{byte:02x}")
 }

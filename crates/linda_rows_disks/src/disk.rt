@@ -2,7 +2,7 @@
 
 use crate::bytes::{push_bytes, read_bytes, tell_name, tell_pieces};
 use crate::number::{read_number, read_size};
-use crate::telling::{tell, tell_two};
+use crate::telling::{done, tell, tell_two};
 use linda_disk::{Disk, DiskFault, MemDisk, Torn};
 use linda_script::{WordsFault, read_numbered, split_word};
 use std::alloc::{AllocError, Global};
@@ -15,7 +15,10 @@ pub(crate) fn taken(alloc: Global, disk: &mut MemDisk) -> MemDisk {
 
 /// Lets the disk hold the bytes of these words, all of them synced.
 pub(crate) fn hold_words(alloc: Global, disk: &mut MemDisk, words: &str) -> Result<(), WordsFault> {
-    hold(alloc, disk, read_bytes(alloc, words)?)
+    match read_bytes(alloc, words) {
+        Ok(bytes) => hold(alloc, disk, bytes),
+        Err(fault) => Err(fault),
+    }
 }
 
 // Lets the disk hold these bytes, all of them synced.
@@ -66,13 +69,15 @@ pub(crate) fn play_disk(
 
 // Lets the power go off inside a call of the device.
 fn fuse(disk: &mut MemDisk, call: &str) -> Result<(), WordsFault> {
-    disk.fuse(read_number(call)?);
+    let call = read_number(call)?;
+    disk.fuse(call);
     Ok(())
 }
 
 // Lets a call of the device fail.
 fn fail(disk: &mut MemDisk, call: &str) -> Result<(), WordsFault> {
-    disk.fail_once(read_number(call)?);
+    let call = read_number(call)?;
+    disk.fail_once(call);
     Ok(())
 }
 
@@ -88,7 +93,8 @@ fn write_at(
     if at > disk.bytes().len() {
         return Err(WordsFault::Unknown);
     }
-    tell_done(disk.write_at(at, &read_bytes(alloc, bytes)?), came)
+    let bytes = read_bytes(alloc, bytes)?;
+    tell_done(disk.write_at(at, &bytes), came)
 }
 
 // Cuts the disk to a length within it.
@@ -139,7 +145,7 @@ fn show_or_hold(
 // Writes the text that the bytes are.
 fn tell_text(bytes: &[u8], came: &mut String) -> Result<(), WordsFault> {
     match str::from_utf8(bytes) {
-        Ok(text) => Ok(writeln!(came, "> \"{text}\"")?),
+        Ok(text) => done(writeln!(came, "> \"{text}\"")),
         Err(_) => tell(came, "no text"),
     }
 }
@@ -177,7 +183,8 @@ fn change(alloc: Global, bytes: &mut Vec<u8>, word: &str, rest: &str) -> Result<
 
 // Only the first bytes are left.
 fn keep_front(bytes: &mut Vec<u8>, len: &str) -> Result<(), WordsFault> {
-    bytes.truncate(read_size(len)?);
+    let len = read_size(len)?;
+    bytes.truncate(len);
     Ok(())
 }
 
@@ -200,7 +207,7 @@ fn push_clients(bytes: &mut Vec<u8>, words: &str) -> Result<(), WordsFault> {
     let (first, end) = read_numbered(words)?;
     let (end, _rest) = read_numbered(end)?;
     for client in first..end {
-        push_client(bytes, client)?;
+        done(push_client(bytes, client))?;
     }
     Ok(())
 }

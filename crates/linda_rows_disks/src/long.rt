@@ -1,5 +1,8 @@
 //! Long tuples: each has a tag of 255 letters and no field.
 
+ghost use Rattle.std.specs.Prelude.{IfOk, ◌≤◌, length};
+ghost use Rattle.linda_step.specs.declared.size.TheConstants.{MAX_BATCH};
+
 use crate::number::read_number;
 use crate::serving::few;
 use crate::telling::{tell, tell_two};
@@ -9,6 +12,7 @@ use linda_script::{WordsFault, read_messages, split_word};
 use linda_server::Durable;
 use linda_store::Node;
 use linda_text::write_tuple;
+use linda_wire::Message;
 use std::alloc::{AllocError, Global};
 
 /// The letters of a tag.
@@ -37,12 +41,29 @@ fn put(
     words: &str,
     came: &mut String,
 ) -> Result<(), WordsFault> {
-    let (first, count) = split_word(words);
-    let script = puts(alloc, read_number(first)?, read_number(count)?)?;
-    let messages = few(read_messages(alloc, &script)?)?;
+    let messages = long_batch(alloc, words)?;
     match server.handle_all(alloc, &messages) {
         Ok(sends) => tell_two(came, sends.len(), "replies"),
         Err(fault) => tell(came, fault),
+    }
+}
+
+// The messages that put so many long tuples, which are few enough for one call.
+fn long_batch(alloc: Global, words: &str) -> Result<Vec<(u32, Message)>, WordsFault>
+    ensures { IfOk result (λ messages. length messages.items ≤ MAX_BATCH) }
+{
+    let script = script_of(alloc, words)?;
+    few(read_messages(alloc, &script)?)
+}
+
+// The script that the words say: its first number, and how many messages it has.
+fn script_of(alloc: Global, words: &str) -> Result<String, WordsFault> {
+    let (first, count) = split_word(words);
+    let first = read_number(first)?;
+    let count = read_number(count)?;
+    match puts(alloc, first, count) {
+        Ok(script) => Ok(script),
+        Err(_) => Err(WordsFault::Memory),
     }
 }
 
@@ -56,9 +77,13 @@ fn puts(alloc: Global, first: u64, count: u64) -> Result<String, AllocError> {
 fn push_puts(script: &mut String, first: u64, count: u64, tuple: &str) -> Result<(), AllocError> {
     for k in 0..count {
         let n = first.saturating_add(k);
-        writeln!(script, "7 out {n} {tuple}")?;
+        push_put(script, n, tuple)?;
     }
     Ok(())
+}
+
+fn push_put(script: &mut String, n: u64, tuple: &str) -> Result<(), AllocError> {
+    writeln!(script, "7 out {n} {tuple}")
 }
 
 // The text of a long tuple.
@@ -82,8 +107,15 @@ fn tell_kept(
     server: &Durable<MemDisk>,
     came: &mut String,
 ) -> Result<(), WordsFault> {
-    let count = count_long(alloc, server, &long_tuple(alloc)?)?;
-    tell_two(came, count, "long")
+    match count_kept(alloc, server) {
+        Ok(count) => tell_two(came, count, "long"),
+        Err(_) => Err(WordsFault::Memory),
+    }
+}
+
+fn count_kept(alloc: Global, server: &Durable<MemDisk>) -> Result<u64, AllocError> {
+    let long = long_tuple(alloc)?;
+    count_long(alloc, server, &long)
 }
 
 // How many of the tuples that the server keeps have this text.

@@ -25,11 +25,17 @@ pub(crate) fn split_torn(text: &str) -> Result<(Torn, &str), WordsFault> {
     match word {
         "kept" => Ok((Torn::Kept, rest)),
         "lost" => Ok((Torn::Lost, rest)),
-        "filled" => {
-            let (digits, rest) = split_word(rest);
-            Ok((Torn::Filled(read_byte(digits)?), rest))
-        }
+        "filled" => split_filled(rest),
         _ => Err(WordsFault::Unknown),
+    }
+}
+
+// The byte that each byte becomes, and what stands after it.
+fn split_filled(text: &str) -> Result<(Torn, &str), WordsFault> {
+    let (digits, rest) = split_word(text);
+    match read_byte(digits) {
+        Ok(byte) => Ok((Torn::Filled(byte), rest)),
+        Err(fault) => Err(fault),
     }
 }
 

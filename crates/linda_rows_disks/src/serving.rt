@@ -7,7 +7,7 @@ ghost use Rattle.linda_store.specs.Node.{IsBatch};
 use crate::bytes::{read_bytes, tell_pieces};
 use crate::long::play_long;
 use crate::number::{read_number, split_torn};
-use crate::telling::{tell, tell_two};
+use crate::telling::{done, tell, tell_two};
 use linda_bag::Bag;
 use linda_book::KeptReply;
 use linda_disk::MemDisk;
@@ -71,9 +71,20 @@ fn say(
     came: &mut String,
 ) -> Result<(), WordsFault> {
     let (client, words) = read_numbered(words)?;
-    if words == "leaves" {
-        return tell_answer(alloc, server.close(alloc, client), came);
+    match words {
+        "leaves" => tell_answer(alloc, server.close(alloc, client), came),
+        _ => say_words(alloc, server, client, words, came),
     }
+}
+
+// Takes the message of a client.
+fn say_words(
+    alloc: Global,
+    server: &mut Durable<MemDisk>,
+    client: u32,
+    words: &str,
+    came: &mut String,
+) -> Result<(), WordsFault> {
     let message = read_message(alloc, words)?;
     tell_answer(alloc, server.handle(alloc, client, &message), came)
 }
@@ -108,7 +119,7 @@ fn tell_answer(
 }
 
 fn tell_sends(alloc: Global, sends: &[(u32, Reply)], came: &mut String) -> Result<(), WordsFault> {
-    Ok(tell_replies(alloc, came, sends)?)
+    done(tell_replies(alloc, came, sends))
 }
 
 // Writes why a call was not done.
@@ -174,10 +185,10 @@ pub(crate) fn look(server: &Durable<MemDisk>, came: &mut String) -> Result<(), W
     let next = state.next;
     let tuples = state.bag.len();
     let clients = state.book.len();
-    Ok(writeln!(
+    done(writeln!(
         came,
         "> next {next}, tuples {tuples}, clients {clients}, held {held}"
-    )?)
+    ))
 }
 
 // Writes the reply that the server keeps for a client, without its tuple.
@@ -200,5 +211,5 @@ fn tell_reply(came: &mut String, n: u64, reply: &KeptReply) -> Result<(), WordsF
 
 // Writes what came of a message, and the id of its tuple.
 fn tell_place(came: &mut String, word: &str, n: u64, id: u64) -> Result<(), WordsFault> {
-    Ok(writeln!(came, "> {word} {n} {id}")?)
+    done(writeln!(came, "> {word} {n} {id}"))
 }

@@ -3,11 +3,20 @@
 use linda_bag::{Bag, ListBag};
 use linda_script::WordsFault;
 use linda_state::State;
+use std::alloc::AllocError;
 use std::fmt::Display;
+
+/// That something was done, or that memory ran out.
+pub(crate) fn done(written: Result<(), AllocError>) -> Result<(), WordsFault> {
+    match written {
+        Ok(()) => Ok(()),
+        Err(_) => Err(WordsFault::Memory),
+    }
+}
 
 /// Writes a line of what came.
 pub(crate) fn tell<T: Display + Drop>(came: &mut String, what: T) -> Result<(), WordsFault> {
-    Ok(writeln!(came, "> {what}")?)
+    done(writeln!(came, "> {what}"))
 }
 
 /// Writes a line of two words, as `3 deeds`.
@@ -16,7 +25,7 @@ pub(crate) fn tell_two<A: Display + Drop, B: Display + Drop>(
     first: A,
     second: B,
 ) -> Result<(), WordsFault> {
-    Ok(writeln!(came, "> {first} {second}")?)
+    done(writeln!(came, "> {first} {second}"))
 }
 
 /// Writes the next id of a state, and how many tuples and clients there are, after these words.
@@ -28,8 +37,8 @@ pub(crate) fn tell_state(
     let next = state.next;
     let tuples = state.bag.len();
     let clients = state.book.len();
-    Ok(writeln!(
+    done(writeln!(
         came,
         "> {words}next {next}, tuples {tuples}, clients {clients}"
-    )?)
+    ))
 }
