@@ -10,12 +10,11 @@ mod call;
 mod told;
 
 use crate::number::small_number;
-use crate::words::done;
 use call::call_of;
-use linda_client::Client;
+use linda_client::{Client, ClientFault};
 use linda_script::{WordsFault, read_numbered};
 use std::alloc::Global;
-use told::{push_refusal, push_told};
+use told::push_told;
 
 /// The player of rows of clients.
 #[derive(Drop)]
@@ -45,56 +44,31 @@ impl Clients {
         words: &str,
         came: &mut String,
     ) -> Result<(), WordsFault> {
-        match words.strip_prefix("client ") {
-            Some(words) => self.renew(alloc, words, came),
-            None => self.call(alloc, words, came),
+        if let Some(words) = words.strip_prefix("client ") {
+            return self.renew(alloc, words, came);
         }
-    }
-
-    // Lets the client do the call that the words say.
-    fn call(&mut self, alloc: Global, words: &str, came: &mut String) -> Result<(), WordsFault> {
-        match &mut self.client {
-            Some(client) => answer(alloc, client, words, came),
-            None => Err(WordsFault::Unknown),
-        }
+        let call = call_of(alloc, words)?;
+        let Some(client) = &mut self.client else {
+            return Err(WordsFault::Unknown);
+        };
+        let number = client.number();
+        push_told(alloc, came, number, client.call(alloc, call))
     }
 
     // Goes on with a new client, where there can be one.
     fn renew(&mut self, alloc: Global, words: &str, came: &mut String) -> Result<(), WordsFault> {
-        let (number, servers) = renewed(words)?;
-        match Client::new(alloc, number, servers) {
+        let (number, rest) = read_numbered(words)?;
+        let Some(servers) = rest.strip_prefix("over ") else {
+            return Err(WordsFault::Unknown);
+        };
+        match Client::new(alloc, number, small_number(servers)?) {
             Ok(client) => {
                 let servers = client.servers();
                 self.client = Some(client);
-                tell_servers(servers, came)
+                Ok(writeln!(came, "> servers {servers}")?)
             }
-            Err(fault) => push_refusal(came, fault),
+            Err(ClientFault::Memory) => Err(WordsFault::Memory),
+            Err(fault) => Ok(writeln!(came, "> refused {fault}")?),
         }
     }
-}
-
-// Writes what comes of the call that the words say.
-fn answer(
-    alloc: Global,
-    client: &mut Client,
-    words: &str,
-    came: &mut String,
-) -> Result<(), WordsFault> {
-    let call = call_of(alloc, words)?;
-    let number = client.number();
-    push_told(alloc, came, number, client.call(alloc, call))
-}
-
-// The number of a new client, and how many servers it has.
-fn renewed(words: &str) -> Result<(u32, u32), WordsFault> {
-    let (number, rest) = read_numbered(words)?;
-    match rest.strip_prefix("over ") {
-        Some(servers) => Ok((number, small_number(servers)?)),
-        None => Err(WordsFault::Unknown),
-    }
-}
-
-// Writes how many servers a client has.
-fn tell_servers(servers: u32, came: &mut String) -> Result<(), WordsFault> {
-    done(writeln!(came, "> servers {servers}"))
 }

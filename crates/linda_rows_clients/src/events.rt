@@ -14,13 +14,12 @@
 mod made;
 
 use crate::number::place;
-use crate::words::{done, push_numbers};
+use crate::words::push_numbers;
 use linda_event::{
     Base, Event, all_nacks, ask_count, base_count, bases, check, is_any_ready, labels_of, nacks_of,
 };
 use linda_script::{WordsFault, split_word};
 use linda_text::{push_atom, push_template};
-use linda_tuple::{Atom, Template};
 pub use made::event_of;
 use std::alloc::{AllocError, Global};
 
@@ -48,23 +47,35 @@ impl Events {
         let (verb, rest) = split_word(words);
         match verb {
             "event" => self.renew(alloc, rest),
-            "check" => done(tell_check(&self.event, came)),
-            "count" => done(tell_count(&self.event, came)),
-            "bases" => done(tell_bases(alloc, &self.event, came)),
-            "nothing" => done(tell_nothing(alloc, &self.event, came)),
-            _ => tell_at(alloc, &self.event, verb, rest, came),
+            "check" | "count" | "bases" | "nothing" => {
+                Ok(tell_whole(alloc, &self.event, verb, came)?)
+            }
+            "at" | "base" | "labels" => {
+                Ok(tell_at(alloc, &self.event, verb, place(rest)?, came)?)
+            }
+            _ => Err(WordsFault::Unknown),
         }
     }
 
     // Goes on with the event that the words say.
     fn renew(&mut self, alloc: Global, words: &str) -> Result<(), WordsFault> {
-        match event_of(alloc, words) {
-            Ok(event) => {
-                self.event = event;
-                Ok(())
-            }
-            Err(fault) => Err(fault),
-        }
+        self.event = event_of(alloc, words)?;
+        Ok(())
+    }
+}
+
+// Writes what the verb asks of the whole event.
+fn tell_whole(
+    alloc: Global,
+    event: &Event,
+    verb: &str,
+    came: &mut String,
+) -> Result<(), AllocError> {
+    match verb {
+        "check" => tell_check(event, came),
+        "count" => tell_count(event, came),
+        "bases" => tell_bases(alloc, event, came),
+        _ => tell_nothing(alloc, event, came),
     }
 }
 
@@ -73,15 +84,13 @@ fn tell_at(
     alloc: Global,
     event: &Event,
     verb: &str,
-    number: &str,
+    number: usize,
     came: &mut String,
-) -> Result<(), WordsFault> {
-    let number = place(number)?;
+) -> Result<(), AllocError> {
     match verb {
-        "at" => done(tell_ready(event, number as u64, came)),
-        "base" => done(tell_base(alloc, event, number, came)),
-        "labels" => done(tell_labels(alloc, event, number, came)),
-        _ => Err(WordsFault::Unknown),
+        "at" => tell_ready(event, number as u64, came),
+        "base" => tell_base(alloc, event, number, came),
+        _ => tell_labels(alloc, event, number, came),
     }
 }
 
@@ -98,43 +107,32 @@ fn tell_count(event: &Event, came: &mut String) -> Result<(), AllocError> {
 }
 
 fn tell_bases(alloc: Global, event: &Event, came: &mut String) -> Result<(), AllocError> {
-    match bases(alloc, event) {
-        Ok(found) => tell_each(&found, came),
-        Err(fault) => Err(fault),
-    }
-}
-
-fn tell_each(bases: &[Base], came: &mut String) -> Result<(), AllocError> {
-    for (place, base) in bases.iter().enumerate() {
-        tell_one(place, base, came)?;
+    let found = bases(alloc, event)?;
+    for (place, base) in found.iter().enumerate() {
+        write!(came, "> {place} ")?;
+        push_base(came, base)?;
+        came.push('\n')?;
     }
     Ok(())
 }
 
-fn tell_one(place: usize, base: &Base, came: &mut String) -> Result<(), AllocError> {
-    write!(came, "> {place} ")?;
-    push_base(came, base)?;
-    came.push('\n')
-}
-
 fn push_base(came: &mut String, base: &Base) -> Result<(), AllocError> {
     match base {
-        Base::Input(template) => push_asked(came, "in ", template),
-        Base::Read(template) => push_asked(came, "rd ", template),
+        Base::Input(template) => {
+            came.push_str("in ")?;
+            push_template(came, template)
+        }
+        Base::Read(template) => {
+            came.push_str("rd ")?;
+            push_template(came, template)
+        }
         Base::Alarm(time) => write!(came, "alarm {time}"),
-        Base::Always(value) => push_always(came, value),
+        Base::Always(value) => {
+            came.push_str("always ")?;
+            push_atom(came, value)
+        }
         Base::Never => came.push_str("never"),
     }
-}
-
-fn push_asked(came: &mut String, verb: &str, template: &Template) -> Result<(), AllocError> {
-    came.push_str(verb)?;
-    push_template(came, template)
-}
-
-fn push_always(came: &mut String, value: &Atom) -> Result<(), AllocError> {
-    came.push_str("always ")?;
-    push_atom(came, value)
 }
 
 fn tell_ready(event: &Event, clock: u64, came: &mut String) -> Result<(), AllocError> {
@@ -152,26 +150,14 @@ fn tell_base(
     came: &mut String,
 ) -> Result<(), AllocError> {
     came.push('>')?;
-    push_found(came, "labels", labels_of(alloc, event, base))?;
-    push_found(came, "raised", nacks_of(alloc, event, base))?;
+    push_numbers(came, "labels", &labels_of(alloc, event, base)?)?;
+    push_numbers(came, "raised", &nacks_of(alloc, event, base)?)?;
     came.push('\n')
-}
-
-// Appends the numbers that were found after their name.
-fn push_found(
-    came: &mut String,
-    name: &str,
-    found: Result<Vec<u64>, AllocError>,
-) -> Result<(), AllocError> {
-    match found {
-        Ok(numbers) => push_numbers(came, name, &numbers),
-        Err(fault) => Err(fault),
-    }
 }
 
 fn tell_nothing(alloc: Global, event: &Event, came: &mut String) -> Result<(), AllocError> {
     came.push('>')?;
-    push_found(came, "raised", all_nacks(alloc, event))?;
+    push_numbers(came, "raised", &all_nacks(alloc, event)?)?;
     came.push('\n')
 }
 

@@ -62,10 +62,16 @@ fn subject_of(name: &str) -> Result<Subject, WordsFault> {
 
 impl Player for Players {
     fn begin(&mut self, alloc: Global, subject: &str) -> Result<(), WordsFault> {
-        match subject_of(subject) {
-            Ok(subject) => self.renew(alloc, subject),
-            Err(fault) => Err(fault),
+        self.subject = subject_of(subject)?;
+        match self.subject {
+            Subject::Events => put(&mut self.events, Events::new()),
+            Subject::Clients => return self.clients.begin(alloc),
+            Subject::Texts => (),
+            Subject::Scripts => put(&mut self.scripts, Scripts::new(alloc, false)),
+            Subject::Traces => put(&mut self.scripts, Scripts::new(alloc, true)),
+            Subject::Worlds => put(&mut self.worlds, Worlds::new(alloc)),
         }
+        Ok(())
     }
 
     fn play(&mut self, alloc: Global, words: &str, came: &mut String) -> Result<(), WordsFault> {
@@ -76,21 +82,5 @@ impl Player for Players {
             Subject::Scripts | Subject::Traces => self.scripts.play(alloc, words, came),
             Subject::Worlds => self.worlds.play(alloc, words, came),
         }
-    }
-}
-
-impl Players {
-    // Goes on with a new player of this subject.
-    fn renew(&mut self, alloc: Global, subject: Subject) -> Result<(), WordsFault> {
-        self.subject = subject;
-        match subject {
-            Subject::Events => put(&mut self.events, Events::new()),
-            Subject::Clients => return self.clients.begin(alloc),
-            Subject::Texts => (),
-            Subject::Scripts => put(&mut self.scripts, Scripts::new(alloc, false)),
-            Subject::Traces => put(&mut self.scripts, Scripts::new(alloc, true)),
-            Subject::Worlds => put(&mut self.worlds, Worlds::new(alloc)),
-        }
-        Ok(())
     }
 }

@@ -13,7 +13,7 @@
 mod lines;
 
 use crate::number::small_number;
-use crate::words::{copied, done, string_at};
+use crate::words::string_at;
 use linda_client::MAX_SERVERS;
 use linda_script::{WordsFault, split_word};
 use linda_shell::{LineFault, ScriptFault, run_script, trace_script};
@@ -50,7 +50,7 @@ impl Scripts {
     ) -> Result<(), WordsFault> {
         let (verb, rest) = split_word(words);
         match verb {
-            "servers" => self.begin(rest),
+            "servers" => self.begin(alloc, rest),
             "skip" => push_skipped(&mut self.script, rest),
             "script" => self.play_script(alloc, rest, came),
             "times" => self.play_lines(alloc, rest, came),
@@ -59,10 +59,10 @@ impl Scripts {
     }
 
     // Begins a script over so many servers.
-    fn begin(&mut self, servers: &str) -> Result<(), WordsFault> {
-        self.servers = small_number(servers)?;
-        self.script.clear();
-        self.printed.clear();
+    fn begin(&mut self, alloc: Global, servers: &str) -> Result<(), WordsFault> {
+        let servers = small_number(servers)?;
+        *self = Scripts::new(alloc, self.are_traced);
+        self.servers = servers;
         Ok(())
     }
 
@@ -97,26 +97,21 @@ impl Scripts {
         line: &str,
         came: &mut String,
     ) -> Result<(), WordsFault> {
-        done(push_line(&mut self.script, line))?;
+        push_line(&mut self.script, line)?;
         self.run(alloc, came, false)
     }
 
     // Runs the script, and gives what it printed that it had not printed before: all of it, or only the last line where
     // there are many.
     fn run(&mut self, alloc: Global, came: &mut String, are_many: bool) -> Result<(), WordsFault> {
-        let (printed, end) = self.came(alloc)?;
-        done(tell_more(&printed, &self.printed, are_many, came))?;
+        let (printed, end) = if self.are_traced {
+            traced_by(alloc, &self.script, self.servers)?
+        } else {
+            printed_by(alloc, &self.script, self.servers)?
+        };
+        tell_more(&printed, &self.printed, are_many, came)?;
         self.printed = printed;
         tell_end(end, came)
-    }
-
-    // What the script prints, or its trace, and how it ends.
-    fn came(&self, alloc: Global) -> Result<(String, Result<(), ScriptFault>), WordsFault> {
-        if self.are_traced {
-            traced_by(alloc, &self.script, self.servers)
-        } else {
-            printed_by(alloc, &self.script, self.servers)
-        }
     }
 }
 
@@ -140,28 +135,22 @@ fn tell_end(end: Result<(), ScriptFault>, came: &mut String) -> Result<(), Words
         Ok(()) => Ok(()),
         Err(ScriptFault::Memory) => Err(WordsFault::Memory),
         Err(ScriptFault::Line(_, LineFault::Memory)) => Err(WordsFault::Memory),
-        Err(fault) => done(writeln!(came, "> {fault}")),
+        Err(fault) => Ok(writeln!(came, "> {fault}")?),
     }
 }
 
 // Writes what was printed, line by line.
 fn tell_lines(printed: &str, came: &mut String) -> Result<(), AllocError> {
     match printed.strip_suffix("\n") {
-        Some(lines) => tell_each(lines, came),
+        Some(lines) => {
+            for line in lines.split('\n') {
+                writeln!(came, "> {line}")?;
+            }
+            Ok(())
+        }
         None if printed.is_empty() => Ok(()),
         None => writeln!(came, "> ? no line feed behind {printed}"),
     }
-}
-
-fn tell_each(lines: &str, came: &mut String) -> Result<(), AllocError> {
-    for line in lines.split('\n') {
-        tell_line(line, came)?;
-    }
-    Ok(())
-}
-
-fn tell_line(line: &str, came: &mut String) -> Result<(), AllocError> {
-    writeln!(came, "> {line}")
 }
 
 // What the script prints over so many servers, and how it ends.
@@ -176,19 +165,7 @@ fn printed_by(
     let mut reader = script.as_bytes();
     let mut printed = Vec::new(alloc);
     let end = run_script(alloc, &mut reader, &mut printed, servers);
-    with_end(alloc, &printed, end)
-}
-
-// The text of bytes that were written, and an end.
-fn with_end(
-    alloc: Global,
-    bytes: &[u8],
-    end: Result<(), ScriptFault>,
-) -> Result<(String, Result<(), ScriptFault>), WordsFault> {
-    match text_of(alloc, bytes) {
-        Ok(text) => Ok((text, end)),
-        Err(fault) => Err(fault),
-    }
+    Ok((text_of(alloc, &printed)?, end))
 }
 
 // The trace of the script over so many servers, and how it ends. What it prints has to be what it prints without one.
@@ -197,46 +174,24 @@ fn traced_by(
     script: &str,
     servers: u32,
 ) -> Result<(String, Result<(), ScriptFault>), WordsFault> {
-    let mut trace = Vec::new(alloc);
-    let end = are_alike(
-        printed_by(alloc, script, servers)?,
-        printed_beside(alloc, script, servers, &mut trace)?,
-    )?;
-    with_end(alloc, &trace, end)
-}
-
-// What the script prints over so many servers while its trace is written, and how it ends.
-fn printed_beside(
-    alloc: Global,
-    script: &str,
-    servers: u32,
-    trace: &mut Vec<u8>,
-) -> Result<(String, Result<(), ScriptFault>), WordsFault> {
+    let (alone, ended) = printed_by(alloc, script, servers)?;
     if servers < 1 || servers > MAX_SERVERS {
         return Err(WordsFault::Unknown);
     }
     let mut reader = script.as_bytes();
     let mut printed = Vec::new(alloc);
-    let end = trace_script(alloc, &mut reader, &mut printed, trace, servers);
-    with_end(alloc, &printed, end)
-}
-
-// The end of two runs that have to print the same, and end the same way.
-fn are_alike(
-    first: (String, Result<(), ScriptFault>),
-    second: (String, Result<(), ScriptFault>),
-) -> Result<Result<(), ScriptFault>, WordsFault> {
-    if first.0 == second.0 && first.1 == second.1 {
-        Ok(first.1)
-    } else {
-        Err(WordsFault::Unknown)
+    let mut trace = Vec::new(alloc);
+    let end = trace_script(alloc, &mut reader, &mut printed, &mut trace, servers);
+    if text_of(alloc, &printed)? != alone || end != ended {
+        return Err(WordsFault::Unknown);
     }
+    Ok((text_of(alloc, &trace)?, end))
 }
 
 // The text of bytes that were written.
 fn text_of(alloc: Global, bytes: &[u8]) -> Result<String, WordsFault> {
     match std::str::from_utf8(bytes) {
-        Ok(text) => copied(alloc, text),
+        Ok(text) => Ok(String::from_str(alloc, text)?),
         Err(_) => Err(WordsFault::Unknown),
     }
 }

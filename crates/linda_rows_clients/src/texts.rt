@@ -5,8 +5,8 @@
 //! how many bases there are.
 
 use crate::number::place;
-use crate::words::{done, string_at};
-use linda_event::{Event, base_count};
+use crate::words::string_at;
+use linda_event::base_count;
 use linda_script::{WordsFault, split_word};
 use linda_shell::{EventTextFault, read_event, write_event};
 use linda_text::TextFault;
@@ -32,49 +32,28 @@ fn tell_quoted(alloc: Global, words: &str, came: &mut String) -> Result<(), Word
 // Writes the event that is read.
 fn tell_event(alloc: Global, text: &str, came: &mut String) -> Result<(), WordsFault> {
     match read_event(alloc, text) {
-        Ok(event) => done(tell_written(alloc, &event, came)),
+        Ok(event) => {
+            let written = write_event(alloc, &event)?;
+            Ok(writeln!(came, "> {written}")?)
+        }
         Err(fault) => tell_fault(fault, came),
-    }
-}
-
-// Writes the text of an event.
-fn tell_written(alloc: Global, event: &Event, came: &mut String) -> Result<(), AllocError> {
-    match write_event(alloc, event) {
-        Ok(written) => writeln!(came, "> {written}"),
-        Err(fault) => Err(fault),
     }
 }
 
 // Writes how many bases the event has that is read.
 fn tell_nested(alloc: Global, words: &str, came: &mut String) -> Result<(), WordsFault> {
-    match nested_in(alloc, words) {
-        Ok(text) => tell_bases(alloc, &text, came),
-        Err(fault) => Err(fault),
-    }
-}
-
-// The text of so many nodes that begin as the words say.
-fn nested_in(alloc: Global, words: &str) -> Result<String, WordsFault> {
     let (count, rest) = split_word(words);
-    let count = place(count)?;
     let (node, behind) = string_at(alloc, rest, 0)?;
     let (end, _behind) = string_at(alloc, rest, behind)?;
-    match nested(alloc, count, &node, &end) {
-        Ok(text) => Ok(text),
-        Err(_) => Err(WordsFault::Memory),
-    }
+    tell_bases(alloc, &nested(alloc, place(count)?, &node, &end)?, came)
 }
 
 // Writes how many bases the event of the text has.
 fn tell_bases(alloc: Global, text: &str, came: &mut String) -> Result<(), WordsFault> {
     match read_event(alloc, text) {
-        Ok(event) => tell_count(base_count(&event), came),
+        Ok(event) => Ok(writeln!(came, "> bases {}", base_count(&event))?),
         Err(fault) => tell_fault(fault, came),
     }
-}
-
-fn tell_count(bases: usize, came: &mut String) -> Result<(), WordsFault> {
-    done(writeln!(came, "> bases {bases}"))
 }
 
 // So many nodes that begin so, and the end.
@@ -90,6 +69,6 @@ fn nested(alloc: Global, count: usize, node: &str, end: &str) -> Result<String, 
 fn tell_fault(fault: EventTextFault, came: &mut String) -> Result<(), WordsFault> {
     match fault {
         EventTextFault::Text(TextFault::Memory) => Err(WordsFault::Memory),
-        fault => done(writeln!(came, "> {fault}")),
+        fault => Ok(writeln!(came, "> {fault}")?),
     }
 }

@@ -18,37 +18,19 @@ pub fn typed_event(alloc: Global, words: &str) -> Result<Event, WordsFault> {
 
 /// The string that stands at this place of the words, as people type it, and the place after it.
 pub fn string_at(alloc: Global, words: &str, at: usize) -> Result<(String, usize), WordsFault> {
-    match read_atom_at(alloc, words, at) {
-        Ok((atom, behind)) => text_of(atom, behind),
-        Err(fault) => Err(fault.into()),
-    }
-}
-
-// The text of a string, and the place after it.
-fn text_of(atom: Atom, behind: usize) -> Result<(String, usize), WordsFault> {
+    let (atom, behind) = read_atom_at(alloc, words, at)?;
     match atom {
         Atom::Text(text) => Ok((text.into_string(), behind)),
         _ => Err(WordsFault::Unknown),
     }
 }
 
-/// That something was done, or that memory ran out.
-pub fn done(written: Result<(), AllocError>) -> Result<(), WordsFault> {
-    match written {
-        Ok(()) => Ok(()),
-        Err(_) => Err(WordsFault::Memory),
-    }
-}
-
-/// A copy of the text.
-pub fn copied(alloc: Global, text: &str) -> Result<String, WordsFault> {
-    match String::from_str(alloc, text) {
-        Ok(text) => Ok(text),
-        Err(_) => Err(WordsFault::Memory),
-    }
-}
-
 /// Appends a name and a list of numbers, as ` labels [2, 1]`.
 pub fn push_numbers(out: &mut String, name: &str, numbers: &[u64]) -> Result<(), AllocError> {
-    write!(out, " {name} {numbers:?}")
+    write!(out, " {name} [")?;
+    for (place, number) in numbers.iter().enumerate() {
+        out.push_str(if place == 0 { "" } else { ", " })?;
+        write!(out, "{number}")?;
+    }
+    out.push(']')
 }

@@ -37,7 +37,6 @@ mod stops;
 mod told;
 mod world;
 
-use crate::words::done;
 use call::{Seat, call_of};
 use linda_script::{WordsFault, split_word};
 use making::push_worlds;
@@ -69,15 +68,8 @@ impl Worlds {
         if verb == "world" {
             push_worlds(alloc, rest, &mut self.worlds)
         } else {
-            self.answer(alloc, words, came)
-        }
-    }
-
-    // Writes what comes of the line in the worlds.
-    fn answer(&mut self, alloc: Global, words: &str, came: &mut String) -> Result<(), WordsFault> {
-        match self.told(alloc, words) {
-            Ok(told) => done(push_told(&told, came)),
-            Err(fault) => Err(fault),
+            let told = self.told(alloc, words)?;
+            Ok(push_told(told.as_slice(), came)?)
         }
     }
 
@@ -87,26 +79,11 @@ impl Worlds {
         let worlds = self.worlds.len();
         let mut place = 0;
         for world in &mut self.worlds {
-            push_answer(alloc, &mut told, world, words, Seat { place, worlds })?;
+            let call = call_of(alloc, words, Seat { place, worlds })?;
+            told.push(world.answer(alloc, call)?)?;
             place = place.saturating_add(1);
         }
         Ok(told)
-    }
-}
-
-// Appends what comes of the line in this world.
-fn push_answer(
-    alloc: Global,
-    told: &mut Vec<String>,
-    world: &mut AnyWorld,
-    words: &str,
-    seat: Seat,
-) -> Result<(), WordsFault> {
-    let call = call_of(alloc, words, seat)?;
-    let answer = world.answer(alloc, call)?;
-    match told.push(answer) {
-        Ok(()) => Ok(()),
-        Err(_) => Err(WordsFault::Memory),
     }
 }
 
@@ -114,21 +91,16 @@ fn push_answer(
 fn push_told(told: &[String], came: &mut String) -> Result<(), AllocError> {
     match told {
         [] => Ok(()),
-        [first, rest @ ..] if are_all(first, rest) => writeln!(came, "> {first}"),
-        _ => tell_each(told, came),
+        [first, rest @ ..] => {
+            if are_all(first, rest) {
+                return writeln!(came, "> {first}");
+            }
+            for (place, words) in told.iter().enumerate() {
+                writeln!(came, "> world {place}: {words}")?;
+            }
+            Ok(())
+        }
     }
-}
-
-// Writes what came in each world.
-fn tell_each(told: &[String], came: &mut String) -> Result<(), AllocError> {
-    for (place, words) in told.iter().enumerate() {
-        tell_world(place, words, came)?;
-    }
-    Ok(())
-}
-
-fn tell_world(place: usize, words: &str, came: &mut String) -> Result<(), AllocError> {
-    writeln!(came, "> world {place}: {words}")
 }
 
 fn are_all(first: &String, rest: &[String]) -> bool {

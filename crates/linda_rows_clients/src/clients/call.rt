@@ -23,17 +23,11 @@ pub fn call_of(alloc: Global, words: &str) -> Result<Call, WordsFault> {
 }
 
 fn out_of(alloc: Global, tuple: &str) -> Result<Call, WordsFault> {
-    match read_tuple(alloc, tuple) {
-        Ok(tuple) => Ok(Call::Out(tuple)),
-        Err(fault) => Err(fault.into()),
-    }
+    Ok(Call::Out(read_tuple(alloc, tuple)?))
 }
 
 fn sync_of(alloc: Global, event: &str) -> Result<Call, WordsFault> {
-    match event_of(alloc, event) {
-        Ok(event) => Ok(Call::Sync(event)),
-        Err(fault) => Err(fault),
-    }
+    Ok(Call::Sync(event_of(alloc, event)?))
 }
 
 fn tick_of(now: &str) -> Result<Call, WordsFault> {
@@ -47,8 +41,5 @@ fn reconnected_of(server: &str) -> Result<Call, WordsFault> {
 // The reply that stands after the number of the server that it comes from.
 fn receive_of(alloc: Global, words: &str) -> Result<Call, WordsFault> {
     let (server, words) = read_numbered(words)?;
-    match read_reply(alloc, words) {
-        Ok(reply) => Ok(Call::Receive(server, reply)),
-        Err(fault) => Err(fault),
-    }
+    Ok(Call::Receive(server, read_reply(alloc, words)?))
 }

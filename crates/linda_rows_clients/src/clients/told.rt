@@ -1,6 +1,5 @@
 //! What comes of a client's call, in words.
 
-use crate::words::done;
 use linda_client::{ClientFault, Outcome, Reaction};
 use linda_script::{WordsFault, write_message};
 use linda_shell::write_outcome;
@@ -15,16 +14,9 @@ pub fn push_told(
     answer: Result<Reaction, ClientFault>,
 ) -> Result<(), WordsFault> {
     match answer {
-        Ok(reaction) => done(push_reaction(alloc, came, client, &reaction)),
-        Err(fault) => push_refusal(came, fault),
-    }
-}
-
-/// Appends why a client refused something.
-pub fn push_refusal(came: &mut String, fault: ClientFault) -> Result<(), WordsFault> {
-    match fault {
-        ClientFault::Memory => Err(WordsFault::Memory),
-        fault => done(writeln!(came, "> refused {fault}")),
+        Ok(reaction) => Ok(push_reaction(alloc, came, client, &reaction)?),
+        Err(ClientFault::Memory) => Err(WordsFault::Memory),
+        Err(fault) => Ok(writeln!(came, "> refused {fault}")?),
     }
 }
 
@@ -34,30 +26,16 @@ fn push_reaction(
     client: u32,
     reaction: &Reaction,
 ) -> Result<(), AllocError> {
-    push_packets(alloc, came, &reaction.packets)?;
+    for (server, message) in &reaction.packets {
+        push_packet(alloc, came, *server, message)?;
+    }
     if let Some(outcome) = &reaction.outcome {
         push_outcome(alloc, came, client, outcome)?;
     }
-    match reaction.fault {
-        Some(fault) => push_fault(came, fault),
-        None => Ok(()),
-    }
-}
-
-fn push_packets(
-    alloc: Global,
-    came: &mut String,
-    packets: &[(u32, Message)],
-) -> Result<(), AllocError> {
-    for (server, message) in packets {
-        push_packet(alloc, came, *server, message)?;
+    if let Some((server, code, detail)) = reaction.fault {
+        writeln!(came, "> fault {server} {code} {detail}")?;
     }
     Ok(())
-}
-
-fn push_fault(came: &mut String, fault: (u32, u8, u64)) -> Result<(), AllocError> {
-    let (server, code, detail) = fault;
-    writeln!(came, "> fault {server} {code} {detail}")
 }
 
 fn push_packet(
@@ -66,10 +44,8 @@ fn push_packet(
     server: u32,
     message: &Message,
 ) -> Result<(), AllocError> {
-    match write_message(alloc, message) {
-        Ok(words) => writeln!(came, "> {server} {words}"),
-        Err(fault) => Err(fault),
-    }
+    let words = write_message(alloc, message)?;
+    writeln!(came, "> {server} {words}")
 }
 
 fn push_outcome(
@@ -78,17 +54,9 @@ fn push_outcome(
     client: u32,
     outcome: &Outcome,
 ) -> Result<(), AllocError> {
-    push_opening(came, outcome)?;
-    match write_outcome(alloc, client, outcome) {
-        Ok(words) => came.push_str(&words),
-        Err(fault) => Err(fault),
+    came.push_str("> ")?;
+    if let Outcome::Synced { base, .. } = outcome {
+        write!(came, "base {base}: ")?;
     }
-}
-
-// Begins the line of an outcome, with the base of an event.
-fn push_opening(came: &mut String, outcome: &Outcome) -> Result<(), AllocError> {
-    match outcome {
-        Outcome::Synced { base, .. } => write!(came, "> base {base}: "),
-        _ => came.push_str("> "),
-    }
+    came.push_str(write_outcome(alloc, client, outcome)?.as_str())
 }

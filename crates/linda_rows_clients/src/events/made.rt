@@ -10,7 +10,7 @@ use std::alloc::Global;
 /// of these under so many labels, as `64 labels over never`.
 pub fn event_of(alloc: Global, words: &str) -> Result<Event, WordsFault> {
     match words.split_once(" labels over ") {
-        Some((count, below)) => labelled(alloc, count, below),
+        Some((count, below)) => labelled(alloc, place(count)?, unlabelled(alloc, below)?),
         None => unlabelled(alloc, words),
     }
 }
@@ -23,49 +23,26 @@ fn unlabelled(alloc: Global, words: &str) -> Result<Event, WordsFault> {
 }
 
 // The event under so many labels, of which the innermost is 0.
-fn labelled(alloc: Global, count: &str, below: &str) -> Result<Event, WordsFault> {
-    let count = place(count)?;
-    let mut event = unlabelled(alloc, below)?;
+fn labelled(alloc: Global, count: usize, below: Event) -> Result<Event, WordsFault> {
+    let mut event = below;
     let mut label: u64 = 0;
     for _ in 0..count {
-        event = wrapped(alloc, label, event)?;
+        event = Event::Wrap(label, Box::new(alloc, event)?);
         label = label.saturating_add(1);
     }
     Ok(event)
-}
-
-fn wrapped(alloc: Global, label: u64, event: Event) -> Result<Event, WordsFault> {
-    match Box::new(alloc, event) {
-        Ok(event) => Ok(Event::Wrap(label, event)),
-        Err(_) => Err(WordsFault::Memory),
-    }
 }
 
 // A choice of so many inputs, reads and alarms.
 fn choice_of(alloc: Global, words: &str) -> Result<Event, WordsFault> {
     let mut members = Vec::new(alloc);
     for part in words.split(',') {
-        push_members(alloc, &mut members, part.trim())?;
+        let (count, kind) = split_word(part.trim());
+        for _ in 0..place(count)? {
+            members.push(member_of(alloc, kind)?)?;
+        }
     }
     Ok(Event::Choose(members))
-}
-
-// Appends so many members of a kind.
-fn push_members(alloc: Global, members: &mut Vec<Event>, words: &str) -> Result<(), WordsFault> {
-    let (count, kind) = split_word(words);
-    let count = place(count)?;
-    for _ in 0..count {
-        push_member(alloc, members, kind)?;
-    }
-    Ok(())
-}
-
-fn push_member(alloc: Global, members: &mut Vec<Event>, kind: &str) -> Result<(), WordsFault> {
-    let member = member_of(alloc, kind)?;
-    match members.push(member) {
-        Ok(()) => Ok(()),
-        Err(_) => Err(WordsFault::Memory),
-    }
 }
 
 fn member_of(alloc: Global, kind: &str) -> Result<Event, WordsFault> {

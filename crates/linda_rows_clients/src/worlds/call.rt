@@ -31,25 +31,9 @@ pub fn call_of(alloc: Global, words: &str, seat: Seat) -> Result<Call, WordsFaul
     let (verb, rest) = split_word(words);
     match verb {
         "shows" if rest.is_empty() => Ok(Call::Show),
-        "join" => join_of(rest),
+        "join" => Ok(Call::Join(small_number(rest)?)),
         "all" => all_of(alloc, rest, seat),
-        _ => step_of(alloc, words, seat),
-    }
-}
-
-// The client joins that has this number.
-fn join_of(client: &str) -> Result<Call, WordsFault> {
-    match small_number(client) {
-        Ok(client) => Ok(Call::Join(client)),
-        Err(fault) => Err(fault),
-    }
-}
-
-// One event.
-fn step_of(alloc: Global, words: &str, seat: Seat) -> Result<Call, WordsFault> {
-    match event_of(alloc, words, seat) {
-        Ok(event) => Ok(Call::Step(event)),
-        Err(fault) => Err(fault),
+        _ => Ok(Call::Step(event_of(alloc, words, seat)?)),
     }
 }
 
@@ -57,20 +41,7 @@ fn step_of(alloc: Global, words: &str, seat: Seat) -> Result<Call, WordsFault> {
 fn all_of(alloc: Global, words: &str, seat: Seat) -> Result<Call, WordsFault> {
     let mut events = Vec::new(alloc);
     for words in words.split(';') {
-        push_event(alloc, &mut events, words.trim(), seat)?;
+        events.push(event_of(alloc, words.trim(), seat)?)?;
     }
     Ok(Call::Run(events))
-}
-
-fn push_event(
-    alloc: Global,
-    events: &mut Vec<WorldEvent>,
-    words: &str,
-    seat: Seat,
-) -> Result<(), WordsFault> {
-    let event = event_of(alloc, words, seat)?;
-    match events.push(event) {
-        Ok(()) => Ok(()),
-        Err(_) => Err(WordsFault::Memory),
-    }
 }

@@ -13,27 +13,11 @@ use std::alloc::Global;
 pub fn event_of(alloc: Global, words: &str, seat: Seat) -> Result<WorldEvent, WordsFault> {
     let (verb, rest) = split_word(words);
     match verb {
-        "deliver" => deliver(rest),
-        "snapshot" => snapshot(rest),
+        "deliver" => Ok(WorldEvent::Deliver(place(rest)?)),
+        "snapshot" => Ok(WorldEvent::Snapshot(small_number(rest)?)),
         "close" => close(rest),
         "stop" => stop_of(alloc, rest, seat),
         _ => client_event(alloc, words),
-    }
-}
-
-// The packet of this number is delivered.
-fn deliver(packet: &str) -> Result<WorldEvent, WordsFault> {
-    match place(packet) {
-        Ok(packet) => Ok(WorldEvent::Deliver(packet)),
-        Err(fault) => Err(fault),
-    }
-}
-
-// A server writes a snapshot.
-fn snapshot(server: &str) -> Result<WorldEvent, WordsFault> {
-    match small_number(server) {
-        Ok(server) => Ok(WorldEvent::Snapshot(server)),
-        Err(fault) => Err(fault),
     }
 }
 
@@ -70,10 +54,8 @@ fn longer_event(alloc: Global, client: u32, words: &str) -> Result<WorldEvent, W
 }
 
 fn out(alloc: Global, client: u32) -> Result<WorldEvent, WordsFault> {
-    match read_tuple(alloc, r#"("a", 3)"#) {
-        Ok(tuple) => Ok(WorldEvent::Out { client, tuple }),
-        Err(fault) => Err(fault.into()),
-    }
+    let tuple = read_tuple(alloc, r#"("a", 3)"#)?;
+    Ok(WorldEvent::Out { client, tuple })
 }
 
 fn tick(client: u32, now: &str) -> Result<WorldEvent, WordsFault> {
@@ -87,8 +69,6 @@ fn reconnect(client: u32, server: &str) -> Result<WorldEvent, WordsFault> {
 }
 
 fn sync(alloc: Global, client: u32, words: &str) -> Result<WorldEvent, WordsFault> {
-    match typed_event(alloc, words) {
-        Ok(event) => Ok(WorldEvent::Sync { client, event }),
-        Err(fault) => Err(fault),
-    }
+    let event = typed_event(alloc, words)?;
+    Ok(WorldEvent::Sync { client, event })
 }

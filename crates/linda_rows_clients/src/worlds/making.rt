@@ -46,16 +46,7 @@ pub fn push_worlds(
 }
 
 fn push_in_memory(alloc: Global, two: bool, worlds: &mut Vec<AnyWorld>) -> Result<(), WordsFault> {
-    let world = in_memory(alloc, two)?;
-    push_world(worlds, AnyWorld::InMemory(world))
-}
-
-// Appends a world.
-fn push_world(worlds: &mut Vec<AnyWorld>, world: AnyWorld) -> Result<(), WordsFault> {
-    match worlds.push(world) {
-        Ok(()) => Ok(()),
-        Err(_) => Err(WordsFault::Memory),
-    }
+    Ok(worlds.push(AnyWorld::InMemory(in_memory(alloc, two)?))?)
 }
 
 // Appends the worlds over disks that the options say.
@@ -67,50 +58,31 @@ fn push_on_disks(
 ) -> Result<(), WordsFault> {
     let (times, disks) = disks_of(options)?;
     for _ in 0..times {
-        let world = on_disks(alloc, disks, two)?;
-        push_world(worlds, AnyWorld::OnDisks(world))?;
+        worlds.push(AnyWorld::OnDisks(on_disks(alloc, disks, two)?))?;
     }
     Ok(())
 }
 
 // How many worlds there are to be on disks, and on which disks.
 fn disks_of(options: &str) -> Result<(u64, Disks), WordsFault> {
-    match options.strip_suffix(" times") {
-        Some(count) => many_of(count),
-        None => one_of(options),
+    let mut disks = Disks {
+        limit: LIMIT,
+        left: None,
+        right: None,
+    };
+    let mut times = 1;
+    if let Some(count) = options.strip_suffix(" times") {
+        times = number(count.trim_start_matches(", "))?;
+    } else if let Some(limit) = options.strip_prefix(", room ") {
+        disks.limit = place(limit)?;
+    } else if let Some(call) = options.strip_prefix(", left fails at ") {
+        disks.left = Some(number(call)?);
+    } else if let Some(call) = options.strip_prefix(", right fails at ") {
+        disks.right = Some(number(call)?);
+    } else if !options.is_empty() {
+        return Err(WordsFault::Unknown);
     }
-}
-
-// So many worlds on disks that have room and do not fail.
-fn many_of(count: &str) -> Result<(u64, Disks), WordsFault> {
-    match number(count.trim_start_matches(", ")) {
-        Ok(times) => Ok((times, disks_with(LIMIT, None, None))),
-        Err(fault) => Err(fault),
-    }
-}
-
-// One world, on the disks that the options say.
-fn one_of(options: &str) -> Result<(u64, Disks), WordsFault> {
-    match options.rsplit_once(' ') {
-        Some((what, count)) => special(what, count),
-        None if options.is_empty() => Ok((1, disks_with(LIMIT, None, None))),
-        None => Err(WordsFault::Unknown),
-    }
-}
-
-// One world, on disks of which this is special: how much room a bank has, or which call fails.
-fn special(what: &str, count: &str) -> Result<(u64, Disks), WordsFault> {
-    let count = place(count)?;
-    match what {
-        ", room" => Ok((1, disks_with(count, None, None))),
-        ", left fails at" => Ok((1, disks_with(LIMIT, Some(count as u64), None))),
-        ", right fails at" => Ok((1, disks_with(LIMIT, None, Some(count as u64)))),
-        _ => Err(WordsFault::Unknown),
-    }
-}
-
-fn disks_with(limit: usize, left: Option<u64>, right: Option<u64>) -> Disks {
-    Disks { limit, left, right }
+    Ok((times, disks))
 }
 
 /// A world of clients 7, 8 and 9 over these servers.

@@ -5,61 +5,25 @@ use linda_store::{Deed, Node};
 use linda_wire::{Message, Reply};
 use linda_world::{Body, Packet, Seen, World};
 use std::alloc::AllocError;
-use std::fmt::Display;
 
 /// What is said of an event: of a server that it served, or was full; of a client what it got.
 pub fn push_seen(out: &mut String, seen: &Seen) -> Result<(), AllocError> {
-    push_who(out, seen)?;
+    match seen.client {
+        Some(client) => write!(out, "{client}")?,
+        None => out.push_str(if seen.full { "full" } else { "served" })?,
+    }
     if let Some(outcome) = &seen.outcome {
         push_outcome(out, outcome)?;
     }
-    match seen.fault {
-        Some(fault) => push_fault(out, fault),
-        None => Ok(()),
+    if let Some((server, code, detail)) = seen.fault {
+        write!(out, " refused {code} {detail} by {server}")?;
     }
-}
-
-fn push_who(out: &mut String, seen: &Seen) -> Result<(), AllocError> {
-    match seen.client {
-        Some(client) => write!(out, "{client}"),
-        None => out.push_str(if seen.full { "full" } else { "served" }),
-    }
-}
-
-fn push_fault(out: &mut String, fault: (u32, u8, u64)) -> Result<(), AllocError> {
-    let (server, code, detail) = fault;
-    write!(out, " refused {code} {detail} by {server}")
-}
-
-// A word and a number.
-fn push_one<A: Display + Drop>(out: &mut String, word: &str, a: A) -> Result<(), AllocError> {
-    write!(out, "{word} {a}")
-}
-
-// A word and two numbers.
-fn push_two<A: Display + Drop>(
-    out: &mut String,
-    word: &str,
-    a: A,
-    b: u64,
-) -> Result<(), AllocError> {
-    write!(out, "{word} {a} {b}")
-}
-
-// A word and three numbers.
-fn push_three<A: Display + Drop>(
-    out: &mut String,
-    word: &str,
-    a: A,
-    b: u64,
-    c: u64,
-) -> Result<(), AllocError> {
-    write!(out, "{word} {a} {b} {c}")
+    Ok(())
 }
 
 fn push_outcome(out: &mut String, outcome: &Outcome) -> Result<(), AllocError> {
     match outcome {
-        Outcome::Stored { server, id } => push_two(out, " stored", *server, *id),
+        Outcome::Stored { server, id } => write!(out, " stored {server} {id}"),
         Outcome::Synced { got, .. } => push_got(out, got),
         Outcome::Dropped { .. } => out.push_str(" dropped"),
         Outcome::Left => out.push_str(" left"),
@@ -68,8 +32,8 @@ fn push_outcome(out: &mut String, outcome: &Outcome) -> Result<(), AllocError> {
 
 fn push_got(out: &mut String, got: &Got) -> Result<(), AllocError> {
     match got {
-        Got::Took { server, id, .. } => push_two(out, " took", *server, *id),
-        Got::Copied { server, id, .. } => push_two(out, " read", *server, *id),
+        Got::Took { server, id, .. } => write!(out, " took {server} {id}"),
+        Got::Copied { server, id, .. } => write!(out, " read {server} {id}"),
         Got::Alarm => out.push_str(" alarm"),
         Got::Always(_) => out.push_str(" value"),
     }
@@ -79,56 +43,48 @@ fn push_got(out: &mut String, got: &Got) -> Result<(), AllocError> {
 pub fn push_packets(out: &mut String, packets: &[Packet], first: usize) -> Result<(), AllocError> {
     for (k, packet) in packets.iter().enumerate() {
         if k >= first {
-            push_numbered(out, k, packet)?;
+            write!(out, "; {k}: ")?;
+            push_packet(out, packet)?;
         }
     }
     Ok(())
-}
-
-fn push_numbered(out: &mut String, k: usize, packet: &Packet) -> Result<(), AllocError> {
-    write!(out, "; {k}: ")?;
-    push_packet(out, packet)
 }
 
 fn push_packet(out: &mut String, packet: &Packet) -> Result<(), AllocError> {
     let (server, client) = (packet.server, packet.client);
     match &packet.body {
         Body::Message(message) => {
-            push_way(out, client, server)?;
+            write!(out, "{client} to {server} ")?;
             push_message(out, message)
         }
         Body::Reply(reply) => {
-            push_way(out, server, client)?;
+            write!(out, "{server} to {client} ")?;
             push_reply(out, reply)
         }
     }
 }
 
-fn push_way(out: &mut String, from: u32, to: u32) -> Result<(), AllocError> {
-    write!(out, "{from} to {to} ")
-}
-
 fn push_message(out: &mut String, message: &Message) -> Result<(), AllocError> {
     match message {
         Message::Hello { .. } => out.push_str("hello"),
-        Message::Out { n, .. } => push_one(out, "out", *n),
-        Message::Ask { ticket, .. } => push_one(out, "ask", *ticket),
-        Message::Accept { n, ticket, id } => push_three(out, "accept", *n, *ticket, *id),
-        Message::Cancel { ticket } => push_one(out, "cancel", *ticket),
-        Message::Leave { n } => push_one(out, "leave", *n),
+        Message::Out { n, .. } => write!(out, "out {n}"),
+        Message::Ask { ticket, .. } => write!(out, "ask {ticket}"),
+        Message::Accept { n, ticket, id } => write!(out, "accept {n} {ticket} {id}"),
+        Message::Cancel { ticket } => write!(out, "cancel {ticket}"),
+        Message::Leave { n } => write!(out, "leave {n}"),
     }
 }
 
 fn push_reply(out: &mut String, reply: &Reply) -> Result<(), AllocError> {
     match reply {
-        Reply::Welcome { last } => push_one(out, "welcome", *last),
-        Reply::Stored { n, id } => push_two(out, "stored", *n, *id),
-        Reply::Offer { ticket, id, .. } => push_two(out, "offer", *ticket, *id),
-        Reply::Read { ticket, id, .. } => push_two(out, "read", *ticket, *id),
-        Reply::Taken { n, id, .. } => push_two(out, "taken", *n, *id),
-        Reply::Gone { n } => push_one(out, "gone", *n),
-        Reply::Refused { code, detail } => push_two(out, "refused", *code, *detail),
-        Reply::Left { n } => push_one(out, "left", *n),
+        Reply::Welcome { last } => write!(out, "welcome {last}"),
+        Reply::Stored { n, id } => write!(out, "stored {n} {id}"),
+        Reply::Offer { ticket, id, .. } => write!(out, "offer {ticket} {id}"),
+        Reply::Read { ticket, id, .. } => write!(out, "read {ticket} {id}"),
+        Reply::Taken { n, id, .. } => write!(out, "taken {n} {id}"),
+        Reply::Gone { n } => write!(out, "gone {n}"),
+        Reply::Refused { code, detail } => write!(out, "refused {code} {detail}"),
+        Reply::Left { n } => write!(out, "left {n}"),
     }
 }
 
@@ -143,7 +99,7 @@ pub fn push_end<N: Node>(out: &mut String, world: &World<N>) -> Result<(), Alloc
 }
 
 fn push_deeds(out: &mut String, server: u32, deeds: &[Deed]) -> Result<(), AllocError> {
-    push_one(out, "server", server)?;
+    write!(out, "server {server}")?;
     for deed in deeds {
         push_deed(out, deed)?;
     }
@@ -152,17 +108,17 @@ fn push_deeds(out: &mut String, server: u32, deeds: &[Deed]) -> Result<(), Alloc
 
 fn push_deed(out: &mut String, deed: &Deed) -> Result<(), AllocError> {
     match deed {
-        Deed::Out { client, n, .. } => push_two(out, ", out", *client, *n),
-        Deed::Take { client, n, id } => push_three(out, ", take", *client, *n, *id),
-        Deed::Pass { client, n, id } => push_three(out, ", pass", *client, *n, *id),
-        Deed::Leave { client, n } => push_two(out, ", leave", *client, *n),
+        Deed::Out { client, n, .. } => write!(out, ", out {client} {n}"),
+        Deed::Take { client, n, id } => write!(out, ", take {client} {n} {id}"),
+        Deed::Pass { client, n, id } => write!(out, ", pass {client} {n} {id}"),
+        Deed::Leave { client, n } => write!(out, ", leave {client} {n}"),
     }
 }
 
 fn push_given(out: &mut String, client: u32, given: &[(u32, u64)]) -> Result<(), AllocError> {
-    push_one(out, "; client", client)?;
+    write!(out, "; client {client}")?;
     for (server, id) in given {
-        push_two(out, ",", *server, *id)?;
+        write!(out, ", {server} {id}")?;
     }
     Ok(())
 }
@@ -171,7 +127,7 @@ fn push_lost(out: &mut String, packets: &[Packet]) -> Result<(), AllocError> {
     out.push_str("; lost")?;
     for (k, packet) in packets.iter().enumerate() {
         if !packet.delivered {
-            push_one(out, ",", k)?;
+            write!(out, ", {k}")?;
         }
     }
     Ok(())

@@ -2,12 +2,11 @@
 
 use super::call::Call;
 use super::told::{push_end, push_packets, push_seen};
-use crate::words::copied;
 use linda_disk::MemDisk;
 use linda_script::WordsFault;
 use linda_server::Durable;
 use linda_store::{Node, Volatile};
-use linda_world::{Seen, World, WorldEvent, WorldFault};
+use linda_world::{World, WorldEvent, WorldFault};
 use std::alloc::Global;
 
 /// A world over servers in memory, or over servers on disks.
@@ -36,16 +35,11 @@ fn answered<N: Node>(
         Call::Step(event) => stepped(alloc, world, event),
         Call::Run(events) => ended(alloc, world.run(alloc, events), "done"),
         Call::Join(client) => ended(alloc, world.add_client(alloc, client), "joined"),
-        Call::Show => shown(alloc, world),
-    }
-}
-
-// What the world shows.
-fn shown<N: Node>(alloc: Global, world: &World<N>) -> Result<String, WordsFault> {
-    let mut words = String::new(alloc);
-    match push_end(&mut words, world) {
-        Ok(()) => Ok(words),
-        Err(_) => Err(WordsFault::Memory),
+        Call::Show => {
+            let mut words = String::new(alloc);
+            push_end(&mut words, world)?;
+            Ok(words)
+        }
     }
 }
 
@@ -56,36 +50,21 @@ fn stepped<N: Node>(
     event: WorldEvent,
 ) -> Result<String, WordsFault> {
     let before = world.packets().len();
-    let mut words = step_words(alloc, world, event)?;
-    match push_packets(&mut words, world.packets(), before) {
-        Ok(()) => Ok(words),
-        Err(_) => Err(WordsFault::Memory),
-    }
-}
-
-// What is said of the event.
-fn step_words<N: Node>(
-    alloc: Global,
-    world: &mut World<N>,
-    event: WorldEvent,
-) -> Result<String, WordsFault> {
-    match world.step(alloc, event) {
-        Ok(seen) => seen_words(alloc, &seen),
-        Err(fault) => refusal(alloc, fault),
-    }
-}
-
-fn seen_words(alloc: Global, seen: &Seen) -> Result<String, WordsFault> {
-    let mut words = String::new(alloc);
-    match push_seen(&mut words, seen) {
-        Ok(()) => Ok(words),
-        Err(_) => Err(WordsFault::Memory),
-    }
+    let mut words = match world.step(alloc, event) {
+        Ok(seen) => {
+            let mut words = String::new(alloc);
+            push_seen(&mut words, &seen)?;
+            words
+        }
+        Err(fault) => refusal(alloc, fault)?,
+    };
+    push_packets(&mut words, world.packets(), before)?;
+    Ok(words)
 }
 
 fn ended(alloc: Global, end: Result<(), WorldFault>, well: &str) -> Result<String, WordsFault> {
     match end {
-        Ok(()) => copied(alloc, well),
+        Ok(()) => Ok(String::from_str(alloc, well)?),
         Err(fault) => refusal(alloc, fault),
     }
 }
@@ -94,9 +73,6 @@ fn ended(alloc: Global, end: Result<(), WorldFault>, well: &str) -> Result<Strin
 fn refusal(alloc: Global, fault: WorldFault) -> Result<String, WordsFault> {
     match fault {
         WorldFault::Memory => Err(WordsFault::Memory),
-        fault => match format!(in alloc; "{fault}") {
-            Ok(words) => Ok(words),
-            Err(_) => Err(WordsFault::Memory),
-        },
+        fault => Ok(format!(in alloc; "{fault}")?),
     }
 }
