@@ -15,12 +15,9 @@ ghost use Rattle.linda_run.specs.Reached.{IsUnused};
 use command::{Command, read_command};
 pub use command::{Request, read_request};
 pub use fault::{LineFault, ScriptFault};
-use linda_bag::Bag;
-use linda_client::{ClientFault, Outcome};
+use linda_client::ClientFault;
 use linda_disk::{MemDisk, Torn};
-use linda_hold::Holds;
 use linda_server::Durable;
-use linda_state::State;
 use linda_store::Node;
 use linda_world::{Seen, World, WorldEvent, WorldFault};
 use listing::list_state;
@@ -153,7 +150,8 @@ impl Script {
     ) -> Result<(), LineFault> {
         match self.world.step(alloc, event) {
             Ok(seen) => self.print_call(alloc, &seen, out),
-            Err(fault) => print_world_fault(alloc, client, fault, out),
+            Err(WorldFault::Client(fault)) => print_refusal(alloc, client, fault, out),
+            Err(fault) => Err(line_fault(fault)),
         }
     }
 
@@ -162,7 +160,7 @@ impl Script {
         if let Some(trace) = out.trace() {
             trace.send(alloc, self.world.packets())?;
         }
-        printed(print_seen(alloc, seen, out))
+        Ok(print_seen(alloc, seen, out)?)
     }
 
     // An event of a client, which is made where it was not named before.
@@ -326,29 +324,19 @@ impl Script {
         if let Some(trace) = out.trace() {
             trace.deliver(alloc, &self.world, packet)?;
         }
-        printed(print_seen(alloc, seen, out))
+        Ok(print_seen(alloc, seen, out)?)
     }
 
     fn show(&mut self, alloc: Global, server: u64, out: &mut Output) -> Result<(), LineFault> {
         let server = self.server(server)?;
         match self.world.node(server) {
-            Some(node) => printed(print_state(alloc, server, node.state(), node.holds(), out)),
+            Some(node) => {
+                let lines = list_state(alloc, server, node.state(), node.holds())?;
+                out.print(&lines)?;
+                Ok(())
+            }
             None => Err(LineFault::NoServer),
         }
-    }
-}
-
-// The lines of what a server keeps.
-fn print_state<B: Bag>(
-    alloc: Global,
-    server: u32,
-    state: &State<B>,
-    holds: &Holds,
-    out: &mut Output,
-) -> Result<(), AllocError> {
-    match list_state(alloc, server, state, holds) {
-        Ok(lines) => out.print(&lines),
-        Err(fault) => Err(fault),
     }
 }
 
@@ -377,65 +365,16 @@ fn unused_node(alloc: Global) -> Result<Durable<MemDisk>, AllocError>
 
 // The lines of what was seen of an event.
 fn print_seen(alloc: Global, seen: &Seen, out: &mut Output) -> Result<(), AllocError> {
-    match seen.client {
-        Some(client) => print_client(alloc, client, seen, out),
-        None => Ok(()),
-    }
-}
-
-// The lines of what a client saw.
-fn print_client(
-    alloc: Global,
-    client: u32,
-    seen: &Seen,
-    out: &mut Output,
-) -> Result<(), AllocError> {
+    let Some(client) = seen.client else {
+        return Ok(());
+    };
     if let Some(outcome) = &seen.outcome {
-        print_outcome(alloc, client, outcome, out)?;
+        out.print(&write_outcome(alloc, client, outcome)?)?;
     }
-    match seen.fault {
-        Some(fault) => print_fault(alloc, client, fault, out),
-        None => Ok(()),
+    if let Some(fault) = seen.fault {
+        out.print(&write_fault(alloc, client, fault)?)?;
     }
-}
-
-// The line of what came of a client's call.
-fn print_outcome(
-    alloc: Global,
-    client: u32,
-    outcome: &Outcome,
-    out: &mut Output,
-) -> Result<(), AllocError> {
-    match write_outcome(alloc, client, outcome) {
-        Ok(line) => out.print(&line),
-        Err(fault) => Err(fault),
-    }
-}
-
-// The line of a refusal that a server sent to a client.
-fn print_fault(
-    alloc: Global,
-    client: u32,
-    fault: (u32, u8, u64),
-    out: &mut Output,
-) -> Result<(), AllocError> {
-    match write_fault(alloc, client, fault) {
-        Ok(line) => out.print(&line),
-        Err(fault) => Err(fault),
-    }
-}
-
-// The line of a call that the client refused; where the world did not do it for another reason, the line was not done.
-fn print_world_fault(
-    alloc: Global,
-    client: u32,
-    fault: WorldFault,
-    out: &mut Output,
-) -> Result<(), LineFault> {
-    match fault {
-        WorldFault::Client(fault) => print_refusal(alloc, client, fault, out),
-        fault => Err(line_fault(fault)),
-    }
+    Ok(())
 }
 
 // The line of a call that the client refused.
@@ -446,16 +385,11 @@ fn print_refusal(
     out: &mut Output,
 ) -> Result<(), LineFault> {
     match write_refusal(alloc, client, fault)? {
-        Some(line) => printed(out.print(&line)),
+        Some(line) => {
+            out.print(&line)?;
+            Ok(())
+        }
         None => Err(LineFault::Memory),
-    }
-}
-
-// That something was printed, or that memory ran out.
-fn printed(done: Result<(), AllocError>) -> Result<(), LineFault> {
-    match done {
-        Ok(()) => Ok(()),
-        Err(_) => Err(LineFault::Memory),
     }
 }
 
@@ -470,7 +404,7 @@ fn print_snapshot(
         trace.snapshot(server)?;
     }
     let what = if full { "full" } else { "snapshot" };
-    printed(print_of_server(alloc, server, what, out))
+    Ok(print_of_server(alloc, server, what, out)?)
 }
 
 // A line about a server.

@@ -105,13 +105,13 @@ fn client_command(alloc: Global, client: u32, text: &[u8]) -> Result<Option<Comm
 // What a client asks for, in a text without blanks before it.
 fn request_in(alloc: Global, text: &[u8]) -> Result<Option<Request>, AllocError> {
     if let Some(rest) = behind_word(text, b"out") {
-        return out_in(alloc, rest);
+        return Ok(tuple_in(alloc, rest)?.map(|tuple| Request::Out(tuple)));
     }
     if let Some([]) = behind_word(text, b"leave") {
         return Ok(Some(Request::Leave));
     }
     match behind_word(text, b"sync") {
-        Some(rest) => sync_in(alloc, rest),
+        Some(rest) => Ok(event_in(alloc, rest)?.map(|event| Request::Sync(event))),
         None => Ok(None),
     }
 }
@@ -119,13 +119,13 @@ fn request_in(alloc: Global, text: &[u8]) -> Result<Option<Request>, AllocError>
 // A command that names no client.
 fn server_command(text: &[u8]) -> Option<Command> {
     if let Some(rest) = behind_word(text, b"tick") {
-        return tick_in(rest);
+        return Some(Command::Tick(last_number(rest)?));
     }
     if let Some(rest) = behind_word(text, b"snapshot") {
-        return snapshot_in(rest);
+        return Some(Command::Snapshot(last_number(rest)?));
     }
     if let Some(rest) = behind_word(text, b"state") {
-        return state_in(rest);
+        return Some(Command::State(last_number(rest)?));
     }
     if let Some(rest) = behind_word(text, b"stop") {
         return stop_in(rest);
@@ -136,75 +136,36 @@ fn server_command(text: &[u8]) -> Option<Command> {
     }
 }
 
-// The time that each client is told.
-fn tick_in(text: &[u8]) -> Option<Command> {
-    match last_number(text) {
-        Some(now) => Some(Command::Tick(now)),
-        None => None,
-    }
-}
-
-// Which server writes a snapshot.
-fn snapshot_in(text: &[u8]) -> Option<Command> {
-    match last_number(text) {
-        Some(server) => Some(Command::Snapshot(server)),
-        None => None,
-    }
-}
-
-// Which server is shown.
-fn state_in(text: &[u8]) -> Option<Command> {
-    match last_number(text) {
-        Some(server) => Some(Command::State(server)),
-        None => None,
-    }
-}
-
 // Which server is to be stopped, and where.
 fn stop_in(text: &[u8]) -> Option<Command> {
-    match number_in(text) {
-        Some((server, [])) => Some(Command::Stop(server)),
-        Some((server, rest)) => stop_snapshot_in(server, rest),
-        None => None,
+    let (server, rest) = number_in(text)?;
+    if rest.is_empty() {
+        return Some(Command::Stop(server));
     }
+    let (call, rest) = number_in(rest)?;
+    let byte = u8::try_from(last_number(rest)?).ok()?;
+    Some(Command::StopSnapshot { server, call, byte })
 }
 
-// Inside which device call of a snapshot the server is to be stopped, and which byte is left.
-fn stop_snapshot_in(server: u64, text: &[u8]) -> Option<Command> {
-    let (call, rest) = number_in(text)?;
-    match u8::try_from(last_number(rest)?) {
-        Ok(byte) => Some(Command::StopSnapshot { server, call, byte }),
-        Err(_) => None,
-    }
-}
-
-// To put the tuple that is all of the text.
-fn out_in(alloc: Global, text: &[u8]) -> Result<Option<Request>, AllocError> {
-    match std::str::from_utf8(text) {
-        Ok(text) => put_in(alloc, text),
-        Err(_) => Ok(None),
-    }
-}
-
-fn put_in(alloc: Global, text: &str) -> Result<Option<Request>, AllocError> {
+// The tuple that is all of the text.
+fn tuple_in(alloc: Global, text: &[u8]) -> Result<Option<Tuple>, AllocError> {
+    let Ok(text) = std::str::from_utf8(text) else {
+        return Ok(None);
+    };
     match read_tuple(alloc, text) {
-        Ok(tuple) => Ok(Some(Request::Out(tuple))),
+        Ok(tuple) => Ok(Some(tuple)),
         Err(TextFault::Memory) => Err(AllocError),
         Err(_) => Ok(None),
     }
 }
 
-// To synchronize on the event that is all of the text.
-fn sync_in(alloc: Global, text: &[u8]) -> Result<Option<Request>, AllocError> {
-    match std::str::from_utf8(text) {
-        Ok(text) => event_in(alloc, text),
-        Err(_) => Ok(None),
-    }
-}
-
-fn event_in(alloc: Global, text: &str) -> Result<Option<Request>, AllocError> {
+// The event that is all of the text.
+fn event_in(alloc: Global, text: &[u8]) -> Result<Option<Event>, AllocError> {
+    let Ok(text) = std::str::from_utf8(text) else {
+        return Ok(None);
+    };
     match read_event(alloc, text) {
-        Ok(event) => Ok(Some(Request::Sync(event))),
+        Ok(event) => Ok(Some(event)),
         Err(EventTextFault::Text(TextFault::Memory)) => Err(AllocError),
         Err(_) => Ok(None),
     }

@@ -11,23 +11,10 @@ use std::alloc::{AllocError, Global};
 ///
 /// `AllocError` where memory runs out.
 pub fn write_outcome(alloc: Global, client: u32, outcome: &Outcome) -> Result<String, AllocError> {
-    let mut line = String::new(alloc);
-    match push_line(alloc, &mut line, client, outcome) {
-        Ok(()) => Ok(line),
-        Err(fault) => Err(fault),
-    }
-}
-
-// A client, what came of its call, and a line feed.
-fn push_line(
-    alloc: Global,
-    line: &mut String,
-    client: u32,
-    outcome: &Outcome,
-) -> Result<(), AllocError> {
-    write!(line, "{client} ")?;
-    push_outcome(alloc, line, outcome)?;
-    line.push('\n')
+    let mut line = format!(in alloc; "{client} ")?;
+    push_outcome(alloc, &mut line, outcome)?;
+    line.push('\n')?;
+    Ok(line)
 }
 
 /// The line of a call that the client refuses, with its line feed; `None` for a fault that no call of a script has.
@@ -40,10 +27,10 @@ pub fn write_refusal(
     client: u32,
     fault: ClientFault,
 ) -> Result<Option<String>, AllocError> {
-    match refusal_words(fault) {
-        Some(words) => Ok(Some(format!(in alloc; "{client} refused {words}\n")?)),
-        None => Ok(None),
-    }
+    let Some(words) = refusal_words(fault) else {
+        return Ok(None);
+    };
+    Ok(Some(format!(in alloc; "{client} refused {words}\n")?))
 }
 
 // Why a client refused a call; `None` for a fault that no call of a script has.
@@ -146,40 +133,22 @@ fn push_match(
     tuple: &Tuple,
     bindings: &[Atom],
 ) -> Result<(), AllocError> {
-    push_place(alloc, line, word, place, tuple)?;
-    push_bindings(line, bindings)
-}
-
-// A word, at which server and under which id a tuple was, and the tuple.
-fn push_place(
-    alloc: Global,
-    line: &mut String,
-    word: &str,
-    place: (u32, u64),
-    tuple: &Tuple,
-) -> Result<(), AllocError> {
     let (server, id) = place;
-    match write_tuple(alloc, tuple) {
-        Ok(tuple) => write!(line, "{word} {server} {id} {tuple}"),
-        Err(fault) => Err(fault),
-    }
+    write!(line, "{word} {server} {id} ")?;
+    line.push_str(&write_tuple(alloc, tuple)?)?;
+    push_bindings(line, bindings)
 }
 
 // What a template bound.
 fn push_bindings(line: &mut String, bindings: &[Atom]) -> Result<(), AllocError> {
     line.push_str(" binds [")?;
     for (place, value) in bindings.iter().enumerate() {
-        push_binding(line, place, value)?;
+        if place > 0 {
+            line.push_str(", ")?;
+        }
+        push_atom(line, value)?;
     }
     line.push(']')
-}
-
-// What a template bound at this place of its bindings, after a comma where it is not the first.
-fn push_binding(line: &mut String, place: usize, value: &Atom) -> Result<(), AllocError> {
-    if place > 0 {
-        line.push_str(", ")?;
-    }
-    push_atom(line, value)
 }
 
 // A value that is always there.
@@ -190,5 +159,13 @@ fn push_always(line: &mut String, value: &Atom) -> Result<(), AllocError> {
 
 // A name and a list of numbers.
 fn push_numbers(line: &mut String, name: &str, numbers: &[u64]) -> Result<(), AllocError> {
-    write!(line, "{name} {numbers:?}")
+    line.push_str(name)?;
+    line.push_str(" [")?;
+    for (place, number) in numbers.iter().enumerate() {
+        if place > 0 {
+            line.push_str(", ")?;
+        }
+        write!(line, "{number}")?;
+    }
+    line.push(']')
 }

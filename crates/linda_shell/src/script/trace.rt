@@ -10,10 +10,8 @@ use held::Held;
 use linda_disk::MemDisk;
 use linda_server::Durable;
 use linda_state::Deed;
-use linda_wire::{Message, Reply};
 use linda_world::{Body, Packet, World};
 use std::alloc::{AllocError, Global};
-use std::fmt::Display;
 use words::{write_deed, write_message, write_reply};
 
 /// The lines that did not go out yet, and how far they and those before them went.
@@ -72,7 +70,7 @@ impl Trace {
     /// `AllocError` where memory runs out, here and below.
     pub(crate) fn begin(&mut self, number: u64, line: &[u8]) -> Result<(), AllocError> {
         match std::str::from_utf8(line.trim_ascii()) {
-            Ok(command) => push_named(&mut self.lines, "line", number, command),
+            Ok(command) => writeln!(self.lines, "line {number} {command}"),
             Err(_) => Ok(()),
         }
     }
@@ -84,7 +82,7 @@ impl Trace {
         world: &World<Durable<MemDisk>>,
         packet: usize,
     ) -> Result<(), AllocError> {
-        push_numbered(&mut self.lines, "deliver", packet)?;
+        writeln!(self.lines, "deliver {packet}")?;
         if let Some(server) = hearer(world.packets(), packet) {
             self.change(alloc, world, server)?;
         }
@@ -93,7 +91,7 @@ impl Trace {
 
     /// A server was asked for a snapshot.
     pub(crate) fn snapshot(&mut self, server: u32) -> Result<(), AllocError> {
-        push_numbered(&mut self.lines, "snapshot", server)
+        writeln!(self.lines, "snapshot {server}")
     }
 
     /// A server was stopped with nothing in hand, or inside the device call of this number, and was opened again.
@@ -104,22 +102,20 @@ impl Trace {
         server: u32,
         call: Option<u64>,
     ) -> Result<(), AllocError> {
-        push_stop(&mut self.lines, server, call)?;
+        match call {
+            None => writeln!(self.lines, "stop {server}")?,
+            Some(call) => writeln!(self.lines, "stop {server} at {call}")?,
+        }
         self.change(alloc, world, server)?;
-        push_numbered(&mut self.lines, "open", server)
+        writeln!(self.lines, "open {server}")
     }
 
     /// The packets that were sent since they were last written.
     pub(crate) fn send(&mut self, alloc: Global, packets: &[Packet]) -> Result<(), AllocError> {
-        match packets.get(self.packets..) {
-            Some(new) => self.send_all(alloc, new),
-            None => Ok(()),
-        }
-    }
-
-    // Each of these packets is sent.
-    fn send_all(&mut self, alloc: Global, packets: &[Packet]) -> Result<(), AllocError> {
-        for packet in packets {
+        let Some(new) = packets.get(self.packets..) else {
+            return Ok(());
+        };
+        for packet in new {
             push_packet(alloc, &mut self.lines, self.packets, packet)?;
             self.packets = self.packets.saturating_add(1);
         }
@@ -129,7 +125,7 @@ impl Trace {
     /// Lines are printed, each with its line feed.
     pub(crate) fn print(&mut self, lines: &str) -> Result<(), AllocError> {
         for line in lines.lines() {
-            push_printed(&mut self.lines, line)?;
+            writeln!(self.lines, "print {line}")?;
         }
         Ok(())
     }
@@ -141,75 +137,20 @@ impl Trace {
         world: &World<Durable<MemDisk>>,
         server: u32,
     ) -> Result<(), AllocError> {
-        match self.servers.get_mut(server as usize) {
-            Some(told) => told.change(alloc, &mut self.lines, world, server),
-            None => Ok(()),
+        let Some(told) = self.servers.get_mut(server as usize) else {
+            return Ok(());
+        };
+        let deeds = world.deeds(server);
+        if let Some(new) = deeds.get(told.deeds..) {
+            push_deeds(alloc, &mut self.lines, server, new)?;
         }
+        told.deeds = deeds.len();
+        let Some(node) = world.node(server) else {
+            return Ok(());
+        };
+        told.held
+            .change(alloc, &mut self.lines, server, node.holds())
     }
-}
-
-impl Told {
-    // The lines of what the server did, and then of what it holds no more and what it holds now.
-    fn change(
-        &mut self,
-        alloc: Global,
-        lines: &mut String,
-        world: &World<Durable<MemDisk>>,
-        server: u32,
-    ) -> Result<(), AllocError> {
-        self.add_deeds(alloc, lines, server, world.deeds(server))?;
-        match world.node(server) {
-            Some(node) => self.held.change(alloc, lines, server, node.holds()),
-            None => Ok(()),
-        }
-    }
-
-    // The lines of those deeds of the server that were not written yet.
-    fn add_deeds(
-        &mut self,
-        alloc: Global,
-        lines: &mut String,
-        server: u32,
-        deeds: &[Deed],
-    ) -> Result<(), AllocError> {
-        if let Some(new) = deeds.get(self.deeds..) {
-            push_deeds(alloc, lines, server, new)?;
-        }
-        self.deeds = deeds.len();
-        Ok(())
-    }
-}
-
-// A line of a word and a number.
-fn push_numbered<T: Display + Drop>(
-    lines: &mut String,
-    word: &str,
-    number: T,
-) -> Result<(), AllocError> {
-    writeln!(lines, "{word} {number}")
-}
-
-// A line of a word, a number and what stands after it.
-fn push_named<T: Display + Drop>(
-    lines: &mut String,
-    word: &str,
-    number: T,
-    rest: &str,
-) -> Result<(), AllocError> {
-    writeln!(lines, "{word} {number} {rest}")
-}
-
-// The line of a server that was stopped with nothing in hand, or inside the device call of this number.
-fn push_stop(lines: &mut String, server: u32, call: Option<u64>) -> Result<(), AllocError> {
-    match call {
-        None => push_numbered(lines, "stop", server),
-        Some(call) => writeln!(lines, "stop {server} at {call}"),
-    }
-}
-
-// The line of a line that is printed.
-fn push_printed(lines: &mut String, line: &str) -> Result<(), AllocError> {
-    writeln!(lines, "print {line}")
 }
 
 // The lines of deeds of a server.
@@ -220,22 +161,10 @@ fn push_deeds(
     deeds: &[Deed],
 ) -> Result<(), AllocError> {
     for deed in deeds {
-        push_deed(alloc, lines, server, deed)?;
+        let text = write_deed(alloc, deed)?;
+        writeln!(lines, "deed {server} {text}")?;
     }
     Ok(())
-}
-
-// The line of a deed of a server.
-fn push_deed(
-    alloc: Global,
-    lines: &mut String,
-    server: u32,
-    deed: &Deed,
-) -> Result<(), AllocError> {
-    match write_deed(alloc, deed) {
-        Ok(text) => push_named(lines, "deed", server, &text),
-        Err(fault) => Err(fault),
-    }
 }
 
 // The server that a packet is a message to.
@@ -261,37 +190,13 @@ fn push_packet(
         ..
     } = packet;
     match body {
-        Body::Message(message) => push_message(alloc, lines, place, (*client, *server), message),
-        Body::Reply(reply) => push_reply(alloc, lines, place, (*server, *client), reply),
-    }
-}
-
-// The line of a message that a client sends to a server.
-fn push_message(
-    alloc: Global,
-    lines: &mut String,
-    place: usize,
-    way: (u32, u32),
-    message: &Message,
-) -> Result<(), AllocError> {
-    let (client, server) = way;
-    match write_message(alloc, message) {
-        Ok(text) => writeln!(lines, "send {place} client {client} server {server} {text}"),
-        Err(fault) => Err(fault),
-    }
-}
-
-// The line of a reply that a server sends to a client.
-fn push_reply(
-    alloc: Global,
-    lines: &mut String,
-    place: usize,
-    way: (u32, u32),
-    reply: &Reply,
-) -> Result<(), AllocError> {
-    let (server, client) = way;
-    match write_reply(alloc, reply) {
-        Ok(text) => writeln!(lines, "send {place} server {server} client {client} {text}"),
-        Err(fault) => Err(fault),
+        Body::Message(message) => {
+            let text = write_message(alloc, message)?;
+            writeln!(lines, "send {place} client {client} server {server} {text}")
+        }
+        Body::Reply(reply) => {
+            let text = write_reply(alloc, reply)?;
+            writeln!(lines, "send {place} server {server} client {client} {text}")
+        }
     }
 }

@@ -31,39 +31,15 @@ impl Held {
         server: u32,
         holds: &Holds,
     ) -> Result<(), AllocError> {
-        let lost = self.lost(alloc, holds)?;
-        self.release_all(lines, server, &lost)?;
-        let gained = self.gained(alloc, holds)?;
-        self.hold_all(lines, server, holds, &gained)
-    }
-
-    // The lines of those that the server holds no more.
-    fn release_all(
-        &mut self,
-        lines: &mut String,
-        server: u32,
-        ids: &[u64],
-    ) -> Result<(), AllocError> {
-        for id in ids {
-            if let Some(request) = self.by_id.remove(id) {
-                push_hold(lines, "release", server, *id, request)?;
+        for id in self.lost(alloc, holds)? {
+            if let Some(request) = self.by_id.remove(&id) {
+                push_hold(lines, "release", server, id, request)?;
             }
         }
-        Ok(())
-    }
-
-    // The lines of those that the server holds now.
-    fn hold_all(
-        &mut self,
-        lines: &mut String,
-        server: u32,
-        holds: &Holds,
-        ids: &[u64],
-    ) -> Result<(), AllocError> {
-        for id in ids {
-            if let Some(request) = holds.get(*id) {
-                push_hold(lines, "hold", server, *id, request)?;
-                self.by_id.insert(*id, request)?;
+        for id in self.gained(alloc, holds)? {
+            if let Some(request) = holds.get(id) {
+                push_hold(lines, "hold", server, id, request)?;
+                self.by_id.insert(id, request)?;
             }
         }
         Ok(())
