@@ -1,3 +1,4 @@
+pub mod AppendLaws
 pub mod LengthLaws
 pub mod PayloadLaws
 pub mod FrontLaws

@@ -6,7 +6,7 @@ use Rattle.linda_tuple.specs.declared.form.Form.TheVariants.{Two}
 use Rattle.linda_tuple.specs.Tuple.{Tuple}
 use Rattle.linda_tuple.specs.Template.{Template}
 use Rattle.linda_codec.specs.Steps.{Reader}
-use Rattle.linda_codec.specs.Formats.{Format, byte, short_number, number, truth, both, made_at, no_kind, choice_at}
+use Rattle.linda_codec.specs.Formats.{Format, byte, short_number, number, truth, both, made_at, no_kind, body_at, choice_at}
 use Rattle.linda_codec.specs.Values as value
 use Rattle.linda_wire.specs.declared.kinds.TheConstants as kind
 use Rattle.linda_wire.specs.declared.limits.TheConstants.{LENGTH_BYTES}
@@ -97,6 +97,10 @@ message_kinds =
     ∷ (kind.ASK, made_at ask_of ask) ∷ (kind.ACCEPT, made_at accept_of accept)
     ∷ (kind.CANCEL, made_at cancel_of number) ∷ (kind.LEAVE, made_at leave_of number) ∷ []
 
+-- What stands behind the kind byte of a message.
+abbrev pub message_body_at : ℕ → Reader Message
+message_body_at = body_at message_kinds no_kind
+
 abbrev pub message : Format Message
 message = record { spell = spell_message; Fits = FitsMessage; read = choice_at message_kinds no_kind }
 
@@ -172,6 +176,10 @@ reply_kinds =
     ∷ (kind.OFFER, made_at offer_of entry) ∷ (kind.READ, made_at read_of entry)
     ∷ (kind.TAKEN, made_at taken_of entry) ∷ (kind.GONE, made_at gone_of number)
     ∷ (kind.REFUSED, made_at refused_of refusal) ∷ (kind.LEFT, made_at left_of number) ∷ []
+
+-- What stands behind the kind byte of a reply.
+abbrev pub reply_body_at : ℕ → Reader Reply
+reply_body_at = body_at reply_kinds no_kind
 
 abbrev pub reply : Format Reply
 reply = record { spell = spell_reply; Fits = FitsReply; read = choice_at reply_kinds no_kind }

@@ -14,8 +14,8 @@ use crate::kinds::{ACCEPT, ASK, CANCEL, HELLO, LEAVE, OUT};
 use crate::limits::FORM;
 use crate::message::Message;
 use linda_codec::{
-    ReadFault, read_bool, read_template, read_tuple, read_u8, read_u32, read_u64, skip_template,
-    skip_tuple,
+    KIND_BYTES, ReadFault, read_bool, read_template, read_tuple, read_u8, read_u32, read_u64,
+    skip_template, skip_tuple,
 };
 use linda_tuple::{Template, Tuple};
 use std::alloc::{AllocError, Global};
@@ -31,26 +31,14 @@ impl Framed for Message {
     fn read(alloc: Global, payload: &[u8]) -> Result<(Message, &[u8]), ReadFault> {
         match payload {
             [] => Err(ReadFault::Short),
-            [HELLO, body @ ..] => hello_from(body),
-            [OUT, body @ ..] => out_from(alloc, body),
-            [ASK, body @ ..] => ask_from(alloc, body),
-            [ACCEPT, body @ ..] => accept_from(body),
-            [CANCEL, body @ ..] => cancel_from(body),
-            [LEAVE, body @ ..] => leave_from(body),
-            [_, ..] => Err(ReadFault::BadKind(payload.len())),
+            [kind, body @ ..] => read_body(alloc, *kind, body),
         }
     }
 
     fn skip(payload: &[u8]) -> Result<&[u8], ReadFault> {
         match payload {
             [] => Err(ReadFault::Short),
-            [HELLO, body @ ..] => rest_of(hello_from(body)),
-            [OUT, body @ ..] => skip_out(body),
-            [ASK, body @ ..] => skip_ask(body),
-            [ACCEPT, body @ ..] => rest_of(accept_from(body)),
-            [CANCEL, body @ ..] => rest_of(cancel_from(body)),
-            [LEAVE, body @ ..] => rest_of(leave_from(body)),
-            [_, ..] => Err(ReadFault::BadKind(payload.len())),
+            [kind, body @ ..] => skip_body(*kind, body),
         }
     }
 
@@ -71,6 +59,36 @@ impl Framed for Message {
             Message::Cancel { ticket } => push_numbered(out, CANCEL, *ticket),
             Message::Leave { n } => push_numbered(out, LEAVE, *n),
         }
+    }
+}
+
+// Reads a message of that kind, of which the kind is read and the body is at the front.
+fn read_body(alloc: Global, kind: u8, body: &[u8]) -> Result<(Message, &[u8]), ReadFault>
+    ensures { Gives (λ x. (x.0, x.1.now)) result (format.message_body_at kind body.now) }
+{
+    match kind {
+        HELLO => hello_from(body),
+        OUT => out_from(alloc, body),
+        ASK => ask_from(alloc, body),
+        ACCEPT => accept_from(body),
+        CANCEL => cancel_from(body),
+        LEAVE => leave_from(body),
+        _ => Err(ReadFault::BadKind(KIND_BYTES + body.len())),
+    }
+}
+
+// The bytes after a message of that kind, of which the kind is read and the body is at the front.
+fn skip_body(kind: u8, body: &[u8]) -> Result<&[u8], ReadFault>
+    ensures { GivesAlways (λ rest. rest.now) result (left_by (format.message_body_at kind body.now)) }
+{
+    match kind {
+        HELLO => rest_of(hello_from(body)),
+        OUT => skip_out(body),
+        ASK => skip_ask(body),
+        ACCEPT => rest_of(accept_from(body)),
+        CANCEL => rest_of(cancel_from(body)),
+        LEAVE => rest_of(leave_from(body)),
+        _ => Err(ReadFault::BadKind(KIND_BYTES + body.len())),
     }
 }
 
