@@ -7,7 +7,6 @@ use Rattle.std.proofs.lemmas.Bool.Decides.{nat_tests}
 use Rattle.std.proofs.lemmas.Option.{none-some, same_Some}
 use Rattle.std.proofs.lemmas.List.Folds.{find_at}
 use Rattle.linda_tuple.specs.Tuple.{Tuple}
-use Rattle.linda_tuple.specs.Template.{Template}
 use Rattle.linda_tuple.specs.Matching.{Matches, bindings_of}
 use Rattle.linda_event.specs.Trees.{Tree, Kind, input, read, alarm, always, never}
 use Rattle.linda_event.specs.Paths.{bases_of}
@@ -18,7 +17,6 @@ use Rattle.linda_client.specs.declared.outcome.Got.TheVariants as gots
 use Rattle.linda_client.specs.Ask.{ask_of, alarm_of, asks, alarms, first_alarm, first_ready, given_by, ready_at}
 use Rattle.linda_client.specs.Pending.{Pending, ask_at}
 use Rattle.linda_client.specs.Ending.{BaseGets, CanGet}
-use Rattle.linda_client.proofs.TestLaws.{both}
 
 -- an item that was made of a base: which base, and how
 record Made {X : Type 0} (h : ℕ × Kind → Option X) (n : ℕ) (kinds : List Kind) (x : X) : Type 0 where

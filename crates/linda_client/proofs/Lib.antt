@@ -3,8 +3,11 @@ pub mod PacketLaws
 pub mod AskLaws
 pub mod ListLaws
 pub mod BaseLaws
+pub mod PendingLaws
 pub mod LeaveLaws
 pub mod Course
+pub mod ArrivalLaws
+pub mod SyncLaws
 pub mod TakingLaws
 pub mod RangeLaws
 pub mod CancelLaws

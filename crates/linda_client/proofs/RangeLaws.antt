@@ -1,23 +1,25 @@
 -- Next numbers and tickets never fall, and a client is as every client is, at first and after each call.
-use Rattle.std.proofs.Common.{◌≡◌, ◌≢◌, ℕ, zero, suc, ◌+◌, ◌<◌, ◌≤◌, ◌==◌, false, List, [], ◌∷◌, length, get_or, map, set, refl, sym, ap, ◌∙◌, subst, arith}
-use Rattle.std.specs.Prelude.{Option, Some, None, is_some, All, IfSome, Ok, true}
+use Rattle.std.proofs.Common.{◌≡◌, ◌≢◌, ℕ, zero, suc, ◌+◌, ◌<◌, ◌≤◌, ◌==◌, false, List, [], ◌∷◌, drop, length, get_or, map, set, refl, sym, ap, ◌∙◌, subst, arith}
+use Rattle.std.specs.Prelude.{Option, Some, None, is_some, All, IfSome, Result, Ok, Err, OnOk, OnErr, true}
+use Rattle.std.specs.declared.alloc.AllocError.{AllocError}
 use Rattle.std.specs.List.{enumerate_from, list_any}
 use Rattle.std.proofs.Math.ListN.{length-set}
 use Rattle.std.proofs.lemmas.Bool.{false≢true}
 use Rattle.std.proofs.lemmas.List.{get_or-set_same, length-map, length-replicate}
-use Rattle.std.proofs.lemmas.List.Elements.{All-append, All-cons, All-nil, All-get_or, All-replicate, All-set, All-weaker}
+use Rattle.std.proofs.lemmas.List.Elements.{All-append, All-cons, All-drop, All-nil, All-get_or, All-replicate, All-set, All-weaker}
 use Rattle.linda_wire.specs.declared.limits.TheConstants.{NUMBER_LIMIT}
 use Rattle.linda_client.specs.declared.limits.TheConstants.{MAX_SERVERS}
 use Rattle.linda_client.specs.declared.arrival.Accepted.{Accepted}
 use Rattle.linda_client.specs.declared.arrival.Arrival.{Arrival}
 use Rattle.linda_client.specs.declared.task.Task.{Task}
 use Rattle.linda_client.specs.declared.task.Task.TheVariants.{Idle, Putting, Syncing, Leaving, Left}
-use Rattle.linda_client.specs.Pending.{FitsOpen}
-use Rattle.linda_client.specs.Client.{AreLeavesOf, Client, IsClient, IsPendingOf, IsTaskOf, IsUsed, next_at, servers}
+use Rattle.linda_client.specs.Pending.{FitsOpen, IsPending, Pending, save_last, take_oldest}
+use Rattle.linda_client.specs.Client.{AreLeavesOf, Client, IsClient, IsPendingOf, IsTaskOf, IsUsed, next_at, servers, with_pending}
 use Rattle.linda_client.specs.Reaction.{Reaction}
-use Rattle.linda_client.specs.React.{Call, leave, new_client, new_pending, out_server, react, unanswered_leaves, used_at}
+use Rattle.linda_client.specs.React.{Call, leave, new_client, new_pending, next_accept, out_server, react, unanswered_leaves, use_number, used_at}
 use Rattle.linda_client.specs.Numbers.{Rises}
 use Rattle.linda_client.proofs.LeaveLaws.{leaves_left, leaves_of, numbers_after}
+use Rattle.linda_client.proofs.PendingLaws.{saved_one}
 use Rattle.linda_client.proofs.ListLaws.{tail_all}
 use Rattle.linda_client.proofs.Course.{Course, Turn, abandons, accepts, arrives, begins, commits, commits_at_once, course, departs, gives_up, hands_on, leaves_on, oldest, pending_of, puts, rejects, repeats, rests, saves, stores, waits}
 
@@ -184,6 +186,46 @@ leaving_so c d all rest server n is was next ticket outs task left some =
     same_is c d is next ticket outs (subst (IsTaskOf d) (sym (task ∙ ap Leaving left))
     (leaves_same c d next (unanswered_leaves server n all) (leaves_left c all server n (subst (IsTaskOf c) was is.task) (subst (λ l. 1 ≤ length l) left some))))
 
+-- a client that saves an arrival
+more_saved : (c : Client) (p : Pending) (a : Arrival) → IsClient c → c.task ≡ Syncing p → a.server < servers c → IsPending (save_last a p) → IsClient (with_pending c (save_last a p))
+more_saved c p a is was within keeps =
+    let own = pending_of c p is was in
+    same_is c (with_pending c (save_last a p)) is refl refl refl (record {
+      keeps = keeps;
+      tickets = own.tickets;
+      accepted = own_used c (with_pending c (save_last a p)) (rises_same c (with_pending c (save_last a p)) (omega arith) refl) p.accepted own.accepted;
+      saved = All-append (λ (x : Arrival). x.server < servers c) p.saved (a ∷ []) own.saved (All-cons (λ (x : Arrival). x.server < servers c) a [] within (All-nil (λ (x : Arrival). x.server < servers c)));
+    })
+
+-- a client that saves an arrival, or for which memory runs out
+pub saving_so : (c own : Client) (p q : Pending) (a : Arrival) (r : Result (Unit {0}) AllocError) → IsClient c → c ≡ own → c.task ≡ Syncing p → a.server < servers own → IsPending q → OnOk r (q ≡ save_last a p) → OnErr r (q ≡ p)
+    → IsClient (with_pending c q)
+saving_so c own p q a (Ok u) is same was within keeps saved failed =
+    subst (λ s. IsClient (with_pending c s)) (sym saved) (more_saved c p a is was (subst (λ d. a.server < servers d) (sym same) within) (subst IsPending saved keeps))
+saving_so c own p q a (Err e) is same was within keeps saved failed = subst (λ s. IsClient (with_pending c s)) (sym failed) (subst (λ t. IsClient (record c { task = t })) was is)
+
+-- a client that accepts an offer
+now_accepts : (c : Client) (p : Pending) (a : Accepted) (rest : List Arrival) → IsClient c → c.task ≡ Syncing p → a.server < servers c → a.n ≡ next_at c a.server → next_at c a.server ≢ NUMBER_LIMIT
+    → IsPending (record p { accepted = Some a; saved = rest }) → All (λ (x : Arrival). x.server < servers c) rest → IsClient (with_pending (use_number c a.server) (record p { accepted = Some a; saved = rest }))
+now_accepts c p a rest is was within next more keeps there =
+    let d : Client = with_pending (use_number c a.server) (record p { accepted = Some a; saved = rest }) in
+    used_is c d a.server is within more refl refl is.outs (record {
+      keeps = keeps;
+      tickets = (pending_of c p is was).tickets;
+      accepted = subst (λ k. IsUsed d a.server k) (sym next) (now_used c d a.server is within refl);
+      saved = all_within c d (rises_used c d a.server refl refl) rest there;
+    })
+
+-- a client that accepts an offer, as a value that equals it says
+pub accepting_so : (c own : Client) (p q : Pending) (a : Accepted) (next : List ℕ) → IsClient c → c ≡ own → c.task ≡ Syncing p → a.server < servers own → a.n ≡ next_at own a.server → a.n < NUMBER_LIMIT → IsPending q
+    → q ≡ take_oldest a p → next ≡ used_at c a.server → IsClient (record c { next = next; task = Syncing q })
+accepting_so c own p q a next is same was within number room keeps took up =
+    let here : a.n ≡ next_at c a.server = subst (λ (d : Client). a.n ≡ next_at d a.server) (sym same) number in
+    subst (λ s. IsClient (record c { next = next; task = Syncing s })) (sym took)
+    (subst (λ l. IsClient (record c { next = l; task = Syncing (take_oldest a p) })) (sym up)
+    (now_accepts c p a (drop 1 p.saved) is was (subst (λ d. a.server < servers d) (sym same) within) here (omega arith) (subst IsPending took keeps)
+    (All-drop (λ (x : Arrival). x.server < servers c) 1 p.saved (pending_of c p is was).saved)))
+
 kept_on : (c : Client) → IsClient c → (call : Call) (r : Reaction) → Course c call r → IsClient r.client
 kept_on c is call r (rests clock other) = same_is c r.client is refl refl refl (task_rises c r.client (rises_same c r.client (omega arith) refl) refl c.task is.task)
 kept_on c is call r (hands_on server code detail other) = is
@@ -208,37 +250,16 @@ kept_on c is call r (begins event called idle within room) = record {
     saved = All-nil (λ (a : Arrival). a.server < servers c);
   };
 }
-kept_on c is call r (saves pending a task awaits within fits other) =
-    let own = pending_of c pending is task in
-    let up = rises_same c r.client (omega arith) refl in
-    same_is c r.client is refl refl refl (record {
-      keeps = record {
-        within = own.keeps.within;
-        first = own.keeps.first;
-        last = own.keeps.last;
-        accepted = own.keeps.accepted;
-        saved = All-append (FitsOpen pending) pending.saved (a ∷ []) own.keeps.saved (All-cons (FitsOpen pending) a [] fits (All-nil (FitsOpen pending)));
-        waiting = λ none. absurd (some_not_none pending.accepted awaits none);
-      };
-      tickets = own.tickets;
-      accepted = own_used c r.client up pending.accepted own.accepted;
-      saved = All-append (λ (x : Arrival). x.server < servers c) pending.saved (a ∷ []) own.saved (All-cons (λ (x : Arrival). x.server < servers c) a [] within (All-nil (λ (x : Arrival). x.server < servers c)));
-    })
+kept_on c is call r (saves pending a task awaits within fits other) = more_saved c pending a is task within (saved_one pending a (pending_of c pending is task).keeps fits awaits)
 kept_on c is call r (accepts pending rest a task turn within input more) = by turn
   where
     own : IsPendingOf c pending
     own = pending_of c pending is task
 
-    up : Rises c r.client
-    up = rises_used c r.client a.server refl refl
-
     with_rest : All (FitsOpen pending) rest → All (λ (x : Arrival). x.server < servers c) rest → IsClient r.client
-    with_rest fits there = used_is c r.client a.server is within more refl refl is.outs (record {
-      keeps = record { within = own.keeps.within; first = own.keeps.first; last = own.keeps.last; accepted = input; saved = fits; waiting = λ none. cc };
-      tickets = own.tickets;
-      accepted = now_used c r.client a.server is within refl;
-      saved = all_within c r.client up rest there;
-    })
+    with_rest fits there =
+        now_accepts c pending (next_accept c a.server a.ticket a.id) rest is task within refl more
+        (record { within = own.keeps.within; first = own.keeps.first; last = own.keeps.last; accepted = input; saved = fits; waiting = λ none. cc }) there
 
     by : Turn call pending rest a → IsClient r.client
     by (arrives none saved called) = with_rest (subst (All (FitsOpen pending)) (sym saved) own.keeps.saved) (subst (All (λ (x : Arrival). x.server < servers c)) (sym saved) own.saved)

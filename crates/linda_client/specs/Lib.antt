@@ -8,6 +8,7 @@ pub mod View
 pub mod Packets
 pub mod Reaction
 pub mod React
+pub mod Beginning
 pub mod Call
 pub mod Ending
 pub mod Numbers

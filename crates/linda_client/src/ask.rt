@@ -6,7 +6,7 @@ ghost use Rattle.linda_wire.specs.declared.message.Message.TheVariants as messag
 ghost use Rattle.linda_event.specs.Bases.{kind_of};
 ghost use Rattle.linda_event.specs.Trees.{tree_of};
 ghost use Rattle.linda_client.specs.Ask as spec;
-ghost use Rattle.linda_client.specs.Ask.{ask_of};
+ghost use Rattle.linda_client.specs.Ask.{alarm_of, ask_of};
 ghost use Rattle.linda_client.specs.Pending.{is_fit};
 
 use linda_event::{Base, Event, bases};
@@ -100,11 +100,19 @@ fn alarms_among(alloc: Global, bases: &[Base]) -> Result<Vec<Alarm>, AllocError>
 {
     let mut alarms = Vec::new(alloc);
     for (number, base) in bases.iter().enumerate() {
-        if let Base::Alarm(time) = *base {
-            alarms.push(Alarm { base: number, time })?;
-        }
+        push_alarm(number, *base, &mut alarms)?;
     }
     Ok(alarms)
+}
+
+fn push_alarm(number: usize, base: Base, alarms: &mut Vec<Alarm>) -> Result<(), AllocError>
+    ensures { OnOk result (alarms.new.items
+        ≡ alarms.old.items ++ option_to_list (alarm_of number (kind_of base.entry))) }
+{
+    if let Base::Alarm(time) = base {
+        alarms.push(Alarm { base: number, time })?;
+    }
+    Ok(())
 }
 
 /// The first alarm that is ready at this clock. Takes no memory.

@@ -229,10 +229,11 @@ impl Client {
         ensures { OfPending self.old (λ p. self.new
             ≡ with_pending (use_number self.old accepted.server) (take_oldest accepted p)) }
     {
-        if let Task::Syncing(pending) = &mut self.task {
-            self.next[accepted.server as usize] += 1;
-            pending.accept(accepted);
-        }
+        let Task::Syncing(pending) = &mut self.task else {
+            return;
+        };
+        self.next[accepted.server as usize] += 1;
+        pending.accept(accepted);
     }
 
     // An arrival is saved; or memory runs out, and the client is as before.
@@ -243,10 +244,10 @@ impl Client {
         ensures ok { OnOk result (OfPending self.old (λ p. self.new ≡ with_pending self.old (save_last arrival p))) }
         ensures err { OnErr result (self.new ≡ self.old) }
     {
-        match &mut self.task {
-            Task::Syncing(pending) => pending.save(arrival),
-            _ => Ok(()),
-        }
+        let Task::Syncing(pending) = &mut self.task else {
+            return Ok(());
+        };
+        pending.save(arrival)
     }
 
     // Whether the next number of some server is 2^63.

@@ -1,10 +1,13 @@
 //! The beginning of a synchronization.
 
-ghost use Rattle.std.specs.Prelude.{◌≡◌, if◌then◌else◌, Ok, Err, OnOk};
+ghost use Rattle.std.specs.Prelude.{◌≡◌, ◌+◌, ◌≤◌, if◌then◌else◌, length, Ok, Err, OnOk};
+ghost use Rattle.linda_wire.specs.declared.limits.TheConstants.{NUMBER_LIMIT};
 ghost use Rattle.linda_event.specs.Limits.{IsWithinLimits, is_too_deep};
 ghost use Rattle.linda_event.specs.Trees.{tree_of};
 ghost use Rattle.linda_client.specs.declared.fault.ClientFault.TheVariants as faults;
-ghost use Rattle.linda_client.specs.React.{Sync, has_too_many, lacks_tickets, react};
+ghost use Rattle.linda_client.specs.Ask.{asks};
+ghost use Rattle.linda_client.specs.Beginning.{AtOnce};
+ghost use Rattle.linda_client.specs.React.{Sync, ask_servers, has_too_many, lacks_tickets, react};
 ghost use Rattle.linda_client.specs.Reaction.{Does};
 
 use super::Client;
@@ -32,20 +35,39 @@ impl Client {
     pub fn sync(&mut self, alloc: Global, event: Event) -> Result<Reaction, ClientFault>
         ensures { Does self.old result self.new (react self.old (Sync (tree_of event))) }
     {
+        if let Some(reaction) = self.at_once(alloc, &event)? {
+            return Ok(reaction);
+        }
+        self.ask(alloc, event)
+    }
+
+    // What the event commits to at once, where a base of it is ready.
+    fn at_once(&self, alloc: Global, event: &Event) -> Result<Option<Reaction>, ClientFault>
+        ensures { AtOnce self.now (tree_of event.now) result }
+    {
         if self.has_left() {
             return Err(ClientFault::Left);
         }
         if !self.is_idle() {
             return Err(ClientFault::Busy);
         }
-        within_limits(&event)?;
-        if self.lacks_tickets(&event) {
+        within_limits(event)?;
+        if self.lacks_tickets(event) {
             return Err(ClientFault::Spent);
         }
-        if let Some((base, got)) = first_ready(alloc, &event, self.clock())? {
-            let outcome = Outcome::synced(alloc, &event, base, got)?;
-            return Ok(Reaction::ended(Vec::new(alloc), outcome));
-        }
+        let Some((base, got)) = first_ready(alloc, event, self.clock())? else {
+            return Ok(None);
+        };
+        let outcome = Outcome::synced(alloc, event, base, got)?;
+        Ok(Some(Reaction::ended(Vec::new(alloc), outcome)))
+    }
+
+    // The synchronization asks the servers.
+    fn ask(&mut self, alloc: Global, event: Event) -> Result<Reaction, ClientFault>
+        requires within { IsWithinLimits (tree_of event) }
+        requires room { self.old.ticket + length (asks (tree_of event)) ≤ NUMBER_LIMIT }
+        ensures { Does self.old result self.new (Ok (ask_servers self.old (tree_of event))) }
+    {
         let (asks, alarms) = asks_and_alarms(alloc, &event)?;
         let pending = Pending::new(alloc, event, asks, alarms, self.ticket());
         let packets = pending.ask_packets(alloc, self.servers())?;

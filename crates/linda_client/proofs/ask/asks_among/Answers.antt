@@ -1,0 +1,8 @@
+use Rattle.linda_event.specs.Bases.{kind_of}
+use Rattle.linda_client.specs.Ask.{ask_of}
+use Rattle.linda_client.proofs.ListLaws.{made_next}
+use Rattle.linda_client.proofs.ask.asks_among.Goals as goal
+
+pub loop-number-preserved : goal.loop-number-preserved
+loop-number-preserved c =
+    made_next (λ b. ask_of b.0 b.1) kind_of c.loop-number.number c.args.bases.now c.index-bases-number.result _ _ _ c.loop-number-test.true c.index-bases-number.is c.in_ok-push_ask.ensures c.loop-number.invariant
