@@ -9,9 +9,6 @@ use Rattle.linda_hold.specs.Request.{request_of}
 use Rattle.linda_hold.specs.Holds.{IsOneEach}
 use Rattle.linda_wire.specs.declared.message.Message.{Message}
 use Rattle.linda_wire.specs.declared.message.Message.TheVariants.{Hello, Out, Ask, Accept, Cancel, Leave}
-use Rattle.linda_wire.specs.declared.reply.Reply.{Reply}
-use Rattle.linda_wire.specs.Refusal.{refused}
-use Rattle.linda_wire.specs.declared.refusal.Refusal.TheVariants as refusals
 use Rattle.linda_state.specs.declared.deed.Deed.{Deed}
 use Rattle.linda_state.specs.declared.deed.Deed.TheVariants as deeds
 use Rattle.linda_state.specs.State.{State, IsState}
@@ -101,36 +98,3 @@ step_proper st mid new soft ds c m answered ranges proper after step = by answer
         let middle = proper_state st mid ds ranges proper after in
         let done = subst (λ d. IsAfter mid (option_to_list d) new) e step.state_is in
         (more_proper st mid ds d proper after (answer_allowed mid soft c m answered d middle step.answer e), more_after st mid new ds d after done (takes_below st ds ranges proper))
-
--- So is the refusal of an Ask to a client that left.
-pub left_step : (st : State) (soft : Soft) (c ticket : ℕ) (remove : Bool) (shape : Template) (m : Message) (deed : Option Deed) (sends : List (ℕ × Reply))
-    → IsState st → has_left st c ≡ true → m ≡ Ask ticket remove shape → deed ≡ None → sends ≡ (c, refused (refusals.Left (last_number st c))) ∷ [] → IsStep st soft c m (record { deed = deed; sends = sends; soft = soft }) st
-left_step st soft c ticket remove shape m deed sends is gone m_is deed_is sends_is =
-    let told : Sends = only_sent sends soft in
-    let said : SaysAsk true st c ticket remove shape soft told = ap (λ l. only_sent l soft) sends_is in
-    record {
-      answer = subst (λ (a : Answer → Type 0). a (record { deed = deed; sends = sends; soft = soft })) (sym (ap (IsAnswer st soft c) m_is ∙ ap (λ b. Tells (SaysAsk b st c ticket remove shape soft)) gone))
-          (told, (said, λ i. record { deed = deed_is i; sends = sends; soft = soft }));
-      state_is = subst (λ d. IsAfter st (option_to_list d) st) (sym deed_is) (none_after st is);
-    }
-
--- What is told for an Ask, and for a Cancel, is a step that leaves the state as it was.
-module _ (bag : Bagged) (st : State) (soft : Soft) (c ticket : ℕ) (m : Message) (deed : Option Deed) (sends items : List (ℕ × Reply)) (new : Soft)
-    (is : IsState st) (bag_is : bag ≡ st.bag) (deed_is : deed ≡ None) (sends_is : sends ≡ items) where
-  told_step : (says : Bagged → Sends → Type 0) → says bag (record { sends = items; soft = new })
-      → (IsAnswer st soft c m ≡ Tells (says st.bag)) → IsStep st soft c m (record { deed = deed; sends = sends; soft = new }) st
-  told_step says told answer_is =
-      let all : says st.bag (record { sends = sends; soft = new }) = subst (λ b. says b (record { sends = sends; soft = new })) bag_is (subst (λ s. says bag (record { sends = s; soft = new })) (sym sends_is) told) in
-      record {
-        answer = subst (λ (a : Answer → Type 0). a (record { deed = deed; sends = sends; soft = new })) (sym answer_is) (record { sends = sends; soft = new }, (all, λ i. record { deed = deed_is i; sends = sends; soft = new }));
-        state_is = subst (λ d. IsAfter st (option_to_list d) st) (sym deed_is) (none_after st is);
-      }
-
-  pub ask_step : (remove : Bool) (shape : Template) → has_left st c ≡ false → m ≡ Ask ticket remove shape → AnswersAsk bag (request_of c ticket) remove shape soft (record { sends = items; soft = new })
-      → IsStep st soft c m (record { deed = deed; sends = sends; soft = new }) st
-  ask_step remove shape here m_is told =
-      told_step (λ b. AnswersAsk b (request_of c ticket) remove shape soft) told (ap (IsAnswer st soft c) m_is ∙ ap (λ gone. Tells (SaysAsk gone st c ticket remove shape soft)) here)
-
-  pub cancel_step : m ≡ Cancel ticket → AnswersCancel bag (request_of c ticket) soft (record { sends = items; soft = new })
-      → IsStep st soft c m (record { deed = deed; sends = sends; soft = new }) st
-  cancel_step m_is told = told_step (λ b. AnswersCancel b (request_of c ticket) soft) told (ap (IsAnswer st soft c) m_is)

@@ -1,5 +1,5 @@
 -- Which tuples are free after a step: those that were before, those that are new, and the one that is released.
-use Rattle.std.proofs.Common.{◌≡◌, ℕ, ◌+◌, ◌<◌, inl, inr, Bool, true, false, ◌||◌, List, [], ◌∷◌, length, Option, None, Some, is_some, option_to_list, Result, Ok, Err, OnOk, IfOk, refl, sym, ap, subst, ◌∙◌, true≢false, eq-eqb, arith}
+use Rattle.std.proofs.Common.{◌≡◌, ℕ, ◌+◌, ◌<◌, inl, inr, true, false, ◌||◌, List, [], ◌∷◌, length, Option, None, Some, is_some, option_to_list, Result, Ok, Err, OnOk, IfOk, refl, sym, ap, subst, ◌∙◌, true≢false, eq-eqb, arith}
 use Rattle.std.proofs.lemmas.Bool.{cases_eq, cases_lt}
 use Rattle.std.proofs.lemmas.Option.{none-some}
 use Rattle.std.specs.FinMap.{get, insert, remove}

@@ -21,6 +21,7 @@ pub mod GrowthLaws
 pub mod OutcomeLaws
 pub mod CourseLaws
 pub mod SizeLaws
+pub mod StepLaws
 pub mod DemandLaws
 pub mod ExistLaws
 pub mod JudgeLaws

@@ -25,7 +25,7 @@ use Rattle.linda_step.specs.declared.judge.Demand.{Demand}
 use Rattle.linda_step.specs.declared.judge.Standing.{Standing}
 use Rattle.linda_step.specs.declared.judge.Verdict.{Verdict}
 use Rattle.linda_step.specs.declared.judge.Verdict.TheVariants.{Refused, Repeated, Done}
-use Rattle.linda_step.specs.Judge.{to_put, to_take, to_leave, has_no_place, judge}
+use Rattle.linda_step.specs.Judge.{to_put, to_take, to_leave, demand_of, has_no_place, judge}
 use Rattle.linda_step.specs.Soft.{Soft}
 use Rattle.linda_step.specs.Dispatch.{Sends, dispatch, on_close}
 use Rattle.linda_step.specs.Asking.{AnswersAsk, AnswersCancel, only_sent}
@@ -85,6 +85,15 @@ reply_by st c n Done = None
 -- The reply to a numbered message that makes no deed; none where its deed is done.
 abbrev pub without_deed : State → ℕ → Demand → Option Reply
 without_deed st c d = reply_by st c d.n (judge d (standing_of st c))
+
+-- the reply to what is asked for; none where nothing with a number is
+abbrev pub reply_to_demand : State → ℕ → Option Demand → Option Reply
+reply_to_demand st c None = None
+reply_to_demand st c (Some d) = without_deed st c d
+
+-- the reply to a message that its number alone decides
+abbrev pub reply_to_numbered : State → ℕ → Message → Option Reply
+reply_to_numbered st c m = reply_to_demand st c (demand_of m)
 
 abbrev pub out_without_deed : State → ℕ → ℕ → Option Reply
 out_without_deed st c n = without_deed st c (to_put n)

@@ -2,19 +2,18 @@
 
 mod deed;
 mod reply;
+mod request;
 
 ghost use Rattle.std.specs.Prelude.{◌≡◌, ◌∷◌, [], None, IfOk, OnOk, OnErr};
 ghost use Rattle.linda_bag.specs.Starts.{AreRight};
 ghost use Rattle.linda_step.specs.Store.{IsOrderly};
 ghost use Rattle.linda_step.specs.Looking.{is_held};
-ghost use Rattle.linda_step.specs.Answer.{IsStep};
+ghost use Rattle.linda_step.specs.Answer.{IsStep, reply_to_numbered};
 
-use crate::judge::Demand;
 use crate::soft::Soft;
 use linda_bag::{Bag, Starts};
-use linda_hold::Request;
 use linda_state::{Deed, State};
-use linda_wire::{Message, Refusal, Reply};
+use linda_wire::{Message, Reply};
 use std::alloc::{AllocError, Global};
 
 /// What one message came to.
@@ -56,6 +55,29 @@ pub(crate) fn answer_message<B: Bag>(
     ensures right { OnOk result (AreRight state.new.bag (is_held soft.new.holds) state.new.next starts.new) }
     ensures err { OnErr result (state.new ≡ state.old) }
 {
+    match reply::to_numbered(state, alloc, client, message)? {
+        Some(reply) => only_reply(alloc, client, reply),
+        None => act(state, soft, starts, alloc, client, message),
+    }
+}
+
+// Does what a message asks that is not answered by its number alone.
+fn act<B: Bag>(
+    state: &mut State<B>,
+    soft: &mut Soft,
+    starts: &mut Starts,
+    alloc: Global,
+    client: u32,
+    message: &Message,
+) -> Result<Step, AllocError>
+    requires orderly { IsOrderly state.old soft.old }
+    requires right { AreRight state.old.bag (is_held soft.old.holds) state.old.next starts.old }
+    requires none { reply_to_numbered state.old client message.now ≡ None }
+    ensures ok { IfOk result (λ s. IsStep state.old soft.old client message.now
+        (record { deed = s.deed; sends = s.sends.items; soft = soft.new }) state.new) }
+    ensures right { OnOk result (AreRight state.new.bag (is_held soft.new.holds) state.new.next starts.new) }
+    ensures err { OnErr result (state.new ≡ state.old) }
+{
     match message {
         Message::Hello { version, fresh, .. } => {
             only_reply(
@@ -64,44 +86,19 @@ pub(crate) fn answer_message<B: Bag>(
                 reply::greeting(state, client, *version, *fresh),
             )
         }
-        Message::Out { n, tuple } => {
-            match reply::without_deed(state, alloc, client, Demand::to_put(*n))? {
-                Some(reply) => only_reply(alloc, client, reply),
-                None => deed::put(state, soft, alloc, client, *n, tuple),
-            }
-        }
+        Message::Out { n, tuple } => deed::put(state, soft, alloc, client, *n, tuple),
         Message::Accept { n, ticket, id } => {
-            match reply::without_deed(state, alloc, client, Demand::to_take(*n))? {
-                Some(reply) => only_reply(alloc, client, reply),
-                None => deed::accept(state, soft, alloc, client, *n, *ticket, *id),
-            }
+            deed::accept(state, soft, alloc, client, *n, *ticket, *id)
         }
-        Message::Leave { n } => {
-            match reply::without_deed(state, alloc, client, Demand::to_leave(*n))? {
-                Some(reply) => only_reply(alloc, client, reply),
-                None => deed::leave(state, soft, starts, alloc, client, *n),
-            }
-        }
+        Message::Leave { n } => deed::leave(state, soft, starts, alloc, client, *n),
         Message::Ask {
             ticket,
             remove,
             template,
-        } => {
-            let (last, left) = state.book.standing(client);
-            if left {
-                return only_reply(alloc, client, Refusal::Left(last).reply());
-            }
-            let ticket = *ticket;
-            let request = Request { client, ticket };
-            Ok(only_sends(soft.ask(
-                alloc, &state.bag, starts, state.next, request, *remove, template,
-            )?))
-        }
-        Message::Cancel { ticket } => {
-            let ticket = *ticket;
-            let request = Request { client, ticket };
-            Ok(only_sends(soft.cancel(alloc, &state.bag, starts, request)?))
-        }
+        } => request::ask(
+            state, soft, starts, alloc, client, *ticket, *remove, template,
+        ),
+        Message::Cancel { ticket } => request::cancel(state, soft, starts, alloc, client, *ticket),
     }
 }
 

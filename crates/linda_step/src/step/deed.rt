@@ -3,7 +3,7 @@
 //!
 //! All that may fail comes before the first change of the state.
 
-ghost use Rattle.std.specs.Prelude.{◌≡◌, ◌∷◌, [], Some, ℕ, IfOk, OnOk, OnErr, option_to_list};
+ghost use Rattle.std.specs.Prelude.{◌≡◌, ◌∷◌, [], Some, None, ℕ, IfOk, OnOk, OnErr, option_to_list};
 ghost use Rattle.linda_wire.specs.declared.reply.Reply.TheVariants as replies;
 ghost use Rattle.linda_hold.specs.Request.{request_of};
 ghost use Rattle.linda_state.specs.declared.deed.Deed.TheVariants as deeds;
@@ -12,10 +12,9 @@ ghost use Rattle.linda_state.specs.After.{IsAfter};
 ghost use Rattle.linda_state.specs.Proper.{IsAllowed};
 ghost use Rattle.linda_step.specs.Soft.{AreApart};
 ghost use Rattle.linda_bag.specs.Starts.{AreRight};
-ghost use Rattle.linda_step.specs.Dispatch.{dispatch, on_close};
 ghost use Rattle.linda_step.specs.Looking.{is_held};
 ghost use Rattle.linda_step.specs.Answer as spec;
-ghost use Rattle.linda_step.specs.Answer.{held_tuple, take_or_pass};
+ghost use Rattle.linda_step.specs.Answer.{on_out, on_leave, held_tuple, take_or_pass};
 
 use super::{Step, one_send};
 use crate::soft::Soft;
@@ -42,10 +41,9 @@ pub(crate) fn put<B: Bag>(
     requires state { IsState state.old }
     requires allowed { IsAllowed state.old (deeds.Out client n tuple.now) }
     requires apart { AreApart soft.old }
-    ensures deed { IfOk result (λ s. s.deed ≡ Some (deeds.Out client n tuple.now)) }
-    ensures sends { IfOk result (λ s. s.sends.items ≡ (client, replies.Stored n state.old.next)
-        ∷ (dispatch state.old.next tuple.now soft.old).sends) }
-    ensures soft { OnOk result (soft.new ≡ (dispatch state.old.next tuple.now soft.old).soft) }
+    ensures answer { IfOk result (λ s.
+        record { deed = s.deed; sends = s.sends.items; soft = soft.new }
+        ≡ on_out state.old client n tuple.now None soft.old) }
     ensures after { OnOk result (IsAfter state.old (deeds.Out client n tuple.now ∷ []) state.new) }
     ensures err { OnErr result (state.new ≡ state.old) }
 {
@@ -140,10 +138,9 @@ pub(crate) fn leave<B: Bag>(
 ) -> Result<Step, AllocError>
     requires state { IsState state.old }
     requires apart { AreApart soft.old }
-    ensures deed { IfOk result (λ s. s.deed ≡ Some (deeds.Leave client n)) }
-    ensures sends { IfOk result (λ s. s.sends.items ≡ (client, replies.Left n)
-        ∷ (on_close state.old.bag client soft.old).sends) }
-    ensures soft { OnOk result (soft.new ≡ (on_close state.old.bag client soft.old).soft) }
+    ensures answer { IfOk result (λ s.
+        record { deed = s.deed; sends = s.sends.items; soft = soft.new }
+        ≡ on_leave state.old client n None soft.old) }
     ensures after { OnOk result (IsAfter state.old (deeds.Leave client n ∷ []) state.new) }
     ensures right { (next : ℕ) → AreRight state.old.bag (is_held soft.old.holds) next starts.old
         → OnOk result (AreRight state.old.bag (is_held soft.new.holds) next starts.new) }

@@ -5,13 +5,13 @@ ghost use Rattle.std.specs.Option.{option_map};
 ghost use Rattle.std.specs.FinMap as map;
 ghost use Rattle.linda_book.specs.Entries.{Entry};
 ghost use Rattle.linda_step.specs.Answer as spec;
-ghost use Rattle.linda_step.specs.Answer.{reply_of_kept};
+ghost use Rattle.linda_step.specs.Answer.{reply_of_kept, reply_to_numbered};
 
-use crate::judge::{Demand, Standing, Verdict, has_no_place, judge};
+use crate::judge::{Demand, Standing, Verdict, demand_of, has_no_place, judge};
 use crate::kept;
 use linda_bag::Bag;
 use linda_state::State;
-use linda_wire::{Refusal, Reply, VERSION};
+use linda_wire::{Message, Refusal, Reply, VERSION};
 use std::alloc::{AllocError, Global};
 
 /// The reply to a Hello.
@@ -30,8 +30,24 @@ pub(crate) fn greeting<B: Bag>(state: &State<B>, client: u32, version: u8, fresh
     }
 }
 
-/// The reply to a numbered message that makes no deed, which changes nothing; none where its deed is to be done.
-pub(crate) fn without_deed<B: Bag>(
+/// The reply to a message that its number alone decides, which changes nothing; none where it bears none, or its deed
+/// is to be done.
+pub(crate) fn to_numbered<B: Bag>(
+    state: &State<B>,
+    alloc: Global,
+    client: u32,
+    message: &Message,
+) -> Result<Option<Reply>, AllocError>
+    ensures { IfOk result (λ r. r ≡ reply_to_numbered state.now client message.now) }
+{
+    match demand_of(message) {
+        Some(demand) => without_deed(state, alloc, client, demand),
+        None => Ok(None),
+    }
+}
+
+// The reply to a numbered message that makes no deed; none where its deed is to be done.
+fn without_deed<B: Bag>(
     state: &State<B>,
     alloc: Global,
     client: u32,

@@ -23,3 +23,6 @@ loop-id-preserved g c =
           ∙ c.loop-id.invariant.soft;
       right = λ next rights. ensures.right next (c.loop-id.invariant.right next rights);
     }
+
+pub returns-clause-right : goal.returns-clause-right
+returns-clause-right g c = c.loop-id.invariant.right
