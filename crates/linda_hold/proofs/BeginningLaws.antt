@@ -123,3 +123,25 @@ bool_first b (Some asked) = by (first_of asked)
     by (Some (atoms.Int n)) = refl
     by (Some (atoms.Text t)) = refl
     by (Some (atoms.Bool c)) = refl
+
+-- Nor is a text.
+pub text_first : (t : List ℕ) (o : Option Asked) → row_at atom_ord.ghosts.cmp (atoms.Text t) (placed other_of o) ≡ row_at atom_ord.ghosts.cmp (atoms.Text t) (placed first_of o)
+text_first t None = refl
+text_first t (Some asked) = by (first_of asked)
+  where
+    by : (first : Option Atom) → row_at atom_ord.ghosts.cmp (atoms.Text t) (keyed (other_in first) asked) ≡ row_at atom_ord.ghosts.cmp (atoms.Text t) (keyed first asked)
+    by None = refl
+    by (Some (atoms.Int n)) = refl
+    by (Some (atoms.Text u)) = refl
+    by (Some (atoms.Bool b)) = refl
+
+-- An integer that stands first is found as itself.
+pub int_first : (n : ℤ) (o : Option Asked) → row_at int_cmp n (placed int_of o) ≡ row_at atom_ord.ghosts.cmp (atoms.Int n) (placed first_of o)
+int_first n None = refl
+int_first n (Some asked) = by (first_of asked)
+  where
+    by : (first : Option Atom) → row_at int_cmp n (keyed (int_in first) asked) ≡ row_at atom_ord.ghosts.cmp (atoms.Int n) (keyed first asked)
+    by None = refl
+    by (Some (atoms.Int m)) = refl
+    by (Some (atoms.Text t)) = refl
+    by (Some (atoms.Bool b)) = refl

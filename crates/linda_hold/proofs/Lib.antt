@@ -10,3 +10,4 @@ pub mod EntryLaws
 pub mod WaitLaws
 pub mod ArrivalLaws
 pub mod BeginningLaws
+pub mod TicketLaws

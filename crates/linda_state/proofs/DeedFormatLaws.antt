@@ -64,6 +64,17 @@ deed_short form (Leave client n) fits = omega arith
 
 -- ---- a deed stands there
 
+-- What is read after each kind byte that both forms have.
+module _ (form : Form) (bytes rest : List ℕ) where
+  pub out_at : bytes ≡ kind.OUT ∷ rest → (format.deed form).read bytes ≡ made_at (λ p. Out p.0 p.1.0 p.1.1) (format.out form) rest
+  out_at e = rw e refl
+
+  pub take_at : bytes ≡ kind.TAKE ∷ rest → (format.deed form).read bytes ≡ made_at (λ p. Take p.0 p.1.0 p.1.1) format.reference rest
+  take_at e = rw e refl
+
+  pub pass_at : bytes ≡ kind.PASS ∷ rest → (format.deed form).read bytes ≡ made_at (λ p. Pass p.0 p.1.0 p.1.1) format.reference rest
+  pass_at e = rw e refl
+
 -- An Out does, where after its kind byte its parts do.
 pub out_there : (form : Form) (bytes rest : List ℕ) → bytes ≡ kind.OUT ∷ rest → IsOk (made_at (λ p. Out p.0 p.1.0 p.1.1) (format.out form) rest) → IsOk ((format.deed form).read bytes)
 out_there form bytes rest e there = rw e there

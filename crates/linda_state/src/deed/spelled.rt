@@ -38,18 +38,9 @@ impl Spelled for Deed {
         match bytes {
             [] => Err(ReadFault::Short),
             [OUT, body @ ..] => skip_out(form, body),
-            [TAKE, body @ ..] => {
-                let (_deed, rest) = take_from(body)?;
-                Ok(rest)
-            }
-            [PASS, body @ ..] => {
-                let (_deed, rest) = pass_from(body)?;
-                Ok(rest)
-            }
-            [kind, body @ ..] => {
-                let (_deed, rest) = other_from(form, *kind, body)?;
-                Ok(rest)
-            }
+            [TAKE, body @ ..] => skip_take(body),
+            [PASS, body @ ..] => skip_pass(body),
+            [kind, body @ ..] => skip_other(form, *kind, body),
         }
     }
 
@@ -114,6 +105,33 @@ fn pass_from(body: &[u8]) -> Result<(Deed, &[u8]), ReadFault>
     let (n, rest) = read_u64(rest)?;
     let (id, rest) = read_u64(rest)?;
     Ok((Deed::Pass { client, n, id }, rest))
+}
+
+// Passes over the body of a Take.
+fn skip_take(body: &[u8]) -> Result<&[u8], ReadFault>
+    ensures { GivesAlways (λ rest. rest.now) result
+        (left_by (made_at (λ p. Take p.0 p.1.0 p.1.1) format.reference body.now)) }
+{
+    let (_deed, rest) = take_from(body)?;
+    Ok(rest)
+}
+
+// Passes over the body of a Pass.
+fn skip_pass(body: &[u8]) -> Result<&[u8], ReadFault>
+    ensures { GivesAlways (λ rest. rest.now) result
+        (left_by (made_at (λ p. Pass p.0 p.1.0 p.1.1) format.reference body.now)) }
+{
+    let (_deed, rest) = pass_from(body)?;
+    Ok(rest)
+}
+
+// Passes over what `other_from` reads.
+fn skip_other(form: Form, kind: u8, body: &[u8]) -> Result<&[u8], ReadFault>
+    ensures { GivesAlways (λ rest. rest.now) result
+        (left_by (choice_at (format.leave_kinds form) no_kind (kind ∷ body.now))) }
+{
+    let (_deed, rest) = other_from(form, kind, body)?;
+    Ok(rest)
 }
 
 // What stands after a kind byte that not every form has: a Leave, where the form has them.
