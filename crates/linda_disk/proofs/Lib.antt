@@ -1,2 +1,3 @@
+pub mod CauseLaws
 mod MemDiskLaws
 pub mod RunLaws

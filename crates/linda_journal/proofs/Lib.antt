@@ -7,3 +7,4 @@ pub mod GateLaws
 pub mod BankLaws
 pub mod ImageLaws
 pub mod RenewalLaws
+mod CauseLaws

@@ -14,3 +14,4 @@ mod LivesLaws
 mod GoingLaws
 mod HandledLaws
 mod CommitLaws
+mod CauseLaws

@@ -7,3 +7,4 @@ pub mod StandsLaws
 pub mod ReplayLaws
 pub mod ChoiceLaws
 pub mod AppendLaws
+mod CauseLaws

@@ -1,6 +1,10 @@
 use Rattle.std.proofs.Common.{◌∙◌, true, false, Ok, inl, inr, subst}
 use Rattle.linda_snap.specs.Choice.{IsChoice, IsFaultOfFile}
 use Rattle.linda_snap.proofs.ChoiceLaws.{up_left, up_right, used_here, chosen_fault, one_stands, only_told}
+use Rattle.linda_journal.specs.declared.fault.BankFault.TheVariants as banks
+use Rattle.linda_snap.specs.declared.choice.ChoiceFault.TheVariants as choices
+use Rattle.linda_disk.proofs.CauseLaws.{renamed}
+use Rattle.linda_snap.proofs.CauseLaws.{tells_on, left_told, right_told, side_failed}
 use Rattle.linda_snap.proofs.choice.choose_bank.Goals as goal
 
 pub returns-in-Err-open_file-clause-fault : goal.returns-in-Err-open_file-clause-fault
@@ -97,3 +101,30 @@ returns-in-Err-open_file-2-clause-only g c st left right stands = (tt, only_told
 
 pub returns-in-Err-clause-only : goal.returns-in-Err-clause-only
 returns-in-Err-clause-only g c st left right stands = (tt, only_told (g.D.Disk.view c.args.left).seen (g.D.Disk.view c.args.right).seen c.in-Err.fault st stands (λ disk memory. inl (c.in-Err.ensures.fault left right disk memory)))
+
+pub returns-in-Err-clause-cause : goal.returns-in-Err-clause-cause
+returns-in-Err-clause-cause g c = c.in-Err.ensures.cause
+
+pub returns-in-Err-open_file-clause-cause : goal.returns-in-Err-open_file-clause-cause
+returns-in-Err-open_file-clause-cause g c =
+    let count = g.D.Disk.failures in
+    let told = c.told_on.result in
+    let fault = c.in-Err-open_file.fault in
+    let old = count c.args.right in
+    let mid = count c.look_at_both.new.right in
+    let new = count c.in-Err-open_file.right in
+    let steady = c.in-Ok-true.ensures.steady in
+    right_told choices.Disk told (count c.args.left) (count c.look_at_both.new.left) old new steady.0
+    (renamed choices.Disk told banks.Disk fault old new (side_failed true fault told c.told_on.ensures) (tells_on banks.Disk fault old mid new steady.1 c.in-Err-open_file.ensures.cause))
+
+pub returns-in-Err-open_file-2-clause-cause : goal.returns-in-Err-open_file-2-clause-cause
+returns-in-Err-open_file-2-clause-cause g c =
+    let count = g.D.Disk.failures in
+    let told = c.told_on-in-Err-open_file-2.result in
+    let fault = c.in-Err-open_file-2.fault in
+    let old = count c.args.left in
+    let mid = count c.look_at_both.new.left in
+    let new = count c.in-Err-open_file-2.left in
+    let steady = c.in-Ok-false.ensures.steady in
+    left_told choices.Disk told old new (count c.args.right) (count c.look_at_both.new.right)
+    (renamed choices.Disk told banks.Disk fault old new (side_failed false fault told c.told_on-in-Err-open_file-2.ensures) (tells_on banks.Disk fault old mid new steady.0 c.in-Err-open_file-2.ensures.cause)) steady.1

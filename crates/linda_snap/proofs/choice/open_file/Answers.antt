@@ -1,8 +1,10 @@
-use Rattle.std.proofs.Common.{subst}
+use Rattle.std.proofs.Common.{◌∙◌, ap, subst}
 use Rattle.linda_journal.specs.Journal.{deeds_of}
 use Rattle.linda_journal.specs.Bank.{IsBank}
 use Rattle.linda_snap.specs.Choice.{IsRecovered, IsUnrecovered}
 use Rattle.linda_snap.proofs.ChoiceLaws.{stored_there, fault_there, fault_of_bank}
+use Rattle.linda_journal.specs.declared.fault.BankFault.TheVariants as banks
+use Rattle.linda_snap.proofs.CauseLaws.{none_told, unrecovered_fails_none}
 use Rattle.linda_snap.proofs.choice.open_file.Goals as goal
 
 pub returns-in-Ok-recover-clause-found : goal.returns-in-Ok-recover-clause-found
@@ -18,3 +20,11 @@ returns-in-Err-recover-clause-fault g c honest other =
     fault_there c.in-Ok.bank.form (g.D.Disk.view c.args.disk).seen c.in-Ok.bank.generation c.in-Ok.body.items c.in-Ok.records.items c.in-Err-recover.fault
     (subst (λ file. IsBank c.in-Ok.bank.form file c.in-Ok.bank.generation c.in-Ok.body.items (deeds_of c.in-Ok.records.items)) (c.in-Ok.ensures.seen honest) (c.in-Ok.ensures.found honest).file)
     (subst (λ f. IsUnrecovered f c.in-Ok.body.items c.in-Ok.records.items c.in-Err-recover.fault) c.form.ensures c.in-Err-recover.ensures.fault)
+
+pub returns-in-Err-recover-clause-cause : goal.returns-in-Err-recover-clause-cause
+returns-in-Err-recover-clause-cause g c =
+    let count = g.D.Disk.failures in
+    let fault = c.in-Err-recover.fault in
+    none_told banks.Disk fault (count c.args.disk) (count c.into_disk.result)
+    (unrecovered_fails_none c.form.result c.in-Ok.body.items c.in-Ok.records.items fault c.in-Err-recover.ensures.fault)
+    (ap count c.into_disk.ensures ∙ c.in-Ok.ensures.steady)

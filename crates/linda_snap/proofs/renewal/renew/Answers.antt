@@ -1,10 +1,12 @@
-use Rattle.std.proofs.Common.{◌+◌, [], length, subst, sym, arith}
+use Rattle.std.proofs.Common.{◌+◌, ◌∙◌, [], length, subst, sym, arith}
 use Rattle.linda_state.specs.DeedFormat.{written}
 use Rattle.linda_disk.specs.Run.{LeavesOnly}
 use Rattle.linda_journal.specs.Bank.{IsSettled, IsNoneOrNew}
 use Rattle.linda_journal.specs.Renewal.{IsWhole, pieces}
 use Rattle.linda_journal.proofs.RenewalLaws.{then_calls}
 use Rattle.linda_snap.proofs.StandsLaws.{filling, opening}
+use Rattle.linda_disk.specs.declared.fault.DiskFault.TheVariants as device
+use Rattle.linda_snap.proofs.CauseLaws.{tells_on}
 use Rattle.linda_snap.proofs.renewal.renew.Goals as goal
 
 pub returns-in-Err-unlock-clause-any_moment : goal.returns-in-Err-unlock-clause-any_moment
@@ -55,3 +57,14 @@ pub returns-in-Err-fill-clause-any_moment : goal.returns-in-Err-fill-clause-any_
 returns-in-Err-fill-clause-any_moment g c body short is honest =
     let one = c.in-Ok.ensures.honest.0.0 honest in
     (tt, filling c.args.generation body (g.D.Disk.view c.args.other) (g.D.Disk.view c.in-Ok.closed.disk) (g.D.Disk.view c.in-Err-fill.other) (c.in-Ok.ensures.any_moment honest).0 (c.in-Err-fill.ensures.any_moment one).1)
+
+pub returns-in-Err-fill-clause-cause : goal.returns-in-Err-fill-clause-cause
+returns-in-Err-fill-clause-cause g c =
+    let count = g.D.Disk.failures in
+    tells_on device.Device c.in-Err-fill.fault (count c.args.other) (count c.in-Ok.closed.disk) (count c.in-Err-fill.other) c.in-Ok.ensures.steady c.in-Err-fill.ensures.cause
+
+pub returns-in-Err-unlock-clause-cause : goal.returns-in-Err-unlock-clause-cause
+returns-in-Err-unlock-clause-cause g c =
+    let count = g.D.Disk.failures in
+    tells_on device.Device c.in-Err-unlock.fault (count c.args.other) (count c.in-Ok-fill.whole.disk) (count c.in-Err-unlock.other)
+    (c.in-Ok-fill.ensures.steady ∙ c.in-Ok.ensures.steady) c.in-Err-unlock.ensures.cause

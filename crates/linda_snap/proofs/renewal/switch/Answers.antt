@@ -1,4 +1,4 @@
-use Rattle.std.proofs.Common.{◌≡◌, ◌+◌, ◌<◌, ◌^◌, [], length, ap, subst, sym, ◌∙◌, arith, rules}
+use Rattle.std.proofs.Common.{◌≡◌, ◌+◌, ◌<◌, ◌^◌, [], inr, length, ap, subst, sym, ◌∙◌, arith, rules}
 use Rattle.linda_state.specs.DeedFormat.{written}
 use Rattle.linda_disk.specs.Run.{LeavesOnly}
 use Rattle.linda_journal.specs.Bank.{IsSettled}
@@ -8,6 +8,11 @@ use Rattle.linda_snap.specs.Snapshot.{spell_state}
 use Rattle.linda_snap.specs.Stands.{IsStored, IsUp}
 use Rattle.linda_snap.specs.Switch.{IsOldNoneOrNew}
 use Rattle.linda_snap.proofs.StandsLaws.{stays_so, switching, switched, new_stored}
+use Rattle.linda_disk.specs.declared.fault.DiskFault.TheVariants as device
+use Rattle.linda_journal.specs.declared.limits.TheConstants.{MIN_BYTES}
+use Rattle.linda_snap.specs.declared.renewal.SwitchFault.TheVariants as switches
+use Rattle.linda_disk.proofs.CauseLaws.{renamed}
+use Rattle.linda_snap.proofs.CauseLaws.{switch_failed, fills_none, spends_none, not_too_long}
 use Rattle.linda_snap.proofs.renewal.switch.Goals as goal
 
 pub returns-then-not-has_room-clause-any_moment : goal.returns-then-not-has_room-clause-any_moment
@@ -77,3 +82,24 @@ returns-in-Ok-renew-clause-clock g c honest =
     let bytes = c.deref.ensures.value ∙ c.in-Ok.ensures.bytes in
     let count = ap length bytes ∙ front_length written c.in-Some.generation (spell_state written c.args.state.now) in
     subst (λ n. TakesCalls (3 + pieces n) (g.D.Disk.view c.args.other) (g.D.Disk.view c.in-Ok-renew.bank.disk)) count (c.in-Ok-renew.ensures.clock honest)
+
+pub returns-clause-cause : goal.returns-clause-cause
+returns-clause-cause g c =
+    let count = g.D.Disk.failures in
+    renamed switches.Disk c.from.result device.Device c.in-Err.fault (count c.args.other) (count c.in-Err.other) (switch_failed c.in-Err.fault c.from.result c.from.ensures) c.in-Err.ensures.cause
+
+pub returns-clause-refused : goal.returns-clause-refused
+returns-clause-refused g c = (
+  λ is. absurd (fills_none c.in-Err.fault c.from.result c.from.ensures is),
+  λ is. absurd (spends_none c.in-Err.fault c.from.result c.from.ensures is),
+  λ is. inr c.retire.ensures.spent,
+  λ is. c.retire.ensures.spent,
+)
+
+pub returns-clause-full : goal.returns-clause-full
+returns-clause-full g c =
+    let room = c.if-not-has_room.ensures.yes (search rules) in
+    let long = MIN_BYTES + 1 + length (spell_state written c.args.state.now) in (
+      λ is. absurd (fills_none c.in-Err.fault c.from.result c.from.ensures is),
+      λ less. absurd (not_too_long c.args.current.limit c.limit-limit.result long c.limit-limit.ensures room less),
+    )

@@ -1,7 +1,10 @@
-use Rattle.std.proofs.Common.{◌∙◌, arith, refl}
+use Rattle.std.proofs.Common.{◌∙◌, arith, refl, ◌≡◌, ◌+◌, length, Err, ap}
 use Rattle.linda_state.specs.DeedFormat.{written}
 use Rattle.linda_journal.specs.Bank.{behind_gate}
 use Rattle.linda_journal.proofs.BankLaws.{making, made}
+use Rattle.linda_journal.specs.declared.fault.BankFault.TheVariants as banks
+use Rattle.linda_journal.specs.declared.limits.TheConstants.{MIN_BYTES}
+use Rattle.linda_journal.proofs.CauseLaws.{none_told, memory_fails_none, full_fails_none, memory_is_not_full, within_not_past}
 use Rattle.linda_journal.proofs.bank.Bank.create.Goals as goal
 
 pub returns-in-Err-clause-any_moment : goal.returns-in-Err-clause-any_moment
@@ -28,3 +31,26 @@ returns-clause-done g c honest =
     let body = c.args.body.now in
     made written generation body _ (g.D.Disk.view c.inscribe.new.disk) c.requires.low (omega (arith, c.ranges.generation.fits)) c.requires.short refl
     (c.in-Ok-inscribe.ensures.done (behind_gate written generation body) (c.deref.ensures.value ∙ c.in-Ok.ensures) honest)
+
+pub returns-then-limit-body-clause-cause : goal.returns-then-limit-body-clause-cause
+returns-then-limit-body-clause-cause g c = let count = g.D.Disk.failures c.args.disk in none_told banks.Full count count full_fails_none refl
+
+pub returns-in_default-clause-cause : goal.returns-in_default-clause-cause
+returns-in_default-clause-cause g c = let count = g.D.Disk.failures c.args.disk in none_told banks.Memory count count memory_fails_none refl
+
+pub returns-in-Err-clause-cause : goal.returns-in-Err-clause-cause
+returns-in-Err-clause-cause g c = c.in-Err.ensures.cause
+
+pub returns-then-limit-body-clause-full : goal.returns-then-limit-body-clause-full
+returns-then-limit-body-clause-full g c = ((λ is. c.if-limit-body.true, λ past. refl), λ is. refl)
+
+pub returns-in_default-clause-full : goal.returns-in_default-clause-full
+returns-in_default-clause-full g c =
+    let long = MIN_BYTES + 1 + length c.args.body.now in
+    ((λ is. absurd (memory_is_not_full is), λ past. absurd (within_not_past c.args.limit long c.if-limit-body.false past)), λ is. refl)
+
+pub returns-in-Err-clause-full : goal.returns-in-Err-clause-full
+returns-in-Err-clause-full g c =
+    let long = MIN_BYTES + 1 + length c.args.body.now in
+    let never = λ (is : c.in-Err.fault ≡ banks.Full). c.in-Err.ensures.known (ap (λ f. Err f) is) in
+    ((λ is. absurd (never is), λ past. absurd (within_not_past c.args.limit long c.if-limit-body.false past)), λ is. absurd (never is))

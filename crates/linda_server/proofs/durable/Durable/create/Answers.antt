@@ -5,8 +5,52 @@ use Rattle.linda_state.specs.DeedFormat.{written}
 use Rattle.linda_journal.specs.Bank.{IsSettled}
 use Rattle.linda_step.specs.Store.{Store}
 use Rattle.linda_server.proofs.PairLaws.{left_for}
-use Rattle.linda_server.proofs.EmptyLaws.{void_durable, void_seen, then_gate, then_bank, bank_made, made_up, up_as, kept_as}
+use Rattle.linda_journal.specs.declared.fault.BankFault.TheVariants as bank_fault
+use Rattle.linda_server.specs.declared.fault.OpenFault.TheVariants.{Disk, Memory}
+use Rattle.linda_disk.proofs.CauseLaws.{renamed}
+use Rattle.linda_server.proofs.CauseLaws.{counted, left_told, right_told, none_told, memory_fails_none}
+use Rattle.linda_server.proofs.EmptyLaws.{void_durable, void_seen, nothing_made, gate_made, then_gate, then_bank, bank_made, made_up, up_as, kept_as}
 use Rattle.linda_server.proofs.durable.Durable.create.Goals as goal
+
+pub returns-in-Err-clause-any_moment : goal.returns-in-Err-clause-any_moment
+returns-in-Err-clause-any_moment g c hl hr vl vr =
+    let view = g.D.Disk.view in (
+      tt,
+      nothing_made (view c.args.left) (view c.expect_empty.new.left) (view c.args.right) (view c.expect_empty.new.right) (c.expect_empty.ensures.left hl vl).0 (c.expect_empty.ensures.right hr vr).0,
+    )
+
+pub returns-in_default-spell_empty-clause-any_moment : goal.returns-in_default-spell_empty-clause-any_moment
+returns-in_default-spell_empty-clause-any_moment g c hl hr vl vr =
+    let view = g.D.Disk.view in (
+      tt,
+      nothing_made (view c.args.left) (view c.expect_empty.new.left) (view c.args.right) (view c.expect_empty.new.right) (c.expect_empty.ensures.left hl vl).0 (c.expect_empty.ensures.right hr vr).0,
+    )
+
+pub returns-in_default-spell_empty-clause-cause : goal.returns-in_default-spell_empty-clause-cause
+returns-in_default-spell_empty-clause-cause g c =
+    let count = g.D.Disk.failures in
+    none_told Disk Memory (count c.args.left) (count c.expect_empty.new.left) (count c.args.right) (count c.expect_empty.new.right) memory_fails_none c.in_default.ensures.steady.0 c.in_default.ensures.steady.1
+
+pub returns-in-Err-lay_gate-clause-any_moment : goal.returns-in-Err-lay_gate-clause-any_moment
+returns-in-Err-lay_gate-clause-any_moment g c hl hr vl vr =
+    let left = c.expect_empty.ensures.left hl vl in
+    let right = c.expect_empty.ensures.right hr vr in
+    let right_so = c.expect_empty.ensures.right_honest.0 hr in
+    let timed_right = g.met.D.Disk.timed c.expect_empty.new.right right_so in
+    let view = g.D.Disk.view in (
+      tt,
+      gate_made (view c.args.left) (view c.expect_empty.new.left) (view c.args.right) (view c.lay_gate.new.disk) left.0
+          (then_gate (view c.args.right) (view c.expect_empty.new.right) (view c.lay_gate.new.disk) right.0
+          (c.lay_gate.ensures.any_moment right_so (void_durable (view c.expect_empty.new.right) timed_right right.1) (void_seen (view c.expect_empty.new.right) timed_right right.1))),
+    )
+
+pub returns-in-Err-lay_gate-clause-cause : goal.returns-in-Err-lay_gate-clause-cause
+returns-in-Err-lay_gate-clause-cause g c =
+    let count = g.D.Disk.failures in
+    let told = c.of_device.result in
+    right_told Disk told (count c.args.left) (count c.expect_empty.new.left) (count c.args.right) (count c.expect_empty.new.right) (count c.lay_gate.new.disk)
+    c.in_default.ensures.steady.0 c.in_default.ensures.steady.1
+    (counted Disk told c.in-Err-lay_gate.fault c.lay_gate.result (count c.expect_empty.new.right) (count c.lay_gate.new.disk) c.in-Err-lay_gate.is c.of_device.ensures.device c.lay_gate.ensures.cause)
 
 pub returns-in-Err-create-clause-any_moment : goal.returns-in-Err-create-clause-any_moment
 returns-in-Err-create-clause-any_moment g c hl hr vl vr =
@@ -25,6 +69,16 @@ returns-in-Err-create-clause-any_moment g c hl hr vl vr =
           (then_gate (view c.args.right) (view c.expect_empty.new.right) (view c.lay_gate.new.disk) right.0
           (c.lay_gate.ensures.any_moment right_so (void_durable (view c.expect_empty.new.right) timed_right right.1) (void_seen (view c.expect_empty.new.right) timed_right right.1))),
     )
+
+pub returns-in-Err-create-clause-cause : goal.returns-in-Err-create-clause-cause
+returns-in-Err-create-clause-cause g c =
+    let count = g.D.Disk.failures in
+    let told = c.of_bank.result in
+    let gate : count c.lay_gate.new.disk ≡ count c.expect_empty.new.right = c.in_default-lay_gate.ensures.cause.ok in
+    left_told Disk told (count c.args.left) (count c.expect_empty.new.left) (count c.in-Err-create.left) (count c.args.right) (count c.lay_gate.new.disk)
+    c.in_default.ensures.steady.0
+    (renamed Disk told bank_fault.Disk c.in-Err-create.fault (count c.expect_empty.new.left) (count c.in-Err-create.left) c.of_bank.ensures.disk c.in-Err-create.ensures.cause)
+    (gate ∙ c.in_default.ensures.steady.1)
 
 pub returns-clause-any_moment : goal.returns-clause-any_moment
 returns-clause-any_moment g c hl hr vl vr =

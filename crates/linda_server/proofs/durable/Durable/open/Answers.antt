@@ -1,10 +1,13 @@
 -- The bank that was chosen is the one in use.
-use Rattle.std.proofs.Common.{◌∙◌, inl, inr, sym, ap, subst}
+use Rattle.std.proofs.Common.{◌∙◌, inl, inr, refl, sym, ap, subst}
 use Rattle.linda_step.specs.Store.{Store}
 use Rattle.linda_snap.specs.Stands.{IsStored, IsUp, Stands}
 use Rattle.linda_server.specs.Opening.{fault_of_choice}
 use Rattle.linda_server.proofs.PairLaws.{left_for, now_on_sides}
 use Rattle.linda_server.proofs.OpeningLaws.{leaves_no_other}
+use Rattle.linda_snap.specs.declared.choice.ChoiceFault.TheVariants as choices
+use Rattle.linda_server.specs.declared.fault.OpenFault.TheVariants as fault
+use Rattle.linda_server.proofs.CauseLaws.{none_told, two_renamed, range_fails_none, choice_failed}
 use Rattle.linda_server.proofs.durable.Durable.open.Goals as goal
 
 pub returns-in-Err-clause-only : goal.returns-in-Err-clause-only
@@ -50,3 +53,18 @@ invariant_of-result-clause-kept g c _ =
 pub returns-in-Ok-clause-found : goal.returns-in-Ok-clause-found
 returns-in-Ok-clause-found g c hl hr =
     subst (Stands (g.D.Disk.view c.args.left).seen (g.D.Disk.view c.args.right).seen) (sym (ap (λ (s : Store). s.state) c.from_state-store.ensures)) (c.in-Ok.ensures.found hl hr)
+
+pub returns-then-not-is_limit-clause-cause : goal.returns-then-not-is_limit-clause-cause
+returns-then-not-is_limit-clause-cause g c =
+    let left = g.D.Disk.failures c.args.left in
+    let right = g.D.Disk.failures c.args.right in
+    none_told fault.Disk fault.LimitRange left left right right range_fails_none refl refl
+
+pub returns-in-Err-clause-any_moment : goal.returns-in-Err-clause-any_moment
+returns-in-Err-clause-any_moment g c l r = let both = (c.in-Err.ensures.any_moment l r).1 in (tt, record { left = both.0; right = both.1 })
+
+pub returns-in-Err-clause-cause : goal.returns-in-Err-clause-cause
+returns-in-Err-clause-cause g c =
+    let count = g.D.Disk.failures in
+    two_renamed fault.Disk c.of_choice.result choices.Disk c.in-Err.fault (count c.args.left) (count c.args.right) (count c.in-Err.left) (count c.in-Err.right)
+    (choice_failed c.of_choice.result c.in-Err.fault c.of_choice.ensures) c.in-Err.ensures.cause
