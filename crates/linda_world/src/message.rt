@@ -1,9 +1,9 @@
 //! Messages among packets.
 
-ghost use Rattle.std.specs.Prelude.{◌≡◌, IfOk, true};
+ghost use Rattle.std.specs.Prelude.{◌≡◌, IfOk, Some, true};
 ghost use Rattle.std.specs.List.{list_all};
 ghost use Rattle.linda_run.specs.Steps.{AreMessagesAt};
-ghost use Rattle.linda_world.specs.Refusal.{is_message_at};
+ghost use Rattle.linda_world.specs.Refusal.{is_message_at, is_message_to};
 
 use linda_run::{Body, Packet};
 use linda_wire::Message;
@@ -14,9 +14,15 @@ fn is_message(packets: &[Packet], server: u32, k: usize) -> bool
     ensures { result ≡ is_message_at packets.now server k }
 {
     match packets.get(k) {
-        Some(packet) => packet.server == server && matches!(packet.body, Body::Message(_)),
+        Some(packet) => is_message_to(packet, server),
         None => false,
     }
+}
+
+fn is_message_to(packet: &Packet, server: u32) -> bool
+    ensures { result ≡ is_message_to (Some packet.now) server }
+{
+    packet.server == server && matches!(packet.body, Body::Message(_))
 }
 
 /// Whether the packets of these numbers are messages to the server.
