@@ -1,14 +1,12 @@
 //! Messages that go at once: what a bank with just enough room gets, and one with too little.
 
+use super::host::Host;
 use super::script::Sessions;
 use super::stand::{Kept, Scene, Stand, play};
 use super::steps::{AsFarAsMemoryGoes, Step, done_as_said};
-use linda_disk::MemDisk;
-use linda_shared::Shared;
 use std::alloc::Global;
 use std::process::Abort;
 use std::sync::Wait;
-use std::sync::ledger::Ledger;
 use std::test::Fail;
 
 const NEW: Kept = (1, 0, 0);
@@ -68,15 +66,15 @@ fn has_record(bytes: &[u8], len: u8) -> bool {
 }
 
 impl Scene for Bank {
-    fn play<L: Ledger, R: Wait + Abort>(
+    fn play<S: Drop, O: Drop, H: Host<S, O>, R: Wait + Abort>(
         &self,
         rt: &R,
         alloc: Global,
-        shared: Shared<MemDisk, L>,
+        host: H,
     ) -> Result<(), Fail> {
-        let mut sessions = Sessions::new(alloc, shared);
+        let mut sessions = Sessions::new(alloc, host);
         done_as_said(rt, alloc, &mut sessions, self.steps)?;
-        let (left, _) = sessions.into_server().into_disks();
+        let (left, _) = sessions.into_host().into_disks();
         let bytes = left.bytes();
         assert_eq!(rt; bytes.len(), self.len);
         assert!(rt; has_record(bytes, self.record));

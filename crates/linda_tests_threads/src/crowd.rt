@@ -3,11 +3,12 @@
 ghost use Rattle.std.specs.Prelude.{◌≡◌};
 ghost use Rattle.linda_receipt.specs.declared.limits.TheConstants.{PARTS};
 
-use super::stand::{ROOMY, kept_after, shared_on};
+use super::host::{Host, Welcome};
+use super::stand::{ROOMY, shared_on};
 use super::words::{ask, hello, put};
 use linda_disk::MemDisk;
 use linda_receipt::PARTS;
-use linda_shared::{Greeted, Outlet, Seat, Shared};
+use linda_shared::{Outlet, Seat, Shared};
 use linda_tuple::{Atom, Pattern};
 use linda_wire::{Message, Reply};
 use std::alloc::{AllocError, Global};
@@ -24,15 +25,15 @@ const CLIENTS: usize = 64;
 const VISITS: u64 = 16;
 
 // Comes, puts and takes, and goes; whether all of it went as it should. The client was there so often before.
-fn visits<L: Ledger, R: Wait>(
+fn visits<S: Drop, O: Drop, H: Host<S, O>, R: Wait>(
     rt: &R,
     alloc: Global,
-    shared: &Shared<MemDisk, L>,
+    host: &H,
     client: u32,
     before: u64,
 ) -> Result<bool, AllocError> {
-    let greeted = shared.greet(rt, &hello(client, before == 0));
-    let Ok(Greeted::Welcome(seat, outlet, last)) = greeted else {
+    let greeted = host.greet(rt, &hello(client, before == 0));
+    let Ok(Welcome::Seated(seat, outlet, last)) = greeted else {
         return Ok(false);
     };
     let mut seat = seat;
@@ -41,31 +42,31 @@ fn visits<L: Ledger, R: Wait>(
         && trades(
             rt,
             alloc,
-            shared,
+            host,
             &mut seat,
             &mut outlet,
             before.saturating_add(1),
             last,
         )?;
-    Ok(shared.leave(rt, seat, outlet).is_ok() && is_well)
+    Ok(host.leave(rt, seat, outlet).is_ok() && is_well)
 }
 
 // Puts a tuple of the client's own, and takes it.
-fn trades<L: Ledger, R: Wait>(
+fn trades<S: Drop, O: Drop, H: Host<S, O>, R: Wait>(
     rt: &R,
     alloc: Global,
-    shared: &Shared<MemDisk, L>,
-    seat: &mut Seat<L>,
-    outlet: &mut Outlet<L>,
+    host: &H,
+    seat: &mut S,
+    outlet: &mut O,
     ticket: u64,
     last: u64,
 ) -> Result<bool, AllocError> {
-    let own = i64::from(seat.client());
+    let own = i64::from(H::client(seat));
     let message = put(alloc, last.saturating_add(1), "own", own)?;
-    let did_put = did(rt, shared, seat, &message);
+    let did_put = did(rt, host, seat, &message);
     let message = ask(alloc, ticket, "own", Pattern::Value(Atom::Int(own)))?;
-    let did_ask = shared.submit(rt, seat, &message).is_ok();
-    let replies = shared.drain(rt, outlet);
+    let did_ask = host.submit(rt, seat, &message).is_ok();
+    let replies = host.drain(rt, outlet);
     let [Reply::Stored { id, .. }, Reply::Offer { id: offered, .. }] = replies.as_slice() else {
         return Ok(false);
     };
@@ -74,32 +75,32 @@ fn trades<L: Ledger, R: Wait>(
         ticket,
         id: *offered,
     };
-    Ok(did_put && did_ask && id == offered && did(rt, shared, seat, &message))
+    Ok(did_put && did_ask && id == offered && did(rt, host, seat, &message))
 }
 
 // Whether a message makes a deed.
-fn did<L: Ledger, R: Wait>(
+fn did<S: Drop, O: Drop, H: Host<S, O>, R: Wait>(
     rt: &R,
-    shared: &Shared<MemDisk, L>,
-    seat: &mut Seat<L>,
+    host: &H,
+    seat: &mut S,
     message: &Message,
 ) -> bool {
-    match shared.submit(rt, seat, message) {
+    match host.submit(rt, seat, message) {
         Ok(receipt) => receipt.is_some(),
         Err(_) => false,
     }
 }
 
 // All visits of a client: how many went as they should.
-fn visits_of<L: Ledger, R: Wait>(
+fn visits_of<S: Drop, O: Drop, H: Host<S, O>, R: Wait>(
     rt: &R,
     alloc: Global,
-    shared: &Shared<MemDisk, L>,
+    host: &H,
     client: u32,
 ) -> u64 {
     let mut well: u64 = 0;
     for before in 0..VISITS {
-        if let Ok(true) = visits(rt, alloc, shared, client, before) {
+        if let Ok(true) = visits(rt, alloc, host, client, before) {
             well = well.saturating_add(1);
         }
     }
@@ -107,6 +108,34 @@ fn visits_of<L: Ledger, R: Wait>(
 }
 
 // Each client, in a thread of its own, comes as often, puts a tuple of its own, takes it, and goes.
+fn crowd_comes<
+    S: Drop + Send,
+    O: Drop + Send,
+    H: Host<S, O> + Sync,
+    R: Threads + Wait + Abort + Sync,
+>(rt: &R, alloc: Global, host: H) -> Result<(), Fail> {
+    let well = thread::map_indices(
+        rt,
+        alloc,
+        CLIENTS,
+        &|i| {
+            let client = u32::try_from(i).unwrap_or(0);
+            visits_of(rt, alloc, &host, client)
+        },
+    )?;
+    assert_eq!(rt; well.len(), CLIENTS);
+    assert!(rt; are_all(&well, VISITS));
+    let report = host.finish(rt, Vec::new(alloc));
+    let (deeds, ids) = match report {
+        Ok(report) => (report.deeds, report.ids),
+        Err(_) => (0, 0),
+    };
+    assert_eq!(rt; (deeds, ids), (2_048, 1_024));
+    assert_eq!(rt; host.into_kept(), (1_025, 0, CLIENTS));
+    Ok(())
+}
+
+// The same over a new server, with this ledger.
 fn play_crowd<L: Ledger + Send + Sync, R: Threads + Wait + Abort + Sync>(
     rt: &R,
     alloc: Global,
@@ -115,25 +144,7 @@ fn play_crowd<L: Ledger + Send + Sync, R: Threads + Wait + Abort + Sync>(
     requires { (blank.name ≡ L.name) × (blank.parts ≡ L.parts) × (L.parts ≡ PARTS) }
 {
     let shared: Shared<MemDisk, L> = shared_on(alloc, blank, ROOMY)?;
-    let well = thread::map_indices(
-        rt,
-        alloc,
-        CLIENTS,
-        &|i| {
-            let client = u32::try_from(i).unwrap_or(0);
-            visits_of(rt, alloc, &shared, client)
-        },
-    )?;
-    assert_eq!(rt; well.len(), CLIENTS);
-    assert!(rt; are_all(&well, VISITS));
-    let report = shared.finish(rt, Vec::new(alloc));
-    let (deeds, ids) = match report {
-        Ok(report) => (report.deeds, report.ids),
-        Err(_) => (0, 0),
-    };
-    assert_eq!(rt; (deeds, ids), (2_048, 1_024));
-    assert_eq!(rt; kept_after(shared), (1_025, 0, CLIENTS));
-    Ok(())
+    crowd_comes::<Seat<L>, Outlet<L>, Shared<MemDisk, L>, R>(rt, alloc, shared)
 }
 
 fn are_all(counts: &[u64], wanted: u64) -> bool {

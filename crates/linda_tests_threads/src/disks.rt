@@ -1,14 +1,13 @@
 //! A disk that stops while a session's messages are written: they are done or not, all of them, and nobody is told so.
 
+use super::host::Host;
 use super::script::Sessions;
-use super::stand::{Kept, Scene, Stand, kept_on_disks, play};
+use super::stand::{Kept, Scene, Stand, kept_after_crash, play};
 use super::steps::{Step, done_as_said};
-use linda_disk::{MemDisk, Torn};
-use linda_shared::Shared;
+use linda_disk::Torn;
 use std::alloc::Global;
 use std::process::Abort;
 use std::sync::Wait;
-use std::sync::ledger::Ledger;
 use std::test::Fail;
 
 const LIMIT: usize = 1_000;
@@ -44,15 +43,16 @@ struct Stopped {
 }
 
 impl Scene for Stopped {
-    fn play<L: Ledger, R: Wait + Abort>(
+    fn play<S: Drop, O: Drop, H: Host<S, O>, R: Wait + Abort>(
         &self,
         rt: &R,
         alloc: Global,
-        shared: Shared<MemDisk, L>,
+        host: H,
     ) -> Result<(), Fail> {
-        let mut sessions = Sessions::new(alloc, shared);
+        let mut sessions = Sessions::new(alloc, host);
         done_as_said(rt, alloc, &mut sessions, STEPS)?;
-        let now = kept_on_disks(rt, alloc, sessions.into_server(), LIMIT, self.torn)?;
+        let disks = sessions.into_host().into_disks();
+        let now = kept_after_crash(rt, alloc, disks, LIMIT, self.torn)?;
         assert_eq!(rt; now, self.kept, "{:?}", self.torn);
         Ok(())
     }

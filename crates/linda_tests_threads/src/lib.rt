@@ -9,6 +9,8 @@ mod crowd;
 #[cfg(test)]
 mod disks;
 #[cfg(test)]
+mod host;
+#[cfg(test)]
 mod hostile;
 #[cfg(test)]
 mod jobs;

@@ -3,6 +3,7 @@
 ghost use Rattle.std.specs.Prelude.{◌≡◌};
 ghost use Rattle.linda_receipt.specs.declared.limits.TheConstants.{PARTS};
 
+use super::host::Host;
 use super::stand::{ROOMY, shared_on};
 use super::words::{ask, put, seated};
 use linda_disk::MemDisk;
@@ -21,26 +22,26 @@ use std::thread::Threads;
 use std::time::{Clock, Duration};
 
 // Submits what has to be done.
-fn done<L: Ledger, R: Wait + Abort>(
+fn done<S: Drop, O: Drop, H: Host<S, O>, R: Wait + Abort>(
     rt: &R,
-    shared: &Shared<MemDisk, L>,
-    seat: &mut Seat<L>,
+    host: &H,
+    seat: &mut S,
     message: &Message,
 ) {
-    let told = shared.submit(rt, seat, message);
+    let told = host.submit(rt, seat, message);
     assert!(rt; told.is_ok());
 }
 
 // The ids under which something was stored, until no reply comes any more, as the digits of a number; none where
 // another reply came.
-fn ids_read<L: Ledger, R: Wait>(
+fn ids_read<S: Drop, O: Drop, H: Host<S, O>, R: Wait>(
     rt: &R,
-    shared: &Shared<MemDisk, L>,
-    outlet: &mut Outlet<L>,
+    host: &H,
+    outlet: &mut O,
 ) -> Option<u64> {
     let mut ids: u64 = 0;
     for _ in rt.forever() {
-        let replies = shared.drain_wait(rt, outlet);
+        let replies = host.drain_wait(rt, outlet);
         if replies.is_empty() {
             return Some(ids);
         }
@@ -55,22 +56,41 @@ fn ids_read<L: Ledger, R: Wait>(
 }
 
 // Puts three tuples, with some time in between, and hangs up.
-fn puts<L: Ledger, R: Wait + Clock + Abort>(
+fn puts<S: Drop, O: Drop, H: Host<S, O>, R: Wait + Clock + Abort>(
     rt: &R,
     alloc: Global,
-    shared: &Shared<MemDisk, L>,
-    seat: &mut Seat<L>,
+    host: &H,
+    seat: &mut S,
 ) -> Result<(), AllocError> {
     for n in 1..4u64 {
         thread::sleep(rt, Duration::from_millis(5));
         let message = put(alloc, n, "a", 3)?;
-        done(rt, shared, seat, &message);
+        done(rt, host, seat, &message);
     }
-    shared.hang_up(rt, seat);
+    host.hang_up(rt, seat);
     Ok(())
 }
 
 // One thread of a session reads its replies, and another submits and hangs up.
+fn reads_beside<
+    S: Drop + Send,
+    O: Drop + Send,
+    H: Host<S, O> + Sync,
+    R: Threads + Wait + Clock + Abort + Sync,
+>(rt: &R, alloc: Global, host: H) -> Result<(), Fail> {
+    let (mut seat, mut outlet) = seated(rt, &host, 7)?;
+    let (read, put) = thread::join(
+        rt,
+        || ids_read(rt, &host, &mut outlet),
+        || puts(rt, alloc, &host, &mut seat),
+    );
+    put?;
+    assert_eq!(rt; read, Some(123));
+    assert!(rt; host.leave(rt, seat, outlet).is_ok());
+    Ok(())
+}
+
+// The same over a new server, with this ledger.
 fn play_beside<L: Ledger + Send + Sync, R: Threads + Wait + Clock + Abort + Sync>(
     rt: &R,
     alloc: Global,
@@ -79,16 +99,7 @@ fn play_beside<L: Ledger + Send + Sync, R: Threads + Wait + Clock + Abort + Sync
     requires { (blank.name ≡ L.name) × (blank.parts ≡ L.parts) × (L.parts ≡ PARTS) }
 {
     let shared: Shared<MemDisk, L> = shared_on(alloc, blank, ROOMY)?;
-    let (mut seat, mut outlet) = seated(rt, &shared, 7)?;
-    let (read, put) = thread::join(
-        rt,
-        || ids_read(rt, &shared, &mut outlet),
-        || puts(rt, alloc, &shared, &mut seat),
-    );
-    put?;
-    assert_eq!(rt; read, Some(123));
-    assert!(rt; shared.leave(rt, seat, outlet).is_ok());
-    Ok(())
+    reads_beside::<Seat<L>, Outlet<L>, Shared<MemDisk, L>, R>(rt, alloc, shared)
 }
 
 #[test]
@@ -98,36 +109,36 @@ fn a_thread_reads_the_replies_to_what_another_submits(rt: HostRuntime) -> Result
 
 /// What a thread does.
 #[derive(Drop)]
-enum Part<L: Ledger> {
+enum Part<S, O> {
     /// The session ends.
-    Leaves(Seat<L>, Outlet<L>),
+    Leaves(S, O),
     /// The client gives up its number for good.
-    GivesUp(Seat<L>, Outlet<L>),
+    GivesUp(S, O),
     /// It waits for an offer.
-    Waits(Outlet<L>),
+    Waits(O),
 }
 
 // Plays a part: 0 for whoever leaves, the id of the one offer for whoever waits, and none where something else came.
-fn played<L: Ledger, R: Wait + Clock>(
+fn played<S: Drop, O: Drop, H: Host<S, O>, R: Wait + Clock>(
     rt: &R,
-    shared: &Shared<MemDisk, L>,
-    part: Part<L>,
+    host: &H,
+    part: Part<S, O>,
 ) -> Option<u64> {
     match part {
         Part::Leaves(seat, outlet) => {
             thread::sleep(rt, Duration::from_millis(20));
-            match shared.leave(rt, seat, outlet) {
+            match host.leave(rt, seat, outlet) {
                 Ok(()) => Some(0),
                 Err(_) => None,
             }
         }
         Part::GivesUp(seat, outlet) => {
             thread::sleep(rt, Duration::from_millis(20));
-            given_up(rt, shared, seat, outlet)
+            given_up(rt, host, seat, outlet)
         }
         Part::Waits(outlet) => {
             let mut outlet = outlet;
-            let replies = shared.drain_wait(rt, &mut outlet);
+            let replies = host.drain_wait(rt, &mut outlet);
             match replies.as_slice() {
                 [Reply::Offer { ticket: 1, id, .. }] => Some(*id),
                 _ => None,
@@ -138,17 +149,17 @@ fn played<L: Ledger, R: Wait + Clock>(
 
 // Client 7 leaves for good by its message 5 and says one more: 0 where that is a deed and no more is, and it is told
 // that it left, and then that it is refused.
-fn given_up<L: Ledger, R: Wait>(
+fn given_up<S: Drop, O: Drop, H: Host<S, O>, R: Wait>(
     rt: &R,
-    shared: &Shared<MemDisk, L>,
-    seat: Seat<L>,
-    outlet: Outlet<L>,
+    host: &H,
+    seat: S,
+    outlet: O,
 ) -> Option<u64> {
     let mut seat = seat;
     let mut outlet = outlet;
-    let first = shared.submit(rt, &mut seat, &Message::Leave { n: 5 });
-    let later = shared.submit(rt, &mut seat, &Message::Leave { n: 6 });
-    let replies = shared.drain(rt, &mut outlet);
+    let first = host.submit(rt, &mut seat, &Message::Leave { n: 5 });
+    let later = host.submit(rt, &mut seat, &Message::Leave { n: 6 });
+    let replies = host.drain(rt, &mut outlet);
     let is_left = match replies.as_slice() {
         [
             Reply::Left { n: 5 },
@@ -159,13 +170,27 @@ fn given_up<L: Ledger, R: Wait>(
         ] => true,
         _ => false,
     };
-    match (first, later, shared.leave(rt, seat, outlet)) {
+    match (first, later, host.leave(rt, seat, outlet)) {
         (Ok(Some(_)), Ok(None), Ok(())) if is_left => Some(0),
         _ => None,
     }
 }
 
 // Four sessions wait, and a fifth leaves with what they wait for, or its client does for good.
+fn leaves_what_others_wait_for<
+    S: Drop + Send,
+    O: Drop + Send,
+    H: Host<S, O> + Sync,
+    R: Threads + Wait + Clock + Abort + Sync,
+>(rt: &R, alloc: Global, host: H, for_good: bool) -> Result<(), Fail> {
+    let parts = parts_of(rt, alloc, &host, for_good)?;
+    let got = thread::map_vec(rt, parts, &|part| played(rt, &host, part))?;
+    let all = [Some(0), Some(1), Some(2), Some(3), Some(4)];
+    assert_eq!(rt; got.as_slice(), &all[..]);
+    Ok(())
+}
+
+// The same over a new server, with this ledger.
 fn play_leaving<L: Ledger + Send + Sync, R: Threads + Wait + Clock + Abort + Sync>(
     rt: &R,
     alloc: Global,
@@ -175,42 +200,40 @@ fn play_leaving<L: Ledger + Send + Sync, R: Threads + Wait + Clock + Abort + Syn
     requires { (blank.name ≡ L.name) × (blank.parts ≡ L.parts) × (L.parts ≡ PARTS) }
 {
     let shared: Shared<MemDisk, L> = shared_on(alloc, blank, ROOMY)?;
-    let parts = parts_of(rt, alloc, &shared, for_good)?;
-    let got = thread::map_vec(rt, parts, &|part| played(rt, &shared, part))?;
-    let all = [Some(0), Some(1), Some(2), Some(3), Some(4)];
-    assert_eq!(rt; got.as_slice(), &all[..]);
-    Ok(())
+    leaves_what_others_wait_for::<Seat<L>, Outlet<L>, Shared<MemDisk, L>, R>(
+        rt, alloc, shared, for_good,
+    )
 }
 
 // Client 7 has four tuples that it was offered, and 8 to 11 asked for one each.
-fn parts_of<L: Ledger, R: Wait + Abort>(
+fn parts_of<S: Drop, O: Drop, H: Host<S, O>, R: Wait + Abort>(
     rt: &R,
     alloc: Global,
-    shared: &Shared<MemDisk, L>,
+    host: &H,
     for_good: bool,
-) -> Result<Vec<Part<L>>, AllocError> {
+) -> Result<Vec<Part<S, O>>, AllocError> {
     let mut parts = Vec::new(alloc);
-    let (mut seat, mut outlet) = seated(rt, shared, 7)?;
+    let (mut seat, mut outlet) = seated(rt, host, 7)?;
     for n in 1..5u64 {
-        done(rt, shared, &mut seat, &put(alloc, n, "a", 3)?);
+        done(rt, host, &mut seat, &put(alloc, n, "a", 3)?);
         done(
             rt,
-            shared,
+            host,
             &mut seat,
             &ask(alloc, n, "a", Pattern::IntFormal)?,
         );
     }
-    assert_eq!(rt; shared.drain(rt, &mut outlet).len(), 8);
+    assert_eq!(rt; host.drain(rt, &mut outlet).len(), 8);
     parts.push(if for_good {
         Part::GivesUp(seat, outlet)
     } else {
         Part::Leaves(seat, outlet)
     })?;
     for client in 8..12u32 {
-        let (mut seat, outlet) = seated(rt, shared, client)?;
+        let (mut seat, outlet) = seated(rt, host, client)?;
         done(
             rt,
-            shared,
+            host,
             &mut seat,
             &ask(alloc, 1, "a", Pattern::IntFormal)?,
         );

@@ -9,43 +9,41 @@ ghost use Rattle.std.specs.Prelude.{◌≡◌, ◌≤◌, ◌<◌, true, length,
 ghost use Rattle.linda_step.specs.declared.size.TheConstants.{MAX_BATCH};
 ghost use Rattle.linda_shared.specs.Seat.{IsRequest};
 
-use linda_disk::MemDisk;
+use super::host::{Host, Welcome};
 use linda_script::{WordsFault, read_batch, read_message, read_numbered, split_word, write_reply};
-use linda_server::Durable;
-use linda_shared::{Greeted, Outlet, Receipt, Seat, Shared};
+use linda_shared::Receipt;
 use linda_step::MAX_BATCH;
 use linda_wire::{Message, Reply};
 use std::alloc::Global;
 use std::sync::Wait;
-use std::sync::ledger::Ledger;
 
 /// A client's seat, and where its replies come out.
 #[derive(Drop)]
-struct Session<L: Ledger> {
-    seat: Seat<L>,
-    outlet: Outlet<L>,
+struct Session<S, O> {
+    seat: S,
+    outlet: O,
 }
 
 /// The sessions of a shared server.
 #[derive(Drop)]
-pub(super) struct Sessions<L: Ledger> {
-    shared: Shared<MemDisk, L>,
-    sessions: Vec<Session<L>>,
+pub(super) struct Sessions<S, O, H> {
+    host: H,
+    sessions: Vec<Session<S, O>>,
 }
 
-impl<L: Ledger> Sessions<L> {
+impl<S: Drop, O: Drop, H: Host<S, O>> Sessions<S, O, H> {
     /// Nobody has a seat.
-    pub(super) fn new(alloc: Global, shared: Shared<MemDisk, L>) -> Sessions<L> {
+    pub(super) fn new(alloc: Global, host: H) -> Sessions<S, O, H> {
         Sessions {
-            shared,
+            host,
             sessions: Vec::new(alloc),
         }
     }
 
     /// The server by itself.
-    pub(super) fn into_server(self) -> Durable<MemDisk> {
-        let Sessions { shared, .. } = self;
-        shared.into_server()
+    pub(super) fn into_host(self) -> H {
+        let Sessions { host, .. } = self;
+        host
     }
 
     /// Does what the line says, and writes what comes of it.
@@ -77,7 +75,9 @@ impl<L: Ledger> Sessions<L> {
     }
 
     fn place(&self, client: u32) -> Option<usize> {
-        self.sessions.iter().position(|s| s.seat.client() == client)
+        self.sessions
+            .iter()
+            .position(|s| H::client(&s.seat) == client)
     }
 
     fn greet<R: Wait>(
@@ -86,11 +86,11 @@ impl<L: Ledger> Sessions<L> {
         hello: &Message,
         came: &mut String,
     ) -> Result<(), WordsFault> {
-        match self.shared.greet(rt, hello) {
+        match self.host.greet(rt, hello) {
             Err(fault) => Ok(writeln!(came, "> {fault}")?),
-            Ok(Greeted::Refused(code, detail)) => Ok(writeln!(came, "> refused {code} {detail}")?),
-            Ok(Greeted::Welcome(seat, outlet, last)) => {
-                writeln!(came, "> {} welcome {last}", seat.client())?;
+            Ok(Welcome::Refused(code, detail)) => Ok(writeln!(came, "> refused {code} {detail}")?),
+            Ok(Welcome::Seated(seat, outlet, last)) => {
+                writeln!(came, "> {} welcome {last}", H::client(&seat))?;
                 Ok(self.sessions.push(Session { seat, outlet })?)
             }
         }
@@ -109,7 +109,7 @@ impl<L: Ledger> Sessions<L> {
         let Some(session) = self.sessions.get_mut(place) else {
             return Err(WordsFault::Unknown);
         };
-        match self.shared.submit(rt, &mut session.seat, message) {
+        match self.host.submit(rt, &mut session.seat, message) {
             Ok(receipt) => tell_receipt(&receipt, came),
             Err(fault) => Ok(writeln!(came, "> {fault}")?),
         }
@@ -132,7 +132,7 @@ impl<L: Ledger> Sessions<L> {
         let Some(session) = self.sessions.get_mut(place) else {
             return Err(WordsFault::Unknown);
         };
-        match self.shared.submit_all(rt, &mut session.seat, messages) {
+        match self.host.submit_all(rt, &mut session.seat, messages) {
             Ok(receipts) => {
                 for receipt in &receipts {
                     tell_receipt(receipt, came)?;
@@ -151,14 +151,14 @@ impl<L: Ledger> Sessions<L> {
             return Err(WordsFault::Unknown);
         };
         let Session { seat, outlet } = session;
-        match self.shared.leave(rt, seat, outlet) {
+        match self.host.leave(rt, seat, outlet) {
             Ok(()) => Ok(()),
             Err(fault) => Ok(writeln!(came, "> {fault}")?),
         }
     }
 
     // The session of this place, which is here no more.
-    fn taken(&mut self, place: usize) -> Option<Session<L>> {
+    fn taken(&mut self, place: usize) -> Option<Session<S, O>> {
         if place < self.sessions.len() {
             Some(self.sessions.remove(place))
         } else {
@@ -183,14 +183,14 @@ impl<L: Ledger> Sessions<L> {
                 seats.push(session.seat)?;
             }
         }
-        match self.shared.finish(rt, seats) {
+        match self.host.finish(rt, seats) {
             Ok(report) => Ok(writeln!(came, "> {} deeds, {} ids", report.deeds, report.ids)?),
             Err(fault) => Ok(writeln!(came, "> {fault}")?),
         }
     }
 
     fn snapshot<R: Wait>(&mut self, rt: &R, came: &mut String) -> Result<(), WordsFault> {
-        match self.shared.snapshot(rt) {
+        match self.host.snapshot(rt) {
             Ok(()) => Ok(()),
             Err(fault) => Ok(writeln!(came, "> {fault}")?),
         }
@@ -204,8 +204,8 @@ impl<L: Ledger> Sessions<L> {
         came: &mut String,
     ) -> Result<(), WordsFault> {
         for session in &mut self.sessions {
-            let client = session.seat.client();
-            let replies = self.shared.drain(rt, &mut session.outlet);
+            let client = H::client(&session.seat);
+            let replies = self.host.drain(rt, &mut session.outlet);
             tell_all(alloc, client, &replies, came)?;
         }
         Ok(())

@@ -3,11 +3,12 @@
 ghost use Rattle.std.specs.Prelude.{◌≡◌, false, IfSome};
 ghost use Rattle.linda_receipt.specs.declared.limits.TheConstants.{PARTS};
 
+use super::host::Host;
 use linda_bag::Bag;
 use linda_disk::{MemDisk, Torn};
 use linda_receipt::PARTS;
 use linda_server::Durable;
-use linda_shared::Shared;
+use linda_shared::{Outlet, Seat, Shared};
 use std::alloc::{AllocError, Global};
 use std::marker::Brand;
 use std::process::Abort;
@@ -38,36 +39,36 @@ pub(super) const ROOMY: Stand = Stand {
 /// What is played in one thread.
 pub(super) trait Scene {
     /// Plays it. The server is new, and nobody has a seat.
-    fn play<L: Ledger, R: Wait + Abort>(
+    fn play<S: Drop, O: Drop, H: Host<S, O>, R: Wait + Abort>(
         &self,
         rt: &R,
         alloc: Global,
-        shared: Shared<MemDisk, L>,
+        host: H,
     ) -> Result<(), Fail>;
 }
 
 /// Plays the scene over a new server.
-pub(super) fn play<S: Scene, R: Wait + Abort>(
+pub(super) fn play<P: Scene, R: Wait + Abort>(
     rt: &R,
     alloc: Global,
     stand: Stand,
-    scene: &S,
+    scene: &P,
 ) -> Result<(), Fail> {
-    play_under::<Brand, S, R>(rt, alloc, Blank::new(PARTS), stand, scene)
+    play_under::<Brand, P, R>(rt, alloc, Blank::new(PARTS), stand, scene)
 }
 
 // Plays it with this ledger.
-fn play_under<L: Ledger, S: Scene, R: Wait + Abort>(
+fn play_under<L: Ledger, P: Scene, R: Wait + Abort>(
     rt: &R,
     alloc: Global,
     blank: Blank,
     stand: Stand,
-    scene: &S,
+    scene: &P,
 ) -> Result<(), Fail>
     requires { (blank.name ≡ L.name) × (blank.parts ≡ L.parts) × (L.parts ≡ PARTS) }
 {
     let shared: Shared<MemDisk, L> = shared_on(alloc, blank, stand)?;
-    scene.play(rt, alloc, shared)
+    scene.play::<Seat<L>, Outlet<L>, Shared<MemDisk, L>, R>(rt, alloc, shared)
 }
 
 /// A new server that nobody shares yet.
@@ -104,21 +105,15 @@ pub(super) fn kept(server: &Durable<MemDisk>) -> Kept {
     (state.next, state.bag.len(), state.book.len())
 }
 
-/// What the server keeps that threads shared, and share no more.
-pub(super) fn kept_after<L: Ledger>(shared: Shared<MemDisk, L>) -> Kept {
-    let server = shared.into_server();
-    kept(&server)
-}
-
-/// What the server keeps that stands on the disks of this one after a crash that leaves so much.
-pub(super) fn kept_on_disks(
+/// What the server keeps that stands on these disks after a crash that leaves so much of the left one.
+pub(super) fn kept_after_crash(
     rt: &impl Abort,
     alloc: Global,
-    server: Durable<MemDisk>,
+    disks: (MemDisk, MemDisk),
     limit: usize,
     torn: Torn,
 ) -> Result<Kept, Fail> {
-    let (mut left, right) = server.into_disks();
+    let (mut left, right) = disks;
     let crashed = left.crash(torn);
     assert!(rt; crashed.is_ok());
     match Durable::open(alloc, left, right, limit) {

@@ -1,14 +1,13 @@
 //! Steps of sessions in one thread, with what is to come of each.
 
+use super::host::Host;
 use super::script::Sessions;
-use super::stand::{Kept, Scene, kept, kept_on_disks};
-use linda_disk::{MemDisk, Torn};
+use super::stand::{Kept, Scene, kept_after_crash};
+use linda_disk::Torn;
 use linda_script::WordsFault;
-use linda_shared::Shared;
 use std::alloc::{AllocError, Global};
 use std::process::Abort;
 use std::sync::Wait;
-use std::sync::ledger::Ledger;
 use std::test::Fail;
 
 /// What is done, all that comes of it, and what the server keeps after it.
@@ -41,24 +40,24 @@ enum Went {
 }
 
 impl Scene for Strictly {
-    fn play<L: Ledger, R: Wait + Abort>(
+    fn play<S: Drop, O: Drop, H: Host<S, O>, R: Wait + Abort>(
         &self,
         rt: &R,
         alloc: Global,
-        shared: Shared<MemDisk, L>,
+        host: H,
     ) -> Result<(), Fail> {
-        let mut sessions = Sessions::new(alloc, shared);
+        let mut sessions = Sessions::new(alloc, host);
         let last = done_as_said(rt, alloc, &mut sessions, self.steps)?;
-        assert_eq!(rt; kept_by(sessions), last);
+        assert_eq!(rt; sessions.into_host().into_kept(), last);
         Ok(())
     }
 }
 
 /// Does the steps; all comes as they say. Gives what the server is to keep after them.
-pub(super) fn done_as_said<L: Ledger, R: Wait + Abort>(
+pub(super) fn done_as_said<S: Drop, O: Drop, H: Host<S, O>, R: Wait + Abort>(
     rt: &R,
     alloc: Global,
-    sessions: &mut Sessions<L>,
+    sessions: &mut Sessions<S, O, H>,
     steps: &[Step],
 ) -> Result<Kept, AllocError> {
     let mut last = (1, 0, 0);
@@ -72,13 +71,13 @@ pub(super) fn done_as_said<L: Ledger, R: Wait + Abort>(
 }
 
 impl Scene for AsFarAsMemoryGoes {
-    fn play<L: Ledger, R: Wait + Abort>(
+    fn play<S: Drop, O: Drop, H: Host<S, O>, R: Wait + Abort>(
         &self,
         rt: &R,
         alloc: Global,
-        shared: Shared<MemDisk, L>,
+        host: H,
     ) -> Result<(), Fail> {
-        let mut sessions = Sessions::new(alloc, shared);
+        let mut sessions = Sessions::new(alloc, host);
         let mut before = (1, 0, 0);
         for step in self.steps {
             let (_, _, after) = *step;
@@ -87,27 +86,22 @@ impl Scene for AsFarAsMemoryGoes {
                 before = after;
             }
             if went != Went::Whole {
-                let now = kept_on_disks(rt, alloc, sessions.into_server(), self.limit, Torn::Kept)?;
+                let disks = sessions.into_host().into_disks();
+                let now = kept_after_crash(rt, alloc, disks, self.limit, Torn::Kept)?;
                 assert!(rt; now == before || now == after, "{now:?}");
                 return Ok(());
             }
         }
-        assert_eq!(rt; kept_by(sessions), before);
+        assert_eq!(rt; sessions.into_host().into_kept(), before);
         Ok(())
     }
 }
 
-// What the server of these sessions keeps.
-fn kept_by<L: Ledger>(sessions: Sessions<L>) -> Kept {
-    let server = sessions.into_server();
-    kept(&server)
-}
-
 // Does a step, once more where memory ran out for it. Where the server is down, it stays so.
-fn step_taken<L: Ledger, R: Wait + Abort>(
+fn step_taken<S: Drop, O: Drop, H: Host<S, O>, R: Wait + Abort>(
     rt: &R,
     alloc: Global,
-    sessions: &mut Sessions<L>,
+    sessions: &mut Sessions<S, O, H>,
     step: Step,
     cut_short: Option<&str>,
 ) -> Result<Went, AllocError> {
@@ -133,10 +127,10 @@ fn is(came: &String, told: &str) -> bool {
 }
 
 // Does what is said, and gives what comes of it.
-fn done<L: Ledger, R: Wait + Abort>(
+fn done<S: Drop, O: Drop, H: Host<S, O>, R: Wait + Abort>(
     rt: &R,
     alloc: Global,
-    sessions: &mut Sessions<L>,
+    sessions: &mut Sessions<S, O, H>,
     said: &str,
 ) -> Result<String, AllocError> {
     let mut came = String::new(alloc);

@@ -1,12 +1,10 @@
 //! Messages about tuples of a word and a number, and the first one of a session.
 
-use linda_disk::MemDisk;
-use linda_shared::{Greeted, Outlet, Seat, Shared};
+use super::host::{Host, Welcome};
 use linda_tuple::{Atom, Pattern, Template, Text, Tuple};
 use linda_wire::{Message, VERSION};
 use std::alloc::{AllocError, Global};
 use std::sync::Wait;
-use std::sync::ledger::Ledger;
 
 fn text(alloc: Global, word: &str) -> Result<Atom, AllocError> {
     Ok(Atom::Text(Text::new(String::from_str(alloc, word)?)))
@@ -59,13 +57,13 @@ pub(super) fn number_in(tuple: &Tuple) -> Option<i64> {
 }
 
 /// A seat and an outlet for a client that was not there before.
-pub(super) fn seated<L: Ledger, R: Wait>(
+pub(super) fn seated<S: Drop, O: Drop, H: Host<S, O>, R: Wait>(
     rt: &R,
-    shared: &Shared<MemDisk, L>,
+    host: &H,
     client: u32,
-) -> Result<(Seat<L>, Outlet<L>), AllocError> {
-    match shared.greet(rt, &hello(client, true)) {
-        Ok(Greeted::Welcome(seat, outlet, _)) => Ok((seat, outlet)),
+) -> Result<(S, O), AllocError> {
+    match host.greet(rt, &hello(client, true)) {
+        Ok(Welcome::Seated(seat, outlet, _)) => Ok((seat, outlet)),
         _ => Err(AllocError),
     }
 }

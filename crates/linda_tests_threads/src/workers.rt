@@ -3,8 +3,9 @@
 ghost use Rattle.std.specs.Prelude.{◌≡◌};
 ghost use Rattle.linda_receipt.specs.declared.limits.TheConstants.{PARTS};
 
+use super::host::Host;
 use super::jobs::{Jobs, Tally};
-use super::stand::{Kept, ROOMY, Stand, kept_after, kept_on_disks, shared_on};
+use super::stand::{Kept, ROOMY, Stand, kept_after_crash, shared_on};
 use super::words::seated;
 use linda_disk::{MemDisk, Torn};
 use linda_receipt::PARTS;
@@ -150,7 +151,7 @@ fn play_crew<L: Ledger + Send + Sync, R: Threads + Wait + Clock + Abort + Sync>(
         (all.saturating_mul(2), all)
     );
     assert!(rt; tally.is_even());
-    let (next, tuples, _) = kept_after(shared);
+    let (next, tuples, _) = shared.into_kept();
     assert_eq!(rt; (next, tuples), (all.saturating_add(1), 0));
     Ok(())
 }
@@ -248,7 +249,7 @@ fn play_cut<L: Ledger + Send + Sync, R: Threads + Wait + Clock + Abort + Sync>(
     assert!(rt; shared.is_down(rt));
     let end = shared.finish(rt, seats).err();
     assert_eq!(rt; end, Some(SharedFault::Down));
-    let kept = kept_on_disks(rt, alloc, shared.into_server(), ROOMY.limit, Torn::Kept)?;
+    let kept = kept_after_crash(rt, alloc, shared.into_disks(), ROOMY.limit, Torn::Kept)?;
     let done = deeds_of(kept);
     assert!(rt;
         told <= done && done <= told.saturating_add(4),
