@@ -6,7 +6,8 @@ use Rattle.linda_tuple.specs.declared.form.Form.TheVariants.{Two}
 use Rattle.linda_tuple.specs.Tuple.{Tuple}
 use Rattle.linda_tuple.specs.Template.{Template}
 use Rattle.linda_codec.specs.Steps.{Reader}
-use Rattle.linda_codec.specs.Formats.{Format, byte, short_number, number, truth, both, made_at, no_kind, body_at, choice_at}
+use Rattle.linda_codec.specs.Formats.{Format, byte, short_number, number, truth, both}
+use Rattle.linda_codec.specs.Formats.{made_at, no_kind, body_at, choice_at}
 use Rattle.linda_codec.specs.Values as value
 use Rattle.linda_wire.specs.declared.kinds.TheConstants as kind
 use Rattle.linda_wire.specs.declared.limits.TheConstants.{LENGTH_BYTES}
