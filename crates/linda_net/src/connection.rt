@@ -2,7 +2,7 @@
 
 ghost use Rattle.std.specs.Prelude.{◌≡◌, ◌≤◌, false, length, All, IfErr};
 ghost use Rattle.linda_step.specs.declared.size.TheConstants.{MAX_BATCH};
-ghost use Rattle.linda_shared.specs.Seat.{IsRequest};
+ghost use Rattle.linda_mail.specs.Seat.{IsRequest};
 ghost use Rattle.linda_net.specs.Pumping.{IsOfIntake};
 
 use crate::intake::Intake;

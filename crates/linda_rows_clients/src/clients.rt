@@ -9,12 +9,12 @@
 mod call;
 mod told;
 
-use crate::number::small_number;
+use crate::words::done;
 use call::call_of;
-use linda_client::{Client, ClientFault};
-use linda_script::{WordsFault, read_numbered};
+use linda_client::Client;
+use linda_script::{WordsFault, read_numbered, read_small_number};
 use std::alloc::Global;
-use told::push_told;
+use told::{push_told, tell_refused};
 
 /// The player of rows of clients.
 #[derive(Drop)]
@@ -61,14 +61,16 @@ impl Clients {
         let Some(servers) = rest.strip_prefix("over ") else {
             return Err(WordsFault::Unknown);
         };
-        match Client::new(alloc, number, small_number(servers)?) {
-            Ok(client) => {
-                let servers = client.servers();
-                self.client = Some(client);
-                Ok(writeln!(came, "> servers {servers}")?)
-            }
-            Err(ClientFault::Memory) => Err(WordsFault::Memory),
-            Err(fault) => Ok(writeln!(came, "> refused {fault}")?),
+        match Client::new(alloc, number, read_small_number(servers)?) {
+            Ok(client) => self.go_on(client, came),
+            Err(fault) => tell_refused(fault, came),
         }
+    }
+
+    // Goes on with this client, and says how many servers it has.
+    fn go_on(&mut self, client: Client, came: &mut String) -> Result<(), WordsFault> {
+        let servers = client.servers();
+        self.client = Some(client);
+        done(writeln!(came, "> servers {servers}"))
     }
 }

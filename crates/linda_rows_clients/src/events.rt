@@ -13,13 +13,13 @@
 
 mod made;
 
-use crate::number::place;
-use crate::words::push_numbers;
+use crate::words::{done, push_numbers};
 use linda_event::{
     Base, Event, all_nacks, ask_count, base_count, bases, check, is_any_ready, labels_of, nacks_of,
 };
-use linda_script::{WordsFault, split_word};
+use linda_script::{WordsFault, read_size, split_word};
 use linda_text::{push_atom, push_template};
+use linda_tuple::Template;
 pub use made::event_of;
 use std::alloc::{AllocError, Global};
 
@@ -37,6 +37,11 @@ impl Events {
         }
     }
 
+    /// Begins a row: the event `never`.
+    pub fn begin(&mut self) {
+        self.event = Event::Never;
+    }
+
     /// Plays a line.
     pub fn play(
         &mut self,
@@ -48,10 +53,10 @@ impl Events {
         match verb {
             "event" => self.renew(alloc, rest),
             "check" | "count" | "bases" | "nothing" => {
-                Ok(tell_whole(alloc, &self.event, verb, came)?)
+                done(tell_whole(alloc, &self.event, verb, came))
             }
             "at" | "base" | "labels" => {
-                Ok(tell_at(alloc, &self.event, verb, place(rest)?, came)?)
+                done(tell_at(alloc, &self.event, verb, read_size(rest)?, came))
             }
             _ => Err(WordsFault::Unknown),
         }
@@ -109,23 +114,21 @@ fn tell_count(event: &Event, came: &mut String) -> Result<(), AllocError> {
 fn tell_bases(alloc: Global, event: &Event, came: &mut String) -> Result<(), AllocError> {
     let found = bases(alloc, event)?;
     for (place, base) in found.iter().enumerate() {
-        write!(came, "> {place} ")?;
-        push_base(came, base)?;
-        came.push('\n')?;
+        tell_placed(place, base, came)?;
     }
     Ok(())
 }
 
+fn tell_placed(place: usize, base: &Base, came: &mut String) -> Result<(), AllocError> {
+    write!(came, "> {place} ")?;
+    push_base(came, base)?;
+    came.push('\n')
+}
+
 fn push_base(came: &mut String, base: &Base) -> Result<(), AllocError> {
     match base {
-        Base::Input(template) => {
-            came.push_str("in ")?;
-            push_template(came, template)
-        }
-        Base::Read(template) => {
-            came.push_str("rd ")?;
-            push_template(came, template)
-        }
+        Base::Input(template) => push_pattern(came, "in ", template),
+        Base::Read(template) => push_pattern(came, "rd ", template),
         Base::Alarm(time) => write!(came, "alarm {time}"),
         Base::Always(value) => {
             came.push_str("always ")?;
@@ -133,6 +136,11 @@ fn push_base(came: &mut String, base: &Base) -> Result<(), AllocError> {
         }
         Base::Never => came.push_str("never"),
     }
+}
+
+fn push_pattern(came: &mut String, word: &str, template: &Template) -> Result<(), AllocError> {
+    came.push_str(word)?;
+    push_template(came, template)
 }
 
 fn tell_ready(event: &Event, clock: u64, came: &mut String) -> Result<(), AllocError> {

@@ -2,9 +2,7 @@
 
 use crate::clients::Clients;
 use crate::events::Events;
-use crate::scripts::Scripts;
 use crate::texts::play_text;
-use crate::worlds::Worlds;
 use linda_script::{Player, WordsFault};
 use std::alloc::Global;
 
@@ -14,9 +12,6 @@ enum Subject {
     Events,
     Clients,
     Texts,
-    Scripts,
-    Traces,
-    Worlds,
 }
 
 /// The players of all subjects, and that of the row at hand.
@@ -25,26 +20,17 @@ pub struct Players {
     subject: Subject,
     events: Events,
     clients: Clients,
-    scripts: Scripts,
-    worlds: Worlds,
 }
 
 impl Players {
     /// Players that have played nothing yet.
-    pub fn new(alloc: Global) -> Players {
+    pub fn new() -> Players {
         Players {
             subject: Subject::Texts,
             events: Events::new(),
             clients: Clients::new(),
-            scripts: Scripts::new(alloc, false),
-            worlds: Worlds::new(alloc),
         }
     }
-}
-
-// Puts a new value into its place.
-fn put<T: Drop>(place: &mut T, new: T) {
-    *place = new;
 }
 
 // The subject of this name.
@@ -53,9 +39,6 @@ fn subject_of(name: &str) -> Result<Subject, WordsFault> {
         "event" => Ok(Subject::Events),
         "client" => Ok(Subject::Clients),
         "text" => Ok(Subject::Texts),
-        "script" => Ok(Subject::Scripts),
-        "trace" => Ok(Subject::Traces),
-        "world" => Ok(Subject::Worlds),
         _ => Err(WordsFault::Unknown),
     }
 }
@@ -64,12 +47,9 @@ impl Player for Players {
     fn begin(&mut self, alloc: Global, subject: &str) -> Result<(), WordsFault> {
         self.subject = subject_of(subject)?;
         match self.subject {
-            Subject::Events => put(&mut self.events, Events::new()),
+            Subject::Events => self.events.begin(),
             Subject::Clients => return self.clients.begin(alloc),
             Subject::Texts => (),
-            Subject::Scripts => put(&mut self.scripts, Scripts::new(alloc, false)),
-            Subject::Traces => put(&mut self.scripts, Scripts::new(alloc, true)),
-            Subject::Worlds => put(&mut self.worlds, Worlds::new(alloc)),
         }
         Ok(())
     }
@@ -79,8 +59,6 @@ impl Player for Players {
             Subject::Events => self.events.play(alloc, words, came),
             Subject::Clients => self.clients.play(alloc, words, came),
             Subject::Texts => play_text(alloc, words, came),
-            Subject::Scripts | Subject::Traces => self.scripts.play(alloc, words, came),
-            Subject::Worlds => self.worlds.play(alloc, words, came),
         }
     }
 }

@@ -4,11 +4,10 @@
 //! `nested COUNT NODE END` reads so many nodes that begin as the first string says, and then the second one, and gives
 //! how many bases there are.
 
-use crate::number::place;
-use crate::words::string_at;
-use linda_event::base_count;
-use linda_script::{WordsFault, split_word};
-use linda_shell::{EventTextFault, read_event, write_event};
+use crate::words::done;
+use linda_event::{Event, base_count};
+use linda_line::{EventTextFault, read_event, write_event};
+use linda_script::{WordsFault, read_size, split_word, string_at};
 use linda_text::TextFault;
 use std::alloc::{AllocError, Global};
 
@@ -32,12 +31,15 @@ fn tell_quoted(alloc: Global, words: &str, came: &mut String) -> Result<(), Word
 // Writes the event that is read.
 fn tell_event(alloc: Global, text: &str, came: &mut String) -> Result<(), WordsFault> {
     match read_event(alloc, text) {
-        Ok(event) => {
-            let written = write_event(alloc, &event)?;
-            Ok(writeln!(came, "> {written}")?)
-        }
+        Ok(event) => done(tell_written(alloc, &event, came)),
         Err(fault) => tell_fault(fault, came),
     }
+}
+
+// Writes the one text of the event.
+fn tell_written(alloc: Global, event: &Event, came: &mut String) -> Result<(), AllocError> {
+    let written = write_event(alloc, event)?;
+    writeln!(came, "> {written}")
 }
 
 // Writes how many bases the event has that is read.
@@ -45,13 +47,13 @@ fn tell_nested(alloc: Global, words: &str, came: &mut String) -> Result<(), Word
     let (count, rest) = split_word(words);
     let (node, behind) = string_at(alloc, rest, 0)?;
     let (end, _behind) = string_at(alloc, rest, behind)?;
-    tell_bases(alloc, &nested(alloc, place(count)?, &node, &end)?, came)
+    tell_bases(alloc, &nested(alloc, read_size(count)?, &node, &end)?, came)
 }
 
 // Writes how many bases the event of the text has.
 fn tell_bases(alloc: Global, text: &str, came: &mut String) -> Result<(), WordsFault> {
     match read_event(alloc, text) {
-        Ok(event) => Ok(writeln!(came, "> bases {}", base_count(&event))?),
+        Ok(event) => done(writeln!(came, "> bases {}", base_count(&event))),
         Err(fault) => tell_fault(fault, came),
     }
 }
@@ -69,6 +71,6 @@ fn nested(alloc: Global, count: usize, node: &str, end: &str) -> Result<String, 
 fn tell_fault(fault: EventTextFault, came: &mut String) -> Result<(), WordsFault> {
     match fault {
         EventTextFault::Text(TextFault::Memory) => Err(WordsFault::Memory),
-        fault => Ok(writeln!(came, "> {fault}")?),
+        fault => done(writeln!(came, "> {fault}")),
     }
 }

@@ -1,10 +1,9 @@
 //! Words that players of several subjects read and write.
 
 use linda_event::Event;
+use linda_line::{EventTextFault, read_event};
 use linda_script::WordsFault;
-use linda_shell::{EventTextFault, read_event};
-use linda_text::{TextFault, read_atom_at};
-use linda_tuple::Atom;
+use linda_text::TextFault;
 use std::alloc::{AllocError, Global};
 
 /// The event that the words say, as people type it.
@@ -16,13 +15,9 @@ pub fn typed_event(alloc: Global, words: &str) -> Result<Event, WordsFault> {
     }
 }
 
-/// The string that stands at this place of the words, as people type it, and the place after it.
-pub fn string_at(alloc: Global, words: &str, at: usize) -> Result<(String, usize), WordsFault> {
-    let (atom, behind) = read_atom_at(alloc, words, at)?;
-    match atom {
-        Atom::Text(text) => Ok((text.into_string(), behind)),
-        _ => Err(WordsFault::Unknown),
-    }
+/// What was written, or the fault that memory ran out.
+pub fn done(written: Result<(), AllocError>) -> Result<(), WordsFault> {
+    Ok(written?)
 }
 
 /// Appends a name and a list of numbers, as ` labels [2, 1]`.

@@ -1,7 +1,7 @@
 //! The lines of a log, and their times.
 
 use crate::texts::done;
-use linda_script::{WordsFault, read_numbered, split_word};
+use linda_script::{WordsFault, read_number, read_numbered, split_word};
 use linda_service::{Cause, Event, Gauge, InUse, Log, Tally, Watcher, stamp_of};
 use std::alloc::{AllocError, Global};
 use std::time::Clock;
@@ -85,10 +85,7 @@ impl Logs {
 
 // Gives the time that is so many seconds, as the text says, after 1970 began.
 fn tell_time(seconds: &str, came: &mut String) -> Result<(), WordsFault> {
-    match seconds.parse::<u64>() {
-        Ok(seconds) => done(tell_stamp(seconds, came)),
-        Err(_) => Err(WordsFault::Unknown),
-    }
+    done(tell_stamp(read_number(seconds)?, came))
 }
 
 // Gives the time that is so many seconds after 1970 began, or says that there is none.
@@ -182,8 +179,8 @@ fn cause_of(name: &str) -> Result<Cause, WordsFault> {
 fn event_of(name: &str, millis: &str) -> Result<Event, WordsFault> {
     match name {
         "minute" => Ok(Event::Minute),
-        "snapshot" => Ok(Event::Snapshot(millis_of(millis)?)),
-        "unsnapped" => Ok(Event::NoSnapshot(millis_of(millis)?)),
+        "snapshot" => Ok(Event::Snapshot(read_number(millis)?)),
+        "unsnapped" => Ok(Event::NoSnapshot(read_number(millis)?)),
         "full" => Ok(Event::Full),
         "closed" => Ok(Event::Closed),
         "missed" => Ok(Event::Missed),
@@ -191,13 +188,5 @@ fn event_of(name: &str, millis: &str) -> Result<Event, WordsFault> {
         "threadless" => Ok(Event::NoThread),
         "down" => Ok(Event::Down),
         _ => Err(WordsFault::Unknown),
-    }
-}
-
-// The milliseconds that the text is.
-fn millis_of(text: &str) -> Result<u64, WordsFault> {
-    match text.parse::<u64>() {
-        Ok(millis) => Ok(millis),
-        Err(_) => Err(WordsFault::Unknown),
     }
 }

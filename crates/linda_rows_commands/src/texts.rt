@@ -1,8 +1,6 @@
 //! Texts and bytes in rows.
 
-use linda_script::{WordsFault, read_hex};
-use linda_text::read_atom_at;
-use linda_tuple::Atom;
+use linda_script::{WordsFault, read_hex, string_at};
 use std::alloc::{AllocError, Global};
 
 /// Appends what the words say: a string between quotes, the bytes of hexadecimal digits after the word `bytes`, with
@@ -28,7 +26,7 @@ pub(crate) fn done(written: Result<(), AllocError>) -> Result<(), WordsFault> {
 
 // Appends a string between quotes.
 fn push_string(alloc: Global, bytes: &mut Vec<u8>, words: &str) -> Result<(), WordsFault> {
-    let text = read_string(alloc, words)?;
+    let (text, _behind) = string_at(alloc, words, 0)?;
     Ok(bytes.extend_from_slice(text.as_bytes())?)
 }
 
@@ -44,15 +42,6 @@ fn push_pieces(alloc: Global, bytes: &mut Vec<u8>, pieces: &str) -> Result<(), W
         bytes.extend_from_slice(&read_hex(alloc, digits)?)?;
     }
     Ok(())
-}
-
-// The string that stands at the front of the words, as people type it.
-fn read_string(alloc: Global, words: &str) -> Result<String, WordsFault> {
-    let (atom, _behind) = read_atom_at(alloc, words, 0)?;
-    match atom {
-        Atom::Text(text) => Ok(text.into_string()),
-        _ => Err(WordsFault::Unknown),
-    }
 }
 
 /// Writes what was printed, line by line.

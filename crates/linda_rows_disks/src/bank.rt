@@ -1,11 +1,10 @@
 //! A bank on the left disk.
 
 use crate::disk::taken;
-use crate::number::{read_number, read_size};
 use crate::telling::{done, tell};
 use linda_disk::MemDisk;
 use linda_journal::{Bank, BankFault};
-use linda_script::{WordsFault, split_word};
+use linda_script::{WordsFault, read_number, read_size, split_word};
 use linda_state::Deed;
 use linda_text::read_tuple;
 use std::alloc::Global;

@@ -1,11 +1,10 @@
 //! The banks on both disks, of which one is chosen, and beside which a new one is made.
 
 use crate::disks::Disks;
-use crate::number::{read_number, read_size};
 use crate::telling::{tell, tell_state, tell_two};
 use linda_bag::ListBag;
 use linda_disk::MemDisk;
-use linda_script::{WordsFault, split_word};
+use linda_script::{WordsFault, read_number, read_size, split_word};
 use linda_snap::{ChoiceFault, Chosen, SwitchFault, choose_bank, switch};
 use std::alloc::Global;
 

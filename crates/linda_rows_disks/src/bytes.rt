@@ -1,8 +1,8 @@
 //! Bytes as words: a name, a text, or hexadecimal digits.
 
-use crate::number::{read_byte, read_size};
 use crate::telling::{done, tell};
-use linda_script::{WordsFault, read_hex, split_word};
+use crate::torn::read_byte;
+use linda_script::{WordsFault, read_hex, read_size, split_word};
 use std::alloc::{AllocError, Global};
 
 /// Bytes that have a name, a line of each: the name, and the digits after it; the rows show what each is made of.

@@ -1,10 +1,9 @@
 //! One disk: its calls, what is to go wrong in them, and what it holds.
 
 use crate::bytes::{push_bytes, read_bytes, tell_name, tell_pieces};
-use crate::number::{read_number, read_size};
 use crate::telling::{done, tell, tell_two};
 use linda_disk::{Disk, DiskFault, MemDisk, Torn};
-use linda_script::{WordsFault, read_numbered, split_word};
+use linda_script::{WordsFault, read_number, read_numbered, read_size, split_word};
 use std::alloc::{AllocError, Global};
 use std::mem;
 

@@ -1,8 +1,8 @@
 //! Two disks: what they hold, and how both crash.
 
 use crate::disk::{crash, hold_words, was_synced};
-use crate::number::split_torn;
 use crate::telling::tell;
+use crate::torn::split_torn;
 use linda_disk::MemDisk;
 use linda_script::{WordsFault, split_word};
 use std::alloc::Global;

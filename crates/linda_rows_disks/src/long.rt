@@ -3,12 +3,11 @@
 ghost use Rattle.std.specs.Prelude.{IfOk, ◌≤◌, length};
 ghost use Rattle.linda_step.specs.declared.size.TheConstants.{MAX_BATCH};
 
-use crate::number::read_number;
 use crate::serving::few;
 use crate::telling::{tell, tell_two};
 use linda_bag::Bag;
 use linda_disk::MemDisk;
-use linda_script::{WordsFault, read_messages, split_word};
+use linda_script::{WordsFault, read_messages, read_number, split_word};
 use linda_server::Durable;
 use linda_store::Node;
 use linda_text::write_tuple;

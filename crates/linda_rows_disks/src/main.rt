@@ -11,11 +11,11 @@ mod disk;
 mod disks;
 mod long;
 mod making;
-mod number;
 mod serving;
 mod stand;
 mod state;
 mod telling;
+mod torn;
 
 use linda_script::{Sweeps, run_rows};
 use stand::Stand;

@@ -1,11 +1,10 @@
 //! How a server on both disks is made and opened, and gives them back.
 
 use crate::disks::Disks;
-use crate::number::read_size;
 use crate::serving::look;
 use crate::telling::tell;
 use linda_disk::MemDisk;
-use linda_script::WordsFault;
+use linda_script::{WordsFault, read_size};
 use linda_server::{Durable, OpenFault};
 use std::alloc::Global;
 

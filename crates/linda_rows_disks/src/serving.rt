@@ -6,12 +6,14 @@ ghost use Rattle.linda_store.specs.Node.{IsBatch};
 
 use crate::bytes::{read_bytes, tell_pieces};
 use crate::long::play_long;
-use crate::number::{read_number, split_torn};
 use crate::telling::{done, tell, tell_two};
+use crate::torn::split_torn;
 use linda_bag::Bag;
 use linda_book::KeptReply;
 use linda_disk::MemDisk;
-use linda_script::{WordsFault, read_batch, read_message, read_numbered, split_word, tell_replies};
+use linda_script::{
+    WordsFault, read_batch, read_message, read_number, read_numbered, split_word, tell_replies,
+};
 use linda_server::Durable;
 use linda_state::Deed;
 use linda_step::MAX_BATCH;

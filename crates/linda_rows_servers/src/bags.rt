@@ -1,9 +1,9 @@
 //! Both bags, which do the same and have to answer the same.
 
-use crate::number::{read_number, split_number, template_of, tuple_of};
 use crate::told::{done, tell};
+use crate::typed::{template_of, tuple_of};
 use linda_bag::{Bag, IndexBag, ListBag};
-use linda_script::{WordsFault, split_word};
+use linda_script::{WordsFault, read_number, split_number, split_word};
 use linda_text::write_tuple;
 use linda_tuple::Tuple;
 use std::alloc::{AllocError, Global};

@@ -1,9 +1,11 @@
 //! The book: the last number of each client, and the reply that is kept for it.
 
-use crate::number::{read_client, read_number, split_number, tuple_of};
 use crate::told::{done, tell, tell_found, tell_two};
+use crate::typed::tuple_of;
 use linda_book::{Book, Class, KeptReply};
-use linda_script::{WordsFault, read_numbered, split_word};
+use linda_script::{
+    WordsFault, read_number, read_numbered, read_small_number, split_number, split_word,
+};
 use linda_text::write_tuple;
 use std::alloc::{AllocError, Global};
 
@@ -20,7 +22,7 @@ pub(crate) fn play_book(
         "copy" => copy(alloc, rest, came),
         "class" => show_class(book, rest, came),
         "clients" => tell(came, book.len()),
-        _ => show(alloc, book, word, read_client(rest)?, came),
+        _ => show(alloc, book, word, read_small_number(rest)?, came),
     }
 }
 

@@ -1,10 +1,13 @@
 //! What is said of deeds.
 
-use crate::number::{read_client, read_number, split_number, tuple_of};
 use crate::step::tell_deed;
 use crate::told::{done, tell, tell_two};
+use crate::typed::tuple_of;
 use linda_promise::{last_number, reported_deed, taker_of};
-use linda_script::{WordsFault, read_message, read_numbered, read_reply, split_word};
+use linda_script::{
+    WordsFault, read_message, read_number, read_numbered, read_reply, read_small_number,
+    split_number, split_word,
+};
 use linda_state::Deed;
 use linda_wire::Reply;
 use std::alloc::Global;
@@ -19,7 +22,10 @@ pub(crate) fn play_deeds(
 ) -> Result<(), WordsFault> {
     let (word, rest) = split_word(words);
     match word {
-        "last" => tell(came, last_number(deeds.as_slice(), read_client(rest)?)),
+        "last" => tell(
+            came,
+            last_number(deeds.as_slice(), read_small_number(rest)?),
+        ),
         "taker" => tell_taker(taker_of(deeds.as_slice(), read_number(rest)?), came),
         "reported" => report(alloc, rest, came),
         _ => add(alloc, deeds, word, rest),

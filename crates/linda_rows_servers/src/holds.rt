@@ -1,10 +1,9 @@
 //! Which tuple is held for which request.
 
-use crate::number::{read_client, read_number, split_number};
 use crate::told::{done, tell_found, tell_two};
 use crate::waits::{read_request, tell_request};
 use linda_hold::Holds;
-use linda_script::{WordsFault, split_word};
+use linda_script::{WordsFault, read_number, read_small_number, split_number, split_word};
 use std::alloc::{AllocError, Global};
 
 /// Lets what is held change, or shows it, as the words say.
@@ -47,7 +46,7 @@ fn show(
     match what {
         "of" => tell_request(holds.get(read_number(which)?), came),
         "held" => tell_found(came, holds.find(read_request(which)?)),
-        "client" => done(tell_held(alloc, holds, read_client(which)?, came)),
+        "client" => done(tell_held(alloc, holds, read_small_number(which)?, came)),
         "ids" => done(tell_ids(alloc, holds, came)),
         _ => Err(WordsFault::Unknown),
     }

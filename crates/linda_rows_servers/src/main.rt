@@ -9,12 +9,12 @@ mod book;
 mod deeds;
 mod holds;
 mod node;
-mod number;
 mod pipe;
 mod stand;
 mod step;
 mod talks;
 mod told;
+mod typed;
 mod waits;
 
 use linda_script::{Sweeps, run_rows};

@@ -3,11 +3,13 @@
 ghost use Rattle.std.specs.Prelude.{IfOk, ◌≤◌, length};
 ghost use Rattle.linda_step.specs.declared.size.TheConstants.{MAX_BATCH};
 
-use crate::number::{read_client, read_number};
 use crate::step::tell_held_tuple;
 use crate::told::{done, tell, tell_two};
 use linda_disk::Torn;
-use linda_script::{WordsFault, read_batch, read_message, read_numbered, split_word, tell_replies};
+use linda_script::{
+    WordsFault, read_batch, read_message, read_number, read_numbered, read_small_number,
+    split_word, tell_replies,
+};
 use linda_step::MAX_BATCH;
 use linda_store::{Node, NodeFault, Volatile, Work};
 use linda_wire::{Message, Reply};
@@ -43,7 +45,7 @@ fn close(
     client: &str,
     came: &mut String,
 ) -> Result<(), WordsFault> {
-    let client = read_client(client)?;
+    let client = read_small_number(client)?;
     tell_answer(alloc, node.close(alloc, client), came)
 }
 

@@ -1,12 +1,12 @@
 //! A store: what clients say to it, and what comes of it.
 
 use crate::node::batch;
-use crate::number::{read_client, read_number};
 use crate::told::{done, tell, tell_two};
 use linda_bag::{Bag, IndexBag};
 use linda_hold::Holds;
 use linda_script::{
-    WordsFault, read_hex, read_message, read_numbered, split_word, tell_replies, tell_tuple,
+    WordsFault, read_hex, read_message, read_number, read_numbered, read_small_number, split_word,
+    tell_replies, tell_tuple,
 };
 use linda_snap::{SnapshotFault, get_state};
 use linda_state::{BANK_FORM, Deed, State};
@@ -60,7 +60,7 @@ fn close(
     client: &str,
     came: &mut String,
 ) -> Result<(), WordsFault> {
-    let sends = store.close(alloc, read_client(client)?)?;
+    let sends = store.close(alloc, read_small_number(client)?)?;
     done(tell_replies(alloc, came, &sends))
 }
 
@@ -113,7 +113,7 @@ fn asks(alloc: Global, store: &mut Store<IndexBag>, end: &str) -> Result<(), Wor
 // Each client from the first on, below the second, accepts what nobody offered it.
 fn passes(alloc: Global, store: &mut Store<IndexBag>, clients: &str) -> Result<(), WordsFault> {
     let (first, end) = read_numbered(clients)?;
-    let end = read_client(end)?;
+    let end = read_small_number(end)?;
     for client in first..end {
         hear(alloc, store, client, "accept 1 1 1")?;
     }

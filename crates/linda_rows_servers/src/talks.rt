@@ -1,10 +1,9 @@
 //! Sessions piece by piece, and whole conversations.
 
 use crate::node::play_node;
-use crate::number::read_size;
 use crate::pipe::{Pieces, Room};
 use crate::told::{done, tell, tell_two};
-use linda_script::{WordsFault, said_frames, split_word, write_reply};
+use linda_script::{WordsFault, read_size, said_frames, split_word, write_reply};
 use linda_store::{End, Session, Stage, Taken, Volatile, converse};
 use linda_wire::{Reply, ReplyFeed};
 use std::alloc::{AllocError, Global};

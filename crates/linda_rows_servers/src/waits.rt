@@ -1,9 +1,11 @@
 //! The requests that wait, in order of arrival.
 
-use crate::number::{read_client, read_number, split_number, template_of, tuple_of};
 use crate::told::{done, tell, tell_two};
+use crate::typed::{template_of, tuple_of};
 use linda_hold::{Asked, Request, Waits};
-use linda_script::{WordsFault, read_numbered, split_word};
+use linda_script::{
+    WordsFault, read_number, read_numbered, read_small_number, split_number, split_word,
+};
 use std::alloc::Global;
 
 /// Lets requests wait, or wait no more, or shows them, as the words say.
@@ -21,7 +23,7 @@ pub(crate) fn play_waits(
             Ok(())
         }
         "leaves" => {
-            waits.remove_client(read_client(rest)?);
+            waits.remove_client(read_small_number(rest)?);
             Ok(())
         }
         "readers" => take_readers(alloc, waits, rest, came),
@@ -102,7 +104,7 @@ fn show(
     match what {
         "waits" => tell_whether(waits.contains(read_request(which)?), came),
         "count" => tell(came, waits.len()),
-        "of" => tell(came, waits.count_of(read_client(which)?)),
+        "of" => tell(came, waits.count_of(read_small_number(which)?)),
         _ => show_awaiting(alloc, waits, what, which, came),
     }
 }

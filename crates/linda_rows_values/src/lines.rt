@@ -9,7 +9,8 @@ use crate::told::done;
 use crate::typed::Typed;
 use crate::words::split_pair;
 use linda_script::{
-    WordsFault, read_numbered, read_reply, said, split_word, tell_replies, tell_tuple, tidied, told,
+    WordsFault, read_number, read_numbered, read_reply, said, split_word, tell_replies, tell_tuple,
+    tidied, told,
 };
 use linda_tuple::Tuple;
 use linda_wire::Reply;
@@ -78,10 +79,7 @@ fn kept_tuple(alloc: Global, text: &str) -> Result<Option<Tuple>, WordsFault> {
 // The client and the ticket.
 fn request_of(words: &str) -> Result<(u32, u64), WordsFault> {
     let (client, ticket) = read_numbered(words)?;
-    match ticket.parse::<u64>() {
-        Ok(ticket) => Ok((client, ticket)),
-        Err(_) => Err(WordsFault::Unknown),
-    }
+    Ok((client, read_number(ticket)?))
 }
 
 fn send(alloc: Global, came: &mut String, words: &str) -> Result<(), WordsFault> {

@@ -8,7 +8,7 @@
 use crate::hexadecimal::bytes_of;
 use crate::told::{done, tell_alone, tell_front, tell_placed, tell_rest};
 use crate::typed::is_said;
-use linda_script::{WordsFault, split_word};
+use linda_script::{WordsFault, read_size, split_word};
 use linda_text::{
     read_atom_at, read_template, read_template_at, read_tuple, skip_template, split_template,
     write_tuple,
@@ -62,10 +62,7 @@ fn tell_skipped(alloc: Global, came: &mut String, digits: &str) -> Result<(), Wo
 /// `Unknown` where no number stands there.
 pub(crate) fn split_offset(words: &str) -> Result<(usize, &str), WordsFault> {
     let (at, rest) = split_word(words);
-    match at.parse::<usize>() {
-        Ok(at) => Ok((at, rest)),
-        Err(_) => Err(WordsFault::Unknown),
-    }
+    Ok((read_size(at)?, rest))
 }
 
 /// The atoms that stand in a text, one after the other.

@@ -15,12 +15,16 @@ mod message;
 mod number;
 mod reply;
 mod rows;
+mod string;
 
 pub use fault::WordsFault;
 pub use frames::{read_hex, said_frames, told_frames};
 pub use kept::{tell_replies, tell_tuple};
 pub use lines::{said, tidied, told};
 pub use message::{read_batch, read_message, read_messages, write_message};
-pub use number::{read_numbered, split_word};
+pub use number::{
+    read_number, read_numbered, read_size, read_small_number, split_number, split_word,
+};
 pub use reply::{read_reply, write_reply};
 pub use rows::{Played, Player, Sweeps, play_rows, run_rows};
+pub use string::string_at;

@@ -1,4 +1,2 @@
 mod WorkingLaws
 mod SeatLaws
-mod HeardLaws
-mod OkLaws

@@ -9,8 +9,6 @@ mod crossing;
 mod desk;
 mod gate;
 mod greeted;
-mod heard;
-mod hearing;
 mod seat;
 mod shared;
 mod tray;

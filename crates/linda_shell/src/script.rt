@@ -3,7 +3,6 @@
 mod command;
 mod fault;
 mod listing;
-mod outcome;
 mod output;
 mod run;
 mod trace;
@@ -13,16 +12,14 @@ ghost use Rattle.linda_client.specs.declared.limits.TheConstants.{MAX_SERVERS};
 ghost use Rattle.linda_run.specs.Reached.{IsUnused};
 
 use command::{Command, read_command};
-pub use command::{Request, read_request};
-pub use fault::{LineFault, ScriptFault};
+pub use fault::ScriptFault;
 use linda_client::ClientFault;
 use linda_disk::{MemDisk, Torn};
+use linda_line::{LineFault, write_fault, write_outcome, write_refusal};
 use linda_server::Durable;
 use linda_store::Node;
 use linda_world::{Seen, World, WorldEvent, WorldFault};
 use listing::list_state;
-use outcome::write_fault;
-pub use outcome::{write_outcome, write_refusal};
 use output::Output;
 pub use run::{run_script, trace_script};
 use std::alloc::{AllocError, Global};

@@ -3,8 +3,8 @@
 //! another; where the allocation is one of the test's own, the test fails and says that memory ran out.
 
 use linda_client::{Client, ClientFault, Outcome, Reaction};
+use linda_line::{read_event, write_outcome};
 use linda_script::write_message;
-use linda_shell::{read_event, write_outcome};
 use linda_text::read_tuple;
 use linda_tuple::Tuple;
 use linda_wire::{Message, Reply};

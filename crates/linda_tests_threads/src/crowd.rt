@@ -3,12 +3,10 @@
 ghost use Rattle.std.specs.Prelude.{◌≡◌};
 ghost use Rattle.linda_receipt.specs.declared.limits.TheConstants.{PARTS};
 
-use super::host::{Host, Welcome};
-use super::stand::{ROOMY, shared_on};
-use super::words::{ask, hello, put};
 use linda_disk::MemDisk;
 use linda_receipt::PARTS;
 use linda_shared::{Outlet, Seat, Shared};
+use linda_stand::{Host, ROOMY, Welcome, ask, hello, put, shared_on};
 use linda_tuple::{Atom, Pattern};
 use linda_wire::{Message, Reply};
 use std::alloc::{AllocError, Global};
@@ -64,18 +62,37 @@ fn trades<S: Drop, O: Drop, H: Host<S, O>, R: Wait>(
     let own = i64::from(H::client(seat));
     let message = put(alloc, last.saturating_add(1), "own", own)?;
     let did_put = did(rt, host, seat, &message);
-    let message = ask(alloc, ticket, "own", Pattern::Value(Atom::Int(own)))?;
-    let did_ask = host.submit(rt, seat, &message).is_ok();
-    let replies = host.drain(rt, outlet);
-    let [Reply::Stored { id, .. }, Reply::Offer { id: offered, .. }] = replies.as_slice() else {
+    let did_ask = asks(rt, alloc, host, seat, ticket, own)?;
+    let Some(id) = offered_own(&host.drain(rt, outlet)) else {
         return Ok(false);
     };
     let message = Message::Accept {
         n: last.saturating_add(2),
         ticket,
-        id: *offered,
+        id,
     };
-    Ok(did_put && did_ask && id == offered && did(rt, host, seat, &message))
+    Ok(did_put && did_ask && did(rt, host, seat, &message))
+}
+
+// Asks for the tuple of the client's own: whether the call did not fail.
+fn asks<S: Drop, O: Drop, H: Host<S, O>, R: Wait>(
+    rt: &R,
+    alloc: Global,
+    host: &H,
+    seat: &mut S,
+    ticket: u64,
+    own: i64,
+) -> Result<bool, AllocError> {
+    let message = ask(alloc, ticket, "own", Pattern::Value(Atom::Int(own)))?;
+    Ok(host.submit(rt, seat, &message).is_ok())
+}
+
+// The id under which a tuple was stored that is offered then.
+fn offered_own(replies: &[Reply]) -> Option<u64> {
+    match replies {
+        [Reply::Stored { id, .. }, Reply::Offer { id: offered, .. }] if id == offered => Some(*id),
+        _ => None,
+    }
 }
 
 // Whether a message makes a deed.
@@ -125,14 +142,22 @@ fn crowd_comes<
     )?;
     assert_eq!(rt; well.len(), CLIENTS);
     assert!(rt; are_all(&well, VISITS));
-    let report = host.finish(rt, Vec::new(alloc));
-    let (deeds, ids) = match report {
+    all_is_counted(rt, alloc, host);
+    Ok(())
+}
+
+// Each visit was two deeds, and nothing is left of them but the clients.
+fn all_is_counted<S: Drop, O: Drop, H: Host<S, O>, R: Wait + Abort>(
+    rt: &R,
+    alloc: Global,
+    host: H,
+) {
+    let (deeds, ids) = match host.finish(rt, Vec::new(alloc)) {
         Ok(report) => (report.deeds, report.ids),
         Err(_) => (0, 0),
     };
     assert_eq!(rt; (deeds, ids), (2_048, 1_024));
     assert_eq!(rt; host.into_kept(), (1_025, 0, CLIENTS));
-    Ok(())
 }
 
 // The same over a new server, with this ledger.

@@ -3,12 +3,10 @@
 ghost use Rattle.std.specs.Prelude.{◌≡◌};
 ghost use Rattle.linda_receipt.specs.declared.limits.TheConstants.{PARTS};
 
-use super::host::Host;
-use super::stand::{ROOMY, shared_on};
-use super::words::{ask, put, seated};
 use linda_disk::MemDisk;
 use linda_receipt::PARTS;
 use linda_shared::{Outlet, Seat, Shared};
+use linda_stand::{Host, ROOMY, ask, put, seated, shared_on};
 use linda_tuple::Pattern;
 use linda_wire::{Message, Reply};
 use std::alloc::{AllocError, Global};
@@ -159,8 +157,16 @@ fn given_up<S: Drop, O: Drop, H: Host<S, O>, R: Wait>(
     let mut outlet = outlet;
     let first = host.submit(rt, &mut seat, &Message::Leave { n: 5 });
     let later = host.submit(rt, &mut seat, &Message::Leave { n: 6 });
-    let replies = host.drain(rt, &mut outlet);
-    let is_left = match replies.as_slice() {
+    let is_told = is_told_it_left(&host.drain(rt, &mut outlet));
+    match (first, later, host.leave(rt, seat, outlet)) {
+        (Ok(Some(_)), Ok(None), Ok(())) if is_told => Some(0),
+        _ => None,
+    }
+}
+
+// Whether these say that message 5 left, and then that a message is refused.
+fn is_told_it_left(replies: &[Reply]) -> bool {
+    match replies {
         [
             Reply::Left { n: 5 },
             Reply::Refused {
@@ -169,10 +175,6 @@ fn given_up<S: Drop, O: Drop, H: Host<S, O>, R: Wait>(
             },
         ] => true,
         _ => false,
-    };
-    match (first, later, host.leave(rt, seat, outlet)) {
-        (Ok(Some(_)), Ok(None), Ok(())) if is_left => Some(0),
-        _ => None,
     }
 }
 
@@ -213,17 +215,7 @@ fn parts_of<S: Drop, O: Drop, H: Host<S, O>, R: Wait + Abort>(
     for_good: bool,
 ) -> Result<Vec<Part<S, O>>, AllocError> {
     let mut parts = Vec::new(alloc);
-    let (mut seat, mut outlet) = seated(rt, host, 7)?;
-    for n in 1..5u64 {
-        done(rt, host, &mut seat, &put(alloc, n, "a", 3)?);
-        done(
-            rt,
-            host,
-            &mut seat,
-            &ask(alloc, n, "a", Pattern::IntFormal)?,
-        );
-    }
-    assert_eq!(rt; host.drain(rt, &mut outlet).len(), 8);
+    let (seat, outlet) = offered_four(rt, alloc, host)?;
     parts.push(if for_good {
         Part::GivesUp(seat, outlet)
     } else {
@@ -231,15 +223,39 @@ fn parts_of<S: Drop, O: Drop, H: Host<S, O>, R: Wait + Abort>(
     })?;
     for client in 8..12u32 {
         let (mut seat, outlet) = seated(rt, host, client)?;
-        done(
-            rt,
-            host,
-            &mut seat,
-            &ask(alloc, 1, "a", Pattern::IntFormal)?,
-        );
+        asks(rt, alloc, host, &mut seat, 1)?;
         parts.push(Part::Waits(outlet))?;
     }
     Ok(parts)
+}
+
+// Client 7 puts four tuples, and is offered each.
+fn offered_four<S: Drop, O: Drop, H: Host<S, O>, R: Wait + Abort>(
+    rt: &R,
+    alloc: Global,
+    host: &H,
+) -> Result<(S, O), AllocError> {
+    let (mut seat, mut outlet) = seated(rt, host, 7)?;
+    for n in 1..5u64 {
+        let message = put(alloc, n, "a", 3)?;
+        done(rt, host, &mut seat, &message);
+        asks(rt, alloc, host, &mut seat, n)?;
+    }
+    assert_eq!(rt; host.drain(rt, &mut outlet).len(), 8);
+    Ok((seat, outlet))
+}
+
+// Asks for a tuple by this ticket.
+fn asks<S: Drop, O: Drop, H: Host<S, O>, R: Wait + Abort>(
+    rt: &R,
+    alloc: Global,
+    host: &H,
+    seat: &mut S,
+    ticket: u64,
+) -> Result<(), AllocError> {
+    let message = ask(alloc, ticket, "a", Pattern::IntFormal)?;
+    done(rt, host, seat, &message);
+    Ok(())
 }
 
 #[test]

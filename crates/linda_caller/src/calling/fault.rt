@@ -3,8 +3,8 @@
 ghost use Rattle.std.specs.Prelude.{◌≡◌};
 ghost use Rattle.linda_caller.specs.Statuses.{status_of_call};
 
+use linda_line::LineFault;
 use linda_pipe::{BAD_LINE, REFUSED};
-use linda_shell::LineFault;
 use std::alloc::{AllocError, AllocFailed};
 use thiserror::Error;
 

@@ -1,9 +1,10 @@
 //! The calls of a client, as lines say them.
 
 use crate::events::event_of;
-use crate::number::{number, small_number};
 use linda_client::Call;
-use linda_script::{WordsFault, read_numbered, read_reply, split_word};
+use linda_script::{
+    WordsFault, read_number, read_numbered, read_reply, read_small_number, split_word,
+};
 use linda_text::read_tuple;
 use std::alloc::Global;
 
@@ -31,11 +32,11 @@ fn sync_of(alloc: Global, event: &str) -> Result<Call, WordsFault> {
 }
 
 fn tick_of(now: &str) -> Result<Call, WordsFault> {
-    Ok(Call::Tick(number(now)?))
+    Ok(Call::Tick(read_number(now)?))
 }
 
 fn reconnected_of(server: &str) -> Result<Call, WordsFault> {
-    Ok(Call::Reconnected(small_number(server)?))
+    Ok(Call::Reconnected(read_small_number(server)?))
 }
 
 // The reply that stands after the number of the server that it comes from.

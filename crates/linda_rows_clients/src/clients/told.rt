@@ -1,8 +1,9 @@
 //! What comes of a client's call, in words.
 
+use crate::words::done;
 use linda_client::{ClientFault, Outcome, Reaction};
+use linda_line::write_outcome;
 use linda_script::{WordsFault, write_message};
-use linda_shell::write_outcome;
 use linda_wire::Message;
 use std::alloc::{AllocError, Global};
 
@@ -14,9 +15,16 @@ pub fn push_told(
     answer: Result<Reaction, ClientFault>,
 ) -> Result<(), WordsFault> {
     match answer {
-        Ok(reaction) => Ok(push_reaction(alloc, came, client, &reaction)?),
-        Err(ClientFault::Memory) => Err(WordsFault::Memory),
-        Err(fault) => Ok(writeln!(came, "> refused {fault}")?),
+        Ok(reaction) => done(push_reaction(alloc, came, client, &reaction)),
+        Err(fault) => tell_refused(fault, came),
+    }
+}
+
+/// Appends why a call was refused.
+pub fn tell_refused(fault: ClientFault, came: &mut String) -> Result<(), WordsFault> {
+    match fault {
+        ClientFault::Memory => Err(WordsFault::Memory),
+        fault => done(writeln!(came, "> refused {fault}")),
     }
 }
 

@@ -1,16 +1,15 @@
 //! Events as rows say them: as people type them, or made of so many alike.
 
-use crate::number::place;
 use crate::words::typed_event;
 use linda_event::Event;
-use linda_script::{WordsFault, split_word};
+use linda_script::{WordsFault, read_size, split_word};
 use std::alloc::Global;
 
 /// The event that the words say: typed; a choice of so many bases alike, as `40 inputs, 24 reads, 192 alarms`; or one
 /// of these under so many labels, as `64 labels over never`.
 pub fn event_of(alloc: Global, words: &str) -> Result<Event, WordsFault> {
     match words.split_once(" labels over ") {
-        Some((count, below)) => labelled(alloc, place(count)?, unlabelled(alloc, below)?),
+        Some((count, below)) => labelled(alloc, read_size(count)?, unlabelled(alloc, below)?),
         None => unlabelled(alloc, words),
     }
 }
@@ -37,12 +36,18 @@ fn labelled(alloc: Global, count: usize, below: Event) -> Result<Event, WordsFau
 fn choice_of(alloc: Global, words: &str) -> Result<Event, WordsFault> {
     let mut members = Vec::new(alloc);
     for part in words.split(',') {
-        let (count, kind) = split_word(part.trim());
-        for _ in 0..place(count)? {
-            members.push(member_of(alloc, kind)?)?;
-        }
+        push_alike(alloc, &mut members, part.trim())?;
     }
     Ok(Event::Choose(members))
+}
+
+// Appends so many bases alike.
+fn push_alike(alloc: Global, members: &mut Vec<Event>, words: &str) -> Result<(), WordsFault> {
+    let (count, kind) = split_word(words);
+    for _ in 0..read_size(count)? {
+        members.push(member_of(alloc, kind)?)?;
+    }
+    Ok(())
 }
 
 fn member_of(alloc: Global, kind: &str) -> Result<Event, WordsFault> {

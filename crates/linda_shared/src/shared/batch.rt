@@ -5,13 +5,12 @@ ghost use Rattle.std.specs.Prelude.{vec_len, vec_capacity, OnOk, OnErr};
 ghost use Rattle.linda_step.specs.declared.size.TheConstants.{MAX_BATCH};
 ghost use Rattle.linda_receipt.specs.Account.{account_of};
 ghost use Rattle.linda_receipt.specs.declared.limits.TheConstants.{MOST_ASKED};
-ghost use Rattle.linda_shared.specs.Seat.{with_all, with_asked, AreToldOf, IsLeftBy, IsRequest};
+ghost use Rattle.linda_mail.specs.Seat.{with_all, with_asked, AreToldOf, IsLeftBy, IsRequest};
 
 use super::Shared;
-use crate::heard::Heard;
 use crate::seat::{Seat, address_at};
 use linda_disk::Disk;
-use linda_mail::{Address, Mailbox};
+use linda_mail::{Address, Heard, Mailbox};
 use linda_receipt::{Account, Receipt, SharedFault};
 use linda_wire::Message;
 use std::alloc::{AllocError, Global};

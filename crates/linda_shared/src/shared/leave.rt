@@ -1,7 +1,7 @@
 //! A client goes, and the end.
 
 ghost use Rattle.std.specs.Prelude.{◌≡◌, ◌+◌, ◌≤◌, IfOk, IfSome, IsSome};
-ghost use Rattle.linda_shared.specs.Seat.{deeds_told};
+ghost use Rattle.linda_mail.specs.Seat.{deeds_told};
 
 use super::Shared;
 use crate::seat::Seat;

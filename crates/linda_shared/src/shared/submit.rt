@@ -4,13 +4,12 @@ ghost use Rattle.std.specs.Prelude.{◌≡◌, ◌⊎◌, ◌+◌, ◌<◌, IfOk
 ghost use Rattle.linda_receipt.specs.Account.{account_of};
 ghost use Rattle.linda_receipt.specs.declared.limits.TheConstants.{MOST_ASKED};
 ghost use Rattle.linda_receipt.specs.Ring.{IsNext};
-ghost use Rattle.linda_shared.specs.Seat.{with_told, IsLeft, IsToldOf};
+ghost use Rattle.linda_mail.specs.Seat.{with_told, IsLeft, IsToldOf};
 
 use super::Shared;
-use crate::hearing::hear;
 use crate::seat::{Seat, address_at};
 use linda_disk::Disk;
-use linda_mail::Mailbox;
+use linda_mail::{Mailbox, hear};
 use linda_receipt::{Account, Receipt, SharedFault};
 use linda_wire::{Message, Refusal, Reply};
 use std::alloc::{AllocError, Global};

@@ -4,8 +4,9 @@ ghost use Rattle.std.specs.Prelude.{◌≤◌};
 ghost use Rattle.linda_client.specs.declared.limits.TheConstants.{MAX_SERVERS};
 
 use super::Script;
-use super::fault::{LineFault, ScriptFault};
+use super::fault::ScriptFault;
 use super::output::Output;
+use linda_line::LineFault;
 use std::alloc::Global;
 use std::io::{Read, Write, sink};
 

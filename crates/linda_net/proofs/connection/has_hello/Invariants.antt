@@ -1,5 +1,5 @@
 use Rattle.std.proofs.Common.{All, length}
-use Rattle.linda_shared.specs.Seat.{IsRequest}
+use Rattle.linda_mail.specs.Seat.{IsRequest}
 use Rattle.linda_net.proofs.connection.has_hello.Given as goal
 
 -- Where none of the rest is a Hello, none is.

@@ -1,0 +1,86 @@
+//! What sessions are told that leave with an offer, come again, and greet where they are known, and whose client leaves
+//! for good; and what all were told at the end.
+
+use super::scene::play;
+use super::steps::{AsFarAsMemoryGoes, Step, Strictly};
+use linda_stand::{Kept, ROOMY};
+use std::test::Fail;
+
+const NEW: Kept = (1, 0, 0);
+
+const PUT: Kept = (2, 1, 1);
+
+const TAKEN: Kept = (2, 0, 2);
+
+const PUT_AGAIN: Kept = (3, 1, 2);
+
+const LEFT: Kept = (3, 1, 3);
+
+/// 7 is offered its tuple twice and its session leaves with the second offer; 8, which waits, is offered it then, and
+/// takes it. 9 is offered the next one and gives its number up for good: 8 is offered that one too, and what 9 says is
+/// refused from then on, in its next session too. The Leave is a deed among the four of others.
+const STEPS: &[Step] = &[
+    ("greet hello 1 7 fresh", "> refused 1 2\n", NEW),
+    ("greet hello 2 7 fresh", "> 7 welcome 0\n", NEW),
+    ("7 out 1 (\"a\", 3)", "> 7 did 1\n> 7 stored 1 1\n", PUT),
+    ("7 in 1 (\"a\", ?i)", "> 7 offer 1 1 (\"a\", 3)\n", PUT),
+    ("7 cancel 1", "", PUT),
+    ("7 in 2 (\"a\", ?i)", "> 7 offer 2 1 (\"a\", 3)\n", PUT),
+    ("greet hello 2 8 fresh", "> 8 welcome 0\n", PUT),
+    ("8 in 1 (\"a\", ?i)", "", PUT),
+    ("leave 7", "> 8 offer 1 1 (\"a\", 3)\n", PUT),
+    ("greet hello 2 7 fresh", "> refused 2 1\n", PUT),
+    ("greet hello 2 7 known", "> 7 welcome 1\n", PUT),
+    ("7 accept 2 1 1", "> 7 did 2\n> 7 gone 2\n", PUT),
+    (
+        "8 accept 1 1 1",
+        "> 8 did 1\n> 8 taken 1 1 (\"a\", 3)\n",
+        TAKEN,
+    ),
+    ("greet hello 2 8 known", "> refused 3 0\n", TAKEN),
+    ("8 hello 2 8 known", "> 8 refused 3 0\n", TAKEN),
+    (
+        "8 out 2 (\"a\", 4)",
+        "> 8 did 2\n> 8 stored 2 2\n",
+        PUT_AGAIN,
+    ),
+    ("greet hello 2 9 fresh", "> 9 welcome 0\n", PUT_AGAIN),
+    (
+        "9 in 1 (\"a\", ?i)",
+        "> 9 offer 1 2 (\"a\", 4)\n",
+        PUT_AGAIN,
+    ),
+    ("8 in 2 (\"a\", ?i)", "", PUT_AGAIN),
+    (
+        "9 leave 1",
+        "> 9 did 1\n> 8 offer 2 2 (\"a\", 4)\n> 9 left 1\n",
+        LEFT,
+    ),
+    ("9 leave 1", "> 9 left 1\n", LEFT),
+    (
+        "all 9 accept 2 1 2; 9 in 2 (\"a\", ?i)",
+        "> 9 refused 11 1\n> 9 refused 11 1\n",
+        LEFT,
+    ),
+    ("leave 9", "", LEFT),
+    ("greet hello 2 9 known", "> 9 welcome 1\n", LEFT),
+    ("9 out 2 (\"a\", 5)", "> 9 refused 11 1\n", LEFT),
+    ("finish 8", "> a seat is missing\n", LEFT),
+    ("finish 7 9", "> 5 deeds, 2 ids\n", LEFT),
+    ("greet hello 2 7 known", "> refused 3 0\n", LEFT),
+];
+
+#[test]
+fn a_waiting_session_is_offered_what_another_leaves(rt: HostRuntime) -> Result<(), Fail> {
+    play(&rt, rt.alloc(), ROOMY, &Strictly { steps: STEPS })
+}
+
+#[test]
+fn without_memory_a_session_is_told_so_or_the_server_is_down(rt: HostRuntime) -> Result<(), Fail> {
+    let scene = AsFarAsMemoryGoes {
+        limit: ROOMY.limit,
+        steps: STEPS,
+        cut_short: None,
+    };
+    play(&rt, rt.alloc(), ROOMY, &scene)
+}

@@ -1,0 +1,16 @@
+//! Tests of sessions over one server, in one thread: what a session and its neighbours are told, failed allocations,
+//! batches, and servers that go down.
+#![tactic(auto)]
+
+#[cfg(test)]
+mod batches;
+#[cfg(test)]
+mod disks;
+#[cfg(test)]
+mod hostile;
+#[cfg(test)]
+mod scene;
+#[cfg(test)]
+mod script;
+#[cfg(test)]
+mod steps;

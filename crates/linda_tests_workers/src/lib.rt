@@ -1,0 +1,7 @@
+//! Tests of `run_workers`: workers in threads of their own over one server, by public calls alone.
+#![tactic(auto)]
+
+#[cfg(test)]
+mod jobs;
+#[cfg(test)]
+mod workers;
