@@ -1,16 +1,12 @@
-//! Tests of the libraries that no row can be, by public calls alone: where memory is refused, on real files, beside a
+//! Tests of disks and servers that no row can be, by public calls alone: where memory is refused, on real files, beside a
 //! second model, and of what a call costs.
 //!
 //! Each module has the name of the crate that it tests; why they stand here: docs/DECISIONS.md.
 #![tactic(auto)]
 
 #[cfg(test)]
-mod client;
-#[cfg(test)]
 mod disk;
 #[cfg(test)]
 mod server;
 #[cfg(test)]
 mod store;
-#[cfg(test)]
-mod world;

@@ -1,0 +1,9 @@
+//! Tests of clients and worlds that no row can be, by public calls alone: where memory is refused.
+//!
+//! Each module has the name of the crate that it tests; why they stand here: docs/DECISIONS.md.
+#![tactic(auto)]
+
+#[cfg(test)]
+mod client;
+#[cfg(test)]
+mod world;
