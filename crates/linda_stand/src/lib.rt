@@ -1,7 +1,7 @@
 //! A durable server in memory that a test's sessions share, and what tests ask of it. Only tests use it.
 //!
-//! `shared_on` makes the server, as a `Stand` says; a test speaks to it as a `Host`. `words` has the messages that tests
-//! send, and `kept_after_crash` what is there after a stop.
+//! `shared_on` makes the server, as a `Stand` says; a test speaks to it as a `Host`. `words` has the messages that
+//! tests send, and `kept_after_crash` what is there after a stop.
 #![tactic(auto)]
 
 mod host;
