@@ -9,7 +9,7 @@ ghost use Rattle.linda_client.specs.declared.limits.TheConstants.{MAX_SERVERS};
 use caller::Caller;
 pub use fault::CallFault;
 use linda_line::LineFault;
-use linda_net::{Inbox, Link};
+use linda_link::{Inbox, Link};
 use linda_pipe::{extend_line, without_return};
 use linda_store::MAX_READS;
 use std::alloc::{AllocError, Global};

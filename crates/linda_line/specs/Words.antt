@@ -88,6 +88,25 @@ label_at bytes = do
   behind ← word_end number.1
   Ok (number.0, behind)
 
+-- The bytes after a word at the front, after which it ends, and after blanks.
+unfoldable pub behind_word_at : List ℕ → List ℕ → Result (List ℕ) TextFault
+behind_word_at word bytes = do
+  rest ← word_at word bytes
+  behind ← word_end rest
+  Ok (after_blanks behind)
+
+-- A number at the front, after which it ends, and the bytes after blanks.
+unfoldable pub front_number_at : Reader ℕ
+front_number_at bytes = do
+  number ← natural_at bytes
+  behind ← word_end number.1
+  Ok (number.0, after_blanks behind)
+
+-- What is read is found, and nothing is where that is a fault.
+abbrev pub Finds : {X Y : Type 0} → (X → Y) → Option X → Result Y TextFault → Type 0
+Finds view (Some x) read = read ≡ Ok (view x)
+Finds view None read = (fault : TextFault) × (read ≡ Err fault)
+
 -- Whether members follow an opening bracket, and what stands there; or what stands after the
 -- closing one.
 abbrev pub inside : List ℕ → Bool × List ℕ

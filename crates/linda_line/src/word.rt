@@ -1,29 +1,48 @@
 //! Words and numbers at the front of a line, and the blanks behind them.
 
-use linda_text::{skip_blanks, skip_word, split_number};
+ghost use Rattle.std.specs.Prelude.{◌≡◌};
+ghost use Rattle.linda_text.specs.Steps.{GivesAlways};
+ghost use Rattle.linda_line.specs.Words.{behind_word_at, front_number_at, Finds};
+
+use crate::token::end_word;
+use linda_text::{TextFault, skip_blanks, skip_word, split_number};
 
 /// The number at the front of the text, after which no letter or digit stands, and what stands after it and after
 /// blanks; `None` where there is none, or it has more than 64 bits.
-pub fn number_in(text: &[u8]) -> Option<(u64, &[u8])> {
-    match split_number(text) {
-        Ok((number, rest)) => Some((number, behind_blanks(rest)?)),
+pub fn number_in(text: &[u8]) -> Option<(u64, &[u8])>
+    ensures { Finds (λ x. (x.0, x.1.now)) result (front_number_at text.now) }
+{
+    match front_number(text) {
+        Ok(found) => Some(found),
         Err(_) => None,
     }
 }
 
 /// What stands after the word, after which no letter or digit stands, and after blanks; `None` where the text does not
 /// begin with it.
-pub fn behind_word<'a>(text: &'a [u8], word: &[u8]) -> Option<&'a [u8]> {
-    match skip_word(text, word) {
-        Ok(rest) => behind_blanks(rest),
+pub fn behind_word<'a>(text: &'a [u8], word: &[u8]) -> Option<&'a [u8]>
+    ensures { Finds (λ rest. rest.now) result (behind_word_at word.now text.now) }
+{
+    match skip_spaced_word(text, word) {
+        Ok(rest) => Some(rest),
         Err(_) => None,
     }
 }
 
-// What stands after blanks, where no letter or digit stands at the front.
-fn behind_blanks(text: &[u8]) -> Option<&[u8]> {
-    match text {
-        [first, ..] if first.is_ascii_alphanumeric() => None,
-        _ => Some(skip_blanks(text)),
-    }
+// The number at the front, after which it ends, and what stands after blanks.
+#[tactic(auto, unfolding(crate::specs::Words::front_number_at))]
+fn front_number(text: &[u8]) -> Result<(u64, &[u8]), TextFault>
+    ensures { GivesAlways (λ x. (x.0, x.1.now)) result (front_number_at text.now) }
+{
+    let (number, rest) = split_number(text)?;
+    Ok((number, skip_blanks(end_word(rest)?)))
+}
+
+// What stands after the word, after which it ends, and after blanks.
+#[tactic(auto, unfolding(crate::specs::Words::behind_word_at))]
+fn skip_spaced_word<'a>(text: &'a [u8], word: &[u8]) -> Result<&'a [u8], TextFault>
+    ensures { GivesAlways (λ rest. rest.now) result (behind_word_at word.now text.now) }
+{
+    let rest = end_word(skip_word(text, word)?)?;
+    Ok(skip_blanks(rest))
 }

@@ -3,13 +3,12 @@
 ghost use Rattle.std.specs.Prelude.{◌≡◌, ◌≤◌, false, length, All, IfErr};
 ghost use Rattle.linda_step.specs.declared.size.TheConstants.{MAX_BATCH};
 ghost use Rattle.linda_mail.specs.Seat.{IsRequest};
-ghost use Rattle.linda_net.specs.Pumping.{IsOfIntake};
+ghost use Rattle.linda_pump.specs.Pumping.{IsOfIntake};
 
-use crate::intake::Intake;
 use crate::line::Line;
 use crate::marks::Marks;
-use crate::pumping::pump;
 use linda_disk::Disk;
+use linda_pump::{Intake, pump};
 use linda_shared::{Greeted, Seat, Shared, SharedFault};
 use linda_store::{ConverseFault, End};
 use linda_wire::{Message, Refusal, Reply};

@@ -1,7 +1,7 @@
 //! The writing side of a connection.
 
 ghost use Rattle.std.specs.Prelude.{IfErr};
-ghost use Rattle.linda_net.specs.Pumping.{IsOfIntake};
+ghost use Rattle.linda_pump.specs.Pumping.{IsOfIntake};
 
 use crate::marks::Marks;
 use linda_disk::Disk;

@@ -1,13 +1,11 @@
 //! Messages that go at once: what a bank with just enough room gets, and one with too little.
 
-use super::scene::{Scene, play};
 use super::script::Sessions;
 use super::steps::{AsFarAsMemoryGoes, Step, done_as_said};
-use linda_stand::{Host, Kept, Stand};
-use std::alloc::Global;
+use linda_stand::{Host, Kept, Scene, Stand, play};
+use std::alloc::{AllocError, Global};
 use std::process::Abort;
 use std::sync::Wait;
-use std::test::Fail;
 
 const NEW: Kept = (1, 0, 0);
 
@@ -65,13 +63,13 @@ fn has_record(bytes: &[u8], len: u8) -> bool {
         && is_at(bytes, 37, len)
 }
 
-impl Scene for Bank {
-    fn play<S: Drop, O: Drop, H: Host<S, O>, R: Wait + Abort>(
+impl<R: Wait + Abort> Scene<R> for Bank {
+    fn play<S: Drop, O: Drop, H: Host<S, O>>(
         &self,
         rt: &R,
         alloc: Global,
         host: H,
-    ) -> Result<(), Fail> {
+    ) -> Result<(), AllocError> {
         let mut sessions = Sessions::new(alloc, host);
         done_as_said(rt, alloc, &mut sessions, self.steps)?;
         let (left, _) = sessions.into_host().into_disks();
@@ -84,7 +82,7 @@ impl Scene for Bank {
 }
 
 #[test]
-fn messages_that_go_at_once_are_one_record(rt: HostRuntime) -> Result<(), Fail> {
+fn messages_that_go_at_once_are_one_record(rt: HostRuntime) -> Result<(), AllocError> {
     let bank = Bank {
         steps: AT_ONCE,
         len: 93,
@@ -94,7 +92,7 @@ fn messages_that_go_at_once_are_one_record(rt: HostRuntime) -> Result<(), Fail> 
 }
 
 #[test]
-fn messages_that_do_not_fit_at_once_go_one_by_one(rt: HostRuntime) -> Result<(), Fail> {
+fn messages_that_do_not_fit_at_once_go_one_by_one(rt: HostRuntime) -> Result<(), AllocError> {
     let bank = Bank {
         steps: ONE_BY_ONE,
         len: 66,
@@ -104,7 +102,7 @@ fn messages_that_do_not_fit_at_once_go_one_by_one(rt: HostRuntime) -> Result<(),
 }
 
 #[test]
-fn without_memory_all_go_at_once_or_none(rt: HostRuntime) -> Result<(), Fail> {
+fn without_memory_all_go_at_once_or_none(rt: HostRuntime) -> Result<(), AllocError> {
     let scene = AsFarAsMemoryGoes {
         limit: 93,
         steps: AT_ONCE,
@@ -114,7 +112,7 @@ fn without_memory_all_go_at_once_or_none(rt: HostRuntime) -> Result<(), Fail> {
 }
 
 #[test]
-fn without_memory_some_go_one_by_one(rt: HostRuntime) -> Result<(), Fail> {
+fn without_memory_some_go_one_by_one(rt: HostRuntime) -> Result<(), AllocError> {
     let scene = AsFarAsMemoryGoes {
         limit: 92,
         steps: ONE_BY_ONE,

@@ -1,14 +1,12 @@
 //! A disk that stops while a session's messages are written: they are done or not, all of them, and nobody is told so.
 
-use super::scene::{Scene, play};
 use super::script::Sessions;
 use super::steps::{Step, done_as_said};
 use linda_disk::Torn;
-use linda_stand::{Host, Kept, Stand, kept_after_crash};
-use std::alloc::Global;
+use linda_stand::{Host, Kept, Scene, Stand, kept_after_crash, play};
+use std::alloc::{AllocError, Global};
 use std::process::Abort;
 use std::sync::Wait;
-use std::test::Fail;
 
 const LIMIT: usize = 1_000;
 
@@ -42,13 +40,13 @@ struct Stopped {
     kept: Kept,
 }
 
-impl Scene for Stopped {
-    fn play<S: Drop, O: Drop, H: Host<S, O>, R: Wait + Abort>(
+impl<R: Wait + Abort> Scene<R> for Stopped {
+    fn play<S: Drop, O: Drop, H: Host<S, O>>(
         &self,
         rt: &R,
         alloc: Global,
         host: H,
-    ) -> Result<(), Fail> {
+    ) -> Result<(), AllocError> {
         let mut sessions = Sessions::new(alloc, host);
         done_as_said(rt, alloc, &mut sessions, STEPS)?;
         let disks = sessions.into_host().into_disks();
@@ -78,7 +76,9 @@ const STOPS: &[(u64, Torn, Kept)] = &[
 ];
 
 #[test]
-fn a_stop_in_a_batch_is_down_to_all_and_leaves_all_or_nothing(rt: HostRuntime) -> Result<(), Fail> {
+fn a_stop_in_a_batch_is_down_to_all_and_leaves_all_or_nothing(
+    rt: HostRuntime,
+) -> Result<(), AllocError> {
     for stop in STOPS {
         let (call, torn, kept) = *stop;
         let stand = Stand {

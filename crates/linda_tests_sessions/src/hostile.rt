@@ -1,10 +1,9 @@
 //! What sessions are told that leave with an offer, come again, and greet where they are known, and whose client leaves
 //! for good; and what all were told at the end.
 
-use super::scene::play;
 use super::steps::{AsFarAsMemoryGoes, Step, Strictly};
-use linda_stand::{Kept, ROOMY};
-use std::test::Fail;
+use linda_stand::{Kept, ROOMY, play};
+use std::alloc::AllocError;
 
 const NEW: Kept = (1, 0, 0);
 
@@ -71,12 +70,14 @@ const STEPS: &[Step] = &[
 ];
 
 #[test]
-fn a_waiting_session_is_offered_what_another_leaves(rt: HostRuntime) -> Result<(), Fail> {
+fn a_waiting_session_is_offered_what_another_leaves(rt: HostRuntime) -> Result<(), AllocError> {
     play(&rt, rt.alloc(), ROOMY, &Strictly { steps: STEPS })
 }
 
 #[test]
-fn without_memory_a_session_is_told_so_or_the_server_is_down(rt: HostRuntime) -> Result<(), Fail> {
+fn without_memory_a_session_is_told_so_or_the_server_is_down(
+    rt: HostRuntime,
+) -> Result<(), AllocError> {
     let scene = AsFarAsMemoryGoes {
         limit: ROOMY.limit,
         steps: STEPS,

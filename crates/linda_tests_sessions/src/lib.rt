@@ -9,8 +9,6 @@ mod disks;
 #[cfg(test)]
 mod hostile;
 #[cfg(test)]
-mod scene;
-#[cfg(test)]
 mod script;
 #[cfg(test)]
 mod steps;

@@ -1,14 +1,12 @@
 //! Steps of sessions in one thread, with what is to come of each.
 
-use super::scene::Scene;
 use super::script::Sessions;
 use linda_disk::{MemDisk, Torn};
 use linda_script::WordsFault;
-use linda_stand::{Host, Kept, kept_after_crash};
+use linda_stand::{Host, Kept, Scene, kept_after_crash};
 use std::alloc::{AllocError, Global};
 use std::process::Abort;
 use std::sync::Wait;
-use std::test::Fail;
 
 /// What is done, all that comes of it, and what the server keeps after it.
 pub(super) type Step = (&'static str, &'static str, Kept);
@@ -39,13 +37,13 @@ enum Went {
     CutShort,
 }
 
-impl Scene for Strictly {
-    fn play<S: Drop, O: Drop, H: Host<S, O>, R: Wait + Abort>(
+impl<R: Wait + Abort> Scene<R> for Strictly {
+    fn play<S: Drop, O: Drop, H: Host<S, O>>(
         &self,
         rt: &R,
         alloc: Global,
         host: H,
-    ) -> Result<(), Fail> {
+    ) -> Result<(), AllocError> {
         let mut sessions = Sessions::new(alloc, host);
         let last = done_as_said(rt, alloc, &mut sessions, self.steps)?;
         assert_eq!(rt; sessions.into_host().into_kept(), last);
@@ -69,13 +67,13 @@ pub(super) fn done_as_said<S: Drop, O: Drop, H: Host<S, O>, R: Wait + Abort>(
     Ok(last)
 }
 
-impl Scene for AsFarAsMemoryGoes {
-    fn play<S: Drop, O: Drop, H: Host<S, O>, R: Wait + Abort>(
+impl<R: Wait + Abort> Scene<R> for AsFarAsMemoryGoes {
+    fn play<S: Drop, O: Drop, H: Host<S, O>>(
         &self,
         rt: &R,
         alloc: Global,
         host: H,
-    ) -> Result<(), Fail> {
+    ) -> Result<(), AllocError> {
         let mut sessions = Sessions::new(alloc, host);
         let mut before = (1, 0, 0);
         for step in self.steps {
@@ -101,7 +99,7 @@ fn opened<R: Wait + Abort>(
     disks: (MemDisk, MemDisk),
     limit: usize,
     kept: [Kept; 2],
-) -> Result<(), Fail> {
+) -> Result<(), AllocError> {
     let now = kept_after_crash(alloc, disks, limit, Torn::Kept);
     assert!(rt; now == Some(kept[0]) || now == Some(kept[1]), "{now:?}");
     Ok(())

@@ -1,19 +1,12 @@
 //! Many sessions that come and go.
 
-ghost use Rattle.std.specs.Prelude.{◌≡◌};
-ghost use Rattle.linda_receipt.specs.declared.limits.TheConstants.{PARTS};
-
-use linda_disk::MemDisk;
-use linda_receipt::PARTS;
-use linda_shared::{Outlet, Seat, Shared};
-use linda_stand::{Host, ROOMY, Welcome, ask, hello, put, shared_on};
+use super::scene::{Scene, play};
+use linda_stand::{Host, Welcome, ask, hello, put};
 use linda_tuple::{Atom, Pattern};
 use linda_wire::{Message, Reply};
 use std::alloc::{AllocError, Global};
-use std::marker::Brand;
 use std::process::Abort;
 use std::sync::Wait;
-use std::sync::ledger::{Blank, Ledger};
 use std::test::Fail;
 use std::thread;
 use std::thread::Threads;
@@ -124,8 +117,8 @@ fn visits_of<S: Drop, O: Drop, H: Host<S, O>, R: Wait>(
     well
 }
 
-// Each client, in a thread of its own, comes as often, puts a tuple of its own, takes it, and goes.
-fn crowd_comes<
+/// Each client, in a thread of its own, comes as often, puts a tuple of its own, takes it, and goes.
+pub(super) fn crowd_comes<
     S: Drop + Send,
     O: Drop + Send,
     H: Host<S, O> + Sync,
@@ -160,18 +153,6 @@ fn all_is_counted<S: Drop, O: Drop, H: Host<S, O>, R: Wait + Abort>(
     assert_eq!(rt; host.into_kept(), (1_025, 0, CLIENTS));
 }
 
-// The same over a new server, with this ledger.
-fn play_crowd<L: Ledger + Send + Sync, R: Threads + Wait + Abort + Sync>(
-    rt: &R,
-    alloc: Global,
-    blank: Blank,
-) -> Result<(), Fail>
-    requires { (blank.name ≡ L.name) × (blank.parts ≡ L.parts) × (L.parts ≡ PARTS) }
-{
-    let shared: Shared<MemDisk, L> = shared_on(alloc, blank, ROOMY)?;
-    crowd_comes::<Seat<L>, Outlet<L>, Shared<MemDisk, L>, R>(rt, alloc, shared)
-}
-
 fn are_all(counts: &[u64], wanted: u64) -> bool {
     for count in counts {
         if *count != wanted {
@@ -183,5 +164,5 @@ fn are_all(counts: &[u64], wanted: u64) -> bool {
 
 #[test]
 fn a_crowd_comes_and_goes_a_thousand_times(rt: HostRuntime) -> Result<(), Fail> {
-    play_crowd::<Brand, HostRuntime>(&rt, rt.alloc(), Blank::new(PARTS))
+    play(&rt, rt.alloc(), Scene::Crowd)
 }

@@ -6,3 +6,5 @@
 mod crowd;
 #[cfg(test)]
 mod outlets;
+#[cfg(test)]
+mod scene;

@@ -1,19 +1,12 @@
 //! Where replies come out, beside the threads that lead to them.
 
-ghost use Rattle.std.specs.Prelude.{◌≡◌};
-ghost use Rattle.linda_receipt.specs.declared.limits.TheConstants.{PARTS};
-
-use linda_disk::MemDisk;
-use linda_receipt::PARTS;
-use linda_shared::{Outlet, Seat, Shared};
-use linda_stand::{Host, ROOMY, ask, put, seated, shared_on};
+use super::scene::{Scene, play};
+use linda_stand::{Host, ask, put, seated};
 use linda_tuple::Pattern;
 use linda_wire::{Message, Reply};
 use std::alloc::{AllocError, Global};
-use std::marker::Brand;
 use std::process::Abort;
 use std::sync::Wait;
-use std::sync::ledger::{Blank, Ledger};
 use std::test::Fail;
 use std::thread;
 use std::thread::Threads;
@@ -69,8 +62,8 @@ fn puts<S: Drop, O: Drop, H: Host<S, O>, R: Wait + Clock + Abort>(
     Ok(())
 }
 
-// One thread of a session reads its replies, and another submits and hangs up.
-fn reads_beside<
+/// One thread of a session reads its replies, and another submits and hangs up.
+pub(super) fn reads_beside<
     S: Drop + Send,
     O: Drop + Send,
     H: Host<S, O> + Sync,
@@ -88,21 +81,9 @@ fn reads_beside<
     Ok(())
 }
 
-// The same over a new server, with this ledger.
-fn play_beside<L: Ledger + Send + Sync, R: Threads + Wait + Clock + Abort + Sync>(
-    rt: &R,
-    alloc: Global,
-    blank: Blank,
-) -> Result<(), Fail>
-    requires { (blank.name ≡ L.name) × (blank.parts ≡ L.parts) × (L.parts ≡ PARTS) }
-{
-    let shared: Shared<MemDisk, L> = shared_on(alloc, blank, ROOMY)?;
-    reads_beside::<Seat<L>, Outlet<L>, Shared<MemDisk, L>, R>(rt, alloc, shared)
-}
-
 #[test]
 fn a_thread_reads_the_replies_to_what_another_submits(rt: HostRuntime) -> Result<(), Fail> {
-    play_beside::<Brand, HostRuntime>(&rt, rt.alloc(), Blank::new(PARTS))
+    play(&rt, rt.alloc(), Scene::Beside)
 }
 
 /// What a thread does.
@@ -178,8 +159,8 @@ fn is_told_it_left(replies: &[Reply]) -> bool {
     }
 }
 
-// Four sessions wait, and a fifth leaves with what they wait for, or its client does for good.
-fn leaves_what_others_wait_for<
+/// Four sessions wait, and a fifth leaves with what they wait for, or its client does for good.
+pub(super) fn leaves_what_others_wait_for<
     S: Drop + Send,
     O: Drop + Send,
     H: Host<S, O> + Sync,
@@ -190,21 +171,6 @@ fn leaves_what_others_wait_for<
     let all = [Some(0), Some(1), Some(2), Some(3), Some(4)];
     assert_eq!(rt; got.as_slice(), &all[..]);
     Ok(())
-}
-
-// The same over a new server, with this ledger.
-fn play_leaving<L: Ledger + Send + Sync, R: Threads + Wait + Clock + Abort + Sync>(
-    rt: &R,
-    alloc: Global,
-    blank: Blank,
-    for_good: bool,
-) -> Result<(), Fail>
-    requires { (blank.name ≡ L.name) × (blank.parts ≡ L.parts) × (L.parts ≡ PARTS) }
-{
-    let shared: Shared<MemDisk, L> = shared_on(alloc, blank, ROOMY)?;
-    leaves_what_others_wait_for::<Seat<L>, Outlet<L>, Shared<MemDisk, L>, R>(
-        rt, alloc, shared, for_good,
-    )
 }
 
 // Client 7 has four tuples that it was offered, and 8 to 11 asked for one each.
@@ -260,10 +226,10 @@ fn asks<S: Drop, O: Drop, H: Host<S, O>, R: Wait + Abort>(
 
 #[test]
 fn whoever_waits_is_offered_what_is_left(rt: HostRuntime) -> Result<(), Fail> {
-    play_leaving::<Brand, HostRuntime>(&rt, rt.alloc(), Blank::new(PARTS), false)
+    play(&rt, rt.alloc(), Scene::Leaving { for_good: false })
 }
 
 #[test]
 fn whoever_waits_is_offered_what_a_client_held_that_left(rt: HostRuntime) -> Result<(), Fail> {
-    play_leaving::<Brand, HostRuntime>(&rt, rt.alloc(), Blank::new(PARTS), true)
+    play(&rt, rt.alloc(), Scene::Leaving { for_good: true })
 }

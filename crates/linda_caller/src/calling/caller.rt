@@ -6,7 +6,7 @@ ghost use Rattle.linda_client.specs.declared.limits.TheConstants.{MAX_SERVERS};
 use super::fault::CallFault;
 use linda_client::{Client, ClientFault, Reaction};
 use linda_line::{Request, read_request, write_outcome, write_refusal};
-use linda_net::{Arrival, Inbox, Link};
+use linda_link::{Arrival, Inbox, Link};
 use std::alloc::Global;
 use std::io::Write;
 use std::sync::Wait;

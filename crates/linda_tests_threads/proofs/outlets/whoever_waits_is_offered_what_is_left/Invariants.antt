@@ -1,5 +1,0 @@
-use Rattle.linda_tests_threads.proofs.outlets.whoever_waits_is_offered_what_is_left.Given as goal
-
--- The ledger is the one that the blank opens.
-abbrev pub ghosts-play_leaving : goal.ghosts-play_leaving
-ghosts-play_leaving g a = record { name = a.blank.name; parts = a.blank.parts }
