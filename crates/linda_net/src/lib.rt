@@ -2,7 +2,8 @@
 //!
 //! - `serve` gives each connection of a listener its threads, over a server that they share; `serve_watched` tells a
 //!   `Watcher` besides what happens.
-//! - The reading loop is that of linda_pump, and a client's connections are those of linda_link: both are named here too.
+//! - The reading loop is that of linda_pump, and a client's connections are those of linda_link: both are named here
+//!   too.
 #![tactic(auto)]
 
 mod connection;
