@@ -13,8 +13,8 @@ mod serve;
 mod take;
 mod tell;
 
-ghost use Rattle.std.specs.Prelude.{◌≡◌, ℕ, ◌+◌, ◌≤◌, ◌++◌, [], false, length, map, reverse, replicate};
-ghost use Rattle.std.specs.Prelude.{vec_len, vec_capacity, None, IfErr, OnOk, OnErr};
+ghost use Rattle.std.specs.Prelude.{◌≡◌, ℕ, ◌+◌, ◌≤◌, ◌++◌, [], true, false, length, map, reverse, replicate};
+ghost use Rattle.std.specs.Prelude.{vec_len, vec_capacity, None, IfErr, OnOk, OnErr, IsErrOf};
 ghost use Rattle.linda_step.specs.declared.size.TheConstants.{MAX_BATCH};
 ghost use Rattle.linda_desk.specs.Order.{known, IsInOrder};
 ghost use Rattle.linda_desk.specs.Covered.{BoxesCovered};
@@ -98,17 +98,18 @@ impl<D: Disk, L: Ledger> Held<D, L> {
         ensures answered { (vec_len answered.new ≡ vec_len answered.old + vec_len asked.old)
             × (vec_capacity answered.new ≡ vec_capacity answered.old) }
         // At Ok each was answered as the server's step says, and each deed has its receipt;
-        ensures done { OnOk result (IsHandled self.old.server.store.state self.old.server.store.soft messages.now
+        ensures done { OnOk result (IsHandled self.old.server self.old.count messages.now
             self.old.receipts.items (waits_for self.old.boxes) (map (λ a. a.told) answered.old.items)
             self.new.receipts.items (waits_for self.new.boxes) (map (λ a. a.told) answered.new.items)
-            self.new.server.store.state self.new.server.store.soft) }
+            self.new.server) }
         ensures addresses { map (λ a. a.address) answered.new.items
             ≡ map (λ a. a.address) answered.old.items ++ reverse (map (λ a. a.address) asked.old.items) }
         // else nobody was told anything; what is posted was sent by some first messages that went one by one.
         ensures err { OnErr result ((self.new.receipts.items ≡ self.old.receipts.items)
             × (self.new.count ≡ self.old.count)) }
-        ensures some { OnErr result (WentSome self.old.server.store.state self.old.server.store.soft messages.now
+        ensures some { OnErr result (WentSome self.old.server self.old.count messages.now
             (waits_for self.old.boxes) (waits_for self.new.boxes)) }
+        ensures down { IsErrOf result SharedFault.Down → self.new.server.down ≡ true }
         ensures failed { IfErr result (λ fault. map (λ a. a.told) answered.new.items
             ≡ map (λ a. a.told) answered.old.items ++ replicate (vec_len asked.old) (Told.Failed fault)) }
         ensures base { (self.new.base.value ≡ self.old.base.value) × (self.new.opening.value ≡ self.old.opening.value) }

@@ -2,8 +2,10 @@
 
 use crate::disk::Disk;
 use crate::fault::DiskFault;
+use crate::file_trouble::{FileCall, FileTrouble};
 use crate::turn::one_more;
 use std::fs::File;
+use std::io;
 use std::os::unix::fs::FileExt;
 
 /// A file of the operating system as a disk. That a file is honest is a premise by name, which has no
@@ -13,6 +15,8 @@ use std::os::unix::fs::FileExt;
 pub struct FileDisk {
     file: File,
     failures: u64,
+    // The first failure of a call of the system.
+    trouble: Option<FileTrouble>,
 }
 
 impl FileDisk {
@@ -23,7 +27,11 @@ impl FileDisk {
     pub fn new(file: File) -> FileDisk
         ensures { disk.failures result ≡ 0 }
     {
-        FileDisk { file, failures: 0 }
+        FileDisk {
+            file,
+            failures: 0,
+            trouble: None,
+        }
     }
 
     /// How often the device has failed.
@@ -33,8 +41,13 @@ impl FileDisk {
         self.failures
     }
 
-    /// Counts a failure of the device, and reports it.
-    fn failed(&mut self) -> DiskFault
+    /// The first call of the system that failed, with its error; `None` while none has.
+    pub fn trouble(&self) -> Option<FileTrouble> {
+        self.trouble
+    }
+
+    /// Counts a failure of the device, keeps it if it is the first, and reports it.
+    fn failed(&mut self, call: FileCall, error: io::Error) -> DiskFault
         ensures device { result ≡ DiskFault.Device
             → disk.failures self.new ≡ disk.failures self.old + 1 }
         ensures memory { result ≡ DiskFault.Memory
@@ -43,6 +56,9 @@ impl FileDisk {
         match one_more(self.failures) {
             Ok(failures) => {
                 self.failures = failures;
+                if self.trouble.is_none() {
+                    self.trouble = Some(FileTrouble { call, error });
+                }
                 DiskFault::Device
             }
             Err(fault) => fault,
@@ -62,35 +78,35 @@ impl Disk for FileDisk {
     fn len(&mut self) -> Result<usize, DiskFault> {
         match self.file.metadata() {
             Ok(metadata) => Ok(metadata.len() as usize),
-            Err(_) => Err(self.failed()),
+            Err(error) => Err(self.failed(FileCall::Length, error)),
         }
     }
 
     fn read_at(&mut self, at: usize, buffer: &mut [u8]) -> Result<(), DiskFault> {
         match self.file.read_exact_at(buffer, at as u64) {
             Ok(()) => Ok(()),
-            Err(_) => Err(self.failed()),
+            Err(error) => Err(self.failed(FileCall::Read, error)),
         }
     }
 
     fn write_at(&mut self, at: usize, bytes: &[u8]) -> Result<(), DiskFault> {
         match self.file.write_all_at(bytes, at as u64) {
             Ok(()) => Ok(()),
-            Err(_) => Err(self.failed()),
+            Err(error) => Err(self.failed(FileCall::Write, error)),
         }
     }
 
     fn cut(&mut self, len: usize) -> Result<(), DiskFault> {
         match self.file.set_len(len as u64) {
             Ok(()) => Ok(()),
-            Err(_) => Err(self.failed()),
+            Err(error) => Err(self.failed(FileCall::Cut, error)),
         }
     }
 
     fn sync(&mut self) -> Result<(), DiskFault> {
         match self.file.sync_data() {
             Ok(()) => Ok(()),
-            Err(_) => Err(self.failed()),
+            Err(error) => Err(self.failed(FileCall::Sync, error)),
         }
     }
 

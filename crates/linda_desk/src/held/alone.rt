@@ -2,7 +2,7 @@
 //! deeds has no room for.
 
 ghost use Rattle.std.specs.Prelude.{◌≡◌, ◌+◌, ◌<◌, ◌^◌, ◌++◌, ◌∷◌, [], false, true, ℕ, length, vec_len};
-ghost use Rattle.std.specs.Prelude.{IfOk, OnOk, OnErr};
+ghost use Rattle.std.specs.Prelude.{IfOk, OnOk, OnErr, IsErrOf};
 ghost use Rattle.linda_wire.specs.Refusal.{refused};
 ghost use Rattle.linda_state.specs.State as states;
 ghost use Rattle.linda_step.specs.Answer.{last_number};
@@ -39,13 +39,14 @@ pub(super) fn serve_each<D: Disk>(
     count: u64,
     messages: &[(u32, Message)],
 ) -> Result<Vec<Option<Receipt>>, SharedFault>
-    ensures done { IfOk result (λ told. WentAlone server.old.store.state server.old.store.soft (waits_for boxes.old)
-        messages.now told.items (waits_for boxes.new) server.new.store.state server.new.store.soft) }
+    ensures done { IfOk result (λ told. WentAlone server.old count (waits_for boxes.old)
+        messages.now told.items (waits_for boxes.new) server.new) }
     ensures receipts { IfOk result (λ told. receipts.new.items ≡ receipts.old.items ++ receipts_in told.items) }
     ensures one_each { IfOk result (λ told. vec_len told ≡ length messages.now) }
     ensures countable { IfOk result (λ told. count + length (receipts_in told.items) < 2 ^ 64) }
     ensures err { OnErr result (receipts.new.items ≡ receipts.old.items) }
-    ensures some { OnErr result (WentSome server.old.store.state server.old.store.soft messages.now
+    ensures down { IsErrOf result SharedFault.Down → server.new.down ≡ true }
+    ensures some { OnErr result (WentSome server.old count messages.now
         (waits_for boxes.old) (waits_for boxes.new)) }
     ensures ok_order { (opening base : states.State) (count : ℕ)
         → IsInOrder opening base receipts.old.items count server.old.down
@@ -93,8 +94,8 @@ fn take_one<D: Disk>(
     count: u64,
     message: &(u32, Message),
 ) -> Result<Option<Receipt>, SharedFault>
-    ensures done { IfOk result (λ one. GoesAlone server.old.store.state server.old.store.soft message.now
-        (waits_for boxes.old) one (waits_for boxes.new) server.new.store.state server.new.store.soft) }
+    ensures done { IfOk result (λ one. GoesAlone server.old count message.now
+        (waits_for boxes.old) one (waits_for boxes.new) server.new) }
     ensures receipts { IfOk result (λ one. receipts.new.items ≡ receipts.old.items ++ receipts_in (one ∷ [])) }
     ensures countable { IfOk result (λ one. count + length (receipts_in (one ∷ [])) < 2 ^ 64) }
     ensures err { OnErr result ((receipts.new.items ≡ receipts.old.items) × (server.new.down ≡ true)

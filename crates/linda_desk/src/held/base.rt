@@ -1,11 +1,13 @@
 //! What is always so, and the base, which a snapshot moves.
 
-ghost use Rattle.std.specs.Prelude.{◌≡◌, ◌+◌, ◌||◌, nat_le, [], false, true, OnOk, OnErr};
+ghost use Rattle.std.specs.Prelude.{◌≡◌, ◌+◌, ◌||◌, nat_le, [], false, true, OnOk, OnErr, IsErrOf};
 ghost use Rattle.linda_step.specs.Store.{IsOrderly};
 ghost use Rattle.linda_server.specs.declared.limits.TheConstants.{SNAPSHOT_RECORDS};
 ghost use Rattle.linda_server.specs.Disks.{is_old};
+ghost use Rattle.linda_server.specs.Handled.{HasNoNextBank};
 ghost use Rattle.linda_server.specs.Pairs.{PairsNow};
 ghost use Rattle.linda_server.specs.Server.{both_of, form_in_use, end_in_use, records_in_use, BothHonest, StandNow};
+ghost use Rattle.linda_server.specs.Switch.{IsSwitched};
 ghost use Rattle.linda_desk.specs.Order.{known, IsReplayed, CountsDeeds, StandsBehind};
 ghost use Rattle.linda_outbox.specs.Waiting.{waits_for};
 ghost use Rattle.linda_desk.specs.Pace.{is_due};
@@ -86,6 +88,12 @@ impl<D: Disk, L: Ledger> Held<D, L> {
         ensures kept { OnErr result ((self.new.base.value ≡ self.old.base.value)
             × (self.new.receipts.items ≡ self.old.receipts.items)) }
         ensures store { self.new.server.store ≡ self.old.server.store }
+        // At Ok the other disk holds the bank in use, of the next generation and without a record.
+        ensures switched { OnOk result (IsSwitched self.old.server.disks self.new.server.disks) }
+        // It is Full only where there is no next bank for the state, and Down only where the server is.
+        ensures full { IsErrOf result SharedFault.Full
+            → (self.new.server ≡ self.old.server) × HasNoNextBank self.old.server }
+        ensures down { IsErrOf result SharedFault.Down → self.new.server.down ≡ true }
         ensures same { (self.new.opening.value ≡ self.old.opening.value) × (self.new.count ≡ self.old.count)
             × (self.new.till ≡ self.old.till) }
     {
@@ -102,6 +110,9 @@ impl<D: Disk, L: Ledger> Held<D, L> {
 fn take_snapshot<D: Disk>(server: &mut Durable<D>, alloc: Global) -> Result<(), SharedFault>
     ensures up { OnOk result ((server.old.down ≡ false) × (server.new.down ≡ false)) }
     ensures store { server.new.store ≡ server.old.store }
+    ensures switched { OnOk result (IsSwitched server.old.disks server.new.disks) }
+    ensures full { IsErrOf result SharedFault.Full → (server.new ≡ server.old) × HasNoNextBank server.old }
+    ensures down { IsErrOf result SharedFault.Down → server.new.down ≡ true }
     ensures known { OnErr result
         ((known server.new.before.value server.new.store server.new.down
         ≡ known server.old.before.value server.old.store server.old.down)
@@ -113,7 +124,10 @@ fn take_snapshot<D: Disk>(server: &mut Durable<D>, alloc: Global) -> Result<(), 
     }
 }
 
-pub(super) fn fault_of(fault: NodeFault) -> SharedFault {
+pub(super) fn fault_of(fault: NodeFault) -> SharedFault
+    ensures full { result ≡ SharedFault.Full → fault ≡ NodeFault.Full }
+    ensures down { result ≡ SharedFault.Down → fault ≡ NodeFault.Down }
+{
     match fault {
         NodeFault::Full => SharedFault::Full,
         NodeFault::Down => SharedFault::Down,

@@ -1,6 +1,6 @@
 //! The end: all seats are back, and what they were told is what was stored.
 
-ghost use Rattle.std.specs.Prelude.{◌≡◌, ◌+◌, ◌<◌, ◌⊎◌, ℕ, All, OnOk, IfOk, IfErr, IsErrOf};
+ghost use Rattle.std.specs.Prelude.{◌≡◌, ◌+◌, ◌<◌, ◌⊎◌, ℕ, true, All, OnOk, IfOk, IfErr, IsErrOf};
 ghost use Rattle.std.specs.FinMap as map;
 ghost use Rattle.linda_receipt.specs.Till.{deeds_back, seats_out, receipts_at};
 ghost use Rattle.linda_receipt.specs.Compare.{IsToldSo, LastIsKept, Names};
@@ -35,6 +35,7 @@ impl<D: Disk, L: Ledger> Held<D, L> {
         ensures told { OnOk result (All (IsToldSo self.new.till.places) self.old.receipts.items) }
         ensures kept { OnOk result ((c : ℕ)
             → LastIsKept self.old.server.store.state (receipts_at (map.get self.new.till.places c))) }
+        ensures down { IsErrOf result SharedFault.Down → self.new.server.down ≡ true }
         ensures missing { IsErrOf result SharedFault.SeatMissing → 0 < seats_out self.new.till.places }
         ensures fault { IfErr result (λ fault. (fault ≡ SharedFault.Down) ⊎ ((fault ≡ SharedFault.SeatMissing)
             ⊎ Names self.new.till.places self.old.server.store.state self.old.receipts.items fault)) }

@@ -9,7 +9,8 @@ ghost use Rattle.linda_step.specs.Answer.{greeting};
 ghost use Rattle.linda_outbox.specs.Waiting.{waits_for};
 ghost use Rattle.linda_outbox.specs.Replies.{opened};
 ghost use Rattle.linda_receipt.specs.declared.limits.TheConstants.{ACCOUNT_PARTS, PARTS};
-ghost use Rattle.linda_receipt.specs.Till.{is_away, account_at, seats_out};
+ghost use Rattle.linda_receipt.specs.declared.place.Place.TheVariants as places;
+ghost use Rattle.linda_receipt.specs.Till.{is_away, account_at, seats_out, till_of};
 ghost use Rattle.linda_desk.specs.Order.{known};
 ghost use Rattle.linda_desk.specs.Greeting as spec;
 ghost use Rattle.linda_desk.specs.Greeting.{IsGreeted, IsAdmitted, IsGreetingReply, OnNoSeat};
@@ -48,6 +49,12 @@ impl<D: Disk, L: Ledger> Held<D, L> {
         ensures greeted { IfOk result (IsGreeted self.old.server.store.state self.old.till.places message.now) }
         ensures server { OnOk result ((self.new.server.store.state ≡ self.old.server.store.state)
             × (self.new.server.store.soft ≡ self.old.server.store.soft)) }
+        // Whoever is welcome has its seat, which is out, and an outbox;
+        ensures out { IfOk result (λ answer. IfOk answer (λ got. self.new.till
+            ≡ till_of self.old.till.total (map.insert self.old.till.places got.0.client places.Out))) }
+        ensures opened { IfOk result (λ answer. IfOk answer (λ got. waits_for self.new.boxes got.0.client
+            ≡ opened (waits_for self.old.boxes got.0.client))) }
+        ensures down { IsErrOf result SharedFault.Down → self.new.server.down ≡ true }
         // Where it gives no seat none is out but those of before, and what waits is as it was;
         ensures none { OnNoSeat result ((self.new.till ≡ self.old.till)
             × ((c : ℕ) → waits_for self.new.boxes c ≡ waits_for self.old.boxes c)) }
@@ -104,6 +111,11 @@ fn admit<D: Disk, L: Ledger>(
 ) -> Result<Result<(Account<L>, u64), (u8, u64)>, SharedFault>
     requires { is_away (map.get till.old.places client) ≡ false }
     ensures admitted { IfOk result (IsAdmitted server.old.store.state till.old.places client fresh) }
+    ensures out { IfOk result (λ answer. IfOk answer (λ got. till.new
+        ≡ till_of till.old.total (map.insert till.old.places got.0.client places.Out))) }
+    ensures opened { IfOk result (λ answer. IfOk answer (λ got. waits_for boxes.new got.0.client
+        ≡ opened (waits_for boxes.old got.0.client))) }
+    ensures down { IsErrOf result SharedFault.Down → server.new.down ≡ true }
     ensures total { till.new.total ≡ till.old.total }
     ensures server { OnOk result ((server.new.store.state ≡ server.old.store.state)
         × (server.new.store.soft ≡ server.old.store.soft)) }
@@ -136,6 +148,11 @@ fn seat<L: Ledger>(
     requires { is_away (map.get till.old.places client) ≡ false }
     ensures account { IfOk result (λ found. IfSome found (λ a.
         a ≡ account_at client (map.get till.old.places client))) }
+    ensures out { IfOk result (λ found. IfSome found (λ a. till.new
+        ≡ till_of till.old.total (map.insert till.old.places a.client places.Out))) }
+    ensures opened { IfOk result (λ found. IfSome found (λ a. waits_for boxes.new a.client
+        ≡ opened (waits_for boxes.old a.client))) }
+    ensures only_memory { IsErrOf result SharedFault.Down → ⊥ }
     ensures none { IfOk result (λ found. IfNone found (PARTS < ACCOUNT_PARTS * (seats_out till.old.places + 1))) }
     ensures no_seat { IfOk result (λ found. IfNone found ((till.new ≡ till.old)
         × ((c : ℕ) → waits_for boxes.new c ≡ waits_for boxes.old c))) }
@@ -202,6 +219,7 @@ fn hello<D: Disk>(
     ensures server { OnOk result ((server.new.down ≡ false)
         × (server.new.store.state ≡ server.old.store.state) × (server.new.store.soft ≡ server.old.store.soft)) }
     ensures never_memory { IsErrOf result SharedFault.Memory → ⊥ }
+    ensures down { IsErrOf result SharedFault.Down → server.new.down ≡ true }
     ensures known { (known server.new.before.value server.new.store server.new.down
         ≡ known server.old.before.value server.old.store server.old.down)
         × (server.new.down ≡ false → server.old.down ≡ false) }
@@ -230,6 +248,7 @@ fn ask<D: Disk>(
     ensures server { OnOk result ((server.new.down ≡ false)
         × (server.new.store.state ≡ server.old.store.state) × (server.new.store.soft ≡ server.old.store.soft)) }
     ensures never_memory { IsErrOf result SharedFault.Memory → ⊥ }
+    ensures down { IsErrOf result SharedFault.Down → server.new.down ≡ true }
     ensures known { (known server.new.before.value server.new.store server.new.down
         ≡ known server.old.before.value server.old.store server.old.down)
         × (server.new.down ≡ false → server.old.down ≡ false) }

@@ -29,6 +29,7 @@ impl<D: Disk, L: Ledger> Held<D, L> {
         ensures done { OnOk result (HasClosed self.old.server.store.state.bag client self.old.server.store.soft
             (waits_for self.old.boxes) (waits_for self.new.boxes) self.new.server.store.soft) }
         ensures state { OnOk result (self.new.server.store.state ≡ self.old.server.store.state) }
+        ensures down { OnErr result (self.new.server.down ≡ true) }
         ensures err { OnErr result ((c : ℕ) → waits_for self.new.boxes c ≡ waits_for self.old.boxes c) }
         ensures same { (self.new.opening.value ≡ self.old.opening.value) × (self.new.base.value ≡ self.old.base.value)
             × (self.new.receipts.items ≡ self.old.receipts.items) × (self.new.count ≡ self.old.count)
@@ -70,6 +71,7 @@ impl<D: Disk, L: Ledger> Held<D, L> {
         ensures soft { OnOk result (self.new.server.store.soft
             ≡ (on_close self.old.server.store.state.bag account.client self.old.server.store.soft).soft) }
         ensures state { OnOk result (self.new.server.store.state ≡ self.old.server.store.state) }
+        ensures down { OnErr result (self.new.server.down ≡ true) }
         ensures parked { ComesBack self.old.till.places account → self.new.till
             ≡ till_of self.old.till.total (with_place self.old.till.places account.client (place_for account false)) }
         ensures shut { waits_for self.new.boxes account.client ≡ None }
@@ -97,6 +99,7 @@ fn depart<D: Disk, L: Ledger>(
     ensures soft { OnOk result (server.new.store.soft
         ≡ (on_close server.old.store.state.bag account.client server.old.store.soft).soft) }
     ensures state { OnOk result (server.new.store.state ≡ server.old.store.state) }
+    ensures down { OnErr result (server.new.down ≡ true) }
     ensures parked { ComesBack till.old.places account → till.new
         ≡ till_of till.old.total (with_place till.old.places account.client (place_for account false)) }
     ensures shut { waits_for boxes.new account.client ≡ None }
@@ -133,6 +136,7 @@ fn close_and_post<D: Disk>(
     ensures done { OnOk result (HasClosed server.old.store.state.bag client server.old.store.soft
         (waits_for boxes.old) (waits_for boxes.new) server.new.store.soft) }
     ensures state { OnOk result (server.new.store.state ≡ server.old.store.state) }
+    ensures down { OnErr result (server.new.down ≡ true) }
     ensures err { OnErr result ((c : ℕ) → waits_for boxes.new c ≡ waits_for boxes.old c) }
     ensures known { (known server.new.before.value server.new.store server.new.down
         ≡ known server.old.before.value server.old.store server.old.down)
@@ -159,6 +163,7 @@ fn close_client<D: Disk>(
         ≡ on_close server.old.store.state.bag client server.old.store.soft) }
     ensures state { server.new.store.state ≡ server.old.store.state }
     ensures up { OnOk result ((server.old.down ≡ false) × (server.new.down ≡ false)) }
+    ensures down { OnErr result (server.new.down ≡ true) }
     ensures known { (known server.new.before.value server.new.store server.new.down
         ≡ known server.old.before.value server.old.store server.old.down)
         × (server.new.down ≡ false → server.old.down ≡ false) }

@@ -44,6 +44,7 @@ pub(super) fn serve<D: Disk>(
     ensures full { IsErrOf result SharedFault.Full → (server.new ≡ server.old) × (boxes.new ≡ boxes.old)
         × HasNoRoomFor server.old messages.now }
     ensures room { OnOk result (HasNoRoomFor server.old messages.now → ⊥) }
+    ensures down { IsErrOf result SharedFault.Down → server.new.down ≡ true }
     ensures ok_order { (opening base : states.State) (count : ℕ)
         → IsInOrder opening base receipts.old.items count server.old.down
         (known server.old.before.value server.old.store server.old.down)
@@ -94,6 +95,7 @@ fn make_room(receipts: &mut Vec<Receipt>, more: usize) -> Result<(), SharedFault
     ensures room { OnOk result (vec_len receipts.new + more ≤ vec_capacity receipts.new) }
     ensures items { receipts.new.items ≡ receipts.old.items }
     ensures never_full { IsErrOf result SharedFault.Full → ⊥ }
+    ensures never_down { IsErrOf result SharedFault.Down → ⊥ }
 {
     match receipts.reserve(more) {
         Ok(()) => Ok(()),

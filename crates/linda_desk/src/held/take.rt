@@ -1,6 +1,6 @@
 //! Messages of several clients: in one step where that may be, else one by one.
 
-ghost use Rattle.std.specs.Prelude.{◌≡◌, false, ◌+◌, ◌≤◌, ◌<◌, ◌^◌, ◌++◌, ℕ, length, vec_len, IfOk, OnErr};
+ghost use Rattle.std.specs.Prelude.{◌≡◌, true, false, ◌+◌, ◌≤◌, ◌<◌, ◌^◌, ◌++◌, ℕ, length, vec_len, IfOk, OnErr, IsErrOf};
 ghost use Rattle.linda_state.specs.State as states;
 ghost use Rattle.linda_step.specs.declared.size.TheConstants.{MAX_BATCH};
 ghost use Rattle.linda_outbox.specs.Waiting.{waits_for};
@@ -33,13 +33,14 @@ pub(super) fn take<D: Disk>(
     messages: &[(u32, Message)],
 ) -> Result<Vec<Option<Receipt>>, SharedFault>
     requires few { length messages.now ≤ MAX_BATCH }
-    ensures done { IfOk result (λ told. WereTaken server.old.store.state server.old.store.soft messages.now
-        told.items (waits_for boxes.old) (waits_for boxes.new) server.new.store.state server.new.store.soft) }
+    ensures done { IfOk result (λ told. WereTaken server.old count messages.now
+        told.items (waits_for boxes.old) (waits_for boxes.new) server.new) }
     ensures receipts { IfOk result (λ told. receipts.new.items ≡ receipts.old.items ++ receipts_in told.items) }
     ensures one_each { IfOk result (λ told. vec_len told ≡ length messages.now) }
     ensures countable { IfOk result (λ told. count + length (receipts_in told.items) < 2 ^ 64) }
     ensures err { OnErr result (receipts.new.items ≡ receipts.old.items) }
-    ensures some { OnErr result (WentSome server.old.store.state server.old.store.soft messages.now
+    ensures down { IsErrOf result SharedFault.Down → server.new.down ≡ true }
+    ensures some { OnErr result (WentSome server.old count messages.now
         (waits_for boxes.old) (waits_for boxes.new)) }
     ensures ok_order { (opening base : states.State) (count : ℕ)
         → IsInOrder opening base receipts.old.items count server.old.down
@@ -70,7 +71,8 @@ pub(super) fn take<D: Disk>(
 
 // Whether so many more could pass the last value of the count.
 fn could_pass(count: u64, more: usize) -> bool
-    ensures { result ≡ false → count + more < 2 ^ 64 }
+    ensures few { result ≡ false → count + more < 2 ^ 64 }
+    ensures many { result ≡ true → 2 ^ 64 ≤ count + more }
 {
     more as u64 > u64::MAX - count
 }

@@ -7,7 +7,7 @@ use Rattle.linda_outbox.specs.Waiting.{waits_for}
 use Rattle.linda_receipt.specs.declared.receipt.Receipt.{Receipt}
 use Rattle.linda_receipt.specs.Telling.{receipts_in}
 use Rattle.linda_desk.specs.Order.{known, IsInOrder}
-use Rattle.linda_desk.specs.Posted.{WentAlone, none, more}
+use Rattle.linda_desk.specs.Posted.{GoesAlone, WentAlone, none, more}
 use Rattle.linda_desk.proofs.AloneLaws.{receipts_more, took_back}
 use Rattle.linda_desk.proofs.held.alone.serve_each.Goals as goal
 
@@ -15,8 +15,7 @@ pub returns-in_default-clause-some : goal.returns-in_default-clause-some
 returns-in_default-clause-some g c = record {
   many = 0;
   told = [];
-  mid = c.args.server.now.store.state;
-  between = c.args.server.now.store.soft;
+  mid = c.args.server.now;
   went = none (λ q. waits_for c.args.boxes.now q) (λ q. refl);
 }
 
@@ -26,7 +25,7 @@ loop-message-init g c =
     let rs : List Receipt = c.args.receipts.now.items in
     let e : c.in-Ok.told.items ≡ [] = c.in-Ok.ensures.items in
     let zero : length (receipts_in c.in-Ok.told.items) ≡ 0 = ap (λ l. length (receipts_in l)) e in (
-      subst (λ (l : List (Option Receipt)). WentAlone s.store.state s.store.soft (λ q. waits_for c.args.boxes.now q) [] l (λ q. waits_for c.args.boxes.now q) s.store.state s.store.soft) (sym e) (none (λ q. waits_for c.args.boxes.now q) (λ q. refl)),
+      subst (λ (l : List (Option Receipt)). WentAlone s c.args.count (λ q. waits_for c.args.boxes.now q) [] l (λ q. waits_for c.args.boxes.now q) s) (sym e) (none (λ q. waits_for c.args.boxes.now q) (λ q. refl)),
       subst (λ (l : List (Option Receipt)). rs ≡ rs ++ receipts_in l) (sym e) (sym (append-nil rs)),
       c.in-Ok.ensures.len,
       c.in-Ok.ensures.capacity,
@@ -59,9 +58,9 @@ loop-message-preserved g c =
     let many = l.invariant.2 in
     let room = l.invariant.3 in
     let made = l.invariant.4 in (
-      subst (λ (k : List (ℕ × Message)). WentAlone s.store.state s.store.soft (λ q. waits_for c.args.boxes.now q) k told (λ q. waits_for c.take_one.new.boxes q) new.store.state new.store.soft) (sym next)
-          (subst (λ (t : List (Option Receipt)). WentAlone s.store.state s.store.soft (λ q. waits_for c.args.boxes.now q) (take i ms ++ m ∷ []) t (λ q. waits_for c.take_one.new.boxes q) new.store.state new.store.soft) (sym all)
-          (more (take i ms) before l.server.store.state l.server.store.soft (λ q. waits_for l.boxes q) m o (λ q. waits_for c.take_one.new.boxes q) new.store.state new.store.soft l.invariant.0 step.done)),
+      subst (λ (k : List (ℕ × Message)). WentAlone s c.args.count (λ q. waits_for c.args.boxes.now q) k told (λ q. waits_for c.take_one.new.boxes q) new) (sym next)
+          (subst (λ (t : List (Option Receipt)). WentAlone s c.args.count (λ q. waits_for c.args.boxes.now q) (take i ms ++ m ∷ []) t (λ q. waits_for c.take_one.new.boxes q) new) (sym all)
+          (more (take i ms) before l.server (λ q. waits_for l.boxes q) m o (λ q. waits_for c.take_one.new.boxes q) new l.invariant.0 (subst (λ n. GoesAlone l.server n m (λ q. waits_for l.boxes q) o (λ q. waits_for c.take_one.new.boxes q) new) made step.done))),
       step.receipts ∙ (ap (λ x. x ++ receipts_in (o ∷ [])) l.invariant.1 ∙ (append_assoc rs (receipts_in before) (receipts_in (o ∷ [])) ∙ ap (λ x. rs ++ x) (sym receipts))),
       omega (arith, len, many),
       omega (arith, capacity, room),
@@ -78,9 +77,8 @@ returns-in-Err-clause-some g c =
     record {
       many = l.message-index;
       told = l.told.items;
-      mid = l.server.store.state;
-      between = l.server.store.soft;
-      went = subst (λ (w : ℕ → Option (List Reply)). WentAlone s.store.state s.store.soft (λ q. waits_for c.args.boxes.now q) (take l.message-index c.args.messages.now) l.told.items w l.server.store.state l.server.store.soft)
+      mid = l.server;
+      went = subst (λ (w : ℕ → Option (List Reply)). WentAlone s c.args.count (λ q. waits_for c.args.boxes.now q) (take l.message-index c.args.messages.now) l.told.items w l.server)
           (λ i q. sym (c.in-Err.ensures.err.2 q) i) l.invariant.0;
     }
 
@@ -106,5 +104,5 @@ returns-clause-done g c =
     let s = c.args.server.now in
     let l = c.loop-message in
     let xs : List (ℕ × Message) = c.args.messages.now in
-    let P : List (ℕ × Message) → Type 0 = λ ms. WentAlone s.store.state s.store.soft (λ q. waits_for c.args.boxes.now q) ms l.told.items (λ q. waits_for l.boxes q) l.server.store.state l.server.store.soft in
+    let P : List (ℕ × Message) → Type 0 = λ ms. WentAlone s c.args.count (λ q. waits_for c.args.boxes.now q) ms l.told.items (λ q. waits_for l.boxes q) l.server in
     subst P (take-length xs) (subst (λ i. P (take i xs)) (omega (arith, c.loop-message-test.false, l.auto.message-index-end)) l.invariant.0)

@@ -9,7 +9,7 @@ use Rattle.linda_desk.proofs.held.alone.serve_each.Given as goal
 
 abbrev pub invariant-loop-message : goal.invariant-loop-message
 invariant-loop-message g l =
-    WentAlone l.fn.server.store.state l.fn.server.store.soft (λ c. waits_for l.fn.boxes c) (take l.message-index l.fn.messages) l.told.items (λ c. waits_for l.boxes c) l.server.store.state l.server.store.soft
+    WentAlone l.fn.server l.fn.count (λ c. waits_for l.fn.boxes c) (take l.message-index l.fn.messages) l.told.items (λ c. waits_for l.boxes c) l.server
     × (l.receipts.items ≡ l.fn.receipts.items ++ receipts_in l.told.items)
     × (vec_len l.told ≡ l.message-index)
     × (length l.fn.messages ≤ vec_capacity l.told)

@@ -1,5 +1,5 @@
 -- One message by itself: it is served, refused, or the server is given up.
-use Rattle.std.proofs.Common.{◌≡◌, ℕ, List, [], ◌∷◌, length, Err, false, true≢false, refl, sym, ap, ◌∙◌, subst, inl, inr, arith}
+use Rattle.std.proofs.Common.{◌≡◌, ℕ, ◌+◌, ◌≤◌, ◌^◌, List, [], ◌∷◌, length, Err, true, false, true≢false, refl, sym, ap, ◌∙◌, subst, inl, inr, arith}
 use Rattle.linda_wire.specs.declared.message.Message.{Message}
 use Rattle.linda_wire.specs.declared.refusal.Refusal.TheVariants as refusals
 use Rattle.linda_wire.specs.Refusal.{refused}
@@ -11,6 +11,7 @@ use Rattle.linda_outbox.specs.Waiting.{waits_for}
 use Rattle.linda_outbox.specs.Replies.{replies_to, with_more}
 use Rattle.linda_desk.specs.Order.{known}
 use Rattle.linda_receipt.specs.Telling.{receipts_in}
+use Rattle.linda_server.specs.Handled.{HasNoRoomFor}
 use Rattle.linda_desk.specs.Posted.{HasPosted}
 use Rattle.linda_desk.proofs.AloneLaws.{receipts_few, none_made}
 use Rattle.linda_desk.proofs.CoveredLaws.{stays_covered}
@@ -21,13 +22,16 @@ use Rattle.linda_desk.proofs.held.alone.take_one.Goals.{else-count-eq18446744073
 
 pub returns-then-comes_next-clause-done : goal.returns-then-comes_next-clause-done
 returns-then-comes_next-clause-done g c =
+    let m : ℕ × Message = c.args.message.now in
+    let is = c.if-count-eq18446744073709551615.true in
+    let last : 2 ^ 64 ≤ c.args.count + 1 = omega (arith, is) in
+    let next : steps.comes_next (number_of_message m.1) (last_number c.args.server.now.store.state m.0) ≡ true = ap (λ (s : State). steps.comes_next (number_of_message m.1) (last_number s m.0)) (sym c.state.ensures.state) ∙ (sym c.comes_next.ensures ∙ c.if-comes_next.true) in
     inr (record {
       refusal = refusals.Spent;
-      why = inr refl;
+      why = inr (refl, last, next);
       none_told = refl;
       posted_is = c.in_ok-turn_away.ensures.posted;
-      state_is = ap (λ s. s.store.state) c.in_ok-turn_away.ensures.same;
-      soft_is = ap (λ s. s.store.soft) c.in_ok-turn_away.ensures.same;
+      same = c.in_ok-turn_away.ensures.same;
     })
 
 pub returns-in-Ok-clause-countable : goal.returns-in-Ok-clause-countable
@@ -56,11 +60,10 @@ returns-in_ok-turn_away-in-Err-Full-clause-done g c =
     let told = c.in_ok-turn_away-in-Err-Full.ensures in
     inr (record {
       refusal = refusals.Full;
-      why = inl refl;
+      why = inl (refl, subst (λ (ms : List (ℕ × Message)). HasNoRoomFor c.args.server.now ms) c.from_ref.ensures.value full.2);
       none_told = refl;
       posted_is = λ q. told.posted q ∙ ap (λ b. with_more (replies_to q ((m.0, refused refusals.Full) ∷ [])) (waits_for b q)) full.1;
-      state_is = ap (λ s. s.store.state) (told.same ∙ full.0);
-      soft_is = ap (λ s. s.store.soft) (told.same ∙ full.0);
+      same = told.same ∙ full.0;
     })
 
 pub returns-in-Err : goal.returns-in-Err

@@ -12,7 +12,7 @@ returns-in-Ok-clause-countable g c =
     let few = receipts_few c.in-Ok.told.items in
     let each = c.in-Ok.ensures.one_each in
     let counted = c.in-Ok.told.ok.0 in
-    let room = c.could_pass.ensures c.if-could_pass.false in
+    let room = c.could_pass.ensures.few c.if-could_pass.false in
     omega (arith, few, each, counted, room)
 
 pub returns-in-Err-Full-clause-covered : goal.returns-in-Err-Full-clause-covered
@@ -33,11 +33,11 @@ returns-in-Err g c = record {
   one_each = tt;
   countable = tt;
   err = c.in-Err.ensures.err.0;
+  down = c.in-Err.ensures.down;
   some = record {
     many = 0;
     told = [];
-    mid = c.args.server.now.store.state;
-    between = c.args.server.now.store.soft;
+    mid = c.args.server.now;
     went = none (λ q. waits_for c.serve.new.boxes q) c.in-Err.ensures.err.1;
   };
   ok_order = λ opening base count so. tt;
