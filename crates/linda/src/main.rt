@@ -6,8 +6,8 @@
 //! `linda run --servers N [--trace FILE]` plays a script from standard input with N servers on disks in memory, 1 to
 //! 16, and writes the trace of the run to a file, which is made, or emptied where it is there.
 //!
-//! `linda call --client C PORT..` plays lines from standard input as client C, over the servers that listen on these
-//! ports of this machine.
+//! `linda call --client C [--again] PORT..` plays lines from standard input as client C, over the servers that listen on
+//! these ports of this machine; with `--again` it goes on as a client that was used before.
 //!
 //! `linda serve --port P --dir D [--sessions K] [--log]` serves the store in a folder to clients that connect to a port
 //! of this machine; with `--log` it writes what it does to standard error.
@@ -16,9 +16,11 @@
 //!
 //! `linda --version` prints the version of the program, and the forms of banks and frames.
 //!
+//! A standard stream that is closed is filled before anything is opened, so that no file and no socket gets its number.
+//!
 //! The exit status is 0 at the end; 2 for a fault of the command line, with the parser's text on standard
 //! error; 3 with one line there, `io` or `memory`, where standard input or output fails or memory runs out, or
-//! `server S: no connection`, `server S: refused CODE DETAIL`, or what is said of a store; 4 with one line there for a
+//! `server S: no connection`, `server S: refused CODE DETAIL`, `server S: restored`, or what is said of a store; 4 with one line there for a
 //! fault of a line of the input.
 #![tactic(auto)]
 
@@ -31,6 +33,7 @@ ghost use Rattle.linda.specs.Statuses.{status_after, status_after_call, status_a
 ghost use Rattle.clap.specs.declared.error.kind.ErrorKind.TheVariants as kinds;
 
 mod status;
+mod streams;
 
 use linda_caller::{CallFault, call};
 use linda_command::{Ports, Task, VERSION_LINES, asks_for_version, read_task};
@@ -48,13 +51,17 @@ use std::sync::Wait;
 use std::thread::Threads;
 use std::time::Clock;
 use std::{env, io};
+use streams::Streams;
 
 // The exit status for a fault of the command line.
 const USAGE: u8 = 2;
 
 fn main(rt: HostRuntime) -> ExitCode {
+    let Ok(streams) = Streams::fill(&rt) else {
+        return end(&rt, "io", REFUSED);
+    };
     match words(&rt) {
-        Ok(words) => answer(&rt, &rt, &words),
+        Ok(words) => answer(&rt, &rt, &streams, &words),
         Err(error) => refuse(&rt, &error),
     }
 }
@@ -63,13 +70,14 @@ fn main(rt: HostRuntime) -> ExitCode {
 fn answer<S: Net<Listener = TcpListener, Stream = TcpStream> + Threads + Wait + Clock + Sync>(
     rt: &HostRuntime,
     threads: &S,
+    streams: &Streams,
     words: &[String],
 ) -> ExitCode {
     if asks_for_version(words) {
         return tell_version(rt);
     }
     match read_task(rt.alloc(), words) {
-        Ok(task) => perform(rt, threads, &task),
+        Ok(task) => perform(rt, threads, streams, &task),
         Err(error) => show(rt, &error),
     }
 }
@@ -78,15 +86,23 @@ fn answer<S: Net<Listener = TcpListener, Stream = TcpStream> + Threads + Wait + 
 fn perform<S: Net<Listener = TcpListener, Stream = TcpStream> + Threads + Wait + Clock + Sync>(
     rt: &HostRuntime,
     threads: &S,
+    streams: &Streams,
     task: &Task,
 ) -> ExitCode
     requires { HasServers task.now }
 {
+    if !streams.has_output() && changes_files(task) {
+        return end(rt, "io", REFUSED);
+    }
     match task {
         Task::Pipe => run_pipe(rt),
         Task::Run { servers } => run_servers(rt, *servers),
         Task::TracedRun { servers, file } => run_traced(rt, *servers, file),
-        Task::Call { client, ports } => run_call(rt, threads, *client, ports),
+        Task::Call {
+            client,
+            ports,
+            again,
+        } => run_call(rt, threads, *client, ports, *again),
         Task::Serve {
             port,
             dir,
@@ -94,6 +110,15 @@ fn perform<S: Net<Listener = TcpListener, Stream = TcpStream> + Threads + Wait +
             log,
         } => run_serve(rt, threads, *port, dir, *sessions, *log),
         Task::Inspect { dir, lists } => run_inspect(rt, dir, *lists),
+    }
+}
+
+// Whether the task changes files. If what it prints cannot be printed, it ends before it touches them.
+fn changes_files(task: &Task) -> bool {
+    match task {
+        Task::TracedRun { .. } => true,
+        Task::Serve { .. } => true,
+        _ => false,
     }
 }
 
@@ -179,6 +204,7 @@ fn run_call<S: Net<Listener = TcpListener, Stream = TcpStream> + Threads + Wait 
     threads: &S,
     client: u32,
     ports: &Ports,
+    again: bool,
 ) -> ExitCode
     ensures { (exit_status result ≡ 0) ⊎ ((exit_status result ≡ 3) ⊎ (exit_status result ≡ 4)) }
 {
@@ -191,6 +217,7 @@ fn run_call<S: Net<Listener = TcpListener, Stream = TcpStream> + Threads + Wait 
             &mut rt.stdout(),
             client,
             ports.as_slice(),
+            again,
         ),
     )
 }

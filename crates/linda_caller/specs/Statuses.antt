@@ -9,6 +9,7 @@ abbrev pub status_of_call : CallFault → ℕ
 status_of_call (calls.Line n fault) = 4
 status_of_call (calls.NoConnection server) = 3
 status_of_call (calls.Refused server code detail) = 3
+status_of_call (calls.Restored server) = 3
 status_of_call calls.Memory = 3
 status_of_call calls.Read = 3
 status_of_call calls.Write = 3

@@ -2,6 +2,9 @@
 
 mod caller;
 mod fault;
+mod kept;
+mod numbers;
+mod standing;
 
 ghost use Rattle.std.specs.Prelude.{◌≡◌, ◌≤◌, length, IfOk, vec_len};
 ghost use Rattle.linda_client.specs.declared.limits.TheConstants.{MAX_SERVERS};
@@ -24,16 +27,20 @@ use std::time::Clock;
 const BUFFER: usize = 4096;
 
 /// Plays lines as a client of this number over the servers that listen on these ports of this machine, which are
-/// numbered from 0: `out TUPLE`, `sync EVENT` and `leave`, one at a time. Each outcome is written and flushed before
-/// the next line is looked at. A carriage return at a line's end is dropped; the last line may lack its line feed.
+/// numbered from 0: `out TUPLE`, `sync EVENT`, `leave` and `last`, one at a time. Each outcome is written and flushed
+/// before the next line is looked at; `last` writes the reply that each server keeps to the client. A carriage return at a
+/// line's end is dropped; the last line may lack its line feed.
 ///
-/// All servers are greeted before the first line is. A connection that is lost is greeted again, and what is pending is
-/// sent again. A tick of the client's clock is a millisecond since the call began.
+/// The client is one that was never used, or goes on after the numbers that servers keep for it. All servers are greeted
+/// before the first line is, and each has ten seconds to answer. A connection that is lost is greeted again, and what is
+/// pending is sent again; if a server is away for longer while nothing is pending, it is tried again at the next line. A
+/// tick of the client's clock is a millisecond since the call began.
 ///
 /// # Errors
 ///
 /// `Line` with the number of the first line that was not done, from 1: the outcomes of the lines before it are
-/// written. `NoConnection` and `Refused` of the first server that is given up or that refuses a request. `Read`,
+/// written. `NoConnection` and `Refused` of the first server that is given up or that refuses a request; `Restored` of
+/// one that has lost what it answered. `Read`,
 /// `Turns`, `Write` and `Clock` where the input, the output or the clock fails. `Memory` where memory, or a thread,
 /// cannot be had outside of a line.
 pub fn call<
@@ -47,14 +54,15 @@ pub fn call<
     writer: &mut W,
     client: u32,
     ports: &[u16],
+    goes_on: bool,
 ) -> Result<(), CallFault>
     requires some { 1 ≤ length ports.now }
     requires few { length ports.now ≤ MAX_SERVERS }
 {
-    let links = links_to(alloc, client, ports)?;
+    let links = links_to(alloc, client, ports, !goes_on)?;
     let inbox = Inbox::new(alloc);
     let (arrivals, all) = (&inbox, links.as_slice());
-    let caller = Caller::new(rt, alloc, arrivals, all, client)?;
+    let caller = Caller::new(rt, alloc, arrivals, all, client, goes_on)?;
     thread::scope(thread::scope_env(), rt, |scope| {
         let mut is_kept = true;
         for link in all {
@@ -74,13 +82,13 @@ pub fn call<
 }
 
 // A link to each port, numbered from 0.
-fn links_to(alloc: Global, client: u32, ports: &[u16]) -> Result<Vec<Link>, AllocError>
+fn links_to(alloc: Global, client: u32, ports: &[u16], fresh: bool) -> Result<Vec<Link>, AllocError>
     requires { length ports.now ≤ MAX_SERVERS }
     ensures { IfOk result (λ links. vec_len links ≡ length ports.now) }
 {
     let mut links = Vec::new(alloc);
     for port in ports {
-        links.push(Link::new(links.len() as u32, *port, client))?;
+        links.push(Link::new(links.len() as u32, *port, client, fresh))?;
     }
     Ok(links)
 }

@@ -9,13 +9,13 @@ use std::time::{Clock, Duration};
 /// What came from a server.
 #[derive(Drop)]
 pub enum Arrival {
-    /// It welcomed the client.
-    Greeted,
+    /// It welcomed the client, with the last number that it keeps a reply for.
+    Greeted(u64),
     /// A reply.
     Came(Reply),
     /// It refused the greeting, with this code and this detail, and is given up.
     Refused(u8, u64),
-    /// There is no connection to it, and it is given up.
+    /// There is no connection to it, and none is tried for until that is asked for.
     NoConnection,
     /// Memory ran out, and something that came may be lost.
     Memory,
@@ -69,6 +69,15 @@ impl Inbox {
             Duration::from_millis(1),
             |arrivals| arrivals.waiting.is_empty() && !arrivals.has_lost,
         );
+        if arrivals.has_lost {
+            return Some((0, Arrival::Memory));
+        }
+        arrivals.waiting.pop_front()
+    }
+
+    /// What came first, after the number of its server; `None` if nothing waits. It waits for nobody.
+    pub fn take_now(&self, rt: &impl Wait) -> Option<(u32, Arrival)> {
+        let mut arrivals = self.arrivals.lock(rt);
         if arrivals.has_lost {
             return Some((0, Arrival::Memory));
         }

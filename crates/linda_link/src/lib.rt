@@ -12,5 +12,5 @@ mod link;
 mod proxy;
 
 pub use inbox::{Arrival, Inbox};
-pub use link::{Link, MAX_TRIES};
+pub use link::{FIRST_TRIES, Link, MAX_TRIES};
 pub use proxy::{Proxy, ProxyFault, end, send};

@@ -13,14 +13,25 @@ use std::time::{Clock, Duration};
 /// server may not have seen yet that the old connection ended.
 pub const MAX_TRIES: u32 = 10_000;
 
+/// How often a server is greeted first for a client that was used before, a millisecond apart, while it says that the
+/// client has another connection.
+pub const FIRST_TRIES: u32 = 2_000;
+
+/// How often it is looked whether a server that was given up is to be tried again, in milliseconds apart.
+const LOOK: u64 = 10;
+
 /// The connection to one server. One thread keeps it up, another sends.
 #[derive(Drop)]
 pub struct Link {
     server: u32,
     port: u16,
     client: u32,
+    // The client was never used before.
+    fresh: bool,
     // The connection that there is.
     line: Mutex<Option<Line>>,
+    // The server was given up, and is to be tried again.
+    retries: Mutex<bool>,
 }
 
 // A connection, for whoever sends or ends it.
@@ -31,15 +42,34 @@ struct Line {
     is_greeted: bool,
 }
 
+// How the tries to greet a server end.
+#[derive(Drop)]
+enum Tried {
+    // It welcomed the client.
+    Met(Proxy),
+    // It is given up for good, or nobody takes any more.
+    Over,
+    // There is no connection. A Hello may have reached the server.
+    Lost,
+}
+
 impl Link {
-    /// No connection yet, to the server of this number, which listens on this port.
-    pub fn new(server: u32, port: u16, client: u32) -> Link {
+    /// No connection yet, to the server of this number, which listens on this port; of a client that was never used
+    /// before, or of one that goes on.
+    pub fn new(server: u32, port: u16, client: u32, fresh: bool) -> Link {
         Link {
             server,
             port,
             client,
+            fresh,
             line: Mutex::new(None),
+            retries: Mutex::new(false),
         }
+    }
+
+    /// Has the server tried again that was given up for want of a connection.
+    pub fn retry(&self, rt: &impl Wait) {
+        *self.retries.lock(rt) = true;
     }
 
     /// Sends where there is a greeted connection. Where there is none, or it is lost, what counts is sent again after
@@ -76,24 +106,62 @@ impl Link {
 
     /// Keeps the connection up and brings what comes into the inbox, until that is over or the server is given up.
     ///
-    /// The first greeting is that of a client that was never used; where no connection can be had for it, or the server
-    /// refuses it, the server is given up at once. A connection that is lost after a greeting is greeted again.
+    /// The first greeting is that of a client that was never used, or of one that goes on; if no connection can be had
+    /// for it, or the server refuses it, the server is given up at once, but Busy is tried again for a client that goes
+    /// on. A connection that is lost after a greeting is greeted again; if that fails too often, `NoConnection` is
+    /// brought, and the tries begin again after `retry`.
     pub fn keep<R: Net<Stream = TcpStream> + Wait + Clock>(
         &self,
         rt: &R,
         alloc: Global,
         inbox: &Inbox,
     ) {
-        let mut fresh = true;
-        for _ in rt.forever() {
-            let Some(mut proxy) = self.connect(rt, alloc, inbox, fresh) else {
-                return;
-            };
-            fresh = false;
-            inbox.bring(rt, self.server, Arrival::Greeted);
-            self.listen(rt, alloc, inbox, &mut proxy);
-            self.let_go(rt);
+        match self.meet(rt, alloc, inbox) {
+            Tried::Met(proxy) => self.follow(rt, alloc, inbox, proxy),
+            Tried::Over => return,
+            Tried::Lost => {}
         }
+        for _ in rt.forever() {
+            match self.connect(rt, alloc, inbox) {
+                Tried::Met(proxy) => self.follow(rt, alloc, inbox, proxy),
+                Tried::Over => return,
+                Tried::Lost => {
+                    inbox.bring(rt, self.server, Arrival::NoConnection);
+                    if !self.wait_retry(rt, inbox) {
+                        return;
+                    }
+                }
+            }
+        }
+    }
+
+    // Brings what comes over a greeted connection until it ends.
+    fn follow(&self, rt: &impl Wait, alloc: Global, inbox: &Inbox, proxy: Proxy) {
+        let mut proxy = proxy;
+        self.listen(rt, alloc, inbox, &mut proxy);
+        self.let_go(rt);
+    }
+
+    // Waits until the server is to be tried again. Says whether it is: else nobody takes any more.
+    fn wait_retry<R: Wait + Clock>(&self, rt: &R, inbox: &Inbox) -> bool {
+        for _ in rt.forever() {
+            if inbox.is_over(rt) {
+                return false;
+            }
+            if self.takes_retry(rt) {
+                return true;
+            }
+            thread::sleep(rt, Duration::from_millis(LOOK));
+        }
+        false
+    }
+
+    // Whether the server is to be tried again, which is said once.
+    fn takes_retry(&self, rt: &impl Wait) -> bool {
+        let mut retries = self.retries.lock(rt);
+        let retry = *retries;
+        *retries = false;
+        retry
     }
 
     // Brings what comes until the connection ends.
@@ -110,34 +178,60 @@ impl Link {
         }
     }
 
-    // A connection that the server welcomed; none where it is given up, or nobody wants it any more.
+    // The first greeting. It is tried again only while the server says that a client that goes on has another connection.
+    fn meet<R: Net<Stream = TcpStream> + Wait + Clock>(
+        &self,
+        rt: &R,
+        alloc: Global,
+        inbox: &Inbox,
+    ) -> Tried {
+        for tries in 1..=FIRST_TRIES {
+            if inbox.is_over(rt) {
+                return Tried::Over;
+            }
+            match self.greet(rt, alloc, inbox, self.fresh) {
+                Ok(proxy) => return Tried::Met(proxy),
+                Err(ProxyFault::Lost) => {
+                    self.let_go(rt);
+                    return Tried::Lost;
+                }
+                Err(fault) => {
+                    self.let_go(rt);
+                    if self.fresh || tries == FIRST_TRIES || !is_busy(fault) {
+                        inbox.bring(rt, self.server, first_fault(fault));
+                        return Tried::Over;
+                    }
+                }
+            }
+            thread::sleep(rt, Duration::from_millis(1));
+        }
+        Tried::Over
+    }
+
+    // A connection that the server welcomed again.
     fn connect<R: Net<Stream = TcpStream> + Wait + Clock>(
         &self,
         rt: &R,
         alloc: Global,
         inbox: &Inbox,
-        fresh: bool,
-    ) -> Option<Proxy> {
-        let mut fresh = fresh;
+    ) -> Tried {
         for _ in 0..MAX_TRIES {
             if inbox.is_over(rt) {
-                return None;
+                return Tried::Over;
             }
-            match self.greet(rt, alloc, inbox, fresh) {
-                Ok(proxy) => return Some(proxy),
+            match self.greet(rt, alloc, inbox, false) {
+                Ok(proxy) => return Tried::Met(proxy),
                 Err(fault) => {
                     self.let_go(rt);
-                    if let Some(arrival) = given_up(fault, fresh) {
+                    if let Some(arrival) = given_up(fault) {
                         inbox.bring(rt, self.server, arrival);
-                        return None;
+                        return Tried::Over;
                     }
                 }
             }
-            fresh = false;
             thread::sleep(rt, Duration::from_millis(1));
         }
-        inbox.bring(rt, self.server, Arrival::NoConnection);
-        None
+        Tried::Lost
     }
 
     // One greeting. The connection can be ended from outside before it is waited for: whoever ends all says so in the
@@ -158,8 +252,9 @@ impl Link {
         if inbox.is_over(rt) {
             return Err(ProxyFault::Lost);
         }
-        proxy.greet(alloc, self.client, fresh)?;
+        let last = proxy.greet(alloc, self.client, fresh)?;
         self.welcome(rt);
+        inbox.bring(rt, self.server, Arrival::Greeted(last));
         Ok(proxy)
     }
 
@@ -177,24 +272,34 @@ impl Link {
     }
 }
 
-// What is returned for a greeting after which the server is given up; none where it is to be tried again.
-fn given_up(fault: ProxyFault, fresh: bool) -> Option<Arrival> {
+// Whether the server says that the client has another connection.
+fn is_busy(fault: ProxyFault) -> bool {
+    match fault {
+        ProxyFault::Refused(code, _) => code == Refusal::Busy.code(),
+        _ => false,
+    }
+}
+
+// What is brought if the first greeting failed so.
+fn first_fault(fault: ProxyFault) -> Arrival {
+    match fault {
+        ProxyFault::Refused(code, detail) => Arrival::Refused(code, detail),
+        ProxyFault::Memory => Arrival::Memory,
+        ProxyFault::Unreachable | ProxyFault::Lost => Arrival::NoConnection,
+    }
+}
+
+// What is brought if a later greeting failed so that the server is given up; none if it is to be tried again.
+fn given_up(fault: ProxyFault) -> Option<Arrival> {
     match fault {
         ProxyFault::Refused(code, detail) => {
-            if !fresh && code == Refusal::Busy.code() {
+            if code == Refusal::Busy.code() {
                 None
             } else {
                 Some(Arrival::Refused(code, detail))
             }
         }
         ProxyFault::Memory => Some(Arrival::Memory),
-        ProxyFault::Unreachable => {
-            if fresh {
-                Some(Arrival::NoConnection)
-            } else {
-                None
-            }
-        }
-        ProxyFault::Lost => None,
+        ProxyFault::Unreachable | ProxyFault::Lost => None,
     }
 }

@@ -9,13 +9,15 @@
 mod connection;
 mod line;
 mod marks;
+mod refusals;
 mod seen;
 mod serving;
 mod watching;
 
-pub use linda_link::{Arrival, Inbox, Link, MAX_TRIES, Proxy, ProxyFault, end, send};
+pub use linda_link::{Arrival, FIRST_TRIES, Inbox, Link, MAX_TRIES, Proxy, ProxyFault, end, send};
 pub use linda_pump::{Intake, pump};
 pub use linda_shared::{Gauge, Shared, SharedFault};
 pub use marks::Tally;
+pub use refusals::{Refused, Why};
 pub use serving::{serve, serve_watched};
 pub use watching::{Event, Watcher};

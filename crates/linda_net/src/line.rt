@@ -11,6 +11,7 @@ use linda_wire::{Reply, encode_reply};
 use std::alloc::{AllocError, Global};
 use std::io::Write;
 use std::net::{Shutdown, TcpStream};
+use std::slice;
 use std::sync::ledger::Ledger;
 use std::sync::{Condvar, CondvarTimeouts, Mutex, Wait};
 use std::time::{Clock, Duration};
@@ -118,6 +119,7 @@ impl<L: Ledger> Line<L> {
             }
         }
         if let Some(reply) = &last {
+            note(marks, slice::from_ref(reply));
             spell(&mut pen.bytes, reply)?;
         }
         let written = write_all(&self.stream, &pen.bytes);

@@ -4,6 +4,7 @@ ghost use Rattle.std.specs.Prelude.{◌≡◌, ◌↔◌, IsTrue};
 ghost use Rattle.linda_wire.specs.declared.refusal.Refusal.TheVariants as refusals;
 ghost use Rattle.linda_wire.specs.Refusal.{refused};
 
+use crate::refusals::{Counts, Refused, why_of};
 use crate::watching::Event;
 use linda_wire::{Refusal, Reply};
 use std::sync::atomic::{AtomicU64, Ordering};
@@ -22,6 +23,22 @@ pub struct Tally {
     pub closed: u64,
     /// How often a connection could not be had.
     pub missed: u64,
+    /// How often clients were refused for what an operator may mend.
+    pub turned: Refused,
+}
+
+impl Tally {
+    /// Nothing happened yet.
+    pub fn none() -> Tally {
+        Tally {
+            came: 0,
+            over: 0,
+            refused: 0,
+            closed: 0,
+            missed: 0,
+            turned: Refused::none(),
+        }
+    }
 }
 
 /// The counts, which threads share. Nobody waits for them.
@@ -32,6 +49,7 @@ pub(crate) struct Marks {
     refused: AtomicU64,
     closed: AtomicU64,
     missed: AtomicU64,
+    turned: Counts,
     // What came of the last snapshot, until it is reported.
     snapshot: Mutex<Option<Event>>,
 }
@@ -45,6 +63,7 @@ impl Marks {
             refused: AtomicU64::new(0),
             closed: AtomicU64::new(0),
             missed: AtomicU64::new(0),
+            turned: Counts::new(),
             snapshot: Mutex::new(None),
         }
     }
@@ -69,10 +88,14 @@ impl Marks {
         let _ = self.missed.fetch_add(1, Ordering::SeqCst);
     }
 
-    /// This reply goes out: where it says that the bank is full, that is counted.
+    /// This reply goes out: if it says that the bank is full, or refuses its client for what an operator may mend, that is
+    /// counted.
     pub(crate) fn sends(&self, reply: &Reply) {
         if tells_full(reply) {
             let _ = self.refused.fetch_add(1, Ordering::SeqCst);
+        }
+        if let Some(why) = why_of(reply) {
+            self.turned.add(why);
         }
     }
 
@@ -94,6 +117,7 @@ impl Marks {
             refused: self.refused.load(Ordering::SeqCst),
             closed: self.closed.load(Ordering::SeqCst),
             missed: self.missed.load(Ordering::SeqCst),
+            turned: self.turned.now(),
         }
     }
 }

@@ -4,6 +4,7 @@ ghost use Rattle.std.specs.Prelude.{◌≡◌, Some, false, true};
 ghost use Rattle.linda_net.specs.declared.watching.Event.TheVariants as events;
 
 use crate::marks::Tally;
+use crate::refusals::{Refused, Why};
 use crate::watching::Event;
 
 /// What was told: of each trouble that it began, and the counts when the last minute began.
@@ -14,23 +15,66 @@ pub(crate) struct Seen {
     has_closed: bool,
     has_missed: bool,
     is_down: bool,
+    turned: Turned,
+}
+
+// Of which refusals it was told that they began.
+#[derive(Clone, Copy)]
+struct Turned {
+    busy: bool,
+    clients: bool,
+    greetings: bool,
+    malformed: bool,
+}
+
+impl Turned {
+    // A refusal that came since and was not told of, which is told now and not again.
+    fn next(&mut self, now: &Refused, since: &Refused) -> Option<Why> {
+        if now.busy > since.busy && !self.busy {
+            self.busy = true;
+            return Some(Why::Busy);
+        }
+        if now.clients > since.clients && !self.clients {
+            self.clients = true;
+            return Some(Why::Clients);
+        }
+        if now.greetings > since.greetings && !self.greetings {
+            self.greetings = true;
+            return Some(Why::Greeting);
+        }
+        if now.malformed > since.malformed && !self.malformed {
+            self.malformed = true;
+            return Some(Why::Malformed);
+        }
+        None
+    }
+
+    // Those that came since.
+    fn of(now: &Refused, since: &Refused) -> Turned {
+        Turned {
+            busy: now.busy > since.busy,
+            clients: now.clients > since.clients,
+            greetings: now.greetings > since.greetings,
+            malformed: now.malformed > since.malformed,
+        }
+    }
 }
 
 impl Seen {
     /// Nothing was told yet.
     pub(crate) fn new() -> Seen {
         Seen {
-            since: Tally {
-                came: 0,
-                over: 0,
-                refused: 0,
-                closed: 0,
-                missed: 0,
-            },
+            since: Tally::none(),
             is_full: false,
             has_closed: false,
             has_missed: false,
             is_down: false,
+            turned: Turned {
+                busy: false,
+                clients: false,
+                greetings: false,
+                malformed: false,
+            },
         }
     }
 
@@ -55,7 +99,10 @@ impl Seen {
             self.is_down = true;
             return Some(Event::Down);
         }
-        None
+        match self.turned.next(&tally.turned, &self.since.turned) {
+            Some(why) => Some(Event::Turned(why)),
+            None => None,
+        }
     }
 
     /// A minute ends: a trouble of which nothing came in it is over.
@@ -63,6 +110,7 @@ impl Seen {
         self.is_full = tally.refused > self.since.refused;
         self.has_closed = tally.closed > self.since.closed;
         self.has_missed = tally.missed > self.since.missed;
+        self.turned = Turned::of(&tally.turned, &self.since.turned);
         self.since = *tally;
     }
 }

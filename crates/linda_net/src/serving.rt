@@ -3,7 +3,7 @@
 use crate::connection::read_messages;
 use crate::line::{Line, write_news};
 use crate::marks::{Marks, Tally};
-use crate::watching::{Event, Watcher, take_marked, tell, watch};
+use crate::watching::{Event, Watcher, take_snapshot, tell, watch};
 use linda_disk::Disk;
 use linda_shared::{Shared, SharedFault};
 use std::alloc::Global;
@@ -16,6 +16,10 @@ use std::time::{Clock, Duration};
 
 /// How often it is looked whether a snapshot pays for itself, and what happened, in milliseconds.
 pub(crate) const LOOK: u64 = 100;
+
+/// How many times as long as a snapshot took it is waited before the next one is looked for: however full the bank is,
+/// messages are served most of the time.
+const PAUSES: u64 = 3;
 
 /// How long nobody is let in where a connection could not be had, as where no file is left for it, in milliseconds.
 const REST: u64 = 10;
@@ -209,34 +213,23 @@ fn converse<D: Disk + Send, L: Ledger + Send + Sync, R: Threads + Wait + Clock +
     note_end(marks);
 }
 
-// Takes a snapshot whenever one pays for itself, until it is over.
+// Takes a snapshot whenever one is to be taken, until it is over.
 fn take_snapshots<D: Disk, L: Ledger, R: Wait + Clock>(
     rt: &R,
     shared: &Shared<D, L>,
     marks: Option<&Marks>,
     is_over: &Mutex<bool>,
 ) {
+    let mut pause: u64 = 0;
     for _ in rt.forever() {
         if *is_over.lock(rt) {
             return;
         }
-        if shared.pays(rt) {
-            take_one(rt, shared, marks);
+        if pause >= LOOK {
+            pause -= LOOK;
+        } else if shared.pays(rt) {
+            pause = take_snapshot(rt, shared, marks).saturating_mul(PAUSES);
         }
         thread::sleep(rt, Duration::from_millis(LOOK));
-    }
-}
-
-// Takes a snapshot, and notes what came of it where it is watched.
-fn take_one<D: Disk, L: Ledger, R: Wait + Clock>(
-    rt: &R,
-    shared: &Shared<D, L>,
-    marks: Option<&Marks>,
-) {
-    match marks {
-        Some(marks) => take_marked(rt, shared, marks),
-        None => {
-            let _ = shared.snapshot(rt);
-        }
     }
 }

@@ -1,6 +1,7 @@
 //! What is reported of a server while its connections are served.
 
 use crate::marks::{Marks, Tally};
+use crate::refusals::Why;
 use crate::seen::Seen;
 use crate::serving::LOOK;
 use linda_disk::Disk;
@@ -14,7 +15,7 @@ use std::time::{Clock, Duration, Instant};
 const MINUTE: u64 = 60_000;
 
 /// How many troubles there are that are reported when they begin.
-const TROUBLES: u32 = 4;
+const TROUBLES: u32 = 8;
 
 /// What happened.
 #[derive(Clone, Copy, Debug, PartialEq, Eq)]
@@ -31,6 +32,8 @@ pub enum Event {
     Closed,
     /// A connection could not be had: reported as `Full` is.
     Missed,
+    /// Clients are refused for this reason: reported as `Full` is.
+    Turned(Why),
     /// No thread could be had for whoever watches: nothing more is reported.
     Unwatched,
     /// No thread could be had for snapshots: none is taken.
@@ -75,20 +78,24 @@ pub(crate) fn watch<D: Disk, L: Ledger, R: Wait + Clock, T: Watcher>(
     }
 }
 
-/// Takes a snapshot, and notes what came of it, unless the server is down.
-pub(crate) fn take_marked<D: Disk, L: Ledger, R: Wait + Clock>(
+/// Takes a snapshot, and notes what came of it if it is watched, unless the server is down. Says how many milliseconds it
+/// took.
+pub(crate) fn take_snapshot<D: Disk, L: Ledger, R: Wait + Clock>(
     rt: &R,
     shared: &Shared<D, L>,
-    marks: &Marks,
-) {
+    marks: Option<&Marks>,
+) -> u64 {
     let begin = Instant::now(rt).ok();
-    match shared.snapshot(rt) {
-        Ok(()) => marks.keep_snapshot(rt, Event::Snapshot(millis_since(rt, begin))),
-        Err(SharedFault::Full) => {
-            marks.keep_snapshot(rt, Event::NoSnapshot(millis_since(rt, begin)));
+    let taken = shared.snapshot(rt);
+    let millis = millis_since(rt, begin);
+    if let Some(marks) = marks {
+        match taken {
+            Ok(()) => marks.keep_snapshot(rt, Event::Snapshot(millis)),
+            Err(SharedFault::Full) => marks.keep_snapshot(rt, Event::NoSnapshot(millis)),
+            Err(_) => {}
         }
-        Err(_) => {}
     }
+    millis
 }
 
 // Reports each trouble that began.

@@ -2,8 +2,11 @@
 
 use crate::texts::done;
 use linda_script::{WordsFault, read_number, read_numbered, split_word};
-use linda_service::{Cause, Event, Gauge, InUse, Log, Tally, Watcher, stamp_of};
+use linda_service::{
+    Cause, Event, FileCall, FileTrouble, Gauge, InUse, Log, Refused, Tally, Watcher, Why, stamp_of,
+};
 use std::alloc::{AllocError, Global};
+use std::io;
 use std::time::Clock;
 
 /// What the server comes to at each line.
@@ -25,7 +28,16 @@ const TALLY: Tally = Tally {
     refused: 6,
     closed: 2,
     missed: 3,
+    turned: Refused {
+        busy: 4,
+        clients: 3,
+        greetings: 2,
+        malformed: 1,
+    },
 };
+
+/// What the system says where a device is full.
+const NO_SPACE: i32 = 28;
 
 /// What happened so far, line by line, and how many lines of the log were given.
 #[derive(Drop)]
@@ -147,6 +159,7 @@ fn tell_event<C: Clock>(
     match word {
         "opened" => log.tell_opened(clock, 7000, bank_of(rest)?, &GAUGE),
         "end" => log.tell_end(clock, cause_of(rest)?, TALLY.came, &GAUGE),
+        "failed" => log.tell_failed(clock, "left", &trouble_of(rest)?),
         _ => log.tell(clock, event_of(word, rest)?, &GAUGE, &TALLY),
     }
     Ok(())
@@ -175,6 +188,37 @@ fn cause_of(name: &str) -> Result<Cause, WordsFault> {
     }
 }
 
+// A call of this name that found no room.
+fn trouble_of(name: &str) -> Result<FileTrouble, WordsFault> {
+    Ok(FileTrouble {
+        call: call_of(name)?,
+        error: io::Error::from_raw_os_error(NO_SPACE),
+    })
+}
+
+// The call of this name.
+fn call_of(name: &str) -> Result<FileCall, WordsFault> {
+    match name {
+        "length" => Ok(FileCall::Length),
+        "read" => Ok(FileCall::Read),
+        "write" => Ok(FileCall::Write),
+        "cut" => Ok(FileCall::Cut),
+        "sync" => Ok(FileCall::Sync),
+        _ => Err(WordsFault::Unknown),
+    }
+}
+
+// The reason of this name for which clients are refused.
+fn why_of(name: &str) -> Result<Why, WordsFault> {
+    match name {
+        "busy" => Ok(Why::Busy),
+        "clients" => Ok(Why::Clients),
+        "greeting" => Ok(Why::Greeting),
+        "malformed" => Ok(Why::Malformed),
+        _ => Err(WordsFault::Unknown),
+    }
+}
+
 // The event of this name, which took so many milliseconds where it is a snapshot.
 fn event_of(name: &str, millis: &str) -> Result<Event, WordsFault> {
     match name {
@@ -184,6 +228,7 @@ fn event_of(name: &str, millis: &str) -> Result<Event, WordsFault> {
         "full" => Ok(Event::Full),
         "closed" => Ok(Event::Closed),
         "missed" => Ok(Event::Missed),
+        "refused" => Ok(Event::Turned(why_of(millis)?)),
         "unwatched" => Ok(Event::Unwatched),
         "threadless" => Ok(Event::NoThread),
         "down" => Ok(Event::Down),

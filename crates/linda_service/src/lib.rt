@@ -8,11 +8,13 @@
 //! Where one of them ends otherwise a `ServingFault` says why.
 #![tactic(auto)]
 
+mod bank_file;
 mod inspecting;
 mod serving;
 
 pub use inspecting::inspect_folder;
-pub use linda_net::{Event, Gauge, Tally, Watcher};
+pub use linda_disk::{FileCall, FileTrouble};
+pub use linda_net::{Event, Gauge, Refused, Tally, Watcher, Why};
 pub use serving::{
     Cause, InUse, Log, ServingFault, open_store, serve_folder, serve_logged, stamp_of,
 };

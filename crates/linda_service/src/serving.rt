@@ -11,7 +11,7 @@ ghost use Rattle.linda_receipt.specs.declared.limits.TheConstants.{PARTS};
 
 pub use fault::ServingFault;
 pub use heads::InUse;
-use heads::bank_in_use;
+use heads::{bank_in_use, has_cut_off};
 use linda_disk::FileDisk;
 use linda_net::{Shared, SharedFault, Tally, serve, serve_watched};
 use linda_receipt::PARTS;
@@ -27,11 +27,16 @@ use std::sync::ledger::{Blank, Ledger};
 use std::sync::{Mutex, Wait};
 use std::thread::Threads;
 use std::time::Clock;
+use store::give_back;
 pub use store::open_store;
 pub(crate) use store::{LEFT, RIGHT};
 
 /// Serves the store in a folder to clients that connect to a port of this machine, and writes `ready PORT` once it
 /// listens: any free port where 0 is asked for. Where a number is given it ends after so many connections.
+///
+/// If the last snapshot was cut off, its room is given back. The next one is put off until there are as many records more
+/// as make one due, unless the bank in use is in the old form or a deed is refused for room: so a disk that has no room
+/// for a snapshot is no reason to serve nobody.
 ///
 /// # Errors
 ///
@@ -50,12 +55,35 @@ pub fn serve_folder<
     folder: &str,
     sessions: Option<u32>,
 ) -> Result<(), ServingFault> {
-    let server = open_store(files, alloc, folder)?;
-    share::<Brand, S, W>(rt, alloc, writer, server, Blank::new(PARTS), port, sessions)
+    let mut server = open_store(files, alloc, folder)?;
+    let bank = bank_in_use(files, alloc, folder);
+    if has_cut_off(files, alloc, folder, bank) {
+        give_back(&mut server)?;
+    }
+    listen_and_serve::<Brand, S, W>(rt, alloc, writer, server, Blank::new(PARTS), port, sessions)
+}
+
+// Shares a server that was opened. Its next snapshot is put off, unless its bank is in the old form: so it serves for a
+// while even if the last one took it down, since the disk had no room for it.
+fn share<L: Ledger, R: Wait>(
+    rt: &R,
+    alloc: Global,
+    server: Durable<FileDisk>,
+    blank: Blank,
+) -> Result<Shared<FileDisk, L>, ServingFault>
+    requires up { server.down ≡ false }
+    requires blank { (blank.name ≡ L.name) × (blank.parts ≡ L.parts) × (L.parts ≡ PARTS) }
+{
+    let is_old = server.is_of_old_form();
+    let shared = Shared::new(alloc, server, blank)?;
+    if !is_old {
+        shared.put_off(rt);
+    }
+    Ok(shared)
 }
 
 // Listens, says so, and serves.
-fn share<
+fn listen_and_serve<
     L: Ledger + Send + Sync,
     S: Net<Listener = TcpListener, Stream = TcpStream> + Threads + Wait + Clock + Sync,
     W: Write,
@@ -71,7 +99,7 @@ fn share<
     requires up { server.down ≡ false }
     requires blank { (blank.name ≡ L.name) × (blank.parts ≡ L.parts) × (L.parts ≡ PARTS) }
 {
-    let shared: Shared<FileDisk, L> = Shared::new(alloc, server, blank)?;
+    let shared: Shared<FileDisk, L> = share(rt, alloc, server, blank)?;
     let listener = listen(rt, port)?;
     tell_ready(alloc, writer, &listener)?;
     match serve(rt, alloc, &listener, &shared, sessions) {
@@ -101,10 +129,13 @@ pub fn serve_logged<
     folder: &str,
     sessions: Option<u32>,
 ) -> Result<(), ServingFault> {
-    let server = open_store(files, alloc, folder)?;
+    let mut server = open_store(files, alloc, folder)?;
     let bank = bank_in_use(files, alloc, folder);
+    if has_cut_off(files, alloc, folder, bank) {
+        give_back(&mut server)?;
+    }
     let log = Log::new(alloc, sink)?;
-    share_logged::<Brand, S, W, E>(
+    listen_and_log::<Brand, S, W, E>(
         rt,
         alloc,
         writer,
@@ -118,7 +149,7 @@ pub fn serve_logged<
 }
 
 // Listens, says so, and serves, with a log.
-fn share_logged<
+fn listen_and_log<
     L: Ledger + Send + Sync,
     S: Net<Listener = TcpListener, Stream = TcpStream> + Threads + Wait + Clock + Sync,
     W: Write,
@@ -138,7 +169,7 @@ fn share_logged<
     requires blank { (blank.name ≡ L.name) × (blank.parts ≡ L.parts) × (L.parts ≡ PARTS) }
 {
     let mut log = log;
-    let shared: Shared<FileDisk, L> = Shared::new(alloc, server, blank)?;
+    let shared: Shared<FileDisk, L> = share(rt, alloc, server, blank)?;
     let listener = listen(rt, port)?;
     log.tell_opened(rt, port_of(&listener)?, bank, &shared.gauge(rt));
     tell_ready(alloc, writer, &listener)?;
@@ -158,11 +189,20 @@ fn tell_end<L: Ledger, S: Wait + Clock, E: Write>(
     let mut log = log;
     let gauge = shared.gauge(rt);
     let (left, right) = shared.into_server().into_disks();
+    tell_trouble(rt, &mut log, "left", &left);
+    tell_trouble(rt, &mut log, "right", &right);
     let failures = left.failures().saturating_add(right.failures());
     log.tell_end(rt, cause_of(&ended, failures), tally.came, &gauge);
     match ended {
         Ok(()) => Ok(()),
         Err(_) => Err(ServingFault::Down),
+    }
+}
+
+// Writes why a bank's file failed, if it did.
+fn tell_trouble<S: Clock, E: Write>(rt: &S, log: &mut Log<'_, E>, bank: &str, disk: &FileDisk) {
+    if let Some(trouble) = disk.trouble() {
+        log.tell_failed(rt, bank, &trouble);
     }
 }
 

@@ -77,11 +77,15 @@ impl<D: Disk, L: Ledger> Shared<D, L> {
         self.desk.lock(rt).held.needs_snapshot()
     }
 
-    /// Whether a snapshot pays for itself: one is due, and the records since the last one have at least as many bytes
-    /// as that one left in the bank, or half of the limit is taken; after one that was refused, once there are as many
-    /// records more as make one due. For whoever serves, and takes them.
+    /// Whether a snapshot is to be taken, as `Held::pays` says: for the program that serves, and takes them.
     pub fn pays<R: Wait>(&self, rt: &R) -> bool {
         self.desk.lock(rt).held.pays()
+    }
+
+    /// Has no snapshot tried before there are as many records more as make one due, unless a deed was refused for room:
+    /// for a server whose last snapshot was cut off.
+    pub fn put_off<R: Wait>(&self, rt: &R) {
+        self.desk.lock(rt).held.put_off();
     }
 
     /// What the server comes to at a moment, in numbers, for whoever tells its operator. Takes no memory.

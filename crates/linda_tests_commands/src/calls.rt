@@ -12,12 +12,17 @@ use std::thread::Threads;
 use std::time::Clock;
 use std::{io, thread};
 
+// No call goes on.
+const ALL_NEW: usize = usize::MAX;
+
 /// Clients with the lines of their calls, one after the other.
 #[derive(Clone, Copy)]
 struct Row<'a> {
     calls: &'a [(u32, &'a str)],
     // So many connections are lost right after their Hello before one is served.
     lost: usize,
+    // The calls from this one on, from 0, go on after what the server keeps.
+    again: usize,
 }
 
 #[test]
@@ -34,6 +39,7 @@ fn puts_takes_and_leaves_over_a_socket(rt: HostRuntime) -> io::Result<()> {
     let row = Row {
         calls: &calls,
         lost: 0,
+        again: ALL_NEW,
     };
     expect(&rt, rt.alloc(), row, told)
 }
@@ -55,6 +61,7 @@ fn ends_at_a_refusal_and_at_a_bad_line(rt: HostRuntime) -> io::Result<()> {
     let row = Row {
         calls: &calls,
         lost: 0,
+        again: ALL_NEW,
     };
     expect(&rt, rt.alloc(), row, told)
 }
@@ -66,6 +73,30 @@ fn greets_again_where_the_connection_is_lost(rt: HostRuntime) -> io::Result<()> 
     let row = Row {
         calls: &calls,
         lost: 2,
+        again: ALL_NEW,
+    };
+    expect(&rt, rt.alloc(), row, told)
+}
+
+#[test]
+fn goes_on_and_says_what_is_kept(rt: HostRuntime) -> io::Result<()> {
+    let calls = [
+        (7, "last\nout (\"a\", 3)\nlast\n"),
+        (
+            7,
+            "last\nsync in (\"a\", ?i)\nlast\nleave\n last \nout (\"a\", 4)\n",
+        ),
+        (7, "out (\"a\", 5)\n"),
+    ];
+    let told = "server 0 client 7 none\n7 stored 0 1\nserver 0 client 7 1 stored 1\nend\n\
+        server 0 client 7 1 stored 1\n\
+        7 took 0 1 (\"a\", 3) binds [3] labels [] raised []\nserver 0 client 7 2 taken 1 (\"a\", 3)\n\
+        7 left\nserver 0 client 7 3 left\n7 refused left\nend\n\
+        server 0: refused 11 3\n";
+    let row = Row {
+        calls: &calls,
+        lost: 0,
+        again: 1,
     };
     expect(&rt, rt.alloc(), row, told)
 }
@@ -88,7 +119,7 @@ fn call_alone<S: Net<Listener = TcpListener, Stream = TcpStream> + Threads + Wai
 ) -> Result<(), CallFault> {
     let mut lines = "out (\"a\", 3)\n".as_bytes();
     let mut printed: Vec<u8> = Vec::new(alloc);
-    call(rt, alloc, &mut lines, &mut printed, 7, &[port])
+    call(rt, alloc, &mut lines, &mut printed, 7, &[port], false)
 }
 
 /// The calls of a row over one server in memory print this; after what a call prints stands how it ends.
@@ -127,7 +158,7 @@ fn play_over<S: Net<Listener = TcpListener, Stream = TcpStream> + Threads + Wait
         let _ = scope
             .spawn(move || serve(alloc, listener, lost, connections))
             .is_err();
-        call_all(rt, alloc, row.calls, port, told)?;
+        call_all(rt, alloc, row, port, told)?;
         Ok(())
     })
 }
@@ -136,16 +167,19 @@ fn play_over<S: Net<Listener = TcpListener, Stream = TcpStream> + Threads + Wait
 fn call_all<S: Net<Listener = TcpListener, Stream = TcpStream> + Threads + Wait + Clock + Sync>(
     rt: &S,
     alloc: Global,
-    calls: &[(u32, &str)],
+    row: Row<'_>,
     port: u16,
     told: &mut String,
 ) -> Result<(), AllocError> {
-    for (client, lines) in calls {
+    let mut made: usize = 0;
+    for (client, lines) in row.calls {
         let mut text = lines.as_bytes();
         let mut out: Vec<u8> = Vec::new(alloc);
-        let ended = call(rt, alloc, &mut text, &mut out, *client, &[port]);
+        let goes_on = made >= row.again;
+        let ended = call(rt, alloc, &mut text, &mut out, *client, &[port], goes_on);
         tell_printed(&out, told)?;
         tell_end(ended, told)?;
+        made = made.saturating_add(1);
     }
     Ok(())
 }

@@ -114,7 +114,7 @@ fn call_server<S: Net<Listener = TcpListener, Stream = TcpStream> + Threads + Wa
     for _ in 0..TRIES {
         let mut out: Vec<u8> = Vec::new(alloc);
         let mut text = LINES.as_bytes();
-        let ended = call(rt, alloc, &mut text, &mut out, 7, &[port]);
+        let ended = call(rt, alloc, &mut text, &mut out, 7, &[port], false);
         if ended != Err(CallFault::NoConnection(0)) {
             push_end(ended, &mut out);
             *printed.lock(rt) = out;

@@ -20,6 +20,10 @@ pub enum CallFault {
     /// The server of this number refused, with this code and this detail.
     #[error("server {0}: refused {1} {2}")]
     Refused(u32, u8, u64),
+    /// The server of this number welcomed the client again with a lower number than it had answered: its folder was
+    /// restored from a copy.
+    #[error("server {0}: restored")]
+    Restored(u32),
     /// Memory, or a thread, could not be had.
     #[error("memory")]
     Memory,
@@ -58,6 +62,7 @@ impl CallFault {
             CallFault::Line(_, _) => BAD_LINE,
             CallFault::NoConnection(_) => REFUSED,
             CallFault::Refused(_, _, _) => REFUSED,
+            CallFault::Restored(_) => REFUSED,
             CallFault::Memory => REFUSED,
             CallFault::Read => REFUSED,
             CallFault::Write => REFUSED,

@@ -3,10 +3,11 @@
 //! A file is read from the front to its end: a record is there before its gate opens, and stands after it. Where both
 //! files begin afterwards as they did, no bank was begun anew meanwhile.
 
+use crate::bank_file::{check_apart, check_kind, fault_of};
 use crate::serving::{LEFT, RIGHT, ServingFault};
 use std::alloc::Global;
+use std::fs;
 use std::fs::{File, Files};
-use std::io;
 use std::io::{ErrorKind, Read};
 
 // How often they are read where a bank is begun anew meanwhile.
@@ -26,7 +27,7 @@ pub(super) struct Banks {
 ///
 /// # Errors
 ///
-/// `Disk` where the folder or a file cannot be read; `InUse` where a bank was begun anew at each reading; `Memory`.
+/// `Disk` where the folder or a file cannot be read, a bank is no regular file, or both are one file; `InUse` where a bank was begun anew at each reading; `Memory`.
 pub(super) fn read_banks<F: Files<File = File>>(
     files: &F,
     alloc: Global,
@@ -37,6 +38,7 @@ pub(super) fn read_banks<F: Files<File = File>>(
     }
     let left_path = format!(in alloc; "{folder}/{LEFT}")?;
     let right_path = format!(in alloc; "{folder}/{RIGHT}")?;
+    check_both(files, &left_path, &right_path)?;
     for _ in 0..READINGS {
         let left = read_bank(files, alloc, &left_path)?;
         let right = read_bank(files, alloc, &right_path)?;
@@ -45,6 +47,20 @@ pub(super) fn read_banks<F: Files<File = File>>(
         }
     }
     Err(ServingFault::InUse)
+}
+
+// Refuses what cannot be two banks. One that is missing may be one.
+fn check_both<F: Files<File = File>>(
+    files: &F,
+    left: &str,
+    right: &str,
+) -> Result<(), ServingFault> {
+    check_kind(files, left)?;
+    check_kind(files, right)?;
+    match (fs::exists(files, left), fs::exists(files, right)) {
+        (Ok(true), Ok(true)) => check_apart(fs::metadata(files, left), fs::metadata(files, right)),
+        _ => Ok(()),
+    }
 }
 
 // The bytes of a file; none where it is missing.
@@ -95,12 +111,4 @@ fn open_bank<F: Files<File = File>>(files: &F, path: &str) -> Result<Option<File
             Err(fault_of(&error))
         }
     }
-}
-
-// What is returned where a file was not read.
-fn fault_of(error: &io::Error) -> ServingFault {
-    if error.kind() == ErrorKind::OutOfMemory {
-        return ServingFault::Memory;
-    }
-    ServingFault::Disk
 }

@@ -3,6 +3,7 @@
 use super::store::{LEFT, RIGHT};
 use linda_journal::{Heading, MIN_BYTES, read_heading};
 use std::alloc::{AllocError, Global};
+use std::fs;
 use std::fs::{File, Files};
 use std::io::Read;
 
@@ -25,6 +26,40 @@ pub(crate) fn bank_in_use<F: Files<File = File>>(
     let left = heading_of(files, alloc, folder, LEFT).ok()?;
     let right = heading_of(files, alloc, folder, RIGHT).ok()?;
     in_use(left, right)
+}
+
+/// Whether a snapshot was cut off before this bank came into use, or after it: the other file is longer than a closed gate,
+/// and no bank.
+pub(crate) fn has_cut_off<F: Files<File = File>>(
+    files: &F,
+    alloc: Global,
+    folder: &str,
+    bank: Option<InUse>,
+) -> bool {
+    let Some(bank) = bank else {
+        return false;
+    };
+    let other = if bank.is_right { LEFT } else { RIGHT };
+    match heading_of(files, alloc, folder, other) {
+        Ok(Heading::NoBank) => is_longer_than_a_gate(files, alloc, folder, other),
+        _ => false,
+    }
+}
+
+// Whether a file has more than one byte.
+fn is_longer_than_a_gate<F: Files<File = File>>(
+    files: &F,
+    alloc: Global,
+    folder: &str,
+    name: &str,
+) -> bool {
+    let Ok(path) = format!(in alloc; "{folder}/{name}") else {
+        return false;
+    };
+    match fs::metadata(files, path.as_str()) {
+        Ok(found) => found.len() > 1,
+        Err(_) => false,
+    }
 }
 
 /// The bank of the greater generation.

@@ -2,7 +2,8 @@
 
 use super::heads::InUse;
 use super::stamp::stamp_now;
-use linda_net::{Event, Gauge, Tally, Watcher};
+use linda_disk::FileTrouble;
+use linda_net::{Event, Gauge, Refused, Tally, Watcher, Why};
 use std::alloc::{AllocError, Global};
 use std::io::Write;
 use std::time::Clock;
@@ -29,6 +30,7 @@ pub struct Log<'a, W: Write> {
     deeds: u64,
     refused: u64,
     unserved: u64,
+    turned: Refused,
 }
 
 impl<'a, W: Write> Log<'a, W> {
@@ -41,6 +43,7 @@ impl<'a, W: Write> Log<'a, W> {
             deeds: 0,
             refused: 0,
             unserved: 0,
+            turned: Refused::none(),
         })
     }
 
@@ -53,6 +56,12 @@ impl<'a, W: Write> Log<'a, W> {
         gauge: &Gauge,
     ) {
         let told = self.spell_opened(clock, port, bank, gauge);
+        self.send(told);
+    }
+
+    /// A call of the system on the file of a bank failed.
+    pub fn tell_failed<C: Clock>(&mut self, clock: &C, bank: &str, trouble: &FileTrouble) {
+        let told = self.spell_failed(clock, bank, trouble);
         self.send(told);
     }
 
@@ -89,6 +98,19 @@ impl<'a, W: Write> Log<'a, W> {
         self.bank(gauge)
     }
 
+    // The error is the last of the line: the words of the system have blanks.
+    fn spell_failed<C: Clock>(
+        &mut self,
+        clock: &C,
+        bank: &str,
+        trouble: &FileTrouble,
+    ) -> Result<(), AllocError> {
+        self.begin(clock, "failed")?;
+        self.word("bank", bank)?;
+        self.word("call", trouble.call.name())?;
+        write!(self.text, " error {}", trouble.error)
+    }
+
     fn spell_end<C: Clock>(
         &mut self,
         clock: &C,
@@ -121,6 +143,7 @@ impl<'a, W: Write> Log<'a, W> {
             }
             Event::Closed => self.spell_limit(clock, "thread", tally),
             Event::Missed => self.spell_limit(clock, "connection", tally),
+            Event::Turned(why) => self.spell_refused(clock, why, tally),
             Event::Unwatched => self.spell_limit(clock, "watch", tally),
             Event::NoThread => self.spell_limit(clock, "snapshots", tally),
             Event::Down => {
@@ -147,7 +170,29 @@ impl<'a, W: Write> Log<'a, W> {
         self.refused = tally.refused;
         self.unserved = unserved;
         self.state(gauge)?;
-        self.bank(gauge)
+        self.bank(gauge)?;
+        self.turned(&tally.turned)
+    }
+
+    // How many clients were refused since the line before, by the reason.
+    fn turned(&mut self, now: &Refused) -> Result<(), AllocError> {
+        let more = now.since(&self.turned);
+        self.turned = *now;
+        self.number("busy", more.busy)?;
+        self.number("toomany", more.clients)?;
+        self.number("greetings", more.greetings)?;
+        self.number("malformed", more.malformed)
+    }
+
+    fn spell_refused<C: Clock>(
+        &mut self,
+        clock: &C,
+        why: Why,
+        tally: &Tally,
+    ) -> Result<(), AllocError> {
+        self.begin(clock, "refused")?;
+        self.word("why", word_of_why(why))?;
+        self.number("connections", connected(tally))
     }
 
     fn spell_snapshot<C: Clock>(
@@ -227,6 +272,15 @@ impl<W: Write> Watcher for Log<'_, W> {
 // How many connections there are.
 fn connected(tally: &Tally) -> u64 {
     tally.came.saturating_sub(tally.over)
+}
+
+fn word_of_why(why: Why) -> &'static str {
+    match why {
+        Why::Busy => "busy",
+        Why::Clients => "toomany",
+        Why::Greeting => "greeting",
+        Why::Malformed => "malformed",
+    }
 }
 
 fn word_of(cause: Cause) -> &'static str {

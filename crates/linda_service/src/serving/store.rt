@@ -1,8 +1,9 @@
 //! The store in a folder.
 
-ghost use Rattle.std.specs.Prelude.{◌≡◌, false, IfOk};
+ghost use Rattle.std.specs.Prelude.{◌≡◌, false, IfOk, OnOk};
 
 use super::fault::ServingFault;
+use crate::bank_file::{check_apart, check_kind};
 use linda_disk::FileDisk;
 use linda_server::{Durable, MAX_LIMIT, OpenFault};
 use std::alloc::Global;
@@ -19,7 +20,8 @@ pub(crate) const RIGHT: &str = "right.bank";
 ///
 /// # Errors
 ///
-/// `InUse`; `NoStore`, `Damaged`, `Disk` as the banks are; `Memory`. Files that were missing may be there.
+/// `InUse`; `NoStore`, `Damaged`, `Disk` as the banks are, `Disk` also if one is no regular file or both are one file;
+/// `Memory`. Files that were missing may be there.
 pub fn open_store<R: Files<File = File>>(
     rt: &R,
     alloc: Global,
@@ -30,9 +32,25 @@ pub fn open_store<R: Files<File = File>>(
     let left = open_bank(rt, alloc, folder, LEFT)?;
     lock(&left)?;
     let right = open_bank(rt, alloc, folder, RIGHT)?;
+    check_apart(left.metadata(), right.metadata())?;
     let server = create_or_open(alloc, FileDisk::new(left), FileDisk::new(right))?;
     sync_folder(rt, folder)?;
     Ok(server)
+}
+
+/// Gives back the room of a snapshot that was cut off, for records. The server stays up.
+///
+/// # Errors
+///
+/// `Disk`: a device failed.
+pub(super) fn give_back(server: &mut Durable<FileDisk>) -> Result<(), ServingFault>
+    ensures { OnOk result (server.new.down ≡ false) }
+{
+    let _ = server.trim().is_err();
+    if server.is_down() {
+        return Err(ServingFault::Disk);
+    }
+    Ok(())
 }
 
 // Creates a store where both banks are empty, and opens it where one is not.
@@ -68,6 +86,7 @@ fn open_bank<R: Files<File = File>>(
     name: &str,
 ) -> Result<File, ServingFault> {
     let path = format!(in alloc; "{folder}/{name}")?;
+    check_kind(rt, path.as_str())?;
     let opened = OpenOptions::new()
         .read(true)
         .write(true)

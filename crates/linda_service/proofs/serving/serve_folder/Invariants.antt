@@ -1,5 +1,5 @@
 use Rattle.linda_service.proofs.serving.serve_folder.Given as goal
 
 -- the ledger is that of the blank
-abbrev pub ghosts-share : goal.ghosts-share
-ghosts-share g a = record { name = a.blank.name; parts = a.blank.parts }
+abbrev pub ghosts-listen_and_serve : goal.ghosts-listen_and_serve
+ghosts-listen_and_serve g a = record { name = a.blank.name; parts = a.blank.parts }

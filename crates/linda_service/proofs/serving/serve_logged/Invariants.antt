@@ -1,5 +1,5 @@
 use Rattle.linda_service.proofs.serving.serve_logged.Given as goal
 
 -- the ledger is that of the blank
-abbrev pub ghosts-share_logged : goal.ghosts-share_logged
-ghosts-share_logged g a = record { name = a.blank.name; parts = a.blank.parts }
+abbrev pub ghosts-listen_and_log : goal.ghosts-listen_and_log
+ghosts-listen_and_log g a = record { name = a.blank.name; parts = a.blank.parts }
