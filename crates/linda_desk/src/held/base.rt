@@ -10,7 +10,7 @@ ghost use Rattle.linda_server.specs.Server.{both_of, form_in_use, end_in_use, re
 ghost use Rattle.linda_server.specs.Switch.{IsSwitched};
 ghost use Rattle.linda_desk.specs.Order.{known, IsReplayed, CountsDeeds, StandsBehind};
 ghost use Rattle.linda_outbox.specs.Waiting.{waits_for};
-ghost use Rattle.linda_desk.specs.Pace.{is_due};
+ghost use Rattle.linda_desk.specs.Pace.{is_due, pace_from, tried_at};
 ghost use Rattle.linda_state.specs.Numbers.{kept_sum};
 ghost use Rattle.linda_desk.specs.Covered.{BoxesCovered};
 
@@ -59,14 +59,15 @@ impl<D: Disk, L: Ledger> Held<D, L> {
         self.server.needs_snapshot()
     }
 
-    /// Whether a snapshot pays for itself: it is due, and the records since the last one have at least as many bytes
-    /// as that one left in the bank, or half of the limit is taken; or the bank in use is not in the form of new banks.
-    /// After one that was refused, once there are as many records more as make one due. A server that was opened counts
-    /// from an empty bank on.
+    /// Whether a snapshot pays for itself: there are 1,024 records since the last one or they have 32 MiB, and they have
+    /// at least as many bytes as that one left in the bank, or half of the limit is taken; or the bank in use is not in
+    /// the form of new banks. After one that was refused, once there are 1,024 records more. Or a deed was refused for
+    /// room since the last one or since one was last tried, and there is a record that this one did not find. A server
+    /// that was opened counts records from an empty bank on, and bytes from what the bank has.
     pub fn pays(&self) -> bool
         ensures is { result ≡ is_due (is_old (form_in_use self.now.server.disks)) self.now.pace.base
-            self.now.pace.not_before (records_in_use self.now.server.disks) (end_in_use self.now.server.disks)
-            self.now.server.limit }
+            self.now.pace.start self.now.pace.not_before self.now.pace.tried self.now.pace.lacks_room
+            (records_in_use self.now.server.disks) (end_in_use self.now.server.disks) self.now.server.limit }
     {
         let server = &self.server;
         self.pace.is_due(
@@ -75,6 +76,17 @@ impl<D: Disk, L: Ledger> Held<D, L> {
             server.used(),
             server.limit(),
         )
+    }
+
+    /// No snapshot is tried before there are 1,024 records more, or a deed was refused for room and there is one more.
+    /// Nothing else changes.
+    pub fn put_off(&mut self)
+        ensures pace { self.new.pace ≡ tried_at (records_in_use self.old.server.disks) self.old.pace }
+        ensures same { (self.new.opening.value ≡ self.old.opening.value) × (self.new.base.value ≡ self.old.base.value)
+            × (self.new.receipts.items ≡ self.old.receipts.items) × (self.new.count ≡ self.old.count)
+            × (self.new.till ≡ self.old.till) × (self.new.server ≡ self.old.server) × (self.new.boxes ≡ self.old.boxes) }
+    {
+        self.pace.tries(self.server.records());
     }
 
     /// Takes a snapshot, from which on the receipts begin anew. It alone moves the base.
@@ -96,12 +108,17 @@ impl<D: Disk, L: Ledger> Held<D, L> {
         ensures down { IsErrOf result SharedFault.Down → self.new.server.down ≡ true }
         ensures same { (self.new.opening.value ≡ self.old.opening.value) × (self.new.count ≡ self.old.count)
             × (self.new.till ≡ self.old.till) }
+        // At Ok the pace is that of a new bank, else a snapshot was tried in vain.
+        ensures pace { OnOk result (self.new.pace ≡ pace_from (end_in_use self.new.server.disks)
+            (end_in_use self.new.server.disks)) }
+        ensures tried { OnErr result (self.new.pace ≡ tried_at (records_in_use self.old.server.disks) self.old.pace) }
     {
         self.pace.tries(self.server.records());
         take_snapshot(&mut self.server, alloc)?;
         self.base = Moment::of(self.server.state());
         self.receipts.clear();
-        self.pace = Pace::new(self.server.used());
+        let used = self.server.used();
+        self.pace = Pace::new(used, used);
         Ok(())
     }
 }
