@@ -9,6 +9,7 @@ mod give_up;
 mod greet;
 mod leave;
 mod measure;
+mod recall;
 mod serve;
 mod take;
 mod tell;
@@ -37,6 +38,7 @@ use linda_receipt::{Answered, Asked, Receipt, SharedFault, Till, Told};
 use linda_server::Durable;
 use linda_state::State;
 use linda_wire::Message;
+use recall::Recall;
 use std::alloc::Global;
 use std::sync::ledger::{Blank, Ledger};
 use take::take;
@@ -58,6 +60,7 @@ pub struct Held<D: Disk, L: Ledger> {
     // For each client that has an outbox the replies that wait there, in order.
     boxes: Outboxes,
     pace: Pace,
+    recall: Recall,
     ghost counted: { till.total ≡ count },
     ghost covered: { ∥ BoxesCovered (known server.before.value server.store server.down) (waits_for boxes) ∥₁ },
 }
@@ -86,6 +89,7 @@ impl<D: Disk, L: Ledger> Held<D, L> {
             till: Till::new(alloc, blank),
             boxes: Outboxes::new(alloc),
             pace,
+            recall: Recall::new(alloc),
         }
     }
 

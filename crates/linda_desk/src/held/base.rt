@@ -10,11 +10,13 @@ ghost use Rattle.linda_server.specs.Server.{both_of, form_in_use, end_in_use, re
 ghost use Rattle.linda_server.specs.Switch.{IsSwitched};
 ghost use Rattle.linda_desk.specs.Order.{known, IsReplayed, CountsDeeds, StandsBehind};
 ghost use Rattle.linda_outbox.specs.Waiting.{waits_for};
+ghost use Rattle.linda_receipt.specs.Till.{AreShortened};
 ghost use Rattle.linda_desk.specs.Pace.{is_due, pace_from, tried_at};
 ghost use Rattle.linda_state.specs.Numbers.{kept_sum};
 ghost use Rattle.linda_desk.specs.Covered.{BoxesCovered};
 
 use super::Held;
+use super::recall::begin_anew;
 use crate::pace::Pace;
 use linda_disk::Disk;
 use linda_moment::Moment;
@@ -89,7 +91,8 @@ impl<D: Disk, L: Ledger> Held<D, L> {
         self.pace.tries(self.server.records());
     }
 
-    /// Takes a snapshot, from which on the receipts begin anew. It alone moves the base.
+    /// Takes a snapshot, from which on the receipts begin anew. It alone moves the base. No receipt of a seat is younger
+    /// then: seats that came back for a next session keep their last one alone.
     ///
     /// # Errors
     ///
@@ -106,8 +109,11 @@ impl<D: Disk, L: Ledger> Held<D, L> {
         ensures full { IsErrOf result SharedFault.Full
             → (self.new.server ≡ self.old.server) × HasNoNextBank self.old.server }
         ensures down { IsErrOf result SharedFault.Down → self.new.server.down ≡ true }
-        ensures same { (self.new.opening.value ≡ self.old.opening.value) × (self.new.count ≡ self.old.count)
-            × (self.new.till ≡ self.old.till) }
+        ensures same { (self.new.opening.value ≡ self.old.opening.value) × (self.new.count ≡ self.old.count) }
+        // In all as much was told as before, and each place is as before, but that it may keep its last receipt alone.
+        ensures total { self.new.till.total ≡ self.old.till.total }
+        ensures shortened { OnOk result (AreShortened self.old.till.places self.new.till.places) }
+        ensures till { OnErr result (self.new.till ≡ self.old.till) }
         // At Ok the pace is that of a new bank, else a snapshot was tried in vain.
         ensures pace { OnOk result (self.new.pace ≡ pace_from (end_in_use self.new.server.disks)
             (end_in_use self.new.server.disks)) }
@@ -117,6 +123,7 @@ impl<D: Disk, L: Ledger> Held<D, L> {
         take_snapshot(&mut self.server, alloc)?;
         self.base = Moment::of(self.server.state());
         self.receipts.clear();
+        begin_anew(&mut self.till, &mut self.recall, alloc, self.server.state());
         let used = self.server.used();
         self.pace = Pace::new(used, used);
         Ok(())
