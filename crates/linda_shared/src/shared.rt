@@ -77,9 +77,8 @@ impl<D: Disk, L: Ledger> Shared<D, L> {
         self.desk.lock(rt).held.needs_snapshot()
     }
 
-    /// Whether a snapshot pays for itself: one is due, and the records since the last one have at least as many bytes
-    /// as that one left in the bank, or half of the limit is taken; after one that was refused, once there are as many
-    /// records more as make one due. For whoever serves, and takes them.
+    /// Whether a snapshot is to be taken: it pays for itself, or a deed was refused for room and there is a record since
+    /// the last one, or since one was last tried (`Held::pays`). For whoever serves, and takes them.
     pub fn pays<R: Wait>(&self, rt: &R) -> bool {
         self.desk.lock(rt).held.pays()
     }
