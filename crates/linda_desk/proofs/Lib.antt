@@ -7,3 +7,4 @@ pub mod CoveredLaws
 pub mod AloneLaws
 pub mod GreetLaws
 pub mod TillLaws
+pub mod ParkedLaws

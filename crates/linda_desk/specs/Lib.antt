@@ -3,3 +3,4 @@ pub mod Order
 pub mod Covered
 pub mod Greeting
 pub mod Pace
+pub mod Parked

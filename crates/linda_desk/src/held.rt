@@ -9,17 +9,21 @@ mod give_up;
 mod greet;
 mod leave;
 mod measure;
+mod recall;
 mod serve;
 mod take;
 mod tell;
 
-ghost use Rattle.std.specs.Prelude.{◌≡◌, ℕ, ◌+◌, ◌≤◌, ◌++◌, [], true, false, length, map, reverse, replicate};
+ghost use Rattle.std.specs.Prelude.{◌≡◌, ℕ, ◌+◌, ◌^◌, ◌<◌, ◌≤◌, ◌++◌, [], true, false, length, map, reverse, replicate};
 ghost use Rattle.std.specs.Prelude.{vec_len, vec_capacity, None, IfErr, OnOk, OnErr, IsErrOf};
 ghost use Rattle.linda_step.specs.declared.size.TheConstants.{MAX_BATCH};
 ghost use Rattle.linda_desk.specs.Order.{known, IsInOrder};
 ghost use Rattle.linda_desk.specs.Covered.{BoxesCovered};
+ghost use Rattle.linda_desk.specs.Pace.{pace_from};
 ghost use Rattle.linda_desk.specs.Posted.{IsHandled, WentSome};
 ghost use Rattle.linda_outbox.specs.Waiting.{waits_for};
+ghost use Rattle.linda_server.specs.Handled.{HasNoRoomFor};
+ghost use Rattle.linda_server.specs.Server.{end_in_use};
 ghost use Rattle.linda_receipt.specs.Till.{till_of};
 ghost use Rattle.linda_receipt.specs.declared.limits.TheConstants.{PARTS};
 ghost use Rattle.std.specs.FinMap as fin;
@@ -34,6 +38,7 @@ use linda_receipt::{Answered, Asked, Receipt, SharedFault, Till, Told};
 use linda_server::Durable;
 use linda_state::State;
 use linda_wire::Message;
+use recall::Recall;
 use std::alloc::Global;
 use std::sync::ledger::{Blank, Ledger};
 use take::take;
@@ -55,6 +60,7 @@ pub struct Held<D: Disk, L: Ledger> {
     // For each client that has an outbox the replies that wait there, in order.
     boxes: Outboxes,
     pace: Pace,
+    recall: Recall,
     ghost counted: { till.total ≡ count },
     ghost covered: { ∥ BoxesCovered (known server.before.value server.store server.down) (waits_for boxes) ∥₁ },
 }
@@ -68,9 +74,12 @@ impl<D: Disk, L: Ledger> Held<D, L> {
         ensures base { (result.base.value ≡ server.store.state) × (result.opening.value ≡ server.store.state) }
         ensures none { (result.receipts.items ≡ []) × (result.count ≡ 0) × ((c : ℕ) → waits_for result.boxes c ≡ None) }
         ensures till { result.till ≡ till_of 0 fin.empty }
+        // Bytes are counted from what the bank has.
+        ensures pace { result.pace ≡ pace_from 0 (end_in_use server.disks) }
     {
         let opening = Moment::of(server.state());
         let base = Moment::of(server.state());
+        let pace = Pace::new(0, server.used());
         Held {
             server,
             opening,
@@ -79,7 +88,8 @@ impl<D: Disk, L: Ledger> Held<D, L> {
             count: 0,
             till: Till::new(alloc, blank),
             boxes: Outboxes::new(alloc),
-            pace: Pace::new(0),
+            pace,
+            recall: Recall::new(alloc),
         }
     }
 
@@ -113,6 +123,10 @@ impl<D: Disk, L: Ledger> Held<D, L> {
         ensures failed { IfErr result (λ fault. map (λ a. a.told) answered.new.items
             ≡ map (λ a. a.told) answered.old.items ++ replicate (vec_len asked.old) (Told.Failed fault)) }
         ensures base { (self.new.base.value ≡ self.old.base.value) × (self.new.opening.value ≡ self.old.opening.value) }
+        // Where the server has no room for all of them, a snapshot is tried once there is a record that the last try did
+        // not find.
+        ensures lacks { OnOk result (self.old.count + length messages.now < 2 ^ 64
+            → HasNoRoomFor self.old.server messages.now → self.new.pace.lacks_room ≡ true) }
     {
         let _ = self.is_down();
         let Held {
@@ -121,9 +135,10 @@ impl<D: Disk, L: Ledger> Held<D, L> {
             count,
             till,
             boxes,
+            pace,
             ..
         } = self;
-        match take(server, receipts, boxes, alloc, *count, messages) {
+        match take(server, receipts, boxes, pace, alloc, *count, messages) {
             Ok(mut told) => {
                 settle_all(till, count, asked, answered, &mut told);
                 Ok(())

@@ -9,8 +9,10 @@
 mod crossing;
 mod gauge;
 mod held;
+mod limits;
 mod pace;
 
 pub use gauge::Gauge;
 pub use held::{Held, Report};
+pub use limits::SNAPSHOT_BYTES;
 pub use linda_server::Durable;

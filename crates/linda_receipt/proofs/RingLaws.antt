@@ -37,7 +37,7 @@ rising_more rs r up above k d below =
     ] refl
 
 -- Without the first ones.
-rising_less : (n : ℕ) (rs : List Receipt) → AreRising rs → AreRising (drop n rs)
+pub rising_less : (n : ℕ) (rs : List Receipt) → AreRising rs → AreRising (drop n rs)
 rising_less n rs up k d below =
     let long : length (drop n rs) ≡ length rs - n = length-drop n rs in
     let there : n + k + 1 < length rs = omega (arith, long, below) in

@@ -114,6 +114,20 @@ gives_up out back ps c t is =
       own = own_removed ps c t.own;
     }
 
+-- A place comes for another one that weighs the same.
+pub put_over : (out back : ℕ) (ps : Places) (c : ℕ) (p q : Place) → Tallies out back ps → get ps c ≡ Some p → weight_out q ≡ weight_out p → deeds_at q ≡ deeds_at p → IsPlaceOf c q
+    → Tallies out back (insert ps c q)
+put_over out back ps c p q t is weighs counts here =
+    let outs = sum_put weight_out ps c q (Some p) is in
+    let backs = sum_put deeds_at ps c q (Some p) is in
+    let out_is = t.out_is in
+    let back_is = t.back_is in
+    record {
+      out_is = omega (arith, outs, weighs, out_is);
+      back_is = omega (arith, backs, counts, back_is);
+      own = own_put ps c q here t.own;
+    }
+
 -- Where nobody is counted out, no place is.
 pub nobody_out : (ps : Places) → seats_out ps ≡ 0 → (c : ℕ) → get ps c ≡ Some places.Out → ⊥
 nobody_out ps none c is =

@@ -6,6 +6,7 @@ pub mod Pool
 pub mod Till
 pub mod Agreement
 pub mod Compare
+pub mod Recall
 pub mod Telling
 pub mod Codes
 pub mod TillCodes

@@ -1,5 +1,5 @@
 -- What contracts see of a ring: the last receipts of one client.
-use Rattle.std.specs.Prelude.{◌≡◌, ℕ, ◌<◌, ◌≤◌, List, [], ◌∷◌, ◌++◌, length, Option, Some, None, All}
+use Rattle.std.specs.Prelude.{◌≡◌, ◌⊎◌, ℕ, ◌<◌, ◌≤◌, List, [], ◌∷◌, ◌++◌, length, Option, Some, None, All, Contains, slice_get}
 use Rattle.std.specs.List.{AllAdjacentBelow}
 use Rattle.circular_buffer.specs.Buffer.{keep_last, last_item}
 use Rattle.linda_receipt.specs.declared.receipt.Receipt.{Receipt}
@@ -40,3 +40,19 @@ pub record IsNext (client : ℕ) (receipts : List Receipt) (r : Receipt) : Type 
 -- the receipts with one more; the oldest goes where there is no room
 abbrev pub with_receipt : List Receipt → Receipt → List Receipt
 with_receipt receipts r = keep_last RING_SIZE (receipts ++ r ∷ [])
+
+-- ---- a ring that is cut
+
+-- It keeps so many of the last receipts, and one at least, if there is one.
+pub record IsCut (old new : List Receipt) : Type 0 where
+  pub many : ℕ
+  pub some : 1 ≤ many
+  pub is : new ≡ keep_last many old
+
+-- Each receipt whose number is above the floor is still there.
+abbrev pub KeepsAbove : ℕ → List Receipt → List Receipt → Type 0
+KeepsAbove floor old new = (r : Receipt) → Contains old r → floor < number_in r → Contains new r
+
+-- No more than one is left, or the first one's number is above the floor, and so all are.
+abbrev pub IsAbove : ℕ → List Receipt → Type 0
+IsAbove floor receipts = (length receipts ≤ 1) ⊎ (floor < number_at (slice_get receipts 0))

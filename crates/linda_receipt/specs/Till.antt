@@ -1,9 +1,10 @@
 -- What contracts see of the till: how many deeds were told in all, and a place for each client that has or had a seat.
-use Rattle.std.specs.Prelude.{◌≡◌, ℕ, Bool, true, false, ◌==◌, if◌then◌else◌, List, [], Option, Some, None, IfSome}
+use Rattle.std.specs.Prelude.{◌≡◌, ◌⊎◌, ℕ, Bool, true, false, ◌==◌, if◌then◌else◌, List, [], Option, Some, None, IfSome}
 use Rattle.std.specs.List.{sum_by}
 use Rattle.std.specs.Ordering.{nat_cmp}
 use Rattle.std.specs.Map.{values_of}
 use Rattle.std.specs.FinMap as map
+use Rattle.circular_buffer.specs.Buffer.{keep_last}
 use Rattle.linda_receipt.specs.declared.receipt.Receipt.{Receipt}
 use Rattle.linda_receipt.specs.declared.place.Place.{Place}
 use Rattle.linda_receipt.specs.declared.place.Place.TheVariants as places
@@ -61,6 +62,17 @@ abbrev pub place_for : Account → Bool → Option Place
 place_for a true = Some (places.Parked (ring_of a.client a.ring) a.deeds true)
 place_for a false = if a.deeds == 0 then None else Some (places.Parked (ring_of a.client a.ring) a.deeds false)
 
+-- what is parked, with the last receipt alone, if it is not parked for good
+abbrev pub shortened : Place → Place
+shortened places.Out = places.Out
+shortened (places.Parked ring deeds true) = places.Parked ring deeds true
+shortened (places.Parked ring deeds false) = places.Parked (ring_of ring.client (keep_last 1 ring.receipts)) deeds false
+
+-- the same of a client's place, if it has one
+abbrev pub shortened_at : Option Place → Option Place
+shortened_at None = None
+shortened_at (Some place) = Some (shortened place)
+
 -- ---- all of them
 
 -- how many seats are out
@@ -86,3 +98,7 @@ pub record Tallies (out back : ℕ) (ps : Places) : Type 0 where
 pub record ComesBack (ps : Places) (a : Account) : Type 0 where
   pub out : map.get ps a.client ≡ Some places.Out
   pub all_here : a.asked ≡ 0
+
+-- Each place is as before, or its ring keeps its last receipt alone.
+abbrev pub AreShortened : Places → Places → Type 0
+AreShortened old new = (c : ℕ) → (map.get new c ≡ map.get old c) ⊎ (map.get new c ≡ shortened_at (map.get old c))

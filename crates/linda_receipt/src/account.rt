@@ -1,9 +1,9 @@
 //! What a session carries of the deeds that it was told of.
 
-ghost use Rattle.std.specs.Prelude.{◌≡◌, ◌+◌, ◌-◌, ◌<◌, ◌≤◌, ◌^◌, true, false, min};
+ghost use Rattle.std.specs.Prelude.{◌≡◌, ◌+◌, ◌-◌, ◌<◌, ◌≤◌, ◌^◌, true, false, min, length};
 ghost use Rattle.linda_receipt.specs.Account as seen;
 ghost use Rattle.linda_receipt.specs.Account.{account_of};
-ghost use Rattle.linda_receipt.specs.Ring.{IsRing, IsNext, last_number, with_receipt};
+ghost use Rattle.linda_receipt.specs.Ring.{IsRing, IsNext, IsCut, KeepsAbove, IsAbove, last_number, with_receipt};
 ghost use Rattle.linda_receipt.specs.Told.{weight};
 
 use crate::job::{Answered, Asked};
@@ -123,5 +123,22 @@ impl<L: Ledger> Account<L> {
             → (IsNext self.old.client self.old.ring receipt → ⊥) × (self.new ≡ self.old) }
     {
         self.ring.note(receipt)
+    }
+
+    /// How many receipts it has.
+    pub fn receipts(&self) -> usize
+        ensures { result ≡ length self.now.ring }
+    {
+        self.ring.len()
+    }
+
+    /// Drops the receipts with numbers up to this one, but never the last.
+    pub fn forget(&mut self, floor: u64)
+        ensures account { self.new ≡ account_of self.old.client self.old.deeds self.old.asked self.new.ring }
+        ensures cut { IsCut self.old.ring self.new.ring }
+        ensures kept { KeepsAbove floor self.old.ring self.new.ring }
+        ensures gone { IsAbove floor self.new.ring }
+    {
+        self.ring.forget(floor);
     }
 }

@@ -10,7 +10,9 @@ ghost use Rattle.linda_step.specs.Soft.{Soft};
 ghost use Rattle.linda_step.specs.Answer.{Answer};
 ghost use Rattle.linda_server.specs.Served.{AreAnswered};
 ghost use Rattle.linda_receipt.specs.declared.receipt.Receipt.{Receipt};
+ghost use Rattle.circular_buffer.specs.Buffer.{last_item};
 ghost use Rattle.linda_receipt.specs.Receipts.{deeds_in, AreTrue};
+ghost use Rattle.linda_receipt.specs.Ring.{IsRing, IsCut};
 ghost use Rattle.linda_receipt.specs.Told.{weight, weights, told_of};
 ghost use Rattle.linda_receipt.specs.Telling.{receipts_in, HasTold, IsTrueOf};
 
@@ -38,4 +40,11 @@ pub fn receipts_weigh_one_each()
     ensures all { (told : List (Option Receipt)) → weights (map told_of told) ≡ length (receipts_in told) }
     ensures one_more { (told : List (Option Receipt)) (one : Option Receipt)
         → length (receipts_in (told ++ one ∷ [])) ≡ length (receipts_in told) + weight (told_of one) }
+{}
+
+/// A ring that is cut is one, and has the last receipt of before; and what is cut twice is cut.
+pub fn cut_rings_are_rings()
+    ensures ring { (client : ℕ) (old new : List Receipt) → IsRing client old → IsCut old new → IsRing client new }
+    ensures last { (old new : List Receipt) → IsCut old new → last_item new ≡ last_item old }
+    ensures again { (old mid new : List Receipt) → IsCut old mid → IsCut mid new → IsCut old new }
 {}

@@ -28,8 +28,8 @@ pub use crossing::{account_crosses, jobs_cross, till_crosses};
 pub use fault::SharedFault;
 pub use job::{Answered, Asked};
 pub use laws::{
-    each_message_is_told_once, receipts_tell_what_was_done, receipts_weigh_one_each,
-    true_receipts_go_on,
+    cut_rings_are_rings, each_message_is_told_once, receipts_tell_what_was_done,
+    receipts_weigh_one_each, true_receipts_go_on,
 };
 pub use limits::{ACCOUNT_PARTS, MOST_ASKED, PARTS, RING_SIZE};
 pub use place::Place;

@@ -1,9 +1,10 @@
 //! A place for each client that has or had a seat.
 
-ghost use Rattle.std.specs.Prelude.{◌≡◌, ◌↔◌, true, None, Some, IsSome, OnOk, OnErr, option_copied};
+ghost use Rattle.std.specs.Prelude.{◌≡◌, ◌≢◌, ◌↔◌, ℕ, true, None, Some, IsSome, OnOk, OnErr, option_copied};
 ghost use Rattle.std.specs.FinMap as map;
 ghost use Rattle.linda_receipt.specs.declared.place.Place.TheVariants as kinds;
-ghost use Rattle.linda_receipt.specs.Till.{is_away};
+ghost use Rattle.linda_receipt.specs.Till as spec;
+ghost use Rattle.linda_receipt.specs.Till.{is_away, shortened_at};
 
 use crate::place::Place;
 use std::alloc::{AllocError, Global};
@@ -100,5 +101,40 @@ impl Places {
         ensures { self.new ≡ map.remove self.old client }
     {
         let _gone = self.entries.remove(&client);
+    }
+
+    /// The ring that is parked for this client, if not for good, keeps its last receipt alone. Takes no memory.
+    pub(crate) fn shorten(&mut self, client: u32)
+        ensures at { map.get self.new client ≡ shortened_at (map.get self.old client) }
+        ensures others { (c : ℕ) → c ≢ client → map.get self.new c ≡ map.get self.old c }
+    {
+        if self.get(client).is_none() {
+            return;
+        }
+        let place = self.swap(client, Place::Out);
+        let _out = self.swap(client, shortened(place));
+    }
+}
+
+// The place, with the last receipt alone, if it is not parked for good.
+fn shortened(place: Place) -> Place
+    ensures { result ≡ spec.shortened place }
+{
+    match place {
+        Place::Out => Place::Out,
+        Place::Parked {
+            mut ring,
+            deeds,
+            for_good,
+        } => {
+            if !for_good {
+                ring.cut(1);
+            }
+            Place::Parked {
+                ring,
+                deeds,
+                for_good,
+            }
+        }
     }
 }

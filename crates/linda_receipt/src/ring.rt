@@ -1,9 +1,9 @@
 //! The last receipts of one client.
 
-ghost use Rattle.std.specs.Prelude.{◌≡◌, ◌≢◌, true, false, All, IfOk, Contains, [], option_copied};
-ghost use Rattle.circular_buffer.specs.Buffer.{last_item};
+ghost use Rattle.std.specs.Prelude.{◌≡◌, ◌≢◌, ◌<◌, ◌≤◌, true, false, All, IfOk, Contains, [], option_copied, length, slice_get};
+ghost use Rattle.circular_buffer.specs.Buffer.{keep_last, last_item};
 ghost use Rattle.linda_receipt.specs.Ring as seen;
-ghost use Rattle.linda_receipt.specs.Ring.{IsRing, IsNext, ring_of, with_receipt};
+ghost use Rattle.linda_receipt.specs.Ring.{IsRing, IsNext, IsCut, KeepsAbove, IsAbove, number_at, ring_of, with_receipt};
 ghost use Rattle.linda_receipt.specs.Agreement.{AgreesWith, HasRival};
 
 use crate::limits::RING_SIZE;
@@ -89,6 +89,30 @@ impl Ring {
         true
     }
 
+    /// How many there are.
+    pub fn len(&self) -> usize
+        ensures { result ≡ length self.now.receipts }
+    {
+        self.receipts.len()
+    }
+
+    /// Keeps so many of the last ones.
+    pub fn cut(&mut self, len: usize)
+        ensures { self.new ≡ ring_of self.old.client (keep_last len self.old.receipts) }
+    {
+        self.receipts.truncate_front(len);
+    }
+
+    /// Drops those with numbers up to this one, but never the last.
+    pub fn forget(&mut self, floor: u64)
+        ensures client { self.new.client ≡ self.old.client }
+        ensures cut { IsCut self.old.receipts self.new.receipts }
+        ensures kept { KeepsAbove floor self.old.receipts self.new.receipts }
+        ensures gone { IsAbove floor self.new.receipts }
+    {
+        drop_up_to(&mut self.receipts, floor);
+    }
+
     /// Whether each receipt here of that one's number is that one.
     pub fn agrees(&self, other: &Receipt) -> bool
         ensures agrees { result ≡ true → AgreesWith self.now.receipts other.now }
@@ -113,5 +137,30 @@ impl Ring {
             Some(first) => other.number() < first.number(),
             None => true,
         }
+    }
+}
+
+// Drops those with numbers up to this one, but never the last.
+fn drop_up_to(receipts: &mut HeapCircularBuffer<Receipt>, floor: u64)
+    ensures capacity { receipts.new.capacity ≡ receipts.old.capacity }
+    ensures cut { IsCut receipts.old.items receipts.new.items }
+    ensures kept { KeepsAbove floor receipts.old.items receipts.new.items }
+    ensures gone { IsAbove floor receipts.new.items }
+{
+    while has_old(receipts, floor) {
+        let rest = receipts.len() - 1;
+        receipts.truncate_front(rest);
+    }
+}
+
+// Whether there are several, and the first one has a number up to this one.
+fn has_old(receipts: &HeapCircularBuffer<Receipt>, floor: u64) -> bool
+    ensures old { result ≡ true → (1 < length receipts.now.items)
+        × (number_at (slice_get receipts.now.items 0) ≤ floor) }
+    ensures above { result ≡ false → IsAbove floor receipts.now.items }
+{
+    match receipts.front() {
+        Some(first) => receipts.len() > 1 && first.number() <= floor,
+        None => false,
     }
 }

@@ -1,6 +1,7 @@
 //! What each session was told, as it stands under the server's lock.
 
 mod compare;
+mod recall;
 
 ghost use Rattle.std.specs.Prelude.{◌≡◌, ◌+◌, ◌*◌, ◌<◌, ◌≤◌, ◌^◌, ◌⊎◌, true, false, ℕ, IfOk, OnErr};
 ghost use Rattle.std.specs.Prelude.{IfSome, IfNone, IsSome, Some, None};

@@ -82,8 +82,8 @@ impl<D: Disk, L: Ledger> Shared<D, L> {
         self.desk.lock(rt).held.pays()
     }
 
-    /// Has no snapshot tried before there are as many records more as make one due, unless a deed was refused for room:
-    /// for a server whose last snapshot was cut off.
+    /// Has no snapshot that pays tried before there are as many records more as make one due; one that a deed asks for
+    /// which was refused for room is taken all the same. For a server that was opened, and may have gone down in one.
     pub fn put_off<R: Wait>(&self, rt: &R) {
         self.desk.lock(rt).held.put_off();
     }

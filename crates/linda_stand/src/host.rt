@@ -64,6 +64,9 @@ pub trait Host<S, O>: Drop {
     /// The session ends.
     fn leave<R: Wait>(&self, rt: &R, seat: S, outlet: O) -> Result<(), SharedFault>;
 
+    /// Whether a snapshot pays for itself.
+    fn pays<R: Wait>(&self, rt: &R) -> bool;
+
     /// The server writes a snapshot.
     fn snapshot<R: Wait>(&self, rt: &R) -> Result<(), SharedFault>;
 
@@ -126,6 +129,10 @@ impl<L: Ledger> Host<Seat<L>, Outlet<L>> for Shared<MemDisk, L> {
 
     fn leave<R: Wait>(&self, rt: &R, seat: Seat<L>, outlet: Outlet<L>) -> Result<(), SharedFault> {
         Shared::leave(self, rt, seat, outlet)
+    }
+
+    fn pays<R: Wait>(&self, rt: &R) -> bool {
+        Shared::pays(self, rt)
     }
 
     fn snapshot<R: Wait>(&self, rt: &R) -> Result<(), SharedFault> {

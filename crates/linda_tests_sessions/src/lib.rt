@@ -7,6 +7,8 @@ mod batches;
 #[cfg(test)]
 mod disks;
 #[cfg(test)]
+mod full;
+#[cfg(test)]
 mod hostile;
 #[cfg(test)]
 mod script;

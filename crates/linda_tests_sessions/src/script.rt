@@ -1,9 +1,9 @@
 //! Sessions in one thread, line by line.
 //!
 //! `greet hello 2 7 fresh` greets; `7 out 1 ("a", 3)` submits a message of client 7, and
-//! `all 7 out 1 ("a", 3); 7 cancel 2` several at once; `leave 7`, `snapshot`, and `finish 7 8`, which gives both seats
-//! back. What comes of a line is written: `7 did 1` of a receipt for message 1, a fault in words, and then all replies
-//! that are there, session by session.
+//! `all 7 out 1 ("a", 3); 7 cancel 2` several at once; `leave 7`, `pays`, `snapshot`, and `finish 7 8`, which gives both
+//! seats back. What comes of a line is written: `7 did 1` of a receipt for message 1, whether a snapshot pays, a fault in
+//! words, and then all replies that are there, session by session.
 
 ghost use Rattle.std.specs.Prelude.{◌≡◌, ◌≤◌, ◌<◌, true, length, All, IfOk};
 ghost use Rattle.linda_step.specs.declared.size.TheConstants.{MAX_BATCH};
@@ -72,6 +72,7 @@ impl<S: Drop, O: Drop, H: Host<S, O>> Sessions<S, O, H> {
             "all" => self.submit_batch(rt, alloc, rest, came),
             "leave" => self.leave(rt, rest, came),
             "finish" => self.finish(rt, alloc, rest, came),
+            "pays" => self.pays(rt, came),
             "snapshot" => self.snapshot(rt, came),
             _ => self.submit_one(rt, alloc, line, came),
         }
@@ -226,6 +227,11 @@ impl<S: Drop, O: Drop, H: Host<S, O>> Sessions<S, O, H> {
             seats.push(seat)?;
         }
         Ok(seats)
+    }
+
+    fn pays<R: Wait>(&mut self, rt: &R, came: &mut String) -> Result<(), WordsFault> {
+        let answer = self.host.pays(rt);
+        written(writeln!(came, "> pays {answer}"))
     }
 
     fn snapshot<R: Wait>(&mut self, rt: &R, came: &mut String) -> Result<(), WordsFault> {

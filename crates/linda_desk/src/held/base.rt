@@ -10,11 +10,13 @@ ghost use Rattle.linda_server.specs.Server.{both_of, form_in_use, end_in_use, re
 ghost use Rattle.linda_server.specs.Switch.{IsSwitched};
 ghost use Rattle.linda_desk.specs.Order.{known, IsReplayed, CountsDeeds, StandsBehind};
 ghost use Rattle.linda_outbox.specs.Waiting.{waits_for};
-ghost use Rattle.linda_desk.specs.Pace.{is_due};
+ghost use Rattle.linda_receipt.specs.Till.{AreShortened};
+ghost use Rattle.linda_desk.specs.Pace.{is_due, pace_from, put_off_at, tried_at};
 ghost use Rattle.linda_state.specs.Numbers.{kept_sum};
 ghost use Rattle.linda_desk.specs.Covered.{BoxesCovered};
 
 use super::Held;
+use super::recall::begin_anew;
 use crate::pace::Pace;
 use linda_disk::Disk;
 use linda_moment::Moment;
@@ -59,14 +61,15 @@ impl<D: Disk, L: Ledger> Held<D, L> {
         self.server.needs_snapshot()
     }
 
-    /// Whether a snapshot pays for itself: it is due, and the records since the last one have at least as many bytes
-    /// as that one left in the bank, or half of the limit is taken; or the bank in use is not in the form of new banks.
-    /// After one that was refused, once there are as many records more as make one due. A server that was opened counts
-    /// from an empty bank on.
+    /// Whether a snapshot pays for itself: there are 1,024 records since the last one or they have 32 MiB, and they have
+    /// at least as many bytes as that one left in the bank, or half of the limit is taken; or the bank in use is not in
+    /// the form of new banks. After one that was refused, once there are 1,024 records more. Or a deed was refused for
+    /// room since the last one or since one was last tried, and there is a record that this one did not find. A server
+    /// that was opened counts records from an empty bank on, and bytes from what the bank has.
     pub fn pays(&self) -> bool
         ensures is { result ≡ is_due (is_old (form_in_use self.now.server.disks)) self.now.pace.base
-            self.now.pace.not_before (records_in_use self.now.server.disks) (end_in_use self.now.server.disks)
-            self.now.server.limit }
+            self.now.pace.start self.now.pace.not_before self.now.pace.tried self.now.pace.lacks_room
+            (records_in_use self.now.server.disks) (end_in_use self.now.server.disks) self.now.server.limit }
     {
         let server = &self.server;
         self.pace.is_due(
@@ -77,7 +80,19 @@ impl<D: Disk, L: Ledger> Held<D, L> {
         )
     }
 
-    /// Takes a snapshot, from which on the receipts begin anew. It alone moves the base.
+    /// No snapshot that pays is tried before there are 1,024 records more; one that a refused deed asks for is. Nothing else
+    /// changes.
+    pub fn put_off(&mut self)
+        ensures pace { self.new.pace ≡ put_off_at (records_in_use self.old.server.disks) self.old.pace }
+        ensures same { (self.new.opening.value ≡ self.old.opening.value) × (self.new.base.value ≡ self.old.base.value)
+            × (self.new.receipts.items ≡ self.old.receipts.items) × (self.new.count ≡ self.old.count)
+            × (self.new.till ≡ self.old.till) × (self.new.server ≡ self.old.server) × (self.new.boxes ≡ self.old.boxes) }
+    {
+        self.pace.puts_off(self.server.records());
+    }
+
+    /// Takes a snapshot, from which on the receipts begin anew. It alone moves the base. No receipt of a seat is younger
+    /// then: seats that came back for a next session keep their last one alone.
     ///
     /// # Errors
     ///
@@ -94,14 +109,23 @@ impl<D: Disk, L: Ledger> Held<D, L> {
         ensures full { IsErrOf result SharedFault.Full
             → (self.new.server ≡ self.old.server) × HasNoNextBank self.old.server }
         ensures down { IsErrOf result SharedFault.Down → self.new.server.down ≡ true }
-        ensures same { (self.new.opening.value ≡ self.old.opening.value) × (self.new.count ≡ self.old.count)
-            × (self.new.till ≡ self.old.till) }
+        ensures same { (self.new.opening.value ≡ self.old.opening.value) × (self.new.count ≡ self.old.count) }
+        // In all as much was told as before, and each place is as before, but that it may keep its last receipt alone.
+        ensures total { self.new.till.total ≡ self.old.till.total }
+        ensures shortened { OnOk result (AreShortened self.old.till.places self.new.till.places) }
+        ensures till { OnErr result (self.new.till ≡ self.old.till) }
+        // At Ok the pace is that of a new bank, else a snapshot was tried in vain.
+        ensures pace { OnOk result (self.new.pace ≡ pace_from (end_in_use self.new.server.disks)
+            (end_in_use self.new.server.disks)) }
+        ensures tried { OnErr result (self.new.pace ≡ tried_at (records_in_use self.old.server.disks) self.old.pace) }
     {
         self.pace.tries(self.server.records());
         take_snapshot(&mut self.server, alloc)?;
         self.base = Moment::of(self.server.state());
         self.receipts.clear();
-        self.pace = Pace::new(self.server.used());
+        begin_anew(&mut self.till, &mut self.recall, alloc, self.server.state());
+        let used = self.server.used();
+        self.pace = Pace::new(used, used);
         Ok(())
     }
 }

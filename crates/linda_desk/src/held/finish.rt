@@ -6,7 +6,7 @@ ghost use Rattle.linda_receipt.specs.Till.{deeds_back, seats_out, receipts_at};
 ghost use Rattle.linda_receipt.specs.Compare.{IsToldSo, LastIsKept, Names};
 
 use super::Held;
-use super::leave::put_back;
+use super::leave::put_back_for_good;
 use linda_disk::Disk;
 use linda_receipt::{Account, SharedFault, Till};
 use std::sync::ledger::Ledger;
@@ -73,6 +73,6 @@ fn put_all_back<L: Ledger>(till: &mut Till<L>, accounts: Vec<Account<L>>)
     ensures { till.new.total ≡ till.old.total }
 {
     for account in accounts {
-        put_back(till, account, true);
+        put_back_for_good(till, account);
     }
 }

@@ -5,12 +5,14 @@ ghost use Rattle.linda_step.specs.Dispatch.{on_close};
 ghost use Rattle.linda_outbox.specs.Waiting.{waits_for};
 ghost use Rattle.linda_receipt.specs.Till.{till_of, with_place, place_for, ComesBack};
 ghost use Rattle.linda_desk.specs.Order.{known};
+ghost use Rattle.linda_desk.specs.Parked.{IsParked};
 ghost use Rattle.linda_desk.specs.Posted.{HasClosed};
 ghost use Rattle.linda_desk.specs.Covered.{BoxesCovered};
 ghost use Rattle.linda_state.specs.State.{State};
 
 use super::Held;
 use super::base::fault_of;
+use super::recall::{Recall, put_back};
 use linda_disk::Disk;
 use linda_outbox::Outboxes;
 use linda_receipt::{Account, SharedFault, Till};
@@ -38,16 +40,16 @@ impl<D: Disk, L: Ledger> Held<D, L> {
         close_and_post(&mut self.server, &mut self.boxes, alloc, client)
     }
 
-    /// The client's seat comes back, for its next session. Takes no memory.
+    /// The client's seat comes back, for its next session: with the receipts that are younger than the base, and its last
+    /// one.
     pub fn park(&mut self, account: Account<L>)
-        ensures parked { ComesBack self.old.till.places account → self.new.till
-            ≡ till_of self.old.till.total (with_place self.old.till.places account.client (place_for account false)) }
+        ensures parked { ComesBack self.old.till.places account → IsParked self.old.till account self.new.till }
         ensures lost { (ComesBack self.old.till.places account → ⊥) → self.new.till ≡ self.old.till }
         ensures same { (self.new.opening.value ≡ self.old.opening.value) × (self.new.base.value ≡ self.old.base.value)
             × (self.new.receipts.items ≡ self.old.receipts.items) × (self.new.count ≡ self.old.count)
             × (self.new.server ≡ self.old.server) × (self.new.boxes ≡ self.old.boxes) }
     {
-        put_back(&mut self.till, account, false);
+        put_back(&mut self.till, &mut self.recall, account);
     }
 
     /// The client's seat comes back for good: it goes out no more. Takes no memory.
@@ -59,7 +61,7 @@ impl<D: Disk, L: Ledger> Held<D, L> {
             × (self.new.receipts.items ≡ self.old.receipts.items) × (self.new.count ≡ self.old.count)
             × (self.new.server ≡ self.old.server) × (self.new.boxes ≡ self.old.boxes) }
     {
-        put_back(&mut self.till, account, true);
+        put_back_for_good(&mut self.till, account);
     }
 
     /// The client leaves: it is closed and, whatever that answers, its outbox is shut and its seat comes back.
@@ -72,8 +74,7 @@ impl<D: Disk, L: Ledger> Held<D, L> {
             ≡ (on_close self.old.server.store.state.bag account.client self.old.server.store.soft).soft) }
         ensures state { OnOk result (self.new.server.store.state ≡ self.old.server.store.state) }
         ensures down { OnErr result (self.new.server.down ≡ true) }
-        ensures parked { ComesBack self.old.till.places account → self.new.till
-            ≡ till_of self.old.till.total (with_place self.old.till.places account.client (place_for account false)) }
+        ensures parked { ComesBack self.old.till.places account → IsParked self.old.till account self.new.till }
         ensures shut { waits_for self.new.boxes account.client ≡ None }
         ensures same { (self.new.opening.value ≡ self.old.opening.value) × (self.new.base.value ≡ self.old.base.value)
             × (self.new.receipts.items ≡ self.old.receipts.items) × (self.new.count ≡ self.old.count) }
@@ -82,6 +83,7 @@ impl<D: Disk, L: Ledger> Held<D, L> {
             &mut self.server,
             &mut self.boxes,
             &mut self.till,
+            &mut self.recall,
             alloc,
             account,
         )
@@ -93,6 +95,7 @@ fn depart<D: Disk, L: Ledger>(
     server: &mut Durable<D>,
     boxes: &mut Outboxes,
     till: &mut Till<L>,
+    recall: &mut Recall,
     alloc: Global,
     account: Account<L>,
 ) -> Result<(), SharedFault>
@@ -100,8 +103,7 @@ fn depart<D: Disk, L: Ledger>(
         ≡ (on_close server.old.store.state.bag account.client server.old.store.soft).soft) }
     ensures state { OnOk result (server.new.store.state ≡ server.old.store.state) }
     ensures down { OnErr result (server.new.down ≡ true) }
-    ensures parked { ComesBack till.old.places account → till.new
-        ≡ till_of till.old.total (with_place till.old.places account.client (place_for account false)) }
+    ensures parked { ComesBack till.old.places account → IsParked till.old account till.new }
     ensures shut { waits_for boxes.new account.client ≡ None }
     ensures total { till.new.total ≡ till.old.total }
     ensures known { (known server.new.before.value server.new.store server.new.down
@@ -112,18 +114,18 @@ fn depart<D: Disk, L: Ledger>(
     let client = account.client();
     let answer = close_and_post(server, boxes, alloc, client);
     boxes.shut(client);
-    put_back(till, account, false);
+    put_back(till, recall, account);
     answer
 }
 
-/// The account comes back to its client's place. In all as much was told as before.
-pub(super) fn put_back<L: Ledger>(till: &mut Till<L>, account: Account<L>, for_good: bool)
+/// The account comes back to its client's place for good. In all as much was told as before.
+pub(super) fn put_back_for_good<L: Ledger>(till: &mut Till<L>, account: Account<L>)
     ensures parked { ComesBack till.old.places account → till.new
-        ≡ till_of till.old.total (with_place till.old.places account.client (place_for account for_good)) }
+        ≡ till_of till.old.total (with_place till.old.places account.client (place_for account true)) }
     ensures lost { (ComesBack till.old.places account → ⊥) → till.new ≡ till.old }
     ensures total { till.new.total ≡ till.old.total }
 {
-    till.park(account, for_good);
+    till.park(account, true);
 }
 
 // Closes the client and posts what is sent. What is known of the server is as before.

@@ -1,16 +1,20 @@
 //! Messages of several clients: in one step where that may be, else one by one.
 
-ghost use Rattle.std.specs.Prelude.{◌≡◌, true, false, ◌+◌, ◌≤◌, ◌<◌, ◌^◌, ◌++◌, ℕ, length, vec_len, IfOk, OnErr, IsErrOf};
+ghost use Rattle.std.specs.Prelude.{◌≡◌, ◌⊎◌, true, false, ◌+◌, ◌≤◌, ◌<◌, ◌^◌, ◌++◌, ℕ, length, vec_len};
+ghost use Rattle.std.specs.Prelude.{IfOk, OnOk, OnErr, IsErrOf};
 ghost use Rattle.linda_state.specs.State as states;
 ghost use Rattle.linda_step.specs.declared.size.TheConstants.{MAX_BATCH};
+ghost use Rattle.linda_server.specs.Handled.{HasNoRoomFor};
 ghost use Rattle.linda_outbox.specs.Waiting.{waits_for};
 ghost use Rattle.linda_desk.specs.Order.{known, IsInOrder};
+ghost use Rattle.linda_desk.specs.Pace.{refused_for_room};
 ghost use Rattle.linda_receipt.specs.Telling.{receipts_in};
 ghost use Rattle.linda_desk.specs.Posted.{WereTaken, WentSome};
 ghost use Rattle.linda_desk.specs.Covered.{BoxesCovered};
 
 use super::alone::serve_each;
 use super::serve::serve;
+use crate::pace::Pace;
 use linda_disk::Disk;
 use linda_outbox::Outboxes;
 use linda_receipt::{Receipt, SharedFault};
@@ -19,7 +23,8 @@ use linda_wire::Message;
 use std::alloc::Global;
 
 /// Takes the messages: all in one step of the server, or one by one where it is full or the count of deeds could pass
-/// its last value.
+/// its last value. Where it has no room for all of them, it has none for one of them at least, once those before it were
+/// taken: that asks for a snapshot.
 ///
 /// # Errors
 ///
@@ -28,6 +33,7 @@ pub(super) fn take<D: Disk>(
     server: &mut Durable<D>,
     receipts: &mut Vec<Receipt>,
     boxes: &mut Outboxes,
+    pace: &mut Pace,
     alloc: Global,
     count: u64,
     messages: &[(u32, Message)],
@@ -58,13 +64,20 @@ pub(super) fn take<D: Disk>(
         (known server.old.before.value server.old.store server.old.down)
         → BoxesCovered (known server.old.before.value server.old.store server.old.down) (waits_for boxes.old)
         → BoxesCovered (known server.new.before.value server.new.store server.new.down) (waits_for boxes.new) }
+    // Where the server has no room for all of them a snapshot is asked for; nothing else of the pace changes.
+    ensures lacks { OnOk result (count + length messages.now < 2 ^ 64 → HasNoRoomFor server.old messages.now
+        → pace.new.lacks_room ≡ true) }
+    ensures pace { (pace.new ≡ pace.old) ⊎ (pace.new ≡ refused_for_room pace.old) }
 {
     if could_pass(count, messages.len()) {
         return serve_each(server, receipts, boxes, alloc, count, messages);
     }
     match serve(server, receipts, boxes, alloc, messages) {
         Ok(told) => Ok(told),
-        Err(SharedFault::Full) => serve_each(server, receipts, boxes, alloc, count, messages),
+        Err(SharedFault::Full) => {
+            pace.refuses();
+            serve_each(server, receipts, boxes, alloc, count, messages)
+        }
         Err(fault) => Err(fault),
     }
 }

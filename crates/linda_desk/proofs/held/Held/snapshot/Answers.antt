@@ -29,7 +29,7 @@ invariant_of-self-2 g c =
       in_order = ∥∥₁_map h.in_order (λ so.
           base_moved h.opening.value h.base.value c.of.result.value h.receipts.items c.clear.new.self.items h.count h.server.down s.down h.server.before.value s.before.value h.server.store s.store
           up.0 up.1 c.take_snapshot.ensures.store (c.of.ensures ∙ c.state.ensures.state) c.clear.ensures.items so);
-      counted = h.counted;
+      counted = c.begin_anew.ensures.total ∙ h.counted;
       covered = ∥∥₁_map h.covered (λ covered.
           stays_covered (known h.server.before.value h.server.store h.server.down) (known s.before.value s.store s.down) (λ q. waits_for h.boxes q) (λ q. waits_for h.boxes q)
           (still_up h.server.before.value s.before.value h.server.store s.store h.server.down s.down up.0 up.1 (ap (λ x. x.state) c.take_snapshot.ensures.store)) (λ q. refl) covered);

@@ -1,5 +1,5 @@
 -- All in one step, or one by one.
-use Rattle.std.proofs.Common.{[], Err, sym, ap, subst, arith}
+use Rattle.std.proofs.Common.{[], inl, Err, refl, sym, ap, subst, arith}
 use Rattle.linda_outbox.specs.Waiting.{waits_for}
 use Rattle.linda_desk.specs.Order.{known, IsInOrder}
 use Rattle.linda_desk.specs.Covered.{BoxesCovered}
@@ -43,4 +43,6 @@ returns-in-Err g c = record {
   ok_order = λ opening base count so. tt;
   err_order = c.in-Err.ensures.err_order;
   covered = λ opening base count so covered. c.in-Err.ensures.err_covered opening base count so covered;
+  lacks = tt;
+  pace = inl refl;
 }

@@ -1,7 +1,7 @@
 use Rattle.std.proofs.Common.{ap}
 use Rattle.linda_receipt.specs.Till.{Till, ComesBack}
 use Rattle.linda_desk.proofs.TillLaws.{either_way}
-use Rattle.linda_desk.proofs.held.leave.put_back.Goals as goal
+use Rattle.linda_desk.proofs.held.leave.put_back_for_good.Goals as goal
 
 pub returns-clause-total : goal.returns-clause-total
 returns-clause-total g c =
