@@ -89,7 +89,7 @@ impl Caller<'_> {
             if let Some((server, arrival)) = self.inbox.take(rt) {
                 self.hear(rt, alloc, server, arrival, writer)?;
             } else if self.millis(rt)? >= PATIENCE {
-                return Err(CallFault::NoConnection(server as u32));
+                return Err(CallFault::NoConnection(server));
             }
         }
         Ok(())
@@ -155,9 +155,11 @@ impl Caller<'_> {
         alloc: Global,
         writer: &mut W,
     ) -> Result<(), CallFault> {
-        for server in 0..self.links.len() as u32 {
+        let mut server: u32 = 0;
+        for _ in 0..self.links.len() {
             let line = self.kept_line(rt, alloc, server, writer)?;
             write_line(writer, &line)?;
+            server = server.saturating_add(1);
         }
         Ok(())
     }

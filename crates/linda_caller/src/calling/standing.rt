@@ -29,9 +29,16 @@ pub(super) fn unmet(alloc: Global, servers: usize) -> Result<Vec<Standing>, Allo
     }; servers]
 }
 
-/// The first that was not met.
-pub(super) fn first_unmet(standings: &[Standing]) -> Option<usize> {
-    standings.iter().position(|standing| !standing.is_met)
+/// The number of the first that was not met.
+pub(super) fn first_unmet(standings: &[Standing]) -> Option<u32> {
+    let mut server: u32 = 0;
+    for standing in standings {
+        if !standing.is_met {
+            return Some(server);
+        }
+        server = server.saturating_add(1);
+    }
+    None
 }
 
 impl Standing {
