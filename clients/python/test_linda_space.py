@@ -571,6 +571,8 @@ def ends_of(value: Any) -> list:
         return ["refused", value.server, value.code, value.detail]
     if isinstance(value, Left):
         return ["refused left"]
+    if isinstance(value, Stored):
+        return ["stored", value.server, value.id]
     if isinstance(value, Kept):
         return ["kept", value.kind, value.number, *([] if value.id is None else [value.id]), *([] if value.tuple is None else [list(value.tuple)])]
     if isinstance(value, Outcome):
@@ -635,6 +637,8 @@ class Player:
         if word == "leave":
             space.leave()
             return ["left"]
+        if word == "again":
+            return space.again()
         return ["dropped", list(space.abandon())]
 
     # ---- the servers
