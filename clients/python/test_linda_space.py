@@ -13,30 +13,100 @@ import json
 import os
 import queue
 import shutil
+import signal
 import socket
+import subprocess
 import sys
 import tempfile
 import threading
 import time
 import unittest
 from pathlib import Path
-from typing import Any, Callable, List
+from typing import Any, Callable, List, Optional, Tuple
 from unittest import mock
 
 HERE = Path(__file__).resolve().parent
 TOP = HERE.parent.parent
-sys.path[:0] = [str(HERE), str(TOP / "tools")]
+sys.path[:0] = [str(HERE), str(TOP / "examples")]
 
 import linda_space  # noqa: E402
 from linda_space import (  # noqa: E402
-    ANY, BOOL, INT, TEXT, Alarm, Always, BadReply, Busy, Choose, Closed, Idle, In, Kept, Left, Nack, Never, NoConnection, Outcome, OutOfRange, Rd, Refused, Space,
-    Stored, Wrap)
-import banks  # noqa: E402
-from served import Peer, Server, frames  # noqa: E402
+    ANY, BOOL, INT, PACKED, TEXT, Alarm, Always, BadReply, Busy, Choose, Closed, Gone, Idle, In, Kept, Left, Nack, Never, NoConnection, NoNumber, Outcome, OutOfRange,
+    Rd, Refused, Restored, Space, Stored, TimedOut, Wrap, pack, unpack)
+import client as frames  # noqa: E402
 
 PROGRAM = Path(os.environ.get("LINDA", TOP / "linda"))
 PATIENCE = 20
 MOST_CLIENTS = 65_536
+
+
+class Server:
+    """A server of the program on a folder, which is ready once this is made."""
+
+    def __init__(self, folder: Path, port: int = 0) -> None:
+        self.folder = folder
+        self.process = subprocess.Popen([str(PROGRAM), "serve", "--port", str(port), "--dir", str(folder)], stdin=subprocess.DEVNULL, stdout=subprocess.PIPE,
+                                        stderr=subprocess.PIPE, universal_newlines=True)
+        assert self.process.stdout and self.process.stderr
+        line = self.process.stdout.readline()
+        if not line.startswith("ready "):
+            raise ConnectionError(f"the server did not start: {self.process.stderr.read()!r}, status {self.process.wait()}")
+        self.port = int(line.split()[1])
+
+    def kill(self) -> None:
+        """kill -9."""
+        self.process.kill()
+        self.process.wait()
+        for stream in (self.process.stdout, self.process.stderr):
+            if stream:
+                stream.close()
+
+    def stop(self) -> None:
+        """It does nothing, and its connections stay, until it goes on."""
+        self.process.send_signal(signal.SIGSTOP)
+
+    def go_on(self) -> None:
+        self.process.send_signal(signal.SIGCONT)
+
+
+class Peer:
+    """A connection that sends bytes and takes frames out of what came, as (name, parts) of examples/client.py."""
+
+    def __init__(self, port: int) -> None:
+        self.stream = socket.create_connection(("127.0.0.1", port), timeout=PATIENCE)
+        self.stream.setsockopt(socket.IPPROTO_TCP, socket.TCP_NODELAY, 1)
+
+    def send(self, data: bytes) -> None:
+        self.stream.sendall(data)
+
+    def exactly(self, size: int) -> bytes:
+        data = b""
+        while len(data) < size:
+            piece = self.stream.recv(size - len(data))
+            if not piece:
+                raise ConnectionError("the connection ended")
+            data += piece
+        return data
+
+    def receive(self) -> Tuple[str, dict]:
+        length = self.exactly(4)
+        return frames.read_frame(length + self.exactly(int.from_bytes(length, "big")))
+
+    def ask(self, data: bytes) -> Tuple[str, dict]:
+        self.send(data)
+        return self.receive()
+
+    def greet(self, client: int) -> int:
+        """Greets, and again while the server says Busy; returns the last number."""
+        while True:
+            name, parts = self.ask(frames.hello(client, False))
+            if name == "Welcome":
+                return parts["last"]
+            if (name, parts.get("code")) != ("Refused", 3):
+                raise ValueError(frames.words_of(name, parts))
+
+    def close(self) -> None:
+        self.stream.close()
 
 
 class Going:
@@ -68,7 +138,7 @@ class OverServers(unittest.TestCase):
 
     def serve(self, name: str = "one", port: int = 0) -> Server:
         (self.folder / name).mkdir(exist_ok=True)
-        server = Server(self.folder / name, port, PROGRAM)
+        server = Server(self.folder / name, port)
         self.addCleanup(server.kill)
         return server
 
@@ -281,7 +351,7 @@ class OverServers(unittest.TestCase):
         self.assertIsNone(again.pending)
         with self.assertRaisesRegex(Refused, "refused Left, detail 2"):
             again.take("a", INT)
-        self.assertEqual((again.pending, again.abandon()), ("sync", ()))
+        self.assertEqual((again.pending, again.abandon()), (None, ()))
         self.assertEqual(self.space(right, client=8).take("a", INT), ("a", 1))
 
     def test_a_leave_goes_on_in_a_later_life(self) -> None:
@@ -300,9 +370,9 @@ class OverServers(unittest.TestCase):
 
     def test_a_leave_is_pending_while_a_server_is_gone(self) -> None:
         left, right = self.serve("left"), self.serve("right")
-        space = self.space(left, right)
+        space = self.space(left, right, patience=0.2)
         right.kill()
-        with mock.patch.object(linda_space, "MOST_TRIES", 20), self.assertRaises(NoConnection):
+        with self.assertRaises(NoConnection):
             space.leave()
         self.assertEqual(space.pending, "leave")
         for call in (lambda: space.out("a"), space.leave):
@@ -317,19 +387,19 @@ class OverServers(unittest.TestCase):
 
     def test_too_many_clients(self) -> None:
         (self.folder / "one").mkdir()
-        kept: tuple = "Left",
-        full = banks.State(1, {}, {client: (1, kept) for client in range(MOST_CLIENTS - 1)})
-        (self.folder / "one" / "left.bank").write_bytes(banks.spell_bank(1, full))
+        # A bank (docs/FORMATS.md): clients 0 to 65,534 have left with their number 1, and there is no tuple. Then a closed gate.
+        snapshot = b"".join([frames.spell_number(1), bytes(4), frames.spell_number(MOST_CLIENTS - 1, 4),
+                             *(frames.spell_number(client, 4) + frames.spell_number(1) + b"\4" for client in range(MOST_CLIENTS - 1))])
+        bank = b"\1LND2" + frames.spell_number(1) + frames.spell_number(len(snapshot), 4) + snapshot + b"\0"
+        (self.folder / "one" / "left.bank").write_bytes(bank)
         server = self.serve()
         early = self.space(server, client=100_000)
         self.assertEqual(self.space(server, client=200_000).out("a"), (0, 1))
         self.refused(lambda: Space([server.port], 300_000), 0, "TooManyClients", MOST_CLIENTS)
         self.refused(lambda: early.out("b"), 0, "TooManyClients", MOST_CLIENTS)
         self.assertIsNone(early.pending)
-        self.refused(lambda: early.take("a"), 0, "TooManyClients", MOST_CLIENTS)
-        self.assertEqual(early.pending, "sync")
-        with self.assertRaises(Busy):
-            early.abandon()
+        self.refused(lambda: early.choose(In("a").nack(3)), 0, "TooManyClients", MOST_CLIENTS)
+        self.assertEqual((early.pending, early.abandon()), (None, (3,)))
 
     def test_another_program_uses_the_number(self) -> None:
         server = self.serve()
@@ -346,19 +416,17 @@ class OverServers(unittest.TestCase):
         self.assertIsNone(space.pending)
         server.kill()
         self.serve("other", server.port)
-        self.refused(lambda: space.out("b"), 0, "Gap", 0)
-        self.assertIsNone(space.read("b", timeout=0.05))
+        self.assertIsNone(self.space(server, client=8).read("b", timeout=0.05))
 
-    def test_goes_on_after_too_many_tries(self) -> None:
+    def test_goes_on_after_a_server_was_away_too_long(self) -> None:
         server = self.serve()
-        space = self.space(server)
+        space = self.space(server, patience=0.2)
         space.out("a", 0)
         server.kill()
-        with mock.patch.object(linda_space, "MOST_TRIES", 20):
-            for call in (lambda: space.out("a", 1), space.again):
-                with self.assertRaises(NoConnection):
-                    call()
-                self.assertEqual(space.pending, "out")
+        for call in (lambda: space.out("a", 1), space.again):
+            with self.assertRaises(NoConnection) as caught:
+                call()
+            self.assertEqual((caught.exception.pending, space.pending), ("out", "out"))
         for call in (lambda: space.out("a", 2), lambda: space.take("a"), space.last_reply):
             with self.assertRaises(Busy):
                 call()
@@ -371,20 +439,23 @@ class OverServers(unittest.TestCase):
         self.assertEqual([space.take("a", 1), space.take("a", 0)], [("a", 1), ("a", 0)])
         self.assertIsNone(space.read("a", ANY, timeout=0.05))
 
-    def test_abandons_or_goes_on_with_a_take(self) -> None:
+    def test_a_take_is_over_after_an_error(self) -> None:
         server = self.serve()
-        space, other = self.space(server), self.space(server, client=8)
+        space, other = self.space(server, patience=0.2), self.space(server, client=8)
         server.kill()
-        with mock.patch.object(linda_space, "MOST_TRIES", 20), self.assertRaises(NoConnection):
+        with self.assertRaises(NoConnection):
             space.choose(In("a").nack(3), Rd("b").nack(4))
-        self.assertEqual((space.pending, space.abandon(), space.pending), ("sync", (3, 4), None))
-        with mock.patch.object(linda_space, "MOST_TRIES", 20), self.assertRaises(NoConnection):
+        self.assertEqual((space.pending, space.abandon(), space.pending), (None, (3, 4), None))
+        for call in (space.abandon, space.again):
+            with self.assertRaises(Idle):
+                call()
+        with self.assertRaises(NoConnection):
             space.take("a", INT)
         server = self.serve(port=server.port)
         other.out("a", 6)
-        self.assertEqual(space.again(), Outcome(0, "took", (), (), 0, 1, ("a", 6), (6,)))
+        self.assertEqual(other.take("a", INT), ("a", 6))
         other.out("a", 7)
-        self.assertEqual(other.take("a", INT), ("a", 7))
+        self.assertEqual(space.take("a", INT), ("a", 7))
 
     def test_goes_on_after_an_interrupt(self) -> None:
         server = self.serve()
@@ -425,8 +496,12 @@ class OverServers(unittest.TestCase):
         calls += [lambda seconds=seconds: space.take("a", timeout=seconds) for seconds in (-1, float("nan"), float("inf"), 1e30, "1")]
         calls += [lambda: space.take(INT), lambda: space.choose("a"), lambda: space.sync(("in", "a")), lambda: Wrap(1, "a"), lambda: Nack(1, None)]
         calls += [lambda: Alarm(-1), lambda: Alarm(1 << 64), lambda: Wrap(-1, Never()), lambda: Nack(1 << 64, Never()), lambda: Always(1 << 63)]
-        calls += [lambda ports=ports: Space(ports, 1) for ports in ([], [7000] * 17, [0], [65_536], ["7000"])]
-        calls += [lambda client=client: Space([7000], client) for client in (-1, 1 << 32, True, "7")]
+        calls += [lambda ports=ports: Space(ports, 1) for ports in ([], [7000] * 17, [0], [65_536], ["7000"], "7000", 7000)]
+        calls += [lambda client=client: Space([7000], client) for client in (-1, 1 << 32, True, "7", [], range(0), [1, -1], ["7"], None)]
+        calls += [lambda patience=patience: Space([7000], 7, patience=patience) for patience in (0, -1, "1", float("nan"), True)]
+        calls += [lambda seconds=seconds, call=call: call(timeout=seconds) for seconds in (-1, "1", float("nan")) for call in (
+            lambda timeout: space.out("a", timeout=timeout), lambda timeout: space.leave(timeout=timeout), lambda timeout: space.last_reply(timeout=timeout),
+            lambda timeout: space.hold("a", timeout=timeout))]
         for place, call in enumerate(calls):
             with self.subTest(place=place), self.assertRaises(OutOfRange):
                 call()
@@ -461,26 +536,60 @@ class OverServers(unittest.TestCase):
         self.assertEqual((space.pending, space.take("a")), (None, ("a",)))
 
 
-WELCOME = frames.frame(b"\x11" + bytes(8))
+def welcome(last: int) -> bytes:
+    return frames.frame(b"\x11" + frames.spell_number(last))
+
+
+def stored(number: int, place: int) -> bytes:
+    return frames.frame(b"\x12" + frames.spell_number(number) + frames.spell_number(place))
+
+
+def handed(kind: bytes, number: int, place: int, *values: Any) -> bytes:
+    """An Offer, a Read or a Taken."""
+    return frames.frame(kind + frames.spell_number(number) + frames.spell_number(place) + frames.spell_items(values[0], values[1:]))
+
+
+def gone(number: int) -> bytes:
+    return frames.frame(b"\x16" + frames.spell_number(number))
+
+
+def refusal(code: int, detail: int) -> bytes:
+    return frames.frame(bytes([0x17, code]) + frames.spell_number(detail))
+
+
+OFFER, READ, TAKEN = b"\x13", b"\x14", b"\x15"
+BUSY, OLD, FULL, TOO_MANY_ASKS = 3, 4, 6, 10
+PROBE = frames.accept(0, 0, 0)
 
 
 class OverPairs(unittest.TestCase):
     """Servers that say what they do not say over the program, over socket pairs."""
 
-    def space(self, *told: bytes) -> Space:
-        """A space whose server welcomes it and then sends these bytes at the first connection, those at the second, and so on."""
+    def space(self, *told: bytes, lasts: Tuple[int, ...] = (), **more: Any) -> Space:
+        """A space whose server welcomes it and then sends these bytes at the first connection, those at the second, and so on. `lasts` are the last numbers of
+        the Welcomes, 0 if they are not given."""
         self.pairs = [socket.socketpair() for _ in told]
-        for ours, theirs in self.pairs:
+        for place, (ours, theirs) in enumerate(self.pairs):
             self.addCleanup(ours.close)
             self.addCleanup(theirs.close)
             ours.settimeout(PATIENCE)
-            ours.sendall(WELCOME)
+            ours.sendall(welcome(lasts[place] if place < len(lasts) else 0))
         made = iter([theirs for _, theirs in self.pairs])
-        space = Space([1], 7, connect=lambda _: next(made))
+
+        def connect(_: int) -> socket.socket:
+            stream = next(made, None)
+            if stream is None:
+                raise ConnectionRefusedError
+            return stream
+
+        space = Space([1], 7, connect=connect, **more)
         self.addCleanup(space.close)
         for data, (ours, _) in zip(told, self.pairs):
             ours.sendall(data)
         return space
+
+    def tell(self, connection: int, data: bytes) -> None:
+        self.pairs[connection][0].sendall(data)
 
     def sent(self, connection: int) -> bytes:
         return self.pairs[connection][0].recv(65_536)
@@ -506,19 +615,21 @@ class OverPairs(unittest.TestCase):
         self.assertEqual([self.sent(0), self.sent(1)], [frames.hello(7, False) + frames.out(1, "a")] * 2)
 
     def test_goes_on_after_a_refusal(self) -> None:
-        refused = frames.frame(b"\x17\x0a" + frames.spell_number(1))
-        space = self.space(refused, frames.frame(b"\x14" + frames.spell_number(1) + frames.spell_number(3) + frames.spell_items("a", [True])))
+        first_refusal, second_refusal = [frames.frame(b"\x17\x0a" + frames.spell_number(ticket)) for ticket in (1, 2)]
+        read = frames.frame(b"\x14" + frames.spell_number(3) + frames.spell_number(3) + frames.spell_items("a", [True]))
+        space = self.space(first_refusal)
         with self.assertRaises(Refused) as caught:
             space.choose(Rd("a", ANY).nack(1), In("b").wrap(2).nack(5))
-        self.assertEqual((caught.exception.name, caught.exception.detail, space.pending), ("TooManyAsks", 1, "sync"))
-        self.assertEqual(space.again(), Outcome(0, "read", (), (5,), 0, 3, ("a", True)))
-        asked = frames.hello(7, False) + frames.ask(1, False, "a", frames.ANY) + frames.ask(2, True, "b")
-        self.assertEqual([self.sent(0), self.sent(1)], [asked, asked + frames.cancel(1) + frames.cancel(2)])
+        self.assertEqual((caught.exception.name, caught.exception.detail, space.pending, space.abandon()), ("TooManyAsks", 1, None, (1, 5)))
+        self.tell(0, second_refusal + read)
+        self.assertEqual(space.read("a", ANY), ("a", True))
+        asked = frames.ask(1, False, "a", frames.ANY) + frames.ask(2, True, "b")
+        self.assertEqual(self.sent(0), frames.hello(7, False) + asked + frames.cancel(1) + frames.cancel(2) + frames.ask(3, False, "a", frames.ANY) + frames.cancel(3))
 
     def test_no_outcome_is_lost_by_an_interrupt(self) -> None:
         taken = frames.spell_number(1) + frames.spell_number(3) + frames.spell_items("a", [8])
         stored = frames.spell_number(2) + frames.spell_number(4)
-        space = self.space(frames.frame(b"\x13" + taken) + frames.frame(b"\x15" + taken), frames.frame(b"\x12" + stored))
+        space = self.space(frames.frame(b"\x13" + taken) + frames.frame(b"\x15" + taken), frames.frame(b"\x12" + stored), lasts=(0, 1))
         send = Space._send
 
         def interrupted(one: Space) -> None:
@@ -529,11 +640,12 @@ class OverPairs(unittest.TestCase):
         with mock.patch.object(Space, "_send", interrupted), self.assertRaises(KeyboardInterrupt):
             space.take("a", INT)
         self.assertEqual(space.pending, "sync")
-        for call in (lambda: space.out("b"), space.abandon):
-            with self.assertRaises(Busy):
-                call()
+        with self.assertRaises(Busy):
+            space.abandon()
+        self.assertEqual((space.out("b"), space.pending), ((0, 4), "sync"))
         self.assertEqual(space.again(), Outcome(0, "took", (), (), 0, 3, ("a", 8), (8,)))
-        self.assertEqual(space.out("b"), (0, 4))
+        with self.assertRaises(Idle):
+            space.again()
         asked = frames.hello(7, False) + frames.ask(1, True, "a", frames.INT) + frames.accept(1, 1, 3)
         self.assertEqual([self.sent(0), self.sent(1)], [asked, frames.hello(7, False) + frames.out(2, "b")])
 
@@ -545,9 +657,9 @@ class Watched(Space):
 
     waits: threading.Event
 
-    def _wait(self) -> None:
+    def _wait(self, until: float) -> None:
         self.waits.set()
-        super()._wait()
+        super()._wait(until)
 
 
 def pattern(item: Any) -> Any:
@@ -628,8 +740,9 @@ class Player:
         if word == "out":
             return ["stored", *space.out(*parts)]
         if word in ("take", "read"):
-            found = getattr(space, word)(*map(pattern, parts[0]), timeout=parts[1])
-            return (word, found and list(found))
+            # Not by those names, which ask the servers once more when the time is up.
+            base = (In if word == "take" else Rd)(*map(pattern, parts[0]))
+            return space.sync(Choose(base, *([] if parts[1] is None else [space.after(parts[1])])))
         if word == "sync":
             return space.sync(event_of(parts[0]))
         if word == "last_reply":
@@ -681,9 +794,7 @@ class Player:
 
     def end(self, wanted: list) -> None:
         found = self.ends.get(timeout=PATIENCE)
-        if isinstance(found, tuple):
-            found, wanted = found[1], wanted[4] if wanted[0] in ("took", "read") else None if wanted[0] == "alarm" else wanted
-        elif not isinstance(found, list):
+        if not isinstance(found, list):
             found = ends_of(found)
         assert json.dumps(found) == json.dumps(wanted), f"found {found}"
 
