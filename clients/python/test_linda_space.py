@@ -64,6 +64,8 @@ class Server:
     def stop(self) -> None:
         """It does nothing, and its connections stay, until it goes on."""
         self.process.send_signal(signal.SIGSTOP)
+        while any(thread.read_text().rsplit(")", 1)[1].split()[0] != "T" for thread in Path(f"/proc/{self.process.pid}/task").glob("*/stat")):
+            time.sleep(0.001)
 
     def go_on(self) -> None:
         self.process.send_signal(signal.SIGCONT)
@@ -72,8 +74,8 @@ class Server:
 class Peer:
     """A connection that sends bytes and takes frames out of what came, as (name, parts) of examples/client.py."""
 
-    def __init__(self, port: int) -> None:
-        self.stream = socket.create_connection(("127.0.0.1", port), timeout=PATIENCE)
+    def __init__(self, port: int = 0, stream: Optional[socket.socket] = None) -> None:
+        self.stream = stream or socket.create_connection(("127.0.0.1", port), timeout=PATIENCE)
         self.stream.setsockopt(socket.IPPROTO_TCP, socket.TCP_NODELAY, 1)
 
     def send(self, data: bytes) -> None:
@@ -87,6 +89,15 @@ class Peer:
                 raise ConnectionError("the connection ended")
             data += piece
         return data
+
+    def expect(self, data: bytes) -> None:
+        """Exactly these bytes come next; none: the connection ends."""
+        if data:
+            found = self.exactly(len(data))
+            assert found == data, f"found {found.hex()}, not {data.hex()}"
+        else:
+            found = self.stream.recv(65_536)
+            assert not found, f"found {found.hex()}, not the end"
 
     def receive(self) -> Tuple[str, dict]:
         length = self.exactly(4)
@@ -129,7 +140,7 @@ class Going:
         return value
 
 
-class OverServers(unittest.TestCase):
+class WithServers(unittest.TestCase):
     """Servers of the program, killed at the end."""
 
     def setUp(self) -> None:
@@ -146,6 +157,10 @@ class OverServers(unittest.TestCase):
         space = Space([server.port for server in servers], client, **more)
         self.addCleanup(space.close)
         return space
+
+
+class OverServers(WithServers):
+    """What a space does over servers."""
 
     def test_put_read_take(self) -> None:
         server = self.serve()
@@ -648,6 +663,702 @@ class OverPairs(unittest.TestCase):
             space.again()
         asked = frames.hello(7, False) + frames.ask(1, True, "a", frames.INT) + frames.accept(1, 1, 3)
         self.assertEqual([self.sent(0), self.sent(1)], [asked, frames.hello(7, False) + frames.out(2, "b")])
+
+
+class Fake:
+    """A server on a port that says what the program does not say: a function for each connection, one after another, and then nobody listens."""
+
+    def __init__(self, *talks: Callable[[Peer], None]) -> None:
+        self.talks = talks
+        self.listener = socket.socket()
+        self.listener.setsockopt(socket.SOL_SOCKET, socket.SO_REUSEADDR, 1)
+        self.listener.bind(("127.0.0.1", 0))
+        self.listener.listen(16)
+        self.listener.settimeout(PATIENCE)
+        self.port = self.listener.getsockname()[1]
+        self.going = Going(self.run)
+
+    def run(self) -> None:
+        with self.listener:
+            for talk in self.talks:
+                stream, _ = self.listener.accept()
+                stream.settimeout(PATIENCE)
+                with stream:
+                    talk(Peer(stream=stream))
+
+    def end(self) -> None:
+        """All was said, and nothing else was sent than what was expected."""
+        self.going.end()
+
+
+class Cutting:
+    """A way to a server on which the first reply of a kind is lost, with its connection."""
+
+    def __init__(self, port: int, kind: str) -> None:
+        self.port, self.kind = port, kind
+        self.cuts = 0
+
+    def connect(self, _: int) -> socket.socket:
+        ours, theirs = socket.socketpair()
+        onward = Peer(self.port)
+        threading.Thread(target=self.forth, args=(ours, onward), daemon=True).start()
+        threading.Thread(target=self.back, args=(ours, onward), daemon=True).start()
+        return theirs
+
+    def forth(self, ours: socket.socket, onward: Peer) -> None:
+        try:
+            while True:
+                piece = ours.recv(65_536)
+                if not piece:
+                    break
+                onward.send(piece)
+        except OSError:
+            pass
+        self.end(ours, onward)
+
+    def back(self, ours: socket.socket, onward: Peer) -> None:
+        try:
+            while True:
+                length = onward.exactly(4)
+                data = length + onward.exactly(int.from_bytes(length, "big"))
+                if self.cuts == 0 and frames.read_frame(data)[0] == self.kind:
+                    self.cuts = 1
+                    break
+                ours.sendall(data)
+        except OSError:
+            pass
+        self.end(ours, onward)
+
+    @staticmethod
+    def end(ours: socket.socket, onward: Peer) -> None:
+        for stream in (ours, onward.stream):
+            try:
+                stream.shutdown(socket.SHUT_RDWR)
+            except OSError:
+                pass
+            stream.close()
+
+
+class Waits(WithServers):
+    """Every wait has a bound, and an error says what it leaves behind."""
+
+    def timed(self, least: float, call: Callable[[], Any], fault: type) -> Any:
+        """The error of a call that takes at least so many seconds, and less than the patience of these tests."""
+        begin = time.monotonic()
+        with self.assertRaises(fault) as caught:
+            call()
+        self.assertTrue(least <= time.monotonic() - begin < PATIENCE)
+        return caught.exception
+
+    def interrupted(self, call: Callable[[], Any], after: float = 0.2) -> None:
+        """Ctrl-C comes while the call waits."""
+        timer = threading.Timer(after, os.kill, (os.getpid(), signal.SIGINT))
+        timer.start()
+        with self.assertRaises(KeyboardInterrupt):
+            call()
+        timer.join()
+
+    # ---- bounds
+
+    def test_a_hello_that_is_never_answered(self) -> None:
+        with socket.socket() as listener:
+            listener.bind(("127.0.0.1", 0))
+            listener.listen(16)
+            ports = [self.serve().port, listener.getsockname()[1]]
+            self.assertEqual(self.timed(0.3, lambda: Space(ports, 7, patience=0.3), NoConnection).server, 1)
+        self.assertEqual(linda_space.PATIENCE, 10.0)
+
+    def test_a_later_hello_that_is_never_answered(self) -> None:
+        left, right = self.serve("left"), self.serve("right")
+        space = self.space(left, right, client=0, patience=0.3)
+        right.kill()
+        with socket.socket() as listener:
+            listener.setsockopt(socket.SOL_SOCKET, socket.SO_REUSEADDR, 1)
+            listener.bind(("127.0.0.1", right.port))
+            listener.listen(16)
+            self.assertEqual(self.timed(0.3, lambda: space.take("a"), NoConnection).server, 1)
+            self.assertEqual((space.pending, space.out("a")), (None, (0, 1)))
+            fault = self.timed(0.2, lambda: space.out("b", timeout=0.2), TimedOut)
+            self.assertEqual((fault.servers, fault.pending), ((1,), "out"))
+        self.serve("right", right.port)
+        self.assertEqual(space.again(), Stored(1, 1))
+
+    def test_an_out_needs_its_own_server_only(self) -> None:
+        left, right = self.serve("left"), self.serve("right")
+        space = self.space(left, right, client=0, patience=0.2)
+        right.kill()
+        left.stop()
+        putting = Going(lambda: space.out("a"))
+        time.sleep(1)
+        left.go_on()
+        self.assertEqual(putting.end(), (0, 1))
+
+    def test_the_time_of_an_out_is_up(self) -> None:
+        server = self.serve()
+        space = self.space(server)
+        server.stop()
+        fault = self.timed(0.2, lambda: space.out("a", 1, timeout=0.2), TimedOut)
+        self.assertEqual((fault.servers, fault.pending, space.pending), ((0,), "out", "out"))
+        self.assertRegex(str(fault), "server 0; pending: out, go on with again")
+        self.timed(0.2, lambda: space.again(timeout=0.2), TimedOut)
+        for call in (lambda: space.out("b"), lambda: space.take("a", INT), lambda: space.look("a", INT), space.leave, space.last_reply):
+            with self.assertRaises(Busy):
+                call()
+        server.go_on()
+        self.assertEqual(space.again(), Stored(0, 1))
+        self.assertEqual((space.pending, space.take("a", INT), space.look("a", INT)), (None, ("a", 1), None))
+
+    def test_the_time_of_a_leave_and_of_a_last_reply_is_up(self) -> None:
+        server = self.serve()
+        space = self.space(server)
+        space.out("a")
+        server.stop()
+        self.assertEqual(self.timed(0.2, lambda: space.last_reply(timeout=0.2), TimedOut).pending, "last_reply")
+        server.go_on()
+        self.assertEqual(space.again(), Kept(0, 1, "stored", 1))
+        server.stop()
+        self.assertEqual(self.timed(0.2, lambda: space.leave(timeout=0.2), TimedOut).pending, "leave")
+        server.go_on()
+        self.assertIsNone(space.again())
+        with self.assertRaises(Left):
+            space.out("b")
+
+    def test_a_close_waits_for_nothing(self) -> None:
+        server = self.serve()
+        space = self.space(server)
+        server.stop()
+        with self.assertRaises(TimedOut):
+            space.out("a", timeout=0.1)
+        begin = time.monotonic()
+        space.close()
+        self.assertLess(time.monotonic() - begin, 5)
+
+    # ---- none, or an error
+
+    def test_none_means_that_all_servers_were_there(self) -> None:
+        left, right = self.serve("left"), self.serve("right")
+        space = self.space(left, right)
+        for call in (space.take, space.read):
+            self.assertIsNone(call("a", timeout=0.05))
+        right.kill()
+        for away in (lambda: space.take("a", timeout=0.3), lambda: space.read("a", timeout=0.3), lambda: space.choose(In("a").nack(4), timeout=0.3),
+                     lambda: space.hold("a", timeout=0.3).__enter__()):
+            fault = self.timed(0.29, away, TimedOut)
+            self.assertEqual((fault.servers, fault.pending, space.pending), ((1,), None, None))
+        self.assertEqual(space.sync(Choose(In("a"), space.after(0.1))).kind, "alarm")
+        self.assertEqual(self.space(left, client=8).out("a"), (0, 1))
+        self.assertEqual(space.take("a", timeout=0.3), ("a",))
+        self.serve("right", right.port)
+        self.assertIsNone(space.take("a", timeout=1))
+
+    def test_a_server_that_does_not_answer_when_the_time_is_up(self) -> None:
+        server = self.serve()
+        space = self.space(server, patience=0.3)
+        server.stop()
+        for call in (lambda: space.take("a", timeout=0.1), lambda: space.look("a"), lambda: space.take("a", timeout=0)):
+            fault = self.timed(0.3, call, TimedOut)
+            self.assertEqual((fault.servers, space.pending), ((0,), None))
+        server.go_on()
+        self.assertIsNone(self.space(server, client=8).take("a", timeout=0.1))
+
+    def test_a_take_without_time_takes_what_is_there(self) -> None:
+        space = self.space(self.serve("left"), self.serve("right"))
+        self.assertIsNone(space.take("a", INT, timeout=0))
+        for number in range(3):
+            space.out("a", number)
+        self.assertEqual(sorted(space.take("a", INT, timeout=0)[1] for _ in range(3)), [0, 1, 2])
+        self.assertEqual(space.choose(In("a", INT).nack(1), Rd("b").nack(2), timeout=0), Outcome(2, "alarm", (), (1, 2)))
+
+    def test_what_is_asked_when_the_time_is_up(self) -> None:
+        """A message that is always answered goes behind the Asks; an offer before its answer is accepted, and one after it is given back."""
+        def talk(peer: Peer) -> None:
+            peer.expect(frames.hello(7, False))
+            peer.send(welcome(0))
+            peer.expect(frames.ask(1, True, "a", frames.INT) + PROBE)
+            peer.send(handed(OFFER, 1, 3, "a", 8) + refusal(OLD, 0))
+            peer.expect(frames.accept(1, 1, 3))
+            peer.send(gone(1))
+            peer.expect(frames.cancel(1) + frames.out(2, "b"))
+            peer.send(handed(OFFER, 1, 4, "a", 9) + stored(2, 5))
+            peer.expect(frames.cancel(1) + frames.ask(2, True, "a", frames.INT) + PROBE)
+            peer.send(handed(OFFER, 2, 4, "a", 9) + refusal(OLD, 2))
+            peer.expect(frames.accept(3, 2, 4))
+            peer.send(handed(TAKEN, 3, 4, "a", 9))
+            peer.expect(b"")
+
+        fake = Fake(talk)
+        with Space([fake.port], 7) as space:
+            self.assertIsNone(space.take("a", INT, timeout=0))
+            self.assertEqual(space.out("b"), (0, 5))
+            self.assertEqual(space.take("a", INT, timeout=0), ("a", 9))
+        fake.end()
+
+    # ---- looking
+
+    def test_look(self) -> None:
+        left, right = self.serve("left"), self.serve("right")
+        space, other = self.space(left, right, client=0), self.space(right, client=8)
+        self.assertIsNone(space.look("a", INT))
+        other.out("a", 1)
+        self.assertEqual([space.look("a", INT), space.look("a", 2)], [("a", 1), None])
+        with other.hold("a", INT):
+            self.assertEqual(space.look("a", ANY), ("a", 1))
+        self.assertEqual([space.out("b"), space.look("a", INT), other.take("a", INT), space.look("a", INT)], [(0, 1), ("a", 1), ("a", 1), None])
+
+    def test_look_while_a_server_is_away(self) -> None:
+        left, right = self.serve("left"), self.serve("right")
+        space = self.space(left, right, client=0, patience=0.3)
+        space.out("a")
+        right.kill()
+        self.assertEqual([space.look("a"), space.look("a")], [("a",)] * 2)
+        self.assertEqual(self.timed(0.3, lambda: space.look("b"), NoConnection).server, 1)
+        right = self.serve("right", right.port)
+        self.assertIsNone(space.look("b"))
+        self.assertEqual([space.out("b"), space.look("b")], [(1, 1), ("b",)])
+
+    def test_a_look_that_was_answered_late_disturbs_nothing(self) -> None:
+        def first(peer: Peer) -> None:
+            peer.expect(frames.hello(0, False))
+            peer.send(welcome(0))
+            peer.expect(frames.ask(1, False, "a") + PROBE)
+            peer.send(handed(READ, 1, 3, "a") + refusal(OLD, 0))
+            peer.expect(frames.cancel(1) + frames.out(1, "b"))
+            peer.send(stored(1, 4))
+            peer.expect(b"")
+
+        def second(peer: Peer) -> None:
+            peer.expect(frames.hello(0, False))
+            peer.send(welcome(0))
+            peer.expect(frames.ask(1, False, "a") + PROBE + frames.cancel(1) + frames.out(1, "c"))
+            peer.send(handed(READ, 1, 9, "a") + refusal(OLD, 0) + stored(1, 5))
+            peer.expect(b"")
+
+        fakes = [Fake(first), Fake(second)]
+        with Space([fake.port for fake in fakes], 0) as space:
+            self.assertEqual([space.look("a"), space.out("b"), space.out("c")], [("a",), (0, 4), (1, 5)])
+        for fake in fakes:
+            fake.end()
+
+    # ---- greeting
+
+    def test_a_number_that_is_in_use(self) -> None:
+        server = self.serve()
+        space = self.space(server, client=70)
+        fault = self.timed(0.3, lambda: self.space(server, client=70, patience=0.3), Refused)
+        self.assertEqual((fault.name, fault.client), ("Busy", 70))
+        self.assertRegex(str(fault), "client number 70")
+        self.assertEqual((linda_space.BUSY_PATIENCE, space.out("a")), (2.0, (0, 1)))
+
+    def test_greets_at_once_after_a_close(self) -> None:
+        server = self.serve()
+        for place in range(20):
+            with Space([server.port], 7) as space:
+                self.assertEqual(space.out("a"), (0, place + 1))
+
+    def test_busy_after_a_lost_connection(self) -> None:
+        def first(peer: Peer) -> None:
+            peer.expect(frames.hello(7, False))
+            peer.send(welcome(4))
+            peer.expect(frames.out(5, "a"))
+
+        def busy(peer: Peer) -> None:
+            peer.expect(frames.hello(7, False))
+            peer.send(refusal(BUSY, 0))
+
+        def last(peer: Peer) -> None:
+            peer.expect(frames.hello(7, False))
+            peer.send(welcome(5))
+            peer.expect(frames.out(5, "a"))
+            peer.send(stored(5, 9))
+
+        fake = Fake(first, busy, busy, last)
+        with Space([fake.port], 7) as space:
+            self.assertEqual(space.out("a"), (0, 9))
+        fake.end()
+        fake = Fake(first, *[busy] * 40)
+        with Space([fake.port], 7, patience=0.3) as space:
+            fault = self.timed(0.3, lambda: space.out("a"), Refused)
+            self.assertEqual((fault.name, fault.pending), ("Busy", "out"))
+
+    def test_restored(self) -> None:
+        def first(peer: Peer) -> None:
+            peer.expect(frames.hello(7, False))
+            peer.send(welcome(4))
+            peer.expect(frames.out(5, "a"))
+            peer.send(stored(5, 9))
+
+        def second(peer: Peer) -> None:
+            peer.expect(frames.hello(7, False))
+            peer.send(welcome(3))
+            peer.expect(b"")
+
+        for call in (lambda space: space.out("b"), lambda space: space.take("b"), lambda space: space.leave()):
+            fake = Fake(first, second)
+            with Space([fake.port], 7) as space:
+                space.out("a")
+                with self.assertRaises(Restored) as caught:
+                    call(space)
+                self.assertEqual((caught.exception.server, caught.exception.last, caught.exception.answered, caught.exception.pending), (0, 3, 5, None))
+                for later in (lambda: space.out("b"), lambda: space.take("b", timeout=0.1), lambda: space.look("b"), lambda: space.hold("b").__enter__()):
+                    with self.assertRaises(Restored):
+                        later()
+                with self.assertRaises(Idle):
+                    space.again()
+            fake.end()
+
+    def test_a_server_is_restored(self) -> None:
+        server = self.serve()
+        space, other = self.space(server), self.space(server, client=8)
+        space.out("a", 1)
+        server.kill()
+        shutil.copytree(server.folder, self.folder / "copy")
+        server = self.serve(port=server.port)
+        self.assertEqual([space.out("a", 2), other.take("a", 2)], [(0, 2), ("a", 2)])
+        server.kill()
+        server = self.serve("copy", server.port)
+        for one in (space, other):
+            with self.assertRaises(Restored):
+                one.take("a", INT)
+        fresh = self.space(server, client=9)
+        self.assertEqual([fresh.take("a", INT), fresh.look("a", INT)], [("a", 1), None])
+
+    def test_numbers_from_a_range(self) -> None:
+        left, right = self.serve("left"), self.serve("right")
+        first = self.space(left, right, client=range(100, 103))
+        second = self.space(left, right, client=range(100, 103))
+        self.space(left, client=102)
+        self.assertEqual((first.client, second.client), (100, 101))
+        with self.assertRaisesRegex(NoNumber, "100 to 102"):
+            self.space(left, right, client=range(100, 103))
+        self.assertEqual(first.out("a", 5), (0, 1))
+        first.close()
+        until = time.monotonic() + PATIENCE
+        found = 0
+        while found != 100 and time.monotonic() < until:
+            with self.space(left, right, client=range(100, 120)) as again:
+                found = again.client
+        self.assertEqual(found, 100)
+        second.leave()
+        second.close()
+        self.space(left, client=100)
+        self.assertEqual(self.space(left, client=range(101, 110)).client, 103)
+        self.assertEqual(self.space(left, client=range(100, 110), fresh=True).client, 104)
+
+    # ---- interrupts
+
+    def test_ctrl_c_in_a_take(self) -> None:
+        server = self.serve()
+        space, other = self.space(server), self.space(server, client=8)
+        self.interrupted(lambda: space.choose(In("a", INT).nack(3), In("b").nack(4)))
+        self.assertEqual((space.pending, space.abandon()), (None, (3, 4)))
+        other.out("a", 1)
+        self.assertEqual(other.take("a", INT, timeout=PATIENCE), ("a", 1))
+        self.assertEqual(space.out("b"), (0, 2))
+
+    def test_ctrl_c_in_an_out(self) -> None:
+        server = self.serve()
+        space = self.space(server)
+        server.stop()
+        self.interrupted(lambda: space.out("a", 1))
+        self.assertEqual((space.pending, space.settled), ("out", None))
+        server.go_on()
+        self.assertEqual((space.take("a", INT), space.pending, space.settled), (("a", 1), None, Stored(0, 1)))
+        server.stop()
+        self.interrupted(lambda: space.out("a", 2))
+        server.go_on()
+        self.assertEqual((space.again(), space.out("a", 3), space.look("a", 2)), (Stored(0, 2), (0, 3), ("a", 2)))
+
+    def test_ctrl_c_in_an_out_that_is_refused(self) -> None:
+        def first(peer: Peer) -> None:
+            peer.expect(frames.hello(7, False))
+            peer.send(welcome(0))
+            peer.expect(frames.out(1, "a"))
+            peer.expect(b"")
+
+        def second(peer: Peer) -> None:
+            peer.expect(frames.hello(7, False))
+            peer.send(welcome(0))
+            peer.expect(frames.out(1, "a"))
+            peer.send(refusal(FULL, 0))
+            peer.expect(frames.out(1, "b"))
+            peer.send(stored(1, 9))
+            peer.expect(b"")
+
+        fake = Fake(first, second)
+        with Space([fake.port], 7) as space:
+            self.interrupted(lambda: space.out("a"))
+            self.assertEqual((space.out("b"), space.pending), ((0, 9), None))
+            assert isinstance(space.settled, Refused)
+            self.assertEqual(space.settled.name, "Full")
+        fake.end()
+
+    def test_ctrl_c_while_a_tuple_is_taken(self) -> None:
+        """The answer comes before the next call, whatever that is; a tuple that was taken is for the next input that it fits."""
+        def first(peer: Peer) -> None:
+            peer.expect(frames.hello(7, False))
+            peer.send(welcome(0))
+            peer.expect(frames.ask(1, True, "a", frames.INT))
+            peer.send(handed(OFFER, 1, 3, "a", 8))
+            peer.expect(frames.accept(1, 1, 3))
+            peer.expect(b"")
+
+        for is_taken in (True, False):
+            def second(peer: Peer) -> None:
+                peer.expect(frames.hello(7, False))
+                peer.send(welcome(1))
+                peer.expect(frames.accept(1, 1, 3))
+                if is_taken:
+                    peer.send(handed(TAKEN, 1, 3, "a", 8))
+                    peer.expect(frames.out(2, "b"))
+                else:
+                    peer.send(gone(1))
+                    peer.expect(frames.cancel(1) + frames.out(2, "b"))
+                peer.send(stored(2, 4))
+                peer.expect(b"")
+
+            with self.subTest(is_taken=is_taken):
+                fake = Fake(first, second)
+                with Space([fake.port], 7) as space:
+                    self.interrupted(lambda: space.take("a", INT))
+                    self.assertEqual((space.pending, space.out("b")), ("sync", (0, 4)))
+                    if is_taken:
+                        self.assertEqual(space.pending, "sync")
+                        self.assertEqual(space.choose(Rd("c"), In("a", 8).wrap(6).nack(1), timeout=0), Outcome(1, "took", (6,), (), 0, 3, ("a", 8), ()))
+                    self.assertIsNone(space.pending)
+                fake.end()
+
+    def test_the_time_is_up_while_a_tuple_is_taken(self) -> None:
+        due = threading.Event()
+
+        def talk(peer: Peer) -> None:
+            peer.expect(frames.hello(7, False))
+            peer.send(welcome(0))
+            peer.expect(frames.ask(1, True, "a", frames.INT))
+            peer.send(handed(OFFER, 1, 3, "a", 8))
+            peer.expect(frames.accept(1, 1, 3))
+            due.wait(PATIENCE)
+            peer.send(handed(TAKEN, 1, 3, "a", 8))
+            peer.expect(b"")
+
+        fake = Fake(talk)
+        with Space([fake.port], 7, patience=0.3) as space:
+            fault = self.timed(0.4, lambda: space.take("a", INT, timeout=0.1), TimedOut)
+            self.assertEqual((fault.pending, fault.servers), ("sync", (0,)))
+            with self.assertRaises(Busy):
+                space.abandon()
+            self.timed(0.1, lambda: space.again(timeout=0.1), TimedOut)
+            due.set()
+            self.assertEqual(space.take("a", INT), ("a", 8))
+            self.assertIsNone(space.pending)
+        fake.end()
+
+    def test_two_threads(self) -> None:
+        space = self.space(self.serve())
+        taking = Going(lambda: space.take("a", timeout=1))
+        time.sleep(0.3)
+        with self.assertRaisesRegex(Busy, "another thread"):
+            space.out("b")
+        self.assertIsNone(taking.end())
+        self.assertEqual(space.out("b"), (0, 1))
+
+    # ---- an Ask that was sent again
+
+    def test_nothing_is_held_after_a_lost_taken(self) -> None:
+        server = self.serve()
+        way = Cutting(server.port, "Taken")
+        space, other = self.space(server, connect=way.connect), self.space(server, client=8)
+        other.out("a", 1)
+        self.assertEqual((space.take("a", INT), way.cuts), (("a", 1), 1))
+        other.out("a", 2)
+        self.assertEqual(other.take("a", INT, timeout=PATIENCE), ("a", 2))
+        self.assertIsNone(other.take("a", INT, timeout=0))
+
+    def test_an_ask_that_was_sent_again_is_cancelled(self) -> None:
+        def first(peer: Peer) -> None:
+            peer.expect(frames.hello(7, False))
+            peer.send(welcome(0))
+            peer.expect(frames.ask(1, True, "a", frames.INT))
+            peer.send(handed(OFFER, 1, 3, "a", 8))
+            peer.expect(frames.accept(1, 1, 3))
+
+        def second(peer: Peer) -> None:
+            peer.expect(frames.hello(7, False))
+            peer.send(welcome(1))
+            peer.expect(frames.accept(1, 1, 3) + frames.ask(1, True, "a", frames.INT))
+            peer.send(handed(TAKEN, 1, 3, "a", 8))
+            peer.expect(frames.cancel(1))
+            peer.expect(b"")
+
+        fake = Fake(first, second)
+        with Space([fake.port], 7) as space:
+            self.assertEqual(space.take("a", INT), ("a", 8))
+        fake.end()
+
+    # ---- holding
+
+    def test_hold(self) -> None:
+        left, right = self.serve("left"), self.serve("right")
+        space, other = self.space(left, right, client=0), self.space(left, right, client=9)
+        other.out("job", 1, "x")                                # at server 1
+        with space.hold("job", INT, ANY, timeout=PATIENCE) as offer:
+            assert offer is not None
+            self.assertEqual((offer.tuple, offer.binds, offer.server, offer.id, offer.is_taken), (("job", 1, "x"), (1,), 1, 1, False))
+            self.assertIsNone(other.take("job", INT, ANY, timeout=0.1))
+            self.assertEqual(space.out("done", 1), (0, 1))
+            self.assertEqual(space.look("job", INT, ANY), ("job", 1, "x"))
+            self.assertEqual([offer.accept(), offer.accept(), offer.is_taken], [("job", 1, "x"), ("job", 1, "x"), True])
+            self.assertIsNone(space.look("job", INT, ANY))
+        self.assertEqual((space.pending, space.last_reply(1)), (None, Kept(1, 1, "taken", 1, ("job", 1, "x"))))
+        with space.hold("job", INT, ANY, timeout=0.05) as none, space.hold("job", INT, ANY, timeout=0) as no_other:
+            self.assertEqual((none, no_other), (None, None))
+
+    def test_what_is_not_accepted_is_free_again(self) -> None:
+        server = self.serve()
+        space, other = self.space(server), self.space(server, client=8)
+        other.out("job", 1)
+        with space.hold("job", INT):
+            self.assertIsNone(other.take("job", INT, timeout=0))
+        self.assertEqual(other.take("job", INT, timeout=PATIENCE), ("job", 1))
+        other.out("job", 2)
+        with self.assertRaises(ZeroDivisionError), space.hold("job", INT):
+            raise ZeroDivisionError
+        self.assertEqual(other.take("job", INT, timeout=PATIENCE), ("job", 2))
+        other.out("job", 3)
+        with space.hold("job", INT) as offer:
+            assert offer is not None
+            offer.release()
+            self.assertEqual(other.take("job", INT, timeout=PATIENCE), ("job", 3))
+            with self.assertRaises(Gone):
+                offer.accept()
+        self.assertEqual(space.out("b"), (0, 4))
+
+    def test_two_are_held_at_once(self) -> None:
+        space = self.space(self.serve())
+        for number in (1, 2):
+            space.out("job", number)
+        with space.hold("job", INT) as one, space.hold("job", INT) as two:
+            assert one is not None and two is not None
+            self.assertEqual([one.tuple, two.tuple, two.accept()], [("job", 1), ("job", 2), ("job", 2)])
+        self.assertEqual([space.take("job", INT, timeout=PATIENCE), space.look("job", INT)], [("job", 1), None])
+
+    def test_a_hold_is_lost_with_its_server(self) -> None:
+        server = self.serve()
+        space, other = self.space(server), self.space(server, client=8)
+        other.out("job", 1)
+        with space.hold("job", INT) as offer:
+            assert offer is not None
+            server.kill()
+            self.serve(port=server.port)
+            self.assertEqual(other.take("job", INT, timeout=PATIENCE), ("job", 1))
+            for _ in range(2):
+                with self.assertRaises(Gone) as caught:
+                    offer.accept()
+                self.assertEqual((caught.exception.server, space.pending), (0, None))
+        self.assertEqual(space.out("b"), (0, 2))
+        with space.hold("b") as offer:
+            assert offer is not None
+            self.interrupted(lambda: space.take("never"))
+            with self.assertRaises(Gone):
+                offer.accept()
+        self.assertEqual(space.take("b"), ("b",))
+
+    def test_an_accept_that_is_not_answered(self) -> None:
+        server = self.serve()
+        space = self.space(server)
+        space.out("job", 1)
+        with space.hold("job", INT) as offer:
+            assert offer is not None
+            server.stop()
+            fault = self.timed(0.2, lambda: offer.accept(timeout=0.2), TimedOut)
+            self.assertEqual((fault.servers, fault.pending), ((0,), "accept"))
+            with self.assertRaises(Busy):
+                space.out("done", 1)
+            server.go_on()
+            self.assertEqual((offer.accept(), space.pending), (("job", 1), None))
+        space.out("job", 2)
+        with space.hold("job", INT) as offer:
+            assert offer is not None
+            server.stop()
+            self.interrupted(offer.accept)
+            server.go_on()
+            self.assertEqual(space.out("done", 2), (0, 3))
+            is_taken = space.look("job", INT) is None
+            self.assertEqual(isinstance(space.settled, Outcome), is_taken)
+            self.assertEqual(isinstance(space.settled, Gone), not is_taken)
+            if is_taken:
+                self.assertEqual(offer.accept(), ("job", 2))
+            else:
+                with self.assertRaises(Gone):
+                    offer.accept()
+
+    def test_a_held_tuple_that_is_offered_again(self) -> None:
+        """A repeat of the offer is no reason to give it back; another for its ticket is."""
+        def talk(peer: Peer) -> None:
+            peer.expect(frames.hello(7, False))
+            peer.send(welcome(0))
+            peer.expect(frames.ask(1, True, "a"))
+            peer.send(handed(OFFER, 1, 3, "a"))
+            peer.expect(frames.out(1, "b"))
+            peer.send(handed(OFFER, 1, 3, "a") + stored(1, 4))
+            peer.expect(frames.accept(2, 1, 3))
+            peer.send(gone(2))
+            peer.expect(frames.cancel(1))
+            peer.expect(b"")
+
+        fake = Fake(talk)
+        with Space([fake.port], 7) as space:
+            with space.hold("a") as offer:
+                assert offer is not None
+                space.out("b")
+                with self.assertRaises(Gone):
+                    offer.accept()
+        fake.end()
+
+
+class Packed(WithServers):
+
+    def test_packed_values(self) -> None:
+        values: List[Any] = [None, True, 0, -1.5, "", "é\U0001f600\"\\\n", "\ud800", [], {}, {"a": [1, {"b": None}]}, list(range(20_000)), "x" * 122_848]
+        for value in values:
+            fields = pack(value)
+            self.assertEqual((len(fields), unpack(fields)), (30, value))
+            self.assertTrue(all(len(text.encode()) <= 4_095 for text in fields))
+        self.assertEqual(pack({"a": [1, "é"]}, 2), ('{"a":[1,"é"]}', ""))
+        self.assertEqual((unpack(pack((1, 2), 1)), unpack(pack({1: 2}, 1)), unpack(["[1", ",2]"])), ([1, 2], {"1": 2}, [1, 2]))
+
+    def test_limits_of_packed_values(self) -> None:
+        # Each has two quotes more. ASCII fills each field; "é", of two bytes, leaves one free behind "x" and a quote, and "\U0001f600", of four, up to three.
+        self.assertEqual([len(text) for text in pack("x" * 8_188, 2)], [4_095, 4_095])
+        for value in ("x" * 8_189, "x" * 122_849, "x" + "é" * 4_094):
+            with self.assertRaises(OutOfRange):
+                pack(value, 30 if len(value) > 100_000 else 2)
+        self.assertEqual([len(text.encode()) for text in pack("é" * 4_094, 2)], [4_095, 4_095])
+        self.assertEqual([len(text.encode()) for text in pack("x" + "é" * 4_093, 2)], [4_094, 4_095])
+        self.assertEqual(len("".join(pack("\U0001f600" * 30_690)).encode()), 122_762)
+        with self.assertRaises(OutOfRange):
+            pack("\U0001f600" * 30_691)
+        loop: List[Any] = []
+        loop.append(loop)
+        wrong: List[Any] = [b"x", {1, 2}, float("nan"), float("inf"), loop, object()]
+        for value in wrong:
+            with self.assertRaises(OutOfRange):
+                pack(value)
+        for count in (0, 33, -1, True, "2"):
+            with self.assertRaises(OutOfRange):
+                pack(1, count)  # type: ignore[arg-type]
+        for fields in ([1], ["{"], [""], [None]):
+            with self.assertRaises(OutOfRange):
+                unpack(fields)  # type: ignore[arg-type]
+
+    def test_packed_values_in_a_space(self) -> None:
+        space = self.space(self.serve())
+        value = {"text": "é" * 50_000, "list": list(range(1_000))}
+        space.out("doc", 7, *pack(value))
+        found = space.take("doc", 7, *PACKED, timeout=PATIENCE)
+        assert found is not None
+        self.assertEqual(unpack(found[2:]), value)
+        space.out("note", *pack([1, "x"], 1))
+        self.assertEqual(unpack(space.read("note", TEXT)[1:]), [1, "x"])  # type: ignore[index]
 
 
 # ---- recorded sessions

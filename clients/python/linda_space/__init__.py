@@ -693,9 +693,7 @@ class _Sync:
         return next((base for base in self.bases if isinstance(base.leaf, Alarm) and base.leaf.time <= clock), None)
 
     def next_time(self) -> Optional[int]:
-        """When the next alarm is ready; none if it would not be chosen."""
-        if self.accepted is not None:
-            return None
+        """When the first alarm is ready, but for that of the call's own time once the servers are asked."""
         times = [base.leaf.time for base in self.bases if isinstance(base.leaf, Alarm) and (base is not self.limit or self.unsure is None)]
         return min(times) if times else None
 
@@ -1589,7 +1587,7 @@ class Space:
         if isinstance(task, _Sync) and not task.is_dropped:
             wake = until = min(until, self._latest(task, now))
             at = task.next_time()
-            if at is not None:
+            if at is not None and (task.accepted is None or at > self._machine.clock):
                 wake = min(wake, now + (at - self.clock()) / 1000)
         for link in self._links:
             if not link.is_up:
@@ -1624,6 +1622,8 @@ class Space:
             link.until = now + self._patience
             return
         self._let_go(link)
+        if link.busy_until is not None:
+            raise Refused(link.server, 3, 0, self._machine.client)
         raise NoConnection(link.server)
 
     def _hear(self, link: _Link) -> bool:
