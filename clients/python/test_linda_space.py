@@ -13,30 +13,111 @@ import json
 import os
 import queue
 import shutil
+import signal
 import socket
+import subprocess
 import sys
 import tempfile
 import threading
 import time
 import unittest
 from pathlib import Path
-from typing import Any, Callable, List
+from typing import Any, Callable, List, Optional, Tuple
 from unittest import mock
 
 HERE = Path(__file__).resolve().parent
 TOP = HERE.parent.parent
-sys.path[:0] = [str(HERE), str(TOP / "tools")]
+sys.path[:0] = [str(HERE), str(TOP / "examples")]
 
 import linda_space  # noqa: E402
 from linda_space import (  # noqa: E402
-    ANY, BOOL, INT, TEXT, Alarm, Always, BadReply, Busy, Choose, Closed, Idle, In, Kept, Left, Nack, Never, NoConnection, Outcome, OutOfRange, Rd, Refused, Space,
-    Stored, Wrap)
-import banks  # noqa: E402
-from served import Peer, Server, frames  # noqa: E402
+    ANY, BOOL, INT, PACKED, TEXT, Alarm, Always, BadReply, Busy, Choose, Closed, Gone, Idle, In, Kept, Left, Nack, Never, NoConnection, NoNumber, Outcome, OutOfRange,
+    Rd, Refused, Restored, Space, Stored, TimedOut, Wrap, pack, unpack)
+import client as frames  # noqa: E402
 
 PROGRAM = Path(os.environ.get("LINDA", TOP / "linda"))
 PATIENCE = 20
 MOST_CLIENTS = 65_536
+
+
+class Server:
+    """A server of the program on a folder, which is ready once this is made."""
+
+    def __init__(self, folder: Path, port: int = 0) -> None:
+        self.folder = folder
+        self.process = subprocess.Popen([str(PROGRAM), "serve", "--port", str(port), "--dir", str(folder)], stdin=subprocess.DEVNULL, stdout=subprocess.PIPE,
+                                        stderr=subprocess.PIPE, universal_newlines=True)
+        assert self.process.stdout and self.process.stderr
+        line = self.process.stdout.readline()
+        if not line.startswith("ready "):
+            raise ConnectionError(f"the server did not start: {self.process.stderr.read()!r}, status {self.process.wait()}")
+        self.port = int(line.split()[1])
+
+    def kill(self) -> None:
+        """kill -9."""
+        self.process.kill()
+        self.process.wait()
+        for stream in (self.process.stdout, self.process.stderr):
+            if stream:
+                stream.close()
+
+    def stop(self) -> None:
+        """It does nothing, and its connections stay, until it goes on."""
+        self.process.send_signal(signal.SIGSTOP)
+        while any(thread.read_text().rsplit(")", 1)[1].split()[0] != "T" for thread in Path(f"/proc/{self.process.pid}/task").glob("*/stat")):
+            time.sleep(0.001)
+
+    def go_on(self) -> None:
+        self.process.send_signal(signal.SIGCONT)
+
+
+class Peer:
+    """A connection that sends bytes and takes frames out of what came, as (name, parts) of examples/client.py."""
+
+    def __init__(self, port: int = 0, stream: Optional[socket.socket] = None) -> None:
+        self.stream = stream or socket.create_connection(("127.0.0.1", port), timeout=PATIENCE)
+        self.stream.setsockopt(socket.IPPROTO_TCP, socket.TCP_NODELAY, 1)
+
+    def send(self, data: bytes) -> None:
+        self.stream.sendall(data)
+
+    def exactly(self, size: int) -> bytes:
+        data = b""
+        while len(data) < size:
+            piece = self.stream.recv(size - len(data))
+            if not piece:
+                raise ConnectionError("the connection ended")
+            data += piece
+        return data
+
+    def expect(self, data: bytes) -> None:
+        """Exactly these bytes come next; none: the connection ends."""
+        if data:
+            found = self.exactly(len(data))
+            assert found == data, f"found {found.hex()}, not {data.hex()}"
+        else:
+            found = self.stream.recv(65_536)
+            assert not found, f"found {found.hex()}, not the end"
+
+    def receive(self) -> Tuple[str, dict]:
+        length = self.exactly(4)
+        return frames.read_frame(length + self.exactly(int.from_bytes(length, "big")))
+
+    def ask(self, data: bytes) -> Tuple[str, dict]:
+        self.send(data)
+        return self.receive()
+
+    def greet(self, client: int) -> int:
+        """Greets, and again while the server says Busy; returns the last number."""
+        while True:
+            name, parts = self.ask(frames.hello(client, False))
+            if name == "Welcome":
+                return parts["last"]
+            if (name, parts.get("code")) != ("Refused", 3):
+                raise ValueError(frames.words_of(name, parts))
+
+    def close(self) -> None:
+        self.stream.close()
 
 
 class Going:
@@ -59,7 +140,7 @@ class Going:
         return value
 
 
-class OverServers(unittest.TestCase):
+class WithServers(unittest.TestCase):
     """Servers of the program, killed at the end."""
 
     def setUp(self) -> None:
@@ -68,7 +149,7 @@ class OverServers(unittest.TestCase):
 
     def serve(self, name: str = "one", port: int = 0) -> Server:
         (self.folder / name).mkdir(exist_ok=True)
-        server = Server(self.folder / name, port, PROGRAM)
+        server = Server(self.folder / name, port)
         self.addCleanup(server.kill)
         return server
 
@@ -76,6 +157,10 @@ class OverServers(unittest.TestCase):
         space = Space([server.port for server in servers], client, **more)
         self.addCleanup(space.close)
         return space
+
+
+class OverServers(WithServers):
+    """What a space does over servers."""
 
     def test_put_read_take(self) -> None:
         server = self.serve()
@@ -281,7 +366,7 @@ class OverServers(unittest.TestCase):
         self.assertIsNone(again.pending)
         with self.assertRaisesRegex(Refused, "refused Left, detail 2"):
             again.take("a", INT)
-        self.assertEqual((again.pending, again.abandon()), ("sync", ()))
+        self.assertEqual((again.pending, again.abandon()), (None, ()))
         self.assertEqual(self.space(right, client=8).take("a", INT), ("a", 1))
 
     def test_a_leave_goes_on_in_a_later_life(self) -> None:
@@ -300,9 +385,9 @@ class OverServers(unittest.TestCase):
 
     def test_a_leave_is_pending_while_a_server_is_gone(self) -> None:
         left, right = self.serve("left"), self.serve("right")
-        space = self.space(left, right)
+        space = self.space(left, right, patience=0.2)
         right.kill()
-        with mock.patch.object(linda_space, "MOST_TRIES", 20), self.assertRaises(NoConnection):
+        with self.assertRaises(NoConnection):
             space.leave()
         self.assertEqual(space.pending, "leave")
         for call in (lambda: space.out("a"), space.leave):
@@ -317,19 +402,19 @@ class OverServers(unittest.TestCase):
 
     def test_too_many_clients(self) -> None:
         (self.folder / "one").mkdir()
-        kept: tuple = "Left",
-        full = banks.State(1, {}, {client: (1, kept) for client in range(MOST_CLIENTS - 1)})
-        (self.folder / "one" / "left.bank").write_bytes(banks.spell_bank(1, full))
+        # A bank (docs/FORMATS.md): clients 0 to 65,534 have left with their number 1, and there is no tuple. Then a closed gate.
+        snapshot = b"".join([frames.spell_number(1), bytes(4), frames.spell_number(MOST_CLIENTS - 1, 4),
+                             *(frames.spell_number(client, 4) + frames.spell_number(1) + b"\4" for client in range(MOST_CLIENTS - 1))])
+        bank = b"\1LND2" + frames.spell_number(1) + frames.spell_number(len(snapshot), 4) + snapshot + b"\0"
+        (self.folder / "one" / "left.bank").write_bytes(bank)
         server = self.serve()
         early = self.space(server, client=100_000)
         self.assertEqual(self.space(server, client=200_000).out("a"), (0, 1))
         self.refused(lambda: Space([server.port], 300_000), 0, "TooManyClients", MOST_CLIENTS)
         self.refused(lambda: early.out("b"), 0, "TooManyClients", MOST_CLIENTS)
         self.assertIsNone(early.pending)
-        self.refused(lambda: early.take("a"), 0, "TooManyClients", MOST_CLIENTS)
-        self.assertEqual(early.pending, "sync")
-        with self.assertRaises(Busy):
-            early.abandon()
+        self.refused(lambda: early.choose(In("a").nack(3)), 0, "TooManyClients", MOST_CLIENTS)
+        self.assertEqual((early.pending, early.abandon()), (None, (3,)))
 
     def test_another_program_uses_the_number(self) -> None:
         server = self.serve()
@@ -346,19 +431,17 @@ class OverServers(unittest.TestCase):
         self.assertIsNone(space.pending)
         server.kill()
         self.serve("other", server.port)
-        self.refused(lambda: space.out("b"), 0, "Gap", 0)
-        self.assertIsNone(space.read("b", timeout=0.05))
+        self.assertIsNone(self.space(server, client=8).read("b", timeout=0.05))
 
-    def test_goes_on_after_too_many_tries(self) -> None:
+    def test_goes_on_after_a_server_was_away_too_long(self) -> None:
         server = self.serve()
-        space = self.space(server)
+        space = self.space(server, patience=0.2)
         space.out("a", 0)
         server.kill()
-        with mock.patch.object(linda_space, "MOST_TRIES", 20):
-            for call in (lambda: space.out("a", 1), space.again):
-                with self.assertRaises(NoConnection):
-                    call()
-                self.assertEqual(space.pending, "out")
+        for call in (lambda: space.out("a", 1), space.again):
+            with self.assertRaises(NoConnection) as caught:
+                call()
+            self.assertEqual((caught.exception.pending, space.pending), ("out", "out"))
         for call in (lambda: space.out("a", 2), lambda: space.take("a"), space.last_reply):
             with self.assertRaises(Busy):
                 call()
@@ -371,20 +454,23 @@ class OverServers(unittest.TestCase):
         self.assertEqual([space.take("a", 1), space.take("a", 0)], [("a", 1), ("a", 0)])
         self.assertIsNone(space.read("a", ANY, timeout=0.05))
 
-    def test_abandons_or_goes_on_with_a_take(self) -> None:
+    def test_a_take_is_over_after_an_error(self) -> None:
         server = self.serve()
-        space, other = self.space(server), self.space(server, client=8)
+        space, other = self.space(server, patience=0.2), self.space(server, client=8)
         server.kill()
-        with mock.patch.object(linda_space, "MOST_TRIES", 20), self.assertRaises(NoConnection):
+        with self.assertRaises(NoConnection):
             space.choose(In("a").nack(3), Rd("b").nack(4))
-        self.assertEqual((space.pending, space.abandon(), space.pending), ("sync", (3, 4), None))
-        with mock.patch.object(linda_space, "MOST_TRIES", 20), self.assertRaises(NoConnection):
+        self.assertEqual((space.pending, space.abandon(), space.pending), (None, (3, 4), None))
+        for call in (space.abandon, space.again):
+            with self.assertRaises(Idle):
+                call()
+        with self.assertRaises(NoConnection):
             space.take("a", INT)
         server = self.serve(port=server.port)
         other.out("a", 6)
-        self.assertEqual(space.again(), Outcome(0, "took", (), (), 0, 1, ("a", 6), (6,)))
+        self.assertEqual(other.take("a", INT), ("a", 6))
         other.out("a", 7)
-        self.assertEqual(other.take("a", INT), ("a", 7))
+        self.assertEqual(space.take("a", INT), ("a", 7))
 
     def test_goes_on_after_an_interrupt(self) -> None:
         server = self.serve()
@@ -425,8 +511,12 @@ class OverServers(unittest.TestCase):
         calls += [lambda seconds=seconds: space.take("a", timeout=seconds) for seconds in (-1, float("nan"), float("inf"), 1e30, "1")]
         calls += [lambda: space.take(INT), lambda: space.choose("a"), lambda: space.sync(("in", "a")), lambda: Wrap(1, "a"), lambda: Nack(1, None)]
         calls += [lambda: Alarm(-1), lambda: Alarm(1 << 64), lambda: Wrap(-1, Never()), lambda: Nack(1 << 64, Never()), lambda: Always(1 << 63)]
-        calls += [lambda ports=ports: Space(ports, 1) for ports in ([], [7000] * 17, [0], [65_536], ["7000"])]
-        calls += [lambda client=client: Space([7000], client) for client in (-1, 1 << 32, True, "7")]
+        calls += [lambda ports=ports: Space(ports, 1) for ports in ([], [7000] * 17, [0], [65_536], ["7000"], "7000", 7000)]
+        calls += [lambda client=client: Space([7000], client) for client in (-1, 1 << 32, True, "7", [], range(0), [1, -1], ["7"], None)]
+        calls += [lambda patience=patience: Space([7000], 7, patience=patience) for patience in (0, -1, "1", float("nan"), True)]
+        calls += [lambda seconds=seconds, call=call: call(timeout=seconds) for seconds in (-1, "1", float("nan")) for call in (
+            lambda timeout: space.out("a", timeout=timeout), lambda timeout: space.leave(timeout=timeout), lambda timeout: space.last_reply(timeout=timeout),
+            lambda timeout: space.hold("a", timeout=timeout))]
         for place, call in enumerate(calls):
             with self.subTest(place=place), self.assertRaises(OutOfRange):
                 call()
@@ -461,26 +551,60 @@ class OverServers(unittest.TestCase):
         self.assertEqual((space.pending, space.take("a")), (None, ("a",)))
 
 
-WELCOME = frames.frame(b"\x11" + bytes(8))
+def welcome(last: int) -> bytes:
+    return frames.frame(b"\x11" + frames.spell_number(last))
+
+
+def stored(number: int, place: int) -> bytes:
+    return frames.frame(b"\x12" + frames.spell_number(number) + frames.spell_number(place))
+
+
+def handed(kind: bytes, number: int, place: int, *values: Any) -> bytes:
+    """An Offer, a Read or a Taken."""
+    return frames.frame(kind + frames.spell_number(number) + frames.spell_number(place) + frames.spell_items(values[0], values[1:]))
+
+
+def gone(number: int) -> bytes:
+    return frames.frame(b"\x16" + frames.spell_number(number))
+
+
+def refusal(code: int, detail: int) -> bytes:
+    return frames.frame(bytes([0x17, code]) + frames.spell_number(detail))
+
+
+OFFER, READ, TAKEN = b"\x13", b"\x14", b"\x15"
+BUSY, OLD, FULL, TOO_MANY_ASKS = 3, 4, 6, 10
+PROBE = frames.accept(0, 0, 0)
 
 
 class OverPairs(unittest.TestCase):
     """Servers that say what they do not say over the program, over socket pairs."""
 
-    def space(self, *told: bytes) -> Space:
-        """A space whose server welcomes it and then sends these bytes at the first connection, those at the second, and so on."""
+    def space(self, *told: bytes, lasts: Tuple[int, ...] = (), **more: Any) -> Space:
+        """A space whose server welcomes it and then sends these bytes at the first connection, those at the second, and so on. `lasts` are the last numbers of
+        the Welcomes, 0 if they are not given."""
         self.pairs = [socket.socketpair() for _ in told]
-        for ours, theirs in self.pairs:
+        for place, (ours, theirs) in enumerate(self.pairs):
             self.addCleanup(ours.close)
             self.addCleanup(theirs.close)
             ours.settimeout(PATIENCE)
-            ours.sendall(WELCOME)
+            ours.sendall(welcome(lasts[place] if place < len(lasts) else 0))
         made = iter([theirs for _, theirs in self.pairs])
-        space = Space([1], 7, connect=lambda _: next(made))
+
+        def connect(_: int) -> socket.socket:
+            stream = next(made, None)
+            if stream is None:
+                raise ConnectionRefusedError
+            return stream
+
+        space = Space([1], 7, connect=connect, **more)
         self.addCleanup(space.close)
         for data, (ours, _) in zip(told, self.pairs):
             ours.sendall(data)
         return space
+
+    def tell(self, connection: int, data: bytes) -> None:
+        self.pairs[connection][0].sendall(data)
 
     def sent(self, connection: int) -> bytes:
         return self.pairs[connection][0].recv(65_536)
@@ -506,19 +630,21 @@ class OverPairs(unittest.TestCase):
         self.assertEqual([self.sent(0), self.sent(1)], [frames.hello(7, False) + frames.out(1, "a")] * 2)
 
     def test_goes_on_after_a_refusal(self) -> None:
-        refused = frames.frame(b"\x17\x0a" + frames.spell_number(1))
-        space = self.space(refused, frames.frame(b"\x14" + frames.spell_number(1) + frames.spell_number(3) + frames.spell_items("a", [True])))
+        first_refusal, second_refusal = [frames.frame(b"\x17\x0a" + frames.spell_number(ticket)) for ticket in (1, 2)]
+        read = frames.frame(b"\x14" + frames.spell_number(3) + frames.spell_number(3) + frames.spell_items("a", [True]))
+        space = self.space(first_refusal)
         with self.assertRaises(Refused) as caught:
             space.choose(Rd("a", ANY).nack(1), In("b").wrap(2).nack(5))
-        self.assertEqual((caught.exception.name, caught.exception.detail, space.pending), ("TooManyAsks", 1, "sync"))
-        self.assertEqual(space.again(), Outcome(0, "read", (), (5,), 0, 3, ("a", True)))
-        asked = frames.hello(7, False) + frames.ask(1, False, "a", frames.ANY) + frames.ask(2, True, "b")
-        self.assertEqual([self.sent(0), self.sent(1)], [asked, asked + frames.cancel(1) + frames.cancel(2)])
+        self.assertEqual((caught.exception.name, caught.exception.detail, space.pending, space.abandon()), ("TooManyAsks", 1, None, (1, 5)))
+        self.tell(0, second_refusal + read)
+        self.assertEqual(space.read("a", ANY), ("a", True))
+        asked = frames.ask(1, False, "a", frames.ANY) + frames.ask(2, True, "b")
+        self.assertEqual(self.sent(0), frames.hello(7, False) + asked + frames.cancel(1) + frames.cancel(2) + frames.ask(3, False, "a", frames.ANY) + frames.cancel(3))
 
     def test_no_outcome_is_lost_by_an_interrupt(self) -> None:
         taken = frames.spell_number(1) + frames.spell_number(3) + frames.spell_items("a", [8])
         stored = frames.spell_number(2) + frames.spell_number(4)
-        space = self.space(frames.frame(b"\x13" + taken) + frames.frame(b"\x15" + taken), frames.frame(b"\x12" + stored))
+        space = self.space(frames.frame(b"\x13" + taken) + frames.frame(b"\x15" + taken), frames.frame(b"\x12" + stored), lasts=(0, 1))
         send = Space._send
 
         def interrupted(one: Space) -> None:
@@ -529,13 +655,710 @@ class OverPairs(unittest.TestCase):
         with mock.patch.object(Space, "_send", interrupted), self.assertRaises(KeyboardInterrupt):
             space.take("a", INT)
         self.assertEqual(space.pending, "sync")
-        for call in (lambda: space.out("b"), space.abandon):
-            with self.assertRaises(Busy):
-                call()
+        with self.assertRaises(Busy):
+            space.abandon()
+        self.assertEqual((space.out("b"), space.pending), ((0, 4), "sync"))
         self.assertEqual(space.again(), Outcome(0, "took", (), (), 0, 3, ("a", 8), (8,)))
-        self.assertEqual(space.out("b"), (0, 4))
+        with self.assertRaises(Idle):
+            space.again()
         asked = frames.hello(7, False) + frames.ask(1, True, "a", frames.INT) + frames.accept(1, 1, 3)
         self.assertEqual([self.sent(0), self.sent(1)], [asked, frames.hello(7, False) + frames.out(2, "b")])
+
+
+class Fake:
+    """A server on a port that says what the program does not say: a function for each connection, one after another, and then nobody listens."""
+
+    def __init__(self, *talks: Callable[[Peer], None]) -> None:
+        self.talks = talks
+        self.listener = socket.socket()
+        self.listener.setsockopt(socket.SOL_SOCKET, socket.SO_REUSEADDR, 1)
+        self.listener.bind(("127.0.0.1", 0))
+        self.listener.listen(16)
+        self.listener.settimeout(PATIENCE)
+        self.port = self.listener.getsockname()[1]
+        self.going = Going(self.run)
+
+    def run(self) -> None:
+        with self.listener:
+            for talk in self.talks:
+                stream, _ = self.listener.accept()
+                stream.settimeout(PATIENCE)
+                with stream:
+                    talk(Peer(stream=stream))
+
+    def end(self) -> None:
+        """All was said, and nothing else was sent than what was expected."""
+        self.going.end()
+
+
+class Cutting:
+    """A way to a server on which the first reply of a kind is lost, with its connection."""
+
+    def __init__(self, port: int, kind: str) -> None:
+        self.port, self.kind = port, kind
+        self.cuts = 0
+
+    def connect(self, _: int) -> socket.socket:
+        ours, theirs = socket.socketpair()
+        onward = Peer(self.port)
+        threading.Thread(target=self.forth, args=(ours, onward), daemon=True).start()
+        threading.Thread(target=self.back, args=(ours, onward), daemon=True).start()
+        return theirs
+
+    def forth(self, ours: socket.socket, onward: Peer) -> None:
+        try:
+            while True:
+                piece = ours.recv(65_536)
+                if not piece:
+                    break
+                onward.send(piece)
+        except OSError:
+            pass
+        self.end(ours, onward)
+
+    def back(self, ours: socket.socket, onward: Peer) -> None:
+        try:
+            while True:
+                length = onward.exactly(4)
+                data = length + onward.exactly(int.from_bytes(length, "big"))
+                if self.cuts == 0 and frames.read_frame(data)[0] == self.kind:
+                    self.cuts = 1
+                    break
+                ours.sendall(data)
+        except OSError:
+            pass
+        self.end(ours, onward)
+
+    @staticmethod
+    def end(ours: socket.socket, onward: Peer) -> None:
+        for stream in (ours, onward.stream):
+            try:
+                stream.shutdown(socket.SHUT_RDWR)
+            except OSError:
+                pass
+            stream.close()
+
+
+class Waits(WithServers):
+    """Every wait has a bound, and an error says what it leaves behind."""
+
+    def timed(self, least: float, call: Callable[[], Any], fault: type) -> Any:
+        """The error of a call that takes at least so many seconds, and less than the patience of these tests."""
+        begin = time.monotonic()
+        with self.assertRaises(fault) as caught:
+            call()
+        self.assertTrue(least <= time.monotonic() - begin < PATIENCE)
+        return caught.exception
+
+    def interrupted(self, call: Callable[[], Any], after: float = 0.2) -> None:
+        """Ctrl-C comes while the call waits."""
+        timer = threading.Timer(after, os.kill, (os.getpid(), signal.SIGINT))
+        timer.start()
+        with self.assertRaises(KeyboardInterrupt):
+            call()
+        timer.join()
+
+    # ---- bounds
+
+    def test_a_hello_that_is_never_answered(self) -> None:
+        with socket.socket() as listener:
+            listener.bind(("127.0.0.1", 0))
+            listener.listen(16)
+            ports = [self.serve().port, listener.getsockname()[1]]
+            self.assertEqual(self.timed(0.3, lambda: Space(ports, 7, patience=0.3), NoConnection).server, 1)
+        self.assertEqual(linda_space.PATIENCE, 10.0)
+
+    def test_a_later_hello_that_is_never_answered(self) -> None:
+        left, right = self.serve("left"), self.serve("right")
+        space = self.space(left, right, client=0, patience=0.3)
+        right.kill()
+        with socket.socket() as listener:
+            listener.setsockopt(socket.SOL_SOCKET, socket.SO_REUSEADDR, 1)
+            listener.bind(("127.0.0.1", right.port))
+            listener.listen(16)
+            self.assertEqual(self.timed(0.3, lambda: space.take("a"), NoConnection).server, 1)
+            self.assertEqual((space.pending, space.out("a")), (None, (0, 1)))
+            fault = self.timed(0.2, lambda: space.out("b", timeout=0.2), TimedOut)
+            self.assertEqual((fault.servers, fault.pending), ((1,), "out"))
+        self.serve("right", right.port)
+        self.assertEqual(space.again(), Stored(1, 1))
+
+    def test_an_out_needs_its_own_server_only(self) -> None:
+        left, right = self.serve("left"), self.serve("right")
+        space = self.space(left, right, client=0, patience=0.2)
+        right.kill()
+        left.stop()
+        putting = Going(lambda: space.out("a"))
+        time.sleep(1)
+        left.go_on()
+        self.assertEqual(putting.end(), (0, 1))
+
+    def test_the_time_of_an_out_is_up(self) -> None:
+        server = self.serve()
+        space = self.space(server)
+        server.stop()
+        fault = self.timed(0.2, lambda: space.out("a", 1, timeout=0.2), TimedOut)
+        self.assertEqual((fault.servers, fault.pending, space.pending), ((0,), "out", "out"))
+        self.assertRegex(str(fault), "server 0; pending: out, go on with again")
+        self.timed(0.2, lambda: space.again(timeout=0.2), TimedOut)
+        for call in (lambda: space.out("b"), lambda: space.take("a", INT), lambda: space.look("a", INT), space.leave, space.last_reply):
+            with self.assertRaises(Busy):
+                call()
+        server.go_on()
+        self.assertEqual(space.again(), Stored(0, 1))
+        self.assertEqual((space.pending, space.take("a", INT), space.look("a", INT)), (None, ("a", 1), None))
+
+    def test_the_time_of_a_leave_and_of_a_last_reply_is_up(self) -> None:
+        server = self.serve()
+        space = self.space(server)
+        space.out("a")
+        server.stop()
+        self.assertEqual(self.timed(0.2, lambda: space.last_reply(timeout=0.2), TimedOut).pending, "last_reply")
+        server.go_on()
+        self.assertEqual(space.again(), Kept(0, 1, "stored", 1))
+        server.stop()
+        self.assertEqual(self.timed(0.2, lambda: space.leave(timeout=0.2), TimedOut).pending, "leave")
+        server.go_on()
+        self.assertIsNone(space.again())
+        with self.assertRaises(Left):
+            space.out("b")
+
+    def test_a_close_waits_for_nothing(self) -> None:
+        server = self.serve()
+        space = self.space(server)
+        server.stop()
+        with self.assertRaises(TimedOut):
+            space.out("a", timeout=0.1)
+        begin = time.monotonic()
+        space.close()
+        self.assertLess(time.monotonic() - begin, 5)
+
+    # ---- none, or an error
+
+    def test_none_means_that_all_servers_were_there(self) -> None:
+        left, right = self.serve("left"), self.serve("right")
+        space = self.space(left, right)
+        for call in (space.take, space.read):
+            self.assertIsNone(call("a", timeout=0.05))
+        right.kill()
+        for away in (lambda: space.take("a", timeout=0.3), lambda: space.read("a", timeout=0.3), lambda: space.choose(In("a").nack(4), timeout=0.3),
+                     lambda: space.hold("a", timeout=0.3).__enter__()):
+            fault = self.timed(0.29, away, TimedOut)
+            self.assertEqual((fault.servers, fault.pending, space.pending), ((1,), None, None))
+        self.assertEqual(space.sync(Choose(In("a"), space.after(0.1))).kind, "alarm")
+        self.assertEqual(self.space(left, client=8).out("a"), (0, 1))
+        self.assertEqual(space.take("a", timeout=0.3), ("a",))
+        self.serve("right", right.port)
+        self.assertIsNone(space.take("a", timeout=1))
+
+    def test_a_server_that_does_not_answer_when_the_time_is_up(self) -> None:
+        server = self.serve()
+        space = self.space(server, patience=0.3)
+        server.stop()
+        for call in (lambda: space.take("a", timeout=0.1), lambda: space.look("a"), lambda: space.take("a", timeout=0)):
+            fault = self.timed(0.3, call, TimedOut)
+            self.assertEqual((fault.servers, space.pending), ((0,), None))
+        server.go_on()
+        self.assertIsNone(self.space(server, client=8).take("a", timeout=0.1))
+
+    def test_a_take_without_time_takes_what_is_there(self) -> None:
+        space = self.space(self.serve("left"), self.serve("right"))
+        self.assertIsNone(space.take("a", INT, timeout=0))
+        for number in range(3):
+            space.out("a", number)
+        self.assertEqual(sorted(space.take("a", INT, timeout=0)[1] for _ in range(3)), [0, 1, 2])
+        self.assertEqual(space.choose(In("a", INT).nack(1), Rd("b").nack(2), timeout=0), Outcome(2, "alarm", (), (1, 2)))
+
+    def test_what_is_asked_when_the_time_is_up(self) -> None:
+        """A message that is always answered goes behind the Asks; an offer before its answer is accepted, and one after it is given back."""
+        def talk(peer: Peer) -> None:
+            peer.expect(frames.hello(7, False))
+            peer.send(welcome(0))
+            peer.expect(frames.ask(1, True, "a", frames.INT) + PROBE)
+            peer.send(handed(OFFER, 1, 3, "a", 8) + refusal(OLD, 0))
+            peer.expect(frames.accept(1, 1, 3))
+            peer.send(gone(1))
+            peer.expect(frames.cancel(1) + frames.out(2, "b"))
+            peer.send(handed(OFFER, 1, 4, "a", 9) + stored(2, 5))
+            peer.expect(frames.cancel(1) + frames.ask(2, True, "a", frames.INT) + PROBE)
+            peer.send(handed(OFFER, 2, 4, "a", 9) + refusal(OLD, 2))
+            peer.expect(frames.accept(3, 2, 4))
+            peer.send(handed(TAKEN, 3, 4, "a", 9))
+            peer.expect(b"")
+
+        fake = Fake(talk)
+        with Space([fake.port], 7) as space:
+            self.assertIsNone(space.take("a", INT, timeout=0))
+            self.assertEqual(space.out("b"), (0, 5))
+            self.assertEqual(space.take("a", INT, timeout=0), ("a", 9))
+        fake.end()
+
+    # ---- looking
+
+    def test_look(self) -> None:
+        left, right = self.serve("left"), self.serve("right")
+        space, other = self.space(left, right, client=0), self.space(right, client=8)
+        self.assertIsNone(space.look("a", INT))
+        other.out("a", 1)
+        self.assertEqual([space.look("a", INT), space.look("a", 2)], [("a", 1), None])
+        with other.hold("a", INT):
+            self.assertEqual(space.look("a", ANY), ("a", 1))
+        self.assertEqual([space.out("b"), space.look("a", INT), other.take("a", INT), space.look("a", INT)], [(0, 1), ("a", 1), ("a", 1), None])
+
+    def test_look_while_a_server_is_away(self) -> None:
+        left, right = self.serve("left"), self.serve("right")
+        space = self.space(left, right, client=0, patience=0.3)
+        space.out("a")
+        right.kill()
+        self.assertEqual([space.look("a"), space.look("a")], [("a",)] * 2)
+        self.assertEqual(self.timed(0.3, lambda: space.look("b"), NoConnection).server, 1)
+        right = self.serve("right", right.port)
+        self.assertIsNone(space.look("b"))
+        self.assertEqual([space.out("b"), space.look("b")], [(1, 1), ("b",)])
+
+    def test_a_look_that_was_answered_late_disturbs_nothing(self) -> None:
+        def first(peer: Peer) -> None:
+            peer.expect(frames.hello(0, False))
+            peer.send(welcome(0))
+            peer.expect(frames.ask(1, False, "a") + PROBE)
+            peer.send(handed(READ, 1, 3, "a") + refusal(OLD, 0))
+            peer.expect(frames.cancel(1) + frames.out(1, "b"))
+            peer.send(stored(1, 4))
+            peer.expect(b"")
+
+        def second(peer: Peer) -> None:
+            peer.expect(frames.hello(0, False))
+            peer.send(welcome(0))
+            peer.expect(frames.ask(1, False, "a") + PROBE + frames.cancel(1) + frames.out(1, "c"))
+            peer.send(handed(READ, 1, 9, "a") + refusal(OLD, 0) + stored(1, 5))
+            peer.expect(b"")
+
+        fakes = [Fake(first), Fake(second)]
+        with Space([fake.port for fake in fakes], 0) as space:
+            self.assertEqual([space.look("a"), space.out("b"), space.out("c")], [("a",), (0, 4), (1, 5)])
+        for fake in fakes:
+            fake.end()
+
+    # ---- greeting
+
+    def test_a_number_that_is_in_use(self) -> None:
+        server = self.serve()
+        space = self.space(server, client=70)
+        fault = self.timed(0.3, lambda: self.space(server, client=70, patience=0.3), Refused)
+        self.assertEqual((fault.name, fault.client), ("Busy", 70))
+        self.assertRegex(str(fault), "client number 70")
+        self.assertEqual((linda_space.BUSY_PATIENCE, space.out("a")), (2.0, (0, 1)))
+
+    def test_greets_at_once_after_a_close(self) -> None:
+        server = self.serve()
+        for place in range(20):
+            with Space([server.port], 7) as space:
+                self.assertEqual(space.out("a"), (0, place + 1))
+
+    def test_busy_after_a_lost_connection(self) -> None:
+        def first(peer: Peer) -> None:
+            peer.expect(frames.hello(7, False))
+            peer.send(welcome(4))
+            peer.expect(frames.out(5, "a"))
+
+        def busy(peer: Peer) -> None:
+            peer.expect(frames.hello(7, False))
+            peer.send(refusal(BUSY, 0))
+
+        def last(peer: Peer) -> None:
+            peer.expect(frames.hello(7, False))
+            peer.send(welcome(5))
+            peer.expect(frames.out(5, "a"))
+            peer.send(stored(5, 9))
+
+        fake = Fake(first, busy, busy, last)
+        with Space([fake.port], 7) as space:
+            self.assertEqual(space.out("a"), (0, 9))
+        fake.end()
+        fake = Fake(first, *[busy] * 40)
+        with Space([fake.port], 7, patience=0.3) as space:
+            fault = self.timed(0.3, lambda: space.out("a"), Refused)
+            self.assertEqual((fault.name, fault.pending), ("Busy", "out"))
+
+    def test_restored(self) -> None:
+        def first(peer: Peer) -> None:
+            peer.expect(frames.hello(7, False))
+            peer.send(welcome(4))
+            peer.expect(frames.out(5, "a"))
+            peer.send(stored(5, 9))
+
+        def second(peer: Peer) -> None:
+            peer.expect(frames.hello(7, False))
+            peer.send(welcome(3))
+            peer.expect(b"")
+
+        for call in (lambda space: space.out("b"), lambda space: space.take("b"), lambda space: space.leave()):
+            fake = Fake(first, second)
+            with Space([fake.port], 7) as space:
+                space.out("a")
+                with self.assertRaises(Restored) as caught:
+                    call(space)
+                self.assertEqual((caught.exception.server, caught.exception.last, caught.exception.answered, caught.exception.pending), (0, 3, 5, None))
+                for later in (lambda: space.out("b"), lambda: space.take("b", timeout=0.1), lambda: space.look("b"), lambda: space.hold("b").__enter__()):
+                    with self.assertRaises(Restored):
+                        later()
+                with self.assertRaises(Idle):
+                    space.again()
+            fake.end()
+
+    def test_a_server_is_restored(self) -> None:
+        server = self.serve()
+        space, other = self.space(server), self.space(server, client=8)
+        space.out("a", 1)
+        server.kill()
+        shutil.copytree(server.folder, self.folder / "copy")
+        server = self.serve(port=server.port)
+        self.assertEqual([space.out("a", 2), other.take("a", 2)], [(0, 2), ("a", 2)])
+        server.kill()
+        server = self.serve("copy", server.port)
+        for one in (space, other):
+            with self.assertRaises(Restored):
+                one.take("a", INT)
+        fresh = self.space(server, client=9)
+        self.assertEqual([fresh.take("a", INT), fresh.look("a", INT)], [("a", 1), None])
+
+    def test_numbers_from_a_range(self) -> None:
+        left, right = self.serve("left"), self.serve("right")
+        first = self.space(left, right, client=range(100, 103))
+        second = self.space(left, right, client=range(100, 103))
+        self.space(left, client=102)
+        self.assertEqual((first.client, second.client), (100, 101))
+        with self.assertRaisesRegex(NoNumber, "100 to 102"):
+            self.space(left, right, client=range(100, 103))
+        self.assertEqual(first.out("a", 5), (0, 1))
+        first.close()
+        until = time.monotonic() + PATIENCE
+        found = 0
+        while found != 100 and time.monotonic() < until:
+            with self.space(left, right, client=range(100, 120)) as again:
+                found = again.client
+        self.assertEqual(found, 100)
+        second.leave()
+        second.close()
+        self.space(left, client=100)
+        self.assertEqual(self.space(left, client=range(101, 110)).client, 103)
+        self.assertEqual(self.space(left, client=range(100, 110), fresh=True).client, 104)
+
+    # ---- interrupts
+
+    def test_ctrl_c_in_a_take(self) -> None:
+        server = self.serve()
+        space, other = self.space(server), self.space(server, client=8)
+        self.interrupted(lambda: space.choose(In("a", INT).nack(3), In("b").nack(4)))
+        self.assertEqual((space.pending, space.abandon()), (None, (3, 4)))
+        other.out("a", 1)
+        self.assertEqual(other.take("a", INT, timeout=PATIENCE), ("a", 1))
+        self.assertEqual(space.out("b"), (0, 2))
+
+    def test_ctrl_c_in_an_out(self) -> None:
+        server = self.serve()
+        space = self.space(server)
+        server.stop()
+        self.interrupted(lambda: space.out("a", 1))
+        self.assertEqual((space.pending, space.settled), ("out", None))
+        server.go_on()
+        self.assertEqual((space.take("a", INT), space.pending, space.settled), (("a", 1), None, Stored(0, 1)))
+        server.stop()
+        self.interrupted(lambda: space.out("a", 2))
+        server.go_on()
+        self.assertEqual((space.again(), space.out("a", 3), space.look("a", 2)), (Stored(0, 2), (0, 3), ("a", 2)))
+
+    def test_ctrl_c_in_an_out_that_is_refused(self) -> None:
+        def first(peer: Peer) -> None:
+            peer.expect(frames.hello(7, False))
+            peer.send(welcome(0))
+            peer.expect(frames.out(1, "a"))
+            peer.expect(b"")
+
+        def second(peer: Peer) -> None:
+            peer.expect(frames.hello(7, False))
+            peer.send(welcome(0))
+            peer.expect(frames.out(1, "a"))
+            peer.send(refusal(FULL, 0))
+            peer.expect(frames.out(1, "b"))
+            peer.send(stored(1, 9))
+            peer.expect(b"")
+
+        fake = Fake(first, second)
+        with Space([fake.port], 7) as space:
+            self.interrupted(lambda: space.out("a"))
+            self.assertEqual((space.out("b"), space.pending), ((0, 9), None))
+            assert isinstance(space.settled, Refused)
+            self.assertEqual(space.settled.name, "Full")
+        fake.end()
+
+    def test_ctrl_c_while_a_tuple_is_taken(self) -> None:
+        """The answer comes before the next call, whatever that is; a tuple that was taken is for the next input that it fits."""
+        def first(peer: Peer) -> None:
+            peer.expect(frames.hello(7, False))
+            peer.send(welcome(0))
+            peer.expect(frames.ask(1, True, "a", frames.INT))
+            peer.send(handed(OFFER, 1, 3, "a", 8))
+            peer.expect(frames.accept(1, 1, 3))
+            peer.expect(b"")
+
+        for is_taken in (True, False):
+            def second(peer: Peer) -> None:
+                peer.expect(frames.hello(7, False))
+                peer.send(welcome(1))
+                peer.expect(frames.accept(1, 1, 3))
+                if is_taken:
+                    peer.send(handed(TAKEN, 1, 3, "a", 8))
+                    peer.expect(frames.out(2, "b"))
+                else:
+                    peer.send(gone(1))
+                    peer.expect(frames.cancel(1) + frames.out(2, "b"))
+                peer.send(stored(2, 4))
+                peer.expect(b"")
+
+            with self.subTest(is_taken=is_taken):
+                fake = Fake(first, second)
+                with Space([fake.port], 7) as space:
+                    self.interrupted(lambda: space.take("a", INT))
+                    self.assertEqual((space.pending, space.out("b")), ("sync", (0, 4)))
+                    if is_taken:
+                        self.assertEqual(space.pending, "sync")
+                        self.assertEqual(space.choose(Rd("c"), In("a", 8).wrap(6).nack(1), timeout=0), Outcome(1, "took", (6,), (), 0, 3, ("a", 8), ()))
+                    self.assertIsNone(space.pending)
+                fake.end()
+
+    def test_the_time_is_up_while_a_tuple_is_taken(self) -> None:
+        due = threading.Event()
+
+        def talk(peer: Peer) -> None:
+            peer.expect(frames.hello(7, False))
+            peer.send(welcome(0))
+            peer.expect(frames.ask(1, True, "a", frames.INT))
+            peer.send(handed(OFFER, 1, 3, "a", 8))
+            peer.expect(frames.accept(1, 1, 3))
+            due.wait(PATIENCE)
+            peer.send(handed(TAKEN, 1, 3, "a", 8))
+            peer.expect(b"")
+
+        fake = Fake(talk)
+        with Space([fake.port], 7, patience=0.3) as space:
+            fault = self.timed(0.4, lambda: space.take("a", INT, timeout=0.1), TimedOut)
+            self.assertEqual((fault.pending, fault.servers), ("sync", (0,)))
+            with self.assertRaises(Busy):
+                space.abandon()
+            self.timed(0.1, lambda: space.again(timeout=0.1), TimedOut)
+            due.set()
+            self.assertEqual(space.take("a", INT), ("a", 8))
+            self.assertIsNone(space.pending)
+        fake.end()
+
+    def test_two_threads(self) -> None:
+        space = self.space(self.serve())
+        taking = Going(lambda: space.take("a", timeout=1))
+        time.sleep(0.3)
+        with self.assertRaisesRegex(Busy, "another thread"):
+            space.out("b")
+        self.assertIsNone(taking.end())
+        self.assertEqual(space.out("b"), (0, 1))
+
+    # ---- an Ask that was sent again
+
+    def test_nothing_is_held_after_a_lost_taken(self) -> None:
+        server = self.serve()
+        way = Cutting(server.port, "Taken")
+        space, other = self.space(server, connect=way.connect), self.space(server, client=8)
+        other.out("a", 1)
+        self.assertEqual((space.take("a", INT), way.cuts), (("a", 1), 1))
+        other.out("a", 2)
+        self.assertEqual(other.take("a", INT, timeout=PATIENCE), ("a", 2))
+        self.assertIsNone(other.take("a", INT, timeout=0))
+
+    def test_an_ask_that_was_sent_again_is_cancelled(self) -> None:
+        def first(peer: Peer) -> None:
+            peer.expect(frames.hello(7, False))
+            peer.send(welcome(0))
+            peer.expect(frames.ask(1, True, "a", frames.INT))
+            peer.send(handed(OFFER, 1, 3, "a", 8))
+            peer.expect(frames.accept(1, 1, 3))
+
+        def second(peer: Peer) -> None:
+            peer.expect(frames.hello(7, False))
+            peer.send(welcome(1))
+            peer.expect(frames.accept(1, 1, 3) + frames.ask(1, True, "a", frames.INT))
+            peer.send(handed(TAKEN, 1, 3, "a", 8))
+            peer.expect(frames.cancel(1))
+            peer.expect(b"")
+
+        fake = Fake(first, second)
+        with Space([fake.port], 7) as space:
+            self.assertEqual(space.take("a", INT), ("a", 8))
+        fake.end()
+
+    # ---- holding
+
+    def test_hold(self) -> None:
+        left, right = self.serve("left"), self.serve("right")
+        space, other = self.space(left, right, client=0), self.space(left, right, client=9)
+        other.out("job", 1, "x")                                # at server 1
+        with space.hold("job", INT, ANY, timeout=PATIENCE) as offer:
+            assert offer is not None
+            self.assertEqual((offer.tuple, offer.binds, offer.server, offer.id, offer.is_taken), (("job", 1, "x"), (1,), 1, 1, False))
+            self.assertIsNone(other.take("job", INT, ANY, timeout=0.1))
+            self.assertEqual(space.out("done", 1), (0, 1))
+            self.assertEqual(space.look("job", INT, ANY), ("job", 1, "x"))
+            self.assertEqual([offer.accept(), offer.accept(), offer.is_taken], [("job", 1, "x"), ("job", 1, "x"), True])
+            self.assertIsNone(space.look("job", INT, ANY))
+        self.assertEqual((space.pending, space.last_reply(1)), (None, Kept(1, 1, "taken", 1, ("job", 1, "x"))))
+        with space.hold("job", INT, ANY, timeout=0.05) as none, space.hold("job", INT, ANY, timeout=0) as no_other:
+            self.assertEqual((none, no_other), (None, None))
+
+    def test_what_is_not_accepted_is_free_again(self) -> None:
+        server = self.serve()
+        space, other = self.space(server), self.space(server, client=8)
+        other.out("job", 1)
+        with space.hold("job", INT):
+            self.assertIsNone(other.take("job", INT, timeout=0))
+        self.assertEqual(other.take("job", INT, timeout=PATIENCE), ("job", 1))
+        other.out("job", 2)
+        with self.assertRaises(ZeroDivisionError), space.hold("job", INT):
+            raise ZeroDivisionError
+        self.assertEqual(other.take("job", INT, timeout=PATIENCE), ("job", 2))
+        other.out("job", 3)
+        with space.hold("job", INT) as offer:
+            assert offer is not None
+            offer.release()
+            self.assertEqual(other.take("job", INT, timeout=PATIENCE), ("job", 3))
+            with self.assertRaises(Gone):
+                offer.accept()
+        self.assertEqual(space.out("b"), (0, 4))
+
+    def test_two_are_held_at_once(self) -> None:
+        space = self.space(self.serve())
+        for number in (1, 2):
+            space.out("job", number)
+        with space.hold("job", INT) as one, space.hold("job", INT) as two:
+            assert one is not None and two is not None
+            self.assertEqual([one.tuple, two.tuple, two.accept()], [("job", 1), ("job", 2), ("job", 2)])
+        self.assertEqual([space.take("job", INT, timeout=PATIENCE), space.look("job", INT)], [("job", 1), None])
+
+    def test_a_hold_is_lost_with_its_server(self) -> None:
+        server = self.serve()
+        space, other = self.space(server), self.space(server, client=8)
+        other.out("job", 1)
+        with space.hold("job", INT) as offer:
+            assert offer is not None
+            server.kill()
+            self.serve(port=server.port)
+            self.assertEqual(other.take("job", INT, timeout=PATIENCE), ("job", 1))
+            for _ in range(2):
+                with self.assertRaises(Gone) as caught:
+                    offer.accept()
+                self.assertEqual((caught.exception.server, space.pending), (0, None))
+        self.assertEqual(space.out("b"), (0, 2))
+        with space.hold("b") as offer:
+            assert offer is not None
+            self.interrupted(lambda: space.take("never"))
+            with self.assertRaises(Gone):
+                offer.accept()
+        self.assertEqual(space.take("b"), ("b",))
+
+    def test_an_accept_that_is_not_answered(self) -> None:
+        server = self.serve()
+        space = self.space(server)
+        space.out("job", 1)
+        with space.hold("job", INT) as offer:
+            assert offer is not None
+            server.stop()
+            fault = self.timed(0.2, lambda: offer.accept(timeout=0.2), TimedOut)
+            self.assertEqual((fault.servers, fault.pending), ((0,), "accept"))
+            with self.assertRaises(Busy):
+                space.out("done", 1)
+            server.go_on()
+            self.assertEqual((offer.accept(), space.pending), (("job", 1), None))
+        space.out("job", 2)
+        with space.hold("job", INT) as offer:
+            assert offer is not None
+            server.stop()
+            self.interrupted(offer.accept)
+            server.go_on()
+            self.assertEqual(space.out("done", 2), (0, 3))
+            is_taken = space.look("job", INT) is None
+            self.assertEqual(isinstance(space.settled, Outcome), is_taken)
+            self.assertEqual(isinstance(space.settled, Gone), not is_taken)
+            if is_taken:
+                self.assertEqual(offer.accept(), ("job", 2))
+            else:
+                with self.assertRaises(Gone):
+                    offer.accept()
+
+    def test_a_held_tuple_that_is_offered_again(self) -> None:
+        """A repeat of the offer is no reason to give it back; another for its ticket is."""
+        def talk(peer: Peer) -> None:
+            peer.expect(frames.hello(7, False))
+            peer.send(welcome(0))
+            peer.expect(frames.ask(1, True, "a"))
+            peer.send(handed(OFFER, 1, 3, "a"))
+            peer.expect(frames.out(1, "b"))
+            peer.send(handed(OFFER, 1, 3, "a") + stored(1, 4))
+            peer.expect(frames.accept(2, 1, 3))
+            peer.send(gone(2))
+            peer.expect(frames.cancel(1))
+            peer.expect(b"")
+
+        fake = Fake(talk)
+        with Space([fake.port], 7) as space:
+            with space.hold("a") as offer:
+                assert offer is not None
+                space.out("b")
+                with self.assertRaises(Gone):
+                    offer.accept()
+        fake.end()
+
+
+class Packed(WithServers):
+
+    def test_packed_values(self) -> None:
+        values: List[Any] = [None, True, 0, -1.5, "", "é\U0001f600\"\\\n", "\ud800", [], {}, {"a": [1, {"b": None}]}, list(range(20_000)), "x" * 122_848]
+        for value in values:
+            fields = pack(value)
+            self.assertEqual((len(fields), unpack(fields)), (30, value))
+            self.assertTrue(all(len(text.encode()) <= 4_095 for text in fields))
+        self.assertEqual(pack({"a": [1, "é"]}, 2), ('{"a":[1,"é"]}', ""))
+        self.assertEqual((unpack(pack((1, 2), 1)), unpack(pack({1: 2}, 1)), unpack(["[1", ",2]"])), ([1, 2], {"1": 2}, [1, 2]))
+
+    def test_limits_of_packed_values(self) -> None:
+        # Each has two quotes more. ASCII fills each field; "é", of two bytes, leaves one free behind "x" and a quote, and "\U0001f600", of four, up to three.
+        self.assertEqual([len(text) for text in pack("x" * 8_188, 2)], [4_095, 4_095])
+        for value in ("x" * 8_189, "x" * 122_849, "x" + "é" * 4_094):
+            with self.assertRaises(OutOfRange):
+                pack(value, 30 if len(value) > 100_000 else 2)
+        self.assertEqual([len(text.encode()) for text in pack("é" * 4_094, 2)], [4_095, 4_095])
+        self.assertEqual([len(text.encode()) for text in pack("x" + "é" * 4_093, 2)], [4_094, 4_095])
+        self.assertEqual(len("".join(pack("\U0001f600" * 30_690)).encode()), 122_762)
+        with self.assertRaises(OutOfRange):
+            pack("\U0001f600" * 30_691)
+        loop: List[Any] = []
+        loop.append(loop)
+        wrong: List[Any] = [b"x", {1, 2}, float("nan"), float("inf"), loop, object()]
+        for value in wrong:
+            with self.assertRaises(OutOfRange):
+                pack(value)
+        for count in (0, 33, -1, True, "2"):
+            with self.assertRaises(OutOfRange):
+                pack(1, count)  # type: ignore[arg-type]
+        for fields in ([1], ["{"], [""], [None]):
+            with self.assertRaises(OutOfRange):
+                unpack(fields)  # type: ignore[arg-type]
+
+    def test_packed_values_in_a_space(self) -> None:
+        space = self.space(self.serve())
+        value = {"text": "é" * 50_000, "list": list(range(1_000))}
+        space.out("doc", 7, *pack(value))
+        found = space.take("doc", 7, *PACKED, timeout=PATIENCE)
+        assert found is not None
+        self.assertEqual(unpack(found[2:]), value)
+        space.out("note", *pack([1, "x"], 1))
+        self.assertEqual(unpack(space.read("note", TEXT)[1:]), [1, "x"])  # type: ignore[index]
 
 
 # ---- recorded sessions
@@ -545,9 +1368,9 @@ class Watched(Space):
 
     waits: threading.Event
 
-    def _wait(self) -> None:
+    def _wait(self, until: float) -> None:
         self.waits.set()
-        super()._wait()
+        super()._wait(until)
 
 
 def pattern(item: Any) -> Any:
@@ -628,8 +1451,9 @@ class Player:
         if word == "out":
             return ["stored", *space.out(*parts)]
         if word in ("take", "read"):
-            found = getattr(space, word)(*map(pattern, parts[0]), timeout=parts[1])
-            return (word, found and list(found))
+            # Not by those names, which ask the servers once more when the time is up.
+            base = (In if word == "take" else Rd)(*map(pattern, parts[0]))
+            return space.sync(Choose(base, *([] if parts[1] is None else [space.after(parts[1])])))
         if word == "sync":
             return space.sync(event_of(parts[0]))
         if word == "last_reply":
@@ -681,9 +1505,7 @@ class Player:
 
     def end(self, wanted: list) -> None:
         found = self.ends.get(timeout=PATIENCE)
-        if isinstance(found, tuple):
-            found, wanted = found[1], wanted[4] if wanted[0] in ("took", "read") else None if wanted[0] == "alarm" else wanted
-        elif not isinstance(found, list):
+        if not isinstance(found, list):
             found = ends_of(found)
         assert json.dumps(found) == json.dumps(wanted), f"found {found}"
 
