@@ -86,7 +86,11 @@ fn perform<S: Net<Listener = TcpListener, Stream = TcpStream> + Threads + Wait +
         Task::Pipe => run_pipe(rt),
         Task::Run { servers } => run_servers(rt, *servers),
         Task::TracedRun { servers, file } => run_traced(rt, *servers, file),
-        Task::Call { client, ports } => run_call(rt, threads, *client, ports),
+        Task::Call {
+            client,
+            ports,
+            again,
+        } => run_call(rt, threads, *client, ports, *again),
         Task::Serve {
             port,
             dir,
@@ -173,12 +177,14 @@ fn end_of_script(rt: &HostRuntime, ended: Result<(), ScriptFault>) -> ExitCode
     }
 }
 
-// Plays the lines on standard input as a client, over the servers that listen on these ports.
+// Plays the lines on standard input as a client, over the servers that listen on these ports; with `again` as one that
+// was used before.
 fn run_call<S: Net<Listener = TcpListener, Stream = TcpStream> + Threads + Wait + Clock + Sync>(
     rt: &HostRuntime,
     threads: &S,
     client: u32,
     ports: &Ports,
+    again: bool,
 ) -> ExitCode
     ensures { (exit_status result ≡ 0) ⊎ ((exit_status result ≡ 3) ⊎ (exit_status result ≡ 4)) }
 {
@@ -191,6 +197,7 @@ fn run_call<S: Net<Listener = TcpListener, Stream = TcpStream> + Threads + Wait 
             &mut rt.stdout(),
             client,
             ports.as_slice(),
+            again,
         ),
     )
 }
