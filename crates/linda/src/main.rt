@@ -198,7 +198,8 @@ fn end_of_script(rt: &HostRuntime, ended: Result<(), ScriptFault>) -> ExitCode
     }
 }
 
-// Plays the lines on standard input as a client, over the servers that listen on these ports.
+// Plays the lines on standard input as a client, over the servers that listen on these ports; with `again` as one that
+// was used before.
 fn run_call<S: Net<Listener = TcpListener, Stream = TcpStream> + Threads + Wait + Clock + Sync>(
     rt: &HostRuntime,
     threads: &S,

@@ -1,3 +1,4 @@
+mod CallWalkLaws
 pub mod CommandLaws
 pub mod ParsingLaws
 mod LongSpellingLaws

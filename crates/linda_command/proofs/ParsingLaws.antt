@@ -192,7 +192,7 @@ top_fault w =
     (or_else (defaults_fault (settled top.rules w.held).rows top.rules) (check_fault top (finished top.rules w.held) (is_some (entered (built linda) w.stopped)))))
 
 -- and after `call`
-call_stops : (rest : List Text) → Some (codes "call", rest) ≡ (walk top.rules (names_of (built linda)) nothing_held (codes "call" ∷ rest)).stopped
+pub call_stops : (rest : List Text) → Some (codes "call", rest) ≡ (walk top.rules (names_of (built linda)) nothing_held (codes "call" ∷ rest)).stopped
 unfolding walked
 call_stops rest =
     let start = walked top.rules (names_of (built linda)) (walk_from nothing_held) (codes "call") in

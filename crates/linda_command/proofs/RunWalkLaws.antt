@@ -223,7 +223,7 @@ by_short k rows pending x None is e =
     rw is (stays turn)
 by_short k rows pending x (Some flags) is e = flags_turn k rows pending x flags (length flags) refl e is
 
-no_command : (k : Waiting) (x : Text) → subcommand_met [] k x ≡ None
+pub no_command : (k : Waiting) (x : Text) → subcommand_met [] k x ≡ None
 no_command idle x = refl
 no_command (option id) x = refl
 no_command positional x = refl
@@ -369,7 +369,7 @@ trace_put v (r ∷ rs) = go (bytes_eq r.id trace_name) refl (trace_put v rs)
 pub trace_used : (v : Text) (rows : List Row) → has_trace (used trace (v ∷ []) rows)
 trace_used v rows = trace_put v (without trace_name rows)
 
-no_default : (a : Rule) (rows : List Row) → a.defaults ≡ [] → with_default rows a ≡ rows
+pub no_default : (a : Rule) (rows : List Row) → a.defaults ≡ [] → with_default rows a ≡ rows
 no_default a rows e = go (has_row a.id rows) refl
   where
     go : (b : Bool) → has_row a.id rows ≡ b → with_default rows a ≡ rows

@@ -1,12 +1,12 @@
 -- What the parser finds, and the task that the words ask for.
-use Rattle.std.proofs.Common.{◌≡◌, ◌⊎◌, ◌∙◌, ℕ, List, [], ◌∷◌, Option, Some, ap, refl, sym, subst, inl, inr, codes, arith, slice_get, slice_index, unwrap_or, option_map, true, false}
+use Rattle.std.proofs.Common.{◌≡◌, ◌⊎◌, ◌∙◌, ℕ, Bool, List, [], ◌∷◌, Option, Some, ap, refl, sym, subst, inl, inr, codes, arith, slice_get, slice_index, unwrap_or, option_map, true, false}
 use Rattle.clap.specs.Walk.{Text, first_of, rows_of, one_of}
 use Rattle.clap.specs.Lexer.{without_minus}
 use Rattle.clap.specs.Matches.{first_value, one_text, subcommand_name_of}
 use Rattle.clap.specs.Simple.{subcommand_of, subcommand_rows_of}
 use Rattle.clap.specs.Faults.{fault_of}
 use Rattle.clap.specs.Kinds.{Kinds, HasKind}
-use Rattle.clap.specs.Values.{kind_of}
+use Rattle.clap.specs.Values.{bool_text, kind_of}
 use Rattle.clap.specs.declared.error.Error.{Error}
 use Rattle.clap.specs.declared.error.kind.ErrorKind.TheVariants as kind
 use Rattle.std.specs.Prelude.{is_some, MatchResult, Result, Ok, Err, IfOk, IfSome, IsErrAnd, None}
@@ -14,9 +14,10 @@ use Rattle.clap.specs.declared.parser.matches.ArgMatches.{ArgMatches}
 use Rattle.clap.specs.declared.parser.matches.Found.{Found}
 use Rattle.clap.proofs.OnLiterals.{clap_on_literals}
 use Rattle.clap.proofs.WalkLemmas.{first_value-rows, one_text-rows}
-use Rattle.linda_command.specs.Commands.{IsCall, IsInspect, IsServe, IsTracedRun, IsRefusedAs, AsksFor, AsksExactlyFor, AsksForPipe, AsksForRun, HasServers, Spells, linda}
+use Rattle.linda_command.specs.Commands.{IsCall, IsFlag, IsInspect, IsServe, IsTracedRun, IsRefusedAs, AsksFor, AsksExactlyFor, AsksForPipe, AsksForRun, HasServers, Spells, has_flag, linda}
 use Rattle.linda_command.specs.declared.command.Task.{Task}
 use Rattle.linda_command.specs.declared.command.Task.TheVariants as tasks
+use Rattle.linda_command.proofs.CallWalkLaws.{call_is_found, flag_read}
 use Rattle.linda_command.proofs.ParsingLaws.{many_kinds, missing_kinds, unknown_kinds, AsksToCall, AsksToInspect, AsksToServe, asked, name_of_rows, named, named_call, named_inspect, named_serve}
 use Rattle.linda_command.proofs.RunWordsLaws.{TracesRun, run_kinds, run_refused_some, no_file_of_row, number_of_row, run_is_found, run_is_free, runs}
 
@@ -144,7 +145,7 @@ pub exactly_pipe : (m : ArgMatches) (words : List Text) (task : Task) → AsksEx
 exactly_pipe m words tasks.Pipe asks rows is = refl
 exactly_pipe m words (tasks.Run n) asks rows is = absurd (no_run_pipe (subcommand_name_of m) (run_found m words n asks rows) is)
 exactly_pipe m words (tasks.TracedRun n file) asks rows is = absurd asks
-exactly_pipe m words (tasks.Call client ports) asks rows is = absurd asks
+exactly_pipe m words (tasks.Call client ports again) asks rows is = absurd asks
 exactly_pipe m words (tasks.Serve port dir sessions log) asks rows is = absurd asks
 exactly_pipe m words (tasks.Inspect dir lists) asks rows is = absurd asks
 
@@ -163,7 +164,7 @@ exactly_run m f words tasks.Pipe result asks rows is below reads = absurd (no_ru
 exactly_run m f words (tasks.Run n) result asks rows is below reads =
     reads asks.number n (no_file_found m f words n asks rows below) (text_found m f words n asks rows below) asks.spells
 exactly_run m f words (tasks.TracedRun n file) result asks rows is below reads = absurd asks
-exactly_run m f words (tasks.Call client ports) result asks rows is below reads = absurd asks
+exactly_run m f words (tasks.Call client ports again) result asks rows is below reads = absurd asks
 exactly_run m f words (tasks.Serve port dir sessions log) result asks rows is below reads = absurd asks
 exactly_run m f words (tasks.Inspect dir lists) result asks rows is below reads = absurd asks
 
@@ -172,7 +173,7 @@ pub never_other : (m : ArgMatches) (words : List Text) (task : Task) → AsksExa
 never_other m words tasks.Pipe asks rows no_pipe no_run = no_pipe (pipe_found m words asks rows)
 never_other m words (tasks.Run n) asks rows no_pipe no_run = no_run (run_found m words n asks rows)
 never_other m words (tasks.TracedRun n file) asks rows no_pipe no_run = asks
-never_other m words (tasks.Call client ports) asks rows no_pipe no_run = asks
+never_other m words (tasks.Call client ports again) asks rows no_pipe no_run = asks
 never_other m words (tasks.Serve port dir sessions log) asks rows no_pipe no_run = asks
 never_other m words (tasks.Inspect dir lists) asks rows no_pipe no_run = asks
 
@@ -192,7 +193,7 @@ traced_asks : (words : List Text) (task : Task) → TracesRun words → IsTraced
 traced_asks words tasks.Pipe a h = absurd h
 traced_asks words (tasks.Run n) a h = absurd h
 traced_asks words (tasks.TracedRun n file) a h = record { name = a.name; later = a.later; spelled = a.spelled; some = h.0; most = h.1 }
-traced_asks words (tasks.Call client ports) a h = absurd h
+traced_asks words (tasks.Call client ports again) a h = absurd h
 traced_asks words (tasks.Serve port dir sessions log) a h = absurd h
 traced_asks words (tasks.Inspect dir lists) a h = absurd h
 
@@ -221,19 +222,38 @@ run_asked m f words result free rows is below reads traces = go (asked_for words
     go (to_serve a) = absurd (no_serve_run (subcommand_name_of m) (serve_found m words a rows) is)
     go (to_inspect a) = absurd (no_inspect_run (subcommand_name_of m) (inspect_found m words a rows) is)
 
-call_asks : (words : List Text) (task : Task) → AsksToCall words → IsCall task → AsksFor words task
-call_asks words tasks.Pipe a h = absurd h
-call_asks words (tasks.Run n) a h = absurd h
-call_asks words (tasks.TracedRun n file) a h = absurd h
-call_asks words (tasks.Call client ports) a h = record { name = a.name; later = a.later; spelled = a.spelled; is_client = h.0; are_ports = h.1 }
-call_asks words (tasks.Serve port dir sessions log) a h = absurd h
-call_asks words (tasks.Inspect dir lists) a h = absurd h
+-- the text that the parser found for the flag
+flag_found : (m : ArgMatches) (f : Found) (words : List Text) (a : AsksToCall words) → subcommand_rows_of m ≡ subcommand_of linda words
+    → option_map (λ p. p.1) (subcommand_rows_of m) ≡ Some (rows_of f) → one_text f (codes "again") ≡ Some (bool_text (has_flag (codes "--again") a.later))
+flag_found m f words a rows below =
+    one_text-rows f (codes "again") ∙ ap (λ o. one_of (codes "again") (unwrap_or o [])) (sym below ∙ ap (λ o. option_map (λ p. p.1) o) (rows ∙ call_is_found words a))
+    ∙ flag_read a.later
+
+the_flag : (text : Option Text) (flag b : Bool) → IsFlag text flag → text ≡ Some (bool_text b) → flag ≡ b
+the_flag text flag true h is = h.set is
+the_flag text flag false h is = h.clear is
+
+call_asks : (words : List Text) (text : Option Text) (task : Task) (a : AsksToCall words) → text ≡ Some (bool_text (has_flag (codes "--again") a.later))
+    → IsCall text task → AsksFor words task
+call_asks words text tasks.Pipe a is h = absurd h
+call_asks words text (tasks.Run n) a is h = absurd h
+call_asks words text (tasks.TracedRun n file) a is h = absurd h
+call_asks words text (tasks.Call client ports again) a is h = record {
+  name = a.name;
+  later = a.later;
+  spelled = a.spelled;
+  is_client = h.0;
+  are_ports = h.1.0;
+  is_again = the_flag text again (has_flag (codes "--again") a.later) h.1.1 is;
+}
+call_asks words text (tasks.Serve port dir sessions log) a is h = absurd h
+call_asks words text (tasks.Inspect dir lists) a is h = absurd h
 
 serve_asks : (words : List Text) (task : Task) → AsksToServe words → IsServe task → AsksFor words task
 serve_asks words tasks.Pipe a h = absurd h
 serve_asks words (tasks.Run n) a h = absurd h
 serve_asks words (tasks.TracedRun n file) a h = absurd h
-serve_asks words (tasks.Call client ports) a h = absurd h
+serve_asks words (tasks.Call client ports again) a h = absurd h
 serve_asks words (tasks.Serve port dir sessions log) a h = record { name = a.name; later = a.later; spelled = a.spelled; is_port = h.0; are_sessions = h.1 }
 serve_asks words (tasks.Inspect dir lists) a h = absurd h
 
@@ -241,7 +261,7 @@ inspect_asks : (words : List Text) (task : Task) → AsksToInspect words → IsI
 inspect_asks words tasks.Pipe a h = absurd h
 inspect_asks words (tasks.Run n) a h = absurd h
 inspect_asks words (tasks.TracedRun n file) a h = absurd h
-inspect_asks words (tasks.Call client ports) a h = absurd h
+inspect_asks words (tasks.Call client ports again) a h = absurd h
 inspect_asks words (tasks.Serve port dir sessions log) a h = absurd h
 inspect_asks words (tasks.Inspect dir lists) a h = record { name = a.name; later = a.later; spelled = a.spelled }
 
@@ -253,21 +273,23 @@ serve_is_asked : (words : List Text) (found : Option Task) → AsksToServe words
 serve_is_asked words None a h = tt
 serve_is_asked words (Some task) a h = serve_asks words task a h
 
-call_is_asked : (words : List Text) (found : Option Task) → AsksToCall words → IfSome found IsCall → IfSome found (AsksFor words)
-call_is_asked words None a h = tt
-call_is_asked words (Some task) a h = call_asks words task a h
+call_is_asked : (words : List Text) (text : Option Text) (found : Option Task) (a : AsksToCall words) → text ≡ Some (bool_text (has_flag (codes "--again") a.later))
+    → IfSome found (IsCall text) → IfSome found (AsksFor words)
+call_is_asked words text None a is h = tt
+call_is_asked words text (Some task) a is h = call_asks words text task a is h
 
-pub call_asked : {E : Type 0} (m : ArgMatches) (words : List Text) (result : Result (Option Task) E) → fault_of linda words ≡ []
+pub call_asked : {E : Type 0} (m : ArgMatches) (f : Found) (words : List Text) (result : Result (Option Task) E) → fault_of linda words ≡ []
     → subcommand_rows_of m ≡ subcommand_of linda words → subcommand_name_of m ≡ Some (codes "call")
-    → IfOk result (λ found. IfSome found IsCall) → IfOk result (λ found. IfSome found (AsksFor words))
-call_asked m words (Err e) free rows is h = tt
-call_asked m words (Ok found) free rows is h = go (asked_for words free)
+    → option_map (λ p. p.1) (subcommand_rows_of m) ≡ Some (rows_of f) → IfOk result (λ found. IfSome found (IsCall (one_text f (codes "again"))))
+    → IfOk result (λ found. IfSome found (AsksFor words))
+call_asked m f words (Err e) free rows is below h = tt
+call_asked m f words (Ok found) free rows is below h = go (asked_for words free)
   where
     go : Asked words → IfSome found (AsksFor words)
     go (to_pipe p) = absurd (no_call_pipe (subcommand_name_of m) is (pipe_found m words p rows))
     go (to_run n a) = absurd (no_call_run (subcommand_name_of m) is (run_found m words n a rows))
     go (to_traced a) = absurd (no_call_run (subcommand_name_of m) is (traced_found m words a rows))
-    go (to_call a) = call_is_asked words found a h
+    go (to_call a) = call_is_asked words (one_text f (codes "again")) found a (flag_found m f words a rows below) h
     go (to_serve a) = absurd (no_serve_call (subcommand_name_of m) (serve_found m words a rows) is)
     go (to_inspect a) = absurd (no_inspect_call (subcommand_name_of m) (inspect_found m words a rows) is)
 
@@ -315,7 +337,7 @@ task_is_free words tasks.Pipe (name, inl h) = ap (fault_of linda) h ∙ pipe_alo
 task_is_free words tasks.Pipe (name, inr h) = ap (fault_of linda) h ∙ pipe_ended name
 task_is_free words (tasks.Run n) asks = run_is_free words n asks
 task_is_free words (tasks.TracedRun n file) asks = absurd asks
-task_is_free words (tasks.Call client ports) asks = absurd asks
+task_is_free words (tasks.Call client ports again) asks = absurd asks
 task_is_free words (tasks.Serve port dir sessions log) asks = absurd asks
 task_is_free words (tasks.Inspect dir lists) asks = absurd asks
 
@@ -323,7 +345,7 @@ pub has_servers : (words : List Text) (task : Task) → AsksFor words task → H
 has_servers words tasks.Pipe asks = tt
 has_servers words (tasks.Run n) asks = (asks.spells.some, asks.spells.most)
 has_servers words (tasks.TracedRun n file) asks = (asks.some, asks.most)
-has_servers words (tasks.Call client ports) asks = (asks.are_ports.0, asks.are_ports.1.0)
+has_servers words (tasks.Call client ports again) asks = (asks.are_ports.0, asks.are_ports.1.0)
 has_servers words (tasks.Serve port dir sessions log) asks = tt
 has_servers words (tasks.Inspect dir lists) asks = tt
 

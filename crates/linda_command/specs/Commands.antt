@@ -1,7 +1,8 @@
 -- What the command line asks for, and how words that ask for nothing are refused.
-use Rattle.std.specs.Prelude.{◌≡◌, ◌≢◌, ◌<◌, ◌≤◌, ◌⊎◌, ◌==◌, ◌^◌, ⊤, ℕ, Bool, true, false}
+use Rattle.std.specs.Prelude.{◌≡◌, ◌≢◌, ◌<◌, ◌≤◌, ◌⊎◌, ◌==◌, ◌&&◌, ◌||◌, ◌^◌, ⊤, ℕ, Bool, true, false, not}
 use Rattle.std.specs.Prelude.{List, [], ◌∷◌, ◌++◌, length, Option, Some, IfSome, pos}
 use Rattle.std.specs.Prelude.{codes, Result, IsErrAnd}
+use Rattle.std.specs.Str.{bytes_eq}
 use Rattle.std.specs.Str.Parse.{IsNumeral, digits_value, without_leading_plus}
 use Rattle.clap.specs.Words.{App, Kinds, Rule, HasKind, app_of, new_app, new_rule, with_rule, with_subcommand}
 use Rattle.clap.specs.Simple.{on_top}
@@ -65,6 +66,10 @@ ports_rule = record (word_rule (codes "ports")) {
   parser = Some (parsers.Signed (pos 1) (pos 65535));
 }
 
+-- the option `--again`, which may be there, and stands alone
+abbrev pub again_rule : Rule
+again_rule = flag_rule (codes "again")
+
 -- the option `--port`, which must be there, with a number of 16 bits
 abbrev pub port_rule : Rule
 port_rule = record (option_rule (codes "port")) {
@@ -106,7 +111,7 @@ abbrev pub run_command : App
 run_command = with_rule (with_rule (new_app (codes "run")) servers_rule) trace_rule
 
 abbrev pub call_command : App
-call_command = with_rule (with_rule (new_app (codes "call")) client_rule) ports_rule
+call_command = with_rule (with_rule (with_rule (new_app (codes "call")) client_rule) ports_rule) again_rule
 
 abbrev pub serve_command : App
 serve_command = with_rule (with_rule (with_rule (with_rule (new_app (codes "serve")) port_rule) dir_rule) sessions_rule)
@@ -171,13 +176,20 @@ pub record AsksForTracedRun (words : List (List ℕ)) (n : ℕ) : Type 0 where
   pub some : 1 ≤ n
   pub most : n ≤ MAX_SERVERS
 
--- The words are a program's name and `call`, and the numbers are such as may stand after it.
-pub record AsksForCall (words : List (List ℕ)) (client : ℕ) (ports : List ℕ) : Type 0 where
+-- whether this flag is one of the words, before a `--` that ends options
+abbrev pub has_flag : List ℕ → List (List ℕ) → Bool
+has_flag flag [] = false
+has_flag flag (word ∷ words) = not (bytes_eq word (codes "--")) && (bytes_eq word flag || has_flag flag words)
+
+-- The words are a program's name and `call`, the numbers are such as may stand after it, and `again` says
+-- whether `--again` is one of the words after it.
+pub record AsksForCall (words : List (List ℕ)) (client : ℕ) (ports : List ℕ) (again : Bool) : Type 0 where
   pub name : List ℕ
   pub later : List (List ℕ)
   pub spelled : words ≡ name ∷ codes "call" ∷ later
   pub is_client : client < 2 ^ 32
   pub are_ports : ArePorts ports
+  pub is_again : again ≡ has_flag (codes "--again") later
 
 -- The words are a program's name and `serve`, and the numbers are such as may stand after it.
 pub record AsksForServe (words : List (List ℕ)) (port : ℕ) (sessions : Option ℕ) : Type 0 where
@@ -202,7 +214,7 @@ abbrev pub AsksFor : List (List ℕ) → Task → Type 0
 AsksFor words tasks.Pipe = AsksForPipe words
 AsksFor words (tasks.Run n) = AsksForRun words n
 AsksFor words (tasks.TracedRun n file) = AsksForTracedRun words n
-AsksFor words (tasks.Call client ports) = AsksForCall words client ports
+AsksFor words (tasks.Call client ports again) = AsksForCall words client ports again
 AsksFor words (tasks.Serve port dir sessions log) = AsksForServe words port sessions
 AsksFor words (tasks.Inspect dir lists) = AsksForInspect words
 
@@ -211,25 +223,30 @@ abbrev pub IsTracedRun : Task → Type 0
 IsTracedRun tasks.Pipe = ⊥
 IsTracedRun (tasks.Run n) = ⊥
 IsTracedRun (tasks.TracedRun n file) = (1 ≤ n) × (n ≤ MAX_SERVERS)
-IsTracedRun (tasks.Call client ports) = ⊥
+IsTracedRun (tasks.Call client ports again) = ⊥
 IsTracedRun (tasks.Serve port dir sessions log) = ⊥
 IsTracedRun (tasks.Inspect dir lists) = ⊥
 
--- it is a call, by such numbers
-abbrev pub IsCall : Task → Type 0
-IsCall tasks.Pipe = ⊥
-IsCall (tasks.Run n) = ⊥
-IsCall (tasks.TracedRun n file) = ⊥
-IsCall (tasks.Call client ports) = (client < 2 ^ 32) × ArePorts ports
-IsCall (tasks.Serve port dir sessions log) = ⊥
-IsCall (tasks.Inspect dir lists) = ⊥
+-- the flag is as the parser has its text
+pub record IsFlag (text : Option (List ℕ)) (flag : Bool) : Type 0 where
+  pub set : text ≡ Some (codes "true") → flag ≡ true
+  pub clear : text ≡ Some (codes "false") → flag ≡ false
+
+-- it is a call, by such numbers, with the flag of which the parser has this text
+abbrev pub IsCall : Option (List ℕ) → Task → Type 0
+IsCall text tasks.Pipe = ⊥
+IsCall text (tasks.Run n) = ⊥
+IsCall text (tasks.TracedRun n file) = ⊥
+IsCall text (tasks.Call client ports again) = (client < 2 ^ 32) × (ArePorts ports × IsFlag text again)
+IsCall text (tasks.Serve port dir sessions log) = ⊥
+IsCall text (tasks.Inspect dir lists) = ⊥
 
 -- it serves, by such numbers
 abbrev pub IsServe : Task → Type 0
 IsServe tasks.Pipe = ⊥
 IsServe (tasks.Run n) = ⊥
 IsServe (tasks.TracedRun n file) = ⊥
-IsServe (tasks.Call client ports) = ⊥
+IsServe (tasks.Call client ports again) = ⊥
 IsServe (tasks.Serve port dir sessions log) = (port < 2 ^ 16) × IfSome sessions (λ k. k < 2 ^ 32)
 IsServe (tasks.Inspect dir lists) = ⊥
 
@@ -238,7 +255,7 @@ abbrev pub IsInspect : Task → Type 0
 IsInspect tasks.Pipe = ⊥
 IsInspect (tasks.Run n) = ⊥
 IsInspect (tasks.TracedRun n file) = ⊥
-IsInspect (tasks.Call client ports) = ⊥
+IsInspect (tasks.Call client ports again) = ⊥
 IsInspect (tasks.Serve port dir sessions log) = ⊥
 IsInspect (tasks.Inspect dir lists) = ⊤
 
@@ -247,7 +264,7 @@ abbrev pub AsksExactlyFor : List (List ℕ) → Task → Type 0
 AsksExactlyFor words tasks.Pipe = AsksForPipe words
 AsksExactlyFor words (tasks.Run n) = AsksForRun words n
 AsksExactlyFor words (tasks.TracedRun n file) = ⊥
-AsksExactlyFor words (tasks.Call client ports) = ⊥
+AsksExactlyFor words (tasks.Call client ports again) = ⊥
 AsksExactlyFor words (tasks.Serve port dir sessions log) = ⊥
 AsksExactlyFor words (tasks.Inspect dir lists) = ⊥
 
@@ -256,7 +273,7 @@ abbrev pub HasServers : Task → Type 0
 HasServers tasks.Pipe = ⊤
 HasServers (tasks.Run n) = (1 ≤ n) × (n ≤ MAX_SERVERS)
 HasServers (tasks.TracedRun n file) = (1 ≤ n) × (n ≤ MAX_SERVERS)
-HasServers (tasks.Call client ports) = (1 ≤ length ports) × (length ports ≤ MAX_SERVERS)
+HasServers (tasks.Call client ports again) = (1 ≤ length ports) × (length ports ≤ MAX_SERVERS)
 HasServers (tasks.Serve port dir sessions log) = ⊤
 HasServers (tasks.Inspect dir lists) = ⊤
 

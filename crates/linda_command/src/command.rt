@@ -39,10 +39,12 @@ pub enum Task {
         servers: u32,
         file: String,
     },
-    /// Lines of a client from standard input, over servers that listen on ports of this machine.
+    /// Lines of a client from standard input, over servers that listen on ports of this machine; `again` where it goes on
+    /// as a client that was used before.
     Call {
         client: u32,
         ports: Ports,
+        again: bool,
     },
     /// The store in this folder, for clients that connect to this port, or to any where it is 0; so many connections
     /// where a number is given, with a log or without one.
@@ -180,7 +182,7 @@ fn traced_run(alloc: Global, servers: u32, file: &str) -> Result<Option<Task>, A
 
 // What is found below `call`.
 fn call_of(alloc: Global, below: &ArgMatches) -> Result<Option<Task>, AllocError>
-    ensures { IfOk result (λ found. IfSome found IsCall) }
+    ensures { IfOk result (λ found. IfSome found (IsCall (one_text (found_of below.now) (codes "again")))) }
 {
     let Some(client) = below.get_one::<u32>(CLIENT) else {
         return Ok(None);
@@ -188,7 +190,12 @@ fn call_of(alloc: Global, below: &ArgMatches) -> Result<Option<Task>, AllocError
     let Some(ports) = Ports::found(alloc, below, PORTS)? else {
         return Ok(None);
     };
-    Ok(Some(Task::Call { client, ports }))
+    let again = below.get_flag(AGAIN);
+    Ok(Some(Task::Call {
+        client,
+        ports,
+        again,
+    }))
 }
 
 // What is found below `serve`.
@@ -297,7 +304,9 @@ fn call_command<'a>(alloc: Global) -> Result<Command<'a>, AllocError>
 {
     let about = "Put and take tuples at servers that listen on ports of this machine";
     let first = bare_command(alloc, CALL, about, LINES).arg(client(alloc));
-    with_arg(first, port_words(alloc))
+    let second = with_arg(first, port_words(alloc));
+    let help = "Go on as a client that was used before";
+    with_arg(second, flag(alloc, AGAIN, help))
 }
 
 // The command that serves a folder.
@@ -481,6 +490,8 @@ const CLIENTS: &str = "clients";
 const CLIENT: &str = "client";
 
 const PORTS: &str = "ports";
+
+const AGAIN: &str = "again";
 
 const SCRIPT: &str = "Example of a script:\n  \
     7 out (\"a\", 3)\n  \

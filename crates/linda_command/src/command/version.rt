@@ -4,10 +4,8 @@ ghost use Rattle.std.specs.Prelude.{◌≡◌, true, map};
 ghost use Rattle.std.specs.String.{string_bytes};
 ghost use Rattle.linda_command.specs.Commands.{AsksForVersion};
 
-/// What is printed of the program: its version, the forms of banks and frames that it reads and writes, and the kit
-/// that it is proved with.
-pub const VERSION_LINES: &str =
-    "linda 0.7.0\nbank LND2\nframe 2\nkit rattle-kit-13b logic dac8208d650f15bf\n";
+/// What is printed of the program: its version, and the forms of banks and frames that it reads and writes.
+pub const VERSION_LINES: &str = "linda 0.7.0\nbank LND2\nframe 2\n";
 
 /// Whether the words of the command line, of which the first names the program, ask for the version.
 pub fn asks_for_version(words: &[String]) -> bool

@@ -1,4 +1,5 @@
 use Rattle.std.proofs.Common.{refl}
+use Rattle.clap.specs.Words.{found_of}
 use Rattle.linda_command.proofs.TaskLaws.{call_asked, inspect_asked, never_other, serve_asked}
 use Rattle.linda_command.proofs.command.other_of.Goals as goal
 
@@ -8,7 +9,7 @@ returns-in-Some-clause-exact c = λ words task asks rows no_pipe no_run.
 
 pub returns-in-Some-clause-found : goal.returns-in-Some-clause-found
 returns-in-Some-clause-found c = λ words free rows.
-    call_asked c.args.matches.now words c.call_of.result free rows (c.in-Some.ensures.found.0 refl) c.call_of.ensures
+    call_asked c.args.matches.now (found_of c.in-Some.below.now) words c.call_of.result free rows (c.in-Some.ensures.found.0 refl) c.in-Some.ensures.rows c.call_of.ensures
 
 pub returns-in-Some-subcommand_matches-clause-exact : goal.returns-in-Some-subcommand_matches-clause-exact
 returns-in-Some-subcommand_matches-clause-exact c = λ words task asks rows no_pipe no_run.
