@@ -181,16 +181,34 @@ class OverServers(WithServers):
             space.out("a")
 
     def test_the_readme(self) -> None:
-        ports = [self.serve("left").port, self.serve("right").port]
+        left, right = self.serve("left"), self.serve("right")
         text = (HERE / "README.md").read_text()
         self.assertIn("[7000, 7001]", text)
-        first, second = [block.split("```")[0] for block in text.split("```python\n")[1:]]
+        first, put, last = [block.split("```")[0] for block in text.split("```python\n")[1:]]
         names: dict = {}
-        exec(first.replace("[7000, 7001]", repr(ports)).replace("2.5", "0.1"), names)
-        self.assertEqual(names["won"], Outcome(2, "alarm", (), (9,)))
+        exec(first.replace("[7000, 7001]", repr([left.port, right.port])).replace("2.5", "0.5"), names)
+        self.assertEqual((names["work"], names["won"]), (2, Outcome(2, "alarm", (), (9,))))
         worked: List[tuple] = []
-        exec("from linda_space import Space\n" + second.replace("[7000]", f"[{ports[1]}]").replace("client=12", "client=7"), {"work_on": worked.append})
-        self.assertEqual(worked, [("job", 1)])
+        exec("from linda_space import Space\n" + last.replace("[7000]", f"[{left.port}]").replace("client=12", "client=7"), {"work_on": worked.append})
+        self.assertEqual(worked, [("job", 2)])
+        # Its server is away until the first call has given up.
+        again = Space.again
+
+        def serve_again(space: Space) -> Any:
+            self.serve("left", left.port)
+            return again(space)
+
+        out = Space.out
+
+        def kill_first(space: Space, *values: Any) -> Any:
+            left.kill()
+            with self.short(space):
+                return out(space, *values)
+
+        with mock.patch.object(Space, "again", serve_again), mock.patch.object(Space, "out", kill_first):
+            exec(put.replace("7000", str(left.port)), {})
+        with self.space(left, client=10) as space:
+            self.assertEqual([space.take("job", 3, timeout=PATIENCE), space.look("job", ANY)], [("job", 3), None])
 
     def test_true_is_not_one(self) -> None:
         space = self.space(self.serve())
