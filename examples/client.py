@@ -204,14 +204,14 @@ class Client:
         return self.wait_for(tag, *patterns, remove=False)["tuple"]
 
     def look(self, tag, *patterns):
-        """A matching tuple that is there now, or None. An Out with number 0 is always refused, behind what the Ask led to."""
+        """A matching tuple that is there now, or None. The Ask is cancelled at once, so that nothing comes for it later; an Out with number 0 is always refused,
+        behind what the Ask led to."""
         self.ticket += 1
-        self.send(ask(self.ticket, False, tag, *patterns) + out(0, tag))
+        self.send(ask(self.ticket, False, tag, *patterns) + cancel(self.ticket) + out(0, tag))
         name, parts = self.receive()
         if name == "Read":
             self.answer("Refused")
             return parts["tuple"]
-        self.send(cancel(self.ticket))
         return None
 
     def take(self, tag, *patterns):

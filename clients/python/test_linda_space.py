@@ -21,8 +21,9 @@ import tempfile
 import threading
 import time
 import unittest
+from contextlib import contextmanager
 from pathlib import Path
-from typing import Any, Callable, List, Optional, Tuple
+from typing import Any, Callable, Iterator, List, Optional, Tuple
 from unittest import mock
 
 HERE = Path(__file__).resolve().parent
@@ -36,7 +37,7 @@ from linda_space import (  # noqa: E402
 import client as frames  # noqa: E402
 
 PROGRAM = Path(os.environ.get("LINDA", TOP / "linda"))
-PATIENCE = 20
+PATIENCE = 60
 MOST_CLIENTS = 65_536
 
 
@@ -153,10 +154,16 @@ class WithServers(unittest.TestCase):
         self.addCleanup(server.kill)
         return server
 
-    def space(self, *servers: Server, client: int = 7, **more: Any) -> Space:
+    def space(self, *servers: Server, client: Any = 7, **more: Any) -> Space:
         space = Space([server.port for server in servers], client, **more)
         self.addCleanup(space.close)
         return space
+
+    @contextmanager
+    def short(self, space: Space) -> Iterator[None]:
+        """The space has little patience for a while."""
+        with mock.patch.object(space, "_patience", 0.3):
+            yield
 
 
 class OverServers(WithServers):
@@ -174,16 +181,34 @@ class OverServers(WithServers):
             space.out("a")
 
     def test_the_readme(self) -> None:
-        ports = [self.serve("left").port, self.serve("right").port]
+        left, right = self.serve("left"), self.serve("right")
         text = (HERE / "README.md").read_text()
         self.assertIn("[7000, 7001]", text)
-        first, second = [block.split("```")[0] for block in text.split("```python\n")[1:]]
+        first, put, last = [block.split("```")[0] for block in text.split("```python\n")[1:]]
         names: dict = {}
-        exec(first.replace("[7000, 7001]", repr(ports)).replace("2.5", "0.1"), names)
-        self.assertEqual(names["won"], Outcome(2, "alarm", (), (9,)))
+        exec(first.replace("[7000, 7001]", repr([left.port, right.port])).replace("2.5", "0.5"), names)
+        self.assertEqual((names["work"], names["won"]), (2, Outcome(2, "alarm", (), (9,))))
         worked: List[tuple] = []
-        exec("from linda_space import Space\n" + second.replace("[7000]", f"[{ports[1]}]").replace("client=12", "client=7"), {"work_on": worked.append})
-        self.assertEqual(worked, [("job", 1)])
+        exec("from linda_space import Space\n" + last.replace("[7000]", f"[{left.port}]").replace("client=12", "client=7"), {"work_on": worked.append})
+        self.assertEqual(worked, [("job", 2)])
+        # Its server is away until the first call has given up.
+        again = Space.again
+
+        def serve_again(space: Space) -> Any:
+            self.serve("left", left.port)
+            return again(space)
+
+        out = Space.out
+
+        def kill_first(space: Space, *values: Any) -> Any:
+            left.kill()
+            with self.short(space):
+                return out(space, *values)
+
+        with mock.patch.object(Space, "again", serve_again), mock.patch.object(Space, "out", kill_first):
+            exec(put.replace("7000", str(left.port)), {})
+        with self.space(left, client=10) as space:
+            self.assertEqual([space.take("job", 3, timeout=PATIENCE), space.look("job", ANY)], [("job", 3), None])
 
     def test_true_is_not_one(self) -> None:
         space = self.space(self.serve())
@@ -385,9 +410,9 @@ class OverServers(WithServers):
 
     def test_a_leave_is_pending_while_a_server_is_gone(self) -> None:
         left, right = self.serve("left"), self.serve("right")
-        space = self.space(left, right, patience=0.2)
+        space = self.space(left, right)
         right.kill()
-        with self.assertRaises(NoConnection):
+        with self.short(space), self.assertRaises(NoConnection):
             space.leave()
         self.assertEqual(space.pending, "leave")
         for call in (lambda: space.out("a"), space.leave):
@@ -435,11 +460,11 @@ class OverServers(WithServers):
 
     def test_goes_on_after_a_server_was_away_too_long(self) -> None:
         server = self.serve()
-        space = self.space(server, patience=0.2)
+        space = self.space(server)
         space.out("a", 0)
         server.kill()
         for call in (lambda: space.out("a", 1), space.again):
-            with self.assertRaises(NoConnection) as caught:
+            with self.short(space), self.assertRaises(NoConnection) as caught:
                 call()
             self.assertEqual((caught.exception.pending, space.pending), ("out", "out"))
         for call in (lambda: space.out("a", 2), lambda: space.take("a"), space.last_reply):
@@ -456,15 +481,15 @@ class OverServers(WithServers):
 
     def test_a_take_is_over_after_an_error(self) -> None:
         server = self.serve()
-        space, other = self.space(server, patience=0.2), self.space(server, client=8)
+        space, other = self.space(server), self.space(server, client=8)
         server.kill()
-        with self.assertRaises(NoConnection):
+        with self.short(space), self.assertRaises(NoConnection):
             space.choose(In("a").nack(3), Rd("b").nack(4))
         self.assertEqual((space.pending, space.abandon(), space.pending), (None, (3, 4), None))
         for call in (space.abandon, space.again):
             with self.assertRaises(Idle):
                 call()
-        with self.assertRaises(NoConnection):
+        with self.short(space), self.assertRaises(NoConnection):
             space.take("a", INT)
         server = self.serve(port=server.port)
         other.out("a", 6)
@@ -764,15 +789,15 @@ class Waits(WithServers):
         with socket.socket() as listener:
             listener.bind(("127.0.0.1", 0))
             listener.listen(16)
-            ports = [self.serve().port, listener.getsockname()[1]]
-            self.assertEqual(self.timed(0.3, lambda: Space(ports, 7, patience=0.3), NoConnection).server, 1)
+            ports = [listener.getsockname()[1]]
+            self.assertEqual(self.timed(0.3, lambda: Space(ports, 7, patience=0.3), NoConnection).server, 0)
         self.assertEqual(linda_space.PATIENCE, 10.0)
 
     def test_a_later_hello_that_is_never_answered(self) -> None:
         left, right = self.serve("left"), self.serve("right")
-        space = self.space(left, right, client=0, patience=0.3)
+        space = self.space(left, right, client=0)
         right.kill()
-        with socket.socket() as listener:
+        with self.short(space), socket.socket() as listener:
             listener.setsockopt(socket.SOL_SOCKET, socket.SO_REUSEADDR, 1)
             listener.bind(("127.0.0.1", right.port))
             listener.listen(16)
@@ -785,13 +810,14 @@ class Waits(WithServers):
 
     def test_an_out_needs_its_own_server_only(self) -> None:
         left, right = self.serve("left"), self.serve("right")
-        space = self.space(left, right, client=0, patience=0.2)
+        space = self.space(left, right, client=0)
         right.kill()
         left.stop()
-        putting = Going(lambda: space.out("a"))
-        time.sleep(1)
-        left.go_on()
-        self.assertEqual(putting.end(), (0, 1))
+        with self.short(space):
+            putting = Going(lambda: space.out("a"))
+            time.sleep(1)
+            left.go_on()
+            self.assertEqual(putting.end(), (0, 1))
 
     def test_the_time_of_an_out_is_up(self) -> None:
         server = self.serve()
@@ -847,16 +873,17 @@ class Waits(WithServers):
             self.assertEqual((fault.servers, fault.pending, space.pending), ((1,), None, None))
         self.assertEqual(space.sync(Choose(In("a"), space.after(0.1))).kind, "alarm")
         self.assertEqual(self.space(left, client=8).out("a"), (0, 1))
-        self.assertEqual(space.take("a", timeout=0.3), ("a",))
+        self.assertEqual(space.take("a", timeout=PATIENCE), ("a",))
         self.serve("right", right.port)
-        self.assertIsNone(space.take("a", timeout=1))
+        self.assertEqual([space.look("a"), space.take("a", timeout=0.1)], [None, None])
 
     def test_a_server_that_does_not_answer_when_the_time_is_up(self) -> None:
         server = self.serve()
-        space = self.space(server, patience=0.3)
+        space = self.space(server)
         server.stop()
         for call in (lambda: space.take("a", timeout=0.1), lambda: space.look("a"), lambda: space.take("a", timeout=0)):
-            fault = self.timed(0.3, call, TimedOut)
+            with self.short(space):
+                fault = self.timed(0.3, call, TimedOut)
             self.assertEqual((fault.servers, space.pending), ((0,), None))
         server.go_on()
         self.assertIsNone(self.space(server, client=8).take("a", timeout=0.1))
@@ -907,11 +934,12 @@ class Waits(WithServers):
 
     def test_look_while_a_server_is_away(self) -> None:
         left, right = self.serve("left"), self.serve("right")
-        space = self.space(left, right, client=0, patience=0.3)
+        space = self.space(left, right, client=0)
         space.out("a")
         right.kill()
         self.assertEqual([space.look("a"), space.look("a")], [("a",)] * 2)
-        self.assertEqual(self.timed(0.3, lambda: space.look("b"), NoConnection).server, 1)
+        with self.short(space):
+            self.assertEqual(self.timed(0.3, lambda: space.look("b"), NoConnection).server, 1)
         right = self.serve("right", right.port)
         self.assertIsNone(space.look("b"))
         self.assertEqual([space.out("b"), space.look("b")], [(1, 1), ("b",)])
@@ -944,7 +972,7 @@ class Waits(WithServers):
     def test_a_number_that_is_in_use(self) -> None:
         server = self.serve()
         space = self.space(server, client=70)
-        fault = self.timed(0.3, lambda: self.space(server, client=70, patience=0.3), Refused)
+        fault = self.timed(2.0, lambda: self.space(server, client=70), Refused)
         self.assertEqual((fault.name, fault.client), ("Busy", 70))
         self.assertRegex(str(fault), "client number 70")
         self.assertEqual((linda_space.BUSY_PATIENCE, space.out("a")), (2.0, (0, 1)))
@@ -976,7 +1004,7 @@ class Waits(WithServers):
             self.assertEqual(space.out("a"), (0, 9))
         fake.end()
         fake = Fake(first, *[busy] * 40)
-        with Space([fake.port], 7, patience=0.3) as space:
+        with Space([fake.port], 7) as space, self.short(space):
             fault = self.timed(0.3, lambda: space.out("a"), Refused)
             self.assertEqual((fault.name, fault.pending), ("Busy", "out"))
 
@@ -1141,8 +1169,9 @@ class Waits(WithServers):
             peer.expect(b"")
 
         fake = Fake(talk)
-        with Space([fake.port], 7, patience=0.3) as space:
-            fault = self.timed(0.4, lambda: space.take("a", INT, timeout=0.1), TimedOut)
+        with Space([fake.port], 7) as space:
+            with self.short(space):
+                fault = self.timed(0.4, lambda: space.take("a", INT, timeout=0.1), TimedOut)
             self.assertEqual((fault.pending, fault.servers), ("sync", (0,)))
             with self.assertRaises(Busy):
                 space.abandon()

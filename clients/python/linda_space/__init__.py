@@ -821,8 +821,10 @@ class _Machine:
             raise Busy("an earlier call has not ended")
 
     def go_on(self) -> None:
-        """Sends what is unanswered once more, to the servers that are up."""
-        self.sent += [packet for packet in self.unanswered(self.task) if self.is_up[packet[0]]]
+        """Sends what is unanswered once more, to the servers that are up, since one of them may have refused it; but no Accept of a synchronization, which is
+        over if it was refused."""
+        if not isinstance(self.task, _Sync):
+            self.sent += [packet for packet in self.unanswered(self.task) if self.is_up[packet[0]]]
 
     # ---- after an error
 
