@@ -306,6 +306,8 @@ def main() -> None:
         ended += starts > 1
         turned_away += busy > 0
         growth += step
+    if not refused:
+        sys.exit("no growth was refused, so nothing was tried: the program has a malloc of its own")
     print(f"serve under two clients: each of {refused} growths refused, as it must be; {ended} times the program ended and was started again,"
           f" {turned_away} times a connection was refused")
 
