@@ -134,7 +134,7 @@ other_refused s word t e =
 
 -- ---- the words that pass
 
-abbrev top : Shape
+abbrev pub top : Shape
 top = (built linda).top
 
 abbrev leaf : Shape
