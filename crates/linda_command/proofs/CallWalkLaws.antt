@@ -63,6 +63,12 @@ abbrev marks : Bool → List Row
 marks true = row_with CommandLine (codes "true" ∷ []) ∷ []
 marks false = []
 
+mine_here : (r : Row) (rs : List Row) → bytes_eq r.id again_name ≡ true → mine (r ∷ rs) ≡ r ∷ mine rs
+mine_here r rs t = rw t refl
+
+mine_later : (r : Row) (rs : List Row) → bytes_eq r.id again_name ≡ false → mine (r ∷ rs) ≡ mine rs
+mine_later r rs t = rw t refl
+
 not_mine : (r : Row) (id : Text) → bytes_eq r.id id ≡ true → bytes_eq id again_name ≡ false → bytes_eq r.id again_name ≡ false
 not_mine r id t unlike = ap (λ (n : Text). bytes_eq n again_name) ((bytes_eq-Decides r.id id).0 t) ∙ unlike
 
@@ -111,8 +117,8 @@ own_dropped b [] e = refl
 own_dropped b (r ∷ rs) e = go (bytes_eq r.id again_name) refl (own_dropped b rs)
   where
     go : (t : Bool) → bytes_eq r.id again_name ≡ t → (mine rs ≡ marks b → mine (without again_name rs) ≡ []) → mine (without again_name (r ∷ rs)) ≡ []
-    go true t later = let e' : r ∷ mine rs ≡ marks b = rw t at e in rw t (one_alone b r (mine rs) e')
-    go false t later = let e' : mine rs ≡ marks b = rw t at e in rw t (later e')
+    go true t later = let e' : r ∷ mine rs ≡ marks b = sym (mine_here r rs t) ∙ e in rw t (one_alone b r (mine rs) e')
+    go false t later = let e' : mine rs ≡ marks b = sym (mine_later r rs t) ∙ e in rw t (mine_later r (without again_name rs) t ∙ later e')
 
 own_put : (s : ValueSource) (vs : List Text) (rows : List Row) → mine rows ≡ [] → mine (with_values again_name (reading_by again) s vs rows) ≡ row_with s vs ∷ []
 own_put s vs [] e = refl
@@ -120,8 +126,8 @@ own_put s vs (r ∷ rs) e = go (bytes_eq r.id again_name) refl (own_put s vs rs)
   where
     go : (t : Bool) → bytes_eq r.id again_name ≡ t → (mine rs ≡ [] → mine (with_values again_name (reading_by again) s vs rs) ≡ row_with s vs ∷ [])
         → mine (with_values again_name (reading_by again) s vs (r ∷ rs)) ≡ row_with s vs ∷ []
-    go true t later = let bad : r ∷ mine rs ≡ [] = rw t at e in cc
-    go false t later = let e' : mine rs ≡ [] = rw t at e in rw t (later e')
+    go true t later = let bad : r ∷ mine rs ≡ [] = sym (mine_here r rs t) ∙ e in cc
+    go false t later = let e' : mine rs ≡ [] = sym (mine_later r rs t) ∙ e in rw t (mine_later r (with_values again_name (reading_by again) s vs rs) t ∙ later e')
 
 again_used : (b : Bool) (rows : List Row) → mine rows ≡ marks b → mine (used again [] rows) ≡ marks true
 again_used b rows e = own_put CommandLine (codes "true" ∷ []) (without again_name rows) (own_dropped b rows e)
@@ -468,8 +474,11 @@ walks_more x xs later b k rows pending m p w = at_end (bytes_eq x (codes "--")) 
         ∙ ap marks (or_false b ∙ ap (λ (c : Bool). b || c) (flag_ended x xs t))
     at_end false t = at_again (bytes_eq x again_word) refl t
 
+walks_none : Walks []
+walks_none b k rows pending m p w = settles_other pending rows p ∙ m ∙ ap marks (or_false b)
+
 walks : (xs : List Text) → Walks xs
-walks [] b k rows pending m p w = settles_other pending rows p ∙ m ∙ ap marks (or_false b)
+walks [] = walks_none
 walks (x ∷ xs) = walks_more x xs (walks xs)
 
 -- ---- what the parser reads of the flag
