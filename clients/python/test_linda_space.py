@@ -541,7 +541,7 @@ class OverServers(WithServers):
         calls += [lambda patience=patience: Space([7000], 7, patience=patience) for patience in (0, -1, "1", float("nan"), True)]
         calls += [lambda seconds=seconds, call=call: call(timeout=seconds) for seconds in (-1, "1", float("nan")) for call in (
             lambda timeout: space.out("a", timeout=timeout), lambda timeout: space.leave(timeout=timeout), lambda timeout: space.last_reply(timeout=timeout),
-            lambda timeout: space.hold("a", timeout=timeout))]
+            lambda timeout: space.hold("a", timeout=timeout), lambda timeout: space.look("a", timeout=timeout))]
         for place, call in enumerate(calls):
             with self.subTest(place=place), self.assertRaises(OutOfRange):
                 call()
@@ -885,6 +885,7 @@ class Waits(WithServers):
             with self.short(space):
                 fault = self.timed(0.3, call, TimedOut)
             self.assertEqual((fault.servers, space.pending), ((0,), None))
+        self.assertEqual(self.timed(0.2, lambda: space.look("a", timeout=0.2), TimedOut).servers, (0,))
         server.go_on()
         self.assertIsNone(self.space(server, client=8).take("a", timeout=0.1))
 

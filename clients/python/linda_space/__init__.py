@@ -1348,13 +1348,13 @@ class Space:
         """A copy of a tuple that matches, which stays; else as `take`."""
         return self.choose(Rd(tag, *patterns), timeout=timeout).tuple
 
-    def look(self, tag: Value, *patterns: Pattern) -> Optional[Values]:
+    def look(self, tag: Value, *patterns: Pattern, timeout: Optional[float] = None) -> Optional[Values]:
         """A copy of a tuple that matches and that some server has now, held or not; None if all have answered that they have none. It waits for nothing else: at
-        most `patience` seconds for a server that does not answer.
+        most `timeout` seconds, and at most `patience` seconds, for a server that does not answer.
 
         Raises as `choose` does.
         """
-        return self.choose(Rd(tag, *patterns), timeout=0).tuple
+        return self._sync(Choose(Rd(tag, *patterns), self.after(0)), has_limit=True, is_poll=True, timeout=timeout).tuple
 
     def choose(self, *branches: Event, timeout: Optional[float] = None) -> Outcome:
         """Waits until one of the branches is chosen, each an event: `In("job", INT).wrap(5)`, `Rd("stop").nack(9)`. After `timeout` seconds each server is asked
@@ -1473,12 +1473,12 @@ class Space:
 
     # ---- how it goes on
 
-    def _sync(self, event: Event, has_limit: bool = False, is_poll: bool = False) -> Outcome:
+    def _sync(self, event: Event, has_limit: bool = False, is_poll: bool = False, timeout: Optional[float] = None) -> Outcome:
         def begin() -> None:
             self._machine.tick(self._now())
             self._machine.sync(event, has_limit, is_poll)
 
-        ended = self._call(begin)
+        ended = self._call(begin, timeout)
         assert isinstance(ended, Outcome)
         return ended
 
