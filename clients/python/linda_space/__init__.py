@@ -299,10 +299,11 @@ class Outcome:
 
 @dataclass(frozen=True)
 class Stored:
-    """An out was done: the server, and the tuple's id there."""
+    """An out was done: the server, and the tuple's id there; `tuple` is the tuple, which is not compared."""
 
     server: int
     id: int
+    tuple: Optional[Values] = field(default=None, compare=False)
 
 
 @dataclass(frozen=True)
@@ -987,7 +988,7 @@ class _Machine:
                 self.settle(task, task.accepted, reply)
         elif isinstance(task, _Put):
             if reply.kind == _STORED and (task.server, task.number) == (server, reply.number):
-                self.end(server, reply.number, Stored(server, reply.id))
+                self.end(server, reply.number, Stored(server, reply.id, task.values))
         elif isinstance(task, _Taking):
             if (task.server, task.number) == (server, reply.number):
                 self.taken(task, reply)
@@ -1210,8 +1211,8 @@ class Space:
     - `out`, `leave`, `last_reply` and `Offer.accept` are pending, unless their server refused them: they may be done or not, and that cannot be undone.
       `again` sends them again, under their number, and returns how they ended. Nothing is done twice by that. After an error of this module all other calls
       raise Busy until then. After KeyboardInterrupt, or another exception that is not of this module, they do not: the next call finishes first what was
-      interrupted, for which it waits `patience` seconds at most, and `settled` is its answer. So do not put an interrupted tuple again: it is there already,
-      or will be by the next call.
+      interrupted, for which it waits `patience` seconds at most, and `settled` is its answer. So do not put a tuple again whose `out` was interrupted, if
+      `pending` is "out" or `settled` has it: it is there, or will be by the next call. If neither is so, nothing was sent for it.
 
     After an exception that is not of this module the connections are made anew by the next call, so what was held is not held any more. After `leave` all but
     `close` raise Left.
@@ -1437,9 +1438,9 @@ class Space:
 
     @property
     def settled(self) -> Union[Stored, Outcome, Kept, SpaceError, None]:
-        """How the last call ended that KeyboardInterrupt, or another exception that is not of this module, interrupted, and that was finished by a later call:
-        as `again` would have returned it, or the error that it would have raised; None for a leave, and if there is none. What is still `pending` is not
-        settled."""
+        """How a call ended that KeyboardInterrupt, or another exception that is not of this module, interrupted: if it had ended already, or was finished by the
+        last call. It is as `again` would have returned it, or the error that it would have raised; None for a leave, and if there is none. What is still
+        `pending` is not settled."""
         return self._machine.settled
 
     def again(self, timeout: Optional[float] = None) -> Union[Stored, Outcome, Kept, None]:
@@ -1525,7 +1526,9 @@ class Space:
             machine = self._machine
             if machine.ended is not None:
                 machine.give_up(True)
-            if not is_again and machine.is_left_over():
+            if is_again or not machine.is_left_over():
+                machine.settled = None
+            else:
                 self._settle(min(until, now + self._patience))
             begin()
             self._run(until)
