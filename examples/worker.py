@@ -42,8 +42,8 @@ def work(port, number):
 
 
 def work_in(space):
-    """Goes on with the job that it had, if it had one and put no result, and then takes one after another. A server that is gone for some seconds is greeted again by the
-    library."""
+    """Goes on with the job that it had, if it had one and put no result, and then takes one after another. If the server is gone for some seconds the library
+    greets it again."""
     last = space.last_reply()
     job = last.tuple[1] if last is not None and last.kind == "taken" else None
     if job is not None:

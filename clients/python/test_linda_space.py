@@ -12,6 +12,7 @@ from __future__ import annotations
 import json
 import os
 import queue
+import random
 import shutil
 import signal
 import socket
@@ -541,7 +542,7 @@ class OverServers(WithServers):
         calls += [lambda patience=patience: Space([7000], 7, patience=patience) for patience in (0, -1, "1", float("nan"), True)]
         calls += [lambda seconds=seconds, call=call: call(timeout=seconds) for seconds in (-1, "1", float("nan")) for call in (
             lambda timeout: space.out("a", timeout=timeout), lambda timeout: space.leave(timeout=timeout), lambda timeout: space.last_reply(timeout=timeout),
-            lambda timeout: space.hold("a", timeout=timeout))]
+            lambda timeout: space.hold("a", timeout=timeout), lambda timeout: space.look("a", timeout=timeout))]
         for place, call in enumerate(calls):
             with self.subTest(place=place), self.assertRaises(OutOfRange):
                 call()
@@ -885,6 +886,7 @@ class Waits(WithServers):
             with self.short(space):
                 fault = self.timed(0.3, call, TimedOut)
             self.assertEqual((fault.servers, space.pending), ((0,), None))
+        self.assertEqual(self.timed(0.2, lambda: space.look("a", timeout=0.2), TimedOut).servers, (0,))
         server.go_on()
         self.assertIsNone(self.space(server, client=8).take("a", timeout=0.1))
 
@@ -1091,6 +1093,8 @@ class Waits(WithServers):
         self.assertEqual((space.pending, space.settled), ("out", None))
         server.go_on()
         self.assertEqual((space.take("a", INT), space.pending, space.settled), (("a", 1), None, Stored(0, 1)))
+        assert isinstance(space.settled, Stored)
+        self.assertEqual((space.settled.tuple, space.look("a", INT), space.settled), (("a", 1), None, None))
         server.stop()
         self.interrupted(lambda: space.out("a", 2))
         server.go_on()
@@ -1119,6 +1123,22 @@ class Waits(WithServers):
             assert isinstance(space.settled, Refused)
             self.assertEqual(space.settled.name, "Full")
         fake.end()
+
+    def test_ctrl_c_when_an_out_has_just_ended(self) -> None:
+        space = self.space(self.serve())
+        run = Space._run
+
+        def interrupted(one: Space, until: float) -> None:
+            run(one, until)
+            raise KeyboardInterrupt
+
+        with mock.patch.object(Space, "_run", interrupted), self.assertRaises(KeyboardInterrupt):
+            space.out("a", 1)
+        self.assertEqual((space.pending, space.settled), (None, Stored(0, 1)))
+        with mock.patch.object(linda_space._Machine, "out", side_effect=KeyboardInterrupt), self.assertRaises(KeyboardInterrupt):
+            space.out("a", 2)
+        self.assertEqual((space.pending, space.settled), (None, None))
+        self.assertEqual([space.take("a", INT), space.look("a", INT)], [("a", 1), None])
 
     def test_ctrl_c_while_a_tuple_is_taken(self) -> None:
         """The answer comes before the next call, whatever that is; a tuple that was taken is for the next input that it fits."""
@@ -1180,6 +1200,77 @@ class Waits(WithServers):
             self.assertEqual(space.take("a", INT), ("a", 8))
             self.assertIsNone(space.pending)
         fake.end()
+
+    def test_no_job_is_lost_or_done_twice(self) -> None:
+        """Workers are interrupted at random, in the middle of their calls, and a server is killed again and again. Each does what the page says after that."""
+        servers = [self.serve("left"), self.serve("right")]
+        is_over = threading.Event()
+
+        class Interrupt(BaseException):
+            pass
+
+        def work(number: int) -> int:
+            dice, count = random.Random(number), 0
+            space = self.space(*servers, client=number)
+            begin = time.monotonic()
+
+            def clock() -> int:
+                if dice.random() < 0.03:
+                    raise Interrupt
+                return int((time.monotonic() - begin) * 1000)
+
+            space._now = clock
+            while not is_over.is_set():
+                offer = None
+                try:
+                    if number % 2:
+                        job = space.take("job", INT, timeout=dice.choice([0, 0.1, 0.5]))
+                        if job is None:
+                            continue
+                    else:
+                        with space.hold("job", INT, timeout=0.2) as offer:
+                            if offer is None:
+                                continue
+                            job = offer.accept()
+                except (linda_space.SpaceError, Interrupt):
+                    if offer is None:
+                        continue
+                    self.finish(space, Interrupt)
+                    if not offer.is_taken:
+                        continue
+                    job = offer.tuple
+                is_put = False
+                while not is_put:
+                    try:
+                        space.out("done", job[1])
+                        is_put = True
+                    except (linda_space.SpaceError, Interrupt):
+                        is_put = space.pending == "out" or space.settled is not None
+                        self.finish(space, Interrupt)
+                count += 1
+            return count
+
+        boss = self.space(*servers, client=1, patience=PATIENCE)
+        workers = [Going(lambda number=number: work(number)) for number in (11, 12, 13, 14)]
+        for job in range(150):
+            boss.out("job", job)
+            if job % 50 == 25:
+                place = job // 50 % 2
+                servers[place].kill()
+                servers[place] = self.serve(servers[place].folder.name, servers[place].port)
+        done = [boss.take("done", INT)[1] for _ in range(150)]
+        is_over.set()
+        self.assertEqual(sorted(done), list(range(150)))
+        self.assertEqual(sum(worker.end() for worker in workers), 150)
+        self.assertEqual([boss.look("job", INT), boss.look("done", INT)], [None, None])
+
+    @staticmethod
+    def finish(space: Space, interrupt: type) -> None:
+        while space.pending in ("out", "accept"):
+            try:
+                space.again()
+            except (linda_space.SpaceError, interrupt):
+                pass
 
     def test_two_threads(self) -> None:
         space = self.space(self.serve())
@@ -1311,9 +1402,9 @@ class Waits(WithServers):
             self.interrupted(offer.accept)
             server.go_on()
             self.assertEqual(space.out("done", 2), (0, 3))
-            is_taken = space.look("job", INT) is None
-            self.assertEqual(isinstance(space.settled, Outcome), is_taken)
-            self.assertEqual(isinstance(space.settled, Gone), not is_taken)
+            settled, is_taken = space.settled, space.look("job", INT) is None
+            self.assertEqual(isinstance(settled, Outcome), is_taken)
+            self.assertEqual(isinstance(settled, Gone), not is_taken)
             if is_taken:
                 self.assertEqual(offer.accept(), ("job", 2))
             else:

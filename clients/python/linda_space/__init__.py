@@ -150,7 +150,8 @@ class Gone(SpaceError):
 
 
 class Busy(SpaceError):
-    """Something is pending after an error of an earlier call (see `Space.again`), or another thread is in a call. Nothing was sent, and the space is as before."""
+    """Something is pending after an error of an earlier call (see `Space.again`), or another thread is in a call. Nothing was sent, and the space is as it
+    was."""
 
 
 class Idle(SpaceError):
@@ -200,7 +201,7 @@ class _Asking(Event):
             item.fits(value) if isinstance(item, Formal) else type(item) is type(value) and item == value for item, value in zip(self.template, values))
 
     def binds(self, values: Values) -> Values:
-        """What stands at the places of INT, TEXT and BOOL in a tuple that it matches, in order."""
+        """What is at the places of INT, TEXT and BOOL in a tuple that it matches, in order."""
         return tuple(value for item, value in zip(self.template, values) if isinstance(item, Formal) and item is not ANY)
 
 
@@ -281,7 +282,7 @@ class Outcome:
     - `kind`: "took" for an input, "read" for a read, "alarm", or "always".
     - `labels`: the labels above that base, innermost first.
     - `raised`: the nack numbers that are not above it, in tree order.
-    - `server`, `id`, `tuple`, `binds`: of an input or a read: the server, the tuple's id there, the tuple, and what stands at the places of INT, TEXT and BOOL.
+    - `server`, `id`, `tuple`, `binds`: of an input or a read: the server, the tuple's id there, the tuple, and what is at the places of INT, TEXT and BOOL.
     - `value`: of an Always.
     """
 
@@ -298,10 +299,11 @@ class Outcome:
 
 @dataclass(frozen=True)
 class Stored:
-    """An out was done: the server, and the tuple's id there."""
+    """An out was done: the server, and the tuple's id there; `tuple` is the tuple, which is not compared."""
 
     server: int
     id: int
+    tuple: Optional[Values] = field(default=None, compare=False)
 
 
 @dataclass(frozen=True)
@@ -325,11 +327,14 @@ class Offer:
         self.is_taken = False
         self._space: Optional[Space] = None
 
+    def __repr__(self) -> str:
+        return f"Offer(server={self.server}, id={self.id}, tuple={self.tuple!r}, is_taken={self.is_taken})"
+
     def accept(self, timeout: Optional[float] = None) -> Values:
         """Takes the tuple, and returns it, also when it is called again.
 
-        Raises Gone if it is not held any more: it was not taken, and another client may have it. Refused with Full: it is held still. NoConnection, TimedOut, and all others: it is
-        pending; call it, or `Space.again`, again.
+        Raises Gone if it is not held any more: it was not taken, and another client may have it. Refused with Full: it is held still. NoConnection, TimedOut,
+        and all others: it is pending; call it, or `Space.again`, again.
         """
         if self.is_taken:
             return self.tuple
@@ -400,8 +405,8 @@ def pack(value: Any, fields: int = PACKED_FIELDS) -> Tuple[str, ...]:
         space.out("note", *pack(value, 2))
         unpack(space.take("note", TEXT, TEXT)[1:])
 
-    The value is what `json.dumps` takes: None, bool, int, float, str, list, tuple, dict. Its text is spelled without blanks, in UTF-8, and cut at the borders of
-    characters into texts of at most 4,095 bytes. If all is ASCII, 4,095 bytes for each field fit: 122,850 for 30. If not, up to 3 bytes a cut are lost:
+    The value is what `json.dumps` takes: None, bool, int, float, str, list, tuple, dict. Its text is spelled without blanks, in UTF-8, and cut at the borders
+    of characters into texts of at most 4,095 bytes. If all is ASCII, 4,095 bytes for each field fit: 122,850 for 30. If not, up to 3 bytes a cut are lost:
     4,092 bytes for each field but the last, and 4,095 for that, always fit: 122,763 for 30.
 
     Raises OutOfRange if it is longer, if it is no JSON value (a set, bytes, NaN, a value that contains itself), or if `fields` is not 1 to 32.
@@ -509,7 +514,7 @@ def _is_left(reply: _Reply) -> bool:
 
 
 class _Reader:
-    """Reads what stands in a frame behind its length, from left to right; ValueError where it is none."""
+    """Reads what is in a frame behind its length, from left to right; ValueError if it is none."""
 
     def __init__(self, data: bytes) -> None:
         self.data, self.at = data, 0
@@ -536,7 +541,7 @@ class _Reader:
             truth = self.number(1)
             if truth <= 1:
                 return truth == 1
-        raise ValueError("a frame has no value where one has to be")
+        raise ValueError("a frame has something else in place of a value")
 
     def values(self) -> Values:
         tag, count = self.value(), self.number(COUNT_SIZE)
@@ -570,7 +575,7 @@ class _Base:
 
 
 def _bases_and_nacks(event: Event) -> Tuple[List[_Base], List[int]]:
-    """The bases and the nack numbers of an event, each in tree order. Raises OutOfRange where it is too deep, or else has too many bases."""
+    """The bases and the nack numbers of an event, each in tree order. Raises OutOfRange if it is too deep, or else has too many bases."""
     bases: List[_Base] = []
     nacks: List[int] = []
     left: List[Tuple[Event, int, Tuple[int, ...], FrozenSet[int]]] = [(event, 0, (), frozenset())]
@@ -584,7 +589,7 @@ def _bases_and_nacks(event: Event) -> Tuple[List[_Base], List[int]]:
             nacks.append(node.number)
             left.append((node.event, depth + 1, labels, above | {len(nacks) - 1}))
         elif depth > MOST_DEPTH:
-            raise OutOfRange(f"a leaf of the event stands under more than {MOST_DEPTH} nodes")
+            raise OutOfRange(f"a leaf of the event is under more than {MOST_DEPTH} nodes")
         else:
             bases.append(_Base(len(bases), node, labels, above))
     if len(bases) > MOST_BASES or sum(isinstance(base.leaf, _Asking) for base in bases) > MOST_ASKS:
@@ -704,14 +709,15 @@ _JUDGED = ("Old", "Gap", "Full", "TooManyClients", "Left")      # how a server r
 
 
 class _Machine:
-    """The client: its clock, its next numbers, and what is pending. What a call leads to is appended to `sent`, as pairs of a server and a frame; if what
-    was pending has ended, `ended` is how.
+    """The client: its clock, its next numbers, and what is pending. What a call leads to is appended to `sent`, as pairs of a server and a frame; if what was
+    pending has ended, `ended` is how.
 
     - `is_up`, `probes`: for each server whether it is greeted, and how many answers to messages with number 0 it owes.
     - `held`: the offers that are held, by server and ticket.
     - `in_hand`: what was taken for calls that ended by an error before.
     - `dropped`: the nack numbers of a synchronization that ended by an error, until the next one.
-    - `is_interrupted`: the task is of a call that an exception ended that is not of this module. The next call waits for its end first, which is `settled` then.
+    - `is_interrupted`: the task is of a call that an exception ended that is not of this module. The next call waits for its end first, which is `settled`
+      then.
     """
 
     def __init__(self, client: int, servers: int) -> None:
@@ -982,7 +988,7 @@ class _Machine:
                 self.settle(task, task.accepted, reply)
         elif isinstance(task, _Put):
             if reply.kind == _STORED and (task.server, task.number) == (server, reply.number):
-                self.end(server, reply.number, Stored(server, reply.id))
+                self.end(server, reply.number, Stored(server, reply.id, task.values))
         elif isinstance(task, _Taking):
             if (task.server, task.number) == (server, reply.number):
                 self.taken(task, reply)
@@ -1192,20 +1198,24 @@ class Hold:
 class Space:
     """A client of servers, numbered 0, 1, .. in the order of their ports. Use it in a `with`, or call `close` at the end. `client` is its number.
 
-    **Time.** A call waits for as long as its `timeout` says, in seconds, without end if that is None; then TimedOut says which servers did not answer. A server that cannot be
-    greeted for `patience` seconds raises NoConnection earlier than that, if the call needs it. `patience` also bounds what has to come at once: the
-    answer to a Hello, and what is still to be known when the time of a `take`, `read`, `choose` or `hold` is up. So a call ends `patience` seconds after its `timeout` at the latest.
+    **Time.** A call waits for as long as its `timeout` says, in seconds, without end if that is None; then TimedOut says which servers did not answer. A
+    server that cannot be greeted for `patience` seconds raises NoConnection earlier than that, if the call needs it. `patience` also bounds what has to come
+    at once: the answer to a Hello, and what is still to be known when the time of a `take`, `read`, `choose` or `hold` is up. So a call ends `patience`
+    seconds after its `timeout` at the latest.
 
     **After an error**, or KeyboardInterrupt, or any other exception that leaves a call:
 
-    - `take`, `read`, `look`, `choose`, `sync`, `hold` are over, and no server holds anything for them. Only if a tuple was just being taken `pending` is "sync": the next call waits
-      for the answer first. A tuple that was taken so is not lost: the next `take`, `choose` or `sync` with an input that it fits gets it, or `again`. So a loop may simply call again.
-    - `out`, `leave`, `last_reply` and `Offer.accept` are pending, unless their server refused them: they may be done or not, and that cannot be undone. `again` sends them again,
-      under their number, and returns how they ended. Nothing is done twice by that. After an error of this module all other calls raise Busy until then. After KeyboardInterrupt,
-      or another exception that is not of this module, they do not: the next call finishes first what was interrupted, and `settled` is its answer. So do not put an interrupted
-      tuple again: it is there already, or will be by the next call.
+    - `take`, `read`, `look`, `choose`, `sync`, `hold` are over, and no server holds anything for them. Only if a tuple was just being taken `pending` is
+      "sync": the next call waits for the answer first. A tuple that was taken so is not lost: the next `take`, `choose` or `sync` with an input that it fits
+      gets it, or `again`. So a loop may simply call again.
+    - `out`, `leave`, `last_reply` and `Offer.accept` are pending, unless their server refused them: they may be done or not, and that cannot be undone.
+      `again` sends them again, under their number, and returns how they ended. Nothing is done twice by that. After an error of this module all other calls
+      raise Busy until then. After KeyboardInterrupt, or another exception that is not of this module, they do not: the next call finishes first what was
+      interrupted, for which it waits `patience` seconds at most, and `settled` is its answer. So do not put a tuple again whose `out` was interrupted, if
+      `pending` is "out" or `settled` has it: it is there, or will be by the next call. If neither is so, nothing was sent for it.
 
-    After an exception that is not of this module the connections are made anew by the next call, so what was held is not held any more. After `leave` all but `close` raise Left.
+    After an exception that is not of this module the connections are made anew by the next call, so what was held is not held any more. After `leave` all but
+    `close` raise Left.
     """
 
     def __init__(self, ports: Sequence[int], client: Union[int, Sequence[int]], *, fresh: bool = False, patience: float = PATIENCE,
@@ -1213,19 +1223,21 @@ class Space:
         """Greets each server.
 
         - `ports`: 1 to 16 ports of this machine, from 1 to 65,535. An earlier life of this client gave the same ones in the same order.
-        - `client`: the number of this client, from 0 to 2^32 - 1. No two programs use one number at the same time. Or several numbers, as range(100, 200): the first of
-          them that no other connection has, and that was not given up by `leave`; with `fresh` the first that was never used. An earlier program under it
-          may have had something in hand: see `last_reply`.
-        - `fresh`: this number was never used, and a server that knows it refuses it. If it is not set numbers go on after those of an earlier life of this client, if there was
-          one: see `last_reply`.
+        - `client`: the number of this client, from 0 to 2^32 - 1. No two programs use one number at the same time. Or several numbers, as range(100, 200):
+          the first of them that no other connection has, and that was not given up by `leave`; with `fresh` the first that was never used. An earlier program
+          under it may have had something in hand: see `last_reply`.
+        - `fresh`: this number was never used, and a server that knows it refuses it. If it is not set numbers go on after those of an earlier life of this
+          client, if there was one: see `last_reply`.
         - `patience`: seconds, above 0.
         - `connect`: makes a connection to a port, or raises OSError. `clock`: milliseconds, which never fall; those since the beginning, if it is not given.
 
-        A server keeps 65,536 client numbers at most, for good, those that left among them; `leave` does not free a place. Programs that come and go share a range.
+        A server keeps 65,536 client numbers at most, for good, those that left among them; `leave` does not free a place. Programs that come and go share a
+        range.
 
-        Raises NoConnection if nobody listens at a port, or no Hello is answered in `patience` seconds, Refused if a server refuses (Busy: another connection has this number; Known,
-        TooManyClients, Version), NoNumber if none of several numbers is to be had. A server may need some milliseconds to see that an earlier connection ended: Busy is tried
-        again for two seconds, or `patience` if that is less, but not with `fresh`, nor with several numbers, of which the next one is tried. After an error nothing is connected.
+        Raises NoConnection if nobody listens at a port, or no Hello is answered in `patience` seconds, Refused if a server refuses (Busy: another connection
+        has this number; Known, TooManyClients, Version), NoNumber if none of several numbers is to be had. A server may need some milliseconds to see that an
+        earlier connection ended: Busy is tried again for two seconds, or `patience` if that is less, but not with `fresh`, nor with several numbers, of which
+        the next one is tried. After an error nothing is connected.
         """
         if not isinstance(ports, Sequence) or isinstance(ports, (str, bytes)):
             raise OutOfRange(f"the servers are a list of ports: {ports!r}")
@@ -1297,8 +1309,8 @@ class Space:
         self.close()
 
     def close(self) -> None:
-        """Ends all connections, and waits for nothing. What was stored and taken stays so; what is pending at the servers is over, and what they hold for this client is free again.
-        It may be called twice."""
+        """Ends all connections, and waits for nothing. What was stored and taken stays so; what is pending at the servers is over, and what they hold for this
+        client is free again. It may be called twice."""
         if not self._is_closed:
             self._is_closed = True
             for link in self._links:
@@ -1316,9 +1328,9 @@ class Space:
         """Puts a tuple, and returns its server and its id there, once it is stored for good. The j-th call of this space, from 0, goes to server (c + j) mod S,
         where c is the client's number and S the count of servers; the others need not be there.
 
-        Raises OutOfRange, Busy, Spent: nothing was sent. Refused with Full, TooManyClients, Gap, Old or Left: it was not put, and nothing is pending (Gap and Old
-        say that another program used this client's number; with Old it may have been put before that; Left that an earlier life of this client left). Restored: it is not there.
-        NoConnection, TimedOut, and all others: it may have been put or not, and is pending.
+        Raises OutOfRange, Busy, Spent: nothing was sent. Refused with Full, TooManyClients, Gap, Old or Left: it was not put, and nothing is pending (Gap and
+        Old say that another program used this client's number; with Old it may have been put before that; Left that an earlier life of this client left).
+        Restored: it is not there. NoConnection, TimedOut, and all others: it may have been put or not, and is pending.
         """
         values = (_value(tag), *(_value(item) for item in _few(fields)))
         ended = self._call(lambda: self._machine.out(values), timeout)
@@ -1326,8 +1338,8 @@ class Space:
         return ended.server, ended.id
 
     def take(self, tag: Value, *patterns: Pattern, timeout: Optional[float] = None) -> Optional[Values]:
-        """Takes a tuple that matches away, and returns it, tag first; waits until there is one. None if in `timeout` seconds all servers were there and none had one;
-        with 0 it is one that is there now, or None.
+        """Takes a tuple that matches away, and returns it, tag first; waits until there is one. None if in `timeout` seconds all servers were there and none had
+        one; with 0 it is one that is there now, or None.
 
         Raises as `choose` does.
         """
@@ -1337,17 +1349,17 @@ class Space:
         """A copy of a tuple that matches, which stays; else as `take`."""
         return self.choose(Rd(tag, *patterns), timeout=timeout).tuple
 
-    def look(self, tag: Value, *patterns: Pattern) -> Optional[Values]:
-        """A copy of a tuple that matches and that some server has now, held or not; None if all have answered that they have none. It waits for nothing else: at most
-        `patience` seconds for a server that does not answer.
+    def look(self, tag: Value, *patterns: Pattern, timeout: Optional[float] = None) -> Optional[Values]:
+        """A copy of a tuple that matches and that some server has now, held or not; None if all have answered that they have none. It waits for nothing else: at
+        most `timeout` seconds, and at most `patience` seconds, for a server that does not answer.
 
         Raises as `choose` does.
         """
-        return self.choose(Rd(tag, *patterns), timeout=0).tuple
+        return self._sync(Choose(Rd(tag, *patterns), self.after(0)), has_limit=True, is_poll=True, timeout=timeout).tuple
 
     def choose(self, *branches: Event, timeout: Optional[float] = None) -> Outcome:
-        """Waits until one of the branches is chosen, each an event: `In("job", INT).wrap(5)`, `Rd("stop").nack(9)`. After `timeout` seconds each server is asked whether it
-        has seen all of it; if all have, and nothing was chosen, the outcome has the kind "alarm", and all nack numbers are raised.
+        """Waits until one of the branches is chosen, each an event: `In("job", INT).wrap(5)`, `Rd("stop").nack(9)`. After `timeout` seconds each server is asked
+        whether it has seen all of it; if all have, and nothing was chosen, the outcome has the kind "alarm", and all nack numbers are raised.
 
         Raises as `sync` does, and TimedOut if a server has no connection when the time is up, or does not answer then for `patience` seconds.
         """
@@ -1359,11 +1371,11 @@ class Space:
 
     def sync(self, event: Event) -> Outcome:
         """Waits until a base of the event is chosen. A base that is ready at once is chosen first, and then no server is asked. Else all servers are asked for
-        all inputs and reads, and at most one of them is chosen. An alarm is chosen at its time, whether servers are there or not; but while a server is asked to hand a tuple over
-        none is, and after `patience` seconds of that TimedOut is raised.
+        all inputs and reads, and at most one of them is chosen. An alarm is chosen at its time, whether servers are there or not; but while a server is asked
+        to hand a tuple over none is, and after `patience` seconds of that TimedOut is raised.
 
-        Raises OutOfRange (an event with a leaf under more than 64 nodes, more than 256 bases or 64 inputs and reads), Busy, Spent before it began: nothing was
-        sent. NoConnection, TimedOut, and all others: it is over (see the class).
+        Raises OutOfRange (an event with a leaf under more than 64 nodes, more than 256 bases or 64 inputs and reads), Busy, Spent before it began: nothing
+        was sent. NoConnection, TimedOut, and all others: it is over (see the class).
         """
         return self._sync(_event(event))
 
@@ -1375,8 +1387,9 @@ class Space:
                     work_on(offer.tuple)            # other calls of the space may be made here
                     offer.accept()                  # takes it; or raises Gone
 
-        None if none was there in `timeout` seconds, as `take` does. At the end of the block what was not accepted is free again. What is held is lost with its connection, as by the end of this
-        program, or of the server: then another client may have it. Each hold counts to the 64 that a client may ask for at once.
+        None if none was there in `timeout` seconds, as `take` does. At the end of the block what was not accepted is free again. What is held is lost with
+        its connection, as by the end of this program, or of the server: then another client may have it. Each hold counts to the 64 that a client may ask for
+        at once.
 
         Raises, at the beginning of the block, as `choose` does.
         """
@@ -1391,9 +1404,9 @@ class Space:
         return max(self._machine.clock, self._now())
 
     def last_reply(self, server: int = 0, timeout: Optional[float] = None) -> Optional[Kept]:
-        """The reply that a server keeps to the last numbered message of this client there, of an earlier life perhaps: None if there was none. So a program
-        that starts again under its number learns whether its last out was stored, or which tuple its last take took. Each server keeps its own; it is not told which of
-        them was the last. Nothing changes.
+        """The reply that a server keeps to the last numbered message of this client there, of an earlier life perhaps: None if there was none. So a program that
+        starts again under its number learns whether its last out was stored, or which tuple its last take took. Each server keeps its own; nothing says which
+        of them was the last. Nothing changes.
 
         Raises OutOfRange if there is no such server, Busy: nothing was sent. Refused with Gap or Old: another program uses this client's number, and nothing
         is pending. All others: it is pending.
@@ -1404,12 +1417,12 @@ class Space:
         return ended
 
     def leave(self, timeout: Optional[float] = None) -> None:
-        """Gives the number of this client up for good, at all servers, and returns once all of them know. What it held is free again; what it put stays. From then
-        on nobody can do anything under this number: no life of this client, and no other program. A server keeps the number for good, with the few bytes
+        """Gives the number of this client up for good, at all servers, and returns once all of them know. What it held is free again; what it put stays. From
+        then on nobody can do anything under this number: no life of this client, and no other program. A server keeps the number for good, with the few bytes
         that say so, so this frees no place of the 65,536.
 
-        Raises Busy, Spent: nothing was sent. All others: it is pending, and some servers may know. Full is refused by a server whose bank is still in the form of
-        an earlier program: `again` after its next snapshot.
+        Raises Busy, Spent: nothing was sent. All others: it is pending, and some servers may know. Full is refused by a server whose bank is still in the
+        form of an earlier program: `again` after its next snapshot.
         """
         self._call(self._machine.leave, timeout)
 
@@ -1417,20 +1430,23 @@ class Space:
 
     @property
     def pending(self) -> Optional[str]:
-        """What is pending after an error: "out", "last_reply", "leave", "accept", "sync" if a tuple was taken, or may have been, by a call that an error ended; or None."""
+        """What is pending after an error: "out", "last_reply", "leave", "accept", "sync" if a tuple was taken, or may have been, by a call that an error ended;
+        or None."""
         if self._machine.in_hand:
             return "sync"
         return {_Put: "out", _Sync: "sync", _Repeat: "last_reply", _Leaving: "leave", _Taking: "accept"}.get(type(self._machine.task))
 
     @property
     def settled(self) -> Union[Stored, Outcome, Kept, SpaceError, None]:
-        """How the last call ended that KeyboardInterrupt, or another exception that is not of this module, interrupted, and that was finished by a later call: as `again` would have
-        returned it, or the error that it would have raised; None for a leave, and if there is none. What is still `pending` is not settled."""
+        """How a call ended that KeyboardInterrupt, or another exception that is not of this module, interrupted: if it had ended already, or was finished by the
+        last call. It is as `again` would have returned it, or the error that it would have raised; None for a leave, and if there is none. What is still
+        `pending` is not settled."""
         return self._machine.settled
 
     def again(self, timeout: Optional[float] = None) -> Union[Stored, Outcome, Kept, None]:
-        """Goes on with what is pending after an error: sends what is unanswered again, under its number, and waits for its end, which it returns: Stored for an out, Outcome for an
-        accept, and for a take whose tuple was taken; Kept for `last_reply`; None for a leave, and for a take that came too late: nothing was taken then. Nothing is done twice by that.
+        """Goes on with what is pending after an error: sends what is unanswered again, under its number, and waits for its end, which it returns: Stored for an
+        out, Outcome for an accept, and for a take whose tuple was taken; Kept for `last_reply`; None for a leave, and for a take that came too late: nothing
+        was taken then. Nothing is done twice by that.
 
         Raises Idle if nothing is pending; Gone for an accept that came too late; else as what it goes on with.
         """
@@ -1458,12 +1474,12 @@ class Space:
 
     # ---- how it goes on
 
-    def _sync(self, event: Event, has_limit: bool = False, is_poll: bool = False) -> Outcome:
+    def _sync(self, event: Event, has_limit: bool = False, is_poll: bool = False, timeout: Optional[float] = None) -> Outcome:
         def begin() -> None:
             self._machine.tick(self._now())
             self._machine.sync(event, has_limit, is_poll)
 
-        ended = self._call(begin)
+        ended = self._call(begin, timeout)
         assert isinstance(ended, Outcome)
         return ended
 
@@ -1510,7 +1526,9 @@ class Space:
             machine = self._machine
             if machine.ended is not None:
                 machine.give_up(True)
-            if not is_again and machine.is_left_over():
+            if is_again or not machine.is_left_over():
+                machine.settled = None
+            else:
                 self._settle(min(until, now + self._patience))
             begin()
             self._run(until)
@@ -1581,8 +1599,8 @@ class Space:
             self._send()
 
     def _wait(self, until: float) -> None:
-        """Greets if that is due, and waits until something comes or is due, for all servers at once. Raises TimedOut if that is later than `until`, and NoConnection if a
-        server that is needed is away for too long."""
+        """Greets if that is due, and waits until something comes or is due, for all servers at once. Raises TimedOut if that is later than `until`, and
+        NoConnection if a server that is needed is away for too long."""
         now = time.monotonic()
         task = self._machine.task
         wake = until
@@ -1608,7 +1626,8 @@ class Space:
                 self._read(link)
 
     def _latest(self, task: _Sync, now: float) -> float:
-        """When a synchronization has to end one of whose alarms is ready: it waits for an answer only. If the call's own time is up and a server is away, that is now."""
+        """When a synchronization has to end one of whose alarms is ready: it waits for an answer only. If the call's own time is up and a server is away, that
+        is now."""
         base = task.ringing(self._machine.clock)
         if base is None:
             return math.inf
