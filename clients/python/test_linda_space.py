@@ -1,5 +1,5 @@
 #!/usr/bin/env python3
-"""The tests of linda_space.py: over servers of the program, and against recorded sessions.
+"""The tests of linda_space: over servers of the program, and against recorded sessions.
 
     clients/python/test_linda_space.py [TEST..]
 

@@ -1524,9 +1524,9 @@ class Space:
                     link.until, link.busy_until = now + self._patience, None
             self._late = None
             machine = self._machine
-            if machine.ended is not None:
+            if machine.ended is not None:       # a second interrupt came before `give_up`
                 machine.give_up(True)
-            if is_again or not machine.is_left_over():
+            elif is_again or not machine.is_left_over():
                 machine.settled = None
             else:
                 self._settle(min(until, now + self._patience))
