@@ -42,6 +42,11 @@ PATIENCE = 60
 MOST_CLIENTS = 65_536
 
 
+def setUpModule() -> None:
+    """Ctrl-C raises KeyboardInterrupt, though a shell that begins this in the background has it ignored."""
+    signal.signal(signal.SIGINT, signal.default_int_handler)
+
+
 class Server:
     """A server of the program on a folder, which is ready once this is made."""
 
