@@ -6,8 +6,8 @@
 //! `linda run --servers N [--trace FILE]` plays a script from standard input with N servers on disks in memory, 1 to
 //! 16, and writes the trace of the run to a file, which is made, or emptied where it is there.
 //!
-//! `linda call --client C [--again] PORT..` plays lines from standard input as client C, over the servers that listen on
-//! these ports of this machine; with `--again` it goes on as a client that was used before.
+//! `linda call --client C [--again] PORT..` plays lines from standard input as client C, over the servers that listen
+//! on these ports of this machine; with `--again` it goes on as a client that was used before.
 //!
 //! `linda serve --port P --dir D [--sessions K] [--log]` serves the store in a folder to clients that connect to a port
 //! of this machine; with `--log` it writes what it does to standard error.
@@ -20,8 +20,8 @@
 //!
 //! The exit status is 0 at the end; 2 for a fault of the command line, with the parser's text on standard
 //! error; 3 with one line there, `io` or `memory`, where standard input or output fails or memory runs out, or
-//! `server S: no connection`, `server S: refused CODE DETAIL`, `server S: restored`, or what is said of a store; 4 with one line there for a
-//! fault of a line of the input.
+//! `server S: no connection`, `server S: refused CODE DETAIL`, `server S: restored`, or what is said of a store; 4 with
+//! one line there for a fault of a line of the input.
 #![tactic(auto)]
 
 ghost use Rattle.std.specs.Prelude.{◌≡◌, ◌≢◌, ◌≤◌, ◌⊎◌};

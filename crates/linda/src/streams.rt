@@ -1,5 +1,5 @@
-//! Standard streams that are closed. The system gives the least free descriptor to what is opened: if that is a standard
-//! stream's, what is printed goes into the file of a bank, or to a server. So the free ones are filled first.
+//! Standard streams that are closed. The system gives the least free descriptor to what is opened: if that is one of a
+//! standard stream, what is printed goes into the file of a bank, or to a server. So the free ones are filled first.
 
 use std::fs::{File, Files, OpenOptions};
 use std::io;
@@ -8,11 +8,11 @@ use std::os::fd::AsRawFd;
 /// The descriptors of standard input, output and error are below this.
 const FIRST_OTHER: i32 = 3;
 
-/// The descriptor of standard output.
-const OUTPUT: i32 = 1;
+/// What opens and gives nothing.
+const NOTHING: &str = "/dev/null";
 
-/// What opens and gives nothing; and what is there on every system, if that is not.
-const NOTHING: [&str; 2] = ["/dev/null", "/"];
+/// What is there on every system, if that is not.
+const ROOT: &str = "/";
 
 /// How many files a process may have open was reached: then no descriptor of a standard stream is free.
 const TOO_MANY_FILES: i32 = 24;
@@ -60,26 +60,23 @@ impl Streams {
 
 // A file for reading that gives nothing, with the least free descriptor; none if as many files as may be are open.
 fn open_nothing<F: Files<File = File>>(files: &F) -> io::Result<Option<File>> {
-    for path in NOTHING {
-        match File::open(files, path) {
-            Ok(file) => return Ok(Some(file)),
-            Err(error) if error.raw_os_error() == Some(TOO_MANY_FILES) => return Ok(None),
-            Err(_) => {}
-        }
-    }
-    match File::open(files, NOTHING[1]) {
+    match File::open(files, NOTHING) {
         Ok(file) => Ok(Some(file)),
-        Err(error) => Err(error),
+        Err(error) if error.raw_os_error() == Some(TOO_MANY_FILES) => Ok(None),
+        Err(_) => match File::open(files, ROOT) {
+            Ok(file) => Ok(Some(file)),
+            Err(error) => Err(error),
+        },
     }
 }
 
 // A file that cannot be read, in place of this one and with its descriptor; this one if there is none.
 fn unreadable<F: Files<File = File>>(files: &F, file: File) -> File {
-    let Ok(spare) = OpenOptions::new().write(true).open(files, NOTHING[0]) else {
+    let Ok(spare) = OpenOptions::new().write(true).open(files, NOTHING) else {
         return file;
     };
     drop(file);
-    match OpenOptions::new().write(true).open(files, NOTHING[0]) {
+    match OpenOptions::new().write(true).open(files, NOTHING) {
         Ok(filled) => filled,
         Err(_) => spare,
     }

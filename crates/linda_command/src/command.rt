@@ -39,8 +39,8 @@ pub enum Task {
         servers: u32,
         file: String,
     },
-    /// Lines of a client from standard input, over servers that listen on ports of this machine; `again` where it goes on
-    /// as a client that was used before.
+    /// Lines of a client from standard input, over servers that listen on ports of this machine; `again` where it goes
+    /// on as a client that was used before.
     Call {
         client: u32,
         ports: Ports,

@@ -6,7 +6,7 @@ mod log;
 mod stamp;
 mod store;
 
-ghost use Rattle.std.specs.Prelude.{◌≡◌, ◌<◌, false, OnErr, OnOk};
+ghost use Rattle.std.specs.Prelude.{◌≡◌, ◌<◌, false, IfOk, OnErr, OnOk};
 ghost use Rattle.linda_receipt.specs.declared.limits.TheConstants.{PARTS};
 
 pub use fault::ServingFault;
@@ -34,9 +34,9 @@ pub(crate) use store::{LEFT, RIGHT};
 /// Serves the store in a folder to clients that connect to a port of this machine, and writes `ready PORT` once it
 /// listens: any free port where 0 is asked for. Where a number is given it ends after so many connections.
 ///
-/// If the last snapshot was cut off, its room is given back. The next one is put off until there are as many records more
-/// as make one due, unless the bank in use is in the old form or a deed is refused for room: so a disk that has no room
-/// for a snapshot is no reason to serve nobody.
+/// If the last snapshot was cut off, its room is given back. The next one is put off until there are as many records
+/// more as make one due, unless the bank in use is in the old form or a deed is refused for room: so a disk that has no
+/// room for a snapshot is no reason to serve nobody.
 ///
 /// # Errors
 ///
@@ -55,12 +55,24 @@ pub fn serve_folder<
     folder: &str,
     sessions: Option<u32>,
 ) -> Result<(), ServingFault> {
+    let (server, _bank) = open_to_serve(files, alloc, folder)?;
+    listen_and_serve::<Brand, S, W>(rt, alloc, writer, server, Blank::new(PARTS), port, sessions)
+}
+
+// Opens the store in a folder to serve it, and gives back the room of a snapshot that was cut off; with the bank in use.
+fn open_to_serve<F: Files<File = File>>(
+    files: &F,
+    alloc: Global,
+    folder: &str,
+) -> Result<(Durable<FileDisk>, Option<InUse>), ServingFault>
+    ensures up { IfOk result (λ opened. opened.0.down ≡ false) }
+{
     let mut server = open_store(files, alloc, folder)?;
     let bank = bank_in_use(files, alloc, folder);
     if has_cut_off(files, alloc, folder, bank) {
         give_back(&mut server)?;
     }
-    listen_and_serve::<Brand, S, W>(rt, alloc, writer, server, Blank::new(PARTS), port, sessions)
+    Ok((server, bank))
 }
 
 // Shares a server that was opened. Its next snapshot is put off, unless its bank is in the old form: so it serves for a
@@ -129,11 +141,7 @@ pub fn serve_logged<
     folder: &str,
     sessions: Option<u32>,
 ) -> Result<(), ServingFault> {
-    let mut server = open_store(files, alloc, folder)?;
-    let bank = bank_in_use(files, alloc, folder);
-    if has_cut_off(files, alloc, folder, bank) {
-        give_back(&mut server)?;
-    }
+    let (server, bank) = open_to_serve(files, alloc, folder)?;
     let log = Log::new(alloc, sink)?;
     listen_and_log::<Brand, S, W, E>(
         rt,

@@ -27,7 +27,8 @@ pub(super) struct Banks {
 ///
 /// # Errors
 ///
-/// `Disk` where the folder or a file cannot be read, a bank is no regular file, or both are one file; `InUse` where a bank was begun anew at each reading; `Memory`.
+/// `Disk` where the folder or a file cannot be read, a bank is no regular file, or both are one file; `InUse` where a
+/// bank was begun anew at each reading; `Memory`.
 pub(super) fn read_banks<F: Files<File = File>>(
     files: &F,
     alloc: Global,

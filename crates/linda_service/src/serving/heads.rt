@@ -28,8 +28,7 @@ pub(crate) fn bank_in_use<F: Files<File = File>>(
     in_use(left, right)
 }
 
-/// Whether a snapshot was cut off before this bank came into use, or after it: the other file is longer than a closed gate,
-/// and no bank.
+/// Whether a snapshot was cut off, with this bank in use: the other file is longer than a closed gate, and no bank.
 pub(crate) fn has_cut_off<F: Files<File = File>>(
     files: &F,
     alloc: Global,
