@@ -1,6 +1,8 @@
 //! The numbers of a client that goes on after others of its number: what it counts from 1 on, servers count after the
 //! last number that they kept before it.
 
+ghost use Rattle.std.specs.Prelude.{◌≡◌, ◌+◌, ◌<◌, ◌≤◌, true, false};
+
 use linda_wire::{Message, Reply};
 
 /// Makes the message what its server is to see, which kept `base` numbers before.
@@ -26,7 +28,10 @@ pub(super) fn homeward(reply: &mut Reply, base: u64) -> bool {
 }
 
 // Counts a number from the base on, if it is above it.
-fn comes_after(n: &mut u64, base: u64) -> bool {
+fn comes_after(n: &mut u64, base: u64) -> bool
+    ensures after { result ≡ true → (base < n.old) × (n.new + base ≡ n.old) }
+    ensures before { result ≡ false → (n.old ≤ base) × (n.new ≡ n.old) }
+{
     if *n <= base {
         return false;
     }

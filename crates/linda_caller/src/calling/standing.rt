@@ -1,5 +1,7 @@
 //! How a client stands with each of its servers.
 
+ghost use Rattle.std.specs.Prelude.{◌≡◌, ◌↔◌, ◌≤◌, true, false, if◌then◌else◌, max};
+
 use std::alloc::{AllocError, Global};
 
 /// How the client stands with one server.
@@ -43,7 +45,12 @@ pub(super) fn first_unmet(standings: &[Standing]) -> Option<u32> {
 
 impl Standing {
     /// The server welcomes the client with this number, for the first time or again. Whether it keeps what it answered.
-    pub(super) fn welcomes(&mut self, last: u64, goes_on: bool) -> bool {
+    pub(super) fn welcomes(&mut self, last: u64, goes_on: bool) -> bool
+        ensures again { self.old.is_met ≡ true → self.new ≡ self.old }
+        ensures restored { self.old.is_met ≡ true → (result ≡ true) ↔ (self.old.kept ≤ last) }
+        ensures first { self.old.is_met ≡ false → (result ≡ true) × (self.new.is_met ≡ true) × (self.new.kept ≡ last) }
+        ensures base { self.old.is_met ≡ false → self.new.base ≡ (if goes_on then last else self.old.base) }
+    {
         if self.is_met {
             return last >= self.kept;
         }
@@ -56,7 +63,10 @@ impl Standing {
     }
 
     /// The server answered this number.
-    pub(super) fn answers(&mut self, number: u64) {
+    pub(super) fn answers(&mut self, number: u64)
+        ensures kept { self.new.kept ≡ max self.old.kept number }
+        ensures same { (self.new.is_met ≡ self.old.is_met) × (self.new.base ≡ self.old.base) }
+    {
         if number > self.kept {
             self.kept = number;
         }
