@@ -129,13 +129,13 @@ class Peer:
         self.stream.close()
 
 
-def listing(port: int, template: bytes, first_client: int) -> dict[int, tuple]:
+def listing(port: int, template: bytes, first_client: int, patience: float | None = PATIENCE) -> dict[int, tuple]:
     """All tuples that the template (as it stands in an Ask) matches and that nobody holds, with their ids: each is asked for under a ticket of its own
     and offered, 64 to each client, from this number on; the connections are closed at the end, which gives all of them free again."""
     found: dict[int, tuple] = {}
     peers = []
     while True:
-        peer = Peer(port)
+        peer = Peer(port, patience)
         peers.append(peer)
         peer.greet(first_client + len(peers) - 1)
         asks = b"".join(frames.frame(b"\x03" + frames.spell_number(ticket) + b"\x01" + template) for ticket in range(1, 65))

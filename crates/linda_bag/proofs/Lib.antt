@@ -5,6 +5,7 @@ pub mod OrderLaws
 pub mod BareLaws
 pub mod NotedLaws
 pub mod PlaceLaws
+pub mod FirstLaws
 pub mod KeptLaws
 pub mod AheadLaws
 pub mod FreeMatchLaws

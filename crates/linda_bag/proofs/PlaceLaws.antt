@@ -1,16 +1,14 @@
 -- Where a row stands in an index, as the index's code finds it.
-use Rattle.std.proofs.Common.{◌≡◌, ℤ, List, [], ◌∷◌, Option, None, Some, is_some, ap, refl, true≢false}
+use Rattle.std.proofs.Common.{◌≡◌, Option, None, Some, ap}
 use Rattle.linda_tuple.specs.declared.atom.Atom.{Atom}
-use Rattle.linda_tuple.specs.declared.atom.Atom.TheVariants as atoms
 use Rattle.linda_tuple.specs.contracts.atom.AtomOrd.TheImpl as atom_ord
 use Rattle.linda_tuple.specs.Tuple.{Tuple}
-use Rattle.linda_bag.specs.Filing.{Rows, IsBare, row_at, placed, keyed}
+use Rattle.linda_bag.specs.Filing.{Rows, IsBare, row_at, placed}
 use Rattle.linda_bag.specs.declared.heads.Heads.{Heads}
 use Rattle.linda_bag.specs.declared.index.Group.{Group}
 use Rattle.linda_bag.specs.contracts.index.GroupShelfTuple.TheImpl as group
 use Rattle.linda_bag.specs.Heads.{HasHeads}
 use Rattle.linda_bag.specs.Candidates.{tag_of, count_of, first_of, with_first}
-use Rattle.linda_bag.specs.Firsts.{int_among, int_of, other_among, other_of}
 
 -- The index has the tuples under these ids.
 abbrev pub HasIndex : Heads Group → Rows Tuple → Type 0
@@ -19,16 +17,6 @@ HasIndex index rows = HasHeads tag_of count_of group.ghosts.has index rows
 -- A row stands under the key that was read from it.
 pub key_placed : {K T : Type 0} (key_of : T → K) (row : T) (key : K) → key ≡ key_of row → Some (key, row) ≡ placed (λ r. Some (key_of r)) (Some row)
 key_placed key_of row key same = ap (λ k. Some (k, row)) same
-
--- What has an integer first has nothing else there.
-no_other_among : (fields : List Atom) (row : Tuple) (int : ℤ × Tuple) → Some int ≡ keyed (int_among fields) row → None ≡ keyed (other_among fields) row
-no_other_among [] row int is = refl
-no_other_among (atoms.Int n ∷ rest) row int is = refl
-no_other_among (atoms.Text t ∷ rest) row int is = absurd (true≢false (ap is_some is))
-no_other_among (atoms.Bool b ∷ rest) row int is = absurd (true≢false (ap is_some is))
-
-pub no_other : (row : Tuple) (int : ℤ × Tuple) → Some int ≡ placed int_of (Some row) → None ≡ placed other_of (Some row)
-no_other row = no_other_among row.fields row
 
 -- Where there are no rows, none has the value first.
 pub bare_first : (first : Option Atom) (rows : Rows Tuple) → IsBare rows → IsBare (with_first first rows)

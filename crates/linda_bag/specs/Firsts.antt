@@ -1,35 +1,48 @@
--- Tuples that are filed under their first fields: those that are integers in one map, all others in another.
-use Rattle.std.specs.Prelude.{ℤ, List, [], ◌∷◌, Option, None, Some}
+-- Rows that are filed under the values that they begin with: those that are integers in one map, all others in another.
+use Rattle.std.specs.Prelude.{ℤ, Option, None, Some}
 use Rattle.std.specs.Ordering.{int_cmp}
 use Rattle.linda_tuple.specs.declared.atom.Atom.{Atom}
 use Rattle.linda_tuple.specs.declared.atom.Atom.TheVariants as atoms
 use Rattle.linda_tuple.specs.contracts.atom.AtomOrd.TheImpl as atom_ord
-use Rattle.linda_tuple.specs.Tuple.{Tuple}
 use Rattle.linda_bag.specs.declared.firsts.Firsts.{Firsts}
 use Rattle.linda_bag.specs.Filing.{Rows, IsFiled}
 use Rattle.linda_bag.specs.Ids.{IsOf}
 
--- the integer that stands first, if one does
-abbrev pub int_among : List Atom → Option ℤ
-int_among [] = None
-int_among (atoms.Int n ∷ rest) = Some n
-int_among (atoms.Text t ∷ rest) = None
-int_among (atoms.Bool b ∷ rest) = None
+-- the value, if it is an integer
+abbrev pub int_in : Option Atom → Option ℤ
+int_in None = None
+int_in (Some (atoms.Int n)) = Some n
+int_in (Some (atoms.Text t)) = None
+int_in (Some (atoms.Bool b)) = None
 
-abbrev pub int_of : Tuple → Option ℤ
-int_of row = int_among row.fields
+-- the value, if it is no integer
+abbrev pub other_in : Option Atom → Option Atom
+other_in None = None
+other_in (Some (atoms.Int n)) = None
+other_in (Some (atoms.Text t)) = Some (atoms.Text t)
+other_in (Some (atoms.Bool b)) = Some (atoms.Bool b)
 
--- what stands first, if it is no integer
-abbrev pub other_among : List Atom → Option Atom
-other_among [] = None
-other_among (atoms.Int n ∷ rest) = None
-other_among (atoms.Text t ∷ rest) = Some (atoms.Text t)
-other_among (atoms.Bool b ∷ rest) = Some (atoms.Bool b)
+-- the row, if it begins with a value
+abbrev pub if_keyed : {R : Type 0} → Option Atom → R → Option R
+if_keyed None row = None
+if_keyed (Some v) row = Some row
 
-abbrev pub other_of : Tuple → Option Atom
-other_of row = other_among row.fields
+module _ {R : Type 0} (first_of : R → Option Atom) where
+  abbrev pub int_of : R → Option ℤ
+  int_of row = int_in (first_of row)
 
--- Under each first field stand the ids of the rows that have it.
-abbrev pub HasFirsts : Firsts → Rows Tuple → Type 0
-HasFirsts firsts rows =
-    IsFiled int_cmp IsOf int_of firsts.ints rows × IsFiled atom_ord.ghosts.cmp IsOf other_of firsts.others rows
+  abbrev pub other_of : R → Option Atom
+  other_of row = other_in (first_of row)
+
+  -- the rows that begin with a value
+  abbrev pub keyed_in : Option R → Option R
+  keyed_in None = None
+  keyed_in (Some row) = if_keyed (first_of row) row
+
+  abbrev pub keyed_of : Rows R → Rows R
+  keyed_of rows q = keyed_in (rows q)
+
+  -- Under each such value stand the ids of the rows that begin with it.
+  abbrev pub HasFirsts : Firsts → Rows R → Type 0
+  HasFirsts firsts rows =
+      IsFiled int_cmp IsOf int_of firsts.ints rows × IsFiled atom_ord.ghosts.cmp IsOf other_of firsts.others rows

@@ -1,5 +1,5 @@
 -- A set of ids that has a place for a single one.
-use Rattle.std.specs.Prelude.{◌≡◌, ℕ, Bool, false, ◌||◌}
+use Rattle.std.specs.Prelude.{◌≡◌, ℕ, Bool, false, ◌||◌, Option, None, Some}
 use Rattle.std.specs.Ordering.{is_eq, nat_cmp}
 use Rattle.std.specs.Option.{is_some}
 use Rattle.std.specs.BTreeSet.{BTreeSet, contains}
@@ -20,3 +20,8 @@ IsOf set rows = (id : ℕ) → has_id set id ≡ is_some (rows id)
 -- The set has these two ids, and no others.
 abbrev pub HasPair : ℕ → ℕ → BTreeSet ℕ → Type 0
 HasPair one other both = (id : ℕ) → contains nat_cmp both id ≡ (is_eq (nat_cmp id one) || is_eq (nat_cmp id other))
+
+-- whether the id is one of the set, where there is a set
+abbrev pub has_any : Option Ids → ℕ → Bool
+has_any None id = false
+has_any (Some set) id = has_id set id

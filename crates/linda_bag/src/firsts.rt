@@ -1,32 +1,32 @@
-//! The first fields of tuples of one tag and one number of fields, and the ids under each. Most keys are
+//! The values that rows of one tag and one number of fields begin with, and the ids under each. Most are
 //! integers: those stand in a map of their own, whose entries are small, so that a look-up reads little
 //! memory.
 
-ghost use Rattle.std.specs.Prelude.{◌≡◌, Some, None, OnOk, OnErr};
+ghost use Rattle.std.specs.Prelude.{◌≡◌, ◌↔◌, Some, None, OnOk, OnErr, IsTrue};
 ghost use Rattle.std.specs.Option.{option_copied};
 ghost use Rattle.linda_tuple.specs.contracts.atom.AtomOrd.TheImpl as atom_ord;
-ghost use Rattle.linda_bag.specs.Filing.{no_rows, rows_at, place, placed, FindsShelf, Refiles};
+ghost use Rattle.linda_bag.specs.Filing.{no_rows, rows_at, place, placed, FindsShelf, Refiles, Rows, IsBare};
 ghost use Rattle.linda_bag.specs.Ids.{IsOf};
-ghost use Rattle.linda_bag.specs.Candidates.{first_of};
-ghost use Rattle.linda_bag.specs.Firsts.{HasFirsts, int_of, other_of};
+ghost use Rattle.linda_bag.specs.Firsts.{HasFirsts, int_of, other_of, keyed_of};
 
+use crate::heads::Headed;
 use crate::ids::Ids;
 use crate::shelf::{refile, unfile_if_any};
-use linda_tuple::{Atom, Tuple};
+use linda_tuple::Atom;
 use std::alloc::{AllocError, Global};
 use std::collections::BTreeMap;
 
-/// The ids of tuples under their first fields. A tuple that has no fields is under none.
+/// The ids of rows under the values that they begin with. A row that begins with none is under none.
 #[derive(Drop)]
-pub(crate) struct Firsts {
+pub struct Firsts {
     ints: BTreeMap<i64, Ids>,
     others: BTreeMap<Atom, Ids>,
 }
 
 impl Firsts {
-    /// No tuples. Takes no memory until one is filed.
-    pub(crate) fn empty(alloc: Global) -> Firsts
-        ensures { HasFirsts result no_rows }
+    /// No rows. Takes no memory until one is filed.
+    pub fn empty<R: Headed>(alloc: Global) -> Firsts
+        ensures { HasFirsts R.first_of result no_rows }
     {
         Firsts {
             ints: BTreeMap::new(alloc),
@@ -34,9 +34,9 @@ impl Firsts {
         }
     }
 
-    /// The ids of the tuples that have the value first; nothing where there are none. Takes no memory.
-    pub(crate) fn get(&self, first: &Atom) -> Option<&Ids>
-        ensures { FindsShelf (HasFirsts self.now) IsOf (rows_at atom_ord.ghosts.cmp first_of first.now)
+    /// The ids of the rows that begin with the value; nothing where there are none. Takes no memory.
+    pub fn get<R: Headed>(&self, first: &Atom) -> Option<&Ids>
+        ensures { FindsShelf (HasFirsts R.first_of self.now) IsOf (rows_at atom_ord.ghosts.cmp R.first_of first.now)
             (option_copied result) }
     {
         match first {
@@ -46,22 +46,22 @@ impl Firsts {
         }
     }
 
-    /// Files the id by the first field of the tuple `new`, and no more by that of `old`, which had the id
+    /// Files the id by what the row `new` begins with, and no more by what `old` does, which had the id
     /// before.
     ///
     /// # Errors
     ///
     /// `AllocError` where memory runs out, and then each id is filed as before.
-    pub(crate) fn put<'a>(
+    pub fn put<'a, R: Headed>(
         &mut self,
         alloc: Global,
         id: u64,
-        old: Option<&'a Tuple>,
-        new: &'a Tuple,
+        old: Option<&'a R>,
+        new: &'a R,
     ) -> Result<(), AllocError>
-        ensures ok { OnOk result (Refiles (HasFirsts self.old) (HasFirsts self.new)
+        ensures ok { OnOk result (Refiles (HasFirsts R.first_of self.old) (HasFirsts R.first_of self.new)
             id (option_copied old.entry) (Some new.now)) }
-        ensures err { OnErr result (Refiles (HasFirsts self.old) (HasFirsts self.new)
+        ensures err { OnErr result (Refiles (HasFirsts R.first_of self.old) (HasFirsts R.first_of self.new)
             id (option_copied old.entry) (option_copied old.entry)) }
     {
         // The map that the id goes into alone may want memory, so it comes first.
@@ -79,36 +79,45 @@ impl Firsts {
         Ok(())
     }
 
-    /// Takes out the id, which is filed by the tuple. Takes no memory.
-    pub(crate) fn remove(&mut self, id: u64, tuple: &Tuple)
-        ensures { Refiles (HasFirsts self.old) (HasFirsts self.new) id (Some tuple.now) None }
+    /// Whether there is no id. Takes no memory.
+    pub fn is_empty<R: Headed>(&self) -> bool
+        ensures { (rows : Rows R) → HasFirsts R.first_of self.now rows
+            → (IsTrue result ↔ IsBare (keyed_of R.first_of rows)) }
     {
-        unfile_if_any(&mut self.ints, id, int_place(Some(tuple)));
-        unfile_if_any(&mut self.others, id, other_place(Some(tuple)));
+        self.ints.is_empty() && self.others.is_empty()
+    }
+
+    /// Takes out the id, which is filed by the row, where it is filed at all. Takes no memory.
+    pub fn remove<'a, R: Headed>(&mut self, id: u64, old: Option<&'a R>)
+        ensures { Refiles (HasFirsts R.first_of self.old) (HasFirsts R.first_of self.new)
+            id (option_copied old.entry) None }
+    {
+        unfile_if_any(&mut self.ints, id, int_place(old));
+        unfile_if_any(&mut self.others, id, other_place(old));
     }
 }
 
-// The integer that stands first in the tuple, if one does, with the tuple.
-fn int_place(tuple: Option<&Tuple>) -> Option<(&i64, &Tuple)>
-    ensures { place result ≡ placed int_of (option_copied tuple.entry) }
+// The integer that the row begins with, if it begins with one, with the row.
+fn int_place<R: Headed>(row: Option<&R>) -> Option<(&i64, &R)>
+    ensures { place result ≡ placed (int_of R.first_of) (option_copied row.entry) }
 {
-    let tuple = tuple?;
-    match tuple.fields().first()? {
-        Atom::Int(int) => Some((int, tuple)),
+    let row = row?;
+    match row.first()? {
+        Atom::Int(int) => Some((int, row)),
         Atom::Text(_) => None,
         Atom::Bool(_) => None,
     }
 }
 
-// The first field of the tuple, if it has one that is no integer, with the tuple.
-fn other_place(tuple: Option<&Tuple>) -> Option<(&Atom, &Tuple)>
-    ensures { place result ≡ placed other_of (option_copied tuple.entry) }
+// The value that the row begins with, if it begins with one that is no integer, with the row.
+fn other_place<R: Headed>(row: Option<&R>) -> Option<(&Atom, &R)>
+    ensures { place result ≡ placed (other_of R.first_of) (option_copied row.entry) }
 {
-    let tuple = tuple?;
-    let first = tuple.fields().first()?;
+    let row = row?;
+    let first = row.first()?;
     match first {
         Atom::Int(_) => None,
-        Atom::Text(_) => Some((first, tuple)),
-        Atom::Bool(_) => Some((first, tuple)),
+        Atom::Text(_) => Some((first, row)),
+        Atom::Bool(_) => Some((first, row)),
     }
 }

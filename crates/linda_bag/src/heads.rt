@@ -1,7 +1,7 @@
 //! Rows by their heads: by the tag and, under it, by the number of fields. Under each head stands a
 //! shelf of any kind, with the rows that have it.
 
-ghost use Rattle.std.specs.Prelude.{◌≡◌, ℕ};
+ghost use Rattle.std.specs.Prelude.{◌≡◌, ℕ, Option};
 ghost use Rattle.std.specs.Option.{option_copied};
 ghost use Rattle.linda_tuple.specs.declared.atom.Atom as atoms;
 ghost use Rattle.linda_bag.specs.Filing.{FindsShelf};
@@ -18,6 +18,8 @@ pub trait Headed {
 
     ghost count_of: { Self → ℕ };
 
+    ghost first_of: { Self → Option atoms.Atom };
+
     /// The tag.
     fn tag(&self) -> &Atom
         ensures { result.now ≡ tag_of self.now };
@@ -25,14 +27,21 @@ pub trait Headed {
     /// The number of fields.
     fn count(&self) -> usize
         ensures { result ≡ count_of self.now };
+
+    /// The value that it begins with, if it begins with one.
+    fn first(&self) -> Option<&Atom>
+        ensures { option_copied result ≡ first_of self.now };
 }
 
 impl Headed for Tuple {
     ghost use Rattle.std.specs.Prelude.{length};
+    ghost use Rattle.linda_bag.specs.Candidates.{first_among};
 
     ghost tag_of = { λ row. row.tag };
 
     ghost count_of = { λ row. length row.fields };
+
+    ghost first_of = { λ row. first_among row.fields };
 
     fn tag(&self) -> &Atom {
         self.tag()
@@ -40,6 +49,10 @@ impl Headed for Tuple {
 
     fn count(&self) -> usize {
         self.fields().len()
+    }
+
+    fn first(&self) -> Option<&Atom> {
+        self.fields().first()
     }
 }
 

@@ -13,7 +13,7 @@ use std::collections::BTreeSet;
 /// A set of ids. It is as small as it can be, since one stands under each key: so several are behind a
 /// box.
 #[derive(Drop)]
-pub(crate) enum Ids {
+pub enum Ids {
     Nothing,
     One(u64),
     Many(Box<BTreeSet<u64>>),

@@ -5,7 +5,7 @@ ghost use Rattle.std.specs.Prelude.{◌≡◌, Some};
 ghost use Rattle.std.specs.Option.{option_copied};
 ghost use Rattle.linda_bag.specs.Filing.{FindsShelf, IsShelved};
 ghost use Rattle.linda_bag.specs.Ids.{IsOf};
-ghost use Rattle.linda_bag.specs.Candidates.{first_value, with_first, candidates};
+ghost use Rattle.linda_bag.specs.Candidates.{first_of, first_value, with_first, candidates};
 ghost use Rattle.linda_bag.specs.Firsts.{HasFirsts};
 
 use crate::firsts::Firsts;
@@ -44,19 +44,19 @@ impl Group {
             (with_first (option_copied first.entry)) (option_copied result) }
     {
         match first {
-            Some(first) => self.firsts.get(first),
+            Some(first) => self.firsts.get::<Tuple>(first),
             None => Some(&self.ids),
         }
     }
 }
 
 impl Shelf<Tuple> for Group {
-    ghost has = { λ g rows. IsOf g.ids rows × HasFirsts g.firsts rows };
+    ghost has = { λ g rows. IsOf g.ids rows × HasFirsts first_of g.firsts rows };
 
     fn empty(alloc: Global) -> Group {
         Group {
             ids: Shelf::<Tuple>::empty(alloc),
-            firsts: Firsts::empty(alloc),
+            firsts: Firsts::empty::<Tuple>(alloc),
         }
     }
 
@@ -81,7 +81,7 @@ impl Shelf<Tuple> for Group {
 
     fn remove(&mut self, id: u64, tuple: &Tuple) {
         self.ids.remove(id, tuple);
-        self.firsts.remove(id, tuple);
+        self.firsts.remove(id, Some(tuple));
     }
 
     fn is_empty(&self) -> bool {

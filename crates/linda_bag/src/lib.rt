@@ -25,8 +25,10 @@ mod starts;
 mod tuples;
 
 pub use bag::{Bag, Found};
+pub use firsts::Firsts;
 pub use heads::{Headed, Heads, alike};
 pub use id_set::IdSet;
+pub use ids::Ids;
 pub use index_bag::IndexBag;
 pub use list_bag::ListBag;
 pub use shelf::{Key, Shelf, refile, unfile};

@@ -1,1 +1,9 @@
+pub mod Asking
+pub mod Clock
+pub mod Lines
+pub mod Links
+pub mod Numbers
+pub mod Party
+pub mod Standings
 pub mod Statuses
+pub mod Taking

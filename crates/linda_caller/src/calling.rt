@@ -1,17 +1,22 @@
 //! `linda call`: a client of servers that listen on ports of this machine.
 
+mod asking;
 mod caller;
+mod clock;
+mod count;
 mod fault;
 mod kept;
 mod numbers;
+mod party;
 mod standing;
 
 ghost use Rattle.std.specs.Prelude.{◌≡◌, ◌≤◌, length, IfOk, vec_len};
+ghost use Rattle.linda_caller.specs.Links.{IsLinked};
 ghost use Rattle.linda_client.specs.declared.limits.TheConstants.{MAX_SERVERS};
 
 use caller::Caller;
+use count::Count;
 pub use fault::CallFault;
-use linda_line::LineFault;
 use linda_link::{Inbox, Link};
 use linda_pipe::{extend_line, without_return};
 use linda_store::MAX_READS;
@@ -28,13 +33,13 @@ const BUFFER: usize = 4096;
 
 /// Plays lines as a client of this number over the servers that listen on these ports of this machine, which are
 /// numbered from 0: `out TUPLE`, `sync EVENT`, `leave` and `last`, one at a time. Each outcome is written and flushed
-/// before the next line is looked at; `last` writes the reply that each server keeps to the client. A carriage return at
-/// a line's end is dropped; the last line may lack its line feed.
+/// before the next line is looked at; `last` writes the reply that each server keeps to the client. A carriage return
+/// at a line's end is dropped; the last line may lack its line feed.
 ///
 /// The client is one that was never used, or goes on after the numbers that servers keep for it. All servers are
-/// greeted before the first line is, and each has ten seconds to answer. A connection that is lost is greeted again, and
-/// what is pending is sent again; if a server is away for longer while nothing is pending, it is tried again at the next
-/// line. A tick of the client's clock is a millisecond since the call began.
+/// greeted before the first line is, and each has ten seconds to answer. A connection that is lost is greeted again,
+/// and what is pending is sent again; if a server is away for longer while nothing is pending, it is tried again at
+/// the next line. A tick of the client's clock is a millisecond since the call began.
 ///
 /// # Errors
 ///
@@ -83,11 +88,12 @@ pub fn call<
 // A link to each port, numbered from 0.
 fn links_to(alloc: Global, client: u32, ports: &[u16], fresh: bool) -> Result<Vec<Link>, AllocError>
     requires { length ports.now ≤ MAX_SERVERS }
-    ensures { IfOk result (λ links. vec_len links ≡ length ports.now) }
+    ensures each { IfOk result (λ links. IsLinked client fresh ports.now links.items) }
+    ensures len { IfOk result (λ links. vec_len links ≡ length ports.now) }
 {
     let mut links = Vec::new(alloc);
-    for port in ports {
-        links.push(Link::new(links.len() as u32, *port, client, fresh))?;
+    for (server, port) in ports.iter().enumerate() {
+        links.push(Link::new(server as u32, *port, client, fresh))?;
     }
     Ok(links)
 }
@@ -103,7 +109,7 @@ fn play<S: Wait + Clock, R: Read, W: Write>(
     let mut lines = Lines {
         caller,
         line: Vec::new(alloc),
-        number: 1,
+        count: Count::first(),
     };
     lines.caller.meet_all(rt, alloc, writer)?;
     let mut buffer = [0; BUFFER];
@@ -124,7 +130,7 @@ fn play<S: Wait + Clock, R: Read, W: Write>(
 struct Lines<'a> {
     caller: Caller<'a>,
     line: Vec<u8>,
-    number: u64,
+    count: Count,
 }
 
 impl Lines<'_> {
@@ -139,7 +145,7 @@ impl Lines<'_> {
         let mut rest = piece;
         for _ in 0..piece.len() {
             let Ok(later) = extend_line(&mut self.line, rest) else {
-                return Err(CallFault::Line(self.number, LineFault::Memory));
+                return Err(self.count.memory());
             };
             let Some(later) = later else {
                 return Ok(());
@@ -157,17 +163,14 @@ impl Lines<'_> {
         alloc: Global,
         writer: &mut W,
     ) -> Result<(), CallFault> {
-        match self
+        let done = self
             .caller
-            .run_line(rt, alloc, without_return(&self.line), writer)
-        {
-            Ok(true) => {}
-            Ok(false) => return Err(CallFault::Line(self.number, LineFault::NotACommand)),
-            Err(CallFault::Memory) => return Err(CallFault::Line(self.number, LineFault::Memory)),
-            Err(fault) => return Err(fault),
+            .run_line(rt, alloc, without_return(&self.line), writer);
+        if let Some(fault) = self.count.end(done) {
+            return Err(fault);
         }
         self.line.clear();
-        self.number = self.number.saturating_add(1);
+        self.count.pass();
         Ok(())
     }
 }

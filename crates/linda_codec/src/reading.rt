@@ -130,7 +130,7 @@ fn build_tuple(alloc: Global, form: Form, bytes: &[u8]) -> Result<(Tuple, &[u8])
     let (tag, rest) = read_atom(alloc, form, bytes)?;
     let (count, rest) = read_count(form, rest)?;
     let (fields, rest) = read_list(alloc, form, count, rest)?;
-    Ok((Tuple::from_parts(tag, fields), rest))
+    Ok((Tuple::from_parts(tag, fields).shared(alloc), rest))
 }
 
 // Reads a template; likewise.

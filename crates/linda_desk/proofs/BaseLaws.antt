@@ -1,6 +1,7 @@
 -- Where the base is moved, and what crashes leave of a server that is down.
-use Rattle.std.proofs.Common.{◌≡◌, ◌∙◌, ℕ, ◌+◌, inl, inr, Bool, true, false, true≢false, List, [], ◌++◌, length, refl, sym, ap, subst, append_assoc, length-append, arith}
+use Rattle.std.proofs.Common.{◌≡◌, ◌∙◌, ℕ, ◌+◌, inl, inr, Bool, true, false, true≢false, List, [], ◌++◌, length, Option, refl, sym, ap, subst, append_assoc, length-append, arith}
 use Rattle.std.proofs.lemmas.List.{length-map}
+use Rattle.linda_wire.specs.declared.reply.Reply.{Reply}
 use Rattle.linda_state.specs.declared.deed.Deed.{Deed}
 use Rattle.linda_state.specs.State.{State}
 use Rattle.linda_state.specs.Proper.{AreDone}
@@ -13,7 +14,9 @@ use Rattle.linda_desk.specs.Order.{known, IsInOrder, IsReplayed, CountsDeeds, St
 use Rattle.linda_state.specs.Numbers.{kept_sum}
 use Rattle.linda_state.proofs.SumLaws.{sum_done}
 use Rattle.linda_state.proofs.JoinLaws.{joined_done}
+use Rattle.linda_desk.specs.Covered.{BoxesCovered}
 use Rattle.linda_desk.proofs.OrderLaws.{base_is, told_all}
+use Rattle.linda_desk.proofs.LostLaws.{boxes_behind}
 
 -- The deeds since the opening, as many as are counted.
 all_done : (opening base : State) (rs : List Receipt) (count : ℕ) (st : State) → (so : IsInOrder opening base rs count false st) → AreDone opening (so.earlier ++ deeds_in rs) st
@@ -71,17 +74,18 @@ sums_kept opening base rs count is_down before store is so =
     sum_done opening so.ranges many.deeds store.state many.done ∙ ap (λ n. kept_sum opening + n) many.counted
 
 -- While it is down.
-pub stands_behind : (opening base : State) (rs : List Receipt) (count : ℕ) (before : State) (lost : List Deed) (left right : List ℕ)
-    → IsInOrder opening base rs count true before → StandsAround before lost left right → StandsBehind base rs left right
-stands_behind opening base rs count before lost left right so around =
+pub stands_behind : (opening base : State) (rs : List Receipt) (count : ℕ) (before : State) (lost : List Deed) (waits : ℕ → Option (List Reply)) (left right : List ℕ)
+    → IsInOrder opening base rs count true before → BoxesCovered before waits → StandsAround before lost left right → StandsBehind base rs waits left right
+stands_behind opening base rs count before lost waits left right so covered around =
     elim around.stands [
-      | inl old ↦ record { untold = so.untold; state = before; done = so.to_state; stands = old }
+      | inl old ↦ record { untold = so.untold; state = before; done = so.to_state; stands = old; covered = covered }
       | inr new ↦ record {
         untold = so.untold ++ lost;
         state = around.new;
         done = subst (λ l. AreDone base l around.new) (append_assoc (deeds_in rs) so.untold lost)
             (joined_done base (base_is opening base rs count true before so) lost before around.new (deeds_in rs ++ so.untold) so.to_state around.done);
         stands = new;
+        covered = boxes_behind lost before around.new waits around.ranges around.done covered;
       }
     ]
 

@@ -4,6 +4,7 @@ pub mod FaultLaws
 pub mod ToldLaws
 pub mod BaseLaws
 pub mod CoveredLaws
+pub mod LostLaws
 pub mod AloneLaws
 pub mod GreetLaws
 pub mod TillLaws

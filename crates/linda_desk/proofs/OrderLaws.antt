@@ -124,6 +124,18 @@ has_told st soft ms served new then told is has told_is =
       sends_is = tells.sends;
     }
 
+-- As many deeds were done as are told of.
+pub deeds_told : (st : State) (soft : Soft) (ms : List (ℕ × Message)) (served : Served) (new : State) (then : Soft) (told : List (Option Receipt)) → IsState st → IsServed st soft ms served new then
+    → told ≡ told_by served.shares.items served.deeds.items served.sends.items → served.deeds.items ≡ deeds_in (receipts_in told)
+deeds_told st soft ms served new then told is has told_is =
+    let good : IsGood st [] has.answers new = all_good st is ms st new soft then [] has.answers (none_done st is) has.answered in
+    let tells = has.tells in
+    let same : told ≡ map receipt_of has.answers = told_is
+    ∙ (ap (λ l. told_by l served.deeds.items served.sends.items) tells.shares
+    ∙ (ap (λ l. told_by (map share_of has.answers) l served.sends.items) tells.deeds
+    ∙ (ap (λ l. told_by (map share_of has.answers) (deeds_of has.answers) l) tells.sends ∙ good.told))) in
+    tells.deeds ∙ (sym good.deeds ∙ sym (ap (λ l. deeds_in (receipts_in l)) same))
+
 -- ---- the laws above, for a server that is given by its fields
 
 -- Those who asked are told.

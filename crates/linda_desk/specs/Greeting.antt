@@ -19,14 +19,27 @@ use Rattle.linda_receipt.specs.Till.{Places, is_away, account_at, seats_out}
 abbrev pub told_why : Refusal → ℕ × ℕ
 told_why refusal = (code_of refusal, detail_of refusal)
 
+-- The reply welcomes.
+abbrev pub IsWelcome : Reply → Type 0
+IsWelcome (replies.Welcome last) = Unit {0}
+IsWelcome (replies.Refused code detail) = ⊥
+IsWelcome (replies.Stored n id) = ⊥
+IsWelcome (replies.Taken n id tuple) = ⊥
+IsWelcome (replies.Gone n) = ⊥
+IsWelcome (replies.Left n) = ⊥
+IsWelcome (replies.Offer ticket id tuple) = ⊥
+IsWelcome (replies.Read ticket id tuple) = ⊥
+
 -- A client whose seat is not out is greeted as the server says: it gets what was parked for it, or a new account,
--- and the number of its last request that is kept; or it is refused, also where no parts are left for an account.
+-- and the number of its last request that is kept; or it is refused, and also if the server welcomes it and no parts
+-- are left for an account.
 abbrev pub IsAdmitted : State → Places → ℕ → Bool → Result (Account × ℕ) (ℕ × ℕ) → Type 0
 IsAdmitted st ps client fresh (Ok got) =
     (greeting st client VERSION fresh ≡ replies.Welcome got.1) × (got.0 ≡ account_at client (map.get ps client))
 IsAdmitted st ps client fresh (Err why) =
     (greeting st client VERSION fresh ≡ replies.Refused why.0 why.1)
-    ⊎ ((why ≡ told_why refusals.TooManyClients) × (PARTS < ACCOUNT_PARTS * (seats_out ps + 1)))
+    ⊎ ((why ≡ told_why refusals.TooManyClients) × (PARTS < ACCOUNT_PARTS * (seats_out ps + 1))
+    × IsWelcome (greeting st client VERSION fresh))
 
 -- A Hello is refused for its version, then where its client's seat is out, then as the server says. Any other
 -- message is refused.

@@ -1,5 +1,6 @@
 -- What is always so of a server, the receipts that are kept of it, and the count of its deeds.
-use Rattle.std.specs.Prelude.{◌≡◌, ℕ, ◌+◌, Bool, false, List, [], ◌++◌, length, if◌then◌else◌}
+use Rattle.std.specs.Prelude.{◌≡◌, ℕ, ◌+◌, Bool, false, List, [], ◌++◌, length, Option, if◌then◌else◌}
+use Rattle.linda_wire.specs.declared.reply.Reply.{Reply}
 use Rattle.linda_state.specs.declared.deed.Deed.{Deed}
 use Rattle.linda_state.specs.State.{State, IsState}
 use Rattle.linda_state.specs.Proper.{AreDone}
@@ -7,6 +8,7 @@ use Rattle.linda_step.specs.Store.{Store}
 use Rattle.linda_snap.specs.Stands.{Stands}
 use Rattle.linda_receipt.specs.declared.receipt.Receipt.{Receipt}
 use Rattle.linda_receipt.specs.Receipts.{deeds_in, AreTrue}
+use Rattle.linda_desk.specs.Covered.{BoxesCovered}
 
 -- the state of a server; while it is down, the one before the call in which it went down
 abbrev pub known : State → Store → Bool → State
@@ -37,9 +39,12 @@ pub record CountsDeeds (opening : State) (count : ℕ) (state : State) : Type 0 
   pub done : AreDone opening deeds state
   pub counted : length deeds ≡ count
 
--- Two images represent the state after the receipts' deeds, and maybe others after them.
-pub record StandsBehind (base : State) (receipts : List Receipt) (left right : List ℕ) : Type 0 where
+-- Two images represent the state after the receipts' deeds, and maybe others after them. What waits in the outboxes is
+-- covered in that state.
+pub record StandsBehind (base : State) (receipts : List Receipt) (waits : ℕ → Option (List Reply))
+    (left right : List ℕ) : Type 0 where
   pub untold : List Deed
   pub state : State
   pub done : AreDone base (deeds_in receipts ++ untold) state
   pub stands : Stands left right state
+  pub covered : BoxesCovered state waits

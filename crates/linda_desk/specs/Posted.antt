@@ -1,5 +1,5 @@
 -- What messages lead to under the lock: what the server answers, what is told of it, and what waits in the outboxes.
-use Rattle.std.specs.Prelude.{◌≡◌, ℕ, ◌+◌, ◌≤◌, ◌^◌, ◌⊎◌, true, List, [], ◌∷◌, ◌++◌, length, map, reverse, take, Option, None}
+use Rattle.std.specs.Prelude.{◌≡◌, ◌≢◌, ℕ, ◌+◌, ◌<◌, ◌≤◌, ◌^◌, ◌⊎◌, true, List, [], ◌∷◌, ◌++◌, length, map, reverse, take, Option, None}
 use Rattle.linda_wire.specs.declared.message.Message.{Message}
 use Rattle.linda_wire.specs.declared.reply.Reply.{Reply}
 use Rattle.linda_wire.specs.declared.refusal.Refusal.{Refusal}
@@ -13,6 +13,7 @@ use Rattle.linda_promise.specs.Steps.{number_of_message, comes_next}
 use Rattle.linda_disk.specs.declared.disk.Disk.{Ghosts}
 use Rattle.linda_server.specs.declared.durable.Durable.{Durable}
 use Rattle.linda_server.specs.Handled.{HasNoRoomFor}
+use Rattle.linda_server.specs.Server.{IsPutOn}
 use Rattle.linda_outbox.specs.Replies.{replies_to, with_more}
 use Rattle.linda_receipt.specs.declared.receipt.Receipt.{Receipt}
 use Rattle.linda_receipt.specs.declared.told.Told.{Told}
@@ -45,11 +46,13 @@ module _ {D : Type 0} {g : Ghosts D} where
     pub posted_is : (c : ℕ) → posted c ≡ with_more (replies_to c ((m.0, refused refusal) ∷ [])) (old c)
     pub same : new ≡ s
 
-  -- These were answered in one step.
-  abbrev pub GoTogether : Durable D g → List (ℕ × Message) → List (Option Receipt) → (ℕ → Option (List Reply))
-      → (ℕ → Option (List Reply)) → Durable D g → Type 0
-  GoTogether s ms told old posted new =
-      HasPosted s.store.state s.store.soft ms told old posted new.store.state new.store.soft
+  -- These were answered in one step: where they did deeds, four device calls in all were made on the bank in use;
+  -- else no disk was touched.
+  pub record GoTogether (s : Durable D g) (ms : List (ℕ × Message)) (told : List (Option Receipt))
+      (old posted : ℕ → Option (List Reply)) (new : Durable D g) : Type 0 where
+    pub posts : HasPosted s.store.state s.store.soft ms told old posted new.store.state new.store.soft
+    pub idle : receipts_in told ≡ [] → new.disks ≡ s.disks
+    pub clock : 0 < length (receipts_in told) → IsPutOn s.disks new.disks
 
   -- One message by itself: it was answered, or refused.
   abbrev pub GoesAlone : Durable D g → ℕ → ℕ × Message → (ℕ → Option (List Reply)) → Option Receipt
@@ -93,6 +96,13 @@ module _ {D : Type 0} {g : Ghosts D} where
     pub taken : WereTaken s count ms told old_posted posted new
     pub receipts_are : receipts ≡ old_receipts ++ receipts_in told
     pub told_are : new_told ≡ old_told ++ reverse (map told_of told)
+
+-- The client was closed, and what is sent to the others is posted.
+pub record HasLeft (bag : Bagged) (client : ℕ) (soft : Soft) (old posted : ℕ → Option (List Reply)) (behind : Soft)
+    : Type 0 where
+  pub sends : List (ℕ × Reply)
+  pub closed : record { sends = sends; soft = behind } ≡ on_close bag client soft
+  pub posted_is : (c : ℕ) → c ≢ client → posted c ≡ with_more (replies_to c sends) (old c)
 
 -- The client was closed, and what is sent is posted.
 pub record HasClosed (bag : Bagged) (client : ℕ) (soft : Soft) (old posted : ℕ → Option (List Reply)) (behind : Soft)

@@ -14,12 +14,12 @@ mod serve;
 mod take;
 mod tell;
 
-ghost use Rattle.std.specs.Prelude.{◌≡◌, ℕ, ◌+◌, ◌^◌, ◌<◌, ◌≤◌, ◌++◌, [], true, false, length, map, reverse, replicate};
+ghost use Rattle.std.specs.Prelude.{◌≡◌, ◌⊎◌, ℕ, ◌+◌, ◌^◌, ◌<◌, ◌≤◌, ◌++◌, [], true, false, length, map, reverse, replicate};
 ghost use Rattle.std.specs.Prelude.{vec_len, vec_capacity, None, IfErr, OnOk, OnErr, IsErrOf};
 ghost use Rattle.linda_step.specs.declared.size.TheConstants.{MAX_BATCH};
 ghost use Rattle.linda_desk.specs.Order.{known, IsInOrder};
 ghost use Rattle.linda_desk.specs.Covered.{BoxesCovered};
-ghost use Rattle.linda_desk.specs.Pace.{pace_from};
+ghost use Rattle.linda_desk.specs.Pace.{pace_from, refused_for_room};
 ghost use Rattle.linda_desk.specs.Posted.{IsHandled, WentSome};
 ghost use Rattle.linda_outbox.specs.Waiting.{waits_for};
 ghost use Rattle.linda_server.specs.Handled.{HasNoRoomFor};
@@ -93,7 +93,13 @@ impl<D: Disk, L: Ledger> Held<D, L> {
         }
     }
 
-    /// Does what was asked, all in one call of the server, and writes into the ledger what each is told.
+    /// Does what was asked, and writes into the ledger what each is told: all in one call of the server, or one message
+    /// after another where it has no room for all of them, or the count of deeds could pass its last value.
+    ///
+    /// # Errors
+    ///
+    /// `Down` before all, and exactly where the server is down: nobody is told of a deed, and one that was down is as
+    /// before. `Memory`: nothing changed, but that a snapshot may be asked for.
     pub fn handle_all<A: Drop>(
         &mut self,
         alloc: Global,
@@ -119,14 +125,28 @@ impl<D: Disk, L: Ledger> Held<D, L> {
             × (self.new.count ≡ self.old.count)) }
         ensures some { OnErr result (WentSome self.old.server self.old.count messages.now
             (waits_for self.old.boxes) (waits_for self.new.boxes)) }
+        // It is down exactly where the server is, and that before all else; where memory ran out nothing changed.
+        ensures up { OnOk result ((self.old.server.down ≡ false) × (self.new.server.down ≡ false)) }
         ensures down { IsErrOf result SharedFault.Down → self.new.server.down ≡ true }
+        ensures first { self.old.server.down ≡ true → IsErrOf result SharedFault.Down
+            × (self.new.server ≡ self.old.server) × (self.new.boxes ≡ self.old.boxes) }
+        ensures memory { IsErrOf result SharedFault.Memory → (self.new.server ≡ self.old.server)
+            × (self.new.boxes ≡ self.old.boxes) × (self.old.server.down ≡ false) }
+        ensures fault { IfErr result (λ fault. (fault ≡ SharedFault.Down) ⊎ (fault ≡ SharedFault.Memory)) }
         ensures failed { IfErr result (λ fault. map (λ a. a.told) answered.new.items
             ≡ map (λ a. a.told) answered.old.items ++ replicate (vec_len asked.old) (Told.Failed fault)) }
         ensures base { (self.new.base.value ≡ self.old.base.value) × (self.new.opening.value ≡ self.old.opening.value) }
+        // No seat comes or goes.
+        ensures places { self.new.till.places ≡ self.old.till.places }
+        ensures recall { self.new.recall ≡ self.old.recall }
         // Where the server has no room for all of them, a snapshot is tried once there is a record that the last try did
         // not find.
         ensures lacks { OnOk result (self.old.count + length messages.now < 2 ^ 64
             → HasNoRoomFor self.old.server messages.now → self.new.pace.lacks_room ≡ true) }
+        ensures pace { (self.new.pace ≡ self.old.pace)
+            ⊎ (self.new.pace ≡ refused_for_room self.old.pace) }
+        ensures unasked { (HasNoRoomFor self.old.server messages.now → ⊥)
+            → self.new.pace ≡ self.old.pace }
     {
         let _ = self.is_down();
         let Held {

@@ -1,3 +1,4 @@
 pub mod CauseLaws
+mod KnownLaws
 mod MemDiskLaws
 pub mod RunLaws

@@ -13,7 +13,7 @@ use Rattle.linda_disk.specs.HistoryLaws.{left_kept}
 use Rattle.linda_disk.specs.MemDisk.{view, answer_at, history_at, GoesBy}
 
 -- A sync on record.
-synced : (h : History) → fits h ≡ true → Syncs {T = Unit {0}} (Ok tt) (view_of h) (view_of (after Sync h))
+pub synced : (h : History) → fits h ≡ true → Syncs {T = Unit {0}} (Ok tt) (view_of h) (view_of (after Sync h))
 synced h fit = record {
   seen = refl;
   durable = λ image is. is;

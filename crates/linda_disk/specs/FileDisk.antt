@@ -1,21 +1,18 @@
 -- A file of the operating system, as clauses speak of it.
-use Rattle.std.specs.Prelude.{ℕ, []}
+use Rattle.std.specs.Prelude.{ℕ}
 use Rattle.linda_disk.specs.declared.file_disk.FileDisk.{FileDisk}
 use Rattle.linda_disk.specs.View.{View}
+use Rattle.linda_disk.specs.History.{History, view_of}
+use Rattle.linda_disk.specs.Known as known
 
--- The premise that a file meets the model of a disk. Nothing in the logic says what a file holds, so it
--- has no proof: what holds under it is what holds of each honest disk.
-pub data FileMeetsTheModel : Type 0 where
+-- what it held when it was made, and the calls since
+abbrev pub history : FileDisk → History
+history disk = known.history disk.known
 
 -- how often it has failed
 abbrev pub failures : FileDisk → ℕ
 failures disk = disk.failures
 
--- The view that stands where one is asked for. Nothing is known of it but what the premise gives.
-abbrev pub unknown : View
-unknown = record {
-  seen = [];
-  may_leave = λ image. FileMeetsTheModel;
-  moment = 0;
-  left_since = λ t image. FileMeetsTheModel;
-}
+-- the disk at this moment
+abbrev pub view : FileDisk → View
+view disk = view_of (history disk)

@@ -6,4 +6,6 @@ pub mod History
 pub mod HistoryLaws
 pub mod Trouble
 pub mod MemDisk
+pub mod Past
+pub mod Known
 pub mod FileDisk

@@ -4,7 +4,7 @@
 //! `Disk` says of each call what a read gives after it and what a crash may leave after it, in the words
 //! of `specs/View`, `specs/Image` and `specs/Disk`; `docs/DISK.md` of the repository holds them against
 //! the model of a disk. `MemDisk` meets it, and comes out of a crash in each of the three ways of `Torn`.
-//! `FileDisk` meets it by a premise that has no proof.
+//! `FileDisk` is a file of the operating system, of which it keeps a record of what it read and of its calls.
 #![tactic(auto)]
 
 mod call;
@@ -13,8 +13,10 @@ mod fault;
 mod file_disk;
 mod file_trouble;
 mod history;
+mod known;
 mod mem_disk;
 mod overlay;
+mod past;
 mod redo;
 mod torn;
 mod trouble;

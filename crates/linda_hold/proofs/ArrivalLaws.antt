@@ -8,8 +8,8 @@ use Rattle.std.specs.List.{AllByRecursion}
 use Rattle.std.specs.List.Sorted.{IsStrictlySortedBy}
 use Rattle.linda_bag.specs.Filing.{Rows, IsShelved}
 use Rattle.linda_hold.specs.declared.asked.Asked.{Asked}
-use Rattle.linda_hold.specs.declared.numbers.Numbers.{Numbers}
-use Rattle.linda_hold.specs.Numbers.{IsOf, has_any}
+use Rattle.linda_bag.specs.declared.ids.Ids.{Ids}
+use Rattle.linda_bag.specs.Ids.{IsOf, has_any}
 use Rattle.linda_hold.specs.Arrivals.{has_in}
 use Rattle.linda_hold.proofs.NameLaws.{number_told}
 use Rattle.linda_hold.proofs.ListLaws.{weaker}
@@ -70,6 +70,6 @@ module _ (n : ℕ) where
           ∙ either (is_eq (nat_cmp q n)) (is_eq (nat_cmp q k)) (has_in ks q)
 
 -- What was found has the numbers of these requests.
-pub found_any : (found : Option Numbers) (asked : Rows Asked) → IsShelved IsOf found asked → (q : ℕ) → has_any found q ≡ is_some (asked q)
+pub found_any : (found : Option Ids) (asked : Rows Asked) → IsShelved IsOf found asked → (q : ℕ) → has_any found q ≡ is_some (asked q)
 found_any None asked bare q = sym (ap is_some (bare q))
 found_any (Some numbers) asked known q = known.0 q

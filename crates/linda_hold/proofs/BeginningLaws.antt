@@ -1,91 +1,17 @@
--- Requests by the values that their templates begin with, and those whose templates begin with none.
-use Rattle.std.proofs.Common.{◌≡◌, ℕ, ℤ, arith, Bool, true, false, cond, ◌↔◌, List, [], ◌∷◌, Option, None, Some, is_some, length, refl, sym, ap, subst, ◌∙◌, nat_cmp, true≢false, BTreeMap}
-use Rattle.std.specs.declared.cmp.Ordering.{Ordering}
-use Rattle.std.specs.Ordering.{is_eq, int_cmp}
-use Rattle.std.specs.Cmp.{int_cmp_total}
-use Rattle.std.specs.Map.{lookup}
-use Rattle.std.specs.BTreeMap as tree
-use Rattle.std.specs.BTreeMap.{is_at}
+-- Requests whose templates begin with a value, and those whose templates begin with none.
+use Rattle.std.proofs.Common.{◌≡◌, ℕ, Bool, true, false, cond, Option, None, Some, is_some, refl, ◌∙◌, nat_cmp}
+use Rattle.std.specs.Ordering.{is_eq}
 use Rattle.std.specs.BTreeSet.{BTreeSet, contains}
 use Rattle.linda_tuple.specs.declared.atom.Atom.{Atom}
-use Rattle.linda_tuple.specs.declared.atom.Atom.TheVariants as atoms
-use Rattle.linda_tuple.specs.contracts.atom.AtomOrd.TheImpl as atom_ord
-use Rattle.linda_bag.specs.Filing.{Rows, with_row, HasIds, IsBare, IsShelved, IsFiled, row_at, placed, keyed}
-use Rattle.linda_bag.proofs.FilingLaws.{key_itself}
-use Rattle.linda_bag.proofs.OrderLaws.{atom_itself}
+use Rattle.linda_bag.specs.Filing.{Rows, with_row, HasIds}
+use Rattle.linda_bag.specs.Firsts.{if_keyed, keyed_in}
 use Rattle.linda_bag.proofs.NotedLaws.{noted_with}
 use Rattle.linda_hold.specs.declared.asked.Asked.{Asked}
-use Rattle.linda_hold.specs.declared.firsts.Firsts.{Firsts}
-use Rattle.linda_hold.specs.Numbers.{IsOf}
-use Rattle.linda_hold.specs.Firsts.{HasFirsts, first_of, int_in, int_of, other_in, other_of, if_keyed, keyed_in, keyed_of}
+use Rattle.linda_hold.specs.Firsts.{first_of}
 use Rattle.linda_hold.specs.Group.{if_unkeyed, unkeyed_at, unkeyed_of}
 
--- What begins with an integer begins with nothing else.
-no_other_in : (first : Option Atom) (asked : Asked) (int : ℤ × Asked) → Some int ≡ keyed (int_in first) asked → None ≡ keyed (other_in first) asked
-no_other_in None asked int is = refl
-no_other_in (Some (atoms.Int n)) asked int is = refl
-no_other_in (Some (atoms.Text t)) asked int is = absurd (true≢false (ap is_some is))
-no_other_in (Some (atoms.Bool b)) asked int is = absurd (true≢false (ap is_some is))
-
-pub no_other : (asked : Asked) (int : ℤ × Asked) → Some int ≡ placed int_of (Some asked) → None ≡ placed other_of (Some asked)
-no_other asked = no_other_in (first_of asked) asked
-
--- A map without keys has no row that has one, and the other way round.
-module _ {K S T : Type 0} (cmp : K → K → Ordering) (itself : (k : K) → is_eq (cmp k k) ≡ true) (Has : S → Rows T → Type 0) (key_of : T → Option K) (m : BTreeMap K S) (rows : Rows T) (filed : IsFiled cmp Has key_of m rows) where
-  none_under : (es : List (K × S)) → length es ≡ 0 → (q : K) → lookup (is_at (cmp q)) es ≡ None
-  none_under [] none q = refl
-  none_under (e ∷ es) none q = absurd (omega arith)
-
-  no_entries : (es : List (K × S)) → ((q : K) → lookup (is_at (cmp q)) es ≡ None) → length es ≡ 0
-  no_entries [] none = refl
-  no_entries (e ∷ es) none =
-      let found : lookup (is_at (cmp e.0)) (e ∷ es) ≡ Some e.1 = ap (λ b. cond b (Some e.1) (lookup (is_at (cmp e.0)) es)) (itself e.0) in
-      absurd (true≢false (ap is_some (sym found ∙ none e.0)))
-
-  shelf_none : (o : Option S) (part : Rows T) → IsBare part → IsShelved Has o part → o ≡ None
-  shelf_none None part bare known = refl
-  shelf_none (Some shelf) part bare known = absurd (known.1 bare)
-
-  pub unplaced : length m.entries ≡ 0 → (id : ℕ) → placed key_of (rows id) ≡ None
-  unplaced none id = by (placed key_of (rows id)) refl
-    where
-      by : (o : Option (K × T)) → placed key_of (rows id) ≡ o → o ≡ None
-      by None is = refl
-      by (Some place) is =
-          let gone : row_at cmp place.0 (placed key_of (rows id)) ≡ None = subst (λ o. IsShelved Has o (λ x. row_at cmp place.0 (placed key_of (rows x)))) (none_under m.entries none place.0) (filed place.0) id in
-          let here : row_at cmp place.0 (placed key_of (rows id)) ≡ Some place.1 = ap (row_at cmp place.0) is ∙ ap (λ b. cond b (Some place.1) None) (itself place.0) in
-          absurd (true≢false (ap is_some (sym here ∙ gone)))
-
-  pub no_keys : ((id : ℕ) → placed key_of (rows id) ≡ None) → length m.entries ≡ 0
-  no_keys bare = no_entries m.entries (λ q. shelf_none (tree.get cmp m q) _ (λ id. ap (row_at cmp q) (bare id)) (filed q))
-
-unplaced_either : (o : Option Asked) → placed int_of o ≡ None → placed other_of o ≡ None → keyed_in o ≡ None
-unplaced_either None int other = refl
-unplaced_either (Some asked) int other = by (first_of asked) int other
-  where
-    by : (first : Option Atom) → keyed (int_in first) asked ≡ None → keyed (other_in first) asked ≡ None → if_keyed first asked ≡ None
-    by None int other = refl
-    by (Some (atoms.Int n)) int other = absurd (true≢false (ap is_some int))
-    by (Some (atoms.Text t)) int other = absurd (true≢false (ap is_some other))
-    by (Some (atoms.Bool b)) int other = absurd (true≢false (ap is_some other))
-
-neither : (o : Option Asked) → keyed_in o ≡ None → (placed int_of o ≡ None) × (placed other_of o ≡ None)
-neither None none = (refl, refl)
-neither (Some asked) none = by (first_of asked) none
-  where
-    by : (first : Option Atom) → if_keyed first asked ≡ None → (keyed (int_in first) asked ≡ None) × (keyed (other_in first) asked ≡ None)
-    by None none = (refl, refl)
-    by (Some v) none = absurd (true≢false (ap is_some none))
-
--- Where there are no keys, no template begins with a value.
-pub firsts_bare : (firsts : Firsts) (asked : Rows Asked) → HasFirsts firsts asked → ((length firsts.ints.entries ≡ 0) × (length firsts.others.entries ≡ 0)) ↔ IsBare (keyed_of asked)
-firsts_bare firsts asked has = (
-  (λ none id. unplaced_either (asked id) (unplaced int_cmp (key_itself int_cmp_total) IsOf int_of firsts.ints asked has.0 none.0 id) (unplaced atom_ord.ghosts.cmp atom_itself IsOf other_of firsts.others asked has.1 none.1 id)),
-  (λ bare. (no_keys int_cmp (key_itself int_cmp_total) IsOf int_of firsts.ints asked has.0 (λ id. (neither (asked id) (bare id)).0), no_keys atom_ord.ghosts.cmp atom_itself IsOf other_of firsts.others asked has.1 (λ id. (neither (asked id) (bare id)).1))),
-)
-
 -- There is no request where there is none that begins with a value, and none that begins with no value.
-pub no_request : (o : Option Asked) → keyed_in o ≡ None → unkeyed_at o ≡ None → o ≡ None
+pub no_request : (o : Option Asked) → keyed_in first_of o ≡ None → unkeyed_at o ≡ None → o ≡ None
 no_request None keyed unkeyed = refl
 no_request (Some asked) keyed unkeyed = by (first_of asked) keyed unkeyed
   where
@@ -98,50 +24,3 @@ pub unkeyed_with : (old new : BTreeSet ℕ) (asked : Rows Asked) (id : ℕ) (o :
 unkeyed_with old new asked id o b has changed same q =
     noted_with (contains nat_cmp old) (contains nat_cmp new) (unkeyed_of asked) id has b (unkeyed_at o) changed same q
     ∙ elim (is_eq (nat_cmp id q)) as (λ t. is_some (cond t (unkeyed_at o) (unkeyed_at (asked q))) ≡ is_some (unkeyed_at (cond t o (asked q)))) [ true ↦ refl | false ↦ refl ]
-
--- A request that begins with no value is filed under none.
-pub unfiled : (firsts : Firsts) (asked : Rows Asked) (id : ℕ) (new : Asked) → first_of new ≡ None → HasFirsts firsts (with_row asked id None) → HasFirsts firsts (with_row asked id (Some new))
-unfiled firsts asked id new none has = (
-  (λ q. subst (IsShelved IsOf (tree.get int_cmp firsts.ints q)) (λ j. λ x. same int_cmp int_of (ap (λ f. keyed (int_in f) new) none) q x j) (has.0 q)),
-  (λ q. subst (IsShelved IsOf (tree.get atom_ord.ghosts.cmp firsts.others q)) (λ j. λ x. same atom_ord.ghosts.cmp other_of (ap (λ f. keyed (other_in f) new) none) q x j) (has.1 q)),
-)
-  where
-    same : {K : Type 0} (cmp : K → K → Ordering) (key_of : Asked → Option K) → placed key_of (Some new) ≡ None → (q : K) (x : ℕ) → row_at cmp q (placed key_of (with_row asked id None x)) ≡ row_at cmp q (placed key_of (with_row asked id (Some new) x))
-    same cmp key_of off q x =
-        elim (is_eq (nat_cmp id x)) as (λ t. row_at cmp q (placed key_of (cond t None (asked x))) ≡ row_at cmp q (placed key_of (cond t (Some new) (asked x)))) [
-          | true ↦ ap (row_at cmp q) (sym off)
-          | false ↦ refl
-        ]
-
--- A truth value that stands first is no integer.
-pub bool_first : (b : Bool) (o : Option Asked) → row_at atom_ord.ghosts.cmp (atoms.Bool b) (placed other_of o) ≡ row_at atom_ord.ghosts.cmp (atoms.Bool b) (placed first_of o)
-bool_first b None = refl
-bool_first b (Some asked) = by (first_of asked)
-  where
-    by : (first : Option Atom) → row_at atom_ord.ghosts.cmp (atoms.Bool b) (keyed (other_in first) asked) ≡ row_at atom_ord.ghosts.cmp (atoms.Bool b) (keyed first asked)
-    by None = refl
-    by (Some (atoms.Int n)) = refl
-    by (Some (atoms.Text t)) = refl
-    by (Some (atoms.Bool c)) = refl
-
--- Nor is a text.
-pub text_first : (t : List ℕ) (o : Option Asked) → row_at atom_ord.ghosts.cmp (atoms.Text t) (placed other_of o) ≡ row_at atom_ord.ghosts.cmp (atoms.Text t) (placed first_of o)
-text_first t None = refl
-text_first t (Some asked) = by (first_of asked)
-  where
-    by : (first : Option Atom) → row_at atom_ord.ghosts.cmp (atoms.Text t) (keyed (other_in first) asked) ≡ row_at atom_ord.ghosts.cmp (atoms.Text t) (keyed first asked)
-    by None = refl
-    by (Some (atoms.Int n)) = refl
-    by (Some (atoms.Text u)) = refl
-    by (Some (atoms.Bool b)) = refl
-
--- An integer that stands first is found as itself.
-pub int_first : (n : ℤ) (o : Option Asked) → row_at int_cmp n (placed int_of o) ≡ row_at atom_ord.ghosts.cmp (atoms.Int n) (placed first_of o)
-int_first n None = refl
-int_first n (Some asked) = by (first_of asked)
-  where
-    by : (first : Option Atom) → row_at int_cmp n (keyed (int_in first) asked) ≡ row_at atom_ord.ghosts.cmp (atoms.Int n) (keyed first asked)
-    by None = refl
-    by (Some (atoms.Int m)) = refl
-    by (Some (atoms.Text t)) = refl
-    by (Some (atoms.Bool b)) = refl

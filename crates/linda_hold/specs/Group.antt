@@ -7,7 +7,8 @@ use Rattle.linda_tuple.specs.contracts.atom.AtomOrd.TheImpl as atom_ord
 use Rattle.linda_bag.specs.Filing.{Rows, HasIds, row_at, placed}
 use Rattle.linda_hold.specs.declared.asked.Asked.{Asked}
 use Rattle.linda_hold.specs.declared.group.Group.{Group}
-use Rattle.linda_hold.specs.Firsts.{HasFirsts, first_of}
+use Rattle.linda_bag.specs.Firsts.{HasFirsts}
+use Rattle.linda_hold.specs.Firsts.{first_of}
 
 -- the request, if its template begins with no value
 abbrev pub if_unkeyed : Option Atom → Asked → Option Asked
@@ -33,4 +34,4 @@ is_reached first asked = is_some (keyed_at first asked) || is_some (unkeyed_at a
 -- Each number is filed under the value that the template of its request begins with, or is with the others.
 abbrev pub HasGroup : Group → Rows Asked → Type 0
 HasGroup group asked =
-    HasFirsts group.firsts asked × HasIds group.unkeyed (unkeyed_of asked)
+    HasFirsts first_of group.firsts asked × HasIds group.unkeyed (unkeyed_of asked)

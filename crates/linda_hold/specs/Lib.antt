@@ -5,7 +5,6 @@ pub mod Named
 pub mod Heads
 pub mod Index
 pub mod Codes
-pub mod Numbers
 pub mod Arrivals
 pub mod Firsts
 pub mod Group

@@ -6,10 +6,10 @@ ghost use Rattle.std.specs.Ordering.{nat_cmp};
 ghost use Rattle.std.specs.List.{cons_option};
 ghost use Rattle.std.specs.List.Sorted.{IsStrictlySortedBy};
 ghost use Rattle.std.specs.BTreeSet.{contains};
-ghost use Rattle.linda_hold.specs.Numbers.{has_any};
+ghost use Rattle.linda_bag.specs.Ids.{has_any};
 ghost use Rattle.linda_hold.specs.Arrivals.{left_in, has_in};
 
-use crate::numbers::Numbers;
+use linda_bag::Ids;
 use std::cmp::Ordering;
 use std::collections::BTreeSet;
 use std::collections::btree_set::{Iter, Union};
@@ -43,7 +43,7 @@ impl<'a> Arrivals<'a> {
     }
 
     /// The numbers of both sets.
-    pub(crate) fn new(keyed: Option<&'a Numbers>, unkeyed: &'a BTreeSet<u64>) -> Arrivals<'a>
+    pub(crate) fn new(keyed: Option<&'a Ids>, unkeyed: &'a BTreeSet<u64>) -> Arrivals<'a>
         ensures ordered { IsStrictlySortedBy nat_cmp result }
         ensures has { (q : ℕ) → has_in result q
             ≡ (has_any (option_copied keyed.entry) q || contains nat_cmp unkeyed.now q) }
@@ -55,15 +55,15 @@ impl<'a> Arrivals<'a> {
             };
         };
         match numbers {
-            Numbers::Nothing => Arrivals {
+            Ids::Nothing => Arrivals {
                 one: None,
                 others: Ahead::new(Rest::One(unkeyed.iter())),
             },
-            Numbers::One(only) => Arrivals {
+            Ids::One(only) => Arrivals {
                 one: Some(*only),
                 others: Ahead::new(Rest::One(unkeyed.iter())),
             },
-            Numbers::Many(many) => Arrivals {
+            Ids::Many(many) => Arrivals {
                 one: None,
                 others: Ahead::new(Rest::Both(many.union(unkeyed))),
             },

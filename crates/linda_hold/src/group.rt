@@ -12,8 +12,7 @@ ghost use Rattle.linda_hold.specs.Group.{HasGroup, is_reached};
 
 use crate::arrivals::Arrivals;
 use crate::asked::Asked;
-use crate::firsts::Firsts;
-use linda_bag::Shelf;
+use linda_bag::{Firsts, Shelf};
 use linda_tuple::Atom;
 use std::alloc::{AllocError, Global};
 use std::collections::BTreeSet;
@@ -34,7 +33,7 @@ impl Group {
             → has_in result q ≡ is_reached (option_copied first.entry) (asked q) }
     {
         match first {
-            Some(first) => Arrivals::new(self.firsts.get(first), &self.unkeyed),
+            Some(first) => Arrivals::new(self.firsts.get::<Asked>(first), &self.unkeyed),
             None => Arrivals::new(None, &self.unkeyed),
         }
     }
@@ -47,7 +46,7 @@ impl Shelf<Asked> for Group {
 
     fn empty(alloc: Global) -> Group {
         Group {
-            firsts: Firsts::empty(alloc),
+            firsts: Firsts::empty::<Asked>(alloc),
             unkeyed: BTreeSet::new(alloc),
         }
     }
@@ -79,6 +78,6 @@ impl Shelf<Asked> for Group {
     }
 
     fn is_empty(&self) -> bool {
-        self.firsts.is_empty() && self.unkeyed.is_empty()
+        self.firsts.is_empty::<Asked>() && self.unkeyed.is_empty()
     }
 }

@@ -23,9 +23,13 @@ pub(crate) type Wait = (Request, Asked);
 pub(crate) type Heads = linda_bag::Heads<Group>;
 
 impl Headed for Asked {
+    ghost use Rattle.linda_bag.specs.Candidates.{first_value};
+
     ghost tag_of = { λ asked. asked.template.tag };
 
     ghost count_of = { λ asked. length asked.template.fields };
+
+    ghost first_of = { λ asked. first_value asked.template.fields };
 
     fn tag(&self) -> &Atom {
         self.template.tag()
@@ -33,6 +37,10 @@ impl Headed for Asked {
 
     fn count(&self) -> usize {
         self.template.fields().len()
+    }
+
+    fn first(&self) -> Option<&Atom> {
+        self.first()
     }
 }
 

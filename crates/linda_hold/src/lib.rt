@@ -11,13 +11,11 @@
 mod arrivals;
 mod asked;
 mod awaiting;
-mod firsts;
 mod group;
 mod heads;
 mod holds;
 mod index;
 mod names;
-mod numbers;
 mod request;
 mod waits;
 

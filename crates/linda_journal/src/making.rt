@@ -2,7 +2,7 @@
 
 ghost use Rattle.std.specs.Prelude.{◌≡◌, ◌<◌, ◌≤◌, ◌+◌, ◌^◌, ◌++◌, ◌∷◌, [], ◌↔◌, ℕ, List, length};
 ghost use Rattle.std.specs.Prelude.{IfOk, IfErr, OnOk, IsErrOf};
-ghost use Rattle.linda_codec.specs.Formats.{number};
+ghost use Rattle.linda_codec.specs.Formats.{number, short_number};
 ghost use Rattle.linda_state.specs.DeedFormat.{written};
 ghost use Rattle.linda_disk.specs.View.{IsDurable};
 ghost use Rattle.linda_disk.specs.Disk.{TellsFailures};
@@ -14,6 +14,7 @@ ghost use Rattle.linda_journal.specs.Bank.{magic, behind_gate};
 use crate::fault::BankFault;
 use crate::gate::{lay_gate, open_gate, stage};
 use crate::kinds::CLOSED;
+use crate::limits::MIN_BYTES;
 use crate::record::as_length;
 use linda_disk::Disk;
 use linda_state::BANK_FORM;
@@ -26,12 +27,26 @@ pub fn spell_front(alloc: Global, generation: u64, body: &[u8]) -> Result<Vec<u8
     requires { length body.now < 2 ^ 32 }
     ensures { IfOk result (λ v. v.items ≡ behind_gate written generation body.now ++ CLOSED ∷ []) }
 {
-    let len = as_length(body.len());
-    let mut out = Vec::new(alloc);
-    push_heading(BANK_FORM, &mut out, generation)?;
-    out.extend_from_slice(&len.to_be_bytes())?;
+    let mut out = spell_heading(alloc, generation, body.len())?;
     out.extend_from_slice(body)?;
     out.push(CLOSED)?;
+    Ok(out)
+}
+
+/// What a new bank, which is in `BANK_FORM`, has between its first gate and a body of so many bytes. There is room for
+/// the body and the closed gate behind it, so a body that is spelled there is in memory once.
+///
+/// # Errors
+///
+/// `AllocError` if memory runs out.
+pub fn spell_heading(alloc: Global, generation: u64, len: usize) -> Result<Vec<u8>, AllocError>
+    requires { len < 2 ^ 32 }
+    ensures { IfOk result (λ v. v.items
+        ≡ magic written ++ (number.spell generation ++ short_number.spell len)) }
+{
+    let mut out = Vec::with_capacity(alloc, MIN_BYTES + len)?;
+    push_heading(BANK_FORM, &mut out, generation)?;
+    out.extend_from_slice(&as_length(len).to_be_bytes())?;
     Ok(out)
 }
 

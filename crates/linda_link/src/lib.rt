@@ -7,10 +7,16 @@
 //! Every call that waits for nobody ends. What goes over a socket no contract can say: tests over sockets show it.
 #![tactic(auto)]
 
+mod arrivals;
+mod course;
+mod fault;
 mod inbox;
 mod link;
 mod proxy;
 
-pub use inbox::{Arrival, Inbox};
-pub use link::{FIRST_TRIES, Link, MAX_TRIES};
-pub use proxy::{Proxy, ProxyFault, end, send};
+pub use arrivals::Arrival;
+pub use course::{FIRST_TRIES, MAX_TRIES};
+pub use fault::ProxyFault;
+pub use inbox::Inbox;
+pub use link::Link;
+pub use proxy::{Proxy, end, send};

@@ -1,21 +1,18 @@
 //! The connection of a client to one of its servers, greeted again where it was lost.
 
-use crate::inbox::{Arrival, Inbox};
-use crate::proxy::{Proxy, ProxyFault, end, send};
-use linda_wire::{Message, Refusal};
+ghost use Rattle.std.specs.Prelude.{◌≡◌};
+
+use crate::arrivals::Arrival;
+use crate::course::{Course, Next, arrival_of};
+use crate::fault::ProxyFault;
+use crate::inbox::Inbox;
+use crate::proxy::{Proxy, end, send};
+use linda_wire::Message;
 use std::alloc::{AllocError, Global};
 use std::net::{Net, TcpStream};
 use std::sync::{Mutex, Wait};
 use std::thread;
 use std::time::{Clock, Duration};
-
-/// How often a server is greeted whose connection was lost, a millisecond apart. A refusal Busy is a try too: the
-/// server may not have seen yet that the old connection ended.
-pub const MAX_TRIES: u32 = 10_000;
-
-/// How often a server is greeted first for a client that was used before, a millisecond apart, while it says that the
-/// client has another connection.
-pub const FIRST_TRIES: u32 = 2_000;
 
 /// How often it is looked whether a server that was given up is to be tried again, in milliseconds apart.
 const LOOK: u64 = 10;
@@ -42,21 +39,15 @@ struct Line {
     is_greeted: bool,
 }
 
-// How the tries to greet a server end.
-#[derive(Drop)]
-enum Tried {
-    // It welcomed the client.
-    Met(Proxy),
-    // It is given up for good, or nobody takes any more.
-    Over,
-    // There is no connection. A Hello may have reached the server.
-    Lost,
-}
-
 impl Link {
     /// No connection yet, to the server of this number, which listens on this port; of a client that was never used
     /// before, or of one that goes on.
-    pub fn new(server: u32, port: u16, client: u32, fresh: bool) -> Link {
+    pub fn new(server: u32, port: u16, client: u32, fresh: bool) -> Link
+        ensures server { result.server ≡ server }
+        ensures port { result.port ≡ port }
+        ensures client { result.client ≡ client }
+        ensures fresh { result.fresh ≡ fresh }
+    {
         Link {
             server,
             port,
@@ -116,21 +107,46 @@ impl Link {
         alloc: Global,
         inbox: &Inbox,
     ) {
-        match self.meet(rt, alloc, inbox) {
-            Tried::Met(proxy) => self.follow(rt, alloc, inbox, proxy),
-            Tried::Over => return,
-            Tried::Lost => {}
-        }
+        let mut course = Course::new(self.fresh);
         for _ in rt.forever() {
-            match self.connect(rt, alloc, inbox) {
-                Tried::Met(proxy) => self.follow(rt, alloc, inbox, proxy),
-                Tried::Over => return,
-                Tried::Lost => {
-                    inbox.bring(rt, self.server, Arrival::NoConnection);
-                    if !self.wait_retry(rt, inbox) {
+            if inbox.is_over(rt) {
+                return;
+            }
+            match self.greet(rt, alloc, inbox, course.says_fresh()) {
+                Ok(proxy) => {
+                    course.welcome();
+                    self.follow(rt, alloc, inbox, proxy);
+                }
+                Err(fault) => {
+                    self.let_go(rt);
+                    if !self.goes_on(rt, inbox, course.fail(fault), fault) {
                         return;
                     }
                 }
+            }
+        }
+    }
+
+    // Waits for the next greeting after one that failed so. Whether there is to be one.
+    fn goes_on<R: Wait + Clock>(
+        &self,
+        rt: &R,
+        inbox: &Inbox,
+        next: Next,
+        fault: ProxyFault,
+    ) -> bool {
+        match next {
+            Next::Again => {
+                thread::sleep(rt, Duration::from_millis(1));
+                true
+            }
+            Next::Later => {
+                inbox.bring(rt, self.server, Arrival::NoConnection);
+                self.wait_retry(rt, inbox)
+            }
+            Next::Over => {
+                inbox.bring(rt, self.server, arrival_of(fault));
+                false
             }
         }
     }
@@ -178,62 +194,6 @@ impl Link {
         }
     }
 
-    // The first greeting. It is tried again only while the server says that a client that goes on has another connection.
-    fn meet<R: Net<Stream = TcpStream> + Wait + Clock>(
-        &self,
-        rt: &R,
-        alloc: Global,
-        inbox: &Inbox,
-    ) -> Tried {
-        for tries in 1..=FIRST_TRIES {
-            if inbox.is_over(rt) {
-                return Tried::Over;
-            }
-            match self.greet(rt, alloc, inbox, self.fresh) {
-                Ok(proxy) => return Tried::Met(proxy),
-                Err(ProxyFault::Lost) => {
-                    self.let_go(rt);
-                    return Tried::Lost;
-                }
-                Err(fault) => {
-                    self.let_go(rt);
-                    if self.fresh || tries == FIRST_TRIES || !is_busy(fault) {
-                        inbox.bring(rt, self.server, first_fault(fault));
-                        return Tried::Over;
-                    }
-                }
-            }
-            thread::sleep(rt, Duration::from_millis(1));
-        }
-        Tried::Over
-    }
-
-    // A connection that the server welcomed again.
-    fn connect<R: Net<Stream = TcpStream> + Wait + Clock>(
-        &self,
-        rt: &R,
-        alloc: Global,
-        inbox: &Inbox,
-    ) -> Tried {
-        for _ in 0..MAX_TRIES {
-            if inbox.is_over(rt) {
-                return Tried::Over;
-            }
-            match self.greet(rt, alloc, inbox, false) {
-                Ok(proxy) => return Tried::Met(proxy),
-                Err(fault) => {
-                    self.let_go(rt);
-                    if let Some(arrival) = given_up(fault) {
-                        inbox.bring(rt, self.server, arrival);
-                        return Tried::Over;
-                    }
-                }
-            }
-            thread::sleep(rt, Duration::from_millis(1));
-        }
-        Tried::Lost
-    }
-
     // One greeting. The connection can be ended from outside before it is waited for: whoever ends all says so in the
     // inbox first.
     fn greet<R: Net<Stream = TcpStream> + Wait>(
@@ -269,37 +229,5 @@ impl Link {
     // There is no connection any more.
     fn let_go(&self, rt: &impl Wait) {
         *self.line.lock(rt) = None;
-    }
-}
-
-// Whether the server says that the client has another connection.
-fn is_busy(fault: ProxyFault) -> bool {
-    match fault {
-        ProxyFault::Refused(code, _) => code == Refusal::Busy.code(),
-        _ => false,
-    }
-}
-
-// What is brought if the first greeting failed so.
-fn first_fault(fault: ProxyFault) -> Arrival {
-    match fault {
-        ProxyFault::Refused(code, detail) => Arrival::Refused(code, detail),
-        ProxyFault::Memory => Arrival::Memory,
-        ProxyFault::Unreachable | ProxyFault::Lost => Arrival::NoConnection,
-    }
-}
-
-// What is brought if a later greeting failed so that the server is given up; none if it is to be tried again.
-fn given_up(fault: ProxyFault) -> Option<Arrival> {
-    match fault {
-        ProxyFault::Refused(code, detail) => {
-            if code == Refusal::Busy.code() {
-                None
-            } else {
-                Some(Arrival::Refused(code, detail))
-            }
-        }
-        ProxyFault::Memory => Some(Arrival::Memory),
-        ProxyFault::Unreachable | ProxyFault::Lost => None,
     }
 }

@@ -1,39 +1,22 @@
 //! A connection of a client to one server.
 
-use linda_wire::{FrameFault, Message, Reply, ReplyFeed, VERSION, encode_message};
-use std::alloc::{AllocError, Global};
+ghost use Rattle.std.specs.Prelude.{◌≡◌, ◌≢◌, ◌↔◌, ◌⊎◌, ◌++◌, None, Ok, IfOk, IfErr, IfSome, IsErrOf, OnErr};
+ghost use Rattle.linda_wire.specs.Frames.{frame, reply as replies};
+ghost use Rattle.linda_wire.specs.Stream.{Partial, IsWhole, front};
+ghost use Rattle.linda_link.specs.declared.fault.ProxyFault.TheVariants as faults;
+
+use crate::course::{hello_of, welcome_in};
+use crate::fault::ProxyFault;
+use linda_wire::{FrameFault, Message, Reply, ReplyFeed, encode_message};
+use std::alloc::Global;
 use std::io::{Read, Write};
 use std::net::{Ipv4Addr, Net, Shutdown, SocketAddr, TcpStream};
-use thiserror::Error;
 
 /// The most bytes that are read at once.
 const PIECE: usize = 4096;
 
 /// The most reads for one reply. Each that does not end the connection gives a byte at least.
 const MAX_READS: u32 = 4_294_967_295;
-
-/// Why a connection does not go on.
-#[derive(Clone, Copy, Debug, PartialEq, Eq, Error)]
-pub enum ProxyFault {
-    /// No connection could be had.
-    #[error("no connection")]
-    Unreachable,
-    /// The connection ended, or what came is no reply.
-    #[error("connection lost")]
-    Lost,
-    /// The server refused the greeting, with this code and this detail.
-    #[error("refused {0} {1}")]
-    Refused(u8, u64),
-    /// Memory ran out.
-    #[error("out of memory")]
-    Memory,
-}
-
-impl From<AllocError> for ProxyFault {
-    fn from(_error: AllocError) -> ProxyFault {
-        ProxyFault::Memory
-    }
-}
 
 /// A connection to a server. It is of use once the server has welcomed its client.
 #[derive(Drop)]
@@ -69,17 +52,8 @@ impl Proxy {
     ///
     /// `Refused`, as the server said; `Lost`; `Memory`. The server may have welcomed the client at the last two.
     pub fn greet(&mut self, alloc: Global, client: u32, fresh: bool) -> Result<u64, ProxyFault> {
-        let hello = Message::Hello {
-            version: VERSION,
-            client,
-            fresh,
-        };
-        send(&mut self.stream, alloc, &hello)?;
-        match self.receive(alloc)? {
-            Reply::Welcome { last } => Ok(last),
-            Reply::Refused { code, detail } => Err(ProxyFault::Refused(code, detail)),
-            _ => Err(ProxyFault::Lost),
-        }
+        send(&mut self.stream, alloc, &hello_of(client, fresh))?;
+        welcome_in(&self.receive(alloc)?)
     }
 
     /// Another hand on the same connection, for whoever sends or ends it while somebody else receives.
@@ -102,11 +76,8 @@ impl Proxy {
     pub fn receive(&mut self, alloc: Global) -> Result<Reply, ProxyFault> {
         let mut buffer = [0; PIECE];
         for _ in 0..MAX_READS {
-            match self.feed.next(alloc) {
-                Ok(Some(reply)) => return Ok(reply),
-                Ok(None) => {}
-                Err(FrameFault::Memory) => return Err(ProxyFault::Memory),
-                Err(_) => return Err(ProxyFault::Lost),
+            if let Some(reply) = next_reply(&mut self.feed, alloc)? {
+                return Ok(reply);
             }
             let Ok(len) = self.stream.read(&mut buffer) else {
                 return Err(ProxyFault::Lost);
@@ -117,6 +88,21 @@ impl Proxy {
             self.feed.feed(&buffer[..len])?;
         }
         Err(ProxyFault::Lost)
+    }
+}
+
+// The reply at the front of what came, which is then read; `None` where less than a whole frame is there. What is no
+// reply ends the connection.
+fn next_reply(feed: &mut ReplyFeed, alloc: Global) -> Result<Option<Reply>, ProxyFault>
+    ensures found { IfOk result (λ o. IfSome o (λ r. feed.old ≡ frame (replies.spell r) ++ feed.new)) }
+    ensures partial { (result ≡ Ok None) ↔ (front replies feed.old ≡ Partial) }
+    ensures fault { IfErr result (λ f. (f ≡ faults.Lost) ⊎ (f ≡ faults.Memory)) }
+    ensures memory { IsErrOf result ProxyFault.Memory → IsWhole (front replies feed.old) }
+{
+    match feed.next(alloc) {
+        Ok(found) => Ok(found),
+        Err(FrameFault::Memory) => Err(ProxyFault::Memory),
+        Err(_) => Err(ProxyFault::Lost),
     }
 }
 

@@ -1,2 +1,3 @@
 mod SeatLaws
 mod HeardLaws
+mod OwnerLaws

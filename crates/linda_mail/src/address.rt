@@ -1,8 +1,8 @@
 //! Where the answer to a message goes.
 
 ghost use Rattle.std.specs.Prelude.{◌≡◌};
+ghost use Rattle.std.specs.Arc.{arc_value};
 
-use crate::answer::Answer;
 use crate::mailbox::Mailbox;
 use std::alloc::Global;
 use std::sync::ledger::Ledger;
@@ -14,13 +14,15 @@ pub struct Address<L: Ledger> {
     client: u32,
     place: usize,
     mailbox: Arc<Mailbox<L>, Global>,
+    ghost owner: { (arc_value mailbox).client ≡ client },
 }
 
 impl<L: Ledger> Address<L> {
-    /// The place of this number in the mailbox, which is the client's.
-    pub fn new(client: u32, place: usize, mailbox: Arc<Mailbox<L>, Global>) -> Address<L>
-        ensures { result.client ≡ client }
+    /// The place of this number in the mailbox.
+    pub fn new(place: usize, mailbox: Arc<Mailbox<L>, Global>) -> Address<L>
+        ensures { (result.client ≡ (arc_value mailbox).client) × (result.place ≡ place) }
     {
+        let client = mailbox.client();
         Address {
             client,
             place,
@@ -35,9 +37,19 @@ impl<L: Ledger> Address<L> {
         self.client
     }
 
-    /// Puts the answer into its place, and wakes whoever waits for it.
-    pub(crate) fn put<R: Wait>(&self, rt: &R, answer: Answer<L>) {
-        self.mailbox.put(rt, self.place, answer);
+    /// Which place it is.
+    pub(crate) fn place(&self) -> usize
+        ensures { result ≡ self.now.place }
+    {
+        self.place
+    }
+
+    /// The mailbox by itself.
+    pub(crate) fn into_mailbox(self) -> Arc<Mailbox<L>, Global>
+        ensures { (arc_value result).client ≡ self.client }
+    {
+        let Address { mailbox, .. } = self;
+        mailbox
     }
 
     /// The session is to serve the next group.

@@ -62,6 +62,7 @@ impl Heard {
             × (vec_capacity self.new.told ≡ vec_capacity self.old.told) }
         ensures fault { self.new.fault ≡ self.old.fault }
         ensures as_before { self.new.is_as_before ≡ true → (self.old.is_as_before ≡ true) × (one ≡ None) }
+        ensures still { self.old.is_as_before ≡ true → one ≡ None → self.new.is_as_before ≡ true }
     {
         if one.is_some() {
             self.is_as_before = false;
@@ -78,6 +79,9 @@ impl Heard {
         ensures fault { self.new.fault ≡ Some (spec.worse_fault self.old.fault fault) }
         ensures as_before { self.new.is_as_before ≡ true
             → (self.old.is_as_before ≡ true) × (spec.is_severe fault ≡ false) }
+        // A fault after which nothing changed leaves it known that the account is as before.
+        ensures still { self.old.is_as_before ≡ true → spec.is_severe fault ≡ false
+            → self.new.is_as_before ≡ true }
     {
         if is_severe(fault) {
             self.is_as_before = false;

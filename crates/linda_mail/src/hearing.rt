@@ -1,10 +1,12 @@
 //! What a session hears of a message.
 
-ghost use Rattle.std.specs.Prelude.{◌≡◌, ◌<◌, ℕ, IfOk, IfErr, OnOk, IfSome};
+ghost use Rattle.std.specs.Prelude.{◌≡◌, ◌<◌, IfOk, IfErr, OnOk, IfSome};
 ghost use Rattle.linda_promise.specs.Steps.{IsDeedOf};
 ghost use Rattle.linda_receipt.specs.Account.{account_of};
 ghost use Rattle.linda_receipt.specs.Ring.{IsNext, with_receipt};
 ghost use Rattle.linda_receipt.specs.Receipts.{number_in};
+ghost use Rattle.linda_mail.specs.Hearing as spec;
+ghost use Rattle.linda_mail.specs.Hearing.{IsHeard};
 ghost use Rattle.linda_mail.specs.Seat.{with_told, back, IsLeft, IsToldOf};
 
 use crate::answer::Answer;
@@ -28,6 +30,8 @@ pub fn hear<L: Ledger>(
     ensures err { IfErr result (λ fault. IsLeft message.now (back account.old) fault account.new) }
     ensures deed { IfOk result (IsToldOf account.old.client message.now) }
     ensures next { IfOk result (λ o. IfSome o (IsNext account.old.client account.old.ring)) }
+    // Where no deed was made the answer says what comes of it.
+    ensures heard { IsHeard answer.answered.told answer.copy result }
 {
     let (answered, copy) = answer.into_parts();
     let (_, told) = account.hear(answered);
@@ -75,7 +79,7 @@ fn note<L: Ledger>(
 
 // A fault of the whole batch: never that of one receipt.
 fn plain(fault: SharedFault) -> SharedFault
-    ensures { (client number : ℕ) → result ≡ SharedFault.Receipt client number → ⊥ }
+    ensures { result ≡ spec.plain fault }
 {
     match fault {
         SharedFault::Receipt { .. } => SharedFault::Down,

@@ -19,6 +19,7 @@ mod hearing;
 mod letter;
 mod mail;
 mod mailbox;
+mod mailboxes;
 mod office;
 mod outlet;
 mod queue;

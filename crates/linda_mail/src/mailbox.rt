@@ -1,15 +1,19 @@
 //! A session's mailbox.
 
+ghost use Rattle.std.specs.Prelude.{◌≡◌};
+
 use crate::answer::Answer;
 use crate::mail::{Mail, Turn};
+use linda_outbox::Sent;
 use linda_wire::Reply;
 use std::alloc::{AllocError, Global};
 use std::sync::ledger::Ledger;
 use std::sync::{Condvar, Mutex, Wait};
 
-/// What others put there for one session. Whoever has its lock asks for no other.
+/// What others put there for the session of one client. Whoever has its lock asks for no other.
 #[derive(Drop)]
 pub struct Mailbox<L: Ledger> {
+    client: u32,
     mail: Mutex<Mail<L>>,
     // Whoever submitted is answered, or is to lead.
     turned: Condvar,
@@ -20,14 +24,24 @@ pub struct Mailbox<L: Ledger> {
 }
 
 impl<L: Ledger> Mailbox<L> {
-    /// Nothing is there.
-    pub fn new(alloc: Global) -> Mailbox<L> {
+    /// The client's, with nothing in it.
+    pub fn new(alloc: Global, client: u32) -> Mailbox<L>
+        ensures { result.client ≡ client }
+    {
         Mailbox {
+            client,
             mail: Mutex::new(Mail::new(alloc)),
             turned: Condvar::new(),
             came: Condvar::new(),
             news: Condvar::new(),
         }
+    }
+
+    /// The client whose it is.
+    pub fn client(&self) -> u32
+        ensures { result ≡ self.now.client }
+    {
+        self.client
     }
 
     /// Puts a reply of the session's own after the others.
@@ -41,11 +55,13 @@ impl<L: Ledger> Mailbox<L> {
         Ok(())
     }
 
-    /// Puts replies after the others. Where there is no memory for them none comes any more. Whoever waits for news
-    /// is woken too where others' messages led to these.
-    pub(crate) fn post<R: Wait>(&self, rt: &R, replies: Vec<Reply>, is_news: bool) {
+    /// Puts replies to its client after the others. If there is no memory for them none comes any more. Whoever waits
+    /// for news is woken too, if others' messages led to these.
+    pub(crate) fn post<R: Wait>(&self, rt: &R, sent: Sent, is_news: bool)
+        requires { sent.client ≡ self.now.client }
+    {
         let mut mail = self.mail.lock(rt);
-        mail.post(replies);
+        mail.post(sent);
         let is_over = mail.is_over();
         drop(mail);
         self.came.notify_all();
@@ -63,10 +79,12 @@ impl<L: Ledger> Mailbox<L> {
         self.mail.lock(rt).open(n)
     }
 
-    /// Puts an answer into its place. With the last one whoever submitted is woken.
-    pub(crate) fn put<R: Wait>(&self, rt: &R, place: usize, answer: Answer<L>) {
+    /// Puts an answer to its client into its place. With the last one whoever submitted is woken.
+    pub(crate) fn put<R: Wait>(&self, rt: &R, answer: Answer<L>)
+        requires { answer.client ≡ self.now.client }
+    {
         let mut mail = self.mail.lock(rt);
-        mail.put(place, answer);
+        mail.put(answer);
         let is_last = mail.is_last();
         drop(mail);
         if is_last {

@@ -1,5 +1,8 @@
 //! Where the replies of a session come out.
 
+ghost use Rattle.std.specs.Prelude.{◌≡◌, IfOk};
+ghost use Rattle.std.specs.Arc.{arc_value};
+
 use crate::mailbox::Mailbox;
 use linda_wire::Reply;
 use std::alloc::{AllocError, Global};
@@ -14,7 +17,9 @@ pub struct Outlet<L: Ledger> {
 
 impl<L: Ledger> Outlet<L> {
     /// What comes out of this mailbox.
-    pub fn new(mailbox: Arc<Mailbox<L>, Global>) -> Outlet<L> {
+    pub fn new(mailbox: Arc<Mailbox<L>, Global>) -> Outlet<L>
+        ensures { (arc_value result.mailbox).client ≡ (arc_value mailbox).client }
+    {
         Outlet { mailbox }
     }
 
@@ -23,7 +28,9 @@ impl<L: Ledger> Outlet<L> {
     /// # Errors
     ///
     /// `AllocError`: nothing was made.
-    pub fn another(&self) -> Result<Outlet<L>, AllocError> {
+    pub fn another(&self) -> Result<Outlet<L>, AllocError>
+        ensures { IfOk result (λ o. (arc_value o.mailbox).client ≡ (arc_value self.now.mailbox).client) }
+    {
         let mailbox = Arc::try_clone(&self.mailbox)?;
         Ok(Outlet { mailbox })
     }

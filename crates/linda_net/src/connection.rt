@@ -1,15 +1,17 @@
 //! The reading side of a connection: what it sends is submitted.
 
-ghost use Rattle.std.specs.Prelude.{◌≡◌, ◌≤◌, false, length, All, IfErr};
+ghost use Rattle.std.specs.Prelude.{◌≡◌, ◌≤◌, None, length, take, All, IfOk, IfErr};
 ghost use Rattle.linda_step.specs.declared.size.TheConstants.{MAX_BATCH};
 ghost use Rattle.linda_mail.specs.Seat.{IsRequest};
+ghost use Rattle.linda_net.specs.Talk.{is_hello, requests, at_once, told_of, seat_of, ended_by, last_word};
 ghost use Rattle.linda_pump.specs.Pumping.{IsOfIntake};
+ghost use Rattle.linda_shared.specs.Greeting.{greeting_of};
 
 use crate::line::Line;
 use crate::marks::Marks;
 use linda_disk::Disk;
 use linda_pump::{Intake, pump};
-use linda_shared::{Greeted, Seat, Shared, SharedFault};
+use linda_shared::{Greeted, Outlet, Seat, Shared, SharedFault};
 use linda_store::{ConverseFault, End};
 use linda_wire::{Message, Refusal, Reply};
 use std::alloc::Global;
@@ -34,73 +36,99 @@ impl<D: Disk, L: Ledger, R: Wait> Intake for Connection<'_, D, L, R> {
     ghost taken = { λ _. None };
 
     fn take(&mut self, messages: Vec<Message>) -> Result<(), ConverseFault> {
-        let Some(seat) = &mut self.seat else {
-            return self.take_each(messages);
-        };
-        if has_hello(&messages) {
-            return self.take_each(messages);
+        let mut rest: &[Message] = &messages;
+        while !rest.is_empty() {
+            let count = self.take_some(rest)?;
+            rest = &rest[count..];
         }
-        submit_all(self.rt, self.shared, seat, &messages)?;
-        self.line.flush(self.rt, self.alloc, self.marks, None)
+        Ok(())
     }
 }
 
 impl<D: Disk, L: Ledger, R: Wait> Connection<'_, D, L, R> {
-    // Takes messages one by one, of which some may be Hellos, or come before one.
-    fn take_each(&mut self, messages: Vec<Message>) -> Result<(), ConverseFault>
-        ensures { IfErr result IsOfIntake }
+    // Takes the first of these messages, as many as are taken at once, and writes what they led to. Returns how many.
+    fn take_some(&mut self, messages: &[Message]) -> Result<usize, ConverseFault>
+        requires some { 1 ≤ length messages.now }
+        requires few { length messages.now ≤ MAX_BATCH }
+        ensures count { IfOk result (λ n. n ≡ at_once self.old.seat messages.now) }
+        ensures within { IfOk result (λ n. (1 ≤ n) × (n ≤ length messages.now)) }
+        ensures err { IfErr result IsOfIntake }
     {
-        for message in messages {
-            self.take_one(&message)?;
+        let Some(seat) = &mut self.seat else {
+            return self.take_ungreeted(&messages[0]);
+        };
+        let count = requests_before_a_hello(messages);
+        if count == 0 {
+            submit(self.rt, self.shared, seat, &messages[0])?;
+            self.line.flush(self.rt, self.alloc, self.marks, None)?;
+            return Ok(1);
         }
-        Ok(())
+        let count = submit_all(self.rt, self.shared, seat, &messages[..count])?;
+        self.line.flush(self.rt, self.alloc, self.marks, None)?;
+        Ok(count)
     }
 
-    // Takes one message.
-    fn take_one(&mut self, message: &Message) -> Result<(), ConverseFault>
-        ensures { IfErr result IsOfIntake }
+    // Takes one message of a client that was not greeted, and writes the answer. Returns 1.
+    fn take_ungreeted(&mut self, message: &Message) -> Result<usize, ConverseFault>
+        requires { self.old.seat ≡ None }
+        ensures count { IfOk result (λ n. n ≡ 1) }
+        ensures err { IfErr result IsOfIntake }
     {
-        if let Some(seat) = &mut self.seat {
-            submit(self.rt, self.shared, seat, message)?;
-            return self.line.flush(self.rt, self.alloc, self.marks, None);
-        }
         let reply = self.greet(message)?;
         self.line
-            .flush(self.rt, self.alloc, self.marks, Some(reply))
+            .flush(self.rt, self.alloc, self.marks, Some(reply))?;
+        Ok(1)
     }
 
-    // Greets the client of a Hello. Says what it is to be told.
+    // Greets the client of a Hello. Returns what it is answered.
     fn greet(&mut self, message: &Message) -> Result<Reply, ConverseFault>
+        requires { self.old.seat ≡ None }
         ensures { IfErr result IsOfIntake }
     {
         match self.shared.greet(self.rt, message) {
-            Ok(Greeted::Welcome(seat, outlet, last)) => {
-                self.seat = Some(seat);
-                match self.line.open(self.rt, outlet) {
-                    Ok(()) => Ok(Reply::Welcome { last }),
-                    Err(_) => Err(ConverseFault::Memory),
-                }
-            }
-            Ok(Greeted::Refused(code, detail)) => Ok(Reply::Refused { code, detail }),
+            Ok(greeted) => self.settle(greeted),
             Err(fault) => Err(fault_of(fault)),
+        }
+    }
+
+    // A client that is welcome has its seat and its outlet from now on. Returns what it is answered.
+    fn settle(&mut self, greeted: Greeted<L>) -> Result<Reply, ConverseFault>
+        requires { self.old.seat ≡ None }
+        ensures reply { IfOk result (λ reply. reply ≡ told_of (greeting_of greeted)) }
+        ensures seat { IfOk result (λ _. self.new.seat ≡ seat_of (greeting_of greeted)) }
+        ensures err { IfErr result (λ fault. (fault ≡ ConverseFault.Memory) × (self.new.seat ≡ None)) }
+    {
+        match greeted {
+            Greeted::Refused(code, detail) => Ok(Reply::Refused { code, detail }),
+            Greeted::Welcome(seat, outlet, last) => match self.line.open(self.rt, outlet) {
+                Ok(()) => {
+                    self.seat = Some(seat);
+                    Ok(Reply::Welcome { last })
+                }
+                Err(outlet) => {
+                    let _ = self.shared.leave(self.rt, seat, outlet);
+                    Err(ConverseFault::Memory)
+                }
+            },
         }
     }
 }
 
-// Submits messages of which none is a Hello.
+// Submits messages of which none is a Hello. Returns how many.
 fn submit_all<D: Disk, L: Ledger, R: Wait>(
     rt: &R,
     shared: &Shared<D, L>,
     seat: &mut Seat<L>,
     messages: &[Message],
-) -> Result<(), ConverseFault>
+) -> Result<usize, ConverseFault>
     requires some { 1 ≤ length messages.now }
     requires few { length messages.now ≤ MAX_BATCH }
     requires requests { All IsRequest messages.now }
-    ensures { IfErr result IsOfIntake }
+    ensures count { IfOk result (λ n. n ≡ length messages.now) }
+    ensures err { IfErr result IsOfIntake }
 {
     match shared.submit_all(rt, seat, messages) {
-        Ok(_) => Ok(()),
+        Ok(_) => Ok(messages.len()),
         Err(fault) => Err(fault_of(fault)),
     }
 }
@@ -122,30 +150,40 @@ fn submit<D: Disk, L: Ledger, R: Wait>(
 
 // How a connection ends whose message was not taken.
 fn fault_of(fault: SharedFault) -> ConverseFault
-    ensures { IsOfIntake result }
+    ensures fault { result ≡ ended_by fault }
+    ensures intake { IsOfIntake result }
 {
     match fault {
+        SharedFault::Down => ConverseFault::Down,
+        SharedFault::Full => ConverseFault::Down,
+        SharedFault::SeatMissing => ConverseFault::Down,
+        SharedFault::Receipt { .. } => ConverseFault::Down,
+        SharedFault::Stuck(_) => ConverseFault::Down,
+        SharedFault::NoThread => ConverseFault::Down,
         SharedFault::Memory => ConverseFault::Memory,
-        _ => ConverseFault::Down,
     }
 }
 
-// Whether one of them is a Hello.
-fn has_hello(messages: &[Message]) -> bool
-    ensures { result ≡ false → All IsRequest messages.now }
+// How many messages stand before the first Hello.
+fn requests_before_a_hello(messages: &[Message]) -> usize
+    ensures count { result ≡ requests messages.now }
+    ensures within { result ≤ length messages.now }
+    ensures requests { All IsRequest (take result messages.now) }
 {
+    let mut count: usize = 0;
     let mut rest = messages;
     while let [first, others @ ..] = rest {
         if is_hello(first) {
-            return true;
+            return count;
         }
+        count += 1;
         rest = others;
     }
-    false
+    count
 }
 
 fn is_hello(message: &Message) -> bool
-    ensures { result ≡ false → IsRequest message.now }
+    ensures { result ≡ is_hello message.now }
 {
     match message {
         Message::Hello { .. } => true,
@@ -157,7 +195,8 @@ fn is_hello(message: &Message) -> bool
     }
 }
 
-/// Reads a connection to its end, and submits what comes. A client that was greeted leaves then, however it ended.
+/// Reads a connection to its end, and submits what comes. A client that was greeted leaves then, however it ended,
+/// after all of its replies were written.
 pub(crate) fn read_messages<D: Disk, L: Ledger, R: Wait>(
     rt: &R,
     alloc: Global,
@@ -174,20 +213,24 @@ pub(crate) fn read_messages<D: Disk, L: Ledger, R: Wait>(
         seat: None,
     };
     let end = pump(alloc, &mut line.stream(), &mut connection);
-    if let Some(refusal) = last_word(end) {
-        let _ = line.flush(rt, alloc, marks, Some(refusal.reply()));
-    }
     let Connection { seat, .. } = connection;
-    leave(rt, shared, line, seat);
+    let outlet = line.close(rt, alloc, marks, last_word(end));
+    leave(rt, shared, seat, outlet);
     line.shut();
 }
 
 // What a connection is told at its end, if anything.
-fn last_word(end: Result<End, ConverseFault>) -> Option<Refusal> {
+fn last_word(end: Result<End, ConverseFault>) -> Option<Reply>
+    ensures { result ≡ last_word end }
+{
     match end {
-        Ok(End::Malformed(detail)) => Some(Refusal::Malformed(detail)),
-        Err(ConverseFault::Down) => Some(Refusal::Down),
-        _ => None,
+        Ok(End::Ended { .. }) => None,
+        Ok(End::Malformed(offset)) => Some(Refusal::Malformed(offset).reply()),
+        Err(ConverseFault::Read) => None,
+        Err(ConverseFault::Write) => None,
+        Err(ConverseFault::Turns) => None,
+        Err(ConverseFault::Down) => Some(Refusal::Down.reply()),
+        Err(ConverseFault::Memory) => None,
     }
 }
 
@@ -195,15 +238,10 @@ fn last_word(end: Result<End, ConverseFault>) -> Option<Refusal> {
 fn leave<D: Disk, L: Ledger, R: Wait>(
     rt: &R,
     shared: &Shared<D, L>,
-    line: &Line<L>,
     seat: Option<Seat<L>>,
+    outlet: Option<Outlet<L>>,
 ) {
-    let outlet = line.close(rt);
-    let Some(mut seat) = seat else {
-        return;
-    };
-    shared.hang_up(rt, &mut seat);
-    if let Some(outlet) = outlet {
+    if let (Some(seat), Some(outlet)) = (seat, outlet) {
         let _ = shared.leave(rt, seat, outlet);
     }
 }

@@ -7,11 +7,13 @@
 #![tactic(auto)]
 
 mod connection;
+mod frames;
 mod line;
 mod marks;
 mod refusals;
 mod seen;
 mod serving;
+mod troubles;
 mod watching;
 
 pub use linda_link::{Arrival, FIRST_TRIES, Inbox, Link, MAX_TRIES, Proxy, ProxyFault, end, send};

@@ -3,13 +3,13 @@
 ghost use Rattle.std.specs.Prelude.{IfErr};
 ghost use Rattle.linda_pump.specs.Pumping.{IsOfIntake};
 
+use crate::frames::write_frames;
 use crate::marks::Marks;
 use linda_disk::Disk;
 use linda_shared::{Outlet, Shared};
 use linda_store::ConverseFault;
-use linda_wire::{Reply, encode_reply};
-use std::alloc::{AllocError, Global};
-use std::io::Write;
+use linda_wire::Reply;
+use std::alloc::Global;
 use std::net::{Shutdown, TcpStream};
 use std::slice;
 use std::sync::ledger::Ledger;
@@ -67,20 +67,33 @@ impl<L: Ledger> Line<L> {
     ///
     /// # Errors
     ///
-    /// `AllocError`: nothing changes, and the outlet is dropped.
-    pub(crate) fn open<R: Wait>(&self, rt: &R, outlet: Outlet<L>) -> Result<(), AllocError> {
-        let second = outlet.another()?;
+    /// The outlet, where there is no memory for a second one: nothing changes.
+    pub(crate) fn open<R: Wait>(&self, rt: &R, outlet: Outlet<L>) -> Result<(), Outlet<L>> {
+        let Ok(second) = outlet.another() else {
+            return Err(outlet);
+        };
         self.pen.lock(rt).outlet = Some(outlet);
         self.slot.lock(rt).outlet = Some(second);
         self.filled.notify_all();
         Ok(())
     }
 
-    /// The outlet, which nothing is written from any more. Whoever waits for one waits no more.
-    pub(crate) fn close<R: Wait>(&self, rt: &R) -> Option<Outlet<L>> {
+    /// If there is a last word, writes the replies that are there now, and then that. Nothing is written any more.
+    /// Returns the outlet, if the connection was greeted. Whoever waits for one waits no more.
+    pub(crate) fn close<R: Wait>(
+        &self,
+        rt: &R,
+        alloc: Global,
+        marks: Option<&Marks>,
+        last: Option<Reply>,
+    ) -> Option<Outlet<L>> {
         self.slot.lock(rt).is_over = true;
         self.filled.notify_all();
-        self.pen.lock(rt).outlet.take()
+        let mut guard = self.pen.lock(rt);
+        if last.is_some() {
+            let _ = write_replies(rt, alloc, &self.stream, &mut guard, marks, last);
+        }
+        guard.outlet.take()
     }
 
     /// Waits a second at most for the outlet. Says whether it has to be waited for still, with the outlet if it is
@@ -110,21 +123,7 @@ impl<L: Ledger> Line<L> {
         ensures { IfErr result IsOfIntake }
     {
         let mut guard = self.pen.lock(rt);
-        let pen = &mut *guard;
-        if let Some(outlet) = &mut pen.outlet {
-            let replies = outlet.drain(rt, alloc);
-            note(marks, &replies);
-            for reply in replies.iter() {
-                spell(&mut pen.bytes, reply)?;
-            }
-        }
-        if let Some(reply) = &last {
-            note(marks, slice::from_ref(reply));
-            spell(&mut pen.bytes, reply)?;
-        }
-        let written = write_all(&self.stream, &pen.bytes);
-        pen.bytes.clear();
-        written
+        write_replies(rt, alloc, &self.stream, &mut guard, marks, last)
     }
 
     /// Nothing more is read.
@@ -138,35 +137,36 @@ impl<L: Ledger> Line<L> {
     }
 }
 
+// Writes the replies that are there now, and then this one, if there is one. Where it is watched they are counted.
+fn write_replies<L: Ledger, R: Wait>(
+    rt: &R,
+    alloc: Global,
+    stream: &TcpStream,
+    pen: &mut Pen<L>,
+    marks: Option<&Marks>,
+    last: Option<Reply>,
+) -> Result<(), ConverseFault>
+    ensures { IfErr result IsOfIntake }
+{
+    let replies = match &mut pen.outlet {
+        Some(outlet) => outlet.drain(rt, alloc),
+        None => Vec::new(alloc),
+    };
+    let last = match &last {
+        Some(reply) => slice::from_ref(reply),
+        None => &[],
+    };
+    note(marks, &replies);
+    note(marks, last);
+    write_frames(&mut &*stream, &mut pen.bytes, &replies, last)
+}
+
 // Counts the replies, where it is watched.
 fn note(marks: Option<&Marks>, replies: &[Reply]) {
     if let Some(marks) = marks {
         for reply in replies {
             marks.sends(reply);
         }
-    }
-}
-
-// Puts a reply after the bytes.
-fn spell(bytes: &mut Vec<u8>, reply: &Reply) -> Result<(), ConverseFault>
-    ensures { IfErr result IsOfIntake }
-{
-    match encode_reply(bytes, reply) {
-        Ok(()) => Ok(()),
-        Err(_) => Err(ConverseFault::Memory),
-    }
-}
-
-// Writes the bytes, if there are any.
-fn write_all(stream: &TcpStream, bytes: &[u8]) -> Result<(), ConverseFault>
-    ensures { IfErr result IsOfIntake }
-{
-    if bytes.is_empty() {
-        return Ok(());
-    }
-    match (&mut &*stream).write_all(bytes) {
-        Ok(()) => Ok(()),
-        Err(_) => Err(ConverseFault::Write),
     }
 }
 

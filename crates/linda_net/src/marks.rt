@@ -1,6 +1,7 @@
 //! What the threads of connections count, for the thread that watches.
 
 ghost use Rattle.std.specs.Prelude.{◌≡◌, ◌↔◌, IsTrue};
+ghost use Rattle.linda_net.specs.Counting.{no_tally};
 ghost use Rattle.linda_wire.specs.declared.refusal.Refusal.TheVariants as refusals;
 ghost use Rattle.linda_wire.specs.Refusal.{refused};
 
@@ -29,7 +30,9 @@ pub struct Tally {
 
 impl Tally {
     /// Nothing happened yet.
-    pub fn none() -> Tally {
+    pub fn none() -> Tally
+        ensures { result ≡ no_tally }
+    {
         Tally {
             came: 0,
             over: 0,

@@ -1,5 +1,8 @@
 //! Refusals that an operator is told of, and how often each went out.
 
+ghost use Rattle.std.specs.Prelude.{◌≡◌};
+ghost use Rattle.linda_net.specs.Counting.{more_than, none_refused, why_of, why_of_code};
+
 use linda_wire::{Refusal, Reply};
 use std::sync::atomic::{AtomicU64, Ordering};
 
@@ -27,7 +30,9 @@ pub struct Refused {
 
 impl Refused {
     /// Nobody was refused.
-    pub fn none() -> Refused {
+    pub fn none() -> Refused
+        ensures { result ≡ none_refused }
+    {
         Refused {
             busy: 0,
             clients: 0,
@@ -37,7 +42,9 @@ impl Refused {
     }
 
     /// How many more there are than before.
-    pub fn since(&self, before: &Refused) -> Refused {
+    pub fn since(&self, before: &Refused) -> Refused
+        ensures { result ≡ more_than self.now before.now }
+    {
         Refused {
             busy: self.busy.saturating_sub(before.busy),
             clients: self.clients.saturating_sub(before.clients),
@@ -90,33 +97,38 @@ impl Counts {
 }
 
 /// Why the reply refuses its client, if that is for an operator to know.
-pub(crate) fn why_of(reply: &Reply) -> Option<Why> {
+pub(crate) fn why_of(reply: &Reply) -> Option<Why>
+    ensures { result ≡ why_of reply.now }
+{
     match reply {
+        Reply::Welcome { .. } => None,
+        Reply::Stored { .. } => None,
+        Reply::Offer { .. } => None,
+        Reply::Read { .. } => None,
+        Reply::Taken { .. } => None,
+        Reply::Gone { .. } => None,
         Reply::Refused { code, .. } => why_of_code(*code),
-        _ => None,
+        Reply::Left { .. } => None,
     }
 }
 
 // Why a refusal of this code is sent, if that is for an operator to know.
-fn why_of_code(code: u8) -> Option<Why> {
+fn why_of_code(code: u8) -> Option<Why>
+    ensures { result ≡ why_of_code code }
+{
     if code == Refusal::Busy.code() {
-        return Some(Why::Busy);
+        Some(Why::Busy)
+    } else if code == Refusal::TooManyClients.code() {
+        Some(Why::Clients)
+    } else if code == Refusal::Malformed(0).code() {
+        Some(Why::Malformed)
+    } else if code == Refusal::Version.code() {
+        Some(Why::Greeting)
+    } else if code == Refusal::Known(0).code() {
+        Some(Why::Greeting)
+    } else if code == Refusal::NoHello.code() {
+        Some(Why::Greeting)
+    } else {
+        None
     }
-    if code == Refusal::TooManyClients.code() {
-        return Some(Why::Clients);
-    }
-    if code == Refusal::Malformed(0).code() {
-        return Some(Why::Malformed);
-    }
-    if is_of_greeting(code) {
-        return Some(Why::Greeting);
-    }
-    None
-}
-
-// Whether a refusal of this code answers a greeting, or a message in place of one.
-fn is_of_greeting(code: u8) -> bool {
-    code == Refusal::Version.code()
-        || code == Refusal::Known(0).code()
-        || code == Refusal::NoHello.code()
 }

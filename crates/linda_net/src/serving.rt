@@ -1,5 +1,9 @@
 //! Serving the connections of a listener.
 
+ghost use Rattle.std.specs.Prelude.{◌≡◌, ◌*◌, ◌-◌, ◌<◌, ◌≤◌, ◌^◌, min, true, false, Some, None, IsOk, IsErrOf};
+ghost use Rattle.std.specs.Duration.{as_nanos};
+ghost use Rattle.linda_net.specs.Counting.{one_less};
+
 use crate::connection::read_messages;
 use crate::line::{Line, write_news};
 use crate::marks::{Marks, Tally};
@@ -15,7 +19,7 @@ use std::thread::{Scope, Threads};
 use std::time::{Clock, Duration};
 
 /// How often it is looked whether a snapshot pays for itself, and what happened, in milliseconds.
-pub(crate) const LOOK: u64 = 100;
+const LOOK: u64 = 100;
 
 /// How many times as long as a snapshot took it is waited before the next one is looked for: however full the bank is,
 /// messages are served most of the time.
@@ -50,7 +54,7 @@ pub fn serve<D: Disk + Send, L: Ledger + Send + Sync, R: Threads + Wait + Clock 
         accept_all(scope, rt, alloc, listener, shared, None, sessions);
         *over.lock(rt) = true;
     });
-    ended(rt, shared)
+    ended(shared.is_down(rt))
 }
 
 /// Serves as `serve` does, and a thread of its own tells whoever watches what happens, until all connections are over:
@@ -84,7 +88,7 @@ pub fn serve_watched<
         accept_marked(rt, alloc, listener, shared, marks, sessions);
         *over.lock(rt) = true;
     });
-    (ended(rt, shared), marks.tally())
+    (ended(shared.is_down(rt)), marks.tally())
 }
 
 // Serves the connections to their ends, and counts what happens.
@@ -101,9 +105,12 @@ fn accept_marked<D: Disk + Send, L: Ledger + Send + Sync, R: Threads + Wait + Cl
     });
 }
 
-// How it ended.
-fn ended<D: Disk, L: Ledger, R: Wait>(rt: &R, shared: &Shared<D, L>) -> Result<(), SharedFault> {
-    if shared.is_down(rt) {
+// How it ended, with a server that is down or is up.
+fn ended(is_down: bool) -> Result<(), SharedFault>
+    ensures down { is_down ≡ true → IsErrOf result SharedFault.Down }
+    ensures up { is_down ≡ false → IsOk result }
+{
+    if is_down {
         return Err(SharedFault::Down);
     }
     Ok(())
@@ -184,7 +191,9 @@ fn note_end(marks: Option<&Marks>) {
 }
 
 // One connection fewer, where they are counted.
-fn one_less(left: Option<u32>) -> Option<u32> {
+fn one_less(left: Option<u32>) -> Option<u32>
+    ensures { result ≡ one_less left }
+{
     match left {
         Some(left) => Some(left.saturating_sub(1)),
         None => None,
@@ -225,11 +234,36 @@ fn take_snapshots<D: Disk, L: Ledger, R: Wait + Clock>(
         if *is_over.lock(rt) {
             return;
         }
-        if pause >= LOOK {
-            pause -= LOOK;
-        } else if shared.pays(rt) {
-            pause = take_snapshot(rt, shared, marks).saturating_mul(PAUSES);
-        }
-        thread::sleep(rt, Duration::from_millis(LOOK));
+        pause = match left_of(pause) {
+            Some(left) => left,
+            None if shared.pays(rt) => pause_after(take_snapshot(rt, shared, marks)),
+            None => 0,
+        };
+        thread::sleep(rt, look());
     }
+}
+
+// What is left of a pause of so many milliseconds after a look. Nothing where it is over.
+fn left_of(pause: u64) -> Option<u64>
+    ensures more { 100 ≤ pause → result ≡ Some (pause - 100) }
+    ensures over { pause < 100 → result ≡ None }
+{
+    if pause >= LOOK {
+        return Some(pause - LOOK);
+    }
+    None
+}
+
+// For how many milliseconds no snapshot is looked for after one that took so many.
+fn pause_after(millis: u64) -> u64
+    ensures { result ≡ min (3 * millis) (2 ^ 64 - 1) }
+{
+    millis.saturating_mul(PAUSES)
+}
+
+/// How long it is until the next look: a tenth of a second.
+pub(crate) fn look() -> Duration
+    ensures { as_nanos result ≡ 100_000_000 }
+{
+    Duration::from_millis(LOOK)
 }

@@ -1,9 +1,13 @@
 //! What is reported of a server while its connections are served.
 
+ghost use Rattle.std.specs.Prelude.{◌≡◌, ◌↔◌, ◌/◌, ◌-◌, ◌^◌, ◌≤◌, min, IsTrue};
+ghost use Rattle.std.specs.Duration.{as_nanos};
+ghost use Rattle.linda_net.specs.Troubles.{event_of_snapshot};
+
 use crate::marks::{Marks, Tally};
 use crate::refusals::Why;
 use crate::seen::Seen;
-use crate::serving::LOOK;
+use crate::serving::look;
 use linda_disk::Disk;
 use linda_shared::{Gauge, Shared, SharedFault};
 use std::sync::ledger::Ledger;
@@ -69,12 +73,12 @@ pub(crate) fn watch<D: Disk, L: Ledger, R: Wait + Clock, T: Watcher>(
         if over {
             return;
         }
-        if millis_since(rt, begin) >= MINUTE {
+        if is_minute(millis_since(rt, begin)) {
             tell(rt, shared, marks, watcher, Event::Minute);
             seen.end_minute(&tally);
             begin = Instant::now(rt).ok();
         }
-        thread::sleep(rt, Duration::from_millis(LOOK));
+        thread::sleep(rt, look());
     }
 }
 
@@ -88,14 +92,26 @@ pub(crate) fn take_snapshot<D: Disk, L: Ledger, R: Wait + Clock>(
     let begin = Instant::now(rt).ok();
     let taken = shared.snapshot(rt);
     let millis = millis_since(rt, begin);
-    if let Some(marks) = marks {
-        match taken {
-            Ok(()) => marks.keep_snapshot(rt, Event::Snapshot(millis)),
-            Err(SharedFault::Full) => marks.keep_snapshot(rt, Event::NoSnapshot(millis)),
-            Err(_) => {}
-        }
+    if let (Some(marks), Some(event)) = (marks, event_of(&taken, millis)) {
+        marks.keep_snapshot(rt, event);
     }
     millis
+}
+
+// What is told of a snapshot that took so many milliseconds.
+fn event_of(taken: &Result<(), SharedFault>, millis: u64) -> Option<Event>
+    ensures { result ≡ event_of_snapshot taken.now millis }
+{
+    match taken {
+        Ok(()) => Some(Event::Snapshot(millis)),
+        Err(SharedFault::Full) => Some(Event::NoSnapshot(millis)),
+        Err(SharedFault::Down) => None,
+        Err(SharedFault::SeatMissing) => None,
+        Err(SharedFault::Receipt { .. }) => None,
+        Err(SharedFault::Stuck(_)) => None,
+        Err(SharedFault::NoThread) => None,
+        Err(SharedFault::Memory) => None,
+    }
 }
 
 // Reports each trouble that began.
@@ -135,10 +151,24 @@ fn millis_since<R: Clock>(rt: &R, begin: Option<Instant>) -> u64 {
         return 0;
     };
     match begin.elapsed(rt) {
-        Ok(passed) => {
-            let millis = passed.as_secs().saturating_mul(1_000);
-            millis.saturating_add(u64::from(passed.subsec_millis()))
-        }
+        Ok(passed) => millis_of(passed),
         Err(_) => 0,
     }
+}
+
+// How many whole milliseconds a time has, as far as that can be counted.
+fn millis_of(passed: Duration) -> u64
+    ensures { result ≡ min (as_nanos passed / 1_000_000) (2 ^ 64 - 1) }
+{
+    match u64::try_from(passed.as_millis()) {
+        Ok(millis) => millis,
+        Err(_) => u64::MAX,
+    }
+}
+
+// Whether a minute is over after so many milliseconds.
+fn is_minute(millis: u64) -> bool
+    ensures { IsTrue result ↔ (60_000 ≤ millis) }
+{
+    millis >= MINUTE
 }

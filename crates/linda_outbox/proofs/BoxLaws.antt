@@ -2,13 +2,16 @@
 -- key, are functions here, so that no law speaks of a map or of a slab.
 use Rattle.std.proofs.Common.{◌≡◌, ◌≢◌, ℕ, Bool, true, false, cond, ◌==◌, List, [], ◌∷◌, ◌++◌, Option, Some, None, is_some, refl, sym, ap, ◌∙◌, subst, inl, inr, eq-eqb, ne_eqb, true≢false}
 use Rattle.std.proofs.lemmas.Bool.{cases_eq}
+use Rattle.std.proofs.Math.Logic.{∥∥₁_map}
 use Rattle.std.specs.Ordering.{nat_cmp}
 use Rattle.std.specs.Cmp.{unsigned_tied}
+use Rattle.std.specs.BTreeMap as tree
+use Rattle.std.specs.Map.{lookup}
 use Rattle.std.specs.BTreeMap.{is_at}
 use Rattle.std.proofs.lemmas.Option.{none-some, same_Some}
 use Rattle.linda_wire.specs.declared.reply.Reply.{Reply}
 use Rattle.linda_outbox.specs.declared.outbox.Outbox.{Outbox}
-use Rattle.linda_outbox.specs.Boxes.{shown, TakesMore, stands_in, is_heard, posted, taken_out, unlisted, is_unlisted}
+use Rattle.linda_outbox.specs.Boxes.{shown, replies_in, TakesMore, stands_in, is_heard, posted, taken_out, unlisted, is_unlisted}
 
 -- What a look-up by key gives for what is found.
 abbrev pub boxed : (ℕ → Option Outbox) → Option ℕ → Option Outbox
@@ -184,3 +187,72 @@ more_taken old new key n kept others (Some k) room =
 -- A look-up of another key is of another key for the map too.
 pub is_other : (c q : ℕ) → q ≢ c → is_at (nat_cmp c) q ≡ false
 is_other c q differs = unsigned_tied c q ∙ ne_eqb c q (λ e. differs (sym e))
+
+-- ---- each box is a client's
+
+abbrev pub Owned : (ℕ → Option ℕ) → (ℕ → Option Outbox) → Type 0
+Owned find at = (key : ℕ) → is_some (at key) ≡ true → ∥ ((c : ℕ) × (find c ≡ Some key)) ∥₁
+
+-- The box under one client's key changed.
+pub owned_at : (find : ℕ → Option ℕ) (old new : ℕ → Option Outbox) (c key : ℕ) → find c ≡ Some key → ((k : ℕ) → k ≢ key → new k ≡ old k) → Owned find old → Owned find new
+owned_at find old new c key found others owned k is =
+    elim (cases_eq k key) [
+      | inl same ↦ ∣ (c, found ∙ ap (λ x. Some x) (sym same)) ∣₁
+      | inr differs ↦ owned k (ap is_some (sym (others k differs)) ∙ is)
+    ]
+
+-- A client has lost its key, and the box under it is gone.
+pub owned_without : (find now : ℕ → Option ℕ) (old new : ℕ → Option Outbox) (c key : ℕ) → find c ≡ Some key → new key ≡ None → ((q : ℕ) → q ≢ c → now q ≡ find q)
+    → ((k : ℕ) → k ≢ key → new k ≡ old k) → Owned find old → Owned now new
+owned_without find now old new c key found gone same others owned k is =
+    elim (cases_eq k key) [
+      | inl here ↦ absurd (true≢false (sym is ∙ ap (λ x. is_some (new x)) here ∙ ap is_some gone))
+      | inr differs ↦
+          ∥∥₁_map (owned k (ap is_some (sym (others k differs)) ∙ is))
+          (λ own. (own.0, same own.0 (λ mine. differs (same_Some k key (sym own.1 ∙ (ap find mine ∙ found)))) ∙ own.1))
+    ]
+
+-- A client that had none has a new key.
+pub owned_with : (find now : ℕ → Option ℕ) (old new : ℕ → Option Outbox) (c key : ℕ) → find c ≡ None → now c ≡ Some key → ((q : ℕ) → q ≢ c → now q ≡ find q)
+    → ((k : ℕ) → k ≢ key → new k ≡ old k) → Owned find old → Owned now new
+owned_with find now old new c key none has same others owned k is =
+    elim (cases_eq k key) [
+      | inl here ↦ ∣ (c, has ∙ ap (λ x. Some x) (sym here)) ∣₁
+      | inr differs ↦
+          ∥∥₁_map (owned k (ap is_some (sym (others k differs)) ∙ is))
+          (λ own. (own.0, same own.0 (λ mine. none-some k (sym none ∙ sym (ap find mine) ∙ own.1)) ∙ own.1))
+    ]
+
+-- A client for which nothing can wait has no key.
+pub has_no_key : (find : ℕ → Option ℕ) (at : ℕ → Option Outbox) (c : ℕ) → Taken find at → is_some (replies_in (boxed at (find c))) ≡ false → find c ≡ None
+has_no_key find at c taken none = by (find c) refl
+  where
+    there : (o : Option Outbox) → is_some o ≡ true → is_some (replies_in o) ≡ true
+    there None is = is
+    there (Some box) is = refl
+
+    by : (o : Option ℕ) → find c ≡ o → o ≡ None
+    by None is = refl
+    by (Some key) is = absurd (true≢false (sym (there (at key) (taken c key is)) ∙ (sym (ap (λ o. is_some (replies_in (boxed at o))) is) ∙ none)))
+
+-- ---- nothing changed
+
+pub get_same : (m n : tree.BTreeMap ℕ ℕ) → n.entries ≡ m.entries → (q : ℕ) → tree.get nat_cmp n q ≡ tree.get nat_cmp m q
+get_same m n same q = ap (lookup (is_at (nat_cmp q))) same
+
+module _ (find now : ℕ → Option ℕ) (old new : ℕ → Option Outbox) (same : (q : ℕ) → now q ≡ find q) (kept : (k : ℕ) → new k ≡ old k) where
+  pub still_taken : Taken find old → Taken now new
+  still_taken taken c key is = ap is_some (kept key) ∙ taken c key (sym (same c) ∙ is)
+
+  pub still_owned : Owned find old → Owned now new
+  still_owned owned k is = ∥∥₁_map (owned k (ap is_some (sym (kept k)) ∙ is)) (λ own. (own.0, same own.0 ∙ own.1))
+
+  pub still_apart : Apart find → Apart now
+  still_apart apart a b key is also = apart a b key (sym (same a) ∙ is) (sym (same b) ∙ also)
+
+  pub still_heard_of : (ws : List ℕ) → Heard find old ws → Heard now new ws
+  still_heard_of ws heard c = ap (λ o. is_heard ws c (shown o)) (ap (boxed new) (same c) ∙ at (find c)) ∙ heard c
+    where
+      at : (o : Option ℕ) → boxed new o ≡ boxed old o
+      at None = refl
+      at (Some key) = kept key

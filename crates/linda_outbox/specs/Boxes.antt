@@ -70,6 +70,10 @@ is_heard waiting c (Some (rs, false)) = is_none_left rs
 abbrev pub AllTaken : tree.BTreeMap ℕ ℕ → slab.Slab Outbox → Type 0
 AllTaken keys boxes = (c key : ℕ) → tree.get nat_cmp keys c ≡ Some key → is_some (slab.get boxes key) ≡ true
 
+-- Each box is the outbox of a client.
+abbrev pub AllOwned : tree.BTreeMap ℕ ℕ → slab.Slab Outbox → Type 0
+AllOwned keys boxes = (key : ℕ) → is_some (slab.get boxes key) ≡ true → ∥ ((c : ℕ) × (tree.get nat_cmp keys c ≡ Some key)) ∥₁
+
 -- No two clients have one key.
 abbrev pub AreApart : tree.BTreeMap ℕ ℕ → Type 0
 AreApart keys =

@@ -7,5 +7,7 @@
 
 mod outbox;
 mod outboxes;
+mod sent;
 
 pub use outboxes::Outboxes;
+pub use sent::Sent;

@@ -5,10 +5,11 @@ ghost use Rattle.std.specs.Prelude.{vec_len, vec_capacity, OnOk, OnErr, OnSome, 
 ghost use Rattle.std.specs.Option.{is_some};
 ghost use Rattle.std.specs.Ordering.{nat_cmp};
 ghost use Rattle.std.specs.BTreeMap as tree;
-ghost use Rattle.linda_outbox.specs.Boxes.{box_of, AllHeard, AllTaken, AreApart, TakesMore};
+ghost use Rattle.linda_outbox.specs.Boxes.{box_of, AllHeard, AllOwned, AllTaken, AreApart, TakesMore};
 ghost use Rattle.linda_outbox.specs.Replies.{replies_to, opened, with_more, emptied, handed_out};
 
 use crate::outbox::{Outbox, make_place, put, take_out, unlist};
+use crate::sent::Sent;
 use linda_wire::Reply;
 use slab::Slab;
 use std::alloc::{AllocError, Global};
@@ -21,6 +22,7 @@ pub struct Outboxes {
     boxes: Slab<Outbox>,
     waiting: Vec<u32>,
     ghost taken: { AllTaken keys boxes },
+    ghost owned: { AllOwned keys boxes },
     ghost apart: { AreApart keys },
     ghost heard: { AllHeard keys boxes waiting.items },
 }
@@ -149,18 +151,18 @@ impl Outboxes {
 
     /// What waits for some client for which something waits; none where nothing waits for anybody. Its
     /// outbox is empty then. Takes no memory, and looks at those alone that something was posted to.
-    pub fn drain_next(&mut self, alloc: Global) -> Option<(u32, Vec<Reply>)>
-        ensures out { IfSome result (λ next. waits_for self.old next.0 ≡ Some next.1.items) }
-        ensures some { IfSome result (λ next. next.1.items ≢ []) }
-        ensures at { IfSome result (λ next. waits_for self.new next.0 ≡ Some []) }
-        ensures others { IfSome result (λ next. (c : ℕ) → c ≢ next.0 →
+    pub fn drain_next(&mut self, alloc: Global) -> Option<Sent>
+        ensures out { IfSome result (λ next. waits_for self.old next.client ≡ Some next.replies.items) }
+        ensures some { IfSome result (λ next. next.replies.items ≢ []) }
+        ensures at { IfSome result (λ next. waits_for self.new next.client ≡ Some []) }
+        ensures others { IfSome result (λ next. (c : ℕ) → c ≢ next.client →
             waits_for self.new c ≡ waits_for self.old c) }
         ensures none { IfNone result ((c : ℕ) → handed_out (waits_for self.old c) ≡ []) }
         ensures same { IfNone result ((c : ℕ) → waits_for self.new c ≡ waits_for self.old c) }
     {
         while let Some((client, replies)) = self.drain_last(alloc) {
             if !replies.is_empty() {
-                return Some((client, replies));
+                return Some(Sent { client, replies });
             }
         }
         None

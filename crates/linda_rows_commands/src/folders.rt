@@ -1,5 +1,6 @@
 //! A folder whose files hold bytes, and what is printed of it.
 
+use crate::peers::Buffered;
 use crate::texts::{done, push_bytes, tell_text};
 use linda_inspect::Lists;
 use linda_script::{WordsFault, split_word};
@@ -101,15 +102,15 @@ fn inspect(files: &HostRuntime, alloc: Global, came: &mut String) -> Result<(), 
     done(tell_folder(files, alloc, came))
 }
 
-// Writes what is printed of the folder, with both lists, and how that ends if it does not end well.
+// Writes what is printed of the folder and flushed, with both lists, and how that ends if it does not end well.
 fn tell_folder(files: &HostRuntime, alloc: Global, came: &mut String) -> Result<(), AllocError> {
     let lists = Lists {
         tuples: true,
         clients: true,
     };
-    let mut out: Vec<u8> = Vec::new(alloc);
+    let mut out = Buffered::new(alloc);
     let ended = inspect_folder(files, alloc, &mut out, FOLDER, lists);
-    tell_text(&out, came)?;
+    tell_text(out.flushed(), came)?;
     match ended {
         Ok(()) => Ok(()),
         Err(fault) => writeln!(came, "> {fault}"),

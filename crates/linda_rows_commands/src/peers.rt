@@ -1,5 +1,6 @@
 //! A reader and a writer that give and take a little at a time, and fail.
 
+use std::alloc::Global;
 use std::cell::Cell;
 use std::io;
 use std::io::{ErrorKind, Read, Write};
@@ -58,6 +59,41 @@ impl Write for Narrow<'_> {
             self.failed = self.failed.saturating_add(1);
         }
         self.unflushed.set(false);
+        Ok(())
+    }
+}
+
+/// Takes all that it is given, and gives on what was written before the last flush.
+#[derive(Drop)]
+pub(crate) struct Buffered {
+    bytes: Vec<u8>,
+    flushed: usize,
+}
+
+impl Buffered {
+    /// Nothing was written yet.
+    pub(crate) fn new(alloc: Global) -> Buffered {
+        Buffered {
+            bytes: Vec::new(alloc),
+            flushed: 0,
+        }
+    }
+
+    /// What was flushed.
+    pub(crate) fn flushed(&self) -> &[u8] {
+        let bytes: &[u8] = &self.bytes;
+        &bytes[..self.flushed.min(bytes.len())]
+    }
+}
+
+impl Write for Buffered {
+    fn write(&mut self, buf: &[u8]) -> io::Result<usize> {
+        self.bytes.extend_from_slice(buf)?;
+        Ok(buf.len())
+    }
+
+    fn flush(&mut self) -> io::Result<()> {
+        self.flushed = self.bytes.len();
         Ok(())
     }
 }

@@ -5,15 +5,13 @@ use crate::book::play_book;
 use crate::deeds::play_deeds;
 use crate::holds::play_holds;
 use crate::node::play_node;
-use crate::step::play_store;
+use crate::step::Stores;
 use crate::talks::Talks;
 use crate::waits::play_waits;
-use linda_bag::IndexBag;
 use linda_book::Book;
 use linda_hold::{Holds, Waits};
 use linda_script::{Player, WordsFault};
 use linda_state::Deed;
-use linda_step::Store;
 use linda_store::Volatile;
 use std::alloc::Global;
 
@@ -38,7 +36,7 @@ pub(crate) struct Stand {
     waits: Waits,
     holds: Holds,
     book: Book,
-    store: Store<IndexBag>,
+    stores: Stores,
     deeds: Vec<Deed>,
     node: Volatile,
     talks: Talks,
@@ -53,7 +51,7 @@ impl Stand {
             waits: Waits::new(alloc),
             holds: Holds::new(alloc),
             book: Book::new(alloc),
-            store: Store::new(alloc),
+            stores: Stores::new(alloc),
             deeds: Vec::new(alloc),
             node: Volatile::new(alloc),
             talks: Talks::new(alloc),
@@ -90,7 +88,7 @@ impl Player for Stand {
             Subject::Waits => play_waits(alloc, &mut self.waits, words, came),
             Subject::Holds => play_holds(alloc, &mut self.holds, words, came),
             Subject::Book => play_book(alloc, &mut self.book, words, came),
-            Subject::Step => play_store(alloc, &mut self.store, words, came),
+            Subject::Step => self.stores.play(alloc, words, came),
             Subject::Promise => play_deeds(alloc, &mut self.deeds, words, came),
             Subject::Store => play_node(alloc, &mut self.node, words, came),
             Subject::Session => self.talks.play(alloc, words, came),

@@ -1,8 +1,8 @@
-//! A store: what clients say to it, and what comes of it.
+//! Two stores, one over each bag: what clients say to them, and what comes of it, which has to be the same.
 
 use crate::node::batch;
-use crate::told::{done, tell, tell_two};
-use linda_bag::{Bag, IndexBag};
+use crate::told::{done, tell, tell_alike, tell_two};
+use linda_bag::{Bag, IndexBag, ListBag};
 use linda_hold::Holds;
 use linda_script::{
     WordsFault, read_hex, read_message, read_number, read_numbered, read_small_number, split_word,
@@ -16,10 +16,41 @@ use linda_tuple::Form;
 use std::alloc::{AllocError, Global};
 use std::fmt::Display;
 
-/// Lets the store do what the words say.
-pub(crate) fn play_store(
+/// A store over the plain bag, and one over the bag with an index.
+#[derive(Drop)]
+pub(crate) struct Stores {
+    plain: Store<ListBag>,
+    index: Store<IndexBag>,
+}
+
+impl Stores {
+    /// Stores of servers that were never used.
+    pub(crate) fn new(alloc: Global) -> Stores {
+        Stores {
+            plain: Store::new(alloc),
+            index: Store::new(alloc),
+        }
+    }
+
+    /// Lets both stores do what the words say, and says what came of it, of each where they differ.
+    pub(crate) fn play(
+        &mut self,
+        alloc: Global,
+        words: &str,
+        came: &mut String,
+    ) -> Result<(), WordsFault> {
+        let mut plain = String::new(alloc);
+        let mut index = String::new(alloc);
+        play_store(alloc, &mut self.plain, words, &mut plain)?;
+        play_store(alloc, &mut self.index, words, &mut index)?;
+        done(tell_alike(came, &plain, &index))
+    }
+}
+
+// Lets the store do what the words say.
+fn play_store<B: Bag>(
     alloc: Global,
-    store: &mut Store<IndexBag>,
+    store: &mut Store<B>,
     words: &str,
     came: &mut String,
 ) -> Result<(), WordsFault> {
@@ -42,9 +73,9 @@ pub(crate) fn play_store(
 }
 
 // Takes the store of the state that these bytes spell.
-fn take_state(alloc: Global, store: &mut Store<IndexBag>, digits: &str) -> Result<(), WordsFault> {
+fn take_state<B: Bag>(alloc: Global, store: &mut Store<B>, digits: &str) -> Result<(), WordsFault> {
     let bytes = read_hex(alloc, digits)?;
-    let state: State<IndexBag> = match get_state(alloc, BANK_FORM, &bytes) {
+    let state: State<B> = match get_state(alloc, BANK_FORM, &bytes) {
         Ok(state) => state,
         Err(SnapshotFault::Memory) => return Err(WordsFault::Memory),
         Err(SnapshotFault::NoSnapshot) => return Err(WordsFault::Unknown),
@@ -54,9 +85,9 @@ fn take_state(alloc: Global, store: &mut Store<IndexBag>, digits: &str) -> Resul
 }
 
 // Ends what a client waits for and holds, and says what comes of it.
-fn close(
+fn close<B: Bag>(
     alloc: Global,
-    store: &mut Store<IndexBag>,
+    store: &mut Store<B>,
     client: &str,
     came: &mut String,
 ) -> Result<(), WordsFault> {
@@ -65,9 +96,9 @@ fn close(
 }
 
 // Says what comes of the words of a client.
-fn answer(
+fn answer<B: Bag>(
     alloc: Global,
-    store: &mut Store<IndexBag>,
+    store: &mut Store<B>,
     client: u32,
     words: &str,
     came: &mut String,
@@ -80,9 +111,9 @@ fn answer(
 }
 
 // What comes of the words of a client.
-fn step_of(
+fn step_of<B: Bag>(
     alloc: Global,
-    store: &mut Store<IndexBag>,
+    store: &mut Store<B>,
     client: u32,
     words: &str,
 ) -> Result<Step, WordsFault> {
@@ -91,7 +122,7 @@ fn step_of(
 }
 
 // Client 7 puts tuples of these fields, as its messages from 1 on.
-fn puts(alloc: Global, store: &mut Store<IndexBag>, fields: &str) -> Result<(), WordsFault> {
+fn puts<B: Bag>(alloc: Global, store: &mut Store<B>, fields: &str) -> Result<(), WordsFault> {
     let mut n: u64 = 0;
     for field in fields.split_whitespace() {
         n = n.saturating_add(1);
@@ -101,7 +132,7 @@ fn puts(alloc: Global, store: &mut Store<IndexBag>, fields: &str) -> Result<(), 
 }
 
 // Client 8 asks by the tickets from 1 on, below this one, for the tuple 5: to take it by an odd one, else to read it.
-fn asks(alloc: Global, store: &mut Store<IndexBag>, end: &str) -> Result<(), WordsFault> {
+fn asks<B: Bag>(alloc: Global, store: &mut Store<B>, end: &str) -> Result<(), WordsFault> {
     let end = read_number(end)?;
     for ticket in 1..end {
         let verb = if ticket % 2 == 1 { "in" } else { "rd" };
@@ -111,7 +142,7 @@ fn asks(alloc: Global, store: &mut Store<IndexBag>, end: &str) -> Result<(), Wor
 }
 
 // Each client from the first on, below the second, accepts what nobody offered it.
-fn passes(alloc: Global, store: &mut Store<IndexBag>, clients: &str) -> Result<(), WordsFault> {
+fn passes<B: Bag>(alloc: Global, store: &mut Store<B>, clients: &str) -> Result<(), WordsFault> {
     let (first, end) = read_numbered(clients)?;
     let end = read_small_number(end)?;
     for client in first..end {
@@ -121,9 +152,9 @@ fn passes(alloc: Global, store: &mut Store<IndexBag>, clients: &str) -> Result<(
 }
 
 // The store does what a client says, of which nothing is said.
-fn hear(
+fn hear<B: Bag>(
     alloc: Global,
-    store: &mut Store<IndexBag>,
+    store: &mut Store<B>,
     client: u32,
     words: &str,
 ) -> Result<(), WordsFault> {
@@ -132,9 +163,9 @@ fn hear(
 }
 
 // The store does what a client says, by this number, of the tuple `("a", FIELD)`.
-fn hear_of(
+fn hear_of<B: Bag>(
     alloc: Global,
-    store: &mut Store<IndexBag>,
+    store: &mut Store<B>,
     client: u32,
     verb: &str,
     n: u64,
@@ -157,9 +188,9 @@ fn split_form(words: &str) -> (Form, &str) {
 }
 
 // Writes how many bytes the deeds of these messages will spell, or that one has no spelling in the form.
-fn tell_size(
+fn tell_size<B: Bag>(
     alloc: Global,
-    store: &Store<IndexBag>,
+    store: &Store<B>,
     words: &str,
     came: &mut String,
 ) -> Result<(), WordsFault> {
@@ -195,9 +226,9 @@ fn tell_act<T: Display + Drop>(
 }
 
 // Appends what the store has, where these words ask.
-fn show(
+fn show<B: Bag>(
     alloc: Global,
-    store: &Store<IndexBag>,
+    store: &Store<B>,
     what: &str,
     which: &str,
     came: &mut String,
@@ -220,9 +251,9 @@ fn show(
 }
 
 /// Writes the tuple that a state keeps under an id, and for whom it is held.
-pub(crate) fn tell_held_tuple(
+pub(crate) fn tell_held_tuple<B: Bag>(
     alloc: Global,
-    state: &State<IndexBag>,
+    state: &State<B>,
     holds: &Holds,
     id: u64,
     came: &mut String,

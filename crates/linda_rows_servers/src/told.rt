@@ -33,3 +33,13 @@ pub(crate) fn tell_found<T: Display + Drop>(
         None => tell(came, "none"),
     }
 }
+
+/// Appends the lines that came of both bags, or those of each where they differ.
+pub(crate) fn tell_alike(came: &mut String, plain: &str, index: &str) -> Result<(), AllocError> {
+    came.push_str(plain)?;
+    if plain == index {
+        return Ok(());
+    }
+    came.push_str("> but over the bag with an index\n")?;
+    came.push_str(index)
+}

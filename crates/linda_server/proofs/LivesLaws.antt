@@ -1,8 +1,9 @@
 -- What is known of a server, and of two disks without one, after every life.
-use Rattle.std.proofs.Common.{◌≡◌, ℕ, Bool, true, false, inl, inr, if◌then◌else◌, List, [], ◌∷◌, ◌++◌, None, refl, sym, ap, ◌∙◌, subst, append-nil, true≢false, Result, Ok, Err, IfOk, OnErr, ◌⊎◌}
+use Rattle.std.proofs.Common.{◌≡◌, ℕ, Bool, true, false, inl, inr, if◌then◌else◌, List, [], ◌∷◌, ◌++◌, None, refl, sym, ap, ◌∙◌, subst, append-nil, true≢false, Result, Ok, Err, IfOk, OnOk, OnErr, ◌⊎◌}
 use Rattle.std.proofs.Math.Logic.{∥∥₁_map}
 use Rattle.std.proofs.lemmas.Bool.{cases_Bool, cond-false, cond-true}
 use Rattle.std.proofs.lemmas.List.Elements.{All-nil, All-append}
+use Rattle.linda_wire.specs.declared.message.Message.{Message}
 use Rattle.linda_wire.specs.declared.reply.Reply.{Reply}
 use Rattle.linda_state.specs.declared.deed.Deed.{Deed}
 use Rattle.linda_state.specs.State.{State, IsState, empty_state}
@@ -22,19 +23,22 @@ use Rattle.linda_step.proofs.GrowthLaws.{one_only}
 use Rattle.linda_step.proofs.HistoryLaws.{all_safe}
 use Rattle.linda_step.proofs.OrderLaws.{new_store_orderly}
 use Rattle.linda_promise.specs.Replies.{reports_deed, ReportsOne}
-use Rattle.linda_store.specs.Node.{Node, Sent, IsDown, IsDone, WentDown}
+use Rattle.linda_store.specs.Node.{Node, Sent, IsDown, IsDone, WentDown, MayRemain}
 use Rattle.linda_store.specs.Sound.{IsSound, AreBacked}
 use Rattle.linda_store.proofs.ServeLaws.{backed_later, works_sound, works_backed}
 use Rattle.linda_disk.specs.declared.disk.Disk.{Ghosts}
 use Rattle.linda_disk.specs.View.{IsTimed}
 use Rattle.linda_snap.specs.Stands.{Stands}
 use Rattle.linda_server.specs.declared.durable.Durable.{Durable}
+use Rattle.linda_server.specs.declared.fault.ServeFault.{ServeFault}
+use Rattle.linda_server.specs.declared.served.Served.{Served}
+use Rattle.linda_server.specs.Served.{IsServed}
 use Rattle.linda_server.specs.Pairs.{two, PairsSince, PairsNow}
 use Rattle.linda_server.specs.Server.{both_of, BothHonest, AlwaysLeave}
 use Rattle.linda_server.specs.Calls.{StandsAround, IsWithOrWithout, IsBeforeOrAfter, StandsFor, IsNothingOr}
 use Rattle.linda_server.specs.Node.{shown}
 use Rattle.linda_server.specs.Reopening.{has_done}
-use Rattle.linda_server.specs.Lives.{found_of, Call, handles, serves, closes, rewrites, Fall, at_work, at_rest, Cut, amid_work, amid_rest, AreLeft, Made, disks_then, IsOpenedOn, Phase, Serving, Stopped, Life, made, half_made, called, fell, cut, stopped, opened, not_opened, GoesOn}
+use Rattle.linda_server.specs.Lives.{found_of, Call, handles, serves, closes, rewrites, Fall, at_work, at_rest, Cut, amid_work, amid_rest, AreLeft, Made, disks_then, IsOpenedOn, Phase, Serving, Stopped, Life, made, half_made, called, fell, cut, stopped, opened, not_opened, GoesOn, StaysOn}
 use Rattle.linda_server.specs.Promises.{KeepsItsWord, IsReady, AreReady, IsFreed}
 use Rattle.linda_server.proofs.AgainLaws.{answered_as_kept, all_covered, still_there}
 use Rattle.linda_server.proofs.CallLaws.{none_remains, stands_with}
@@ -344,3 +348,21 @@ module _ {D : Type 0} {g : Ghosts D} (timed : (d : D) → g.honest d → IsTimed
             | inl same ↦ subst (λ s. Life ds all (Serving s)) (sym same) life
             | inr went ↦ fell ds all old new life went.0 went.1 went.2
           ]
+
+  -- It made no device call, and answered nothing.
+  pub stays_on : (old new : Durable D g) → (old.down ≡ true → new ≡ old) → (old.down ≡ false → (new.down ≡ true) × (new.before.value ≡ old.store.state) × (new.lost.items ≡ [])) → StaysOn old new
+  stays_on old new same went ds all life = by old.down refl
+    where
+      by : (b : Bool) → old.down ≡ b → Life ds all (Serving new)
+      by true down = subst (λ s. Life ds all (Serving s)) (sym (same down)) life
+      by false up = let so = went up in fell ds all old new life up so.0 (at_rest so.1 so.2)
+
+  -- It took messages, ended well or with a fault.
+  pub serves_on : (old new : Durable D g) (ms : List (ℕ × Message)) (r : Result Served ServeFault) → old.down ≡ false
+      → IfOk r (λ served. IsServed old.store.state old.store.soft ms served new.store.state new.store.soft) → OnOk r (new.down ≡ false) → OnErr r (new.down ≡ true)
+      → new.before.value ≡ old.store.state → (new.down ≡ true → MayRemain (shown old.before.value old.store old.down old.lost.items) (comings ms) new.lost.items)
+      → AlwaysLeave old.disks new.disks (IsBeforeOrAfter old.store (comings ms)) → GoesOn (λ (served : Served). served.sends.items) old r new
+  serves_on old new ms (Ok served) was_up done up down before lost always =
+      goes_on_well (λ (told : Served). told.sends.items) old new served.deeds.items served was_up up (serves ms served done) (λ _. cut_at_work old new (comings ms) always)
+  serves_on old new ms (Err fault) was_up done up down before lost always =
+      goes_on_still (λ (told : Served). told.sends.items) old new fault (inr (was_up, down, at_work (comings ms) before (lost down))) (λ _. cut_at_work old new (comings ms) always)

@@ -66,6 +66,8 @@ module _ {D : Type 0} {g : Ghosts D} where
     pub limit : new.limit ≡ old.limit
     pub lost : LosesSome old ms new
     pub before : old.down ≡ false → IsErrOf result faults.Full ⊎ (new.before.value ≡ old.store.state)
+    -- Every life of the server goes on by it.
+    pub life : GoesOn (λ (served : Served). served.sends.items) old result new
 
   -- It took these messages, or it did not, as a node says it (`handle`, `handle_all`).
   pub record Handles (old : Durable D g) (ms : List (ℕ × Message)) (result : Result (Vec (ℕ × Reply)) NodeFault)

@@ -127,6 +127,10 @@ module _ {D : Type 0} {g : Ghosts D} where
         → AreLeft g (two (g.view first) (g.view second)) (disks_then made) left right
         → Life ds all (Stopped hand left right)
 
+  -- Every life goes on by a call that makes no device call and answers nothing.
+  abbrev pub StaysOn : Durable D g → Durable D g → Type 0
+  StaysOn old new = (ds : List Deed) (all : List (ℕ × Reply)) → Life ds all (Serving old) → Life ds all (Serving new)
+
   -- Every life goes on by a call: at Ok by deeds and by what was sent, with a fault by nothing; and where the call was
   -- cut off at some moment, on whatever is left of the two disks.
   pub record GoesOn {T E : Type 0} (sends_of : T → List (ℕ × Reply)) (old : Durable D g) (result : Result T E)

@@ -1,5 +1,5 @@
 -- Two disks at a moment, and what crashes leave of the two.
-use Rattle.std.specs.Prelude.{◌≡◌, ℕ, ◌≤◌, List, []}
+use Rattle.std.specs.Prelude.{◌≡◌, ℕ, ◌+◌, ◌≤◌, List, []}
 use Rattle.linda_disk.specs.View.{View}
 use Rattle.linda_disk.specs.Run.{LeavesOnly}
 
@@ -24,6 +24,11 @@ PairsNow now P =
 -- these two
 abbrev pub two : View → View → Both
 two left right = record { left = left; right = right }
+
+-- So many calls changed or synced the left disk since old, and so many the right one.
+abbrev pub TookCalls : ℕ → ℕ → Both → Both → Type 0
+TookCalls left right old new =
+    (new.left.moment ≡ old.left.moment + left) × (new.right.moment ≡ old.right.moment + right)
 
 -- A crash now leaves no byte.
 abbrev pub IsVoid : View → Type 0

@@ -67,6 +67,11 @@ module _ {D : Type 0} {g : Ghosts D} where
   IsRenewedBy calls old new =
       AreSwapped (λ b d. d ≡ b.disk) (λ d b. g.honest d → TakesCalls calls (g.view d) (g.view b.disk)) old new
 
+  -- The bank in use is as it was. Two calls changed or synced the other disk, if it is honest, and two more if its gate
+  -- was to be closed first.
+  abbrev pub IsClearedBy : Disks (Bank D g) D → Disks (Bank D g) D → Type 0
+  IsClearedBy old new = AreRelated (λ b c. c ≡ b) (λ d e. g.honest d → TakesCalls 2 (g.view d) (g.view e)) old new
+
   -- At no moment of a call crashes leave two images without P.
   abbrev pub AlwaysLeave : Disks (Bank D g) D → Disks (Bank D g) D → (List ℕ → List ℕ → Type 0) → Type 0
   AlwaysLeave old new P = BothHonest old → PairsSince (both_of old) (both_of new) P

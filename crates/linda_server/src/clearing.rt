@@ -1,15 +1,15 @@
 //! How the disk that is not in use is emptied.
 
-ghost use Rattle.std.specs.Prelude.{◌≡◌, ◌↔◌, true, length, IfErr, OnOk};
+ghost use Rattle.std.specs.Prelude.{◌≡◌, ◌+◌, ◌↔◌, true, length, IfErr, OnOk};
 ghost use Rattle.linda_state.specs.State as state;
 ghost use Rattle.linda_disk.specs.View.{IsDurable};
 ghost use Rattle.linda_disk.specs.Disk.{CountsFailure, TellsFailures};
 ghost use Rattle.linda_disk.specs.Run.{LeavesOnly};
-ghost use Rattle.linda_journal.specs.Renewal.{IsNoBank, IsClosed, IsSameOrNone};
+ghost use Rattle.linda_journal.specs.Renewal.{IsNoBank, IsClosed, IsSameOrNone, TakesCalls};
 ghost use Rattle.linda_snap.specs.Stands.{Stands};
 ghost use Rattle.linda_server.specs.Pairs.{PairsSince};
 ghost use Rattle.linda_server.specs.Server.{both_of, is_usable, limit_in_use, BothHonest, failures_of};
-ghost use Rattle.linda_server.specs.Server.{IsUpFor, IsKeptFor};
+ghost use Rattle.linda_server.specs.Server.{IsClearedBy, IsUpFor, IsKeptFor};
 ghost use Rattle.linda_server.specs.Disks.{is_there};
 ghost use Rattle.linda_server.specs.Switch.{IsOtherDurable, IsTrimmed};
 
@@ -36,6 +36,7 @@ pub(crate) fn clear<D: Disk>(disks: &mut Disks<Bank<D>, D>) -> Result<(), DiskFa
         → IsKeptFor disks.old st
         → OnOk result (IsKeptFor disks.new st) }
     ensures trimmed { OnOk result (IsTrimmed disks.old disks.new) }
+    ensures clock { OnOk result (IsClearedBy disks.old disks.new) }
     ensures there { is_there disks.new ≡ true }
     ensures ready { is_usable disks.new ≡ true }
     ensures limit { limit_in_use disks.new ≡ limit_in_use disks.old }
@@ -70,6 +71,7 @@ fn emptied<D: Disk>(disk: D) -> (Result<(), DiskFault>, D)
     ensures one_byte { D.honest disk → OnOk result.0 ((length (D.view result.1).seen ≡ 1)
         × IsClosed (D.view result.1).seen) }
     ensures durable { D.honest disk → OnOk result.0 (IsDurable (D.view result.1)) }
+    ensures clock { D.honest disk → OnOk result.0 (TakesCalls 2 (D.view disk) (D.view result.1)) }
     ensures honest { D.honest disk ↔ D.honest result.1 }
     ensures cause { IfErr result.0 (λ fault. TellsFailures DiskFault.Device fault
         (D.failures disk) (D.failures result.1)) }
@@ -93,6 +95,8 @@ fn cut_behind_gate<D: Disk>(disk: &mut D) -> Result<(), DiskFault>
     ensures one_byte { D.honest disk.old → OnOk result ((length (D.view disk.new).seen ≡ 1)
         × IsClosed (D.view disk.new).seen) }
     ensures durable { D.honest disk.old → OnOk result (IsDurable (D.view disk.new)) }
+    ensures clock { D.honest disk.old
+        → OnOk result ((D.view disk.new).moment ≡ (D.view disk.old).moment + 2) }
     ensures honest { D.honest disk.old ↔ D.honest disk.new }
     ensures cause { CountsFailure result (D.failures disk.old) (D.failures disk.new) }
 {

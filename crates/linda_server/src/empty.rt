@@ -48,6 +48,10 @@ pub(crate) fn expect_empty<D: Disk>(
     ensures right_honest { D.honest right.old ↔ D.honest right.new }
     ensures steady { OnOk result ((D.failures left.new ≡ D.failures left.old)
         × (D.failures right.new ≡ D.failures right.old)) }
+    ensures left_clock { D.honest left.old
+        → (D.view left.new).moment ≡ (D.view left.old).moment }
+    ensures right_clock { D.honest right.old
+        → (D.view right.new).moment ≡ (D.view right.old).moment }
     ensures cause { IfErr result (λ fault. TellsFailuresOfTwo OpenFault.Disk fault
         (D.failures left.old) (D.failures right.old) (D.failures left.new) (D.failures right.new)) }
     ensures known { IsErrOf result OpenFault.NoStore → ⊥ }
@@ -81,6 +85,7 @@ fn expect_no_bytes<D: Disk>(disk: &mut D) -> Result<(), OpenFault>
         × (IsErrOf result OpenFault.NoStore → ⊥) }
     ensures honest { D.honest disk.old ↔ D.honest disk.new }
     ensures steady { OnOk result (D.failures disk.new ≡ D.failures disk.old) }
+    ensures clock { D.honest disk.old → (D.view disk.new).moment ≡ (D.view disk.old).moment }
     ensures cause { IfErr result (λ fault. TellsFailures OpenFault.Disk fault
         (D.failures disk.old) (D.failures disk.new)) }
 {

@@ -2,9 +2,12 @@
 
 mod banks;
 
+ghost use Rattle.std.specs.Prelude.{◌≡◌};
+ghost use Rattle.linda_service.specs.Faults.{inspected_as};
+
 use crate::serving::ServingFault;
 use banks::{Banks, read_banks};
-use linda_inspect::{Lists, write_report};
+use linda_inspect::{InspectFault, Lists, write_report};
 use linda_server::MAX_LIMIT;
 use std::alloc::Global;
 use std::fs::{File, Files};
@@ -27,7 +30,14 @@ pub fn inspect_folder<F: Files<File = File>, W: Write>(
 ) -> Result<(), ServingFault> {
     let Banks { left, right } = read_banks(files, alloc, folder)?;
     let told = write_report(alloc, writer, left, right, MAX_LIMIT, lists);
-    if writer.flush().is_err() {
+    ended(told, writer.flush().is_ok())
+}
+
+// How an inspection ends whose report came to this, and was flushed or was not.
+fn ended(told: Result<(), InspectFault>, is_flushed: bool) -> Result<(), ServingFault>
+    ensures { result ≡ inspected_as told is_flushed }
+{
+    if !is_flushed {
         return Err(ServingFault::Io);
     }
     match told {

@@ -1,15 +1,19 @@
 //! `linda serve`: the store in a folder, for clients that connect to a port of this machine.
 
+mod address;
 mod fault;
 mod heads;
 mod log;
+mod minutes;
 mod stamp;
 mod store;
 
 ghost use Rattle.std.specs.Prelude.{◌≡◌, ◌<◌, false, IfOk, OnErr, OnOk};
 ghost use Rattle.linda_receipt.specs.declared.limits.TheConstants.{PARTS};
 
+use address::{of_this_machine, ready_line};
 pub use fault::ServingFault;
+use fault::served;
 pub use heads::InUse;
 use heads::{bank_in_use, has_cut_off};
 use linda_disk::FileDisk;
@@ -22,7 +26,7 @@ use std::alloc::Global;
 use std::fs::{File, Files};
 use std::io::Write;
 use std::marker::Brand;
-use std::net::{Ipv4Addr, Net, SocketAddr, TcpListener, TcpStream};
+use std::net::{Net, TcpListener, TcpStream};
 use std::sync::ledger::{Blank, Ledger};
 use std::sync::{Mutex, Wait};
 use std::thread::Threads;
@@ -59,7 +63,8 @@ pub fn serve_folder<
     listen_and_serve::<Brand, S, W>(rt, alloc, writer, server, Blank::new(PARTS), port, sessions)
 }
 
-// Opens the store in a folder to serve it, and gives back the room of a snapshot that was cut off; with the bank in use.
+// Opens the store in a folder to serve it, and gives back the room of a snapshot that was cut off; with the bank in
+// use.
 fn open_to_serve<F: Files<File = File>>(
     files: &F,
     alloc: Global,
@@ -114,10 +119,7 @@ fn listen_and_serve<
     let shared: Shared<FileDisk, L> = share(rt, alloc, server, blank)?;
     let listener = listen(rt, port)?;
     tell_ready(alloc, writer, &listener)?;
-    match serve(rt, alloc, &listener, &shared, sessions) {
-        Ok(()) => Ok(()),
-        Err(_) => Err(ServingFault::Down),
-    }
+    served(serve(rt, alloc, &listener, &shared, sessions))
 }
 
 /// Serves as `serve_folder` does, and writes a log to a sink of its own, as docs/FORMATS.md has it. A line that
@@ -201,10 +203,7 @@ fn tell_end<L: Ledger, S: Wait + Clock, E: Write>(
     tell_trouble(rt, &mut log, "right", &right);
     let failures = left.failures().saturating_add(right.failures());
     log.tell_end(rt, cause_of(&ended, failures), tally.came, &gauge);
-    match ended {
-        Ok(()) => Ok(()),
-        Err(_) => Err(ServingFault::Down),
-    }
+    served(ended)
 }
 
 // Writes why a bank's file failed, if it did.
@@ -236,8 +235,7 @@ fn listen<S: Net<Listener = TcpListener, Stream = TcpStream>>(
     rt: &S,
     port: u16,
 ) -> Result<TcpListener, ServingFault> {
-    let address = SocketAddr::from((Ipv4Addr::LOCALHOST, port));
-    match TcpListener::bind(rt, address) {
+    match TcpListener::bind(rt, of_this_machine(port)) {
         Ok(listener) => Ok(listener),
         Err(_) => Err(ServingFault::Io),
     }
@@ -257,8 +255,7 @@ fn tell_ready<W: Write>(
     writer: &mut W,
     listener: &TcpListener,
 ) -> Result<(), ServingFault> {
-    let port = port_of(listener)?;
-    let line = format!(in alloc; "ready {port}\n")?;
+    let line = ready_line(alloc, port_of(listener)?)?;
     if writer.write_all(line.as_bytes()).is_err() || writer.flush().is_err() {
         return Err(ServingFault::Io);
     }

@@ -1,2 +1,4 @@
 mod WorkingLaws
 mod SeatLaws
+mod TrayLaws
+mod AddressedLaws

@@ -1,5 +1,6 @@
 -- What a greeting comes to, as contracts see it.
 use Rattle.std.specs.Prelude.{◌≡◌, ℕ, Result, Ok, Err}
+use Rattle.std.specs.Arc.{arc_value}
 use Rattle.linda_wire.specs.declared.message.Message.{Message}
 use Rattle.linda_wire.specs.declared.message.Message.TheVariants as messages
 use Rattle.linda_state.specs.State.{State}
@@ -25,3 +26,13 @@ abbrev pub IsSeatOf : Message → Result (Account × ℕ) (ℕ × ℕ) → Type 
 IsSeatOf (messages.Hello version client fresh) (Ok got) = (got.0.client ≡ client) × (got.0.asked ≡ 0)
 IsSeatOf _ (Ok got) = ⊥
 IsSeatOf _ (Err why) = Unit {0}
+
+-- the client of a Hello, and 0 of any other message
+abbrev pub client_in : Message → ℕ
+client_in (messages.Hello version client fresh) = client
+client_in _ = 0
+
+-- An outlet is of the mailbox of the seat's client.
+abbrev pub HasOwnOutlet : {L : Type 0} → Greeted L → Type 0
+HasOwnOutlet (Welcome seat outlet last) = (arc_value outlet.mailbox).client ≡ seat.client
+HasOwnOutlet (Refused code detail) = Unit {0}

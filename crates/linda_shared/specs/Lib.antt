@@ -1,3 +1,4 @@
+pub mod Addressed
 pub mod Tray
 pub mod Greeting
 pub mod Working

@@ -1,10 +1,25 @@
 -- What contracts see of the batch in hand.
-use Rattle.std.specs.Prelude.{ℕ}
+use Rattle.std.specs.Prelude.{ℕ, Bool, true, List, [], ◌∷◌, ◌&&◌, is_some}
+use Rattle.linda_wire.specs.declared.message.Message.{Message}
+use Rattle.linda_mail.specs.declared.address.Address.{Address}
+use Rattle.linda_mail.specs.declared.letter.Letter.{Letter}
 
--- How many messages are asked, and how many letters are written.
+-- The messages, each with its client, and of each letter whether it has its copy.
 pub record Tray : Type 0 where
-  pub asked : ℕ
-  pub letters : ℕ
+  pub messages : List (ℕ × Message)
+  pub letters : List Bool
 
-abbrev pub tray_of : ℕ → ℕ → Tray
-tray_of asked letters = record { asked = asked; letters = letters }
+abbrev pub tray_of : List (ℕ × Message) → List Bool → Tray
+tray_of messages letters = record { messages = messages; letters = letters }
+
+-- a message that waits, as it is in hand: with the client whose mailbox its answer goes to
+abbrev pub parcel : {L : Type 0} → Message × Address L × ℕ → ℕ × Message
+parcel m = (m.1.client, m.0)
+
+abbrev pub has_copy : {L : Type 0} → Letter L → Bool
+has_copy letter = is_some letter.answer.copy
+
+-- whether all of these are so
+abbrev pub all_true : List Bool → Bool
+all_true [] = true
+all_true (b ∷ bs) = b && all_true bs

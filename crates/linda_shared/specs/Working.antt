@@ -1,6 +1,8 @@
 -- What contracts say of seats that went to work and came back.
-use Rattle.std.specs.Prelude.{◌≡◌, ◌≤◌, List, [], ◌∷◌}
+use Rattle.std.specs.Prelude.{◌≡◌, ◌≤◌, ℕ, List, [], ◌∷◌, Result, Ok, Err, nat_lt, if◌then◌else◌}
 use Rattle.linda_receipt.specs.Account.{Account}
+use Rattle.linda_receipt.specs.declared.fault.SharedFault.{SharedFault}
+use Rattle.linda_receipt.specs.declared.fault.SharedFault.TheVariants as faults
 
 -- It is the same client's, which was told of no fewer deeds.
 pub record HasWorked (before after : Account) : Type 0 where
@@ -13,3 +15,19 @@ AllHaveWorked [] [] = Unit {0}
 AllHaveWorked [] (b ∷ bs) = ⊥
 AllHaveWorked (a ∷ xs) [] = ⊥
 AllHaveWorked (a ∷ xs) (b ∷ bs) = HasWorked a b × AllHaveWorked xs bs
+
+-- where a fault stands among all
+abbrev pub rank : SharedFault → ℕ
+rank faults.Down = 0
+rank faults.Full = 1
+rank faults.SeatMissing = 2
+rank (faults.Receipt client number) = 3
+rank (faults.Stuck client) = 4
+rank faults.NoThread = 5
+rank faults.Memory = 6
+
+-- of two ends the fault that stands first, if there is one; the earlier one of two that stand alike
+abbrev pub first_of : {A : Type 0} → Result A SharedFault → Result A SharedFault → Result A SharedFault
+first_of (Ok a) other = other
+first_of (Err fault) (Ok a) = Err fault
+first_of (Err a) (Err b) = if nat_lt (rank b) (rank a) then Err b else Err a

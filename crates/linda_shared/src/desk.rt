@@ -1,5 +1,9 @@
 //! The server, and the batch in hand.
 
+ghost use Rattle.std.specs.Prelude.{◌≡◌, ◌++◌, ℕ, [], true, false, All, IsTrue};
+ghost use Rattle.linda_outbox.specs.Waiting.{waits_for};
+ghost use Rattle.linda_outbox.specs.Replies.{handed_out};
+
 use crate::tray::Tray;
 use linda_desk::Held;
 use linda_disk::Disk;
@@ -19,22 +23,37 @@ pub(crate) struct Desk<D: Disk, L: Ledger> {
 
 impl<D: Disk, L: Ledger> Desk<D, L> {
     /// Serves what is in hand.
-    pub(crate) fn serve(&mut self, alloc: Global) {
+    pub(crate) fn serve(&mut self, alloc: Global)
+        ensures served { self.new.tray.messages ≡ [] }
+        // Unless the server was given up, each answer has its copy;
+        ensures kept { self.new.is_given_up ≡ false → All IsTrue self.new.tray.letters }
+        // and once it was it is for good.
+        ensures stays { self.old.is_given_up ≡ true → self.new.is_given_up ≡ true }
+        ensures down { self.old.is_given_up ≡ false → self.new.is_given_up ≡ true
+            → self.new.held.server.down ≡ true }
+    {
         if !self.tray.serve(alloc, &mut self.held) {
             self.is_given_up = true;
         }
     }
 
     /// Takes what is posted out of the server's outboxes.
-    pub(crate) fn take_posted<R: Wait>(&mut self, rt: &R, alloc: Global, office: &mut Office<L>) {
+    pub(crate) fn take_posted<R: Wait>(&mut self, rt: &R, alloc: Global, office: &mut Office<L>)
+        // Nothing is left there, unless the server was given up: then nothing goes out.
+        ensures all { self.old.is_given_up ≡ false
+            → (c : ℕ) → handed_out (waits_for self.new.held.boxes c) ≡ [] }
+        ensures none { self.old.is_given_up ≡ true → office.new ≡ office.old }
+        ensures letters { office.new.letters ≡ office.old.letters }
+        ensures same { self.new.is_given_up ≡ self.old.is_given_up }
+    {
         if self.is_given_up {
             return;
         }
         for _ in rt.forever() {
-            let Some((client, replies)) = self.held.drain_next(alloc) else {
+            let Some(sent) = self.held.drain_next(alloc) else {
                 return;
             };
-            office.take_replies(rt, client, replies);
+            office.take_replies(rt, sent);
         }
     }
 }

@@ -5,9 +5,11 @@
 //! `Seat` is what a session carries; its replies come out of an `Outlet`, which never asks for the server.
 #![tactic(auto)]
 
+mod addressed;
 mod crossing;
 mod desk;
 mod gate;
+mod given;
 mod greeted;
 mod seat;
 mod shared;

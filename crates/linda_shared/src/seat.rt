@@ -1,18 +1,19 @@
 //! What a session carries.
 
-ghost use Rattle.std.specs.Prelude.{◌≡◌, ◌-◌, ◌^◌, min, IfOk};
+ghost use Rattle.std.specs.Prelude.{◌≡◌, ◌-◌, ◌^◌, min};
+ghost use Rattle.std.specs.Arc.{arc_value};
 ghost use Rattle.linda_receipt.specs.Account as seen;
 ghost use Rattle.linda_receipt.specs.Ring.{last_number};
 
-use linda_mail::{Address, Mailbox};
+use linda_mail::Mailbox;
 use linda_receipt::Account;
-use std::alloc::{AllocError, Global};
+use std::alloc::Global;
 use std::marker::Model;
 use std::sync::Arc;
 use std::sync::ledger::Ledger;
 
-/// What a session carries: what its client was told, and the mailbox that its answers come to. Contracts see the
-/// account. Between two calls nothing is on its way.
+/// What a session carries: what its client was told, and the client's mailbox, which its answers come to. Contracts see
+/// the account. Between two calls nothing is on its way.
 #[derive(Drop)]
 pub struct Seat<L: Ledger> {
     pub(crate) account: Account<L>,
@@ -21,6 +22,7 @@ pub struct Seat<L: Ledger> {
 
 impl<L: Ledger> Model for Seat<L> {
     ghost use Rattle.std.specs.Prelude.{◌≡◌};
+    ghost use Rattle.std.specs.Arc.{arc_value};
     ghost use Rattle.linda_receipt.specs.Account as seen;
     ghost use Rattle.linda_receipt.specs.Codes.{account_code};
 
@@ -30,12 +32,13 @@ impl<L: Ledger> Model for Seat<L> {
 
     ghost view = { λ s. s.account };
 
-    ghost invariant = { λ s. s.account.asked ≡ 0 };
+    ghost invariant = { λ s. (s.account.asked ≡ 0) × ((arc_value s.mailbox).client ≡ s.account.client) };
 }
 
 impl<L: Ledger> Seat<L> {
     pub(crate) fn new(account: Account<L>, mailbox: Arc<Mailbox<L>, Global>) -> Seat<L>
-        requires { account.asked ≡ 0 }
+        requires none { account.asked ≡ 0 }
+        requires own { (arc_value mailbox).client ≡ account.client }
         ensures { result ≡ account }
     {
         Seat { account, mailbox }
@@ -68,16 +71,4 @@ impl<L: Ledger> Seat<L> {
     {
         self.account
     }
-}
-
-/// The address of this place in a client's mailbox.
-pub(crate) fn address_at<L: Ledger>(
-    client: u32,
-    mailbox: &Arc<Mailbox<L>, Global>,
-    place: usize,
-) -> Result<Address<L>, AllocError>
-    ensures { IfOk result (λ a. a.client ≡ client) }
-{
-    let mailbox = Arc::try_clone(mailbox)?;
-    Ok(Address::new(client, place, mailbox))
 }

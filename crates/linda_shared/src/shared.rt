@@ -93,6 +93,11 @@ impl<D: Disk, L: Ledger> Shared<D, L> {
         self.desk.lock(rt).held.gauge()
     }
 
+    /// How many clients have a mailbox here: as many as have a seat.
+    pub fn mailboxes<R: Wait>(&self, rt: &R) -> usize {
+        self.office.lock(rt).len()
+    }
+
     /// Takes a snapshot.
     ///
     /// # Errors

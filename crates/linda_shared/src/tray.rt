@@ -1,8 +1,13 @@
 //! The batch in hand.
 
-ghost use Rattle.std.specs.Prelude.{◌≡◌, ◌+◌, ◌≤◌, vec_len, vec_capacity};
-ghost use Rattle.linda_shared.specs.Tray.{tray_of};
+ghost use Rattle.std.specs.Prelude.{◌≡◌, ◌+◌, ◌-◌, ◌≤◌, ◌++◌, [], true, false, All, IsTrue, map, length};
+ghost use Rattle.std.specs.Prelude.{nat_lt, vec_len, vec_capacity, IfOk};
+ghost use Rattle.std.specs.VecDeque.{deque_len};
+ghost use Rattle.linda_step.specs.declared.size.TheConstants.{MAX_BATCH};
+ghost use Rattle.linda_mail.specs.Queue.{line, fits, asks_next};
+ghost use Rattle.linda_shared.specs.Tray.{tray_of, parcel, has_copy};
 
+use crate::given::settle;
 use linda_desk::Held;
 use linda_disk::Disk;
 use linda_mail::{Address, Letter, Office, Queue, Waiting};
@@ -14,7 +19,9 @@ use std::marker::Model;
 use std::sync::Wait;
 use std::sync::ledger::Ledger;
 
-/// The messages in hand, each with its part of the ledger, and the letters that answer them.
+/// The messages in hand, each with its client and its part of the ledger, and the letters that answer them. Contracts
+/// see the messages with their clients, in order, and of each letter whether it has a copy. The client of a message is
+/// the one that its answer goes to.
 #[derive(Drop)]
 pub(crate) struct Tray<L: Ledger> {
     messages: Vec<(u32, Message)>,
@@ -24,16 +31,17 @@ pub(crate) struct Tray<L: Ledger> {
 }
 
 impl<L: Ledger> Model for Tray<L> {
-    ghost use Rattle.std.specs.Prelude.{◌≡◌, ◌+◌, ◌≤◌, vec_len, vec_capacity};
+    ghost use Rattle.std.specs.Prelude.{◌≡◌, ◌+◌, ◌≤◌, map, vec_len, vec_capacity};
     ghost use Rattle.linda_step.specs.declared.size.TheConstants.{MAX_BATCH};
     ghost use Rattle.linda_shared.specs.Tray as seen;
-    ghost use Rattle.linda_shared.specs.Tray.{tray_of};
+    ghost use Rattle.linda_shared.specs.Tray.{tray_of, has_copy};
 
     ghost Value = { seen.Tray };
 
-    ghost view = { λ t. tray_of (vec_len t.asked) (vec_len t.letters) };
+    ghost view = { λ t. tray_of t.messages.items (map has_copy t.letters.items) };
 
-    ghost invariant = { λ t. (vec_len t.messages ≡ vec_len t.asked) × (vec_len t.answered ≡ 0)
+    ghost invariant = { λ t. (map (λ m. m.0) t.messages.items ≡ map (λ a. a.address.client) t.asked.items)
+        × (vec_len t.messages ≡ vec_len t.asked) × (vec_len t.answered ≡ 0)
         × (vec_len t.asked + vec_len t.letters ≤ MAX_BATCH)
         × (MAX_BATCH ≤ vec_capacity t.messages) × (MAX_BATCH ≤ vec_capacity t.asked)
         × (MAX_BATCH ≤ vec_capacity t.answered) × (MAX_BATCH ≤ vec_capacity t.letters) };
@@ -41,7 +49,9 @@ impl<L: Ledger> Model for Tray<L> {
 
 impl<L: Ledger> Tray<L> {
     /// Nothing is in hand, and there is room for a batch.
-    pub(crate) fn new(alloc: Global) -> Result<Tray<L>, AllocError> {
+    pub(crate) fn new(alloc: Global) -> Result<Tray<L>, AllocError>
+        ensures { IfOk result (λ t. t ≡ tray_of [] []) }
+    {
         let messages = Vec::with_capacity(alloc, MAX_BATCH)?;
         let asked = Vec::with_capacity(alloc, MAX_BATCH)?;
         let answered = Vec::with_capacity(alloc, MAX_BATCH)?;
@@ -55,7 +65,17 @@ impl<L: Ledger> Tray<L> {
     }
 
     /// Takes what waits of one kind, up to a batch.
-    pub(crate) fn fill(&mut self, queue: &mut Queue<L>) {
+    pub(crate) fn fill(&mut self, queue: &mut Queue<L>)
+        ensures kind { queue.new.has_asked ≡ asks_next (nat_lt 0 (deque_len queue.old.asking))
+            (nat_lt 0 (deque_len queue.old.doing)) queue.old.has_asked }
+        // The messages in hand, and those of this kind that wait, are the same, in order;
+        ensures taken { self.new.messages ++ map parcel (line queue.new.has_asked queue.new)
+            ≡ self.old.messages ++ map parcel (line queue.new.has_asked queue.old) }
+        // and no call of those that wait fits any more.
+        ensures full { fits (MAX_BATCH - length self.new.messages - length self.new.letters)
+            (line queue.new.has_asked queue.new) ≡ false }
+        ensures letters { self.new.letters ≡ self.old.letters }
+    {
         queue.begin();
         for _ in 0..MAX_BATCH {
             let room = MAX_BATCH - self.asked.len() - self.letters.len();
@@ -72,24 +92,22 @@ impl<L: Ledger> Tray<L> {
     /// Serves all that was asked, and writes a letter for each. Where there is no memory for all of these the server is
     /// given up, and they are lost.
     pub(crate) fn serve<D: Disk>(&mut self, alloc: Global, held: &mut Held<D, L>) -> bool
-        ensures { self.new ≡ tray_of 0 (self.old.asked + self.old.letters) }
+        ensures served { self.new.messages ≡ [] }
+        ensures each { length self.new.letters ≡ length self.old.messages + length self.old.letters }
+        ensures kept { result ≡ true → All IsTrue self.new.letters }
+        ensures down { result ≡ false → held.new.server.down ≡ true }
     {
         let _ = held.handle_all(alloc, &self.messages, &mut self.asked, &mut self.answered);
         self.messages.clear();
         write_all(alloc, &mut self.answered, &mut self.letters);
-        if !has_lost(&self.letters) {
-            return true;
-        }
-        held.give_up();
-        lose_all(&mut self.letters);
-        false
+        settle(&mut self.letters, held)
     }
 
     /// The letters, for room to write as many again.
-    pub(crate) fn hand_over<R: Wait>(&mut self, rt: &R, alloc: Global, office: &mut Office<L>)
-        ensures { self.new ≡ tray_of self.old.asked 0 }
+    pub(crate) fn hand_over<R: Wait>(&mut self, rt: &R, office: &mut Office<L>)
+        ensures { self.new ≡ tray_of self.old.messages [] }
     {
-        office.take_letters(rt, alloc, &mut self.letters);
+        office.take_letters(rt, &mut self.letters);
     }
 }
 
@@ -106,24 +124,5 @@ fn write_all<L: Ledger>(
 {
     while let Some(one) = answered.pop() {
         letters.push_reserved(Letter::of(alloc, one));
-    }
-}
-
-// Whether one of these is lost.
-fn has_lost<L: Ledger>(letters: &[Letter<L>]) -> bool {
-    for letter in letters {
-        if letter.is_lost() {
-            return true;
-        }
-    }
-    false
-}
-
-// All of these are lost.
-fn lose_all<L: Ledger>(letters: &mut Vec<Letter<L>>)
-    ensures { (vec_len letters.new ≡ vec_len letters.old) × (vec_capacity letters.new ≡ vec_capacity letters.old) }
-{
-    for index in 0..letters.len() {
-        letters[index].lose();
     }
 }

@@ -1,5 +1,6 @@
 //! What a session does, step by step.
 
+ghost use Rattle.std.specs.Prelude.{◌≡◌, ◌+◌, ◌-◌, ◌^◌, min};
 ghost use Rattle.linda_shared.specs.Working.{HasWorked};
 
 use crate::gate::Gate;
@@ -35,6 +36,29 @@ pub trait Worker: Drop {
     fn next<R: Wait + Clock>(&mut self, rt: &R, replies: &[Reply]) -> Next;
 }
 
+/// How many messages a worker sent.
+#[derive(Drop)]
+struct Calls {
+    sent: u64,
+}
+
+impl Calls {
+    // It sent none.
+    fn new() -> Calls
+        ensures { result.sent ≡ 0 }
+    {
+        Calls { sent: 0 }
+    }
+
+    // The number of its next message, counted from 1; the last number there is for all after that.
+    fn next(&mut self) -> u64
+        ensures { (self.new.sent ≡ min (self.old.sent + 1) (2 ^ 64 - 1)) × (result ≡ self.new.sent) }
+    {
+        self.sent = self.sent.saturating_add(1);
+        self.sent
+    }
+}
+
 /// Lets the worker do its steps until it ends. The seat stays its client's, and loses nothing that it was told.
 ///
 /// # Errors
@@ -52,7 +76,7 @@ pub(crate) fn work<D: Disk, L: Ledger, W: Worker, G: Gate, R: Wait + Clock>(
 ) -> Result<(), SharedFault>
     ensures { HasWorked seat.old seat.new }
 {
-    let mut call: u64 = 0;
+    let mut calls = Calls::new();
     let mut replies = Vec::new(alloc);
     for _ in rt.forever() {
         match worker.next(rt, &replies) {
@@ -64,8 +88,7 @@ pub(crate) fn work<D: Disk, L: Ledger, W: Worker, G: Gate, R: Wait + Clock>(
                 }
             }
             Next::Send(message) => {
-                call = call.saturating_add(1);
-                send(rt, shared, gate, seat, &message, call)?;
+                send(rt, shared, gate, seat, &message, calls.next())?;
                 replies = shared.drain(rt, outlet);
             }
         }

@@ -2,7 +2,8 @@
 
 mod begun;
 
-ghost use Rattle.std.specs.Prelude.{◌≡◌, ◌≤◌, [], map, vec_len, vec_capacity, IfOk, IfErr};
+ghost use Rattle.std.specs.Prelude.{◌≡◌, ◌+◌, ◌<◌, ◌≤◌, ◌++◌, ◌∷◌, [], map, vec_len, vec_capacity, IfOk, IfErr};
+ghost use Rattle.linda_shared.specs.Working as spec;
 ghost use Rattle.linda_shared.specs.Working.{AllHaveWorked};
 
 use crate::gate::Gate;
@@ -116,21 +117,32 @@ fn join_all<L: Ledger, R: Threads>(rt: &R, begun: Vec<Begun<L>>, seats: Vec<Seat
     requires room { vec_len begun ≤ vec_capacity seats }
     ensures { AllHaveWorked (map (λ b. b.before.value) begun.items) result.seats.items }
 {
-    let mut seats = seats;
-    let mut end = Ok(());
+    let mut worked = Worked { seats, end: Ok(()) };
     for one in begun {
-        let Ended { seat, end: its } = one.join(rt);
-        seats.push_reserved(seat);
-        end = first_of(end, its);
+        worked.add(one.join(rt));
     }
-    Worked { seats, end }
+    worked
+}
+
+impl<L: Ledger> Worked<L> {
+    // One more has ended.
+    fn add(&mut self, ended: Ended<L>)
+        requires { vec_len self.old.seats < vec_capacity self.old.seats }
+        ensures seats { self.new.seats.items ≡ self.old.seats.items ++ ended.seat ∷ [] }
+        ensures end { self.new.end ≡ spec.first_of self.old.end ended.end }
+        ensures room { (vec_len self.new.seats ≡ vec_len self.old.seats + 1)
+            × (vec_capacity self.new.seats ≡ vec_capacity self.old.seats) }
+    {
+        let Ended { seat, end } = ended;
+        self.seats.push_reserved(seat);
+        self.end = first_of(self.end, end);
+    }
 }
 
 // Of two ends the one that is returned: the fault that stands first in `SharedFault`, if there is one.
-fn first_of(
-    one: Result<(), SharedFault>,
-    other: Result<(), SharedFault>,
-) -> Result<(), SharedFault> {
+fn first_of(one: Result<(), SharedFault>, other: Result<(), SharedFault>) -> Result<(), SharedFault>
+    ensures { result ≡ spec.first_of one other }
+{
     match (one, other) {
         (Ok(()), _) => other,
         (Err(_), Ok(())) => one,
@@ -138,7 +150,10 @@ fn first_of(
     }
 }
 
-fn rank(fault: SharedFault) -> u8 {
+// Where the fault stands in `SharedFault`, from 0 on.
+fn rank(fault: SharedFault) -> u8
+    ensures { result ≡ spec.rank fault }
+{
     match fault {
         SharedFault::Down => 0,
         SharedFault::Full => 1,

@@ -1,7 +1,7 @@
 //! The switch of a server to its other disk: a new bank there whose body is a snapshot of the state.
 
 ghost use Rattle.std.specs.Prelude.{◌≡◌, ◌∷◌, [], ◌++◌, ◌<◌, ◌≤◌, ◌+◌, ◌^◌, ◌↔◌, ◌⊎◌, ℕ, List};
-ghost use Rattle.std.specs.Prelude.{true, false, length, IfOk, IfErr, OnOk};
+ghost use Rattle.std.specs.Prelude.{true, false, length, IfOk, IfErr, IfSome, IfNone, OnOk, OnSome};
 ghost use Rattle.linda_state.specs.State.{IsState};
 ghost use Rattle.linda_state.specs.DeedFormat.{written};
 ghost use Rattle.linda_disk.specs.View.{IsDurable};
@@ -18,7 +18,7 @@ ghost use Rattle.linda_snap.specs.Switch.{IsOldNoneOrNew, fault_of_disk};
 use crate::putting::{put_state, room_after};
 use linda_bag::Bag;
 use linda_disk::{Disk, DiskFault};
-use linda_journal::{Bank, MIN_BYTES, fill, shut, spell_front, unlock};
+use linda_journal::{Bank, CLOSED, MIN_BYTES, fill, shut, spell_heading, unlock};
 use linda_state::State;
 use std::alloc::{AllocError, Global};
 use thiserror::Error;
@@ -115,13 +115,13 @@ pub fn switch<B: Bag, D: Disk>(
         (D.view other) (D.view x.0.disk)) }
 {
     let limit = current.limit();
-    if !has_room(state, limit) {
+    let Some(len) = len_within(state, limit) else {
         return Err((SwitchFault::BankFull, current, other));
-    }
+    };
     let Some(generation) = current.generation().checked_add(1) else {
         return Err((SwitchFault::GenerationsSpent, current, other));
     };
-    let Ok(bytes) = spell_bank(alloc, generation, state) else {
+    let Ok(bytes) = spell_bank(alloc, generation, state, len) else {
         return Err((SwitchFault::Memory, current, other));
     };
     match renew(other, generation, &bytes, limit) {
@@ -174,31 +174,35 @@ fn renew<D: Disk>(
     }
 }
 
-// Whether a new bank for the state is within the limit.
-fn has_room<B: Bag>(state: &State<B>, limit: usize) -> bool
+// How many bytes the state spells; nothing if a new bank for it would be longer than the limit.
+fn len_within<B: Bag>(state: &State<B>, limit: usize) -> Option<usize>
     requires { IsState state.now }
-    ensures yes { result ≡ true → MIN_BYTES + 1 + length (spell_state written state.now) ≤ limit }
-    ensures no { result ≡ false → limit < MIN_BYTES + 1 + length (spell_state written state.now) }
+    ensures exact { IfSome result (λ len. len ≡ length (spell_state written state.now)) }
+    ensures fits { OnSome result (MIN_BYTES + 1 + length (spell_state written state.now) ≤ limit) }
+    ensures none { IfNone result (limit < MIN_BYTES + 1 + length (spell_state written state.now)) }
 {
-    match limit.checked_sub(MIN_BYTES + 1) {
-        None => false,
-        Some(room) => room_after(state, room).is_some(),
-    }
+    let room = limit.checked_sub(MIN_BYTES + 1)?;
+    let left = room_after(state, room)?;
+    Some(room - left)
 }
 
-// What is to stand after the first gate of a new bank whose body is a snapshot of the state.
+// What is to stand after the first gate of a new bank whose body is a snapshot of the state, which spells so many
+// bytes.
 fn spell_bank<B: Bag>(
     alloc: Global,
     generation: u64,
     state: &State<B>,
+    len: usize,
 ) -> Result<Vec<u8>, AllocError>
     requires ranges { IsState state.now }
+    requires exact { len ≡ length (spell_state written state.now) }
     requires short { length (spell_state written state.now) < 2 ^ 32 }
     ensures bytes { IfOk result (λ v. v.items
         ≡ behind_gate written generation (spell_state written state.now) ++ CLOSED ∷ []) }
     ensures fits { OnOk result (FitsState written state.now) }
 {
-    let mut body = Vec::new(alloc);
-    put_state(&mut body, state)?;
-    spell_front(alloc, generation, &body)
+    let mut out = spell_heading(alloc, generation, len)?;
+    put_state(&mut out, state)?;
+    out.push(CLOSED)?;
+    Ok(out)
 }

@@ -11,7 +11,7 @@ use crate::stand::{Kept, kept};
 use linda_disk::MemDisk;
 use linda_shared::{Greeted, Outlet, Receipt, Report, Seat, Shared, SharedFault};
 use linda_wire::{Message, Reply};
-use std::alloc::Global;
+use std::alloc::{AllocError, Global};
 use std::sync::Wait;
 use std::sync::ledger::Ledger;
 
@@ -57,6 +57,15 @@ pub trait Host<S, O>: Drop {
 
     /// Takes the replies that are there, once there are some or none will come.
     fn drain_wait<R: Wait>(&self, rt: &R, outlet: &mut O) -> Vec<Reply>;
+
+    /// A second outlet of the same session.
+    fn another(outlet: &O) -> Result<O, AllocError>;
+
+    /// Waits until there is a reply that others' messages led to, or none will come: whether one may come.
+    fn wait_news<R: Wait>(&self, rt: &R, outlet: &O) -> bool;
+
+    /// How many clients have a mailbox.
+    fn mailboxes<R: Wait>(&self, rt: &R) -> usize;
 
     /// No reply comes out at the outlet of this seat any more, once those that are there were taken.
     fn hang_up<R: Wait>(&self, rt: &R, seat: &mut S);
@@ -121,6 +130,18 @@ impl<L: Ledger> Host<Seat<L>, Outlet<L>> for Shared<MemDisk, L> {
 
     fn drain_wait<R: Wait>(&self, rt: &R, outlet: &mut Outlet<L>) -> Vec<Reply> {
         Shared::drain_wait(self, rt, outlet)
+    }
+
+    fn another(outlet: &Outlet<L>) -> Result<Outlet<L>, AllocError> {
+        outlet.another()
+    }
+
+    fn wait_news<R: Wait>(&self, rt: &R, outlet: &Outlet<L>) -> bool {
+        outlet.wait_news(rt)
+    }
+
+    fn mailboxes<R: Wait>(&self, rt: &R) -> usize {
+        Shared::mailboxes(self, rt)
     }
 
     fn hang_up<R: Wait>(&self, rt: &R, seat: &mut Seat<L>) {

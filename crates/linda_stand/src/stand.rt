@@ -3,11 +3,12 @@
 ghost use Rattle.std.specs.Prelude.{◌≡◌, false, IfSome};
 ghost use Rattle.linda_receipt.specs.declared.limits.TheConstants.{PARTS};
 
-use linda_bag::Bag;
+use linda_bag::{Bag, IndexBag};
 use linda_disk::{MemDisk, Torn};
 use linda_receipt::PARTS;
 use linda_server::Durable;
 use linda_shared::Shared;
+use linda_state::State;
 use std::alloc::{AllocError, Global};
 use std::sync::ledger::{Blank, Ledger};
 
@@ -67,7 +68,11 @@ fn made(alloc: Global, stand: Stand) -> Option<Durable<MemDisk>>
 
 /// What the server keeps.
 pub fn kept(server: &Durable<MemDisk>) -> Kept {
-    let state = server.state();
+    kept_in(server.state())
+}
+
+/// What the state keeps.
+pub(crate) fn kept_in(state: &State<IndexBag>) -> Kept {
     (state.next, state.bag.len(), state.book.len())
 }
 

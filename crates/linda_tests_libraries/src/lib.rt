@@ -7,6 +7,10 @@
 #[cfg(test)]
 mod disk;
 #[cfg(test)]
+mod messages;
+#[cfg(test)]
 mod server;
+#[cfg(test)]
+mod step;
 #[cfg(test)]
 mod store;

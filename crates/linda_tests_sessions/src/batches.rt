@@ -47,7 +47,8 @@ struct Bank {
     record: u8,
 }
 
-fn is_at(bytes: &[u8], at: usize, wanted: u8) -> bool {
+/// Whether the byte at this offset is the wanted one.
+pub(super) fn is_at(bytes: &[u8], at: usize, wanted: u8) -> bool {
     match bytes.get(at) {
         Some(byte) => *byte == wanted,
         None => false,

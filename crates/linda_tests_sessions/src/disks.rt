@@ -29,6 +29,8 @@ const STEPS: &[Step] = &[
     ("all 8 out 1 (\"a\", 5); 8 cancel 1", "> down\n", BEFORE),
     ("greet hello 2 9 fresh", "> down\n", BEFORE),
     ("snapshot", "> down\n", BEFORE),
+    ("wait 7", "", BEFORE),
+    ("wait 8", "", BEFORE),
     ("leave 8", "> down\n", BEFORE),
     ("finish 7", "> down\n", BEFORE),
 ];

@@ -11,6 +11,12 @@ mod full;
 #[cfg(test)]
 mod hostile;
 #[cfg(test)]
+mod largest;
+#[cfg(test)]
 mod script;
 #[cfg(test)]
+mod snapshots;
+#[cfg(test)]
 mod steps;
+#[cfg(test)]
+mod stops;

@@ -2,8 +2,9 @@
 //!
 //! `greet hello 2 7 fresh` greets; `7 out 1 ("a", 3)` submits a message of client 7, and
 //! `all 7 out 1 ("a", 3); 7 cancel 2` several at once; `leave 7`, `pays`, `snapshot`, and `finish 7 8`, which gives both
-//! seats back. What comes of a line is written: `7 did 1` of a receipt for message 1, whether a snapshot pays, a fault in
-//! words, and then all replies that are there, session by session.
+//! seats back; `wait 7` waits until client 7 has a reply, or none will come, and `mailboxes` counts. What comes of a
+//! line is written: `7 did 1` of a receipt for message 1, whether a snapshot pays, a fault in words, and then all
+//! replies that are there, session by session.
 
 ghost use Rattle.std.specs.Prelude.{◌≡◌, ◌≤◌, ◌<◌, true, length, All, IfOk};
 ghost use Rattle.linda_step.specs.declared.size.TheConstants.{MAX_BATCH};
@@ -73,6 +74,8 @@ impl<S: Drop, O: Drop, H: Host<S, O>> Sessions<S, O, H> {
             "leave" => self.leave(rt, rest, came),
             "finish" => self.finish(rt, alloc, rest, came),
             "pays" => self.pays(rt, came),
+            "mailboxes" => self.mailboxes(rt, came),
+            "wait" => self.wait(rt, alloc, rest, came),
             "snapshot" => self.snapshot(rt, came),
             _ => self.submit_one(rt, alloc, line, came),
         }
@@ -234,6 +237,26 @@ impl<S: Drop, O: Drop, H: Host<S, O>> Sessions<S, O, H> {
         written(writeln!(came, "> pays {answer}"))
     }
 
+    fn mailboxes<R: Wait>(&mut self, rt: &R, came: &mut String) -> Result<(), WordsFault> {
+        let count = self.host.mailboxes(rt);
+        written(writeln!(came, "> mailboxes {count}"))
+    }
+
+    // Waits until the client whose number stands first has a reply, or none will come; writes what is there.
+    fn wait<R: Wait>(
+        &mut self,
+        rt: &R,
+        alloc: Global,
+        words: &str,
+        came: &mut String,
+    ) -> Result<(), WordsFault> {
+        let (client, _) = read_numbered(words)?;
+        let place = self.place(client);
+        let outlet = outlet_at(&mut self.sessions, place)?;
+        let replies = self.host.drain_wait(rt, outlet);
+        written(tell_all(alloc, client, &replies, came))
+    }
+
     fn snapshot<R: Wait>(&mut self, rt: &R, came: &mut String) -> Result<(), WordsFault> {
         match self.host.snapshot(rt) {
             Ok(()) => Ok(()),
@@ -267,6 +290,20 @@ fn seat_at<S: Drop, O: Drop>(
     };
     match sessions.get_mut(place) {
         Some(session) => Ok(&mut session.seat),
+        None => Err(WordsFault::Unknown),
+    }
+}
+
+// The outlet that stands at a place, if it is one.
+fn outlet_at<S: Drop, O: Drop>(
+    sessions: &mut [Session<S, O>],
+    place: Option<usize>,
+) -> Result<&mut O, WordsFault> {
+    let Some(place) = place else {
+        return Err(WordsFault::Unknown);
+    };
+    match sessions.get_mut(place) {
+        Some(session) => Ok(&mut session.outlet),
         None => Err(WordsFault::Unknown),
     }
 }

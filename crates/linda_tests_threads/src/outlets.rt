@@ -86,6 +86,54 @@ fn a_thread_reads_the_replies_to_what_another_submits(rt: HostRuntime) -> Result
     play(&rt, rt.alloc(), Scene::Beside)
 }
 
+// Waits for news: whether a reply may come.
+fn hears<S: Drop, O: Drop, H: Host<S, O>, R: Wait>(rt: &R, host: &H, outlet: &mut O) -> bool {
+    host.wait_news(rt, outlet)
+}
+
+// Puts a tuple after some time.
+fn puts_late<S: Drop, O: Drop, H: Host<S, O>, R: Wait + Clock + Abort>(
+    rt: &R,
+    alloc: Global,
+    host: &H,
+    seat: &mut S,
+) -> Result<(), AllocError> {
+    thread::sleep(rt, Duration::from_millis(20));
+    let message = put(alloc, 1, "a", 3)?;
+    done(rt, host, seat, &message);
+    Ok(())
+}
+
+/// Client 8 asked, and one of its threads waits for news, which come once client 7 puts. Its other outlet has what
+/// came, and ends once the client left.
+pub(super) fn hears_of_others<
+    S: Drop + Send,
+    O: Drop + Send,
+    H: Host<S, O> + Sync,
+    R: Threads + Wait + Clock + Abort + Sync,
+>(rt: &R, alloc: Global, host: H) -> Result<(), Fail> {
+    let (mut seat, mut outlet) = seated(rt, &host, 8)?;
+    asks(rt, alloc, &host, &mut seat, 1)?;
+    let (mut other, _others) = seated(rt, &host, 7)?;
+    let (is_heard, put) = thread::join(
+        rt,
+        || hears(rt, &host, &mut outlet),
+        || puts_late(rt, alloc, &host, &mut other),
+    );
+    put?;
+    assert!(rt; is_heard);
+    let mut second = H::another(&outlet)?;
+    assert!(rt; host.leave(rt, seat, outlet).is_ok());
+    assert_eq!(rt; host.drain_wait(rt, &mut second).len(), 1);
+    assert_eq!(rt; host.drain_wait(rt, &mut second).len(), 0);
+    Ok(())
+}
+
+#[test]
+fn whoever_waits_for_news_hears_of_them(rt: HostRuntime) -> Result<(), Fail> {
+    play(&rt, rt.alloc(), Scene::News)
+}
+
 /// What a thread does.
 #[derive(Drop)]
 enum Part<S, O> {

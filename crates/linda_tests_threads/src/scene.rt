@@ -4,7 +4,7 @@ ghost use Rattle.std.specs.Prelude.{◌≡◌};
 ghost use Rattle.linda_receipt.specs.declared.limits.TheConstants.{PARTS};
 
 use super::crowd::crowd_comes;
-use super::outlets::{leaves_what_others_wait_for, reads_beside};
+use super::outlets::{hears_of_others, leaves_what_others_wait_for, reads_beside};
 use linda_disk::MemDisk;
 use linda_receipt::PARTS;
 use linda_shared::{Outlet, Seat, Shared};
@@ -25,6 +25,8 @@ pub(super) enum Scene {
     Crowd,
     /// One thread reads what another's messages led to.
     Beside,
+    /// One thread waits for what another session's messages lead to.
+    News,
     /// Some wait for what another leaves, for good or not.
     Leaving { for_good: bool },
 }
@@ -61,6 +63,7 @@ fn played<
     match scene {
         Scene::Crowd => crowd_comes(rt, alloc, host),
         Scene::Beside => reads_beside(rt, alloc, host),
+        Scene::News => hears_of_others(rt, alloc, host),
         Scene::Leaving { for_good } => leaves_what_others_wait_for(rt, alloc, host, for_good),
     }
 }

@@ -11,8 +11,10 @@
 #![tactic(auto)]
 
 mod atom;
+mod crossing;
 mod fault;
 mod form;
+mod held;
 mod limits;
 mod matching;
 mod pattern;
@@ -21,6 +23,7 @@ mod text;
 mod tuple;
 
 pub use atom::Atom;
+pub use crossing::tuple_crosses;
 pub use fault::ValueFault;
 pub use form::{Form, fits};
 pub use limits::{MAX_FIELDS, MAX_TEXT, ONE_MAX_FIELDS, ONE_MAX_TEXT};

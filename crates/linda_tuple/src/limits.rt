@@ -11,3 +11,6 @@ pub const ONE_MAX_TEXT: usize = 255;
 
 /// The most fields, or patterns, after a tag that the first form spells.
 pub const ONE_MAX_FIELDS: usize = 16;
+
+/// If the texts of a tuple have so many bytes together, its copies may share its memory.
+pub(crate) const SHARED_FROM: usize = 1_024;

@@ -6,6 +6,7 @@ ghost use Rattle.linda_tuple.specs.Tuple.{IsWithin};
 
 use crate::atom::Atom;
 use crate::fault::ValueFault;
+use crate::held::{Held, Parts};
 use crate::limits::MAX_FIELDS;
 use std::alloc::{AllocError, Global};
 use std::marker::Model;
@@ -13,24 +14,24 @@ use std::marker::Model;
 /// A tag and the fields that follow it: at most 32, with texts of at most 4,095 bytes.
 #[derive(Debug)]
 pub struct Tuple {
-    tag: Atom,
-    fields: Vec<Atom>,
+    held: Held,
 }
 
 impl Drop for Tuple {
     fn drop(self) {
-        let Tuple { tag: _, fields: _ } = self;
+        let Tuple { held: _ } = self;
     }
 }
 
 impl Model for Tuple {
     ghost use Rattle.linda_tuple.specs.Tuple.{Tuple, IsWithin};
+    ghost use Rattle.linda_tuple.specs.Held.{held_tuple};
 
     ghost Value = { Tuple };
 
-    ghost view = { λ t. record { tag = t.tag; fields = t.fields.items } };
+    ghost view = { λ t. held_tuple t.held };
 
-    ghost invariant = { λ t. IsWithin (record { tag = t.tag; fields = t.fields.items }) };
+    ghost invariant = { λ t. IsWithin (held_tuple t.held) };
 }
 
 impl Tuple {
@@ -52,7 +53,9 @@ impl Tuple {
         if !tag.is_sound() || !fields.iter().all(|f| f.is_sound()) {
             return Err(ValueFault::TextTooLong);
         }
-        Ok(Tuple { tag, fields })
+        Ok(Tuple {
+            held: Held::Own(Parts { tag, fields }),
+        })
     }
 
     /// The tuple of a tag and fields that are within the limits, which it keeps: no memory is taken. It is for
@@ -61,7 +64,20 @@ impl Tuple {
         requires { IsWithin (record { tag = tag; fields = fields.items }) }
         ensures { result ≡ record { tag = tag; fields = fields.items } }
     {
-        Tuple { tag, fields }
+        Tuple {
+            held: Held::Own(Parts { tag, fields }),
+        }
+    }
+
+    /// The same tuple, made so that its copies share its memory if it is large, that is, if its texts have 1,024 bytes
+    /// or more together. A small tuple is as it was, and so is a large one for which there is no memory.
+    pub fn shared(self, alloc: Global) -> Tuple
+        ensures { result ≡ self }
+    {
+        let Tuple { held } = self;
+        Tuple {
+            held: held.shared(alloc),
+        }
     }
 
     /// The value that comes first.
@@ -69,7 +85,7 @@ impl Tuple {
         ensures value { result.now ≡ self.now.tag }
         ensures within { IsWithin self.now }
     {
-        &self.tag
+        &self.held.parts().tag
     }
 
     /// The values after the tag, in order; at most 32.
@@ -77,16 +93,16 @@ impl Tuple {
         ensures value { result.now ≡ self.now.fields }
         ensures within { IsWithin self.now }
     {
-        &self.fields
+        &self.held.parts().fields
     }
 
-    /// A copy with memory of its own.
+    /// A copy. It shares the memory of a tuple that `shared` gave, and takes none then, if that one is large; else it
+    /// has memory of its own.
     pub fn try_clone(&self, alloc: Global) -> Result<Tuple, AllocError>
         ensures { IfOk result (λ t. t ≡ self.now) }
     {
-        let tag = self.tag.try_clone(alloc)?;
-        let fields = copies(alloc, &self.fields, |f| f.try_clone(alloc))?;
-        Ok(Tuple { tag, fields })
+        let held = self.held.try_clone(alloc)?;
+        Ok(Tuple { held })
     }
 }
 
@@ -103,7 +119,7 @@ impl PartialEq for Tuple {
         ensures test { result ≡ same_tuple self.now other.now }
         ensures exact { (result ≡ true) ↔ (self.now ≡ other.now) }
     {
-        self.tag == other.tag && self.fields == other.fields
+        *self.tag() == *other.tag() && *self.fields() == *other.fields()
     }
 }
 

@@ -3,35 +3,28 @@
 ghost use Rattle.std.specs.Prelude.{◌≤◌, length};
 ghost use Rattle.linda_client.specs.declared.limits.TheConstants.{MAX_SERVERS};
 
+use super::asking::{is_answer, kept_ask};
+use super::clock::{is_late, ticks_in};
 use super::fault::CallFault;
 use super::kept::{write_kept, write_none};
-use super::numbers::{homeward, number_of, onward};
-use super::standing::{Standing, first_unmet, unmet};
-use linda_client::{Client, ClientFault, Reaction};
+use super::party::Party;
+use linda_client::{ClientFault, Reaction};
 use linda_line::{Request, behind_word, read_request, write_outcome, write_refusal};
 use linda_link::{Arrival, Inbox, Link};
 use linda_text::skip_blanks;
-use linda_wire::{Message, Reply};
+use linda_wire::Message;
 use std::alloc::Global;
 use std::io::Write;
 use std::sync::Wait;
 use std::time::{Clock, Instant};
 
-/// How long a server may take to answer its first Hello, in milliseconds.
-const PATIENCE: u64 = 10_000;
-
-/// A client, its links, what comes by them, how it stands with each server, and when it began.
+/// A client and how it stands with each server, its links, what comes by them, and when it began.
 #[derive(Drop)]
 pub(super) struct Caller<'a> {
-    client: Client,
+    party: Party,
     links: &'a [Link],
     inbox: &'a Inbox,
     start: Instant,
-    // It goes on after the numbers that servers keep for it.
-    goes_on: bool,
-    standings: Vec<Standing>,
-    // The offer that was accepted last: its server and its ticket.
-    accepted: Option<(u32, u64)>,
 }
 
 impl<'a> Caller<'a> {
@@ -51,21 +44,15 @@ impl<'a> Caller<'a> {
         requires some { 1 ≤ length links.now }
         requires few { length links.now ≤ MAX_SERVERS }
     {
-        let Ok(client) = Client::new(alloc, number, links.len() as u32) else {
-            return Err(CallFault::Memory);
-        };
-        let standings = unmet(alloc, links.len())?;
+        let party = Party::new(alloc, number, links.len() as u32, goes_on)?;
         let Ok(start) = Instant::now(rt) else {
             return Err(CallFault::Clock);
         };
         Ok(Caller {
-            client,
+            party,
             links,
             inbox,
             start,
-            goes_on,
-            standings,
-            accepted: None,
         })
     }
 }
@@ -83,12 +70,12 @@ impl Caller<'_> {
         writer: &mut W,
     ) -> Result<(), CallFault> {
         for _ in rt.forever() {
-            let Some(server) = first_unmet(&self.standings) else {
+            let Some(server) = self.party.first_unmet() else {
                 return Ok(());
             };
             if let Some((server, arrival)) = self.inbox.take(rt) {
                 self.hear(rt, alloc, server, arrival, writer)?;
-            } else if self.millis(rt)? >= PATIENCE {
+            } else if is_late(self.ticks(rt)?) {
                 return Err(CallFault::NoConnection(server));
             }
         }
@@ -172,17 +159,16 @@ impl Caller<'_> {
         server: u32,
         writer: &mut W,
     ) -> Result<String, CallFault> {
-        let number = self.kept(server);
-        let client = self.client.number();
+        let number = self.party.kept(server);
+        let client = self.party.number();
         if number == 0 {
             return Ok(write_none(alloc, server, client)?);
         }
-        self.ask_kept(rt, alloc, server, number)?;
+        self.send(rt, alloc, server, &kept_ask(number))?;
         for _ in rt.forever() {
             match self.inbox.take(rt) {
                 None => {}
-                Some((from, Arrival::Came(reply)))
-                    if from == server && number_of(&reply) == Some(number) => {
+                Some((from, Arrival::Came(reply))) if is_answer(from, &reply, server, number) => {
                     if let Some(line) = write_kept(alloc, server, client, &reply)? {
                         return Ok(line);
                     }
@@ -191,44 +177,12 @@ impl Caller<'_> {
                     let is_greeted = from == server && is_greeting(&arrival);
                     self.hear(rt, alloc, from, arrival, writer)?;
                     if is_greeted {
-                        self.ask_kept(rt, alloc, server, number)?;
+                        self.send(rt, alloc, server, &kept_ask(number))?;
                     }
                 }
             }
         }
         Ok(String::new(alloc))
-    }
-
-    // Asks for the reply that is kept to this number: a repeated number gets it, whatever else the message says.
-    fn ask_kept(
-        &self,
-        rt: &impl Wait,
-        alloc: Global,
-        server: u32,
-        number: u64,
-    ) -> Result<(), CallFault> {
-        let message = Message::Accept {
-            n: number,
-            ticket: 0,
-            id: 0,
-        };
-        self.send(rt, alloc, server, &message)
-    }
-
-    // The last number that a server is known to keep a reply for.
-    fn kept(&self, server: u32) -> u64 {
-        match self.standings.get(server as usize) {
-            Some(standing) => standing.kept,
-            None => 0,
-        }
-    }
-
-    // The last number that a server kept before the client began.
-    fn base(&self, server: u32) -> u64 {
-        match self.standings.get(server as usize) {
-            Some(standing) => standing.base,
-            None => 0,
-        }
     }
 
     // Does what is asked for. The client knows the time when it is asked.
@@ -240,12 +194,7 @@ impl Caller<'_> {
         writer: &mut W,
     ) -> Result<(), CallFault> {
         self.tick(rt, alloc, writer)?;
-        let asked = match request {
-            Request::Out(tuple) => self.client.out(alloc, tuple),
-            Request::Sync(event) => self.client.sync(alloc, event),
-            Request::Leave => self.client.leave(alloc),
-        };
-        match asked {
+        match self.party.ask(alloc, request) {
             Ok(reaction) => {
                 if self.obey(rt, alloc, reaction, writer)? {
                     return Ok(());
@@ -275,10 +224,10 @@ impl Caller<'_> {
         Ok(())
     }
 
-    // How many milliseconds ago it began.
-    fn millis(&self, rt: &impl Clock) -> Result<u64, CallFault> {
+    // How many ticks ago it began.
+    fn ticks(&self, rt: &impl Clock) -> Result<u64, CallFault> {
         match self.start.elapsed(rt) {
-            Ok(gone) => Ok(u64::try_from(gone.as_millis()).unwrap_or(u64::MAX)),
+            Ok(gone) => Ok(ticks_in(gone)),
             Err(_) => Err(CallFault::Clock),
         }
     }
@@ -290,11 +239,9 @@ impl Caller<'_> {
         alloc: Global,
         writer: &mut W,
     ) -> Result<bool, CallFault> {
-        let now = self.millis(rt)?;
-        match self.client.tick(alloc, now) {
-            Ok(reaction) => self.obey(rt, alloc, reaction, writer),
-            Err(_) => Err(CallFault::Memory),
-        }
+        let now = self.ticks(rt)?;
+        let reaction = self.party.tick(alloc, now)?;
+        self.obey(rt, alloc, reaction, writer)
     }
 
     // Tells the client what came. Whether what was pending has ended.
@@ -306,60 +253,7 @@ impl Caller<'_> {
         arrival: Arrival,
         writer: &mut W,
     ) -> Result<bool, CallFault> {
-        match arrival {
-            Arrival::Came(reply) => self.receive(rt, alloc, server, reply, writer),
-            Arrival::Greeted(last) => self.go_on(rt, alloc, server, last, writer),
-            Arrival::Refused(code, detail) => Err(CallFault::Refused(server, code, detail)),
-            Arrival::NoConnection => Err(CallFault::NoConnection(server)),
-            Arrival::Memory => Err(CallFault::Memory),
-        }
-    }
-
-    // Tells the client a reply. Whether what was pending has ended.
-    fn receive<S: Wait, W: Write>(
-        &mut self,
-        rt: &S,
-        alloc: Global,
-        server: u32,
-        reply: Reply,
-        writer: &mut W,
-    ) -> Result<bool, CallFault> {
-        if let (Some(number), Some(standing)) = (
-            number_of(&reply),
-            self.standings.get_mut(server as usize),
-        ) {
-            standing.answers(number);
-        }
-        let mut reply = reply;
-        if !homeward(&mut reply, self.base(server)) {
-            return Ok(false);
-        }
-        match self.client.receive(alloc, server, &reply) {
-            Ok(reaction) => self.obey(rt, alloc, reaction, writer),
-            Err(_) => Err(CallFault::Memory),
-        }
-    }
-
-    // A server welcomes the client with this number: what is pending there is sent again. Whether it has ended.
-    fn go_on<S: Wait, W: Write>(
-        &mut self,
-        rt: &S,
-        alloc: Global,
-        server: u32,
-        last: u64,
-        writer: &mut W,
-    ) -> Result<bool, CallFault> {
-        let Ok(reaction) = self.client.reconnected(alloc, server) else {
-            return Err(CallFault::Memory);
-        };
-        if let Some(standing) = self.standings.get_mut(server as usize) {
-            if !standing.welcomes(last, self.goes_on) {
-                return Err(CallFault::Restored(server));
-            }
-            if has_ask(&reaction) {
-                standing.asked_again = true;
-            }
-        }
+        let reaction = self.party.take(alloc, server, arrival)?;
         self.obey(rt, alloc, reaction, writer)
     }
 
@@ -372,11 +266,8 @@ impl Caller<'_> {
         writer: &mut W,
     ) -> Result<bool, CallFault> {
         for (server, message) in reaction.packets {
-            if let Message::Accept { ticket, .. } = &message {
-                self.accepted = Some((server, *ticket));
-            }
             let mut message = message;
-            onward(&mut message, self.base(server));
+            self.party.send(server, &mut message);
             self.send(rt, alloc, server, &message)?;
         }
         if let Some((server, code, detail)) = reaction.fault {
@@ -385,33 +276,12 @@ impl Caller<'_> {
         let Some(outcome) = reaction.outcome else {
             return Ok(false);
         };
-        self.cancel_again(rt, alloc)?;
-        let line = write_outcome(alloc, self.client.number(), &outcome)?;
+        if let Some((server, ticket)) = self.party.settle() {
+            self.send(rt, alloc, server, &Message::Cancel { ticket })?;
+        }
+        let line = write_outcome(alloc, self.party.number(), &outcome)?;
         write_line(writer, &line)?;
         Ok(true)
-    }
-
-    // What was pending has ended. If its Asks were sent again to the server whose offer was accepted, that one's ticket
-    // may be open there once more, and the client cancels only the others: so it is cancelled here.
-    fn cancel_again(&mut self, rt: &impl Wait, alloc: Global) -> Result<(), CallFault> {
-        if let Some((server, ticket)) = self.accepted {
-            if self.has_asked_again(server) {
-                self.send(rt, alloc, server, &Message::Cancel { ticket })?;
-            }
-        }
-        self.accepted = None;
-        for standing in self.standings.iter_mut() {
-            standing.asked_again = false;
-        }
-        Ok(())
-    }
-
-    // Whether Asks were sent to a server again during this synchronization.
-    fn has_asked_again(&self, server: u32) -> bool {
-        match self.standings.get(server as usize) {
-            Some(standing) => standing.asked_again,
-            None => false,
-        }
     }
 
     // Sends a message to a server.
@@ -435,7 +305,7 @@ impl Caller<'_> {
         fault: ClientFault,
         writer: &mut W,
     ) -> Result<(), CallFault> {
-        match write_refusal(alloc, self.client.number(), fault)? {
+        match write_refusal(alloc, self.party.number(), fault)? {
             Some(line) => write_line(writer, &line),
             None => Err(CallFault::Memory),
         }
@@ -450,14 +320,6 @@ fn is_last(line: &[u8]) -> bool {
 // Whether a server welcomed the client.
 fn is_greeting(arrival: &Arrival) -> bool {
     matches!(arrival, Arrival::Greeted(_))
-}
-
-// Whether something is asked for.
-fn has_ask(reaction: &Reaction) -> bool {
-    reaction
-        .packets
-        .iter()
-        .any(|packet| matches!(packet.1, Message::Ask { .. }))
 }
 
 // Writes a line, with its line feed, and flushes it.

@@ -2,7 +2,7 @@
 //! deeds has no room for.
 
 ghost use Rattle.std.specs.Prelude.{◌≡◌, ◌+◌, ◌<◌, ◌^◌, ◌++◌, ◌∷◌, [], false, true, ℕ, length, vec_len};
-ghost use Rattle.std.specs.Prelude.{IfOk, OnOk, OnErr, IsErrOf};
+ghost use Rattle.std.specs.Prelude.{◌⊎◌, IfOk, IfErr, OnOk, OnErr, IsErrOf};
 ghost use Rattle.linda_wire.specs.Refusal.{refused};
 ghost use Rattle.linda_state.specs.State as states;
 ghost use Rattle.linda_step.specs.Answer.{last_number};
@@ -46,6 +46,9 @@ pub(super) fn serve_each<D: Disk>(
     ensures countable { IfOk result (λ told. count + length (receipts_in told.items) < 2 ^ 64) }
     ensures err { OnErr result (receipts.new.items ≡ receipts.old.items) }
     ensures down { IsErrOf result SharedFault.Down → server.new.down ≡ true }
+    ensures memory { IsErrOf result SharedFault.Memory → (server.new ≡ server.old) × (boxes.new ≡ boxes.old) }
+    ensures fault { IfErr result (λ fault. (fault ≡ SharedFault.Down) ⊎ (fault ≡ SharedFault.Memory)) }
+    ensures still { OnOk result (server.new.down ≡ server.old.down) }
     ensures some { OnErr result (WentSome server.old count messages.now
         (waits_for boxes.old) (waits_for boxes.new)) }
     ensures ok_order { (opening base : states.State) (count : ℕ)
@@ -76,9 +79,9 @@ pub(super) fn serve_each<D: Disk>(
                 made += weigh(&receipt);
                 told.push_reserved(receipt);
             }
-            Err(fault) => {
+            Err(_) => {
                 receipts.truncate(before);
-                return Err(fault);
+                return Err(SharedFault::Down);
             }
         }
     }
@@ -98,6 +101,7 @@ fn take_one<D: Disk>(
         (waits_for boxes.old) one (waits_for boxes.new) server.new) }
     ensures receipts { IfOk result (λ one. receipts.new.items ≡ receipts.old.items ++ receipts_in (one ∷ [])) }
     ensures countable { IfOk result (λ one. count + length (receipts_in (one ∷ [])) < 2 ^ 64) }
+    ensures still { OnOk result (server.new.down ≡ server.old.down) }
     ensures err { OnErr result ((receipts.new.items ≡ receipts.old.items) × (server.new.down ≡ true)
         × ((c : ℕ) → waits_for boxes.new c ≡ waits_for boxes.old c)) }
     ensures ok_order { (opening base : states.State) (count : ℕ)

@@ -1,6 +1,6 @@
 //! What is always so, and the base, which a snapshot moves.
 
-ghost use Rattle.std.specs.Prelude.{◌≡◌, ◌+◌, ◌||◌, nat_le, [], false, true, OnOk, OnErr, IsErrOf};
+ghost use Rattle.std.specs.Prelude.{◌≡◌, ◌+◌, ◌||◌, ◌⊎◌, nat_le, [], false, true, OnOk, IfErr, OnErr, IsErrOf};
 ghost use Rattle.linda_step.specs.Store.{IsOrderly};
 ghost use Rattle.linda_server.specs.declared.limits.TheConstants.{SNAPSHOT_RECORDS};
 ghost use Rattle.linda_server.specs.Disks.{is_old};
@@ -35,10 +35,12 @@ impl<D: Disk, L: Ledger> Held<D, L> {
             → ∥ IsReplayed self.now.base.value self.now.receipts.items self.now.server.store.state ∥₁ }
         ensures orderly { IsOrderly self.now.server.store.state self.now.server.store.soft }
         ensures stands { result ≡ false → StandNow self.now.server.disks self.now.server.store.state }
-        // Down: all that crashes leave represents the state after the receipts' deeds, and maybe others after them.
+        // Down: all that crashes leave represents the state after the receipts' deeds, and maybe others after them; and
+        // in that state what is posted is kept, until the client's next number is.
         ensures down { result ≡ true → BothHonest self.now.server.disks
             → PairsNow (both_of self.now.server.disks)
-            (λ left right. ∥ StandsBehind self.now.base.value self.now.receipts.items left right ∥₁) }
+            (λ left right. ∥ StandsBehind self.now.base.value self.now.receipts.items
+            (waits_for self.now.boxes) left right ∥₁) }
         // The count is that of the deeds since it was made, and the total of the ledger.
         ensures counted { result ≡ false
             → ∥ CountsDeeds self.now.opening.value self.now.count self.now.server.store.state ∥₁ }
@@ -86,7 +88,8 @@ impl<D: Disk, L: Ledger> Held<D, L> {
         ensures pace { self.new.pace ≡ put_off_at (records_in_use self.old.server.disks) self.old.pace }
         ensures same { (self.new.opening.value ≡ self.old.opening.value) × (self.new.base.value ≡ self.old.base.value)
             × (self.new.receipts.items ≡ self.old.receipts.items) × (self.new.count ≡ self.old.count)
-            × (self.new.till ≡ self.old.till) × (self.new.server ≡ self.old.server) × (self.new.boxes ≡ self.old.boxes) }
+            × (self.new.till ≡ self.old.till) × (self.new.server ≡ self.old.server) × (self.new.boxes ≡ self.old.boxes)
+            × (self.new.recall ≡ self.old.recall) }
     {
         self.pace.puts_off(self.server.records());
     }
@@ -96,7 +99,8 @@ impl<D: Disk, L: Ledger> Held<D, L> {
     ///
     /// # Errors
     ///
-    /// `Full`: nothing changed. `Down`: the server is down.
+    /// `Down` before all, and exactly where the server is down. `Full`, exactly where there is no next bank for its
+    /// state: nothing changed, but that one was tried.
     pub fn snapshot(&mut self, alloc: Global) -> Result<(), SharedFault>
         ensures base { OnOk result ((self.new.base.value ≡ self.new.server.store.state)
             × (self.new.receipts.items ≡ [])) }
@@ -105,11 +109,18 @@ impl<D: Disk, L: Ledger> Held<D, L> {
         ensures store { self.new.server.store ≡ self.old.server.store }
         // At Ok the other disk holds the bank in use, of the next generation and without a record.
         ensures switched { OnOk result (IsSwitched self.old.server.disks self.new.server.disks) }
-        // It is Full only where there is no next bank for the state, and Down only where the server is.
+        // It is Full exactly where there is no next bank for the state, and Down exactly where the server is, and that
+        // before all else.
         ensures full { IsErrOf result SharedFault.Full
             → (self.new.server ≡ self.old.server) × HasNoNextBank self.old.server }
+        ensures room { OnOk result (HasNoNextBank self.old.server → ⊥) }
+        ensures up { OnOk result ((self.old.server.down ≡ false) × (self.new.server.down ≡ false)) }
         ensures down { IsErrOf result SharedFault.Down → self.new.server.down ≡ true }
-        ensures same { (self.new.opening.value ≡ self.old.opening.value) × (self.new.count ≡ self.old.count) }
+        ensures first { self.old.server.down ≡ true
+            → IsErrOf result SharedFault.Down × (self.new.server ≡ self.old.server) }
+        ensures fault { IfErr result (λ fault. (fault ≡ SharedFault.Full) ⊎ (fault ≡ SharedFault.Down)) }
+        ensures same { (self.new.opening.value ≡ self.old.opening.value) × (self.new.count ≡ self.old.count)
+            × (self.new.boxes ≡ self.old.boxes) × (self.new.server.limit ≡ self.old.server.limit) }
         // In all as much was told as before, and each place is as before, but that it may keep its last receipt alone.
         ensures total { self.new.till.total ≡ self.old.till.total }
         ensures shortened { OnOk result (AreShortened self.old.till.places self.new.till.places) }
@@ -136,6 +147,10 @@ fn take_snapshot<D: Disk>(server: &mut Durable<D>, alloc: Global) -> Result<(), 
     ensures store { server.new.store ≡ server.old.store }
     ensures switched { OnOk result (IsSwitched server.old.disks server.new.disks) }
     ensures full { IsErrOf result SharedFault.Full → (server.new ≡ server.old) × HasNoNextBank server.old }
+    ensures room { OnOk result (HasNoNextBank server.old → ⊥) }
+    ensures first { server.old.down ≡ true → IsErrOf result SharedFault.Down × (server.new ≡ server.old) }
+    ensures fault { IfErr result (λ fault. (fault ≡ SharedFault.Full) ⊎ (fault ≡ SharedFault.Down)) }
+    ensures limit { server.new.limit ≡ server.old.limit }
     ensures down { IsErrOf result SharedFault.Down → server.new.down ≡ true }
     ensures known { OnErr result
         ((known server.new.before.value server.new.store server.new.down
@@ -148,9 +163,11 @@ fn take_snapshot<D: Disk>(server: &mut Durable<D>, alloc: Global) -> Result<(), 
     }
 }
 
-pub(super) fn fault_of(fault: NodeFault) -> SharedFault
+// What is reported for a snapshot that was not taken.
+fn fault_of(fault: NodeFault) -> SharedFault
     ensures full { result ≡ SharedFault.Full → fault ≡ NodeFault.Full }
     ensures down { result ≡ SharedFault.Down → fault ≡ NodeFault.Down }
+    ensures known { (result ≡ SharedFault.Full) ⊎ (result ≡ SharedFault.Down) }
 {
     match fault {
         NodeFault::Full => SharedFault::Full,

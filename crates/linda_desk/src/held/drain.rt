@@ -8,7 +8,7 @@ ghost use Rattle.linda_desk.specs.Covered.{BoxesCovered};
 
 use super::Held;
 use linda_disk::Disk;
-use linda_outbox::Outboxes;
+use linda_outbox::{Outboxes, Sent};
 use linda_wire::Reply;
 use std::alloc::Global;
 use std::sync::ledger::Ledger;
@@ -28,11 +28,11 @@ impl<D: Disk, L: Ledger> Held<D, L> {
 
     /// What waits for some client, which is more than nothing; none where nothing waits for anybody. Its outbox is
     /// empty then, and nothing else changes. Looks at those alone that something was posted to.
-    pub fn drain_next(&mut self, alloc: Global) -> Option<(u32, Vec<Reply>)>
-        ensures out { IfSome result (λ next. waits_for self.old.boxes next.0 ≡ Some next.1.items) }
-        ensures some { IfSome result (λ next. next.1.items ≢ []) }
-        ensures empty { IfSome result (λ next. waits_for self.new.boxes next.0 ≡ Some []) }
-        ensures others { IfSome result (λ next. (c : ℕ) → c ≢ next.0
+    pub fn drain_next(&mut self, alloc: Global) -> Option<Sent>
+        ensures out { IfSome result (λ next. waits_for self.old.boxes next.client ≡ Some next.replies.items) }
+        ensures some { IfSome result (λ next. next.replies.items ≢ []) }
+        ensures empty { IfSome result (λ next. waits_for self.new.boxes next.client ≡ Some []) }
+        ensures others { IfSome result (λ next. (c : ℕ) → c ≢ next.client
             → waits_for self.new.boxes c ≡ waits_for self.old.boxes c) }
         ensures none { IfNone result ((c : ℕ) → handed_out (waits_for self.old.boxes c) ≡ []) }
         ensures none_changes { IfNone result ((c : ℕ) → waits_for self.new.boxes c ≡ waits_for self.old.boxes c) }
@@ -45,11 +45,11 @@ impl<D: Disk, L: Ledger> Held<D, L> {
 }
 
 // What waits for some client. What is left is covered as before.
-fn drain_some(boxes: &mut Outboxes, alloc: Global) -> Option<(u32, Vec<Reply>)>
-    ensures out { IfSome result (λ next. waits_for boxes.old next.0 ≡ Some next.1.items) }
-    ensures some { IfSome result (λ next. next.1.items ≢ []) }
-    ensures empty { IfSome result (λ next. waits_for boxes.new next.0 ≡ Some []) }
-    ensures others { IfSome result (λ next. (c : ℕ) → c ≢ next.0 → waits_for boxes.new c ≡ waits_for boxes.old c) }
+fn drain_some(boxes: &mut Outboxes, alloc: Global) -> Option<Sent>
+    ensures out { IfSome result (λ next. waits_for boxes.old next.client ≡ Some next.replies.items) }
+    ensures some { IfSome result (λ next. next.replies.items ≢ []) }
+    ensures empty { IfSome result (λ next. waits_for boxes.new next.client ≡ Some []) }
+    ensures others { IfSome result (λ next. (c : ℕ) → c ≢ next.client → waits_for boxes.new c ≡ waits_for boxes.old c) }
     ensures none { IfNone result ((c : ℕ) → handed_out (waits_for boxes.old c) ≡ []) }
     ensures none_changes { IfNone result ((c : ℕ) → waits_for boxes.new c ≡ waits_for boxes.old c) }
     ensures covered { (st : State) → BoxesCovered st (waits_for boxes.old) → BoxesCovered st (waits_for boxes.new) }

@@ -1,9 +1,10 @@
 //! The end: all seats are back, and what they were told is what was stored.
 
-ghost use Rattle.std.specs.Prelude.{◌≡◌, ◌+◌, ◌<◌, ◌⊎◌, ℕ, true, All, OnOk, IfOk, IfErr, IsErrOf};
+ghost use Rattle.std.specs.Prelude.{◌≡◌, ◌+◌, ◌<◌, ◌⊎◌, ℕ, true, false, All, OnOk, IfOk, IfErr, IsErrOf};
 ghost use Rattle.std.specs.FinMap as map;
 ghost use Rattle.linda_receipt.specs.Till.{deeds_back, seats_out, receipts_at};
 ghost use Rattle.linda_receipt.specs.Compare.{IsToldSo, LastIsKept, Names};
+ghost use Rattle.linda_desk.specs.Parked.{AreBack};
 
 use super::Held;
 use super::leave::put_back_for_good;
@@ -27,7 +28,8 @@ impl<D: Disk, L: Ledger> Held<D, L> {
     ///
     /// # Errors
     ///
-    /// `Down`, then `SeatMissing` where one is out, then `Receipt` where that one differs. The given seats stay parked.
+    /// `Down` exactly where the server is down, then `SeatMissing` exactly where a seat is out, then `Receipt` where
+    /// that one differs. The given seats stay parked.
     pub fn finish(&mut self, accounts: Vec<Account<L>>) -> Result<Report, SharedFault>
         ensures deeds { IfOk result (λ r. (r.deeds ≡ deeds_back self.new.till.places) × (r.deeds ≡ self.old.count)) }
         ensures back { OnOk result (seats_out self.new.till.places ≡ 0) }
@@ -35,13 +37,22 @@ impl<D: Disk, L: Ledger> Held<D, L> {
         ensures told { OnOk result (All (IsToldSo self.new.till.places) self.old.receipts.items) }
         ensures kept { OnOk result ((c : ℕ)
             → LastIsKept self.old.server.store.state (receipts_at (map.get self.new.till.places c))) }
-        ensures down { IsErrOf result SharedFault.Down → self.new.server.down ≡ true }
+        // Whatever it reports, the given seats are back for good.
+        ensures parked { AreBack self.old.till accounts.items self.new.till }
+        // It is down exactly where the server is, and that before all else; then a seat is missing exactly where one
+        // is out.
+        ensures up { OnOk result (self.old.server.down ≡ false) }
+        ensures down { IsErrOf result SharedFault.Down → self.old.server.down ≡ true }
+        ensures first { self.old.server.down ≡ true → IsErrOf result SharedFault.Down }
         ensures missing { IsErrOf result SharedFault.SeatMissing → 0 < seats_out self.new.till.places }
+        ensures out { self.old.server.down ≡ false → 0 < seats_out self.new.till.places
+            → IsErrOf result SharedFault.SeatMissing }
         ensures fault { IfErr result (λ fault. (fault ≡ SharedFault.Down) ⊎ ((fault ≡ SharedFault.SeatMissing)
             ⊎ Names self.new.till.places self.old.server.store.state self.old.receipts.items fault)) }
         ensures same { (self.new.opening.value ≡ self.old.opening.value) × (self.new.base.value ≡ self.old.base.value)
             × (self.new.receipts.items ≡ self.old.receipts.items) × (self.new.count ≡ self.old.count)
-            × (self.new.server ≡ self.old.server) × (self.new.boxes ≡ self.old.boxes) }
+            × (self.new.server ≡ self.old.server) × (self.new.boxes ≡ self.old.boxes)
+            × (self.new.pace ≡ self.old.pace) × (self.new.recall ≡ self.old.recall) }
     {
         self.park_all(accounts);
         if self.is_down() {
@@ -60,9 +71,11 @@ impl<D: Disk, L: Ledger> Held<D, L> {
 
     // These seats come back for good.
     fn park_all(&mut self, accounts: Vec<Account<L>>)
+        ensures parked { AreBack self.old.till accounts.items self.new.till }
         ensures same { (self.new.opening.value ≡ self.old.opening.value) × (self.new.base.value ≡ self.old.base.value)
             × (self.new.receipts.items ≡ self.old.receipts.items) × (self.new.count ≡ self.old.count)
-            × (self.new.server ≡ self.old.server) × (self.new.boxes ≡ self.old.boxes) }
+            × (self.new.server ≡ self.old.server) × (self.new.boxes ≡ self.old.boxes)
+            × (self.new.pace ≡ self.old.pace) × (self.new.recall ≡ self.old.recall) }
     {
         put_all_back(&mut self.till, accounts);
     }
@@ -70,7 +83,8 @@ impl<D: Disk, L: Ledger> Held<D, L> {
 
 // These come back for good.
 fn put_all_back<L: Ledger>(till: &mut Till<L>, accounts: Vec<Account<L>>)
-    ensures { till.new.total ≡ till.old.total }
+    ensures parked { AreBack till.old accounts.items till.new }
+    ensures total { till.new.total ≡ till.old.total }
 {
     for account in accounts {
         put_back_for_good(till, account);

@@ -16,7 +16,10 @@ impl<D: Disk, L: Ledger> Held<D, L> {
         ensures store { self.new.server.store ≡ self.old.server.store }
         ensures same { (self.new.opening.value ≡ self.old.opening.value) × (self.new.base.value ≡ self.old.base.value)
             × (self.new.receipts.items ≡ self.old.receipts.items) × (self.new.count ≡ self.old.count)
-            × (self.new.till ≡ self.old.till) × (self.new.boxes ≡ self.old.boxes) }
+            × (self.new.till ≡ self.old.till) × (self.new.boxes ≡ self.old.boxes)
+            × (self.new.pace ≡ self.old.pace) × (self.new.recall ≡ self.old.recall) }
+        ensures disks { (self.new.server.disks ≡ self.old.server.disks)
+            × (self.new.server.limit ≡ self.old.server.limit) }
     {
         fall(&mut self.server);
     }
@@ -26,6 +29,7 @@ impl<D: Disk, L: Ledger> Held<D, L> {
 fn fall<D: Disk>(server: &mut Durable<D>)
     ensures down { server.new.down ≡ true }
     ensures store { server.new.store ≡ server.old.store }
+    ensures disks { (server.new.disks ≡ server.old.disks) × (server.new.limit ≡ server.old.limit) }
     ensures known { known server.new.before.value server.new.store server.new.down
         ≡ known server.old.before.value server.old.store server.old.down }
 {

@@ -1,6 +1,6 @@
 //! Greeting: who may have a seat.
 
-ghost use Rattle.std.specs.Prelude.{◌≡◌, ◌≢◌, ◌∷◌, ◌+◌, ◌*◌, ◌<◌, [], ℕ, true, false, None, vec_len};
+ghost use Rattle.std.specs.Prelude.{◌≡◌, ◌≢◌, ◌⊎◌, ◌∷◌, ◌+◌, ◌*◌, ◌<◌, [], ℕ, true, false, None, vec_len};
 ghost use Rattle.std.specs.Prelude.{IfOk, IfErr, OnOk, OnErr, IsErrOf, IfSome, IfNone};
 ghost use Rattle.std.specs.FinMap as map;
 ghost use Rattle.linda_wire.specs.declared.reply.Reply as wire;
@@ -17,11 +17,10 @@ ghost use Rattle.linda_desk.specs.Greeting.{IsGreeted, IsAdmitted, IsGreetingRep
 ghost use Rattle.linda_desk.specs.Covered.{BoxesCovered};
 
 use super::Held;
-use super::serve::fault_of;
 use linda_disk::Disk;
 use linda_outbox::Outboxes;
 use linda_receipt::{Account, SharedFault, Till};
-use linda_server::Durable;
+use linda_server::{Durable, ServeFault};
 use linda_wire::{Message, Refusal, Reply, VERSION};
 use std::alloc::Global;
 use std::sync::ledger::Ledger;
@@ -40,7 +39,8 @@ impl<D: Disk, L: Ledger> Held<D, L> {
     ///
     /// # Errors
     ///
-    /// `Down`, before all; `Memory`: nothing changed.
+    /// `Down` before all, and exactly where the server is down: one that was down is as before. `Memory`: nothing
+    /// changed.
     pub fn greet(
         &mut self,
         alloc: Global,
@@ -48,22 +48,33 @@ impl<D: Disk, L: Ledger> Held<D, L> {
     ) -> Result<Result<(Account<L>, u64), (u8, u64)>, SharedFault>
         ensures greeted { IfOk result (IsGreeted self.old.server.store.state self.old.till.places message.now) }
         ensures server { OnOk result ((self.new.server.store.state ≡ self.old.server.store.state)
-            × (self.new.server.store.soft ≡ self.old.server.store.soft)) }
+            × (self.new.server.store.soft ≡ self.old.server.store.soft)
+            × (self.new.server.disks ≡ self.old.server.disks)) }
         // Whoever is welcome has its seat, which is out, and an outbox;
         ensures out { IfOk result (λ answer. IfOk answer (λ got. self.new.till
             ≡ till_of self.old.till.total (map.insert self.old.till.places got.0.client places.Out))) }
         ensures opened { IfOk result (λ answer. IfOk answer (λ got. waits_for self.new.boxes got.0.client
             ≡ opened (waits_for self.old.boxes got.0.client))) }
+        ensures others { IfOk result (λ answer. IfOk answer (λ got. (c : ℕ) → c ≢ got.0.client
+            → waits_for self.new.boxes c ≡ waits_for self.old.boxes c)) }
+        // It is down exactly where the server is, and that before all else.
+        ensures up { OnOk result ((self.old.server.down ≡ false) × (self.new.server.down ≡ false)) }
         ensures down { IsErrOf result SharedFault.Down → self.new.server.down ≡ true }
+        ensures first { self.old.server.down ≡ true
+            → IsErrOf result SharedFault.Down × (self.new.server ≡ self.old.server) }
+        ensures fault { IfErr result (λ fault. (fault ≡ SharedFault.Down) ⊎ (fault ≡ SharedFault.Memory)) }
         // Where it gives no seat none is out but those of before, and what waits is as it was;
         ensures none { OnNoSeat result ((self.new.till ≡ self.old.till)
             × ((c : ℕ) → waits_for self.new.boxes c ≡ waits_for self.old.boxes c)) }
         // where memory ran out the server did not change, so a second greeting is answered as this one was to be.
         ensures memory { IsErrOf result SharedFault.Memory → (self.new.server.down ≡ false)
             × (self.new.server.store.state ≡ self.old.server.store.state)
-            × (self.new.server.store.soft ≡ self.old.server.store.soft) }
+            × (self.new.server.store.soft ≡ self.old.server.store.soft)
+            × (self.new.server.disks ≡ self.old.server.disks) }
         ensures same { (self.new.opening.value ≡ self.old.opening.value) × (self.new.base.value ≡ self.old.base.value)
-            × (self.new.receipts.items ≡ self.old.receipts.items) × (self.new.count ≡ self.old.count) }
+            × (self.new.receipts.items ≡ self.old.receipts.items) × (self.new.count ≡ self.old.count)
+            × (self.new.pace ≡ self.old.pace) × (self.new.recall ≡ self.old.recall)
+            × (self.new.server.limit ≡ self.old.server.limit) }
     {
         if self.server.is_down() {
             return Err(SharedFault::Down);
@@ -115,14 +126,20 @@ fn admit<D: Disk, L: Ledger>(
         ≡ till_of till.old.total (map.insert till.old.places got.0.client places.Out))) }
     ensures opened { IfOk result (λ answer. IfOk answer (λ got. waits_for boxes.new got.0.client
         ≡ opened (waits_for boxes.old got.0.client))) }
+    ensures others { IfOk result (λ answer. IfOk answer (λ got. (c : ℕ) → c ≢ got.0.client
+        → waits_for boxes.new c ≡ waits_for boxes.old c)) }
+    ensures up { OnOk result (server.new.down ≡ false) }
     ensures down { IsErrOf result SharedFault.Down → server.new.down ≡ true }
+    ensures fault { IfErr result (λ fault. (fault ≡ SharedFault.Down) ⊎ (fault ≡ SharedFault.Memory)) }
     ensures total { till.new.total ≡ till.old.total }
     ensures server { OnOk result ((server.new.store.state ≡ server.old.store.state)
-        × (server.new.store.soft ≡ server.old.store.soft)) }
+        × (server.new.store.soft ≡ server.old.store.soft) × (server.new.disks ≡ server.old.disks)) }
+    ensures limit { server.new.limit ≡ server.old.limit }
     ensures none { OnNoSeat result ((till.new ≡ till.old)
         × ((c : ℕ) → waits_for boxes.new c ≡ waits_for boxes.old c)) }
     ensures memory { IsErrOf result SharedFault.Memory → (server.new.down ≡ false)
-        × (server.new.store.state ≡ server.old.store.state) × (server.new.store.soft ≡ server.old.store.soft) }
+        × (server.new.store.state ≡ server.old.store.state) × (server.new.store.soft ≡ server.old.store.soft)
+        × (server.new.disks ≡ server.old.disks) }
     ensures known { (known server.new.before.value server.new.store server.new.down
         ≡ known server.old.before.value server.old.store server.old.down)
         × (server.new.down ≡ false → server.old.down ≡ false) }
@@ -152,7 +169,9 @@ fn seat<L: Ledger>(
         ≡ till_of till.old.total (map.insert till.old.places a.client places.Out))) }
     ensures opened { IfOk result (λ found. IfSome found (λ a. waits_for boxes.new a.client
         ≡ opened (waits_for boxes.old a.client))) }
-    ensures only_memory { IsErrOf result SharedFault.Down → ⊥ }
+    ensures others { IfOk result (λ found. IfSome found (λ a. (c : ℕ) → c ≢ a.client
+        → waits_for boxes.new c ≡ waits_for boxes.old c)) }
+    ensures only_memory { IfErr result (λ fault. fault ≡ SharedFault.Memory) }
     ensures none { IfOk result (λ found. IfNone found (PARTS < ACCOUNT_PARTS * (seats_out till.old.places + 1))) }
     ensures no_seat { IfOk result (λ found. IfNone found ((till.new ≡ till.old)
         × ((c : ℕ) → waits_for boxes.new c ≡ waits_for boxes.old c))) }
@@ -217,8 +236,10 @@ fn hello<D: Disk>(
     ensures refused { IfOk result (λ answer. IfErr answer (λ why.
         greeting server.old.store.state client VERSION fresh ≡ Reply.Refused why.0 why.1)) }
     ensures server { OnOk result ((server.new.down ≡ false)
-        × (server.new.store.state ≡ server.old.store.state) × (server.new.store.soft ≡ server.old.store.soft)) }
-    ensures never_memory { IsErrOf result SharedFault.Memory → ⊥ }
+        × (server.new.store.state ≡ server.old.store.state) × (server.new.store.soft ≡ server.old.store.soft)
+        × (server.new.disks ≡ server.old.disks)) }
+    ensures limit { server.new.limit ≡ server.old.limit }
+    ensures only_down { IfErr result (λ fault. fault ≡ SharedFault.Down) }
     ensures down { IsErrOf result SharedFault.Down → server.new.down ≡ true }
     ensures known { (known server.new.before.value server.new.store server.new.down
         ≡ known server.old.before.value server.old.store server.old.down)
@@ -246,8 +267,10 @@ fn ask<D: Disk>(
     ensures reply { IfOk result (λ r. r ≡ greeting server.old.store.state client VERSION fresh) }
     ensures kind { IfOk result IsGreetingReply }
     ensures server { OnOk result ((server.new.down ≡ false)
-        × (server.new.store.state ≡ server.old.store.state) × (server.new.store.soft ≡ server.old.store.soft)) }
-    ensures never_memory { IsErrOf result SharedFault.Memory → ⊥ }
+        × (server.new.store.state ≡ server.old.store.state) × (server.new.store.soft ≡ server.old.store.soft)
+        × (server.new.disks ≡ server.old.disks)) }
+    ensures limit { server.new.limit ≡ server.old.limit }
+    ensures only_down { IfErr result (λ fault. fault ≡ SharedFault.Down) }
     ensures down { IsErrOf result SharedFault.Down → server.new.down ≡ true }
     ensures known { (known server.new.before.value server.new.store server.new.down
         ≡ known server.old.before.value server.old.store server.old.down)
@@ -261,7 +284,9 @@ fn ask<D: Disk>(
     };
     match server.serve(alloc, client, &message) {
         Ok(served) => Ok(first_of(served.into_sends())),
-        Err(fault) => Err(fault_of(fault)),
+        // A Hello does no deed.
+        Err(ServeFault::Full) => unreachable!(),
+        Err(_) => Err(SharedFault::Down),
     }
 }
 

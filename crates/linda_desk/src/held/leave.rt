@@ -1,41 +1,48 @@
 //! A client leaves: what it asked is given up, and its seat is parked.
 
-ghost use Rattle.std.specs.Prelude.{◌≡◌, ℕ, false, true, None, IfOk, OnOk, OnErr};
+ghost use Rattle.std.specs.Prelude.{◌≡◌, ◌≢◌, ℕ, false, true, None, IfOk, IfErr, OnOk, OnErr, IsErrOf};
 ghost use Rattle.linda_step.specs.Dispatch.{on_close};
 ghost use Rattle.linda_outbox.specs.Waiting.{waits_for};
 ghost use Rattle.linda_receipt.specs.Till.{till_of, with_place, place_for, ComesBack};
 ghost use Rattle.linda_desk.specs.Order.{known};
 ghost use Rattle.linda_desk.specs.Parked.{IsParked};
-ghost use Rattle.linda_desk.specs.Posted.{HasClosed};
+ghost use Rattle.linda_desk.specs.Posted.{HasClosed, HasLeft};
 ghost use Rattle.linda_desk.specs.Covered.{BoxesCovered};
 ghost use Rattle.linda_state.specs.State.{State};
 
 use super::Held;
-use super::base::fault_of;
 use super::recall::{Recall, put_back};
 use linda_disk::Disk;
 use linda_outbox::Outboxes;
 use linda_receipt::{Account, SharedFault, Till};
 use linda_server::Durable;
+use linda_store::NodeFault;
 use linda_wire::Reply;
 use std::alloc::Global;
 use std::sync::ledger::Ledger;
 
 impl<D: Disk, L: Ledger> Held<D, L> {
-    /// Gives up all that the client asked.
+    /// Gives up all that the client asked. No disk is touched.
     ///
     /// # Errors
     ///
-    /// `Down`: the server is down.
+    /// `Down` exactly where the server is down: one that was down is as before.
     pub fn close(&mut self, alloc: Global, client: u32) -> Result<(), SharedFault>
         ensures done { OnOk result (HasClosed self.old.server.store.state.bag client self.old.server.store.soft
             (waits_for self.old.boxes) (waits_for self.new.boxes) self.new.server.store.soft) }
         ensures state { OnOk result (self.new.server.store.state ≡ self.old.server.store.state) }
+        ensures up { OnOk result ((self.old.server.down ≡ false) × (self.new.server.down ≡ false)) }
         ensures down { OnErr result (self.new.server.down ≡ true) }
+        ensures first { self.old.server.down ≡ true
+            → IsErrOf result SharedFault.Down × (self.new.server ≡ self.old.server) }
+        ensures fault { IfErr result (λ fault. fault ≡ SharedFault.Down) }
         ensures err { OnErr result ((c : ℕ) → waits_for self.new.boxes c ≡ waits_for self.old.boxes c) }
+        ensures disks { (self.new.server.disks ≡ self.old.server.disks)
+            × (self.new.server.limit ≡ self.old.server.limit) }
         ensures same { (self.new.opening.value ≡ self.old.opening.value) × (self.new.base.value ≡ self.old.base.value)
             × (self.new.receipts.items ≡ self.old.receipts.items) × (self.new.count ≡ self.old.count)
-            × (self.new.till ≡ self.old.till) }
+            × (self.new.till ≡ self.old.till) × (self.new.pace ≡ self.old.pace)
+            × (self.new.recall ≡ self.old.recall) }
     {
         close_and_post(&mut self.server, &mut self.boxes, alloc, client)
     }
@@ -47,7 +54,8 @@ impl<D: Disk, L: Ledger> Held<D, L> {
         ensures lost { (ComesBack self.old.till.places account → ⊥) → self.new.till ≡ self.old.till }
         ensures same { (self.new.opening.value ≡ self.old.opening.value) × (self.new.base.value ≡ self.old.base.value)
             × (self.new.receipts.items ≡ self.old.receipts.items) × (self.new.count ≡ self.old.count)
-            × (self.new.server ≡ self.old.server) × (self.new.boxes ≡ self.old.boxes) }
+            × (self.new.server ≡ self.old.server) × (self.new.boxes ≡ self.old.boxes)
+            × (self.new.pace ≡ self.old.pace) }
     {
         put_back(&mut self.till, &mut self.recall, account);
     }
@@ -59,25 +67,42 @@ impl<D: Disk, L: Ledger> Held<D, L> {
         ensures lost { (ComesBack self.old.till.places account → ⊥) → self.new.till ≡ self.old.till }
         ensures same { (self.new.opening.value ≡ self.old.opening.value) × (self.new.base.value ≡ self.old.base.value)
             × (self.new.receipts.items ≡ self.old.receipts.items) × (self.new.count ≡ self.old.count)
-            × (self.new.server ≡ self.old.server) × (self.new.boxes ≡ self.old.boxes) }
+            × (self.new.server ≡ self.old.server) × (self.new.boxes ≡ self.old.boxes)
+            × (self.new.pace ≡ self.old.pace) × (self.new.recall ≡ self.old.recall) }
     {
         put_back_for_good(&mut self.till, account);
     }
 
-    /// The client leaves: it is closed and, whatever that answers, its outbox is shut and its seat comes back.
+    /// The client leaves: it is closed and, whatever that answers, its outbox is shut and its seat comes back. No
+    /// disk is touched.
     ///
     /// # Errors
     ///
-    /// `Down`: the server is down.
+    /// `Down` exactly where the server is down: one that was down is as before.
     pub fn leave(&mut self, alloc: Global, account: Account<L>) -> Result<(), SharedFault>
+        ensures done { OnOk result (HasLeft self.old.server.store.state.bag account.client
+            self.old.server.store.soft (waits_for self.old.boxes) (waits_for self.new.boxes)
+            self.new.server.store.soft) }
         ensures soft { OnOk result (self.new.server.store.soft
             ≡ (on_close self.old.server.store.state.bag account.client self.old.server.store.soft).soft) }
         ensures state { OnOk result (self.new.server.store.state ≡ self.old.server.store.state) }
+        ensures up { OnOk result ((self.old.server.down ≡ false) × (self.new.server.down ≡ false)) }
         ensures down { OnErr result (self.new.server.down ≡ true) }
+        ensures first { self.old.server.down ≡ true
+            → IsErrOf result SharedFault.Down × (self.new.server ≡ self.old.server) }
+        ensures fault { IfErr result (λ fault. fault ≡ SharedFault.Down) }
+        // Whatever it reports, its seat is back, and it has no outbox; what waits for the others is as it was, with
+        // what is sent to them now.
         ensures parked { ComesBack self.old.till.places account → IsParked self.old.till account self.new.till }
+        ensures lost { (ComesBack self.old.till.places account → ⊥) → self.new.till ≡ self.old.till }
         ensures shut { waits_for self.new.boxes account.client ≡ None }
+        ensures err { OnErr result ((c : ℕ) → c ≢ account.client
+            → waits_for self.new.boxes c ≡ waits_for self.old.boxes c) }
+        ensures disks { (self.new.server.disks ≡ self.old.server.disks)
+            × (self.new.server.limit ≡ self.old.server.limit) }
         ensures same { (self.new.opening.value ≡ self.old.opening.value) × (self.new.base.value ≡ self.old.base.value)
-            × (self.new.receipts.items ≡ self.old.receipts.items) × (self.new.count ≡ self.old.count) }
+            × (self.new.receipts.items ≡ self.old.receipts.items) × (self.new.count ≡ self.old.count)
+            × (self.new.pace ≡ self.old.pace) }
     {
         depart(
             &mut self.server,
@@ -99,12 +124,20 @@ fn depart<D: Disk, L: Ledger>(
     alloc: Global,
     account: Account<L>,
 ) -> Result<(), SharedFault>
+    ensures done { OnOk result (HasLeft server.old.store.state.bag account.client server.old.store.soft
+        (waits_for boxes.old) (waits_for boxes.new) server.new.store.soft) }
     ensures soft { OnOk result (server.new.store.soft
         ≡ (on_close server.old.store.state.bag account.client server.old.store.soft).soft) }
     ensures state { OnOk result (server.new.store.state ≡ server.old.store.state) }
+    ensures up { OnOk result ((server.old.down ≡ false) × (server.new.down ≡ false)) }
     ensures down { OnErr result (server.new.down ≡ true) }
+    ensures first { server.old.down ≡ true → IsErrOf result SharedFault.Down × (server.new ≡ server.old) }
+    ensures fault { IfErr result (λ fault. fault ≡ SharedFault.Down) }
+    ensures disks { (server.new.disks ≡ server.old.disks) × (server.new.limit ≡ server.old.limit) }
     ensures parked { ComesBack till.old.places account → IsParked till.old account till.new }
+    ensures lost { (ComesBack till.old.places account → ⊥) → till.new ≡ till.old }
     ensures shut { waits_for boxes.new account.client ≡ None }
+    ensures err { OnErr result ((c : ℕ) → c ≢ account.client → waits_for boxes.new c ≡ waits_for boxes.old c) }
     ensures total { till.new.total ≡ till.old.total }
     ensures known { (known server.new.before.value server.new.store server.new.down
         ≡ known server.old.before.value server.old.store server.old.down)
@@ -138,7 +171,11 @@ fn close_and_post<D: Disk>(
     ensures done { OnOk result (HasClosed server.old.store.state.bag client server.old.store.soft
         (waits_for boxes.old) (waits_for boxes.new) server.new.store.soft) }
     ensures state { OnOk result (server.new.store.state ≡ server.old.store.state) }
+    ensures up { OnOk result ((server.old.down ≡ false) × (server.new.down ≡ false)) }
     ensures down { OnErr result (server.new.down ≡ true) }
+    ensures first { server.old.down ≡ true → IsErrOf result SharedFault.Down × (server.new ≡ server.old) }
+    ensures fault { IfErr result (λ fault. fault ≡ SharedFault.Down) }
+    ensures disks { (server.new.disks ≡ server.old.disks) × (server.new.limit ≡ server.old.limit) }
     ensures err { OnErr result ((c : ℕ) → waits_for boxes.new c ≡ waits_for boxes.old c) }
     ensures known { (known server.new.before.value server.new.store server.new.down
         ≡ known server.old.before.value server.old.store server.old.down)
@@ -166,12 +203,16 @@ fn close_client<D: Disk>(
     ensures state { server.new.store.state ≡ server.old.store.state }
     ensures up { OnOk result ((server.old.down ≡ false) × (server.new.down ≡ false)) }
     ensures down { OnErr result (server.new.down ≡ true) }
+    ensures first { server.old.down ≡ true → IsErrOf result SharedFault.Down × (server.new ≡ server.old) }
+    ensures fault { IfErr result (λ fault. fault ≡ SharedFault.Down) }
+    ensures disks { (server.new.disks ≡ server.old.disks) × (server.new.limit ≡ server.old.limit) }
     ensures known { (known server.new.before.value server.new.store server.new.down
         ≡ known server.old.before.value server.old.store server.old.down)
         × (server.new.down ≡ false → server.old.down ≡ false) }
 {
     match server.close(alloc, client) {
         Ok(sends) => Ok(sends),
-        Err(fault) => Err(fault_of(fault)),
+        Err(NodeFault::Down) => Err(SharedFault::Down),
+        Err(NodeFault::Full) => unreachable!(),
     }
 }

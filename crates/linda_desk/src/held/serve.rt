@@ -1,11 +1,12 @@
 //! Several messages in one step of the server: its deeds get their receipts, and what it sends is posted.
 
-ghost use Rattle.std.specs.Prelude.{◌≡◌, ◌+◌, ◌≤◌, ◌++◌, false, true, ℕ, length};
-ghost use Rattle.std.specs.Prelude.{vec_len, vec_capacity, IfOk, OnOk, OnErr, IsErrOf};
+ghost use Rattle.std.specs.Prelude.{◌≡◌, ◌⊎◌, ◌+◌, ◌<◌, ◌≤◌, ◌++◌, [], false, true, ℕ, length};
+ghost use Rattle.std.specs.Prelude.{vec_len, vec_capacity, IfOk, IfErr, OnOk, OnErr, IsErrOf};
 ghost use Rattle.linda_state.specs.State as states;
 ghost use Rattle.linda_step.specs.declared.size.TheConstants.{MAX_BATCH};
 ghost use Rattle.linda_server.specs.Served.{IsServed};
 ghost use Rattle.linda_server.specs.Handled.{HasNoRoomFor};
+ghost use Rattle.linda_server.specs.Server.{IsPutOn};
 ghost use Rattle.linda_desk.specs.Order.{known, IsInOrder};
 ghost use Rattle.linda_receipt.specs.Telling.{receipts_in};
 ghost use Rattle.linda_desk.specs.Posted.{HasPosted};
@@ -38,6 +39,12 @@ pub(super) fn serve<D: Disk>(
     ensures receipts { IfOk result (λ told. receipts.new.items ≡ receipts.old.items ++ receipts_in told.items) }
     ensures one_each { IfOk result (λ told. vec_len told ≡ length messages.now) }
     ensures up { OnOk result ((server.old.down ≡ false) × (server.new.down ≡ false)) }
+    // for all deeds together four device calls were made on the bank in use, and where there are none no disk was
+    // touched;
+    ensures idle { IfOk result (λ told. receipts_in told.items ≡ []
+        → server.new.disks ≡ server.old.disks) }
+    ensures clock { IfOk result (λ told. 0 < length (receipts_in told.items)
+        → IsPutOn server.old.disks server.new.disks) }
     // else nobody is told anything, and nothing is posted; where it is Full nothing changed.
     ensures err { OnErr result ((receipts.new.items ≡ receipts.old.items)
         × ((c : ℕ) → waits_for boxes.new c ≡ waits_for boxes.old c)) }
@@ -45,6 +52,9 @@ pub(super) fn serve<D: Disk>(
         × HasNoRoomFor server.old messages.now }
     ensures room { OnOk result (HasNoRoomFor server.old messages.now → ⊥) }
     ensures down { IsErrOf result SharedFault.Down → server.new.down ≡ true }
+    ensures memory { IsErrOf result SharedFault.Memory → (server.new ≡ server.old) × (boxes.new ≡ boxes.old) }
+    ensures fault { IfErr result (λ fault. (fault ≡ SharedFault.Full)
+        ⊎ ((fault ≡ SharedFault.Down) ⊎ (fault ≡ SharedFault.Memory))) }
     ensures ok_order { (opening base : states.State) (count : ℕ)
         → IsInOrder opening base receipts.old.items count server.old.down
         (known server.old.before.value server.old.store server.old.down)
@@ -94,8 +104,7 @@ pub(super) fn serve<D: Disk>(
 fn make_room(receipts: &mut Vec<Receipt>, more: usize) -> Result<(), SharedFault>
     ensures room { OnOk result (vec_len receipts.new + more ≤ vec_capacity receipts.new) }
     ensures items { receipts.new.items ≡ receipts.old.items }
-    ensures never_full { IsErrOf result SharedFault.Full → ⊥ }
-    ensures never_down { IsErrOf result SharedFault.Down → ⊥ }
+    ensures only_memory { IfErr result (λ fault. fault ≡ SharedFault.Memory) }
 {
     match receipts.reserve(more) {
         Ok(()) => Ok(()),
@@ -113,6 +122,11 @@ fn take_all<D: Disk>(
     ensures done { IfOk result (λ served. IsServed server.old.store.state server.old.store.soft
         messages.now served server.new.store.state server.new.store.soft) }
     ensures up { OnOk result ((server.old.down ≡ false) × (server.new.down ≡ false)) }
+    ensures idle { IfOk result (λ served. served.deeds.items ≡ []
+        → server.new.disks ≡ server.old.disks) }
+    ensures clock { IfOk result (λ served. 0 < length served.deeds.items
+        → IsPutOn server.old.disks server.new.disks) }
+    ensures fault { IfErr result (λ fault. (fault ≡ SharedFault.Full) ⊎ (fault ≡ SharedFault.Down)) }
     ensures full { IsErrOf result SharedFault.Full → (server.new ≡ server.old)
         × HasNoRoomFor server.old messages.now }
     ensures room { OnOk result (HasNoRoomFor server.old messages.now → ⊥) }
@@ -131,7 +145,7 @@ fn take_all<D: Disk>(
 pub(super) fn fault_of(fault: ServeFault) -> SharedFault
     ensures full { result ≡ SharedFault.Full → fault ≡ ServeFault.Full }
     ensures down { result ≡ SharedFault.Down → (fault ≡ ServeFault.Full → ⊥) }
-    ensures never_memory { result ≡ SharedFault.Memory → ⊥ }
+    ensures known { (result ≡ SharedFault.Full) ⊎ (result ≡ SharedFault.Down) }
 {
     match fault {
         ServeFault::Full => SharedFault::Full,

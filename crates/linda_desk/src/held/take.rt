@@ -1,7 +1,7 @@
 //! Messages of several clients: in one step where that may be, else one by one.
 
 ghost use Rattle.std.specs.Prelude.{◌≡◌, ◌⊎◌, true, false, ◌+◌, ◌≤◌, ◌<◌, ◌^◌, ◌++◌, ℕ, length, vec_len};
-ghost use Rattle.std.specs.Prelude.{IfOk, OnOk, OnErr, IsErrOf};
+ghost use Rattle.std.specs.Prelude.{IfOk, IfErr, OnOk, OnErr, IsErrOf};
 ghost use Rattle.linda_state.specs.State as states;
 ghost use Rattle.linda_step.specs.declared.size.TheConstants.{MAX_BATCH};
 ghost use Rattle.linda_server.specs.Handled.{HasNoRoomFor};
@@ -28,7 +28,8 @@ use std::alloc::Global;
 ///
 /// # Errors
 ///
-/// `Memory`: nothing changed. `Down`: the server is down, and nobody is told anything.
+/// `Down` before all, and exactly where the server is down: nobody is told anything, and one that was down is as
+/// before. `Memory`: nothing changed, but that a snapshot may be asked for.
 pub(super) fn take<D: Disk>(
     server: &mut Durable<D>,
     receipts: &mut Vec<Receipt>,
@@ -45,7 +46,13 @@ pub(super) fn take<D: Disk>(
     ensures one_each { IfOk result (λ told. vec_len told ≡ length messages.now) }
     ensures countable { IfOk result (λ told. count + length (receipts_in told.items) < 2 ^ 64) }
     ensures err { OnErr result (receipts.new.items ≡ receipts.old.items) }
+    ensures up { OnOk result ((server.old.down ≡ false) × (server.new.down ≡ false)) }
     ensures down { IsErrOf result SharedFault.Down → server.new.down ≡ true }
+    ensures memory { IsErrOf result SharedFault.Memory → (server.new ≡ server.old) × (boxes.new ≡ boxes.old)
+        × (server.old.down ≡ false) }
+    ensures fault { IfErr result (λ fault. (fault ≡ SharedFault.Down) ⊎ (fault ≡ SharedFault.Memory)) }
+    ensures first { server.old.down ≡ true → IsErrOf result SharedFault.Down × (server.new ≡ server.old)
+        × (boxes.new ≡ boxes.old) × (pace.new ≡ pace.old) }
     ensures some { OnErr result (WentSome server.old count messages.now
         (waits_for boxes.old) (waits_for boxes.new)) }
     ensures ok_order { (opening base : states.State) (count : ℕ)
@@ -68,7 +75,11 @@ pub(super) fn take<D: Disk>(
     ensures lacks { OnOk result (count + length messages.now < 2 ^ 64 → HasNoRoomFor server.old messages.now
         → pace.new.lacks_room ≡ true) }
     ensures pace { (pace.new ≡ pace.old) ⊎ (pace.new ≡ refused_for_room pace.old) }
+    ensures unasked { (HasNoRoomFor server.old messages.now → ⊥) → pace.new ≡ pace.old }
 {
+    if server.is_down() {
+        return Err(SharedFault::Down);
+    }
     if could_pass(count, messages.len()) {
         return serve_each(server, receipts, boxes, alloc, count, messages);
     }

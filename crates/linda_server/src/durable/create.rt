@@ -17,7 +17,7 @@ impl<D: Disk> Durable<D> {
     ghost use Rattle.linda_state.specs.State.{empty_state};
     ghost use Rattle.linda_disk.specs.Disk.{TellsFailuresOfTwo};
     ghost use Rattle.linda_step.specs.Soft.{no_asks};
-    ghost use Rattle.linda_server.specs.Pairs.{PairsSince, two, IsVoid};
+    ghost use Rattle.linda_server.specs.Pairs.{PairsSince, two, IsVoid, TookCalls};
     ghost use Rattle.linda_server.specs.Server.{both_of, BothHonest, StandNow};
     ghost use Rattle.linda_server.specs.Calls.{IsNothingOr, IsLimit};
 
@@ -58,6 +58,14 @@ impl<D: Disk> Durable<D> {
             → IfOk result (λ s. ((D.view left).seen ≡ []) × ((D.view right).seen ≡ []))
             × IfErr result (λ e. e.0 ≡ OpenFault.NotEmpty
             → (0 < length (D.view left).seen) ⊎ (0 < length (D.view right).seen)) }
+        // At Ok six calls changed or synced the left disk, and two the right one;
+        ensures clock { D.honest left → D.honest right
+            → IfOk result (λ s. TookCalls 6 2 (two (D.view left) (D.view right))
+            (both_of s.disks)) }
+        // with NotEmpty and LimitRange none did.
+        ensures untouched { D.honest left → D.honest right
+            → IfErr result (λ e. (e.0 ≡ OpenFault.NotEmpty) ⊎ (e.0 ≡ OpenFault.LimitRange)
+            → TookCalls 0 0 (two (D.view left) (D.view right)) (two (D.view e.1) (D.view e.2))) }
         ensures known { IfErr result (λ e. e.0 ≡ OpenFault.NoStore → ⊥) }
         ensures honest { IfOk result (λ s. (D.honest left × D.honest right) ↔ BothHonest s.disks)
             × IfErr result (λ e. (D.honest left × D.honest right)

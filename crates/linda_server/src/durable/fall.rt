@@ -15,6 +15,7 @@ use std::mem;
 
 impl<D: Disk> Durable<D> {
     ghost use Rattle.linda_store.specs.Node.{MayRemain, IsBatch, in_hand};
+    ghost use Rattle.linda_server.specs.Lives.{StaysOn};
     ghost use Rattle.linda_server.specs.Node.{shown};
 
     /// Begins the work, of which nothing is sent, and counts as down from then on, whatever becomes
@@ -56,6 +57,8 @@ impl<D: Disk> Durable<D> {
         ensures same { (self.new.store ≡ self.old.store) × (self.new.disks ≡ self.old.disks)
             × (self.new.limit ≡ self.old.limit) }
         ensures honest { BothHonest self.old.disks ↔ BothHonest self.new.disks }
+        // Every life of the server goes on by it.
+        ensures life { StaysOn self.old self.new }
     {
         if !self.down {
             self.begin();

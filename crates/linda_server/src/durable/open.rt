@@ -19,7 +19,7 @@ impl<D: Disk> Durable<D> {
     ghost use Rattle.linda_step.specs.Soft.{no_asks};
     ghost use Rattle.linda_disk.specs.Disk.{TellsFailuresOfTwo};
     ghost use Rattle.linda_snap.specs.Stands.{Stands};
-    ghost use Rattle.linda_server.specs.Pairs.{LeavesNoOther, two};
+    ghost use Rattle.linda_server.specs.Pairs.{LeavesNoOther, two, TookCalls};
     ghost use Rattle.linda_server.specs.Server.{both_of, BothHonest, StandNow};
     ghost use Rattle.linda_server.specs.Calls.{IsLimit};
     ghost use Rattle.linda_server.specs.Opening.{IsOpenFault};
@@ -61,6 +61,10 @@ impl<D: Disk> Durable<D> {
             (both_of s.disks))
             × IfErr result (λ e. LeavesNoOther (two (D.view left) (D.view right))
             (two (D.view e.1) (D.view e.2))) }
+        // At Ok one call changed or synced each disk.
+        ensures clock { D.honest left → D.honest right
+            → IfOk result (λ s. TookCalls 1 1 (two (D.view left) (D.view right))
+            (both_of s.disks)) }
         ensures honest { IfOk result (λ s. (D.honest left × D.honest right) ↔ BothHonest s.disks)
             × IfErr result (λ e. (D.honest left × D.honest right)
             ↔ (D.honest e.1 × D.honest e.2)) }

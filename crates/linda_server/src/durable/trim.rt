@@ -11,6 +11,7 @@ use linda_store::NodeFault;
 
 impl<D: Disk> Durable<D> {
     ghost use Rattle.linda_server.specs.Handled.{Rewrites, Fails, Falls};
+    ghost use Rattle.linda_server.specs.Server.{IsClearedBy};
     ghost use Rattle.linda_server.specs.Switch.{IsTrimmed};
 
     /// Leaves one byte of the disk that is not in use, a closed gate. It is what `trim` stands on,
@@ -27,6 +28,8 @@ impl<D: Disk> Durable<D> {
         ensures never_full { IsErrOf result ServeFault.Full → ⊥ }
         // At Ok the bank in use is as it was, and one byte is left of the other disk.
         ensures trimmed { OnOk result (IsTrimmed self.old.disks self.new.disks) }
+        // Two calls changed or synced that disk, and two more if its gate was to be closed first.
+        ensures clock { OnOk result (IsClearedBy self.old.disks self.new.disks) }
     {
         if self.down {
             return Err(ServeFault::Down);
@@ -54,6 +57,8 @@ impl<D: Disk> Durable<D> {
         ensures never_full { IsErrOf result NodeFault.Full → ⊥ }
         // At Ok the bank in use is as it was, and one byte is left of the other disk.
         ensures trimmed { OnOk result (IsTrimmed self.old.disks self.new.disks) }
+        // Two calls changed or synced that disk, and two more if its gate was to be closed first.
+        ensures clock { OnOk result (IsClearedBy self.old.disks self.new.disks) }
     {
         match self.clear() {
             Ok(()) => Ok(()),

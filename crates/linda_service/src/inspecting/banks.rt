@@ -3,6 +3,8 @@
 //! A file is read from the front to its end: a record is there before its gate opens, and stands after it. Where both
 //! files begin afterwards as they did, no bank was begun anew meanwhile.
 
+ghost use Rattle.std.specs.Prelude.{◌≡◌, ◌↔◌, take, IsTrue};
+
 use crate::bank_file::{check_apart, check_kind, fault_of};
 use crate::serving::{LEFT, RIGHT, ServingFault};
 use std::alloc::Global;
@@ -91,14 +93,16 @@ fn begins_so<F: Files<File = File>>(
     };
     let mut front = [0; FRONT];
     match file.read(&mut front) {
-        Ok(count) => Ok(bytes.get(..count) == Some(&front[..count]) && ends_so(count, bytes)),
+        Ok(count) => Ok(begins_as(&front[..count], bytes)),
         Err(error) => Err(fault_of(&error)),
     }
 }
 
-// Whether so many bytes of a front are all of it.
-fn ends_so(count: usize, bytes: &[u8]) -> bool {
-    count == FRONT || count == bytes.len()
+// Whether a file that begins so, as far as a front goes, begins as these bytes.
+fn begins_as(front: &[u8], bytes: &[u8]) -> bool
+    ensures { IsTrue result ↔ (front.now ≡ take 13 bytes.now) }
+{
+    front == &bytes[..bytes.len().min(FRONT)]
 }
 
 // The file, opened for reading; None where it is missing.

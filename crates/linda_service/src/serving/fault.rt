@@ -1,6 +1,12 @@
 //! Why a server on a folder does not serve.
 
+ghost use Rattle.std.specs.Prelude.{◌≡◌};
+ghost use Rattle.linda_service.specs.Faults.{fault_of_disk, fault_of_open, fault_of_report, served_as};
+ghost use Rattle.linda_service.specs.declared.serving.fault.ServingFault.TheVariants.{Memory as MemoryFault};
+
+use linda_disk::DiskFault;
 use linda_inspect::InspectFault;
+use linda_net::SharedFault;
 use linda_server::OpenFault;
 use std::alloc::{AllocError, AllocFailed};
 use thiserror::Error;
@@ -32,6 +38,8 @@ pub enum ServingFault {
 }
 
 impl From<OpenFault> for ServingFault {
+    ghost from_gives = { λ fault told. told ≡ fault_of_open fault };
+
     fn from(fault: OpenFault) -> ServingFault {
         match fault {
             OpenFault::NoStore => ServingFault::NoStore,
@@ -45,6 +53,8 @@ impl From<OpenFault> for ServingFault {
 }
 
 impl From<InspectFault> for ServingFault {
+    ghost from_gives = { λ fault told. told ≡ fault_of_report fault };
+
     fn from(fault: InspectFault) -> ServingFault {
         match fault {
             InspectFault::NoStore => ServingFault::NoStore,
@@ -56,14 +66,39 @@ impl From<InspectFault> for ServingFault {
     }
 }
 
+impl From<DiskFault> for ServingFault {
+    ghost from_gives = { λ fault told. told ≡ fault_of_disk fault };
+
+    fn from(fault: DiskFault) -> ServingFault {
+        match fault {
+            DiskFault::Device => ServingFault::Disk,
+            DiskFault::Memory => ServingFault::Memory,
+        }
+    }
+}
+
 impl From<AllocError> for ServingFault {
+    ghost from_gives = { λ _ told. told ≡ MemoryFault };
+
     fn from(_error: AllocError) -> ServingFault {
         ServingFault::Memory
     }
 }
 
 impl<T: Drop> From<AllocFailed<T>> for ServingFault {
+    ghost from_gives = { λ _ told. told ≡ MemoryFault };
+
     fn from(_error: AllocFailed<T>) -> ServingFault {
         ServingFault::Memory
+    }
+}
+
+/// How serving ends: each fault of a server that is shared says that it went down.
+pub(super) fn served(ended: Result<(), SharedFault>) -> Result<(), ServingFault>
+    ensures { result ≡ served_as ended }
+{
+    match ended {
+        Ok(()) => Ok(()),
+        Err(_) => Err(ServingFault::Down),
     }
 }

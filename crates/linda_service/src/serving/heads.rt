@@ -1,11 +1,15 @@
 //! Which bank of a folder is in use, by what both files begin with.
 
+ghost use Rattle.std.specs.Prelude.{◌≡◌};
+ghost use Rattle.linda_service.specs.Banks.{in_use};
+
 use super::store::{LEFT, RIGHT};
 use linda_journal::{Heading, MIN_BYTES, read_heading};
 use std::alloc::{AllocError, Global};
 use std::fs;
 use std::fs::{File, Files};
 use std::io::Read;
+use std::os::unix::fs::FileExt;
 
 /// The bank in use.
 #[derive(Clone, Copy, Debug, PartialEq, Eq)]
@@ -26,6 +30,23 @@ pub(crate) fn bank_in_use<F: Files<File = File>>(
     let left = heading_of(files, alloc, folder, LEFT).ok()?;
     let right = heading_of(files, alloc, folder, RIGHT).ok()?;
     in_use(left, right)
+}
+
+/// Whether the bank in use is the right one of two files that are open; nothing if neither holds a bank.
+pub(crate) fn is_right_in_use(left: &File, right: &File) -> Option<bool> {
+    match in_use(heading_in(left), heading_in(right)) {
+        Some(bank) => Some(bank.is_right),
+        None => None,
+    }
+}
+
+// What an open file begins with: no bank if it is shorter or cannot be read.
+fn heading_in(file: &File) -> Heading {
+    let mut front = [0; MIN_BYTES];
+    match file.read_exact_at(&mut front, 0) {
+        Ok(()) => read_heading(&front),
+        Err(_) => Heading::NoBank,
+    }
 }
 
 /// Whether a snapshot was cut off, with this bank in use: the other file is longer than a closed gate, and no bank.
@@ -61,8 +82,10 @@ fn is_longer_than_a_gate<F: Files<File = File>>(
     }
 }
 
-/// The bank of the greater generation.
-pub(crate) fn in_use(left: Heading, right: Heading) -> Option<InUse> {
+/// The bank of the greater generation; the only bank, if there is one.
+pub(crate) fn in_use(left: Heading, right: Heading) -> Option<InUse>
+    ensures { result ≡ in_use left right }
+{
     match (left, right) {
         (
             Heading::Bank {

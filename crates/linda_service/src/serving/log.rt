@@ -1,6 +1,7 @@
 //! The log of a server: a line for what happens, `TIME EVENT key value key value ..`.
 
 use super::heads::InUse;
+use super::minutes::{Counted, connected};
 use super::stamp::stamp_now;
 use linda_disk::FileTrouble;
 use linda_net::{Event, Gauge, Refused, Tally, Watcher, Why};
@@ -22,15 +23,12 @@ pub enum Cause {
     Memory,
 }
 
-/// A log, and what was done when its last line of a minute was written.
+/// A log, and what was counted when its last line of a minute was written.
 #[derive(Drop)]
 pub struct Log<'a, W: Write> {
     sink: &'a mut W,
     text: String,
-    deeds: u64,
-    refused: u64,
-    unserved: u64,
-    turned: Refused,
+    before: Counted,
 }
 
 impl<'a, W: Write> Log<'a, W> {
@@ -40,10 +38,7 @@ impl<'a, W: Write> Log<'a, W> {
         Ok(Log {
             sink,
             text,
-            deeds: 0,
-            refused: 0,
-            unserved: 0,
-            turned: Refused::none(),
+            before: Counted::none(),
         })
     }
 
@@ -160,24 +155,19 @@ impl<'a, W: Write> Log<'a, W> {
         gauge: &Gauge,
         tally: &Tally,
     ) -> Result<(), AllocError> {
-        let unserved = tally.closed.saturating_add(tally.missed);
+        let more = self.before.end_minute(gauge.deeds, tally);
         self.begin(clock, "minute")?;
         self.number("connections", connected(tally))?;
-        self.number("deeds", gauge.deeds.saturating_sub(self.deeds))?;
-        self.number("refused", tally.refused.saturating_sub(self.refused))?;
-        self.number("unserved", unserved.saturating_sub(self.unserved))?;
-        self.deeds = gauge.deeds;
-        self.refused = tally.refused;
-        self.unserved = unserved;
+        self.number("deeds", more.deeds)?;
+        self.number("refused", more.refused)?;
+        self.number("unserved", more.unserved)?;
         self.state(gauge)?;
         self.bank(gauge)?;
-        self.turned(&tally.turned)
+        self.turned(&more.turned)
     }
 
-    // How many clients were refused since the line before, by the reason.
-    fn turned(&mut self, now: &Refused) -> Result<(), AllocError> {
-        let more = now.since(&self.turned);
-        self.turned = *now;
+    // How many clients were refused, by the reason.
+    fn turned(&mut self, more: &Refused) -> Result<(), AllocError> {
         self.number("busy", more.busy)?;
         self.number("toomany", more.clients)?;
         self.number("greetings", more.greetings)?;
@@ -267,11 +257,6 @@ impl<W: Write> Watcher for Log<'_, W> {
         let told = self.spell(clock, event, gauge, tally);
         self.send(told);
     }
-}
-
-// How many connections there are.
-fn connected(tally: &Tally) -> u64 {
-    tally.came.saturating_sub(tally.over)
 }
 
 fn word_of_why(why: Why) -> &'static str {

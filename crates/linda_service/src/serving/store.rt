@@ -1,10 +1,11 @@
 //! The store in a folder.
 
-ghost use Rattle.std.specs.Prelude.{◌≡◌, false, IfOk, OnOk};
+ghost use Rattle.std.specs.Prelude.{◌≡◌, ◌^◌, false, IfOk, OnOk};
 
 use super::fault::ServingFault;
+use super::heads::is_right_in_use;
 use crate::bank_file::{check_apart, check_kind};
-use linda_disk::FileDisk;
+use linda_disk::{DiskFault, FileDisk};
 use linda_server::{Durable, MAX_LIMIT, OpenFault};
 use std::alloc::Global;
 use std::fs::{File, Files, OpenOptions, TryLockError};
@@ -27,13 +28,17 @@ pub fn open_store<R: Files<File = File>>(
     alloc: Global,
     folder: &str,
 ) -> Result<Durable<FileDisk>, ServingFault>
-    ensures { IfOk result (λ s. s.down ≡ false) }
+    ensures up { IfOk result (λ s. s.down ≡ false) }
+    ensures limit { IfOk result (λ s. s.limit ≡ 2 ^ 30) }
 {
     let left = open_bank(rt, alloc, folder, LEFT)?;
     lock(&left)?;
     let right = open_bank(rt, alloc, folder, RIGHT)?;
     check_apart(left.metadata(), right.metadata())?;
-    let server = create_or_open(alloc, FileDisk::new(left), FileDisk::new(right))?;
+    let in_use = is_right_in_use(&left, &right);
+    let left = as_disk(alloc, left, in_use == Some(false))?;
+    let right = as_disk(alloc, right, in_use == Some(true))?;
+    let server = create_or_open(alloc, left, right)?;
     sync_folder(rt, folder)?;
     Ok(server)
 }
@@ -44,7 +49,8 @@ pub fn open_store<R: Files<File = File>>(
 ///
 /// `Disk`: a device failed.
 pub(super) fn give_back(server: &mut Durable<FileDisk>) -> Result<(), ServingFault>
-    ensures { OnOk result (server.new.down ≡ false) }
+    ensures up { OnOk result (server.new.down ≡ false) }
+    ensures limit { OnOk result (server.new.limit ≡ server.old.limit) }
 {
     let _ = server.trim().is_err();
     if server.is_down() {
@@ -53,13 +59,23 @@ pub(super) fn give_back(server: &mut Durable<FileDisk>) -> Result<(), ServingFau
     Ok(())
 }
 
+// The file of a bank as a disk. All of it is kept until it is read if the bank is in use, else no more than its front.
+fn as_disk(alloc: Global, file: File, is_in_use: bool) -> Result<FileDisk, DiskFault> {
+    if is_in_use {
+        FileDisk::new(alloc, file)
+    } else {
+        FileDisk::with_front(alloc, file)
+    }
+}
+
 // Creates a store where both banks are empty, and opens it where one is not.
 fn create_or_open(
     alloc: Global,
     left: FileDisk,
     right: FileDisk,
 ) -> Result<Durable<FileDisk>, OpenFault>
-    ensures { IfOk result (λ s. s.down ≡ false) }
+    ensures up { IfOk result (λ s. s.down ≡ false) }
+    ensures limit { IfOk result (λ s. s.limit ≡ 2 ^ 30) }
 {
     match Durable::create(alloc, left, right, MAX_LIMIT) {
         Ok(server) => Ok(server),
@@ -70,7 +86,8 @@ fn create_or_open(
 
 // Opens a store.
 fn open(alloc: Global, left: FileDisk, right: FileDisk) -> Result<Durable<FileDisk>, OpenFault>
-    ensures { IfOk result (λ s. s.down ≡ false) }
+    ensures up { IfOk result (λ s. s.down ≡ false) }
+    ensures limit { IfOk result (λ s. s.limit ≡ 2 ^ 30) }
 {
     match Durable::open(alloc, left, right, MAX_LIMIT) {
         Ok(server) => Ok(server),

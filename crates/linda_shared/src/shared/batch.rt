@@ -2,15 +2,17 @@
 
 ghost use Rattle.std.specs.Prelude.{◌≡◌, ◌+◌, ◌<◌, ◌≤◌, [], length, All, IfOk, IfErr};
 ghost use Rattle.std.specs.Prelude.{vec_len, vec_capacity, OnOk, OnErr};
+ghost use Rattle.std.specs.Arc.{arc_value};
 ghost use Rattle.linda_step.specs.declared.size.TheConstants.{MAX_BATCH};
 ghost use Rattle.linda_receipt.specs.Account.{account_of};
 ghost use Rattle.linda_receipt.specs.declared.limits.TheConstants.{MOST_ASKED};
 ghost use Rattle.linda_mail.specs.Seat.{with_all, with_asked, AreToldOf, IsLeftBy, IsRequest};
 
 use super::Shared;
-use crate::seat::{Seat, address_at};
+use crate::addressed::address_all;
+use crate::seat::Seat;
 use linda_disk::Disk;
-use linda_mail::{Address, Heard, Mailbox};
+use linda_mail::{Heard, Mailbox};
 use linda_receipt::{Account, Receipt, SharedFault};
 use linda_wire::Message;
 use std::alloc::{AllocError, Global};
@@ -62,11 +64,12 @@ impl<D: Disk, L: Ledger> Shared<D, L> {
     ) -> Result<bool, AllocError>
         requires some { 0 < length messages.now }
         requires few { account.old.asked + length messages.now ≤ MOST_ASKED }
+        requires own { (arc_value mailbox.now).client ≡ account.old.client }
         ensures ok { OnOk result (account.new ≡ account_of account.old.client account.old.deeds
             (account.old.asked + length messages.now) account.old.ring) }
         ensures err { OnErr result (account.new ≡ account.old) }
     {
-        let addressed = address_all(self.alloc, account.client(), mailbox, messages)?;
+        let addressed = address_all(self.alloc, mailbox, messages)?;
         mailbox.open(rt, messages.len())?;
         self.queue.lock(rt).ask_all(account, addressed)
     }
@@ -84,6 +87,7 @@ impl<D: Disk, L: Ledger> Shared<D, L> {
         requires asked { account.old.asked ≡ length messages.now }
         requires none { told.items ≡ [] }
         requires room { length messages.now ≤ vec_capacity told }
+        ensures client { account.new.client ≡ account.old.client }
         ensures asked { account.new.asked ≡ 0 }
         ensures ok { IfOk result (λ told. account.new ≡ with_all (with_asked account.old 0) told.items) }
         ensures deeds { IfOk result (λ told. AreToldOf account.old.client messages.now told.items) }
@@ -101,22 +105,4 @@ impl<D: Disk, L: Ledger> Shared<D, L> {
         }
         heard.end()
     }
-}
-
-// A copy of each message, with the address of its place in the client's mailbox.
-fn address_all<L: Ledger>(
-    alloc: Global,
-    client: u32,
-    mailbox: &Arc<Mailbox<L>, Global>,
-    messages: &[Message],
-) -> Result<Vec<(Message, Address<L>)>, AllocError>
-    ensures { IfOk result (λ all. vec_len all ≡ length messages.now) }
-{
-    let mut all = Vec::with_capacity(alloc, messages.len())?;
-    for place in 0..messages.len() {
-        let message = messages[place].try_clone(alloc)?;
-        let address = address_at(client, mailbox, place)?;
-        all.push_reserved((message, address));
-    }
-    Ok(all)
 }

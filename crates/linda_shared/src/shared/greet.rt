@@ -1,8 +1,10 @@
 //! A client comes.
 
 ghost use Rattle.std.specs.Prelude.{◌≡◌, ℕ, false, IfOk, IsErrOf};
+ghost use Rattle.std.specs.Arc.{arc_value};
 ghost use Rattle.linda_outbox.specs.Waiting.{waits_for};
-ghost use Rattle.linda_shared.specs.Greeting.{WasGreeted, IsSeatOf, greeting_of};
+ghost use Rattle.linda_shared.specs.Greeting as spec;
+ghost use Rattle.linda_shared.specs.Greeting.{WasGreeted, IsSeatOf, HasOwnOutlet, greeting_of};
 
 use super::Shared;
 use crate::greeted::Greeted;
@@ -28,6 +30,8 @@ impl<D: Disk, L: Ledger> Shared<D, L> {
         ensures greeted { IfOk result (λ g. WasGreeted message.now (greeting_of g)) }
         // so a seat is of the Hello's client, and nothing of it is on its way.
         ensures seat { IfOk result (λ g. IsSeatOf message.now (greeting_of g)) }
+        // What comes out of the outlet was for the seat's client.
+        ensures outlet { IfOk result HasOwnOutlet }
     {
         let mut guard = self.desk.lock(rt);
         let greeted = self.welcome(rt, &mut guard.held, message);
@@ -46,6 +50,7 @@ impl<D: Disk, L: Ledger> Shared<D, L> {
         message: &Message,
     ) -> Result<Greeted<L>, SharedFault>
         ensures greeted { IfOk result (λ g. WasGreeted message.now (greeting_of g)) }
+        ensures outlet { IfOk result HasOwnOutlet }
         // Without memory all is as before, so a second greeting is answered as this one was to be.
         ensures memory { IsErrOf result SharedFault.Memory → (held.new.server.down ≡ false)
             × (held.new.server.store.state ≡ held.old.server.store.state)
@@ -55,13 +60,13 @@ impl<D: Disk, L: Ledger> Shared<D, L> {
         if held.is_down() {
             return Err(SharedFault::Down);
         }
-        let Ok((mine, theirs, out)) = owners(self.alloc) else {
+        let Ok((mine, theirs, out)) = owners(self.alloc, client_in(message)) else {
             return Err(SharedFault::Memory);
         };
         let mut office = self.office.lock(rt);
         let newcomer = newcomer(held, message);
-        if let Some(client) = newcomer {
-            let Ok(()) = office.open(rt, client, theirs) else {
+        if newcomer.is_some() {
+            let Ok(()) = office.open(rt, theirs) else {
                 return Err(SharedFault::Memory);
             };
         }
@@ -87,6 +92,16 @@ fn newcomer<D: Disk, L: Ledger>(held: &Held<D, L>, message: &Message) -> Option<
     }
 }
 
+// The client of a Hello; else no matter which, since nothing else is welcome.
+fn client_in(message: &Message) -> u32
+    ensures { result ≡ spec.client_in message.now }
+{
+    match message {
+        Message::Hello { client, .. } => *client,
+        _ => 0,
+    }
+}
+
 // Asks the desk; whoever gets a seat has this mailbox.
 fn admit<D: Disk, L: Ledger>(
     held: &mut Held<D, L>,
@@ -95,7 +110,10 @@ fn admit<D: Disk, L: Ledger>(
     mine: Arc<Mailbox<L>, Global>,
     out: Arc<Mailbox<L>, Global>,
 ) -> Result<Greeted<L>, SharedFault>
+    requires own { (arc_value mine).client ≡ spec.client_in message.now }
+    requires same { (arc_value out).client ≡ spec.client_in message.now }
     ensures greeted { IfOk result (λ g. WasGreeted message.now (greeting_of g)) }
+    ensures outlet { IfOk result HasOwnOutlet }
     ensures memory { IsErrOf result SharedFault.Memory → (held.new.server.down ≡ false)
         × (held.new.server.store.state ≡ held.old.server.store.state)
         × (held.new.server.store.soft ≡ held.old.server.store.soft) × (held.new.till ≡ held.old.till)
@@ -115,9 +133,10 @@ fn is_welcome<L: Ledger>(greeted: &Result<Greeted<L>, SharedFault>) -> bool {
     matches!(greeted, Ok(Greeted::Welcome(..)))
 }
 
-// Three owners of one new mailbox.
+// Three owners of one new mailbox of the client.
 fn owners<L: Ledger>(
     alloc: Global,
+    client: u32,
 ) -> Result<
     (
         Arc<Mailbox<L>, Global>,
@@ -125,8 +144,11 @@ fn owners<L: Ledger>(
         Arc<Mailbox<L>, Global>,
     ),
     AllocError,
-> {
-    let first = Arc::new(alloc, Mailbox::new(alloc))?;
+>
+    ensures { IfOk result (λ o. ((arc_value o.0).client ≡ client) × ((arc_value o.1).client ≡ client)
+        × ((arc_value o.2).client ≡ client)) }
+{
+    let first = Arc::new(alloc, Mailbox::new(alloc, client))?;
     let second = Arc::try_clone(&first)?;
     let third = Arc::try_clone(&first)?;
     Ok((first, second, third))

@@ -36,11 +36,11 @@ impl<D: Disk, L: Ledger> Shared<D, L> {
         desk.serve(self.alloc);
         let is_down = desk.held.is_down();
         let mut office = self.office.lock(rt);
-        desk.tray.hand_over(rt, self.alloc, &mut office);
+        desk.tray.hand_over(rt, &mut office);
         desk.take_posted(rt, self.alloc, &mut office);
         drop(desk);
         self.queue.lock(rt).pass_on(rt);
-        office.deliver(rt, self.alloc);
+        office.deliver(rt);
         if is_down {
             office.end_all(rt);
         }

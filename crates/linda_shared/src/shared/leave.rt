@@ -40,7 +40,7 @@ impl<D: Disk, L: Ledger> Shared<D, L> {
         desk.take_posted(rt, self.alloc, &mut office);
         drop(desk);
         office.shut(rt, client);
-        office.deliver(rt, self.alloc);
+        office.deliver(rt);
         if is_down {
             office.end_all(rt);
         }

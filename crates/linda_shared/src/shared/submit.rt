@@ -1,13 +1,17 @@
 //! One message of a session.
 
 ghost use Rattle.std.specs.Prelude.{◌≡◌, ◌⊎◌, ◌+◌, ◌<◌, IfOk, IfErr, OnOk, OnErr, IfSome};
+ghost use Rattle.std.specs.Arc.{arc_value};
+ghost use Rattle.linda_wire.specs.declared.refusal.Refusal.TheVariants as refusals;
+ghost use Rattle.linda_wire.specs.Refusal.{refused};
 ghost use Rattle.linda_receipt.specs.Account.{account_of};
 ghost use Rattle.linda_receipt.specs.declared.limits.TheConstants.{MOST_ASKED};
 ghost use Rattle.linda_receipt.specs.Ring.{IsNext};
 ghost use Rattle.linda_mail.specs.Seat.{with_told, IsLeft, IsToldOf};
 
 use super::Shared;
-use crate::seat::{Seat, address_at};
+use crate::addressed::addressed;
+use crate::seat::Seat;
 use linda_disk::Disk;
 use linda_mail::{Mailbox, hear};
 use linda_receipt::{Account, Receipt, SharedFault};
@@ -57,12 +61,7 @@ impl<D: Disk, L: Ledger> Shared<D, L> {
         if self.is_down(rt) {
             return Err(SharedFault::Down);
         }
-        let refusal = Refusal::Busy;
-        let reply = Reply::Refused {
-            code: refusal.code(),
-            detail: refusal.detail(),
-        };
-        match seat.mailbox.post_one(rt, reply) {
+        match seat.mailbox.post_one(rt, second_hello()) {
             Ok(()) => Ok(()),
             Err(_) => Err(SharedFault::Memory),
         }
@@ -76,13 +75,13 @@ impl<D: Disk, L: Ledger> Shared<D, L> {
         mailbox: &Arc<Mailbox<L>, Global>,
         message: &Message,
     ) -> Result<bool, AllocError>
-        requires { account.old.asked < MOST_ASKED }
+        requires few { account.old.asked < MOST_ASKED }
+        requires own { (arc_value mailbox.now).client ≡ account.old.client }
         ensures ok { OnOk result (account.new ≡ account_of account.old.client account.old.deeds
             (account.old.asked + 1) account.old.ring) }
         ensures err { OnErr result (account.new ≡ account.old) }
     {
-        let message = message.try_clone(self.alloc)?;
-        let address = address_at(account.client(), mailbox, 0)?;
+        let (message, address) = addressed(self.alloc, mailbox, 0, message)?;
         mailbox.open(rt, 1)?;
         self.queue.lock(rt).ask(account, message, address)
     }
@@ -97,4 +96,11 @@ impl<D: Disk, L: Ledger> Shared<D, L> {
             SharedFault::Memory
         }
     }
+}
+
+// What a client is told that greets once more.
+fn second_hello() -> Reply
+    ensures { result ≡ refused refusals.Busy }
+{
+    Refusal::Busy.reply()
 }

@@ -3,7 +3,7 @@
 //! The tests are made to be run with each allocation refused, one after another, and pass whichever it is. Where
 //! the allocation is one of the script's own, the step is done again.
 
-use super::script::{Do, Stand, Told, empty_stand, step};
+use super::script::{Do, Stand, Told, empty_stand, right_bytes, step};
 use super::words::{EMPTY, WITH_ONE};
 use linda_disk::Torn;
 use linda_server::OpenFault;
@@ -129,6 +129,22 @@ fn all_borne(
     Ok(before)
 }
 
+/// A server with a tuple of client 7 writes a snapshot.
+const SNAPSHOT_ROWS: &[Row] = &[
+    (Do::Put(7, 1, 3), Told::Replies(1), WITH_ONE),
+    (Do::Snapshot, Told::Done, WITH_ONE),
+];
+
+/// What the right disk holds after that snapshot: an open gate, the letters, generation 2, the length of what stands
+/// behind it; the next id, and under id 1 the tuple; client 7, its number and its reply; and a closed gate.
+const SNAPSHOT_BANK: [u8; 77] = [
+    1, b'L', b'N', b'D', b'2', 0, 0, 0, 0, 0, 0, 0, 2, 0, 0, 0, 0x3b, // the heading
+    0, 0, 0, 0, 0, 0, 0, 2, 0, 0, 0, 1, 0, 0, 0, 0, 0, 0, 0, 1, // the next id, one tuple, its id
+    2, 0, 1, b'a', 1, 1, 0, 0, 0, 0, 0, 0, 0, 3, // ("a", 3)
+    0, 0, 0, 1, 0, 0, 0, 7, 0, 0, 0, 0, 0, 0, 0, 1, // one client, 7, its number
+    1, 0, 0, 0, 0, 0, 0, 0, 1, 0, // its reply, the gate
+];
+
 /// Does all steps, and opens the server once more at the end.
 fn played(rt: &impl Abort, alloc: Global, stand: &mut Stand) -> Result<(), AllocError> {
     if !made(rt, alloc, stand)? {
@@ -139,6 +155,27 @@ fn played(rt: &impl Abort, alloc: Global, stand: &mut Stand) -> Result<(), Alloc
     let kept = opened(rt, alloc, stand)?;
     assert_eq!(rt; kept, last);
     Ok(())
+}
+
+/// Writes a snapshot after a put: the right disk ends as it does else, and a server opens with the tuple.
+fn rewritten(rt: &impl Abort, alloc: Global, stand: &mut Stand) -> Result<(), AllocError> {
+    if !made(rt, alloc, stand)? {
+        return Ok(());
+    }
+    all_borne(rt, alloc, stand, SNAPSHOT_ROWS)?;
+    expect(rt, alloc, stand, Do::Shut, Told::Done)?;
+    assert_eq!(rt; right_bytes(stand), SNAPSHOT_BANK.as_slice());
+    let kept = opened(rt, alloc, stand)?;
+    assert_eq!(rt; kept, WITH_ONE);
+    Ok(())
+}
+
+#[test]
+fn want_of_memory_leaves_the_bank_of_a_snapshot_as_it_is_else(
+    rt: HostRuntime,
+) -> Result<(), AllocError> {
+    let mut stand = empty_stand(rt.alloc());
+    rewritten(&rt, rt.alloc(), &mut stand)
 }
 
 #[test]

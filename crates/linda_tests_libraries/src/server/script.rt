@@ -3,7 +3,8 @@
 ghost use Rattle.std.specs.Prelude.{◌≤◌, length};
 ghost use Rattle.linda_step.specs.declared.size.TheConstants.{MAX_BATCH};
 
-use super::words::{put, put_both, take_any};
+use super::words::{put_both, take_any};
+use crate::messages::put;
 use linda_bag::Bag;
 use linda_disk::{MemDisk, Torn};
 use linda_server::{Durable, OpenFault};
@@ -167,6 +168,11 @@ fn begin(alloc: Global, stand: &mut Stand, limit: usize, is_new: bool) -> Told {
             Told::Refused(fault)
         }
     }
+}
+
+/// What the right disk holds, which no server has.
+pub(super) fn right_bytes(stand: &Stand) -> &[u8] {
+    stand.right.bytes()
 }
 
 /// The server gives its disks back.

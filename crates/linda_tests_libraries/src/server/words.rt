@@ -1,7 +1,8 @@
 //! The messages of scripts, and what is kept after them.
 
 use super::script::Told;
-use linda_tuple::{Atom, Pattern, Template, Text, Tuple};
+use crate::messages::{ask, put};
+use linda_tuple::Pattern;
 use linda_wire::Message;
 use std::alloc::{AllocError, Global};
 
@@ -9,21 +10,6 @@ use std::alloc::{AllocError, Global};
 pub(super) const EMPTY: Told = Told::State(1, 0, 0, 0);
 
 pub(super) const WITH_ONE: Told = Told::State(2, 1, 1, 0);
-
-/// The tag "a".
-fn tag(alloc: Global) -> Result<Atom, AllocError> {
-    Ok(Atom::Text(Text::new(String::from_str(alloc, "a")?)))
-}
-
-/// Message `n` of a client, which puts ("a", number).
-pub(super) fn put(alloc: Global, n: u64, number: i64) -> Result<Message, AllocError> {
-    let mut fields = Vec::new(alloc);
-    fields.push(Atom::Int(number))?;
-    match Tuple::new(tag(alloc)?, fields) {
-        Ok(tuple) => Ok(Message::Out { n, tuple }),
-        Err(_) => Err(AllocError),
-    }
-}
 
 /// Messages 1 and 2 of client 7, which put ("a", 3) and ("a", 4).
 pub(super) fn put_both(alloc: Global) -> Result<Vec<(u32, Message)>, AllocError> {
@@ -35,14 +21,5 @@ pub(super) fn put_both(alloc: Global) -> Result<Vec<(u32, Message)>, AllocError>
 
 /// An Ask with ticket 1 for any tuple of tag "a" and one field, which is to be held.
 pub(super) fn take_any(alloc: Global) -> Result<Message, AllocError> {
-    let mut fields = Vec::new(alloc);
-    fields.push(Pattern::Any)?;
-    match Template::new(tag(alloc)?, fields) {
-        Ok(template) => Ok(Message::Ask {
-            ticket: 1,
-            remove: true,
-            template,
-        }),
-        Err(_) => Err(AllocError),
-    }
+    ask(alloc, 1, true, Pattern::Any)
 }

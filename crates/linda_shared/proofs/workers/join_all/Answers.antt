@@ -7,9 +7,9 @@ pub loop-one-preserved : goal.loop-one-preserved
 loop-one-preserved g c =
     let inv = c.loop-one.invariant in
     let step = c.in-Some.ensures.steps in
-    let pushed = c.push_reserved.ensures in
-    let worked : HasWorked c.in-Some.one.before.value c.join-seat.result.seat = c.join-seat.ensures in (
-      rw pushed.items (worked_more (λ b. b.before.value) c.loop-one.yielded c.loop-one.seats.items c.in-Some.one c.join-seat.result.seat inv.0 worked),
+    let added = c.add.ensures in
+    let worked : HasWorked c.in-Some.one.before.value c.join.result.seat = c.join.ensures in (
+      rw added.seats (worked_more (λ b. b.before.value) c.loop-one.yielded c.loop-one.worked.seats.items c.in-Some.one c.join.result.seat inv.0 worked),
       append_assoc c.loop-one.yielded (c.in-Some.one ∷ []) c.next.new.self.rest.items ∙ (ap (λ l. c.loop-one.yielded ++ l) (sym step.0) ∙ inv.1),
-      (let rest = ap length step.0 in let room = inv.2 in omega (arith, pushed.len, pushed.capacity, rest, room)),
+      (let rest = ap length step.0 in let room = inv.2 in let len = added.room.0 in let capacity = added.room.1 in omega (arith, len, capacity, rest, room)),
     )

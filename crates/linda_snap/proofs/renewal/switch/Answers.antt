@@ -15,12 +15,12 @@ use Rattle.linda_disk.proofs.CauseLaws.{renamed}
 use Rattle.linda_snap.proofs.CauseLaws.{switch_failed, fills_none, spends_none, not_too_long}
 use Rattle.linda_snap.proofs.renewal.switch.Goals as goal
 
-pub returns-then-not-has_room-clause-any_moment : goal.returns-then-not-has_room-clause-any_moment
-returns-then-not-has_room-clause-any_moment g c used honest up =
-    (tt, stays_so c.args.current.form c.args.current.generation c.args.current.end (g.D.Disk.view c.args.current.disk) (g.D.Disk.view c.args.other) c.args.state.now up (g.met.D.Disk.timed c.args.other honest))
-
 pub returns-in_default-clause-any_moment : goal.returns-in_default-clause-any_moment
 returns-in_default-clause-any_moment g c used honest up =
+    (tt, stays_so c.args.current.form c.args.current.generation c.args.current.end (g.D.Disk.view c.args.current.disk) (g.D.Disk.view c.args.other) c.args.state.now up (g.met.D.Disk.timed c.args.other honest))
+
+pub returns-in_default-checked_add-clause-any_moment : goal.returns-in_default-checked_add-clause-any_moment
+returns-in_default-checked_add-clause-any_moment g c used honest up =
     (tt, stays_so c.args.current.form c.args.current.generation c.args.current.end (g.D.Disk.view c.args.current.disk) (g.D.Disk.view c.args.other) c.args.state.now up (g.met.D.Disk.timed c.args.other honest))
 
 pub returns-in_default-spell_bank-clause-any_moment : goal.returns-in_default-spell_bank-clause-any_moment
@@ -30,8 +30,8 @@ returns-in_default-spell_bank-clause-any_moment g c used honest up =
 pub returns-in-Ok-renew-clause-any_moment : goal.returns-in-Ok-renew-clause-any_moment
 returns-in-Ok-renew-clause-any_moment g c used honest up =
     let st = c.args.state.now in
-    let next : c.in-Some.generation ≡ c.args.current.generation + 1 = grind (arith, c.in-Some.ensures, c.generation.ensures) in
-    let room = c.if-not-has_room.ensures.yes (search rules) in
+    let next : c.in-Some-checked_add.generation ≡ c.args.current.generation + 1 = grind (arith, c.in-Some-checked_add.ensures, c.generation.ensures) in
+    let room = c.in-Some.ensures.fits in
     let short : length (spell_state written st) < 2 ^ 32 = omega (arith, room, c.limit-limit.ensures, c.requires.short) in
     let bytes = c.deref.ensures.value ∙ c.in-Ok.ensures.bytes in (
       switching c.args.current.form c.args.current.generation c.args.current.end (g.D.Disk.view c.args.current.disk) (g.D.Disk.view c.args.other) st up (g.D.Disk.view c.in-Ok-renew.bank.disk) c.requires.ranges c.in-Ok.ensures.fits
@@ -42,8 +42,8 @@ returns-in-Ok-renew-clause-any_moment g c used honest up =
 pub returns-in-Ok-renew-clause-done : goal.returns-in-Ok-renew-clause-done
 returns-in-Ok-renew-clause-done g c used honest up =
     let st = c.args.state.now in
-    let next : c.in-Some.generation ≡ c.args.current.generation + 1 = grind (arith, c.in-Some.ensures, c.generation.ensures) in
-    let room = c.if-not-has_room.ensures.yes (search rules) in
+    let next : c.in-Some-checked_add.generation ≡ c.args.current.generation + 1 = grind (arith, c.in-Some-checked_add.ensures, c.generation.ensures) in
+    let room = c.in-Some.ensures.fits in
     let short : length (spell_state written st) < 2 ^ 32 = omega (arith, room, c.limit-limit.ensures, c.requires.short) in
     let bytes = c.deref.ensures.value ∙ c.in-Ok.ensures.bytes in
     let bank = c.in-Ok-renew.bank in
@@ -57,8 +57,8 @@ returns-in-Ok-renew-clause-done g c used honest up =
 pub returns-clause-any_moment : goal.returns-clause-any_moment
 returns-clause-any_moment g c used honest up =
     let st = c.args.state.now in
-    let next : c.in-Some.generation ≡ c.args.current.generation + 1 = grind (arith, c.in-Some.ensures, c.generation.ensures) in
-    let room = c.if-not-has_room.ensures.yes (search rules) in
+    let next : c.in-Some-checked_add.generation ≡ c.args.current.generation + 1 = grind (arith, c.in-Some-checked_add.ensures, c.generation.ensures) in
+    let room = c.in-Some.ensures.fits in
     let short : length (spell_state written st) < 2 ^ 32 = omega (arith, room, c.limit-limit.ensures, c.requires.short) in
     let bytes = c.deref.ensures.value ∙ c.in-Ok.ensures.bytes in (
       tt,
@@ -69,7 +69,7 @@ returns-clause-any_moment g c used honest up =
 pub returns-in-Ok-renew-clause-stored : goal.returns-in-Ok-renew-clause-stored
 returns-in-Ok-renew-clause-stored g c honest =
     let st = c.args.state.now in
-    let room = c.if-not-has_room.ensures.yes (search rules) in
+    let room = c.in-Some.ensures.fits in
     let short : length (spell_state written st) < 2 ^ 32 = omega (arith, room, c.limit-limit.ensures, c.requires.short) in
     let bytes = c.deref.ensures.value ∙ c.in-Ok.ensures.bytes in
     let bank = c.in-Ok-renew.bank in
@@ -80,7 +80,7 @@ returns-in-Ok-renew-clause-stored g c honest =
 pub returns-in-Ok-renew-clause-clock : goal.returns-in-Ok-renew-clause-clock
 returns-in-Ok-renew-clause-clock g c honest =
     let bytes = c.deref.ensures.value ∙ c.in-Ok.ensures.bytes in
-    let count = ap length bytes ∙ front_length written c.in-Some.generation (spell_state written c.args.state.now) in
+    let count = ap length bytes ∙ front_length written c.in-Some-checked_add.generation (spell_state written c.args.state.now) in
     subst (λ n. TakesCalls (3 + pieces n) (g.D.Disk.view c.args.other) (g.D.Disk.view c.in-Ok-renew.bank.disk)) count (c.in-Ok-renew.ensures.clock honest)
 
 pub returns-clause-cause : goal.returns-clause-cause
@@ -98,7 +98,7 @@ returns-clause-refused g c = (
 
 pub returns-clause-full : goal.returns-clause-full
 returns-clause-full g c =
-    let room = c.if-not-has_room.ensures.yes (search rules) in
+    let room = c.in-Some.ensures.fits in
     let long = MIN_BYTES + 1 + length (spell_state written c.args.state.now) in (
       λ is. absurd (fills_none c.in-Err.fault c.from.result c.from.ensures is),
       λ less. absurd (not_too_long c.args.current.limit c.limit-limit.result long c.limit-limit.ensures room less),

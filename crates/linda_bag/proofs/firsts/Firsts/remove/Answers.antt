@@ -4,7 +4,7 @@ use Rattle.linda_bag.proofs.FilingLaws.{refiled_as}
 use Rattle.linda_bag.proofs.firsts.Firsts.remove.Goals as goal
 
 pub returns : goal.returns
-returns c = λ rows there known. (
-  refiled_as _ _ int_of c.args.self.now.ints c.unfile_if_any.new.shelves _ _ _ _ _ c.int_place.ensures refl c.unfile_if_any.ensures rows there known.0,
-  refiled_as _ _ other_of c.args.self.now.others c.unfile_if_any-2.new.shelves _ _ _ _ _ c.other_place.ensures refl c.unfile_if_any-2.ensures rows there known.1,
+returns g c = λ rows there known. (
+  refiled_as _ _ (int_of g.R.Headed.first_of) c.args.self.now.ints c.unfile_if_any.new.shelves _ _ _ _ _ c.int_place.ensures refl c.unfile_if_any.ensures rows there known.0,
+  refiled_as _ _ (other_of g.R.Headed.first_of) c.args.self.now.others c.unfile_if_any-2.new.shelves _ _ _ _ _ c.other_place.ensures refl c.unfile_if_any-2.ensures rows there known.1,
 )

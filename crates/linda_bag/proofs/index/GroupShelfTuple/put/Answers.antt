@@ -2,6 +2,7 @@ use Rattle.std.proofs.Common.{◌≡◌, Option, None, Some, is_some, Result, Ok
 use Rattle.std.specs.Result.{OnErr}
 use Rattle.std.specs.Option.{option_copied}
 use Rattle.linda_bag.specs.Ids.{has_id, IsOf}
+use Rattle.linda_bag.specs.Candidates.{first_of}
 use Rattle.linda_bag.specs.Firsts.{HasFirsts}
 use Rattle.linda_bag.proofs.NotedLaws.{any_row}
 use Rattle.linda_bag.proofs.BareLaws.{no_such}
@@ -20,7 +21,7 @@ on_err_there (Err e) p = p
 pub returns-in_err-put-clause-err : goal.returns-in_err-put-clause-err
 returns-in_err-put-clause-err c = on_err_there c.from_residual.result (λ rows there known. (
   c.in_err-put.ensures.err rows there known.0,
-  subst (HasFirsts c.args.self.now.firsts) (sym (same_rows rows c.args.id _ there)) known.1,
+  subst (HasFirsts first_of c.args.self.now.firsts) (sym (same_rows rows c.args.id _ there)) known.1,
 ))
 
 pub returns-in-Ok-clause-ok : goal.returns-in-Ok-clause-ok

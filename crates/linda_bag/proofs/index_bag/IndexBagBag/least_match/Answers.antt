@@ -1,5 +1,5 @@
 -- The search from 0 on goes through all.
-use Rattle.std.proofs.Common.{◌≤◌, arith}
+use Rattle.std.proofs.Common.{arith}
 use Rattle.std.proofs.lemmas.Option.{IfSome_then}
 use Rattle.linda_bag.proofs.StartLaws.{IfNone_then}
 use Rattle.linda_bag.proofs.index_bag.IndexBagBag.least_match.Goals as goal

@@ -32,6 +32,7 @@ loop-message-init g c =
       omega (arith, zero),
       λ opening base count so. subst (λ n. IsInOrder opening base rs n s.down (known s.before.value s.store s.down)) (omega (arith, zero)) so,
       λ opening base count so covered. covered,
+      refl,
     )
 
 pub loop-message-preserved : goal.loop-message-preserved
@@ -68,6 +69,7 @@ loop-message-preserved g c =
       λ opening base count so. subst (λ n. IsInOrder opening base c.take_one.new.receipts.items n new.down (known new.before.value new.store new.down)) (omega (arith, long))
           (step.ok_order opening base (count + length (receipts_in before)) (l.invariant.5 opening base count so)),
       λ opening base count so covered. step.covered opening base (count + length (receipts_in before)) (l.invariant.5 opening base count so) (l.invariant.6 opening base count so covered),
+      step.still ∙ l.invariant.7,
     )
 
 pub returns-in-Err-clause-some : goal.returns-in-Err-clause-some

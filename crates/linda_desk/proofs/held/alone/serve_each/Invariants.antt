@@ -21,3 +21,4 @@ invariant-loop-message g l =
     → IsInOrder opening base l.fn.receipts.items count l.fn.server.down (known l.fn.server.before.value l.fn.server.store l.fn.server.down)
     → BoxesCovered (known l.fn.server.before.value l.fn.server.store l.fn.server.down) (λ c. waits_for l.fn.boxes c)
     → BoxesCovered (known l.server.before.value l.server.store l.server.down) (λ c. waits_for l.boxes c))
+    × (l.server.down ≡ l.fn.server.down)

@@ -1,6 +1,7 @@
 -- One message by itself: it is served, refused, or the server is given up.
-use Rattle.std.proofs.Common.{◌≡◌, ℕ, ◌+◌, ◌≤◌, ◌^◌, List, [], ◌∷◌, length, Err, true, false, true≢false, refl, sym, ap, ◌∙◌, subst, inl, inr, arith}
+use Rattle.std.proofs.Common.{◌≡◌, ℕ, ◌+◌, ◌<◌, ◌≤◌, ◌^◌, List, Option, [], ◌∷◌, length, Err, true, false, true≢false, refl, sym, ap, ◌∙◌, subst, inl, inr, arith}
 use Rattle.linda_wire.specs.declared.message.Message.{Message}
+use Rattle.linda_wire.specs.declared.reply.Reply.{Reply}
 use Rattle.linda_wire.specs.declared.refusal.Refusal.TheVariants as refusals
 use Rattle.linda_wire.specs.Refusal.{refused}
 use Rattle.linda_state.specs.State.{State, IsState}
@@ -10,6 +11,7 @@ use Rattle.linda_promise.specs.Steps.{number_of_message}
 use Rattle.linda_outbox.specs.Waiting.{waits_for}
 use Rattle.linda_outbox.specs.Replies.{replies_to, with_more}
 use Rattle.linda_desk.specs.Order.{known}
+use Rattle.linda_receipt.specs.declared.receipt.Receipt.{Receipt}
 use Rattle.linda_receipt.specs.Telling.{receipts_in}
 use Rattle.linda_server.specs.Handled.{HasNoRoomFor}
 use Rattle.linda_desk.specs.Posted.{HasPosted}
@@ -76,6 +78,7 @@ returns-in-Err g c =
       done = tt;
       receipts = tt;
       countable = tt;
+      still = tt;
       err = (c.in-Err.ensures.err.0, c.give_up.ensures.down, c.in-Err.ensures.err.1);
       ok_order = λ opening base count so. tt;
       err_order = λ opening base count so.
@@ -84,3 +87,21 @@ returns-in-Err g c =
       covered = λ opening base count so covered.
           stays_covered (known mid.before.value mid.store mid.down) (known new.before.value new.store new.down) (λ q. waits_for c.serve.new.boxes q) (λ q. waits_for c.serve.new.boxes q) same (λ q. refl) (c.in-Err.ensures.err_covered opening base count so covered);
     }
+
+pub returns-in-Ok-clause-done : goal.returns-in-Ok-clause-done
+returns-in-Ok-clause-done g c =
+    let old = c.args.server.now.store in
+    let new = c.serve.new.server.store in
+    let m : ℕ × Message = c.args.message.now in
+    let waits : ℕ → Option (List Reply) = λ q. waits_for c.args.boxes.now q in
+    let posted : ℕ → Option (List Reply) = λ q. waits_for c.serve.new.boxes q in
+    let one : c.in-Ok.told.items ≡ c.first_of.result ∷ [] = c.first_of.ensures in
+    inl (record {
+      posts = subst (λ (told : List (Option Receipt)). HasPosted old.state old.soft (m ∷ []) told waits posted new.state new.soft) one
+          (subst (λ (ms : List (ℕ × Message)). HasPosted old.state old.soft ms c.in-Ok.told.items waits posted new.state new.soft) c.from_ref.ensures.value c.in-Ok.ensures.done);
+      idle = λ none. c.in-Ok.ensures.idle (ap receipts_in one ∙ none);
+      clock = λ some. c.in-Ok.ensures.clock (subst (λ (told : List (Option Receipt)). 0 < length (receipts_in told)) (sym one) some);
+    })
+
+pub returns-in-Ok-clause-covered : goal.returns-in-Ok-clause-covered
+returns-in-Ok-clause-covered g c opening base count so covered = c.in-Ok.ensures.ok_covered opening base count so covered

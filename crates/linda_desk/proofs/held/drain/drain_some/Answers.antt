@@ -6,7 +6,7 @@ use Rattle.linda_desk.proofs.held.drain.drain_some.Goals as goal
 
 pub returns-in-Some-clause-covered : goal.returns-in-Some-clause-covered
 returns-in-Some-clause-covered c st covered =
-    boxes_but st c.in-Some.next.0 (λ q. waits_for c.args.boxes.now q) (λ q. waits_for c.drain_next.new.self q)
+    boxes_but st c.in-Some.next.client (λ q. waits_for c.args.boxes.now q) (λ q. waits_for c.drain_next.new.self q)
     (subst (λ (o : Option (List Reply)). IfSome o (λ rs. rs ≡ [])) (sym c.in-Some.ensures.at) refl) c.in-Some.ensures.others covered
 
 pub returns-in-None-clause-covered : goal.returns-in-None-clause-covered

@@ -1,10 +1,13 @@
 -- What was served is told, kept and posted; or nobody is told.
-use Rattle.std.proofs.Common.{ℕ, List, refl, sym, ap, ◌∙◌, subst, arith}
+use Rattle.std.proofs.Common.{◌≡◌, ◌<◌, ℕ, List, length, refl, sym, ap, ◌∙◌, subst, arith}
 use Rattle.linda_wire.specs.declared.reply.Reply.{Reply}
 use Rattle.linda_outbox.specs.Waiting.{waits_for, HasPlaces}
 use Rattle.linda_outbox.specs.Replies.{with_more, replies_to}
-use Rattle.linda_receipt.specs.Telling.{HasTold}
-use Rattle.linda_desk.proofs.OrderLaws.{each_told, goes_on, gives_up}
+use Rattle.linda_receipt.specs.Telling.{HasTold, receipts_in}
+use Rattle.std.proofs.lemmas.List.{length-map}
+use Rattle.linda_receipt.specs.declared.receipt.Receipt.{Receipt}
+use Rattle.linda_receipt.specs.Receipts.{deeds_in}
+use Rattle.linda_desk.proofs.OrderLaws.{each_told, goes_on, gives_up, deeds_told}
 use Rattle.linda_desk.proofs.CoveredLaws.{posts, posts_nothing}
 use Rattle.linda_desk.proofs.held.serve.serve.Goals as goal
 
@@ -106,3 +109,19 @@ pub post_all-requires : goal.post_all-requires
 post_all-requires g c =
     let P : List (ℕ × Reply) → Type 0 = λ l. HasPlaces c.make_places.new.self l in
     subst P (sym (ap (λ v. v.items) c.into_sends.ensures)) (subst P c.deref.ensures.value c.in-Ok-make_places.ensures.room)
+
+pub returns-clause-idle : goal.returns-clause-idle
+returns-clause-idle g c none =
+    let old = c.args.server.now.store in
+    let new = c.take_all.new.server.store in
+    c.in_ok-served.ensures.idle
+    (deeds_told old.state old.soft (c.args.messages.now) c.in_ok-served.served new.state new.soft c.in-Ok.told.items c.is_down.ensures.orderly.state_is c.in_ok-served.ensures.done c.in-Ok.ensures.told
+    ∙ ap deeds_in none)
+
+pub returns-clause-clock : goal.returns-clause-clock
+returns-clause-clock g c some =
+    let old = c.args.server.now.store in
+    let new = c.take_all.new.server.store in
+    let all = deeds_told old.state old.soft (c.args.messages.now) c.in_ok-served.served new.state new.soft c.in-Ok.told.items c.is_down.ensures.orderly.state_is c.in_ok-served.ensures.done c.in-Ok.ensures.told in
+    let long : length c.in_ok-served.served.deeds.items ≡ length (receipts_in c.in-Ok.told.items) = ap length all ∙ length-map (receipts_in c.in-Ok.told.items) (λ (r : Receipt). r.deed) in
+    c.in_ok-served.ensures.clock (omega (arith, long, some))

@@ -26,23 +26,24 @@ returns-in-Err-Full-clause-covered g c opening base count so covered =
     (subst (λ b. BoxesCovered (known c.serve.new.server.before.value c.serve.new.server.store c.serve.new.server.down) (λ q. waits_for b q)) (sym full.1)
     (subst (λ s. BoxesCovered (known s.before.value s.store s.down) (λ q. waits_for c.args.boxes.now q)) (sym full.0) covered))
 
-pub returns-in-Err : goal.returns-in-Err
-returns-in-Err g c = record {
-  done = tt;
-  receipts = tt;
-  one_each = tt;
-  countable = tt;
-  err = c.in-Err.ensures.err.0;
-  down = c.in-Err.ensures.down;
-  some = record {
-    many = 0;
-    told = [];
-    mid = c.args.server.now;
-    went = none (λ q. waits_for c.serve.new.boxes q) c.in-Err.ensures.err.1;
-  };
-  ok_order = λ opening base count so. tt;
-  err_order = c.in-Err.ensures.err_order;
-  covered = λ opening base count so covered. c.in-Err.ensures.err_covered opening base count so covered;
-  lacks = tt;
-  pace = inl refl;
+pub returns-in-Err-clause-some : goal.returns-in-Err-clause-some
+returns-in-Err-clause-some g c = record {
+  many = 0;
+  told = [];
+  mid = c.args.server.now;
+  went = none (λ q. waits_for c.serve.new.boxes q) c.in-Err.ensures.err.1;
 }
+
+pub returns-then-is_down-clause-some : goal.returns-then-is_down-clause-some
+returns-then-is_down-clause-some g c = record {
+  many = 0;
+  told = [];
+  mid = c.args.server.now;
+  went = none (λ q. waits_for c.args.boxes.now q) (λ q. refl);
+}
+
+pub returns-in-Ok-clause-done : goal.returns-in-Ok-clause-done
+returns-in-Ok-clause-done g c = inl (record { posts = c.in-Ok.ensures.done; idle = c.in-Ok.ensures.idle; clock = c.in-Ok.ensures.clock })
+
+pub returns-in-Ok-clause-covered : goal.returns-in-Ok-clause-covered
+returns-in-Ok-clause-covered g c opening base count so covered = c.in-Ok.ensures.ok_covered opening base count so covered

@@ -3,9 +3,9 @@ use Rattle.std.specs.Ordering.{is_eq}
 use Rattle.std.specs.Option.{option_copied}
 use Rattle.std.specs.List.Sorted.{IsStrictlySortedBy}
 use Rattle.std.specs.BTreeSet.{BTreeSet, insert_key, contains}
-use Rattle.linda_hold.specs.declared.numbers.Numbers.{Numbers}
-use Rattle.linda_hold.specs.declared.numbers.Numbers.TheVariants as numbers
-use Rattle.linda_hold.specs.Numbers.{has_any}
+use Rattle.linda_bag.specs.declared.ids.Ids.{Ids}
+use Rattle.linda_bag.specs.declared.ids.Ids.TheVariants as numbers
+use Rattle.linda_bag.specs.Ids.{has_any}
 use Rattle.linda_hold.specs.Arrivals.{has_in}
 use Rattle.linda_hold.proofs.ArrivalLaws.{rising, has_with}
 use Rattle.linda_hold.proofs.arrivals.Arrivals.new.Goals as goal
@@ -21,7 +21,7 @@ returns-in-One-clause-has c q =
     ap (λ ks. has_in (insert_key nat_cmp ks c.in-One.only) q) c.new-in-One.ensures
     ∙ has_with c.in-One.only c.iter-in-One.result q
     ∙ ap (λ ks. is_eq (nat_cmp q c.in-One.only) || has_in ks q) c.iter-in-One.ensures.rest
-    ∙ sym (ap (λ (o : Option Numbers). has_any o q || contains nat_cmp c.args.unkeyed.now q) found)
+    ∙ sym (ap (λ (o : Option Ids). has_any o q || contains nat_cmp c.args.unkeyed.now q) found)
 
 pub returns-in-Many-clause-has : goal.returns-in-Many-clause-has
 returns-in-Many-clause-has c q =
@@ -29,4 +29,4 @@ returns-in-Many-clause-has c q =
     ap (λ ks. has_in ks q) c.new-in-Many.ensures
     ∙ c.union.ensures.members q
     ∙ ap (λ (s : BTreeSet ℕ). contains nat_cmp s q || contains nat_cmp c.args.unkeyed.now q) c.deref.ensures
-    ∙ sym (ap (λ (o : Option Numbers). has_any o q || contains nat_cmp c.args.unkeyed.now q) found)
+    ∙ sym (ap (λ (o : Option Ids). has_any o q || contains nat_cmp c.args.unkeyed.now q) found)

@@ -1,6 +1,7 @@
 use Rattle.std.proofs.Common.{sym, ap, ◌∙◌, true≢false}
 use Rattle.linda_bag.proofs.BareLaws.{set_bare}
-use Rattle.linda_hold.specs.Firsts.{keyed_in}
+use Rattle.linda_bag.specs.Firsts.{keyed_in}
+use Rattle.linda_hold.specs.Firsts.{first_of}
 use Rattle.linda_hold.specs.Group.{unkeyed_at, unkeyed_of}
 use Rattle.linda_hold.proofs.BeginningLaws.{no_request}
 use Rattle.linda_hold.proofs.group.GroupShelfAsked.is_empty.Goals as goal
@@ -17,5 +18,5 @@ pub returns-else-is_empty : goal.returns-else-is_empty
 returns-else-is_empty c = λ rows known.
     let keyed = c.is_empty.ensures rows known.0 in (
       (λ yes. absurd (true≢false (sym yes ∙ c.if-is_empty.false))),
-      (λ bare. keyed.1 (λ q. ap keyed_in (bare q))),
+      (λ bare. keyed.1 (λ q. ap (keyed_in first_of) (bare q))),
     )

@@ -4,7 +4,9 @@ use Rattle.std.specs.Option.{option_copied}
 use Rattle.linda_bag.specs.Filing.{HasIds}
 use Rattle.linda_bag.proofs.FilingLaws.{same_rows}
 use Rattle.linda_hold.specs.Group.{if_unkeyed, unkeyed_of}
-use Rattle.linda_hold.proofs.BeginningLaws.{unkeyed_with, unfiled}
+use Rattle.linda_bag.proofs.FirstLaws.{unfiled}
+use Rattle.linda_hold.specs.Firsts.{first_of}
+use Rattle.linda_hold.proofs.BeginningLaws.{unkeyed_with}
 use Rattle.linda_hold.proofs.group.GroupShelfAsked.put.Goals as goal
 
 on_err_there : {T E P : Type 0} (r : Result T E) → P → OnErr r P
@@ -28,7 +30,7 @@ returns-in_ok-put-in-Some-clause-ok c = λ rows there known.
 pub returns-in_ok-insert-in-None-clause-ok : goal.returns-in_ok-insert-in-None-clause-ok
 returns-in_ok-insert-in-None-clause-ok c = λ rows there known.
     let none = ap option_copied (sym c.in-None.is) ∙ c.first.ensures in (
-      unfiled c.remove-in-None.new.self rows c.args.id c.args.new.now (sym none) (c.remove-in-None.ensures rows there known.0),
+      unfiled first_of c.remove-in-None.new.self rows c.args.id c.args.new.now (sym none) (c.remove-in-None.ensures rows there known.0),
       unkeyed_with c.args.self.now.unkeyed c.insert.new.self rows c.args.id (Some c.args.new.now) true known.1 c.in_ok-insert-in-None.ensures.updates.0
           (ap (λ f. is_some (if_unkeyed f c.args.new.now)) none),
     )

@@ -3,7 +3,7 @@ use Rattle.std.proofs.Common.{◌≡◌, ◌++◌, ◌∷◌, [], sym, ap, ◌�
 use Rattle.std.specs.BTreeMap as tree
 use Rattle.slab.specs.Slab as slab
 use Rattle.linda_outbox.specs.Boxes.{shown, is_heard, stands_in, taken_out, unlisted}
-use Rattle.linda_outbox.proofs.BoxLaws.{heard_after, heard_unlisted, heard_without, stands_still}
+use Rattle.linda_outbox.proofs.BoxLaws.{heard_after, heard_unlisted, heard_without, owned_at, stands_still}
 use Rattle.linda_outbox.proofs.outboxes.Outboxes.drain_last.Goals as goal
 
 pub invariant_of-self-in-Some-clause-heard : goal.invariant_of-self-in-Some-clause-heard
@@ -28,3 +28,9 @@ invariant_of-self-in-None-clause-heard c =
     let list : s.waiting.items ≡ xs ++ client ∷ [] = c.in_ok-client.ensures.items in
     heard_without (λ q. tree.get nat_cmp s.keys q) (λ k. slab.get s.boxes k) client s.waiting.items xs (sym c.in-None.ensures) s.heard
     (λ q differs is. stands_still q client differs xs (ap (stands_in q) (sym list) ∙ is))
+
+pub invariant_of-self-in-Some-clause-owned : goal.invariant_of-self-in-Some-clause-owned
+invariant_of-self-in-Some-clause-owned c =
+    let s = c.args.self.now in
+    owned_at (λ q. tree.get nat_cmp s.keys q) (λ k. slab.get s.boxes k) (λ k. slab.get c.unlist.new.boxes k) c.in_ok-client.client c.in-Some.key (sym c.in-Some.ensures)
+    (λ k differs. c.unlist.ensures.others k differs ∙ c.take_out-replies.ensures.others k differs) s.owned

@@ -3,7 +3,7 @@ use Rattle.std.proofs.Common.{◌≡◌, ◌+◌, ◌++◌, ◌∷◌, [], sym, 
 use Rattle.std.specs.BTreeMap as tree
 use Rattle.slab.specs.Slab as slab
 use Rattle.linda_outbox.specs.Boxes.{under, shown, is_heard, stands_in, TakesMore, posted}
-use Rattle.linda_outbox.proofs.BoxLaws.{heard_after, heard_posted, stands_before}
+use Rattle.linda_outbox.proofs.BoxLaws.{heard_after, heard_posted, owned_at, stands_before}
 use Rattle.linda_outbox.proofs.outboxes.Outboxes.post.Goals as goal
 
 pub invariant_of-self-clause-heard : goal.invariant_of-self-clause-heard
@@ -35,3 +35,8 @@ returns-else-put-clause-room c = λ n room.
       subst (λ o. TakesMore n (under c.put.new.boxes o)) c.in-Some.ensures
           (c.put.ensures.room n (subst (λ o. TakesMore (n + 1) (under s.boxes o)) (sym c.in-Some.ensures) room.1)),
     )
+
+pub invariant_of-self-clause-owned : goal.invariant_of-self-clause-owned
+invariant_of-self-clause-owned c =
+    let s = c.args.self.now in
+    owned_at (λ q. tree.get nat_cmp s.keys q) (λ k. slab.get s.boxes k) (λ k. slab.get c.put.new.boxes k) c.args.client c.in-Some.key (sym c.in-Some.ensures) c.put.ensures.others s.owned

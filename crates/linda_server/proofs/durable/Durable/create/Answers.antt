@@ -1,5 +1,5 @@
 -- Each step of making a new server leaves no bank, or the whole new one.
-use Rattle.std.proofs.Common.{◌≡◌, ◌∙◌, [], inl, refl, ap, subst}
+use Rattle.std.proofs.Common.{◌≡◌, ◌+◌, ◌∙◌, [], inl, refl, ap, subst}
 use Rattle.linda_state.specs.State.{empty_state}
 use Rattle.linda_state.specs.DeedFormat.{written}
 use Rattle.linda_journal.specs.Bank.{IsSettled}
@@ -120,3 +120,11 @@ returns-clause-now g c are left right l r =
     let up = up_as c.in-Ok-create.bank.form c.in-Ok-create.bank.generation c.in-Ok-create.bank.end (view c.in-Ok-create.bank.disk) (view c.lay_gate.new.disk) empty_state c.in-Ok-create.ensures.new.0 c.in-Ok-create.ensures.new.1 refl
     (made_up c.in-Ok-create.bank.end (view c.in-Ok-create.bank.disk) (view c.lay_gate.new.disk) c.in-Ok.ensures.fits settled shut) in
     ∣ inl (left_for c.in-Ok-create.bank.form c.in-Ok-create.bank.generation c.in-Ok-create.bank.end (view c.in-Ok-create.bank.disk) (view c.lay_gate.new.disk) empty_state up left right l r) ∣₁
+
+pub returns-clause-clock : goal.returns-clause-clock
+returns-clause-clock g c hl hr =
+    let left_so = c.expect_empty.ensures.left_honest.0 hl in
+    let right_so = c.expect_empty.ensures.right_honest.0 hr in
+    let left = c.expect_empty.ensures.left_clock hl in
+    let right = c.expect_empty.ensures.right_clock hr in
+    (c.in-Ok-create.ensures.clock left_so ∙ ap (λ n. n + 6) left, c.in_default-lay_gate.ensures.clock right_so ∙ ap (λ n. n + 2) right)

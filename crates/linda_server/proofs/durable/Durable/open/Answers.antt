@@ -4,7 +4,7 @@ use Rattle.linda_step.specs.Store.{Store}
 use Rattle.linda_snap.specs.Stands.{IsStored, IsUp, Stands}
 use Rattle.linda_server.specs.Opening.{fault_of_choice}
 use Rattle.linda_server.proofs.PairLaws.{left_for, now_on_sides}
-use Rattle.linda_server.proofs.OpeningLaws.{leaves_no_other}
+use Rattle.linda_server.proofs.OpeningLaws.{leaves_no_other, took_calls}
 use Rattle.linda_snap.specs.declared.choice.ChoiceFault.TheVariants as choices
 use Rattle.linda_server.specs.declared.fault.OpenFault.TheVariants as fault
 use Rattle.linda_server.proofs.CauseLaws.{none_told, two_renamed, range_fails_none, choice_failed}
@@ -68,3 +68,10 @@ returns-in-Err-clause-cause g c =
     let count = g.D.Disk.failures in
     two_renamed fault.Disk c.of_choice.result choices.Disk c.in-Err.fault (count c.args.left) (count c.args.right) (count c.in-Err.left) (count c.in-Err.right)
     (choice_failed c.of_choice.result c.in-Err.fault c.of_choice.ensures) c.in-Err.ensures.cause
+
+pub returns-in-Ok-clause-clock : goal.returns-in-Ok-clause-clock
+returns-in-Ok-clause-clock g c hl hr =
+    let view = g.D.Disk.view in
+    let x = c.in-Ok.chosen in
+    let took = c.in-Ok.ensures.clock hl hr in
+    took_calls x.is_right (view c.args.left) (view c.args.right) (view x.bank.disk) (view x.other) took.0 took.1

@@ -1,6 +1,7 @@
 -- What was served is put onto the bank in use, or nothing is touched.
-use Rattle.std.proofs.Common.{◌≡◌, ◌<◌, [], inr, IfOk, IfSome, ◌+◌, length, refl, sym, subst, ap, arith, rules}
+use Rattle.std.proofs.Common.{◌≡◌, ◌<◌, ◌∙◌, [], inl, inr, Err, Result, false, IfOk, IfSome, ◌+◌, length, refl, sym, subst, ap, arith, rules}
 use Rattle.std.specs.Vec.{vec_len}
+use Rattle.std.proofs.lemmas.Result.{err_from_is_err_and}
 use Rattle.linda_state.proofs.DoneLaws.{on_ok}
 use Rattle.linda_step.specs.declared.size.TheConstants.{MAX_BATCH}
 use Rattle.linda_step.specs.Store.{Store}
@@ -14,6 +15,10 @@ use Rattle.linda_server.specs.Calls.{LeadTo, IsBeforeOrAfter}
 use Rattle.linda_server.specs.Node.{shown}
 use Rattle.linda_server.proofs.ServedLaws.{served_happens}
 use Rattle.linda_server.proofs.CallLaws.{leads_to, few, some_bytes, room_of, suit_of, too_much, not_too_much, still_before, served_since, stands_so, none_remains, all_remains_up, at_fault, each_share, told_so}
+use Rattle.linda_server.specs.declared.fault.ServeFault.{ServeFault}
+use Rattle.linda_server.specs.declared.fault.ServeFault.TheVariants.{Memory}
+use Rattle.linda_server.specs.Lives.{GoesOn}
+use Rattle.linda_server.proofs.LivesLaws.{cut_at_work, goes_on_still, serves_on}
 use Rattle.linda_server.proofs.durable.Durable.serve_batch.Goals as goal
 
 pub settle-requires-clause-few : goal.settle-requires-clause-few
@@ -92,12 +97,18 @@ returns-in_err-admit g c =
       limit = refl;
       lost = λ up down. search (rules, up, down);
       before = λ up. search (rules, up);
+      life =
+          let p = err_from_is_err_and c.from_residual.result c.from_residual.ensures.1 in
+          subst (λ (r : Result Served ServeFault). GoesOn (λ (told : Served). told.sends.items) s r s) (sym p.1)
+          (goes_on_still g.met.D.Disk.timed (λ (told : Served). told.sends.items) s s p.0 (inl refl)
+          (λ is_up. cut_at_work g.met.D.Disk.timed s s (comings ms) (λ are. still_before g.met.D.Disk.timed s.disks s.store (comings ms) are (s.kept is_up))));
     }
 
 pub returns-in_default : goal.returns-in_default
 returns-in_default g c =
     let s = c.args.self.now in
     let ms = messages_of c.args.batch in
+    let was_up : s.down ≡ false = search rules in
     record {
       orderly = c.size_of-size.ensures.orderly;
       any_moment = λ is_up are.
@@ -119,6 +130,11 @@ returns-in_default g c =
       limit = c.begin.ensures.same.2;
       lost = λ is_up is_down. none_remains (shown s.before.value s.store s.down s.lost.items) (comings ms) c.begin.new.self.lost.items c.begin.ensures.same.3;
       before = λ up. inr c.begin.ensures.before;
+      life =
+          serves_on g.met.D.Disk.timed s _ ms (Err Memory) was_up tt tt c.begin.ensures.down c.begin.ensures.before
+          (λ down. none_remains (shown s.before.value s.store s.down s.lost.items) (comings ms) c.begin.new.self.lost.items c.begin.ensures.same.3)
+          (λ are. subst (λ d. PairsSince (both_of s.disks) (both_of d) (IsBeforeOrAfter s.store (comings ms))) (sym c.begin.ensures.same.1)
+          (still_before g.met.D.Disk.timed s.disks s.store (comings ms) are (s.kept was_up)));
     }
 
 pub returns : goal.returns
@@ -132,12 +148,14 @@ returns g c =
     let is_served = subst (λ (st : Store). IsServed st.state st.soft ms served after.state after.soft) c.begin.ensures.same.0 c.in-Ok.ensures.ok in
     let all = history_of after.state after.soft served.deeds.items served.sends.items in
     let happens = served_happens old.state old.soft ms served after.state after.soft is_served in
+    let was_up : s.down ≡ false = search rules in
+    let done : IfOk c.settle.result (λ (told : Served). IsServed old.state old.soft ms told new.store.state new.store.soft) = search rules in
     record {
       orderly = c.size_of-size.ensures.orderly;
       any_moment = λ is_up are.
           served_since g.met.D.Disk.timed s.disks c.begin.new.self.disks new.disks old after ms served c.begin.new.self.before.value
           c.begin.ensures.same.1 c.begin.ensures.before is_served are c.settle.ensures.any_moment;
-      done = search rules;
+      done = done;
       each =
           let before = c.begin.new.self.store in
           told_so c.settle.result served (λ (s : Served). vec_len s.shares ≡ length ms) c.settle.ensures.done
@@ -161,4 +179,11 @@ returns g c =
           let lost = at_fault c.settle.result new.down (new.lost.items ≡ served.deeds.items) c.settle.ensures.up c.settle.ensures.lost is_down in
           all_remains_up s.before.value s.store s.down s.lost.items ms served after.state after.soft new.lost.items is_up is_served lost;
       before = λ up. search (rules, up);
+      life =
+          serves_on g.met.D.Disk.timed s new ms c.settle.result was_up done c.settle.ensures.up c.settle.ensures.fault (c.settle.ensures.same.2 ∙ c.begin.ensures.before)
+          (λ is_down.
+          let lost = at_fault c.settle.result new.down (new.lost.items ≡ served.deeds.items) c.settle.ensures.up c.settle.ensures.lost is_down in
+          all_remains_up s.before.value s.store s.down s.lost.items ms served after.state after.soft new.lost.items was_up is_served lost)
+          (λ are. served_since g.met.D.Disk.timed s.disks c.begin.new.self.disks new.disks old after ms served c.begin.new.self.before.value c.begin.ensures.same.1 c.begin.ensures.before is_served are
+          c.settle.ensures.any_moment);
     }

@@ -1,0 +1,27 @@
+//! Why a connection does not go on.
+
+use std::alloc::AllocError;
+use thiserror::Error;
+
+/// Why a connection does not go on.
+#[derive(Clone, Copy, Debug, PartialEq, Eq, Error)]
+pub enum ProxyFault {
+    /// No connection could be had.
+    #[error("no connection")]
+    Unreachable,
+    /// The connection ended, or what came is no reply.
+    #[error("connection lost")]
+    Lost,
+    /// The server refused the greeting, with this code and this detail.
+    #[error("refused {0} {1}")]
+    Refused(u8, u64),
+    /// Memory ran out.
+    #[error("out of memory")]
+    Memory,
+}
+
+impl From<AllocError> for ProxyFault {
+    fn from(_error: AllocError) -> ProxyFault {
+        ProxyFault::Memory
+    }
+}

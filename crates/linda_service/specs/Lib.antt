@@ -1,0 +1,4 @@
+pub mod Faults
+pub mod Address
+pub mod Banks
+pub mod Minutes

@@ -1,0 +1,245 @@
+/* The disk below a server of tools/simulate: preloaded into `linda serve`, it stands between the program and the two
+   files of its banks.
+
+   It keeps an undo log for each bank, SIDE.undo in the folder that SIMULATED names: before each write and cut it writes
+   down what is overwritten, and when a sync has succeeded the log is emptied. So whatever kills the process, the file
+   and its log say what the file held at its last sync and which calls came since (disk.py reads them). Nothing is
+   synced in truth: a kill keeps what the system has, and it is disk.py that loses it. SIDE.new is there while a new
+   file's name is in no folder that was synced.
+
+   The file `plan` there names calls that are to go wrong, a line each: WHICH NUMBER ACTION PART. WHICH is `change`
+   (writes, cuts and syncs of both banks, syncs of the folder, counted from 1) or `read`; ACTION is `die` (the process
+   is killed when PART thousandths of the call are done), `eio` or `enospc` (the call fails when so many are done).
+   `change 0 lie N` makes each sync whose number N divides report success and sync nothing; `slow 0 MICROSECONDS 0`
+   makes each sync take so long. A call that went wrong is written to the file `fired`. */
+
+#define _GNU_SOURCE
+#include <errno.h>
+#include <fcntl.h>
+#include <pthread.h>
+#include <signal.h>
+#include <stdarg.h>
+#include <stdint.h>
+#include <stdio.h>
+#include <stdlib.h>
+#include <string.h>
+#include <sys/stat.h>
+#include <sys/syscall.h>
+#include <sys/types.h>
+#include <unistd.h>
+
+#define MOST_FILES 4096
+#define MOST_PLANS 64
+
+struct head { uint64_t at, new_bytes, old_bytes, old_length; };
+struct plan { char which; long number; char action[16]; long part; };
+
+static pthread_mutex_t lock = PTHREAD_MUTEX_INITIALIZER;
+static char side_of[MOST_FILES];        /* 'l', 'r', or 0 */
+static struct plan plans[MOST_PLANS];
+static int plan_count, is_read;
+static long changes, reads, slow;
+
+static int path_of(char *path, size_t size, const char *name) {
+    const char *folder = getenv("SIMULATED");
+    return folder && snprintf(path, size, "%s/%s", folder, name) < (int)size;
+}
+
+static int open_in(const char *name, int flags) {
+    char path[4096];
+    return path_of(path, sizeof path, name) ? (int)syscall(SYS_openat, AT_FDCWD, path, flags | O_CLOEXEC, 0600) : -1;
+}
+
+static void read_plan(void) {
+    char text[4096], which[16], action[16];
+    long number, part;
+    int used = 0, here = 0;
+    if (is_read) return;
+    is_read = 1;
+    int file = open_in("plan", O_RDONLY);
+    if (file < 0) return;
+    ssize_t size = syscall(SYS_read, file, text, sizeof text - 1);
+    syscall(SYS_close, file);
+    text[size < 0 ? 0 : size] = 0;
+    while (sscanf(text + used, "%15s %ld %15s %ld%n", which, &number, action, &part, &here) == 4) {
+        used += here;
+        if (which[0] == 's') slow = atol(action);
+        else if (plan_count < MOST_PLANS) {
+            struct plan *it = &plans[plan_count++];
+            it->which = which[0], it->number = number, it->part = part;
+            strcpy(it->action, action);
+        }
+    }
+}
+
+static void fire(const struct plan *it) {
+    char line[80];
+    int size = snprintf(line, sizeof line, "%c %ld %s %ld\n", it->which, it->number, it->action, it->part);
+    int file = open_in("fired", O_CREAT | O_WRONLY | O_APPEND);
+    if (file < 0) return;
+    syscall(SYS_write, file, line, size);
+    syscall(SYS_close, file);
+}
+
+static int is(const struct plan *it, const char *action) { return it && strcmp(it->action, action) == 0; }
+
+/* Whether the sync that is in hand reports success and syncs nothing. */
+static int lies(void) {
+    for (int at = 0; at < plan_count; at++)
+        if (is(&plans[at], "lie") && plans[at].part > 0 && changes % plans[at].part == 0) return 1;
+    return 0;
+}
+
+/* What is planned for the call that begins now. */
+static const struct plan *planned(char which) {
+    read_plan();
+    long number = which == 'c' ? ++changes : ++reads;
+    for (int at = 0; at < plan_count; at++)
+        if (plans[at].which == which && plans[at].number == number) {
+            fire(&plans[at]);
+            return &plans[at];
+        }
+    return NULL;
+}
+
+/* Ends a call that is to go wrong: the process, or with an error. */
+static int go_wrong(const struct plan *it) {
+    if (is(it, "die")) syscall(SYS_kill, syscall(SYS_getpid), SIGKILL);
+    errno = is(it, "enospc") ? ENOSPC : EIO;
+    return -1;
+}
+
+static int side_at(int file) { return file >= 0 && file < MOST_FILES ? side_of[file] : 0; }
+static const char *undo_of(char side) { return side == 'l' ? "left.undo" : "right.undo"; }
+static const char *new_of(char side) { return side == 'l' ? "left.new" : "right.new"; }
+
+/* Writes down a call that is about to change the file: the bytes that it may overwrite or take off, and those that it
+   writes. */
+static void keep_undo(int file, uint64_t at, const void *bytes, uint64_t size, int is_cut) {
+    struct stat now;
+    if (syscall(SYS_newfstatat, file, "", &now, AT_EMPTY_PATH) != 0) abort();
+    uint64_t length = now.st_size, end = is_cut ? length : at + size < length ? at + size : length;
+    struct head head = { at, size, at < end ? end - at : 0, length };
+    char *whole = malloc(sizeof head + head.old_bytes + size);
+    if (!whole) abort();
+    memcpy(whole, &head, sizeof head);
+    char *old = whole + sizeof head;
+    if (head.old_bytes && syscall(SYS_pread64, file, old, head.old_bytes, at) != (long)head.old_bytes) abort();
+    if (size) memcpy(old + head.old_bytes, bytes, size);
+    int log = open_in(undo_of(side_at(file)), O_CREAT | O_WRONLY | O_APPEND);
+    long all = sizeof head + head.old_bytes + size;
+    if (log < 0 || syscall(SYS_write, log, whole, all) != all) abort();
+    syscall(SYS_close, log);
+    free(whole);
+}
+
+static void forget_undo(int file) {
+    int log = open_in(undo_of(side_at(file)), O_CREAT | O_WRONLY);
+    if (log < 0 || syscall(SYS_ftruncate, log, 0) != 0) abort();
+    syscall(SYS_close, log);
+}
+
+static const char *side_name(const char *path) {
+    size_t size = strlen(path);
+    if (size >= 9 && strcmp(path + size - 9, "left.bank") == 0) return "l";
+    if (size >= 10 && strcmp(path + size - 10, "right.bank") == 0) return "r";
+    return NULL;
+}
+
+static int open_watched(const char *path, int flags, int mode) {
+    const char *side = side_name(path);
+    if (!side || (flags & O_ACCMODE) == O_RDONLY) return (int)syscall(SYS_openat, AT_FDCWD, path, flags, mode);
+    pthread_mutex_lock(&lock);
+    int is_new = syscall(SYS_faccessat, AT_FDCWD, path, F_OK) != 0;
+    if (is_new) {
+        int mark = open_in(new_of(*side), O_CREAT | O_WRONLY);
+        if (mark >= 0) syscall(SYS_close, mark);
+    }
+    int file = (int)syscall(SYS_openat, AT_FDCWD, path, flags, mode);
+    if (file >= 0 && file < MOST_FILES) side_of[file] = *side;
+    pthread_mutex_unlock(&lock);
+    return file;
+}
+
+int open(const char *path, int flags, ...) {
+    va_list rest;
+    va_start(rest, flags);
+    int mode = flags & (O_CREAT | O_TMPFILE) ? va_arg(rest, int) : 0;
+    va_end(rest);
+    return open_watched(path, flags, mode);
+}
+int open64(const char *path, int flags, ...) __attribute__((alias("open")));
+
+int close(int file) {
+    if (side_at(file)) {
+        pthread_mutex_lock(&lock);
+        side_of[file] = 0;
+        pthread_mutex_unlock(&lock);
+    }
+    return (int)syscall(SYS_close, file);
+}
+
+ssize_t pwrite(int file, const void *bytes, size_t size, off_t at) {
+    if (!side_at(file)) return syscall(SYS_pwrite64, file, bytes, size, at);
+    pthread_mutex_lock(&lock);
+    const struct plan *it = planned('c');
+    size_t some = it ? size * it->part / 1000 : size;
+    ssize_t done = 0;
+    keep_undo(file, at, bytes, size, 0);
+    if (some) done = syscall(SYS_pwrite64, file, bytes, some, at);
+    if (it) done = go_wrong(it);
+    pthread_mutex_unlock(&lock);
+    return done;
+}
+ssize_t pwrite64(int, const void *, size_t, off_t) __attribute__((alias("pwrite")));
+
+int ftruncate(int file, off_t size) {
+    if (!side_at(file)) return (int)syscall(SYS_ftruncate, file, size);
+    pthread_mutex_lock(&lock);
+    const struct plan *it = planned('c');
+    int done = 0;
+    keep_undo(file, size, NULL, 0, 1);
+    if (!it || it->part >= 500) done = (int)syscall(SYS_ftruncate, file, size);
+    if (it) done = go_wrong(it);
+    pthread_mutex_unlock(&lock);
+    return done;
+}
+int ftruncate64(int, off_t) __attribute__((alias("ftruncate")));
+
+int fdatasync(int file) {
+    if (!side_at(file)) return (int)syscall(SYS_fdatasync, file);
+    if (slow) usleep(slow);
+    pthread_mutex_lock(&lock);
+    const struct plan *it = planned('c');
+    int done = 0;
+    if (it ? is(it, "die") && it->part >= 500 : !lies()) forget_undo(file);
+    if (it) done = go_wrong(it);
+    pthread_mutex_unlock(&lock);
+    return done;
+}
+
+int fsync(int file) {
+    struct stat now;
+    if (side_at(file)) return fdatasync(file);
+    if (syscall(SYS_newfstatat, file, "", &now, AT_EMPTY_PATH) != 0 || !S_ISDIR(now.st_mode))
+        return (int)syscall(SYS_fsync, file);
+    pthread_mutex_lock(&lock);
+    const struct plan *it = planned('c');
+    char path[4096];
+    int done = 0;
+    if (!it || (is(it, "die") && it->part >= 500))
+        for (const char *side = "lr"; *side; side++)
+            if (path_of(path, sizeof path, new_of(*side))) syscall(SYS_unlink, path);
+    if (it) done = go_wrong(it);
+    pthread_mutex_unlock(&lock);
+    return done;
+}
+
+ssize_t pread(int file, void *bytes, size_t size, off_t at) {
+    if (!side_at(file)) return syscall(SYS_pread64, file, bytes, size, at);
+    pthread_mutex_lock(&lock);
+    const struct plan *it = planned('r');
+    pthread_mutex_unlock(&lock);
+    return it ? go_wrong(it) : syscall(SYS_pread64, file, bytes, size, at);
+}
+ssize_t pread64(int, void *, size_t, off_t) __attribute__((alias("pread")));
