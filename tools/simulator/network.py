@@ -198,16 +198,19 @@ class Network(threading.Thread):
             self.end_server(link)
             self.push(link, link.down)
         elif data:
-            out = bytearray()
+            out, is_lost = bytearray(), False
             for frame in link.down.read(data):
                 heard = self.plant.of_reply(link, frame)
-                if heard is not None:
-                    assert link.wire
-                    link.gate.model.came(link.wire, frames.read_frame(heard))
-                    link.replies += heard[4] in NUMBERED
-                    if 0 < link.lost_reply == link.replies and not self.is_calm:
-                        self.cut(link)
-                        return
+                assert link.wire
+                if heard is None or link.wire.is_closed:
+                    continue
+                link.gate.model.came(link.wire, frames.read_frame(heard))
+                link.replies += heard[4] in NUMBERED
+                if 0 < link.lost_reply == link.replies and not self.is_calm:
+                    # (the server's end may stay open for a while: the model hears of all that it gives)
+                    self.cut(link)
+                    is_lost = True
+                elif not is_lost:
                     out += heard
             if out:
                 self.bring(link, link.down, bytes(out))
