@@ -27,7 +27,7 @@ MOST_BESIDE_ONE = 1.05
 FORMS = ["LND1", "LND2"]
 HERE = os.path.dirname(os.path.abspath(__file__))
 TOP = os.path.join(HERE, "..", "..")
-NEEDED = ["linda_maps", "linda_moment", "linda_tuple", "linda_codec", "linda_wire", "linda_bag", "linda_book", "linda_state", "linda_disk", "linda_journal"]
+NEEDED = ["linda_maps", "linda_moment", "linda_tuple", "linda_codec", "linda_wire", "linda_bag", "linda_book", "linda_store_state", "linda_disk", "linda_journal"]
 
 
 def build(folder):
@@ -40,7 +40,7 @@ def build(folder):
     shutil.copy(os.path.join(HERE, "main.rt.txt"), os.path.join(program, "src", "main.rt"))
     with open(os.path.join(TOP, "crates.txt")) as lines, open(os.path.join(folder, "crates.txt"), "w") as kept:
         kept.writelines(line for line in lines if line.split(":")[0] in NEEDED)
-        kept.write("bench_bank: linda_tuple linda_state linda_disk linda_journal anyhow\n")
+        kept.write("bench_bank: linda_tuple linda_store_state linda_disk linda_journal anyhow\n")
     subprocess.run(["rt", "check"], cwd=program, check=True, stdout=subprocess.DEVNULL)
     subprocess.run(["rt", "run"], cwd=program, stdout=subprocess.DEVNULL, stderr=subprocess.DEVNULL)
     return os.path.join(program, "out", "bench_bank")

@@ -21,9 +21,9 @@ PLAIN_BYTES = 34
 PLAIN_ROUNDS = 1_000
 HERE = os.path.dirname(os.path.abspath(__file__))
 TOP = os.path.join(HERE, "..", "..")
-NEEDED = ["linda_maps", "linda_moment", "linda_tuple", "linda_codec", "linda_disk", "linda_wire", "linda_bag", "linda_hold", "linda_book", "linda_state",
-          "linda_journal", "linda_snap", "linda_step", "linda_promise", "linda_store", "linda_server", "linda_receipt", "linda_outbox", "linda_desk",
-          "linda_mail", "linda_shared"]
+NEEDED = ["linda_maps", "linda_moment", "linda_tuple", "linda_codec", "linda_disk", "linda_wire", "linda_bag", "linda_hold", "linda_book", "linda_store_state",
+          "linda_journal", "linda_snap", "linda_store_step", "linda_store", "linda_server", "linda_shared_accounts", "linda_shared_outbox", "linda_shared_held",
+          "linda_shared_queue", "linda_shared"]
 
 
 def build(folder):
@@ -40,7 +40,7 @@ def build(folder):
     shutil.copy(os.path.join(TOP, "HANDLES"), folder)
     with open(os.path.join(TOP, "crates.txt")) as lines, open(os.path.join(folder, "crates.txt"), "w") as kept:
         kept.writelines(line for line in lines if line.split(":")[0] in NEEDED)
-        kept.write("bench_shared: linda_tuple linda_disk linda_wire linda_receipt linda_server linda_shared anyhow\n")
+        kept.write("bench_shared: linda_tuple linda_disk linda_wire linda_shared_accounts linda_server linda_shared anyhow\n")
     subprocess.run(["rt", "run", "--", "memory", "1", "1"], cwd=program, check=True, stdout=subprocess.DEVNULL)
     return os.path.join(program, "out", "bench_shared")
 

@@ -40,7 +40,7 @@ MOST_BESIDE_HELD = 1.5
 MOST_AS_LEFT = 4.0
 HERE = os.path.dirname(os.path.abspath(__file__))
 TOP = os.path.join(HERE, "..", "..")
-NEEDED = ["linda_maps", "linda_tuple", "linda_codec", "linda_wire", "linda_bag", "linda_hold", "linda_book", "linda_state", "linda_step"]
+NEEDED = ["linda_maps", "linda_tuple", "linda_codec", "linda_wire", "linda_bag", "linda_hold", "linda_book", "linda_store_state", "linda_store_step"]
 
 
 def build(folder):
@@ -53,7 +53,7 @@ def build(folder):
     shutil.copy(os.path.join(HERE, "main.rt.txt"), os.path.join(program, "src", "main.rt"))
     with open(os.path.join(TOP, "crates.txt")) as lines, open(os.path.join(folder, "crates.txt"), "w") as kept:
         kept.writelines(line for line in lines if line.split(":")[0] in NEEDED)
-        kept.write("bench_step: linda_tuple linda_wire linda_bag linda_step anyhow\n")
+        kept.write("bench_step: linda_tuple linda_wire linda_bag linda_store_step anyhow\n")
     subprocess.run(["rt", "run", "--", "ask", "1", "0", "0", "1"], cwd=program, check=True, stdout=subprocess.DEVNULL)
     return os.path.join(program, "out", "bench_step")
 

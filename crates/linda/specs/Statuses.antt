@@ -4,8 +4,8 @@ use Rattle.linda_pipe.specs.Statuses.{status_of}
 use Rattle.linda_pipe.specs.declared.fault.PipeFault.{PipeFault}
 use Rattle.linda_shell.specs.declared.script.fault.ScriptFault.{ScriptFault}
 use Rattle.linda_shell.specs.declared.script.fault.ScriptFault.TheVariants as scripts
-use Rattle.linda_caller.specs.Statuses.{status_of_call}
-use Rattle.linda_caller.specs.declared.calling.fault.CallFault.{CallFault}
+use Rattle.linda_call.specs.Statuses.{status_of_call}
+use Rattle.linda_call.specs.declared.calling.fault.CallFault.{CallFault}
 
 -- 0 where the pipe ended well, else the status of its fault
 abbrev pub status_after : Result Unit PipeFault → ℕ

@@ -28,18 +28,18 @@ ghost use Rattle.std.specs.Prelude.{◌≡◌, ◌≢◌, ◌≤◌, ◌⊎◌};
 ghost use Rattle.linda_client.specs.declared.limits.TheConstants.{MAX_SERVERS};
 ghost use Rattle.std.specs.Process.{exit_status};
 ghost use Rattle.clap.specs.Words.{kind_of};
-ghost use Rattle.linda_command.specs.Commands.{HasServers};
+ghost use Rattle.linda_args.specs.Commands.{HasServers};
 ghost use Rattle.linda.specs.Statuses.{status_after, status_after_call, status_after_script};
 ghost use Rattle.clap.specs.declared.error.kind.ErrorKind.TheVariants as kinds;
 
 mod status;
 mod streams;
 
-use linda_caller::{CallFault, call};
-use linda_command::{Ports, Task, VERSION_LINES, asks_for_version, read_task};
+use linda_args::{Ports, Task, VERSION_LINES, asks_for_version, read_task};
+use linda_call::{CallFault, call};
 use linda_inspect::Lists;
 use linda_pipe::{PipeFault, REFUSED, pipe};
-use linda_service::{inspect_folder, serve_folder, serve_logged};
+use linda_serve::{Plan, inspect_folder, serve_folder};
 use linda_shell::{ScriptFault, run_script, trace_script};
 use status::status_of_script;
 use std::fmt::Display;
@@ -245,14 +245,14 @@ fn run_serve<S: Net<Listener = TcpListener, Stream = TcpStream> + Threads + Wait
 ) -> ExitCode
     ensures { (exit_status result ≡ 0) ⊎ (exit_status result ≡ 3) }
 {
-    let out = &mut rt.stdout();
-    let ended = if log {
-        let sink = &mut rt.stderr();
-        serve_logged(rt, threads, rt.alloc(), out, sink, port, dir, sessions)
-    } else {
-        serve_folder(rt, threads, rt.alloc(), out, port, dir, sessions)
+    let plan = Plan {
+        port,
+        folder: dir,
+        sessions,
     };
-    match ended {
+    let mut stderr = rt.stderr();
+    let sink = if log { Some(&mut stderr) } else { None };
+    match serve_folder(rt, threads, rt.alloc(), &mut rt.stdout(), sink, &plan) {
         Ok(()) => ExitCode::SUCCESS,
         Err(cause) => end(rt, cause, REFUSED),
     }

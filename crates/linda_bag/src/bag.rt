@@ -40,18 +40,17 @@ pub trait Bag: Drop {
         ensures ok { OnOk result (contents self.new ≡ map.insert (contents self.old) id tuple) }
         ensures err { OnErr result (contents self.new ≡ contents self.old) };
 
-    /// Takes out the tuple under the id and gives it; where there is none, nothing changes. Takes no
-    /// memory.
+    /// Takes out the tuple under the id and gives it; where there is none, nothing changes.
     fn remove(&mut self, id: u64) -> Option<Tuple>
         ensures value { result ≡ map.get (contents self.old) id }
         ensures removed { contents self.new ≡ map.remove (contents self.old) id };
 
-    /// The tuple under the id, if there is one. Takes no memory.
+    /// The tuple under the id, if there is one.
     fn get(&self, id: u64) -> Option<&Tuple>
         ensures { option_copied result ≡ map.get (contents self.now) id };
 
     /// The least id outside `passed` whose tuple the template matches; nothing only where there is
-    /// none. Takes no memory.
+    /// none.
     fn least_match(&self, template: &Template, passed: &BTreeSet<u64>) -> Option<u64>
         ensures found { IfSome result
             (IsFreeMatch (contents self.now) template.now (contains nat_cmp passed.now)) }
@@ -61,7 +60,6 @@ pub trait Bag: Drop {
             → IsFreeMatch (contents self.now) template.now (contains nat_cmp passed.now) k → ⊥) };
 
     /// As `least_match`, of the ids from `from` on alone; and how many tuples were looked at in vain.
-    /// Takes no memory.
     fn least_match_from<P: IdSet>(&self, template: &Template, passed: &P, from: u64) -> Found
         ensures found { IfSome result.id
             (IsFreeMatch (contents self.now) template.now (P.has passed.now)) }
@@ -71,12 +69,11 @@ pub trait Bag: Drop {
         ensures none { IfNone result.id ((k : ℕ) → from ≤ k
             → IsFreeMatch (contents self.now) template.now (P.has passed.now) k → ⊥) };
 
-    /// How many tuples there are. Takes no memory.
+    /// How many tuples there are.
     fn len(&self) -> usize
         ensures { result ≡ map.len (contents self.now) };
 
-    /// The least id of the bag that is not below `id`; nothing only where there is none. Takes no
-    /// memory.
+    /// The least id of the bag that is not below `id`; nothing only where there is none.
     fn next_from(&self, id: u64) -> Option<u64>
         ensures found { IfSome result (λ next. IsSome (map.get (contents self.now) next)) }
         ensures above { IfSome result (λ next. id ≤ next) }

@@ -34,7 +34,7 @@ impl Firsts {
         }
     }
 
-    /// The ids of the rows that begin with the value; nothing where there are none. Takes no memory.
+    /// The ids of the rows that begin with the value; nothing where there are none.
     pub fn get<R: Headed>(&self, first: &Atom) -> Option<&Ids>
         ensures { FindsShelf (HasFirsts R.first_of self.now) IsOf (rows_at atom_ord.ghosts.cmp R.first_of first.now)
             (option_copied result) }
@@ -79,7 +79,7 @@ impl Firsts {
         Ok(())
     }
 
-    /// Whether there is no id. Takes no memory.
+    /// Whether there is no id.
     pub fn is_empty<R: Headed>(&self) -> bool
         ensures { (rows : Rows R) → HasFirsts R.first_of self.now rows
             → (IsTrue result ↔ IsBare (keyed_of R.first_of rows)) }
@@ -87,7 +87,7 @@ impl Firsts {
         self.ints.is_empty() && self.others.is_empty()
     }
 
-    /// Takes out the id, which is filed by the row, where it is filed at all. Takes no memory.
+    /// Takes out the id, which is filed by the row, where it is filed at all.
     pub fn remove<'a, R: Headed>(&mut self, id: u64, old: Option<&'a R>)
         ensures { Refiles (HasFirsts R.first_of self.old) (HasFirsts R.first_of self.new)
             id (option_copied old.entry) None }

@@ -68,8 +68,7 @@ struct Counts<S> {
     groups: BTreeMap<usize, S>,
 }
 
-/// The shelf with the rows of this tag and of as many fields; nothing where there are none. Takes no
-/// memory.
+/// The shelf with the rows of this tag and of as many fields; nothing where there are none.
 pub fn alike<'a, T: Headed, S: Shelf<T>>(
     heads: &'a Heads<S>,
     tag: &Atom,

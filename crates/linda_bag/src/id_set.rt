@@ -11,7 +11,7 @@ pub trait IdSet {
     // whether the id is one of them
     ghost has: { Self → ℕ → Bool };
 
-    /// Whether the id is one of them. Takes no memory.
+    /// Whether the id is one of them.
     fn has(&self, id: u64) -> bool
         ensures { result ≡ has self.now id };
 }

@@ -27,7 +27,7 @@ pub(crate) struct Group {
 }
 
 /// The ids of the tuples that have the template's tag, as many fields as it has patterns and, where
-/// its first pattern is a value, that value first; nothing where there are none. Takes no memory.
+/// its first pattern is a value, that value first; nothing where there are none.
 pub(crate) fn candidates<'a>(index: &'a Index, template: &Template) -> Option<&'a Ids>
     ensures { FindsShelf (⟦<Index as Shelf<Tuple>>⟧.has index.now) IsOf (candidates template.now)
         (option_copied result) }

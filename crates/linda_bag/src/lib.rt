@@ -7,8 +7,10 @@
 //!
 //! `specs/FreeMatch` says which tuples a template may be answered with; the answer is always the
 //! least id among them. `specs/Filing` and `specs/Candidates` say what an index has and what is found
-//! in it. `filing` and `heads` are written for rows of any type, so that `linda_hold` files its requests
-//! by them; `proofs/Maps` has what follows of finite maps, for the crates above as well.
+//! in it. `heads`, `firsts` and `ids` are written for rows of any type, so that `linda_hold` files its requests
+//! by them. What follows of finite maps is in `linda_maps`.
+//!
+//! A call that may take memory has a fault for that; no other call takes any.
 #![tactic(auto)]
 
 mod bag;

@@ -64,7 +64,7 @@ pub trait Shelf<T>: Drop {
         ensures err { OnErr result (Refiles (has self.old) (has self.new)
             id (option_copied old.entry) (option_copied old.entry)) };
 
-    /// Takes out the id, which is filed by the row. Takes no memory.
+    /// Takes out the id, which is filed by the row.
     fn remove(&mut self, id: u64, row: &T)
         ensures { Refiles (has self.old) (has self.new) id (Some row.now) None };
 
@@ -159,14 +159,14 @@ fn file<'a, K: Key, T, S: Shelf<T>>(
 }
 
 /// Takes out the id, which is filed under the key of the row, and the shelf there with it where
-/// that is empty then. Takes no memory.
+/// that is empty then.
 pub fn unfile<K: Key, T, S: Shelf<T>>(shelves: &mut BTreeMap<K, S>, id: u64, key: &K, row: &T)
     ensures { RefilesBy K.cmp S.has shelves.old shelves.new id (Some (key.now, row.now)) None }
 {
     take(shelves, id, key, row);
 }
 
-/// Takes out the id, which is filed by `old`, where it is filed at all. Takes no memory.
+/// Takes out the id, which is filed by `old`, where it is filed at all.
 pub(crate) fn unfile_if_any<'a, K: Key, T, S: Shelf<T>>(
     shelves: &mut BTreeMap<K, S>,
     id: u64,

@@ -41,7 +41,7 @@ impl Drop for Starts {
 }
 
 impl Starts {
-    /// No starts. Takes no memory.
+    /// No starts.
     pub fn new(alloc: Global) -> Starts
         ensures { (bag : Bagged) (passed : ℕ → Bool) (next : ℕ) → AreRight bag passed next result }
     {

@@ -58,8 +58,7 @@ impl Tuples {
         }
     }
 
-    /// Takes out the tuple under the id and gives it; where there is none, nothing changes. Takes no
-    /// memory.
+    /// Takes out the tuple under the id and gives it; where there is none, nothing changes.
     pub(crate) fn remove(&mut self, id: u64) -> Option<Tuple>
         ensures value { result ≡ map.get self.old id }
         ensures removed { self.new ≡ map.remove self.old id }
@@ -68,7 +67,7 @@ impl Tuples {
         Some(Box::into_inner(tuple))
     }
 
-    /// The tuple under the id, if there is one. Takes no memory.
+    /// The tuple under the id, if there is one.
     pub(crate) fn get(&self, id: u64) -> Option<&Tuple>
         ensures { option_copied result ≡ map.get self.now id }
     {
@@ -76,14 +75,14 @@ impl Tuples {
         Some(&**tuple)
     }
 
-    /// How many tuples there are. Takes no memory.
+    /// How many tuples there are.
     pub(crate) fn len(&self) -> usize
         ensures { result ≡ map.len self.now }
     {
         self.by_id.len()
     }
 
-    /// The least id that is not below `id`; nothing only where there is none. Takes no memory.
+    /// The least id that is not below `id`; nothing only where there is none.
     pub(crate) fn next_from(&self, id: u64) -> Option<u64>
         ensures found { IfSome result (λ next. IsSome (map.get self.now next)) }
         ensures above { IfSome result (λ next. id ≤ next) }

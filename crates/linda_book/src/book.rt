@@ -48,7 +48,7 @@ impl Book {
         }
     }
 
-    /// The number that is kept for the client, 0 if there is none. Takes no memory.
+    /// The number that is kept for the client, 0 if there is none.
     pub fn last(&self, client: u32) -> u64
         ensures { result ≡ number_in (map.get self.now client) }
     {
@@ -58,8 +58,7 @@ impl Book {
         }
     }
 
-    /// The number that is kept for the client, 0 if there is none, and whether the client left by that. Takes no
-    /// memory.
+    /// The number that is kept for the client, 0 if there is none, and whether the client left by that.
     pub fn standing(&self, client: u32) -> (u64, bool)
         ensures last { result.0 ≡ number_in (map.get self.now client) }
         ensures left { result.1 ≡ left_in (map.get self.now client) }
@@ -70,7 +69,7 @@ impl Book {
         }
     }
 
-    /// How the number of a message stands to the last one that is kept for the client. Takes no memory.
+    /// How the number of a message stands to the last one that is kept for the client.
     #[tactic(auto, using(crate::proofs::MeaningLaws::class_means))]
     pub fn classify(&self, client: u32, n: u64) -> Class
         ensures class { result ≡ class_of (number_in (map.get self.now client)) (left_in (map.get self.now client)) n }
@@ -80,7 +79,7 @@ impl Book {
         class::class_of(last, left, n)
     }
 
-    /// The number and the reply that are kept for the client. Takes no memory.
+    /// The number and the reply that are kept for the client.
     pub fn kept(&self, client: u32) -> Option<(u64, &KeptReply)>
         ensures { option_map (λ e. (e.0, e.1.now)) result ≡ map.get self.now client }
     {
@@ -105,15 +104,14 @@ impl Book {
         Ok(())
     }
 
-    /// How many clients the book keeps. Takes no memory.
+    /// How many clients the book keeps.
     pub fn len(&self) -> usize
         ensures { result ≡ map.len self.now }
     {
         self.entries.len()
     }
 
-    /// The least client of the book that is not below `client`; nothing only where there is none. Takes
-    /// no memory.
+    /// The least client of the book that is not below `client`; nothing only where there is none.
     pub fn next_from(&self, client: u32) -> Option<u32>
         ensures found { IfSome result (λ next. IsSome (map.get self.now next)) }
         ensures above { IfSome result (λ next. client ≤ next) }
@@ -124,8 +122,7 @@ impl Book {
         Some(*next)
     }
 
-    /// The least client of the book that is above `client`; nothing only where there is none. Takes no
-    /// memory.
+    /// The least client of the book that is above `client`; nothing only where there is none.
     pub fn next_after(&self, client: u32) -> Option<u32>
         ensures found { IfSome result (λ next. IsSome (map.get self.now next)) }
         ensures above { IfSome result (λ next. client < next) }

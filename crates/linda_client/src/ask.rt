@@ -45,7 +45,7 @@ impl Ask {
     }
 
     /// Whether an offer (`remove`) or a copy of this tuple fits: the base is an input or a read, and its
-    /// template matches. Takes no memory.
+    /// template matches.
     pub(crate) fn fits(&self, remove: bool, tuple: &Tuple) -> bool
         ensures test { result ≡ is_fit self.now remove tuple.now }
         ensures matches { result ≡ true → Matches self.now.template tuple.now }
@@ -115,7 +115,7 @@ fn push_alarm(number: usize, base: Base, alarms: &mut Vec<Alarm>) -> Result<(), 
     Ok(())
 }
 
-/// The first alarm that is ready at this clock. Takes no memory.
+/// The first alarm that is ready at this clock.
 pub(crate) fn first_due(alarms: &[Alarm], clock: u64) -> Option<Alarm>
     ensures { result ≡ find (λ a. nat_le a.time clock) alarms.now }
 {

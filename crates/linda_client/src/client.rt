@@ -100,7 +100,7 @@ impl Client {
         })
     }
 
-    /// The number of the client. Takes no memory.
+    /// The number of the client.
     pub fn number(&self) -> u32
         ensures number { result ≡ self.now.number }
         ensures ranges { IsClient self.now }
@@ -108,7 +108,7 @@ impl Client {
         self.number
     }
 
-    /// How many servers the client has, 1 to 16. Takes no memory.
+    /// How many servers the client has, 1 to 16.
     pub fn servers(&self) -> u32
         ensures count { result ≡ servers self.now }
         ensures ranges { IsClient self.now }
@@ -116,21 +116,21 @@ impl Client {
         self.next.len() as u32
     }
 
-    /// The greatest time that the client was told. Takes no memory.
+    /// The greatest time that the client was told.
     pub fn clock(&self) -> u64
         ensures { result ≡ self.now.clock }
     {
         self.clock
     }
 
-    /// Whether nothing is pending; so it is of a client that has left. Takes no memory.
+    /// Whether nothing is pending; so it is of a client that has left.
     pub fn is_idle(&self) -> bool
         ensures { result ≡ is_idle self.now.task }
     {
         matches!(self.task, Task::Idle | Task::Left)
     }
 
-    /// Whether the client has left. Takes no memory.
+    /// Whether the client has left.
     pub fn has_left(&self) -> bool
         ensures { result ≡ has_left self.now.task }
     {

@@ -48,7 +48,7 @@ impl Leaves {
         Ok(packets)
     }
 
-    /// Notes that this server has answered the Leave of this number. Takes no memory.
+    /// Notes that this server has answered the Leave of this number.
     pub(crate) fn drop_answered(&mut self, server: u32, n: u64)
         ensures { self.new ≡ unanswered_leaves server n self.old }
     {
@@ -56,7 +56,7 @@ impl Leaves {
             .retain(|leave| !(leave.0 == server && leave.1 == n));
     }
 
-    /// Whether every server has answered. Takes no memory.
+    /// Whether every server has answered.
     pub(crate) fn is_empty(&self) -> bool
         ensures none { result ≡ true → self.now ≡ [] }
         ensures some { result ≡ false → 1 ≤ length self.now }

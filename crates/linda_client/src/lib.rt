@@ -8,6 +8,8 @@
 //! Contracts see a client as a record of `specs/Client`. What every call comes to is one function, `react`
 //! of `specs/React`, of which each call of a client is a case. `laws` says what holds of it over one call
 //! and over many, in words of its own.
+//!
+//! A call that may take memory has a fault for that; no other call takes any.
 #![tactic(auto)]
 
 mod arrival;

@@ -31,14 +31,14 @@ impl Numbers {
         Numbers { items }
     }
 
-    /// The numbers, in order. Takes no memory.
+    /// The numbers, in order.
     pub fn as_slice(&self) -> &[u64]
         ensures { result.now ≡ self.now }
     {
         &self.items
     }
 
-    /// The numbers as a `Vec`. Takes no memory.
+    /// The numbers as a `Vec`.
     pub fn into_vec(self) -> Vec<u64>
         ensures { result.items ≡ self }
     {
@@ -69,14 +69,14 @@ impl Bindings {
         Bindings { items }
     }
 
-    /// The values, in order. Takes no memory.
+    /// The values, in order.
     pub fn as_slice(&self) -> &[Atom]
         ensures { result.now ≡ self.now }
     {
         &self.items
     }
 
-    /// The values as a `Vec`. Takes no memory.
+    /// The values as a `Vec`.
     pub fn into_vec(self) -> Vec<Atom>
         ensures { result.items ≡ self }
     {

@@ -60,7 +60,7 @@ impl Model for Pending {
 }
 
 impl Pending {
-    /// A synchronization that has accepted and saved nothing yet. Takes no memory.
+    /// A synchronization that has accepted and saved nothing yet.
     pub(crate) fn new(
         alloc: Global,
         event: Event,
@@ -273,7 +273,7 @@ impl Pending {
         all_nacks(alloc, &self.event)
     }
 
-    /// Notes that an offer was accepted: the oldest that is saved, where some are. Takes no memory.
+    /// Notes that an offer was accepted: the oldest that is saved, where some are.
     pub(crate) fn accept(&mut self, accepted: Accepted)
         requires { IsOpenInput self.old accepted.ticket }
         ensures accepted { self.new ≡ take_oldest accepted self.old }
@@ -299,7 +299,7 @@ impl Pending {
         Ok(())
     }
 
-    /// Notes that the accepted offer is gone, where nothing is saved. Takes no memory.
+    /// Notes that the accepted offer is gone, where nothing is saved.
     pub(crate) fn wait(&mut self)
         requires { self.old.saved ≡ [] }
         ensures waits { self.new ≡ let_go self.old }

@@ -18,7 +18,7 @@ pub struct Reaction {
 }
 
 impl Reaction {
-    /// Nothing is sent and nothing is reported. Takes no memory.
+    /// Nothing is sent and nothing is reported.
     pub(crate) fn quiet(alloc: Global) -> Reaction
         ensures packets { result.packets.items ≡ [] }
         ensures outcome { result.outcome ≡ None }
@@ -53,7 +53,7 @@ impl Reaction {
         }
     }
 
-    /// A server refused something. Takes no memory.
+    /// A server refused something.
     pub(crate) fn faulted(alloc: Global, server: u32, code: u8, detail: u64) -> Reaction
         ensures packets { result.packets.items ≡ [] }
         ensures outcome { result.outcome ≡ None }

@@ -3,36 +3,35 @@ use Rattle.std.proofs.Common.{◌≡◌, ℕ, suc, ◌-◌, ◌+◌, ◌≤◌, 
 use Rattle.std.specs.Prelude.{IsOk}
 use Rattle.linda_codec.specs.declared.fault.ReadFault.{ReadFault}
 use Rattle.linda_codec.specs.Formats.{Format, both, count_at, counted}
-use Rattle.linda_codec.specs.Steps.{Read, Reader, ◌>>=◌, left_by, many_at}
+use Rattle.linda_codec.specs.Steps.{ReadOr, Reader, ◌>>=◌, left_by, many_at}
 use Rattle.linda_codec.specs.Values.{atom, tagged}
 use Rattle.linda_tuple.specs.declared.form.Form.{Form}
 use Rattle.linda_tuple.specs.Form.{most_fields}
+use Rattle.linda_codec.proofs.TakeLaws.{ok_is}
 
 -- Where bytes are left, a value stands before them.
-pub is_there : {A : Type 0} (read : Read A) (rest : List ℕ) → left_by read ≡ Ok rest → IsOk read
+pub is_there : {F A : Type 0} (read : ReadOr F A) (rest : List ℕ) → left_by read ≡ Ok rest → IsOk read
 is_there (Ok x) rest e = refl
 is_there (Err fault) rest e = absurd cc
 
--- A fault that is told of what is left is the fault.
-pub is_fault : {A : Type 0} (read : Read A) (fault : ReadFault) → left_by read ≡ Err fault → read ≡ Err fault
+-- A fault that is returned for what is left is the fault.
+pub is_fault : {F A : Type 0} (read : ReadOr F A) (fault : F) → left_by read ≡ Err fault → read ≡ Err fault
 is_fault (Ok x) fault e = absurd cc
 is_fault (Err f) fault e = cc
 
-left_ok : (x y : List ℕ) → (let a : Result (List ℕ) ReadFault = Ok x in a) ≡ Ok y → x ≡ y
-left_ok x y e = cc
-
 -- A step that leaves these bytes, and the next one.
-pub left_then : {A B : Type 0} (step : Read A) (next : A × List ℕ → Read B) (rest : List ℕ) (left : Result (List ℕ) ReadFault) → left_by step ≡ Ok rest → ((a : A) → left_by (next (a, rest)) ≡ left) → left_by (step >>= next) ≡ left
-left_then (Ok x) next rest left e others = rw (left_ok x.1 rest e) (others x.0)
-left_then (Err fault) next rest left e others = absurd cc
+pub left_then : {F A B : Type 0} (step : ReadOr F A) (next : A × List ℕ → ReadOr F B) (rest : List ℕ) (total : Result (List ℕ) F) → left_by step ≡ Ok rest
+    → ((a : A) → left_by (next (a, rest)) ≡ total) → left_by (step >>= next) ≡ total
+left_then (Ok x) next rest total e others = rw (ok_is x.1 rest e) (others x.0)
+left_then (Err fault) next rest total e others = absurd cc
 
 -- A step that fails.
-pub left_fault : {A B : Type 0} (step : Read A) (next : A × List ℕ → Read B) (fault : ReadFault) → left_by step ≡ Err fault → left_by (step >>= next) ≡ Err fault
+pub left_fault : {F A B : Type 0} (step : ReadOr F A) (next : A × List ℕ → ReadOr F B) (fault : F) → left_by step ≡ Err fault → left_by (step >>= next) ≡ Err fault
 left_fault (Ok x) next fault e = absurd cc
 left_fault (Err f) next fault e = e
 
 -- What a step leaves is left where the next one only makes something of the value.
-pub left_made : {A B : Type 0} (step : Read A) (make : A → B) → left_by (step >>= λ x. Ok (make x.0, x.1)) ≡ left_by step
+pub left_made : {F A B : Type 0} (step : ReadOr F A) (make : A → B) → left_by (step >>= λ x. Ok (make x.0, x.1)) ≡ left_by step
 left_made (Ok x) make = refl
 left_made (Err fault) make = refl
 

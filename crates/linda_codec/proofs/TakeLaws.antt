@@ -6,7 +6,6 @@ use Rattle.std.proofs.lemmas.List.{take_at, drop_at, take-append-drop, length-ap
 use Rattle.std.specs.Str.{IsUtf8, is_utf8}
 use Rattle.std.proofs.lemmas.Str.{IsUtf8-from_is_utf8}
 use Rattle.std.proofs.lemmas.Nat.{be_bytes_2, be_bytes_4, be_bytes_8, from_be_bytes-to_be_bytes_2, from_be_bytes-to_be_bytes_4, from_be_bytes-to_be_bytes_8}
-use Rattle.linda_codec.specs.declared.fault.ReadFault.{ReadFault}
 use Rattle.linda_codec.specs.declared.fault.ReadFault.TheVariants.{Short}
 use Rattle.linda_codec.specs.Steps.{◌>>=◌}
 use Rattle.linda_codec.specs.Formats.{byte_at, number_at}
@@ -26,29 +25,29 @@ pub IsBytes-rest : (b : ℕ) (bytes : List ℕ) → IsBytes (b ∷ bytes) → Is
 IsBytes-rest b bytes fits i = fits (suc i)
 
 -- The value of a step that did not fail.
-pub bind_ok : {A B : Type 0} (step : Result A ReadFault) (next : A → Result B ReadFault) (y : B) → (step >>= next) ≡ Ok y → (x : A) × (step ≡ Ok x) × (next x ≡ Ok y)
+pub bind_ok : {F A B : Type 0} (step : Result A F) (next : A → Result B F) (y : B) → (step >>= next) ≡ Ok y → (x : A) × (step ≡ Ok x) × (next x ≡ Ok y)
 bind_ok (Ok x) next y e = (x, refl, e)
 bind_ok (Err fault) next y e = absurd cc
 
 -- A test for a fault that did not fail.
-pub guard_ok : {A : Type 0} (b : Bool) (fault : ReadFault) (x y : A) → cond b (Err fault) (Ok x) ≡ Ok y → (b ≡ false) × (x ≡ y)
+pub guard_ok : {F A : Type 0} (b : Bool) (fault : F) (x y : A) → cond b (Err fault) (Ok x) ≡ Ok y → (b ≡ false) × (x ≡ y)
 guard_ok true fault x y e = absurd cc
 guard_ok false fault x y e = (refl, cc)
 
 -- A test for a fault that did not fail, and what came after it.
-pub guard_then : {A : Type 0} (b : Bool) (fault : ReadFault) (next : Result A ReadFault) (y : A) → cond b (Err fault) next ≡ Ok y → (b ≡ false) × (next ≡ Ok y)
+pub guard_then : {F A : Type 0} (b : Bool) (fault : F) (next : Result A F) (y : A) → cond b (Err fault) next ≡ Ok y → (b ≡ false) × (next ≡ Ok y)
 guard_then true fault next y e = absurd cc
 guard_then false fault next y e = (refl, e)
 
 -- A test of what is right that did not fail.
-pub guard_right : {A : Type 0} (b : Bool) (fault : ReadFault) (x y : A) → cond b (Ok x) (Err fault) ≡ Ok y → (b ≡ true) × (x ≡ y)
+pub guard_right : {F A : Type 0} (b : Bool) (fault : F) (x y : A) → cond b (Ok x) (Err fault) ≡ Ok y → (b ≡ true) × (x ≡ y)
 guard_right true fault x y e = (refl, cc)
 guard_right false fault x y e = absurd cc
 
-abbrev done : {A : Type 0} → A → Result A ReadFault
-done x = Ok x
+abbrev done : (F : Type 0) {A : Type 0} → A → Result A F
+done F x = Ok x
 
-pub ok_is : {A : Type 0} (x y : A) → done x ≡ done y → x ≡ y
+pub ok_is : {F A : Type 0} (x y : A) → done F x ≡ done F y → x ≡ y
 ok_is x y e = cc
 
 pub Takes-then : (a x b y c : List ℕ) → Takes a x b → Takes b y c → Takes a (x ++ y) c

@@ -12,7 +12,7 @@ use crate::limits::{
 use crate::list::list_len;
 use linda_tuple::{Atom, Form, Pattern, Template, Tuple};
 
-/// How many bytes the tuple spells in the form. Takes no memory.
+/// How many bytes the tuple spells in the form.
 pub fn tuple_len(form: Form, tuple: &Tuple) -> usize
     ensures exact { result ≡ length ((format.tuple form).spell tuple.now) }
     ensures short { result ≤ MAX_TUPLE_BYTES }
@@ -21,7 +21,7 @@ pub fn tuple_len(form: Form, tuple: &Tuple) -> usize
     atom_len(form, tuple.tag()) + COUNT_BYTES + list_len(form, fields)
 }
 
-/// How many bytes the template spells in the form. Takes no memory.
+/// How many bytes the template spells in the form.
 pub(crate) fn template_len(form: Form, template: &Template) -> usize
     ensures exact { result ≡ length ((format.template form).spell template.now) }
     ensures short { result ≤ MAX_TUPLE_BYTES }

@@ -13,6 +13,8 @@
 //!
 //! Whatever has a spelling is `Spelled`, here and in the crates above: it is read, passed over, written and counted by
 //! one interface, and so are lists of it (`read_list`, `skip_list`, `push_list`, `list_len`).
+//!
+//! A call that may take memory has a fault for that; no other call takes any.
 #![tactic(auto)]
 
 mod fault;

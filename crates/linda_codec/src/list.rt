@@ -33,7 +33,7 @@ pub fn read_list<V: Spelled>(
     Ok((values, rest))
 }
 
-/// The bytes after so many values. Takes no memory.
+/// The bytes after so many values.
 ///
 /// # Errors
 ///
@@ -64,7 +64,7 @@ pub fn push_list<V: Spelled>(form: Form, out: &mut Vec<u8>, values: &[V]) -> Res
     Ok(())
 }
 
-/// How many bytes the values spell. Takes no memory.
+/// How many bytes the values spell.
 pub fn list_len<V: Spelled>(form: Form, values: &[V]) -> usize
     requires within { All V.Within values.now }
     requires few { V.longest * length values.now < 2 ^ 64 }

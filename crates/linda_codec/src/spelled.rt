@@ -34,7 +34,7 @@ pub trait Spelled: Drop {
         ensures value { Gives (λ x. (x.0, x.1.now)) result ((format form).read bytes.now) }
         ensures memory { IsErrOf result ReadFault.Memory → IsOk ((format form).read bytes.now) };
 
-    /// The bytes after the value at the front. Takes no memory.
+    /// The bytes after the value at the front.
     ///
     /// # Errors
     ///
@@ -52,7 +52,7 @@ pub trait Spelled: Drop {
         ensures ok { OnOk result (out.new.items ≡ out.old.items ++ (format form).spell self.now) }
         ensures front { take (length out.old.items) out.new.items ≡ out.old.items };
 
-    /// How many bytes the value spells, whether it fits in the form or not. Takes no memory.
+    /// How many bytes the value spells, whether it fits in the form or not.
     fn len(&self, form: Form) -> usize
         requires { Within self.now }
         ensures exact { result ≡ length ((format form).spell self.now) }

@@ -16,7 +16,7 @@ pub struct Asked {
 }
 
 impl Asked {
-    /// The value that the template begins with, if it begins with one. Takes no memory.
+    /// The value that the template begins with, if it begins with one.
     pub(crate) fn first(&self) -> Option<&Atom>
         ensures { option_copied result ≡ first_of self.now }
     {
@@ -29,14 +29,14 @@ impl Asked {
         }
     }
 
-    /// Whether this is a read that the tuple answers. Takes no memory.
+    /// Whether this is a read that the tuple answers.
     pub(crate) fn is_read_of(&self, tuple: &Tuple) -> bool
         ensures { result ≡ (not self.now.remove && is_match self.now.template tuple.now) }
     {
         !self.remove && matches(&self.template, tuple)
     }
 
-    /// Whether this is an input that the tuple answers. Takes no memory.
+    /// Whether this is an input that the tuple answers.
     pub(crate) fn is_input_of(&self, tuple: &Tuple) -> bool
         ensures { result ≡ (self.now.remove && is_match self.now.template tuple.now) }
     {

@@ -22,7 +22,7 @@ pub struct Awaiting {
     pub longest: Option<Request>,
 }
 
-/// The first input under these numbers that the tuple answers. Takes no memory.
+/// The first input under these numbers that the tuple answers.
 pub(crate) fn first_input(
     by_arrival: &BTreeMap<u64, Wait>,
     mut numbers: Arrivals<'_>,
@@ -41,7 +41,7 @@ pub(crate) fn first_input(
     None
 }
 
-/// Whether the tuple answers some request under these numbers. Takes no memory.
+/// Whether the tuple answers some request under these numbers.
 pub(crate) fn is_answering_one(
     by_arrival: &BTreeMap<u64, Wait>,
     mut numbers: Arrivals<'_>,

@@ -26,7 +26,7 @@ pub(crate) struct Group {
 
 impl Group {
     /// The numbers of the requests that a tuple with this first field may answer: of those whose template
-    /// begins with that value, and of those whose template begins with none. Takes no memory.
+    /// begins with that value, and of those whose template begins with none.
     pub(crate) fn arrivals(&self, first: Option<&Atom>) -> Arrivals<'_>
         ensures ordered { IsStrictlySortedBy nat_cmp result }
         ensures has { (asked : Rows asks.Asked) → HasGroup self.now asked → (q : ℕ)

@@ -45,7 +45,7 @@ impl Headed for Asked {
 }
 
 /// The numbers of the requests that the tuple may answer, in order of arrival: those that ask for its tag and
-/// its number of fields, and for its first field or for no value there. Takes no memory.
+/// its number of fields, and for its first field or for no value there.
 pub(crate) fn arrivals<'a>(heads: &'a Heads, tuple: &Tuple) -> Arrivals<'a>
     ensures ordered { IsStrictlySortedBy nat_cmp result }
     ensures has { (asked : Rows asks.Asked) → HasAsked heads.now asked → (q : ℕ)

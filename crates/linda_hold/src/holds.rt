@@ -63,7 +63,7 @@ impl Holds {
         }
     }
 
-    /// The request that the tuple is held for. Takes no memory.
+    /// The request that the tuple is held for.
     pub fn get(&self, id: u64) -> Option<Request>
         ensures value { result ≡ map.get self.now id }
         ensures one_each { IsOneEach self.now }
@@ -71,7 +71,7 @@ impl Holds {
         self.by_id.get(&id).copied()
     }
 
-    /// The id of the tuple that is held for the request. Takes no memory.
+    /// The id of the tuple that is held for the request.
     pub fn find(&self, request: Request) -> Option<u64>
         ensures value { IsHeldAt self.now request result }
         ensures one_each { IsOneEach self.now }
@@ -79,7 +79,7 @@ impl Holds {
         self.names.number_of(request)
     }
 
-    /// How many tuples are held. Takes no memory.
+    /// How many tuples are held.
     pub fn len(&self) -> usize
         ensures { result ≡ map.len self.now }
     {
@@ -147,7 +147,7 @@ impl Holds {
         }
     }
 
-    /// Lets the tuple be held for nobody; where it is not held, nothing changes. Takes no memory.
+    /// Lets the tuple be held for nobody; where it is not held, nothing changes.
     pub fn remove(&mut self, id: u64)
         ensures { self.new ≡ map.remove self.old id }
     {

@@ -51,7 +51,7 @@ impl Index {
         }
     }
 
-    /// Takes the number from the wait, which has it. Takes no memory.
+    /// Takes the number from the wait, which has it.
     pub(crate) fn remove(&mut self, number: u64, wait: &Wait)
         ensures { Refiles (HasWaits self.old) (HasWaits self.new) number (Some wait.now) None }
     {

@@ -6,6 +6,8 @@
 //! not yet accepted. Neither is kept on disk. Contracts see the waits as the list in order of
 //! arrival, and the holds as a finite map from ids to requests; the words for both are in
 //! `specs/Waits` and `specs/Holds`.
+//!
+//! A call that may take memory has a fault for that; no other call takes any.
 #![tactic(auto)]
 
 mod arrivals;

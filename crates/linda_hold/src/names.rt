@@ -30,7 +30,7 @@ impl Names {
         }
     }
 
-    /// The number of the request. Takes no memory.
+    /// The number of the request.
     pub(crate) fn number_of(&self, request: Request) -> Option<u64>
         ensures { result ≡ number_at self.now.by_client request }
     {
@@ -50,7 +50,7 @@ impl Names {
         }
     }
 
-    /// The least ticket of the client's requests; nothing where it has none. Takes no memory.
+    /// The least ticket of the client's requests; nothing where it has none.
     pub(crate) fn first_ticket(&self, client: u32) -> Option<u64>
         ensures some { IfSome result (λ ticket. IsSome (number_at self.now.by_client (request_of client ticket))) }
         ensures none { IfNone result ((ticket : ℕ)
@@ -106,7 +106,7 @@ impl Names {
         Ok(())
     }
 
-    /// Takes the number from the request; where it has none, nothing changes. Takes no memory.
+    /// Takes the number from the request; where it has none, nothing changes.
     pub(crate) fn remove(&mut self, request: Request)
         ensures gone { Sets (number_at self.old.by_client) (number_at self.new.by_client) request None }
         ensures used { AreUsed self.old.by_client → AreUsed self.new.by_client }

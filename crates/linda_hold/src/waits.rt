@@ -72,7 +72,7 @@ impl Waits {
         self.by_arrival.len()
     }
 
-    /// Whether the request waits. Takes no memory.
+    /// Whether the request waits.
     pub fn contains(&self, request: Request) -> bool
         ensures { result ≡ is_waiting request self.now }
     {

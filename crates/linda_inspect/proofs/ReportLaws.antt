@@ -1,6 +1,6 @@
 -- What is reported of the banks of two files is what is reported of two disks that hold them.
 use Rattle.std.proofs.Common.{◌≡◌, ◌⊎◌, ◌∙◌, ℕ, List, ap, subst, inl, inr}
-use Rattle.linda_state.specs.State.{State}
+use Rattle.linda_store_state.specs.State.{State}
 use Rattle.linda_disk.specs.History.{History, view_of}
 use Rattle.linda_snap.specs.Stands.{Stands}
 use Rattle.linda_snap.specs.declared.choice.ChoiceFault.{ChoiceFault}

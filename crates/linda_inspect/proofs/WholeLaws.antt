@@ -1,7 +1,7 @@
 -- A bank that stands beside an empty disk.
 use Rattle.std.proofs.Common.{◌≡◌, ◌∙◌, ℕ, Bool, true, false, List, [], ◌∷◌, sym, subst}
 use Rattle.linda_tuple.specs.declared.form.Form.{Form}
-use Rattle.linda_state.specs.State.{State}
+use Rattle.linda_store_state.specs.State.{State}
 use Rattle.linda_disk.specs.View.{View}
 use Rattle.linda_journal.specs.Bank.{IsBank}
 use Rattle.linda_snap.specs.Snapshot.{spell_state}

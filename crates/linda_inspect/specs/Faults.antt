@@ -1,6 +1,6 @@
 -- What is reported of two banks that no server opens.
 use Rattle.std.specs.Prelude.{◌≡◌, ◌⊎◌, ℕ, List}
-use Rattle.linda_state.specs.State.{State}
+use Rattle.linda_store_state.specs.State.{State}
 use Rattle.linda_disk.specs.declared.fault.DiskFault.{DiskFault}
 use Rattle.linda_disk.specs.declared.fault.DiskFault.TheVariants as disks
 use Rattle.linda_snap.specs.declared.choice.ChoiceFault.{ChoiceFault}

@@ -4,7 +4,7 @@ use crate::fault::OutputFault;
 use crate::output::write_lines;
 use linda_bag::Bag;
 use linda_book::{Book, KeptReply};
-use linda_state::State;
+use linda_store_state::State;
 use linda_text::write_tuple;
 use std::alloc::{AllocError, Global};
 use std::io::Write;

@@ -1,7 +1,7 @@
 //! What two banks come to, line by line.
 
 ghost use Rattle.std.specs.Prelude.{◌≡◌, ◌⊎◌, [], IfErr, OnOk};
-ghost use Rattle.linda_state.specs.State.{State};
+ghost use Rattle.linda_store_state.specs.State.{State};
 ghost use Rattle.linda_snap.specs.Stands.{Stands};
 ghost use Rattle.linda_inspect.specs.Faults.{IsFaultOf, IsOfOutput, MayStand};
 

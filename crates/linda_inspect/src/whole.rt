@@ -2,18 +2,15 @@
 
 ghost use Rattle.std.specs.Prelude.{◌≡◌, ◌∷◌, ◌++◌, [], IfOk, IfSome};
 ghost use Rattle.linda_snap.specs.Stands.{StandsOn};
-ghost use Rattle.linda_inspect.specs.declared.whole.TheConstants.{CLOSED};
+ghost use Rattle.linda_journal.specs.declared.kinds.TheConstants.{CLOSED};
 ghost use Rattle.linda_inspect.specs.Whole.{IsOnFront};
 
 use crate::fault::OutputFault;
 use linda_bag::IndexBag;
 use linda_disk::MemDisk;
-use linda_journal::MIN_BYTES;
+use linda_journal::{CLOSED, MIN_BYTES};
 use linda_snap::{ChoiceFault, Chosen, choose_bank};
 use std::alloc::{AllocError, Global};
-
-// The byte of a gate that is closed.
-const CLOSED: u8 = 0;
 
 // How often a prefix is cut off: at a record that is badly spelled, and then at one with a deed that is not allowed.
 const CUTS: usize = 2;

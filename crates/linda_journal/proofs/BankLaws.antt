@@ -5,7 +5,7 @@ use Rattle.std.proofs.lemmas.Grind.{flat_map-append}
 use Rattle.std.proofs.lemmas.List.{append-nil}
 use Rattle.std.proofs.lemmas.List.Elements.{All-nil}
 use Rattle.linda_tuple.specs.declared.form.Form.{Form}
-use Rattle.linda_state.specs.declared.deed.Deed.{Deed}
+use Rattle.linda_store_state.specs.declared.deed.Deed.{Deed}
 use Rattle.linda_disk.specs.declared.fault.DiskFault.{DiskFault}
 use Rattle.linda_disk.specs.View.{View, IsTimed}
 use Rattle.linda_disk.specs.Disk.{Syncs}

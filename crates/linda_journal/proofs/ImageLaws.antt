@@ -7,7 +7,7 @@ use Rattle.linda_codec.proofs.FormatLaws.{short_number_is, number_is}
 use Rattle.linda_codec.proofs.TakeLaws.{IsBytes-drop}
 use Rattle.linda_tuple.specs.declared.form.Form.{Form}
 use Rattle.linda_tuple.specs.declared.form.Form.TheVariants.{One, Two}
-use Rattle.linda_state.specs.declared.deed.Deed.{Deed}
+use Rattle.linda_store_state.specs.declared.deed.Deed.{Deed}
 use Rattle.linda_journal.specs.declared.kinds.TheConstants.{OPEN}
 use Rattle.linda_journal.specs.declared.limits.TheConstants.{LENGTH_PLACE, MIN_BYTES}
 use Rattle.linda_journal.specs.declared.heading.Heading.TheVariants as headings

@@ -10,11 +10,11 @@ use Rattle.linda_codec.proofs.SkipLaws.{is_fault}
 use Rattle.linda_codec.proofs.TakeLaws.{IsBytes-drop}
 use Rattle.linda_codec.proofs.ManyLaws.{many_again}
 use Rattle.linda_tuple.specs.declared.form.Form.{Form}
-use Rattle.linda_state.specs.declared.deed.Deed.{Deed}
+use Rattle.linda_store_state.specs.declared.deed.Deed.{Deed}
 use Rattle.linda_journal.specs.declared.limits.TheConstants.{MAX_DEEDS}
 use Rattle.linda_journal.specs.Records.{deed, spell_deed, FitsDeed, payload, IsRecord, IsPayloadOf, IsNoPayload}
 use Rattle.linda_journal.proofs.ApartLaws.{IsApart, format_apart, first_ones}
-use Rattle.linda_state.proofs.DeedFormatLaws.{deed_is, deed_some}
+use Rattle.linda_store_state.proofs.DeedFormatLaws.{deed_is, deed_some}
 
 pub deeds_apart : (form : Form) → IsApart (spell_deed form) (FitsDeed form)
 deeds_apart form = format_apart (deed_is form)

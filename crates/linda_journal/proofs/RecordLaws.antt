@@ -8,12 +8,12 @@ use Rattle.linda_codec.specs.declared.fault.ReadFault.{ReadFault}
 use Rattle.linda_codec.proofs.FormatLaws.{short_number_is}
 use Rattle.linda_codec.proofs.TakeLaws.{ok_is}
 use Rattle.linda_tuple.specs.declared.form.Form.{Form}
-use Rattle.linda_state.specs.declared.deed.Deed.{Deed}
+use Rattle.linda_store_state.specs.declared.deed.Deed.{Deed}
 use Rattle.linda_journal.specs.declared.kinds.TheConstants.{OPEN}
 use Rattle.linda_journal.specs.Records.{spell_deed, FitsDeed, payload, IsRecord, record_body, spell_record, spell_records, IsNoPayload}
 use Rattle.linda_journal.specs.Journal.{IsJournal, IsNoRecord, IsDamaged}
 use Rattle.linda_journal.proofs.ApartLaws.{IsApart, one_list, Ends, one_reading}
-use Rattle.linda_state.proofs.DeedFormatLaws.{deed_some}
+use Rattle.linda_store_state.proofs.DeedFormatLaws.{deed_some}
 use Rattle.linda_journal.proofs.SizeLaws.{payload_short}
 use Rattle.linda_journal.proofs.PayloadLaws.{deeds_apart}
 

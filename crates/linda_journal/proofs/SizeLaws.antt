@@ -3,9 +3,9 @@ use Rattle.std.proofs.Common.{◌*◌, ◌^◌, ◌<◌, ◌≤◌, List, [], �
 use Rattle.std.specs.List.{AllByRecursion}
 use Rattle.std.proofs.lemmas.List.Elements.{recursion_from_All}
 use Rattle.linda_tuple.specs.declared.form.Form.{Form}
-use Rattle.linda_state.specs.declared.deed.Deed.{Deed}
-use Rattle.linda_state.specs.declared.limits.TheConstants.{MAX_DEED_BYTES}
-use Rattle.linda_state.proofs.DeedFormatLaws.{deed_short}
+use Rattle.linda_store_state.specs.declared.deed.Deed.{Deed}
+use Rattle.linda_store_state.specs.declared.limits.TheConstants.{MAX_DEED_BYTES}
+use Rattle.linda_store_state.proofs.DeedFormatLaws.{deed_short}
 use Rattle.linda_journal.specs.Records.{spell_deed, FitsDeed, payload, IsRecord}
 
 deeds_short : (form : Form) (ds : List Deed) → AllByRecursion (FitsDeed form) ds → length (payload form ds) ≤ MAX_DEED_BYTES * length ds

@@ -1,7 +1,7 @@
 -- A journal as a list of bytes: the records that stand in it, or where it is damaged.
 use Rattle.std.specs.Prelude.{◌≡◌, ◌≢◌, ℕ, ◌+◌, List, [], ◌∷◌, ◌++◌, All, length, map}
 use Rattle.linda_tuple.specs.declared.form.Form.{Form}
-use Rattle.linda_state.specs.declared.deed.Deed.{Deed}
+use Rattle.linda_store_state.specs.declared.deed.Deed.{Deed}
 use Rattle.linda_journal.specs.declared.kinds.TheConstants.{OPEN}
 use Rattle.linda_journal.specs.declared.record.Record.{Record}
 use Rattle.linda_journal.specs.declared.journal.JournalFault.{JournalFault}

@@ -6,3 +6,4 @@ pub mod Faults
 pub mod Heading
 pub mod Image
 pub mod Renewal
+pub mod Calls

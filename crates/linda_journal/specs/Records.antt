@@ -3,8 +3,8 @@ use Rattle.std.specs.Prelude.{◌≡◌, ℕ, ◌≤◌, List, ◌∷◌, ◌++�
 use Rattle.std.specs.List.{flat_map}
 use Rattle.linda_codec.specs.Formats.{short_number}
 use Rattle.linda_tuple.specs.declared.form.Form.{Form}
-use Rattle.linda_state.specs.declared.deed.Deed.{Deed}
-pub use Rattle.linda_state.specs.DeedFormat.{deed, spell_deed, FitsDeed, SuitsForm, IsUnspelled, payload}
+use Rattle.linda_store_state.specs.declared.deed.Deed.{Deed}
+pub use Rattle.linda_store_state.specs.DeedFormat.{deed, spell_deed, FitsDeed, SuitsForm, IsUnspelled, payload}
 use Rattle.linda_journal.specs.declared.kinds.TheConstants as kind
 use Rattle.linda_journal.specs.declared.limits.TheConstants.{MAX_DEEDS}
 

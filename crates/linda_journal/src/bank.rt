@@ -1,20 +1,14 @@
 //! A bank: what a server keeps on one disk, a body and then a journal. Its first letters tell the form in which it
 //! spells values: one that is made is in `BANK_FORM`, one that is opened stays in its own.
 
-ghost use Rattle.std.specs.Prelude.{◌≡◌, ◌≢◌, ◌<◌, ◌≤◌, ◌+◌, ◌^◌, ◌++◌, ◌∷◌, [], ◌↔◌, ◌⊎◌, ℕ};
-ghost use Rattle.std.specs.Prelude.{List, All, length, IfOk, IfErr, OnOk, IsErrOf, true, false};
-ghost use Rattle.linda_tuple.specs.declared.form.Form as forms;
-ghost use Rattle.linda_state.specs.declared.deed.Deed as deed;
-ghost use Rattle.linda_state.specs.DeedFormat.{written};
+ghost use Rattle.std.specs.Prelude.{◌≡◌, ◌<◌, ◌≤◌, ◌+◌, ◌^◌, [], ◌↔◌, ℕ, List, length, IfOk, IfErr};
+ghost use Rattle.std.specs.Prelude.{true, false};
+ghost use Rattle.linda_store_state.specs.DeedFormat.{written};
 ghost use Rattle.linda_disk.specs.View.{IsDurable};
 ghost use Rattle.linda_disk.specs.Disk.{TellsFailures};
 ghost use Rattle.linda_disk.specs.Run.{LeavesOnly};
-ghost use Rattle.linda_journal.specs.declared.limits.TheConstants.{MAX_DEEDS};
-ghost use Rattle.linda_journal.specs.Records.{spell_record, SuitsForm, IsUnspelled};
-ghost use Rattle.linda_journal.specs.declared.limits.TheConstants.{MIN_BYTES};
-ghost use Rattle.linda_journal.specs.Journal.{AreAt, deeds_of};
-ghost use Rattle.linda_journal.specs.Image.{IsFaultOfBank};
-ghost use Rattle.linda_journal.specs.Bank.{IsBank, IsSettled, IsOldOrMore, IsNoneOrNew};
+ghost use Rattle.linda_journal.specs.declared.limits.TheConstants.{MAX_DEEDS, MIN_BYTES};
+ghost use Rattle.linda_journal.specs.Bank.{IsSettled, IsNoneOrNew};
 ghost use Rattle.linda_journal.specs.Renewal.{IsWhole};
 
 use crate::fault::BankFault;
@@ -27,7 +21,7 @@ use crate::record::{Record, spell_body};
 use crate::size::record_len;
 use crate::whole::Whole;
 use linda_disk::{Disk, DiskFault, MemDisk};
-use linda_state::{BANK_FORM, Deed};
+use linda_store_state::{BANK_FORM, Deed};
 use linda_tuple::Form;
 use std::alloc::Global;
 
@@ -46,6 +40,8 @@ pub struct Bank<D: Disk> {
 }
 
 impl<D: Disk> Bank<D> {
+    ghost use Rattle.linda_journal.specs.Calls.{Opens, Appends};
+
     /// The form in which the bank spells values, which its first letters tell.
     pub fn form(&self) -> Form
         ensures { result ≡ self.now.form }
@@ -172,34 +168,7 @@ impl<D: Disk> Bank<D> {
         disk: D,
         limit: usize,
     ) -> Result<(Bank<D>, Vec<u8>, Vec<Record>), (BankFault, D)>
-        // What is opened is what the disk read at entry, all of it synced.
-        ensures found { D.honest disk → IfOk result (λ o. IsSettled o.0.form o.0.generation o.1.items
-            (deeds_of o.2.items) o.0.end (D.view o.0.disk)) }
-        ensures seen { D.honest disk
-            → IfOk result (λ o. (D.view o.0.disk).seen ≡ (D.view disk).seen) }
-        ensures gates { IfOk result (λ o. AreAt o.0.form (MIN_BYTES + length o.1.items) o.2.items) }
-        ensures new { IfOk result (λ o. (o.0.records ≡ length o.2.items) × (o.0.limit ≡ limit)
-            × (o.0.is_spent ≡ false)) }
-        // A fault is one of those bytes.
-        ensures fault { D.honest disk → IfErr result (λ e. e.0 ≢ BankFault.Disk
-            → IsFaultOfBank (D.view disk).seen e.0) }
-        // At no moment a crash leaves what it could not leave at entry.
-        ensures any_moment { D.honest disk
-            → IfOk result (λ o. LeavesOnly (D.view disk) (D.view o.0.disk) (D.view disk).may_leave)
-            × IfErr result (λ e. LeavesOnly (D.view disk) (D.view e.1) (D.view disk).may_leave) }
-        ensures honest { IfOk result (λ o. D.honest disk ↔ D.honest o.0.disk)
-            × IfErr result (λ e. D.honest disk ↔ D.honest e.1) }
-        // A bank that stands there is opened, or the device failed, or memory ran out.
-        ensures only { (form : forms.Form) (generation : ℕ) (body : List ℕ) (records : List (List deed.Deed))
-            → D.honest disk → IsBank form (D.view disk).seen generation body records
-            → IfOk result (λ o. (o.0.form ≡ form) × (o.0.generation ≡ generation) × (o.1.items ≡ body)
-            × (deeds_of o.2.items ≡ records))
-            × IfErr result (λ e. (e.0 ≡ BankFault.Disk) ⊎ (e.0 ≡ BankFault.Memory)) }
-        ensures cause { IfErr result (λ e. TellsFailures BankFault.Disk e.0
-            (D.failures disk) (D.failures e.1)) }
-        ensures steady { IfOk result (λ o. D.failures o.0.disk ≡ D.failures disk) }
-        ensures clock { D.honest disk
-            → IfOk result (λ o. (D.view o.0.disk).moment ≡ (D.view disk).moment + 1) }
+        ensures { Opens disk limit ((D.view disk).moment + 1) result }
     {
         let mut disk = disk;
         match disk.sync() {
@@ -220,34 +189,7 @@ impl<D: Disk> Bank<D> {
         limit: usize,
     ) -> Result<(Bank<D>, Vec<u8>, Vec<Record>), (BankFault, D)>
         requires { D.honest disk → IsDurable (D.view disk) }
-        // What is opened is what the disk read at entry, all of it synced.
-        ensures found { D.honest disk → IfOk result (λ o. IsSettled o.0.form o.0.generation o.1.items
-            (deeds_of o.2.items) o.0.end (D.view o.0.disk)) }
-        ensures seen { D.honest disk
-            → IfOk result (λ o. (D.view o.0.disk).seen ≡ (D.view disk).seen) }
-        ensures gates { IfOk result (λ o. AreAt o.0.form (MIN_BYTES + length o.1.items) o.2.items) }
-        ensures new { IfOk result (λ o. (o.0.records ≡ length o.2.items) × (o.0.limit ≡ limit)
-            × (o.0.is_spent ≡ false)) }
-        // A fault is one of those bytes.
-        ensures fault { D.honest disk → IfErr result (λ e. e.0 ≢ BankFault.Disk
-            → IsFaultOfBank (D.view disk).seen e.0) }
-        // At no moment a crash leaves what it could not leave at entry.
-        ensures any_moment { D.honest disk
-            → IfOk result (λ o. LeavesOnly (D.view disk) (D.view o.0.disk) (D.view disk).may_leave)
-            × IfErr result (λ e. LeavesOnly (D.view disk) (D.view e.1) (D.view disk).may_leave) }
-        ensures honest { IfOk result (λ o. D.honest disk ↔ D.honest o.0.disk)
-            × IfErr result (λ e. D.honest disk ↔ D.honest e.1) }
-        // A bank that stands there is opened, or the device failed, or memory ran out.
-        ensures only { (form : forms.Form) (generation : ℕ) (body : List ℕ) (records : List (List deed.Deed))
-            → D.honest disk → IsBank form (D.view disk).seen generation body records
-            → IfOk result (λ o. (o.0.form ≡ form) × (o.0.generation ≡ generation) × (o.1.items ≡ body)
-            × (deeds_of o.2.items ≡ records))
-            × IfErr result (λ e. (e.0 ≡ BankFault.Disk) ⊎ (e.0 ≡ BankFault.Memory)) }
-        ensures cause { IfErr result (λ e. TellsFailures BankFault.Disk e.0
-            (D.failures disk) (D.failures e.1)) }
-        ensures steady { IfOk result (λ o. D.failures o.0.disk ≡ D.failures disk) }
-        ensures clock { D.honest disk
-            → IfOk result (λ o. (D.view o.0.disk).moment ≡ (D.view disk).moment) }
+        ensures { Opens disk limit (D.view disk).moment result }
     {
         let mut disk = disk;
         match load(alloc, &mut disk) {
@@ -279,48 +221,7 @@ impl<D: Disk> Bank<D> {
     pub fn append(&mut self, alloc: Global, deeds: &[Deed]) -> Result<(), BankFault>
         requires some { 1 ≤ length deeds.now }
         requires few { length deeds.now ≤ MAX_DEEDS }
-        // At no moment a crash leaves anything but the old records, or these and the new one;
-        ensures any_moment { (body : List ℕ) (records : List (List deed.Deed))
-            → D.honest self.old.disk
-            → IsSettled self.old.form self.old.generation body records self.old.end (D.view self.old.disk)
-            → LeavesOnly (D.view self.old.disk) (D.view self.new.disk)
-            (IsOldOrMore self.old.form self.old.generation body records deeds.now) }
-        // at Ok it leaves the new one.
-        ensures done { (body : List ℕ) (records : List (List deed.Deed))
-            → D.honest self.old.disk
-            → IsSettled self.old.form self.old.generation body records self.old.end (D.view self.old.disk)
-            → OnOk result (IsSettled self.new.form self.new.generation body (records ++ deeds.now ∷ [])
-            self.new.end (D.view self.new.disk)) }
-        ensures place { OnOk result
-            (self.new.end ≡ self.old.end + length (spell_record self.old.form deeds.now)) }
-        ensures count { OnOk result (self.new.records ≡ self.old.records + 1) }
-        ensures ready { OnOk result (self.new.is_spent ≡ false) }
-        // It is Full exactly where one of the deeds has no spelling in the bank's form, or the closed gate after the
-        // new record would pass the limit; nothing changed then.
-        ensures fits { OnOk result (All (SuitsForm self.old.form) deeds.now) }
-        ensures room { OnOk result (self.new.end < self.new.limit) }
-        ensures full { IsErrOf result BankFault.Full ↔ (self.old.is_spent ≡ false)
-            × (IsUnspelled self.old.form deeds.now
-            ⊎ (self.old.limit ≤ self.old.end + length (spell_record self.old.form deeds.now))) }
-        ensures unfilled { IsErrOf result BankFault.Full → self.new ≡ self.old }
-        ensures spent { IsErrOf result BankFault.Spent ↔ (self.old.is_spent ≡ true) }
-        ensures unspent { self.old.is_spent ≡ true → self.new ≡ self.old }
-        // The count of failures rises where the device is reported to have failed, and there alone.
-        ensures cause { IfErr result (λ fault. TellsFailures BankFault.Disk fault
-            (D.failures self.old.disk) (D.failures self.new.disk)) }
-        ensures steady { OnOk result (D.failures self.new.disk ≡ D.failures self.old.disk) }
-        // It is four device calls that change or sync the disk.
-        ensures clock { D.honest self.old.disk → OnOk result
-            ((D.view self.new.disk).moment ≡ (D.view self.old.disk).moment + 4) }
-        ensures off { IsErrOf result BankFault.Disk → self.new.is_spent ≡ true }
-        // Want of memory before the first device call changes nothing; after it the bank is spent.
-        ensures memory { IsErrOf result BankFault.Memory
-            → (self.new ≡ self.old) ⊎ (self.new.is_spent ≡ true) }
-        ensures known { (IsErrOf result BankFault.NoBank → ⊥)
-            × ((offset : ℕ) → IsErrOf result (BankFault.Damaged offset) → ⊥) }
-        ensures same { (self.new.form ≡ self.old.form) × (self.new.generation ≡ self.old.generation)
-            × (self.new.limit ≡ self.old.limit) }
-        ensures honest { D.honest self.old.disk ↔ D.honest self.new.disk }
+        ensures { Appends self.old deeds.now result self.new }
     {
         if self.is_spent {
             return Err(BankFault::Spent);

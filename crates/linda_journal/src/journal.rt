@@ -2,7 +2,7 @@
 
 ghost use Rattle.std.specs.Prelude.{◌≡◌, ◌≢◌, ◌∷◌, ◌<◌, ◌+◌, ℕ, List, length, drop, IfOk, IfErr};
 ghost use Rattle.std.specs.Prelude.{IfSome, IfNone};
-ghost use Rattle.linda_state.specs.declared.deed.Deed as deed;
+ghost use Rattle.linda_store_state.specs.declared.deed.Deed as deed;
 ghost use Rattle.linda_journal.specs.declared.kinds.TheConstants.{OPEN};
 ghost use Rattle.linda_journal.specs.declared.journal.JournalFault.TheVariants.{Memory};
 ghost use Rattle.linda_journal.specs.Records.{spell_records};

@@ -1,4 +1,6 @@
 //! The journal of a server: deeds as bytes, and back, so that any torn end is detected.
+//!
+//! A call that may take memory has a fault for that; no other call takes any.
 #![tactic(auto)]
 
 mod bank;
@@ -24,7 +26,7 @@ pub use gate::lay_gate;
 pub use heading::{Heading, read_heading};
 pub use journal::{Journal, JournalFault, read_journal};
 pub use kinds::CLOSED;
-pub use limits::{MAX_DEEDS, MIN_BYTES, PIECE};
+pub use limits::{GATE_BYTES, LENGTH_PLACE, MAX_DEEDS, MIN_BYTES, PIECE, RECORD_HEAD};
 pub use making::{spell_front, spell_heading};
 pub use record::Record;
 pub use whole::{Whole, fill};

@@ -3,7 +3,7 @@
 ghost use Rattle.std.specs.Prelude.{◌≡◌, ◌<◌, ◌≤◌, ◌+◌, ◌^◌, ◌++◌, ◌∷◌, [], ◌↔◌, ℕ, List, length};
 ghost use Rattle.std.specs.Prelude.{IfOk, IfErr, OnOk, IsErrOf};
 ghost use Rattle.linda_codec.specs.Formats.{number, short_number};
-ghost use Rattle.linda_state.specs.DeedFormat.{written};
+ghost use Rattle.linda_store_state.specs.DeedFormat.{written};
 ghost use Rattle.linda_disk.specs.View.{IsDurable};
 ghost use Rattle.linda_disk.specs.Disk.{TellsFailures};
 ghost use Rattle.linda_disk.specs.Run.{LeavesOnly};
@@ -17,7 +17,7 @@ use crate::kinds::CLOSED;
 use crate::limits::MIN_BYTES;
 use crate::record::as_length;
 use linda_disk::Disk;
-use linda_state::BANK_FORM;
+use linda_store_state::BANK_FORM;
 use linda_tuple::Form;
 use std::alloc::{AllocError, Global};
 

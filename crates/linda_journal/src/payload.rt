@@ -2,14 +2,14 @@
 
 ghost use Rattle.std.specs.Prelude.{◌≡◌, ◌≤◌, ◌↔◌, ℕ, List, All, length, IfOk, IfSome, IfNone};
 ghost use Rattle.std.specs.Prelude.{OnErr, IsTrue};
-ghost use Rattle.linda_state.specs.declared.deed.Deed as deed;
+ghost use Rattle.linda_store_state.specs.declared.deed.Deed as deed;
 ghost use Rattle.linda_journal.specs.declared.limits.TheConstants.{MAX_DEEDS};
 ghost use Rattle.linda_journal.specs.Records as format;
 ghost use Rattle.linda_journal.specs.Records.{IsRecord, IsPayloadOf, IsNoPayload};
 
 use crate::limits::MAX_DEEDS;
 use linda_codec::{Spelled, read_list};
-use linda_state::Deed;
+use linda_store_state::Deed;
 use linda_tuple::Form;
 use std::alloc::{AllocError, Global};
 
@@ -31,7 +31,7 @@ pub(crate) fn read_payload(
     }
 }
 
-// How many deeds all of the payload spells; None where it spells no record's. Takes no memory.
+// How many deeds all of the payload spells; None where it spells no record's.
 fn count_deeds(form: Form, payload: &[u8]) -> Option<usize>
     ensures some { IfSome result (IsPayloadOf form payload.now) }
     ensures none { IfNone result (IsNoPayload form payload.now) }
@@ -70,7 +70,7 @@ fn read_deeds(
     }
 }
 
-/// Whether each deed has a spelling in the form, as `Deed::fits` says. Takes no memory.
+/// Whether each deed has a spelling in the form, as `Deed::fits` says.
 pub(crate) fn deeds_fit(form: Form, deeds: &[Deed]) -> bool
     ensures exact { IsTrue result ↔ All (format.SuitsForm form) deeds.now }
     ensures spelled { IsTrue result → All (format.FitsDeed form) deeds.now }

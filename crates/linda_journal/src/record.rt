@@ -2,17 +2,17 @@
 
 ghost use Rattle.std.specs.Prelude.{◌≡◌, ◌∷◌, [], ◌++◌, ◌<◌, ◌≤◌, ◌^◌, ℕ, List, All, length, IfOk};
 ghost use Rattle.std.specs.Prelude.{IfSome, IfNone, OnOk};
-ghost use Rattle.linda_state.specs.declared.deed.Deed as deed;
+ghost use Rattle.linda_store_state.specs.declared.deed.Deed as deed;
 ghost use Rattle.linda_journal.specs.declared.kinds.TheConstants.{CLOSED};
 ghost use Rattle.linda_journal.specs.declared.limits.TheConstants.{MAX_DEEDS};
 ghost use Rattle.linda_journal.specs.Records.{FitsDeed, IsRecord, record_body, spell_record};
 ghost use Rattle.linda_journal.specs.Journal.{IsNoRecord};
 
 use crate::kinds::CLOSED;
+use crate::limits::RECORD_HEAD;
 use crate::payload::read_payload;
-use crate::size::RECORD_HEAD;
 use linda_codec::{push_list, read_u32};
-use linda_state::Deed;
+use linda_store_state::Deed;
 use linda_tuple::Form;
 use std::alloc::{AllocError, Global};
 

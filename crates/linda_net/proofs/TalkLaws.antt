@@ -4,7 +4,7 @@ use Rattle.std.specs.List.{AllByRecursion}
 use Rattle.std.proofs.lemmas.List.Elements.{All-from_recursion}
 use Rattle.linda_wire.specs.declared.message.Message.{Message}
 use Rattle.linda_wire.specs.declared.message.Message.TheVariants as messages
-use Rattle.linda_mail.specs.Seat.{IsRequest}
+use Rattle.linda_shared_queue.specs.Seat.{IsRequest}
 use Rattle.linda_net.specs.Talk.{requests}
 
 requests_by : (ms : List Message) → AllByRecursion IsRequest (take (requests ms) ms)

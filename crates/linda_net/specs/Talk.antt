@@ -11,9 +11,9 @@ use Rattle.linda_store.specs.declared.end.End.{End}
 use Rattle.linda_store.specs.declared.end.End.TheVariants as ends
 use Rattle.linda_store.specs.declared.end.ConverseFault.{ConverseFault}
 use Rattle.linda_store.specs.declared.end.ConverseFault.TheVariants as faults
-use Rattle.linda_receipt.specs.declared.fault.SharedFault.{SharedFault}
-use Rattle.linda_receipt.specs.declared.fault.SharedFault.TheVariants as shared
-use Rattle.linda_receipt.specs.Account.{Account}
+use Rattle.linda_shared_accounts.specs.declared.fault.SharedFault.{SharedFault}
+use Rattle.linda_shared_accounts.specs.declared.fault.SharedFault.TheVariants as shared
+use Rattle.linda_shared_accounts.specs.Account.{Account}
 
 -- Whether it is a Hello.
 abbrev pub is_hello : Message → Bool

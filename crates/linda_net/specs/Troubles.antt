@@ -1,13 +1,13 @@
 -- What whoever watches is told: which troubles there are, which of them comes first, and what a snapshot came to.
 use Rattle.std.specs.Prelude.{ℕ, nat_lt, Bool, true, false, Option, Some, None, Result, Ok, Err}
-use Rattle.linda_receipt.specs.declared.fault.SharedFault.{SharedFault}
-use Rattle.linda_receipt.specs.declared.fault.SharedFault.TheVariants as faults
+use Rattle.linda_shared_accounts.specs.declared.fault.SharedFault.{SharedFault}
+use Rattle.linda_shared_accounts.specs.declared.fault.SharedFault.TheVariants as faults
 use Rattle.linda_net.specs.declared.marks.Tally.{Tally}
 use Rattle.linda_net.specs.declared.troubles.Troubles.{Troubles}
 use Rattle.linda_net.specs.declared.refusals.Why.{Why}
 use Rattle.linda_net.specs.declared.refusals.Why.TheVariants as whys
-use Rattle.linda_net.specs.declared.watching.Event.{Event}
-use Rattle.linda_net.specs.declared.watching.Event.TheVariants as events
+use Rattle.linda_net.specs.declared.watching.Notice.{Notice}
+use Rattle.linda_net.specs.declared.watching.Notice.TheVariants as notices
 
 -- no trouble
 abbrev pub no_trouble : Troubles
@@ -35,56 +35,56 @@ came_since now before down = record {
   malformed = nat_lt before.turned.malformed now.turned.malformed;
 }
 
--- the event where its trouble came and was not told, and else the other one
-abbrev pub event_or : Bool → Bool → Event → Option Event → Option Event
-event_or true false event other = Some event
-event_or true true event other = other
-event_or false told event other = other
+-- the notice where its trouble came and was not told, and else the other one
+abbrev pub notice_or : Bool → Bool → Notice → Option Notice → Option Notice
+notice_or true false notice other = Some notice
+notice_or true true notice other = other
+notice_or false told notice other = other
 
 -- the first of the troubles of clients that was not told
-abbrev pub first_turned : Troubles → Troubles → Option Event
+abbrev pub first_turned : Troubles → Troubles → Option Notice
 first_turned came told =
-    event_or came.busy told.busy (events.Turned whys.Busy)
-    (event_or came.clients told.clients (events.Turned whys.Clients)
-    (event_or came.greeting told.greeting (events.Turned whys.Greeting)
-    (event_or came.malformed told.malformed (events.Turned whys.Malformed) None)))
+    notice_or came.busy told.busy (notices.Turned whys.Busy)
+    (notice_or came.clients told.clients (notices.Turned whys.Clients)
+    (notice_or came.greeting told.greeting (notices.Turned whys.Greeting)
+    (notice_or came.malformed told.malformed (notices.Turned whys.Malformed) None)))
 
 -- the first of the troubles that was not told: those of the server come before those of clients
-abbrev pub first_untold : Troubles → Troubles → Option Event
+abbrev pub first_untold : Troubles → Troubles → Option Notice
 first_untold came told =
-    event_or came.full told.full events.Full
-    (event_or came.closed told.closed events.Closed
-    (event_or came.missed told.missed events.Missed
-    (event_or came.down told.down events.Down (first_turned came told))))
+    notice_or came.full told.full notices.Full
+    (notice_or came.closed told.closed notices.Closed
+    (notice_or came.missed told.missed notices.Missed
+    (notice_or came.down told.down notices.Down (first_turned came told))))
 
--- those that were told, once this event is told too
-abbrev pub with_told : Troubles → Event → Troubles
-with_told t events.Minute = t
-with_told t (events.Snapshot millis) = t
-with_told t (events.NoSnapshot millis) = t
-with_told t events.Full = record t { full = true }
-with_told t events.Closed = record t { closed = true }
-with_told t events.Missed = record t { missed = true }
-with_told t (events.Turned whys.Busy) = record t { busy = true }
-with_told t (events.Turned whys.Clients) = record t { clients = true }
-with_told t (events.Turned whys.Greeting) = record t { greeting = true }
-with_told t (events.Turned whys.Malformed) = record t { malformed = true }
-with_told t events.Unwatched = t
-with_told t events.NoThread = t
-with_told t events.Down = record t { down = true }
+-- those that were told, once this notice is told too
+abbrev pub with_told : Troubles → Notice → Troubles
+with_told t notices.Minute = t
+with_told t (notices.Snapshot millis) = t
+with_told t (notices.NoSnapshot millis) = t
+with_told t notices.Full = record t { full = true }
+with_told t notices.Closed = record t { closed = true }
+with_told t notices.Missed = record t { missed = true }
+with_told t (notices.Turned whys.Busy) = record t { busy = true }
+with_told t (notices.Turned whys.Clients) = record t { clients = true }
+with_told t (notices.Turned whys.Greeting) = record t { greeting = true }
+with_told t (notices.Turned whys.Malformed) = record t { malformed = true }
+with_told t notices.Unwatched = t
+with_told t notices.NoThread = t
+with_told t notices.Down = record t { down = true }
 
 -- those that were told, once what there is to tell is told
-abbrev pub with_first : Troubles → Option Event → Troubles
+abbrev pub with_first : Troubles → Option Notice → Troubles
 with_first t None = t
-with_first t (Some event) = with_told t event
+with_first t (Some notice) = with_told t notice
 
 -- What is told of a snapshot that took so many milliseconds: nothing where the server is down.
-abbrev pub event_of_snapshot : {A : Type 0} → Result A SharedFault → ℕ → Option Event
-event_of_snapshot (Ok done) millis = Some (events.Snapshot millis)
-event_of_snapshot (Err faults.Full) millis = Some (events.NoSnapshot millis)
-event_of_snapshot (Err faults.Down) millis = None
-event_of_snapshot (Err faults.SeatMissing) millis = None
-event_of_snapshot (Err (faults.Receipt client number)) millis = None
-event_of_snapshot (Err (faults.Stuck client)) millis = None
-event_of_snapshot (Err faults.NoThread) millis = None
-event_of_snapshot (Err faults.Memory) millis = None
+abbrev pub notice_of_snapshot : {A : Type 0} → Result A SharedFault → ℕ → Option Notice
+notice_of_snapshot (Ok done) millis = Some (notices.Snapshot millis)
+notice_of_snapshot (Err faults.Full) millis = Some (notices.NoSnapshot millis)
+notice_of_snapshot (Err faults.Down) millis = None
+notice_of_snapshot (Err faults.SeatMissing) millis = None
+notice_of_snapshot (Err (faults.Receipt client number)) millis = None
+notice_of_snapshot (Err (faults.Stuck client)) millis = None
+notice_of_snapshot (Err faults.NoThread) millis = None
+notice_of_snapshot (Err faults.Memory) millis = None

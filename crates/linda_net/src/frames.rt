@@ -4,7 +4,7 @@ ghost use Rattle.std.specs.Prelude.{◌≡◌, ◌++◌, IfErr, OnOk};
 ghost use Rattle.std.specs.List.{flat_map};
 ghost use Rattle.linda_wire.specs.Frames.{reply_frame};
 ghost use Rattle.linda_store.specs.Sending.{HasWritten};
-ghost use Rattle.linda_pump.specs.Pumping.{IsOfIntake};
+ghost use Rattle.linda_net_pump.specs.Pumping.{IsOfIntake};
 
 use linda_store::{ConverseFault, send};
 use linda_wire::{Reply, encode_reply};

@@ -6,7 +6,7 @@ ghost use Rattle.linda_wire.specs.declared.refusal.Refusal.TheVariants as refusa
 ghost use Rattle.linda_wire.specs.Refusal.{refused};
 
 use crate::refusals::{Counts, Refused, why_of};
-use crate::watching::Event;
+use crate::watching::Notice;
 use linda_wire::{Refusal, Reply};
 use std::sync::atomic::{AtomicU64, Ordering};
 use std::sync::{Mutex, Wait};
@@ -54,7 +54,7 @@ pub(crate) struct Marks {
     missed: AtomicU64,
     turned: Counts,
     // What came of the last snapshot, until it is reported.
-    snapshot: Mutex<Option<Event>>,
+    snapshot: Mutex<Option<Notice>>,
 }
 
 impl Marks {
@@ -91,8 +91,8 @@ impl Marks {
         let _ = self.missed.fetch_add(1, Ordering::SeqCst);
     }
 
-    /// This reply goes out: if it says that the bank is full, or refuses its client for what an operator may mend, that is
-    /// counted.
+    /// This reply goes out: if it says that the bank is full, or refuses its client for what an operator may mend, that
+    /// is counted.
     pub(crate) fn sends(&self, reply: &Reply) {
         if tells_full(reply) {
             let _ = self.refused.fetch_add(1, Ordering::SeqCst);
@@ -103,12 +103,12 @@ impl Marks {
     }
 
     /// This came of a snapshot.
-    pub(crate) fn keep_snapshot<R: Wait>(&self, rt: &R, event: Event) {
-        *self.snapshot.lock(rt) = Some(event);
+    pub(crate) fn keep_snapshot<R: Wait>(&self, rt: &R, notice: Notice) {
+        *self.snapshot.lock(rt) = Some(notice);
     }
 
     /// What came of the last snapshot, if it was not reported yet.
-    pub(crate) fn take_snapshot<R: Wait>(&self, rt: &R) -> Option<Event> {
+    pub(crate) fn take_snapshot<R: Wait>(&self, rt: &R) -> Option<Notice> {
         self.snapshot.lock(rt).take()
     }
 

@@ -6,7 +6,7 @@ ghost use Rattle.linda_net.specs.Troubles.{no_trouble, came_since, first_untold,
 
 use crate::marks::Tally;
 use crate::troubles::Troubles;
-use crate::watching::Event;
+use crate::watching::Notice;
 
 /// What was told: of each trouble that it began, and the counts when the last minute began.
 #[derive(Clone, Copy)]
@@ -27,16 +27,16 @@ impl Seen {
     }
 
     /// A trouble that began, which is reported then and not again.
-    pub(crate) fn next(&mut self, tally: &Tally, is_down: bool) -> Option<Event>
+    pub(crate) fn next(&mut self, tally: &Tally, is_down: bool) -> Option<Notice>
         ensures first { result ≡ first_untold (came_since tally.now self.old.since is_down) self.old.told }
         ensures told { self.new.told ≡ with_first self.old.told result }
         ensures since { self.new.since ≡ self.old.since }
     {
         let came = Troubles::since(tally, &self.since, is_down);
         match came.first_untold(&self.told) {
-            Some(event) => {
-                self.told.tell(event);
-                Some(event)
+            Some(notice) => {
+                self.told.tell(notice);
+                Some(notice)
             }
             None => None,
         }

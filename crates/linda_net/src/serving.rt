@@ -4,10 +4,10 @@ ghost use Rattle.std.specs.Prelude.{◌≡◌, ◌*◌, ◌-◌, ◌<◌, ◌≤
 ghost use Rattle.std.specs.Duration.{as_nanos};
 ghost use Rattle.linda_net.specs.Counting.{one_less};
 
-use crate::connection::read_messages;
-use crate::line::{Line, write_news};
 use crate::marks::{Marks, Tally};
-use crate::watching::{Event, Watcher, take_snapshot, tell, watch};
+use crate::reader::read_messages;
+use crate::watching::{Notice, Silent, Watcher, take_snapshot, tell, watch};
+use crate::writer::{Writer, write_news};
 use linda_disk::Disk;
 use linda_shared::{Shared, SharedFault};
 use std::alloc::Global;
@@ -29,11 +29,11 @@ const PAUSES: u64 = 3;
 const REST: u64 = 10;
 
 /// Serves the connections that come, each in two threads of its own: one reads, submits what came, 64 messages at most
-/// at once, and writes what that led to; the other writes what others' messages send. Where a number is given, so many
+/// at once, and writes what that led to; the other writes what others' messages send. If a number is given, so many
 /// connections are served, and it ends when the last of them has. A connection for which no thread can be had is
-/// closed, and where a connection cannot be had the next is waited for. One that stops reading, or sends half of a
+/// closed, and if a connection cannot be had the next is waited for. One that stops reading, or sends half of a
 /// frame and waits, holds up nobody else. Another thread takes a snapshot whenever one pays for itself, and goes on
-/// where it is refused; where no thread can be had for that, none is taken.
+/// if it is refused; if no thread can be had for that, none is taken.
 ///
 /// # Errors
 ///
@@ -45,20 +45,12 @@ pub fn serve<D: Disk + Send, L: Ledger + Send + Sync, R: Threads + Wait + Clock 
     shared: &Shared<D, L>,
     sessions: Option<u32>,
 ) -> Result<(), SharedFault> {
-    let is_over = Mutex::new(false);
-    let over = &is_over;
-    thread::scope(thread::scope_env(), rt, |scope| {
-        let _ = scope
-            .spawn(move || take_snapshots(rt, shared, None, over))
-            .is_err();
-        accept_all(scope, rt, alloc, listener, shared, None, sessions);
-        *over.lock(rt) = true;
-    });
-    ended(shared.is_down(rt))
+    let (ended, _) = serve_watched(rt, alloc, listener, shared, sessions, &Mutex::new(Silent));
+    ended
 }
 
-/// Serves as `serve` does, and a thread of its own tells whoever watches what happens, until all connections are over:
-/// nobody else waits for it. It ends as `serve` does, with how often what happened.
+/// Serves as `serve` does, and a thread of its own reports to a watcher what happens, until all connections are over:
+/// nobody else waits for it. Returns how it ended, as `serve` does, and how often what happened.
 pub fn serve_watched<
     D: Disk + Send,
     L: Ledger + Send + Sync,
@@ -79,20 +71,20 @@ pub fn serve_watched<
     thread::scope(thread::scope_env(), rt, |scope| {
         let watches = scope.spawn(move || watch(rt, shared, over, marks, watcher));
         if watches.is_err() {
-            tell(rt, shared, marks, watcher, Event::Unwatched);
+            tell(rt, shared, marks, watcher, Notice::Unwatched);
         }
-        let renews = scope.spawn(move || take_snapshots(rt, shared, Some(marks), over));
+        let renews = scope.spawn(move || take_snapshots(rt, shared, marks, over));
         if renews.is_err() {
-            tell(rt, shared, marks, watcher, Event::NoThread);
+            tell(rt, shared, marks, watcher, Notice::NoThread);
         }
-        accept_marked(rt, alloc, listener, shared, marks, sessions);
+        accept_all(rt, alloc, listener, shared, marks, sessions);
         *over.lock(rt) = true;
     });
     (ended(shared.is_down(rt)), marks.tally())
 }
 
-// Serves the connections to their ends, and counts what happens.
-fn accept_marked<D: Disk + Send, L: Ledger + Send + Sync, R: Threads + Wait + Clock + Sync>(
+// Serves the connections to their ends.
+fn accept_all<D: Disk + Send, L: Ledger + Send + Sync, R: Threads + Wait + Clock + Sync>(
     rt: &R,
     alloc: Global,
     listener: &TcpListener,
@@ -101,7 +93,7 @@ fn accept_marked<D: Disk + Send, L: Ledger + Send + Sync, R: Threads + Wait + Cl
     sessions: Option<u32>,
 ) {
     thread::scope(thread::scope_env(), rt, |scope| {
-        accept_all(scope, rt, alloc, listener, shared, Some(marks), sessions);
+        begin_all(scope, rt, alloc, listener, shared, marks, sessions);
     });
 }
 
@@ -116,14 +108,14 @@ fn ended(is_down: bool) -> Result<(), SharedFault>
     Ok(())
 }
 
-// Begins to serve each connection that comes, so many where a number is given, while the server is up.
-fn accept_all<'s, E, D: Disk + Send, L: Ledger + Send + Sync, R: Threads + Wait + Clock + Sync>(
+// Begins to serve each connection that comes, so many if a number is given, while the server is up.
+fn begin_all<'s, E, D: Disk + Send, L: Ledger + Send + Sync, R: Threads + Wait + Clock + Sync>(
     scope: &'s Scope<'s, E>,
     rt: &'s R,
     alloc: Global,
     listener: &TcpListener,
     shared: &'s Shared<D, L>,
-    marks: Option<&'s Marks>,
+    marks: &'s Marks,
     sessions: Option<u32>,
 ) {
     let mut left = sessions;
@@ -140,7 +132,7 @@ fn accept_all<'s, E, D: Disk + Send, L: Ledger + Send + Sync, R: Threads + Wait 
                 left = one_less(left);
             }
             Err(_) => {
-                note_missed(marks);
+                marks.misses();
                 thread::sleep(rt, Duration::from_millis(REST));
             }
         }
@@ -150,42 +142,19 @@ fn accept_all<'s, E, D: Disk + Send, L: Ledger + Send + Sync, R: Threads + Wait 
     }
 }
 
-// Begins to serve a connection. Where no thread can be had it is closed.
+// Begins to serve a connection. If no thread can be had it is closed.
 fn begin<'s, E, D: Disk + Send, L: Ledger + Send + Sync, R: Threads + Wait + Clock + Sync>(
     scope: &'s Scope<'s, E>,
     rt: &'s R,
     alloc: Global,
     shared: &'s Shared<D, L>,
-    marks: Option<&'s Marks>,
+    marks: &'s Marks,
     stream: TcpStream,
 ) {
-    if let Some(marks) = marks {
-        marks.comes();
-    }
+    marks.comes();
     let begun = scope.spawn(move || converse(rt, alloc, shared, marks, stream));
     if begun.is_err() {
-        note_closed(marks);
-        note_end(marks);
-    }
-}
-
-// Counts a connection that is closed since no thread can be had, where it is watched.
-fn note_closed(marks: Option<&Marks>) {
-    if let Some(marks) = marks {
         marks.closes();
-    }
-}
-
-// Counts a connection that cannot be had, where it is watched.
-fn note_missed(marks: Option<&Marks>) {
-    if let Some(marks) = marks {
-        marks.misses();
-    }
-}
-
-// Counts a connection that is over, where it is watched.
-fn note_end(marks: Option<&Marks>) {
-    if let Some(marks) = marks {
         marks.ends();
     }
 }
@@ -205,28 +174,28 @@ fn converse<D: Disk + Send, L: Ledger + Send + Sync, R: Threads + Wait + Clock +
     rt: &R,
     alloc: Global,
     shared: &Shared<D, L>,
-    marks: Option<&Marks>,
+    marks: &Marks,
     stream: TcpStream,
 ) {
     let _ = stream.set_nodelay(true);
-    let line = Line::new(alloc, stream);
-    let lent = &line;
+    let writer = Writer::new(alloc, stream);
+    let lent = &writer;
     thread::scope(thread::scope_env(), rt, |scope| {
-        let writer = move || write_news(rt, alloc, shared, marks, lent);
-        if scope.spawn(writer).is_ok() {
+        let news = move || write_news(rt, alloc, shared, marks, lent);
+        if scope.spawn(news).is_ok() {
             read_messages(rt, alloc, shared, marks, lent);
         } else {
-            note_closed(marks);
+            marks.closes();
         }
     });
-    note_end(marks);
+    marks.ends();
 }
 
 // Takes a snapshot whenever one is to be taken, until it is over.
 fn take_snapshots<D: Disk, L: Ledger, R: Wait + Clock>(
     rt: &R,
     shared: &Shared<D, L>,
-    marks: Option<&Marks>,
+    marks: &Marks,
     is_over: &Mutex<bool>,
 ) {
     let mut pause: u64 = 0;

@@ -1,11 +1,11 @@
 //! The troubles that whoever watches is told of when they begin.
 
 ghost use Rattle.std.specs.Prelude.{◌≡◌};
-ghost use Rattle.linda_net.specs.Troubles.{no_trouble, came_since, event_or, first_turned, first_untold, with_told};
+ghost use Rattle.linda_net.specs.Troubles.{no_trouble, came_since, notice_or, first_turned, first_untold, with_told};
 
 use crate::marks::Tally;
 use crate::refusals::Why;
-use crate::watching::Event;
+use crate::watching::Notice;
 
 /// Troubles, each of which is there or not.
 #[derive(Clone, Copy)]
@@ -54,69 +54,69 @@ impl Troubles {
     }
 
     /// The first of them that was not told.
-    pub(crate) fn first_untold(&self, told: &Troubles) -> Option<Event>
+    pub(crate) fn first_untold(&self, told: &Troubles) -> Option<Notice>
         ensures { result ≡ first_untold self.now told.now }
     {
-        let event = self.first_turned(told);
-        let event = event_or(self.down, told.down, Event::Down, event);
-        let event = event_or(self.missed, told.missed, Event::Missed, event);
-        let event = event_or(self.closed, told.closed, Event::Closed, event);
-        event_or(self.full, told.full, Event::Full, event)
+        let notice = self.first_turned(told);
+        let notice = notice_or(self.down, told.down, Notice::Down, notice);
+        let notice = notice_or(self.missed, told.missed, Notice::Missed, notice);
+        let notice = notice_or(self.closed, told.closed, Notice::Closed, notice);
+        notice_or(self.full, told.full, Notice::Full, notice)
     }
 
     // The first of those of clients that was not told.
-    fn first_turned(&self, told: &Troubles) -> Option<Event>
+    fn first_turned(&self, told: &Troubles) -> Option<Notice>
         ensures { result ≡ first_turned self.now told.now }
     {
-        let event = event_or(
+        let notice = notice_or(
             self.malformed,
             told.malformed,
-            Event::Turned(Why::Malformed),
+            Notice::Turned(Why::Malformed),
             None,
         );
-        let event = event_or(
+        let notice = notice_or(
             self.greeting,
             told.greeting,
-            Event::Turned(Why::Greeting),
-            event,
+            Notice::Turned(Why::Greeting),
+            notice,
         );
-        let event = event_or(
+        let notice = notice_or(
             self.clients,
             told.clients,
-            Event::Turned(Why::Clients),
-            event,
+            Notice::Turned(Why::Clients),
+            notice,
         );
-        event_or(self.busy, told.busy, Event::Turned(Why::Busy), event)
+        notice_or(self.busy, told.busy, Notice::Turned(Why::Busy), notice)
     }
 
-    /// This event is told.
-    pub(crate) fn tell(&mut self, event: Event)
-        ensures { self.new ≡ with_told self.old event }
+    /// This notice is told.
+    pub(crate) fn tell(&mut self, notice: Notice)
+        ensures { self.new ≡ with_told self.old notice }
     {
-        match event {
-            Event::Minute => {}
-            Event::Snapshot(_) => {}
-            Event::NoSnapshot(_) => {}
-            Event::Full => self.full = true,
-            Event::Closed => self.closed = true,
-            Event::Missed => self.missed = true,
-            Event::Turned(Why::Busy) => self.busy = true,
-            Event::Turned(Why::Clients) => self.clients = true,
-            Event::Turned(Why::Greeting) => self.greeting = true,
-            Event::Turned(Why::Malformed) => self.malformed = true,
-            Event::Unwatched => {}
-            Event::NoThread => {}
-            Event::Down => self.down = true,
+        match notice {
+            Notice::Minute => {}
+            Notice::Snapshot(_) => {}
+            Notice::NoSnapshot(_) => {}
+            Notice::Full => self.full = true,
+            Notice::Closed => self.closed = true,
+            Notice::Missed => self.missed = true,
+            Notice::Turned(Why::Busy) => self.busy = true,
+            Notice::Turned(Why::Clients) => self.clients = true,
+            Notice::Turned(Why::Greeting) => self.greeting = true,
+            Notice::Turned(Why::Malformed) => self.malformed = true,
+            Notice::Unwatched => {}
+            Notice::NoThread => {}
+            Notice::Down => self.down = true,
         }
     }
 }
 
-// The event if its trouble came and was not told, and else the other one.
-fn event_or(came: bool, told: bool, event: Event, other: Option<Event>) -> Option<Event>
-    ensures { result ≡ event_or came told event other }
+// The notice if its trouble came and was not told, and else the other one.
+fn notice_or(came: bool, told: bool, notice: Notice, other: Option<Notice>) -> Option<Notice>
+    ensures { result ≡ notice_or came told notice other }
 {
     match (came, told) {
-        (true, false) => Some(event),
+        (true, false) => Some(notice),
         (true, true) => other,
         (false, _) => other,
     }

@@ -2,7 +2,7 @@
 
 ghost use Rattle.std.specs.Prelude.{◌≡◌, ◌↔◌, ◌/◌, ◌-◌, ◌^◌, ◌≤◌, min, IsTrue};
 ghost use Rattle.std.specs.Duration.{as_nanos};
-ghost use Rattle.linda_net.specs.Troubles.{event_of_snapshot};
+ghost use Rattle.linda_net.specs.Troubles.{notice_of_snapshot};
 
 use crate::marks::{Marks, Tally};
 use crate::refusals::Why;
@@ -23,7 +23,7 @@ const TROUBLES: u32 = 8;
 
 /// What happened.
 #[derive(Clone, Copy, Debug, PartialEq, Eq)]
-pub enum Event {
+pub enum Notice {
     /// A minute went by.
     Minute,
     /// A snapshot was taken, in so many milliseconds.
@@ -49,7 +49,15 @@ pub enum Event {
 /// Who is told what happens while connections are served.
 pub trait Watcher {
     /// This happened; so much the server and its connections come to then.
-    fn tell<C: Clock>(&mut self, clock: &C, event: Event, gauge: &Gauge, tally: &Tally);
+    fn tell<C: Clock>(&mut self, clock: &C, notice: Notice, gauge: &Gauge, tally: &Tally);
+}
+
+/// A watcher that nobody listens to.
+#[derive(Drop)]
+pub(crate) struct Silent;
+
+impl Watcher for Silent {
+    fn tell<C: Clock>(&mut self, _clock: &C, _notice: Notice, _gauge: &Gauge, _tally: &Tally) {}
 }
 
 /// Looks ten times a second until it is over, and then once more, and reports what happened. Only this thread waits
@@ -65,8 +73,8 @@ pub(crate) fn watch<D: Disk, L: Ledger, R: Wait + Clock, T: Watcher>(
     let mut begin = Instant::now(rt).ok();
     for _ in rt.forever() {
         let over = *is_over.lock(rt);
-        if let Some(event) = marks.take_snapshot(rt) {
-            tell(rt, shared, marks, watcher, event);
+        if let Some(notice) = marks.take_snapshot(rt) {
+            tell(rt, shared, marks, watcher, notice);
         }
         let tally = marks.tally();
         tell_troubles(rt, shared, marks, watcher, &mut seen, &tally);
@@ -74,7 +82,7 @@ pub(crate) fn watch<D: Disk, L: Ledger, R: Wait + Clock, T: Watcher>(
             return;
         }
         if is_minute(millis_since(rt, begin)) {
-            tell(rt, shared, marks, watcher, Event::Minute);
+            tell(rt, shared, marks, watcher, Notice::Minute);
             seen.end_minute(&tally);
             begin = Instant::now(rt).ok();
         }
@@ -82,29 +90,28 @@ pub(crate) fn watch<D: Disk, L: Ledger, R: Wait + Clock, T: Watcher>(
     }
 }
 
-/// Takes a snapshot, and notes what came of it if it is watched, unless the server is down. Says how many milliseconds it
-/// took.
+/// Takes a snapshot, and notes what came of it, unless the server is down. Returns how many milliseconds it took.
 pub(crate) fn take_snapshot<D: Disk, L: Ledger, R: Wait + Clock>(
     rt: &R,
     shared: &Shared<D, L>,
-    marks: Option<&Marks>,
+    marks: &Marks,
 ) -> u64 {
     let begin = Instant::now(rt).ok();
     let taken = shared.snapshot(rt);
     let millis = millis_since(rt, begin);
-    if let (Some(marks), Some(event)) = (marks, event_of(&taken, millis)) {
-        marks.keep_snapshot(rt, event);
+    if let Some(notice) = notice_of(&taken, millis) {
+        marks.keep_snapshot(rt, notice);
     }
     millis
 }
 
 // What is told of a snapshot that took so many milliseconds.
-fn event_of(taken: &Result<(), SharedFault>, millis: u64) -> Option<Event>
-    ensures { result ≡ event_of_snapshot taken.now millis }
+fn notice_of(taken: &Result<(), SharedFault>, millis: u64) -> Option<Notice>
+    ensures { result ≡ notice_of_snapshot taken.now millis }
 {
     match taken {
-        Ok(()) => Some(Event::Snapshot(millis)),
-        Err(SharedFault::Full) => Some(Event::NoSnapshot(millis)),
+        Ok(()) => Some(Notice::Snapshot(millis)),
+        Err(SharedFault::Full) => Some(Notice::NoSnapshot(millis)),
         Err(SharedFault::Down) => None,
         Err(SharedFault::SeatMissing) => None,
         Err(SharedFault::Receipt { .. }) => None,
@@ -125,24 +132,24 @@ fn tell_troubles<D: Disk, L: Ledger, R: Wait + Clock, T: Watcher>(
 ) {
     let is_down = shared.is_down(rt);
     for _ in 0..TROUBLES {
-        let Some(event) = seen.next(tally, is_down) else {
+        let Some(notice) = seen.next(tally, is_down) else {
             return;
         };
-        tell(rt, shared, marks, watcher, event);
+        tell(rt, shared, marks, watcher, notice);
     }
 }
 
-/// Reports an event, with what the server and its connections come to.
+/// Reports a notice, with what the server and its connections come to.
 pub(crate) fn tell<D: Disk, L: Ledger, R: Wait + Clock, T: Watcher>(
     rt: &R,
     shared: &Shared<D, L>,
     marks: &Marks,
     watcher: &Mutex<T>,
-    event: Event,
+    notice: Notice,
 ) {
     let gauge = shared.gauge(rt);
     let tally = marks.tally();
-    watcher.lock(rt).tell(rt, event, &gauge, &tally);
+    watcher.lock(rt).tell(rt, notice, &gauge, &tally);
 }
 
 // How many milliseconds have gone by since then; 0 where the clock cannot be read.

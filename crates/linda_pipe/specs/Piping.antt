@@ -10,8 +10,8 @@ use Rattle.linda_wire.specs.declared.reply.Reply.{Reply}
 use Rattle.linda_wire.specs.Frames.{reply_frame}
 use Rattle.linda_store.specs.declared.stage.Stage.{Stage}
 use Rattle.linda_store.specs.declared.stage.Stage.TheVariants as stages
-use Rattle.linda_state.specs.State.{empty_state}
-use Rattle.linda_step.specs.Soft.{no_asks}
+use Rattle.linda_store_state.specs.State.{empty_state}
+use Rattle.linda_store_step.specs.Soft.{no_asks}
 use Rattle.linda_store.specs.Node.{Node}
 use Rattle.linda_store.specs.Turn.{Point, beginning}
 use Rattle.linda_store.specs.Conversation.{IsConversation}

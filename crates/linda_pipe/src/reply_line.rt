@@ -2,7 +2,7 @@
 
 ghost use Rattle.std.specs.Prelude.{◌≡◌, ◌++◌, OnOk, OnErr};
 ghost use Rattle.std.specs.List.{flat_map};
-ghost use Rattle.linda_step.specs.Course.{IsFront};
+ghost use Rattle.linda_store_step.specs.Course.{IsFront};
 ghost use Rattle.linda_pipe.specs.Piping.{reply_line};
 
 use linda_wire::{Reply, encode_reply};

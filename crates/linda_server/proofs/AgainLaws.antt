@@ -16,23 +16,23 @@ use Rattle.linda_book.specs.declared.kept_reply.KeptReply.{KeptReply}
 use Rattle.linda_book.specs.declared.kept_reply.KeptReply.TheVariants as kept
 use Rattle.linda_book.specs.Entries.{Entry, left_in, number_in}
 use Rattle.linda_book.specs.Classes.{class_of}
-use Rattle.linda_state.specs.declared.deed.Deed.{Deed}
-use Rattle.linda_state.specs.Deed.{client_of, number_of, is_taken}
-use Rattle.linda_state.specs.State.{State, IsState, empty_state}
-use Rattle.linda_state.specs.After.{IsAfter, reply_of_deed}
-use Rattle.linda_state.specs.Proper.{IsAllowed, IsProper, AreDone}
-use Rattle.linda_state.proofs.StateLaws.{empty_is_state}
-use Rattle.linda_state.proofs.AfterLaws.{none_after, one_after, old_id}
-use Rattle.linda_state.proofs.DoneLaws.{done, done_after}
-use Rattle.linda_state.proofs.ProperLaws.{front_proper, reached, proper_state, more_done}
-use Rattle.linda_state.proofs.ReplyLaws.{reply_behind, kept_behind}
-use Rattle.linda_step.specs.Soft.{Soft}
-use Rattle.linda_step.specs.Answer.{Answer, only_reply, reply_of_kept, last_number, standing_of, reply_by, has_left, out_without_deed, accept_without_deed, leave_without_deed, on_out, on_accept, on_leave, IsAnswer, IsStep}
-use Rattle.linda_step.specs.Judge.{to_put, to_take, to_leave, judge_class}
-use Rattle.linda_step.specs.History.{says, History, Happens, first_then, nothing_yet, history_of}
-use Rattle.linda_promise.specs.Steps.{number_of_message}
-use Rattle.linda_promise.specs.Replies.{reports_deed, ReportsOne}
-use Rattle.linda_promise.specs.Covered.{number_in_reply, IsCovered}
+use Rattle.linda_store_state.specs.declared.deed.Deed.{Deed}
+use Rattle.linda_store_state.specs.Deed.{client_of, number_of, is_taken}
+use Rattle.linda_store_state.specs.State.{State, IsState, empty_state}
+use Rattle.linda_store_state.specs.After.{IsAfter, reply_of_deed}
+use Rattle.linda_store_state.specs.Proper.{IsAllowed, IsProper, AreDone}
+use Rattle.linda_store_state.proofs.StateLaws.{empty_is_state}
+use Rattle.linda_store_state.proofs.AfterLaws.{none_after, one_after, old_id}
+use Rattle.linda_store_state.proofs.DoneLaws.{done, done_after}
+use Rattle.linda_store_state.proofs.ProperLaws.{front_proper, reached, proper_state, more_done}
+use Rattle.linda_store_state.proofs.ReplyLaws.{reply_behind, kept_behind}
+use Rattle.linda_store_step.specs.Soft.{Soft}
+use Rattle.linda_store_step.specs.Answer.{Answer, only_reply, reply_of_kept, last_number, standing_of, reply_by, has_left, out_without_deed, accept_without_deed, leave_without_deed, on_out, on_accept, on_leave, IsAnswer, IsStep}
+use Rattle.linda_store_step.specs.Judge.{to_put, to_take, to_leave, judge_class}
+use Rattle.linda_store_step.specs.History.{says, History, Happens, first_then, nothing_yet, history_of}
+use Rattle.linda_store_step.specs.Reported.{number_of_message}
+use Rattle.linda_store_step.specs.Replies.{reports_deed, ReportsOne}
+use Rattle.linda_store_step.specs.Covered.{number_in_reply, IsCovered}
 use Rattle.linda_store.specs.Sound.{AreBacked}
 
 -- ---- a number that comes again

@@ -7,19 +7,19 @@ use Rattle.std.proofs.lemmas.Bool.{cases_lt}
 use Rattle.std.specs.Vec.{vec_len}
 use Rattle.linda_tuple.specs.declared.form.Form.{Form}
 use Rattle.linda_wire.specs.declared.message.Message.{Message}
-use Rattle.linda_state.specs.declared.deed.Deed.{Deed}
-use Rattle.linda_state.specs.State.{State, IsState}
-use Rattle.linda_state.specs.Proper.{AreDone}
-use Rattle.linda_state.specs.DeedFormat.{spell_deed, payload, SuitsForm, IsUnspelled}
-use Rattle.linda_state.proofs.ProperLaws.{none_done}
-use Rattle.linda_step.specs.Soft.{Soft}
-use Rattle.linda_step.specs.Answer.{Answer}
-use Rattle.linda_step.specs.Store.{Store, IsOrderly}
-use Rattle.linda_step.specs.History.{Coming, comings, history_of, nothing_yet}
+use Rattle.linda_store_state.specs.declared.deed.Deed.{Deed}
+use Rattle.linda_store_state.specs.State.{State, IsState}
+use Rattle.linda_store_state.specs.Proper.{AreDone}
+use Rattle.linda_store_state.specs.DeedFormat.{spell_deed, payload, SuitsForm, IsUnspelled}
+use Rattle.linda_store_state.proofs.ProperLaws.{none_done}
+use Rattle.linda_store_step.specs.Soft.{Soft}
+use Rattle.linda_store_step.specs.Answer.{Answer}
+use Rattle.linda_store_step.specs.Store.{Store, IsOrderly}
+use Rattle.linda_store_step.specs.History.{Coming, comings, history_of, nothing_yet}
 use Rattle.linda_store.specs.Node.{Node, MayRemain}
-use Rattle.linda_step.proofs.HistoryLaws.{happened}
+use Rattle.linda_store_step.proofs.HistoryLaws.{happened}
 use Rattle.linda_disk.specs.View.{View, IsTimed}
-use Rattle.linda_state.proofs.DeedFormatLaws.{deed_some}
+use Rattle.linda_store_state.proofs.DeedFormatLaws.{deed_some}
 use Rattle.linda_snap.specs.Stands.{Stands}
 use Rattle.linda_server.specs.declared.limits.TheConstants.{RECORD_BYTES}
 use Rattle.linda_disk.specs.declared.disk.Disk.{Ghosts}
@@ -30,7 +30,7 @@ use Rattle.linda_server.specs.declared.fault.ServeFault.{ServeFault}
 use Rattle.linda_server.specs.declared.served.Served.{Served}
 use Rattle.linda_server.specs.Pairs.{Both, PairsSince, PairsNow}
 use Rattle.linda_server.specs.Disks.{sides}
-use Rattle.linda_server.specs.Served.{AreAnswered, deeds_of, share_of, IsServed}
+use Rattle.linda_server.specs.Served.{AreAnswered, deeds_of, portion_of, IsServed}
 use Rattle.linda_server.specs.Calls.{LeadTo, IsOldOrNew, IsEither, IsWithOrWithout, StandsAfter, IsBeforeOrAfter, StandsFor, HasHandled, IsTooMuch}
 use Rattle.linda_server.specs.Node.{shown}
 use Rattle.linda_server.specs.Server.{both_of, BothHonest, IsUpFor, IsKeptFor}
@@ -57,12 +57,12 @@ each_answered st soft (m ∷ ms) answers new then are =
     let same : length answers ≡ length (first ∷ are.1.1.0) = ap length are.1.1.1.1.1 in
     omega (arith, same, rest)
 
--- So it has one share of what was served.
+-- So it has one portion of what was served.
 pub each_share : (st : State) (soft : Soft) (ms : List (ℕ × Message)) (told : Served) (new : State) (then : Soft) → IsServed st soft ms told new then
-    → vec_len told.shares ≡ length ms
+    → vec_len told.portions ≡ length ms
 each_share st soft ms told new then served =
-    let all = ap length served.tells.shares ∙ (length-map served.answers share_of ∙ each_answered st soft ms served.answers new then served.answered) in
-    let counted = told.shares.ok.0 in
+    let all = ap length served.tells.portions ∙ (length-map served.answers portion_of ∙ each_answered st soft ms served.answers new then served.answered) in
+    let counted = told.portions.ok.0 in
     omega (arith, all, counted)
 
 -- What is so of what was served is so of what is returned in the end, where that is the same.

@@ -2,8 +2,8 @@
 use Rattle.std.proofs.Common.{◌≡◌, ◌≢◌, ℕ, ◌+◌, ◌<◌, ◌≤◌, ◌⊎◌, inl, inr, Bool, true, false, not, ◌==◌, List, [], ◌∷◌, All, length, Result, Err, refl, sym, ap, ◌∙◌, true≢false, length-append, arith}
 use Rattle.linda_tuple.specs.declared.form.Form.{Form}
 use Rattle.linda_codec.specs.Formats.{short_number}
-use Rattle.linda_state.specs.declared.deed.Deed.{Deed}
-use Rattle.linda_state.specs.DeedFormat.{payload, SuitsForm, IsUnspelled}
+use Rattle.linda_store_state.specs.declared.deed.Deed.{Deed}
+use Rattle.linda_store_state.specs.DeedFormat.{payload, SuitsForm, IsUnspelled}
 use Rattle.linda_disk.specs.Disk.{TellsFailures}
 use Rattle.linda_journal.specs.declared.fault.BankFault.{BankFault}
 use Rattle.linda_journal.specs.declared.fault.BankFault.TheVariants as banks

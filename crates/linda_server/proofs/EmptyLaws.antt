@@ -2,11 +2,11 @@
 use Rattle.std.proofs.Common.{◌≡◌, ℕ, ◌<◌, ◌≤◌, ◌^◌, inl, inr, List, [], ◌∷◌, length, refl, sym, ap, subst, ◌∙◌, arith}
 use Rattle.std.specs.FinMap.{entries, empty, len-entries, len-empty}
 use Rattle.std.specs.Ordering.{nat_cmp}
-use Rattle.linda_state.specs.DeedFormat.{written}
+use Rattle.linda_store_state.specs.DeedFormat.{written}
 use Rattle.linda_tuple.specs.declared.form.Form.{Form}
-use Rattle.linda_state.specs.State.{State, IsState, empty_state}
-use Rattle.linda_state.proofs.StateLaws.{empty_is_state}
-use Rattle.linda_state.proofs.ProperLaws.{none_done}
+use Rattle.linda_store_state.specs.State.{State, IsState, empty_state}
+use Rattle.linda_store_state.proofs.StateLaws.{empty_is_state}
+use Rattle.linda_store_state.proofs.ProperLaws.{none_done}
 use Rattle.linda_disk.specs.View.{View, IsDurable, IsTimed}
 use Rattle.linda_disk.specs.Run.{LeavesOnly}
 use Rattle.linda_disk.proofs.RunLaws.{joined}

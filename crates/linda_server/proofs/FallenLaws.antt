@@ -3,15 +3,15 @@ use Rattle.std.proofs.Common.{rules, ◌≡◌, ℕ, ◌⊎◌, inl, inr, Ok, Is
 use Rattle.std.proofs.Math.Logic.{∥∥₁_map}
 use Rattle.std.proofs.lemmas.Option.{same_Some, none-some}
 use Rattle.linda_tuple.specs.declared.form.Form.{Form}
-use Rattle.linda_state.specs.declared.deed.Deed.{Deed}
-use Rattle.linda_state.specs.State.{State, IsState}
-use Rattle.linda_state.specs.Proper.{AreDone}
+use Rattle.linda_store_state.specs.declared.deed.Deed.{Deed}
+use Rattle.linda_store_state.specs.State.{State, IsState}
+use Rattle.linda_store_state.specs.Proper.{AreDone}
 use Rattle.linda_disk.specs.View.{View, IsTimed, LeavesNoMore}
 use Rattle.linda_disk.specs.Run.{LeavesOnly}
 use Rattle.std.specs.Global.{Vec}
 use Rattle.linda_wire.specs.declared.message.Message.{Message}
-use Rattle.linda_step.specs.Store.{Store}
-use Rattle.linda_step.specs.History.{comings}
+use Rattle.linda_store_step.specs.Store.{Store}
+use Rattle.linda_store_step.specs.History.{comings}
 use Rattle.linda_store.specs.declared.work.Work.{Work}
 use Rattle.linda_store.specs.declared.work.Work.TheVariants as works
 use Rattle.linda_store.specs.Node.{MayRemain, in_hand}

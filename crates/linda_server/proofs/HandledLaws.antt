@@ -5,7 +5,7 @@ use Rattle.linda_wire.specs.declared.message.Message.{Message}
 use Rattle.linda_wire.specs.declared.reply.Reply.{Reply}
 use Rattle.linda_disk.specs.declared.disk.Disk.{Ghosts}
 use Rattle.linda_disk.specs.View.{IsTimed}
-use Rattle.linda_step.specs.History.{comings}
+use Rattle.linda_store_step.specs.History.{comings}
 use Rattle.linda_store.specs.declared.node.NodeFault.{NodeFault}
 use Rattle.linda_store.specs.declared.node.NodeFault.TheVariants as nodes
 use Rattle.linda_server.specs.declared.durable.Durable.{Durable}

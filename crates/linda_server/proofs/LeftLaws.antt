@@ -1,11 +1,11 @@
 -- What stands on two disks after a crash.
 use Rattle.std.proofs.Common.{◌≡◌, ℕ, Bool, true, false, ◌⊎◌, inl, inr, List, subst}
 use Rattle.std.proofs.Math.Logic.{∥∥₁_map}
-use Rattle.linda_state.specs.State.{State, empty_state}
-use Rattle.linda_step.specs.Store.{Store, IsOrderly}
-use Rattle.linda_step.specs.History.{Coming, History, Happens}
-use Rattle.linda_step.proofs.HistoryLaws.{all_safe}
-use Rattle.linda_step.proofs.OutcomeLaws.{one_outcome}
+use Rattle.linda_store_state.specs.State.{State, empty_state}
+use Rattle.linda_store_step.specs.Store.{Store, IsOrderly}
+use Rattle.linda_store_step.specs.History.{Coming, History, Happens}
+use Rattle.linda_store_step.proofs.HistoryLaws.{all_safe}
+use Rattle.linda_store_step.proofs.OutcomeLaws.{one_outcome}
 use Rattle.linda_disk.specs.declared.disk.Disk.{Ghosts}
 use Rattle.linda_disk.specs.View.{View, IsTimed}
 use Rattle.linda_journal.specs.declared.bank.Bank.{Bank}

@@ -5,24 +5,24 @@ use Rattle.std.proofs.lemmas.Bool.{cases_Bool, cond-false, cond-true}
 use Rattle.std.proofs.lemmas.List.Elements.{All-nil, All-append}
 use Rattle.linda_wire.specs.declared.message.Message.{Message}
 use Rattle.linda_wire.specs.declared.reply.Reply.{Reply}
-use Rattle.linda_state.specs.declared.deed.Deed.{Deed}
-use Rattle.linda_state.specs.State.{State, IsState, empty_state}
-use Rattle.linda_state.specs.After.{IsAfter}
-use Rattle.linda_state.specs.Proper.{IsProper, AreDone}
-use Rattle.linda_state.proofs.StateLaws.{empty_is_state}
-use Rattle.linda_state.proofs.AfterLaws.{one_after, joined_after}
-use Rattle.linda_state.proofs.JoinLaws.{joined_done}
-use Rattle.linda_state.proofs.OnceLaws.{taken_once}
-use Rattle.linda_state.proofs.ProperLaws.{none_done, proper_state, takes_below}
-use Rattle.linda_step.specs.Soft.{no_asks}
-use Rattle.linda_step.specs.Store.{Store, IsOrderly}
-use Rattle.linda_step.specs.Answer.{only_sends}
-use Rattle.linda_step.specs.History.{Coming, hangs_up, comings, history_of}
-use Rattle.linda_step.proofs.ExistLaws.{outcome_of}
-use Rattle.linda_step.proofs.GrowthLaws.{one_only}
-use Rattle.linda_step.proofs.HistoryLaws.{all_safe}
-use Rattle.linda_step.proofs.OrderLaws.{new_store_orderly}
-use Rattle.linda_promise.specs.Replies.{reports_deed, ReportsOne}
+use Rattle.linda_store_state.specs.declared.deed.Deed.{Deed}
+use Rattle.linda_store_state.specs.State.{State, IsState, empty_state}
+use Rattle.linda_store_state.specs.After.{IsAfter}
+use Rattle.linda_store_state.specs.Proper.{IsProper, AreDone}
+use Rattle.linda_store_state.proofs.StateLaws.{empty_is_state}
+use Rattle.linda_store_state.proofs.AfterLaws.{one_after, joined_after}
+use Rattle.linda_store_state.proofs.JoinLaws.{joined_done}
+use Rattle.linda_store_state.proofs.OnceLaws.{taken_once}
+use Rattle.linda_store_state.proofs.ProperLaws.{none_done, proper_state, takes_below}
+use Rattle.linda_store_step.specs.Soft.{no_asks}
+use Rattle.linda_store_step.specs.Store.{Store, IsOrderly}
+use Rattle.linda_store_step.specs.Answer.{only_sends}
+use Rattle.linda_store_step.specs.History.{Coming, hangs_up, comings, history_of}
+use Rattle.linda_store_step.proofs.ExistLaws.{outcome_of}
+use Rattle.linda_store_step.proofs.GrowthLaws.{one_only}
+use Rattle.linda_store_step.proofs.HistoryLaws.{all_safe}
+use Rattle.linda_store_step.proofs.OrderLaws.{new_store_orderly}
+use Rattle.linda_store_step.specs.Replies.{reports_deed, ReportsOne}
 use Rattle.linda_store.specs.Node.{Node, Sent, IsDown, IsDone, WentDown, MayRemain}
 use Rattle.linda_store.specs.Sound.{IsSound, AreBacked}
 use Rattle.linda_store.proofs.ServeLaws.{backed_later, works_sound, works_backed}

@@ -5,15 +5,15 @@ use Rattle.std.proofs.lemmas.List.Elements.{All-nil}
 use Rattle.linda_tuple.specs.declared.form.Form.{Form}
 use Rattle.std.specs.Global.{Vec}
 use Rattle.linda_wire.specs.declared.reply.Reply.{Reply}
-use Rattle.linda_state.specs.declared.deed.Deed.{Deed}
-use Rattle.linda_state.specs.DeedFormat.{SuitsForm}
-use Rattle.linda_state.specs.State.{State}
-use Rattle.linda_state.specs.After.{IsAfter}
-use Rattle.linda_step.specs.Store.{Store}
-use Rattle.linda_step.specs.Dispatch.{on_close}
-use Rattle.linda_step.specs.Answer.{only_sends}
-use Rattle.linda_step.proofs.GrowthLaws.{one_only}
-use Rattle.linda_step.specs.History.{hangs_up, Coming, History, Happens, history_of}
+use Rattle.linda_store_state.specs.declared.deed.Deed.{Deed}
+use Rattle.linda_store_state.specs.DeedFormat.{SuitsForm}
+use Rattle.linda_store_state.specs.State.{State}
+use Rattle.linda_store_state.specs.After.{IsAfter}
+use Rattle.linda_store_step.specs.Store.{Store}
+use Rattle.linda_store_step.specs.Dispatch.{on_close}
+use Rattle.linda_store_step.specs.Answer.{only_sends}
+use Rattle.linda_store_step.proofs.GrowthLaws.{one_only}
+use Rattle.linda_store_step.specs.History.{hangs_up, Coming, History, Happens, history_of}
 use Rattle.linda_store.specs.declared.node.NodeFault.{NodeFault}
 use Rattle.linda_store.specs.declared.node.NodeFault.TheVariants as faults
 use Rattle.linda_store.specs.Node.{Node, node_answer, MayRemain, IsDone, HadNoRoom, WentDown, Works, Closes, Snaps, IsOpened, Stops}

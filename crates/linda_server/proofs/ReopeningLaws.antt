@@ -9,19 +9,19 @@ use Rattle.linda_tuple.specs.Codes.{tuple_code}
 use Rattle.linda_maps.proofs.MapLaws.{get_same, get_other}
 use Rattle.linda_book.specs.Entries.{number_in}
 use Rattle.linda_book.specs.Codes.{kept_code}
-use Rattle.linda_state.specs.declared.deed.Deed.{Deed}
-use Rattle.linda_state.specs.Deed.{client_of, number_of}
-use Rattle.linda_state.specs.State.{State, IsState}
-use Rattle.linda_state.specs.After.{IsAfter, reply_of_deed}
-use Rattle.linda_state.specs.Proper.{IsAllowed, AreDone}
-use Rattle.linda_state.proofs.AfterLaws.{none_after, one_after}
-use Rattle.linda_state.proofs.DoneLaws.{done, done_after}
-use Rattle.linda_state.proofs.ProperLaws.{front_proper, reached, Reaches, proper_state, none_done, more_done}
+use Rattle.linda_store_state.specs.declared.deed.Deed.{Deed}
+use Rattle.linda_store_state.specs.Deed.{client_of, number_of}
+use Rattle.linda_store_state.specs.State.{State, IsState}
+use Rattle.linda_store_state.specs.After.{IsAfter, reply_of_deed}
+use Rattle.linda_store_state.specs.Proper.{IsAllowed, AreDone}
+use Rattle.linda_store_state.proofs.AfterLaws.{none_after, one_after}
+use Rattle.linda_store_state.proofs.DoneLaws.{done, done_after}
+use Rattle.linda_store_state.proofs.ProperLaws.{front_proper, reached, Reaches, proper_state, none_done, more_done}
 use Rattle.linda_snap.specs.Stands.{Stands}
 use Rattle.linda_snap.proofs.ChoiceLaws.{one_stands}
 use Rattle.linda_server.specs.Calls.{IsOldOrNew, StandsAround, IsWithOrWithout}
-use Rattle.linda_step.specs.Soft.{no_asks}
-use Rattle.linda_step.specs.Store.{Store}
+use Rattle.linda_store_step.specs.Soft.{no_asks}
+use Rattle.linda_store_step.specs.Store.{Store}
 use Rattle.linda_server.specs.Reopening.{is_done, has_done, IsReopened}
 
 -- the last number that is kept of a client

@@ -3,12 +3,12 @@ use Rattle.std.proofs.Common.{◌≡◌, ℕ, ◌+◌, suc, arith, List, [], ◌
 use Rattle.std.proofs.lemmas.List.{map-append}
 use Rattle.std.proofs.lemmas.Grind.{flat_map-append}
 use Rattle.linda_wire.specs.declared.message.Message.{Message}
-use Rattle.linda_state.specs.State.{State}
-use Rattle.linda_step.specs.Soft.{Soft}
-use Rattle.linda_step.specs.Answer.{Answer, IsStep}
-use Rattle.linda_step.specs.History.{History, Happens, comings, first_then, history_of}
+use Rattle.linda_store_state.specs.State.{State}
+use Rattle.linda_store_step.specs.Soft.{Soft}
+use Rattle.linda_store_step.specs.Answer.{Answer, IsStep}
+use Rattle.linda_store_step.specs.History.{History, Happens, comings, first_then, history_of}
 use Rattle.linda_server.specs.declared.served.Served.{Served}
-use Rattle.linda_server.specs.Served.{AreAnswered, deeds_of, sends_of, share_of, IsServed, IsServedToo}
+use Rattle.linda_server.specs.Served.{AreAnswered, deeds_of, sends_of, portion_of, IsServed, IsServedToo}
 
 -- What one answer at the end adds.
 deeds_more : (answers : List Answer) (a : Answer) → deeds_of (answers ++ a ∷ []) ≡ deeds_of answers ++ option_to_list a.deed
@@ -31,11 +31,11 @@ answered_more st soft (x ∷ ms) answers mid between m a new then so_far step so
     (first, (next, (later ++ a ∷ [], (so_far.1.1.1.0, (answered_more next first.soft ms later mid between m a new then so_far.1.1.1.1.0 step soft_is, ap (λ l. l ++ a ∷ []) so_far.1.1.1.1.1)))))
 
 -- Nothing was served yet.
-pub none_served : (st : State) (soft : Soft) (told : Served) → told.deeds.items ≡ [] → told.sends.items ≡ [] → told.shares.items ≡ [] → IsServed st soft [] told st soft
-none_served st soft told deeds sends shares = record {
+pub none_served : (st : State) (soft : Soft) (told : Served) → told.deeds.items ≡ [] → told.sends.items ≡ [] → told.portions.items ≡ [] → IsServed st soft [] told st soft
+none_served st soft told deeds sends portions = record {
   answers = [];
   answered = (refl, (refl, refl));
-  tells = record { deeds = deeds; sends = sends; shares = shares };
+  tells = record { deeds = deeds; sends = sends; portions = portions };
 }
 
 -- One message more was served.
@@ -47,7 +47,7 @@ served_more st soft ms before told mid between c m new then so_far more = record
   tells = record {
     deeds = more.deeds ∙ ap (λ l. l ++ option_to_list more.answer.deed) so_far.tells.deeds ∙ sym (deeds_more so_far.answers more.answer);
     sends = more.sends ∙ ap (λ l. l ++ more.answer.sends) so_far.tells.sends ∙ sym (sends_more so_far.answers more.answer);
-    shares = more.shares ∙ ap (λ l. l ++ share_of more.answer ∷ []) so_far.tells.shares ∙ sym (map-append share_of so_far.answers (more.answer ∷ []));
+    portions = more.portions ∙ ap (λ l. l ++ portion_of more.answer ∷ []) so_far.tells.portions ∙ sym (map-append portion_of so_far.answers (more.answer ∷ []));
   };
 }
 

@@ -4,10 +4,10 @@ use Rattle.std.proofs.Math.Logic.{∥∥₁_map, ∥∥₁_elim}
 use Rattle.std.proofs.lemmas.Grind.{not_there}
 use Rattle.std.specs.Coded.{Coded-set, coded_list, coded_ℕ}
 use Rattle.linda_tuple.specs.declared.form.Form.{Form}
-use Rattle.linda_state.specs.declared.deed.Deed.{Deed}
-use Rattle.linda_state.specs.Proper.{AreDone}
-use Rattle.linda_state.proofs.ProperLaws.{none_done}
-use Rattle.linda_state.specs.State.{State, IsState}
+use Rattle.linda_store_state.specs.declared.deed.Deed.{Deed}
+use Rattle.linda_store_state.specs.Proper.{AreDone}
+use Rattle.linda_store_state.proofs.ProperLaws.{none_done}
+use Rattle.linda_store_state.specs.State.{State, IsState}
 use Rattle.linda_disk.specs.View.{View, IsTimed}
 use Rattle.linda_disk.specs.Run.{LeavesOnly}
 use Rattle.linda_disk.proofs.RunLaws.{weaker}

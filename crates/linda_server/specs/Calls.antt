@@ -3,12 +3,12 @@ use Rattle.std.specs.Prelude.{ℕ, ◌+◌, ◌<◌, ◌≤◌, ◌⊎◌, List,
 use Rattle.linda_tuple.specs.declared.form.Form.{Form}
 use Rattle.linda_wire.specs.declared.message.Message.{Message}
 use Rattle.linda_wire.specs.declared.reply.Reply.{Reply}
-use Rattle.linda_state.specs.declared.deed.Deed.{Deed}
-use Rattle.linda_state.specs.State.{State, IsState}
-use Rattle.linda_state.specs.Proper.{AreDone}
-use Rattle.linda_state.specs.DeedFormat.{payload, IsUnspelled}
-use Rattle.linda_step.specs.History.{Coming, History, Happens, Answers, history_of}
-use Rattle.linda_step.specs.Store.{Store}
+use Rattle.linda_store_state.specs.declared.deed.Deed.{Deed}
+use Rattle.linda_store_state.specs.State.{State, IsState}
+use Rattle.linda_store_state.specs.Proper.{AreDone}
+use Rattle.linda_store_state.specs.DeedFormat.{payload, IsUnspelled}
+use Rattle.linda_store_step.specs.History.{Coming, History, Happens, Answers, history_of}
+use Rattle.linda_store_step.specs.Store.{Store}
 use Rattle.linda_journal.specs.Renewal.{IsNoBank}
 use Rattle.linda_snap.specs.Stands.{Stands}
 use Rattle.linda_server.specs.declared.limits.TheConstants.{RECORD_BYTES, MIN_LIMIT, MAX_LIMIT}

@@ -3,12 +3,13 @@
 use Rattle.std.specs.Prelude.{◌≡◌, ℕ, ◌+◌, Bool, true, false, not, [], if◌then◌else◌, Option, Some, None}
 use Rattle.linda_tuple.specs.declared.form.Form.{Form}
 use Rattle.linda_tuple.specs.declared.form.Form.TheVariants.{One, Two}
-use Rattle.linda_state.specs.State.{State}
-use Rattle.linda_state.specs.DeedFormat.{written}
+use Rattle.linda_store_state.specs.State.{State}
+use Rattle.linda_store_state.specs.DeedFormat.{written}
 use Rattle.linda_disk.specs.View.{View, IsDurable}
 use Rattle.linda_snap.specs.Stands.{IsLesser, IsStored, IsUp}
 use Rattle.linda_server.specs.declared.disks.Disks.{Disks}
 use Rattle.linda_server.specs.declared.disks.Disks.TheVariants.{InUse, Shut, Away}
+use Rattle.linda_server.specs.declared.disks.InUse.{InUse as Used}
 use Rattle.linda_server.specs.Pairs.{Both}
 
 -- No disk at all, of which nothing is left.
@@ -56,6 +57,12 @@ abbrev pub is_ready : {B D : Type 0} → (B → Bool) → Disks B D → Bool
 is_ready spent (InUse pair) = not (spent pair.bank)
 is_ready spent (Shut left right) = false
 is_ready spent Away = false
+
+-- On which side the bank in use is, and its generation; nothing where none is.
+abbrev pub used_of : {B D : Type 0} → (B → ℕ) → Disks B D → Option Used
+used_of generation (InUse pair) = Some record { is_right = pair.is_right; generation = generation pair.bank }
+used_of generation (Shut left right) = None
+used_of generation Away = None
 
 -- A number of the bank in use, and 0 where none is.
 abbrev pub number_of : {B D : Type 0} → (B → ℕ) → Disks B D → ℕ

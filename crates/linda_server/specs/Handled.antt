@@ -6,8 +6,8 @@ use Rattle.linda_wire.specs.declared.message.Message.{Message}
 use Rattle.linda_wire.specs.declared.reply.Reply.{Reply}
 use Rattle.linda_disk.specs.declared.disk.Disk.{Ghosts}
 use Rattle.linda_disk.specs.Disk.{TellsFailures}
-use Rattle.linda_step.specs.History.{comings}
-use Rattle.linda_step.specs.Store.{IsOrderly}
+use Rattle.linda_store_step.specs.History.{comings}
+use Rattle.linda_store_step.specs.Store.{IsOrderly}
 use Rattle.linda_store.specs.declared.node.NodeFault.{NodeFault}
 use Rattle.linda_store.specs.declared.node.NodeFault.TheVariants as nodes
 use Rattle.linda_store.specs.Node.{MayRemain}
@@ -45,9 +45,9 @@ module _ {D : Type 0} {g : Ghosts D} where
     pub orderly : IsOrderly old.store.state old.store.soft
     -- At no moment crashes leave anything but the state of before, or the one after all deeds;
     pub any_moment : old.down ≡ false → AlwaysLeave old.disks new.disks (IsBeforeOrAfter old.store (comings ms))
-    -- at Ok it did what they ask, each has its share, and crashes now leave the state after that.
+    -- at Ok it did what they ask, each has its portion, and crashes now leave the state after that.
     pub done : IfOk result (λ served. IsServed old.store.state old.store.soft ms served new.store.state new.store.soft)
-    pub each : IfOk result (λ served. vec_len served.shares ≡ length ms)
+    pub each : IfOk result (λ served. vec_len served.portions ≡ length ms)
     pub now : OnOk result (StandNow new.disks new.store.state)
     pub up : OnOk result ((old.down ≡ false) × (new.down ≡ false))
     -- It is Full exactly where the deeds have no record on the bank in use; nothing changed then.

@@ -3,11 +3,11 @@ use Rattle.std.specs.Prelude.{◌≡◌, ℕ, true, false, if◌then◌else◌}
 use Rattle.std.specs.Prelude.{List, [], ◌++◌, Result, Ok, Err, IfOk, OnErr}
 use Rattle.linda_wire.specs.declared.message.Message.{Message}
 use Rattle.linda_wire.specs.declared.reply.Reply.{Reply}
-use Rattle.linda_state.specs.declared.deed.Deed.{Deed}
-use Rattle.linda_state.specs.State.{State, empty_state}
-use Rattle.linda_step.specs.Soft.{Soft, no_asks}
-use Rattle.linda_step.specs.Dispatch.{Sends, on_close}
-use Rattle.linda_step.specs.History.{Coming, History, Happens}
+use Rattle.linda_store_state.specs.declared.deed.Deed.{Deed}
+use Rattle.linda_store_state.specs.State.{State, empty_state}
+use Rattle.linda_store_step.specs.Soft.{Soft, no_asks}
+use Rattle.linda_store_step.specs.Dispatch.{Sends, on_close}
+use Rattle.linda_store_step.specs.History.{Coming, History, Happens}
 use Rattle.linda_store.specs.Node.{MayRemain}
 use Rattle.linda_disk.specs.declared.disk.Disk.{Ghosts}
 use Rattle.linda_snap.specs.Stands.{Stands}

@@ -5,16 +5,16 @@ use Rattle.std.specs.FinMap.{get}
 use Rattle.linda_wire.specs.declared.message.Message.{Message}
 use Rattle.linda_wire.specs.declared.reply.Reply.{Reply}
 use Rattle.linda_book.specs.declared.kept_reply.KeptReply.{KeptReply}
-use Rattle.linda_state.specs.declared.deed.Deed.{Deed}
-use Rattle.linda_state.specs.Deed.{is_taken}
-use Rattle.linda_state.specs.State.{State, IsState, empty_state}
-use Rattle.linda_state.specs.Once.{IsTakenOnce}
-use Rattle.linda_state.specs.Proper.{AreDone}
-use Rattle.linda_step.specs.Soft.{no_asks}
-use Rattle.linda_step.specs.Answer.{reply_of_kept}
-use Rattle.linda_step.specs.History.{says, History, Happens, history_of}
-use Rattle.linda_promise.specs.Steps.{number_of_message}
-use Rattle.linda_promise.specs.Covered.{IsCovered}
+use Rattle.linda_store_state.specs.declared.deed.Deed.{Deed}
+use Rattle.linda_store_state.specs.Deed.{is_taken}
+use Rattle.linda_store_state.specs.State.{State, IsState, empty_state}
+use Rattle.linda_store_state.specs.Once.{IsTakenOnce}
+use Rattle.linda_store_state.specs.Proper.{AreDone}
+use Rattle.linda_store_step.specs.Soft.{no_asks}
+use Rattle.linda_store_step.specs.Answer.{reply_of_kept}
+use Rattle.linda_store_step.specs.History.{says, History, Happens, history_of}
+use Rattle.linda_store_step.specs.Reported.{number_of_message}
+use Rattle.linda_store_step.specs.Covered.{IsCovered}
 use Rattle.linda_store.specs.Sound.{AreBacked}
 use Rattle.linda_disk.specs.declared.disk.Disk.{Ghosts}
 use Rattle.linda_snap.specs.Stands.{Stands}

@@ -3,12 +3,12 @@ use Rattle.std.specs.Prelude.{◌≡◌, ◌⊎◌, ◌-◌, Bool, false, nat_le
 use Rattle.std.specs.List.{slice_get}
 use Rattle.std.specs.FinMap.{get}
 use Rattle.linda_book.specs.Entries.{number_in}
-use Rattle.linda_state.specs.declared.deed.Deed.{Deed}
-use Rattle.linda_state.specs.Deed.{client_of, number_of}
-use Rattle.linda_state.specs.State.{State}
-use Rattle.linda_state.specs.After.{IsAfter}
-use Rattle.linda_step.specs.Soft.{no_asks}
-use Rattle.linda_step.specs.Store.{Store}
+use Rattle.linda_store_state.specs.declared.deed.Deed.{Deed}
+use Rattle.linda_store_state.specs.Deed.{client_of, number_of}
+use Rattle.linda_store_state.specs.State.{State}
+use Rattle.linda_store_state.specs.After.{IsAfter}
+use Rattle.linda_store_step.specs.Soft.{no_asks}
+use Rattle.linda_store_step.specs.Store.{Store}
 
 -- The deed is there, and its number is not above the last one that is kept of its client.
 abbrev pub is_done : State → Option Deed → Bool

@@ -4,11 +4,11 @@ use Rattle.std.specs.Option.{is_some}
 use Rattle.std.specs.List.{flat_map}
 use Rattle.linda_wire.specs.declared.message.Message.{Message}
 use Rattle.linda_wire.specs.declared.reply.Reply.{Reply}
-use Rattle.linda_state.specs.declared.deed.Deed.{Deed}
-use Rattle.linda_state.specs.State.{State}
-use Rattle.linda_step.specs.Soft.{Soft}
-use Rattle.linda_step.specs.Answer.{Answer, IsStep}
-use Rattle.linda_server.specs.declared.served.Share.{Share}
+use Rattle.linda_store_state.specs.declared.deed.Deed.{Deed}
+use Rattle.linda_store_state.specs.State.{State}
+use Rattle.linda_store_step.specs.Soft.{Soft}
+use Rattle.linda_store_step.specs.Answer.{Answer, IsStep}
+use Rattle.linda_server.specs.declared.served.Portion.{Portion}
 use Rattle.linda_server.specs.declared.served.Served.{Served}
 use Rattle.linda_server.specs.declared.serving.Batch.{Batch}
 use Rattle.linda_server.specs.declared.serving.Batch.TheVariants.{One, Many}
@@ -35,16 +35,16 @@ deeds_of answers = flat_map (λ (a : Answer). option_to_list a.deed) answers
 abbrev pub sends_of : List Answer → List (ℕ × Reply)
 sends_of answers = flat_map (λ (a : Answer). a.sends) answers
 
--- one answer's share of these: whether it did a deed, and how many it sends
-abbrev pub share_of : Answer → Share
-share_of a = record { has_deed = is_some a.deed; sends = length a.sends }
+-- one answer's portion of these: whether it did a deed, and how many it sends
+abbrev pub portion_of : Answer → Portion
+portion_of a = record { has_deed = is_some a.deed; sends = length a.sends }
 
 -- What was served gives the answers: all deeds in order, all sends in order, and each answer's
--- share of both.
+-- portion of both.
 pub record Tells (told : Served) (answers : List Answer) : Type 0 where
   pub deeds : told.deeds.items ≡ deeds_of answers
   pub sends : told.sends.items ≡ sends_of answers
-  pub shares : told.shares.items ≡ map share_of answers
+  pub portions : told.portions.items ≡ map portion_of answers
 
 -- From this state, with these holds and waits, the messages were answered so, and what was served
 -- says it.
@@ -62,4 +62,4 @@ pub record IsServedToo (st : State) (soft : Soft) (c : ℕ) (m : Message) (befor
   pub soft_is : then ≡ answer.soft
   pub deeds : told.deeds.items ≡ before.deeds.items ++ option_to_list answer.deed
   pub sends : told.sends.items ≡ before.sends.items ++ answer.sends
-  pub shares : told.shares.items ≡ before.shares.items ++ share_of answer ∷ []
+  pub portions : told.portions.items ≡ before.portions.items ++ portion_of answer ∷ []

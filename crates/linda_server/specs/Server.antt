@@ -1,13 +1,14 @@
 -- The two disks of a server, and what its calls keep to, as clauses speak of them.
-use Rattle.std.specs.Prelude.{◌≡◌, ℕ, ◌+◌, Bool, List}
+use Rattle.std.specs.Prelude.{◌≡◌, ℕ, ◌+◌, Bool, List, Option}
 use Rattle.linda_tuple.specs.declared.form.Form.{Form}
-use Rattle.linda_state.specs.State.{State}
+use Rattle.linda_store_state.specs.State.{State}
 use Rattle.linda_disk.specs.declared.disk.Disk.{Ghosts}
 use Rattle.linda_journal.specs.declared.bank.Bank.{Bank}
 use Rattle.linda_journal.specs.Renewal.{TakesCalls}
 use Rattle.linda_server.specs.declared.disks.Disks.{Disks}
+use Rattle.linda_server.specs.declared.disks.InUse.{InUse}
 use Rattle.linda_server.specs.Pairs.{Both, PairsSince, PairsNow}
-use Rattle.linda_server.specs.Disks.{both, form_of, number_of, is_ready, AreHonest, failures, IsUpOn, IsKeptOn}
+use Rattle.linda_server.specs.Disks.{both, used_of, form_of, number_of, is_ready, AreHonest, failures, IsUpOn, IsKeptOn}
 use Rattle.linda_server.specs.Disks.{AreRelated, AreSwapped}
 use Rattle.linda_server.specs.Calls.{StandsFor}
 
@@ -19,6 +20,10 @@ module _ {D : Type 0} {g : Ghosts D} where
   -- A bank is in use, and it is not spent.
   abbrev pub is_usable : Disks (Bank D g) D → Bool
   is_usable disks = is_ready (λ b. b.is_spent) disks
+
+  -- Which bank is in use, if one is: on which side it is, and its generation.
+  abbrev pub bank_in_use : Disks (Bank D g) D → Option InUse
+  bank_in_use disks = used_of (λ b. b.generation) disks
 
   -- The form of the bank in use; where none is, that of new banks.
   abbrev pub form_in_use : Disks (Bank D g) D → Form

@@ -1,12 +1,12 @@
 -- How a server takes its other disk into use, and how it empties that disk.
 use Rattle.std.specs.Prelude.{◌≡◌, ℕ, ◌+◌, ◌<◌, ◌≤◌, ◌^◌, ◌⊎◌, not, length}
-use Rattle.linda_state.specs.State.{State}
+use Rattle.linda_store_state.specs.State.{State}
 use Rattle.linda_disk.specs.View.{IsDurable}
 use Rattle.linda_disk.specs.declared.disk.Disk.{Ghosts}
 use Rattle.linda_journal.specs.declared.bank.Bank.{Bank}
 use Rattle.linda_journal.specs.declared.limits.TheConstants.{MIN_BYTES}
 use Rattle.linda_journal.specs.Renewal.{IsClosed, pieces}
-use Rattle.linda_state.specs.DeedFormat.{written}
+use Rattle.linda_store_state.specs.DeedFormat.{written}
 use Rattle.linda_snap.specs.Snapshot.{spell_state}
 use Rattle.linda_server.specs.declared.disks.Disks.{Disks}
 use Rattle.linda_server.specs.declared.disks.Disks.TheVariants.{InUse, Shut, Away}

@@ -1,7 +1,7 @@
 //! How the disk that is not in use is emptied.
 
 ghost use Rattle.std.specs.Prelude.{◌≡◌, ◌+◌, ◌↔◌, true, length, IfErr, OnOk};
-ghost use Rattle.linda_state.specs.State as state;
+ghost use Rattle.linda_store_state.specs.State as state;
 ghost use Rattle.linda_disk.specs.View.{IsDurable};
 ghost use Rattle.linda_disk.specs.Disk.{CountsFailure, TellsFailures};
 ghost use Rattle.linda_disk.specs.Run.{LeavesOnly};

@@ -1,10 +1,10 @@
 //! How deeds come onto the bank in use.
 
 ghost use Rattle.std.specs.Prelude.{◌≡◌, ◌<◌, ◌≤◌, ◌+◌, ◌↔◌, ◌⊎◌, ◌≢◌, [], true, length, All, IfErr, OnOk, IsErrOf};
-ghost use Rattle.linda_state.specs.DeedFormat.{payload, SuitsForm};
-ghost use Rattle.linda_state.specs.State as state;
+ghost use Rattle.linda_store_state.specs.DeedFormat.{payload, SuitsForm};
+ghost use Rattle.linda_store_state.specs.State as state;
 ghost use Rattle.linda_disk.specs.Disk.{TellsFailures};
-ghost use Rattle.linda_step.specs.declared.size.TheConstants.{MAX_BATCH};
+ghost use Rattle.linda_store_step.specs.declared.size.TheConstants.{MAX_BATCH};
 ghost use Rattle.linda_server.specs.declared.limits.TheConstants.{RECORD_BYTES};
 ghost use Rattle.linda_server.specs.Pairs.{PairsSince};
 ghost use Rattle.linda_server.specs.Server.{both_of, is_usable, form_in_use, end_in_use, limit_in_use};
@@ -16,7 +16,7 @@ use crate::disks::{Disks, Pair};
 use crate::fault::ServeFault;
 use linda_disk::Disk;
 use linda_journal::{Bank, BankFault};
-use linda_state::Deed;
+use linda_store_state::Deed;
 use std::alloc::Global;
 
 /// Puts the deeds, if there are any, onto the bank in use as one record.

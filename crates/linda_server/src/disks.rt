@@ -5,7 +5,7 @@ ghost use Rattle.linda_server.specs.Disks as spec;
 
 use linda_disk::{Disk, MemDisk};
 use linda_journal::Bank;
-use linda_state::BANK_FORM;
+use linda_store_state::BANK_FORM;
 use linda_tuple::Form;
 
 /// The two disks of a server. What a bank and a disk are is left to who uses them.
@@ -34,6 +34,15 @@ pub(crate) fn is_old(form: Form) -> bool
     }
 }
 
+/// Which bank is in use.
+#[derive(Clone, Copy, Debug, PartialEq, Eq)]
+pub struct InUse {
+    /// Whether it is the right one.
+    pub is_right: bool,
+    /// Its generation.
+    pub generation: u64,
+}
+
 /// A bank in use, and the other disk.
 #[derive(Drop)]
 pub(crate) struct Pair<B, D> {
@@ -48,7 +57,7 @@ pub(crate) struct Pair<B, D> {
 impl<D: Disk> Disks<Bank<D>, D> {
     ghost use Rattle.std.specs.Prelude.{◌≡◌, true, Some};
     ghost use Rattle.linda_server.specs.Disks.{disks_of, is_there};
-    ghost use Rattle.linda_server.specs.Server.{form_in_use, end_in_use, records_in_use};
+    ghost use Rattle.linda_server.specs.Server.{bank_in_use, form_in_use, end_in_use, records_in_use};
 
     /// The form of the bank in use; where none is in use, that of new banks.
     pub(crate) fn form(&self) -> Form
@@ -78,6 +87,19 @@ impl<D: Disk> Disks<Bank<D>, D> {
         match self {
             Disks::InUse(pair) => pair.bank.records(),
             Disks::Shut { .. } | Disks::Away => 0,
+        }
+    }
+
+    /// Which bank is in use; nothing where none is.
+    pub(crate) fn in_use(&self) -> Option<InUse>
+        ensures { result ≡ bank_in_use self.now }
+    {
+        match self {
+            Disks::InUse(pair) => Some(InUse {
+                is_right: pair.is_right,
+                generation: pair.bank.generation(),
+            }),
+            Disks::Shut { .. } | Disks::Away => None,
         }
     }
 

@@ -13,19 +13,19 @@ ghost use Rattle.std.specs.Prelude.{◌≡◌, ◌||◌, [], nat_le, true, false
 ghost use Rattle.linda_server.specs.declared.limits.TheConstants.{SNAPSHOT_RECORDS};
 ghost use Rattle.linda_server.specs.Pairs.{PairsNow};
 ghost use Rattle.linda_server.specs.Disks.{disks_of, is_there, is_old};
-ghost use Rattle.linda_server.specs.Server.{both_of, is_usable, form_in_use, end_in_use, records_in_use};
-ghost use Rattle.linda_server.specs.Server.{limit_in_use, BothHonest, IsKeptFor, StandNow};
+ghost use Rattle.linda_server.specs.Server.{both_of, is_usable, bank_in_use, form_in_use, end_in_use};
+ghost use Rattle.linda_server.specs.Server.{records_in_use, limit_in_use, BothHonest, IsKeptFor, StandNow};
 ghost use Rattle.linda_server.specs.Calls.{IsLimit, IsWithOrWithout};
 
-use crate::disks::{Disks, is_old};
+use crate::disks::{Disks, InUse, is_old};
 use crate::limits::SNAPSHOT_RECORDS;
 use linda_bag::IndexBag;
 use linda_disk::Disk;
 use linda_hold::{Holds, Waits};
 use linda_journal::Bank;
 use linda_moment::Moment;
-use linda_state::{Deed, State};
-use linda_step::Store;
+use linda_store_state::{Deed, State};
+use linda_store_step::Store;
 
 /// A server on two disks, of which one holds the bank in use. What it answers for is on that bank
 /// before it answers.
@@ -56,8 +56,8 @@ pub struct Durable<D: Disk> {
 }
 
 impl<D: Disk> Durable<D> {
-    ghost use Rattle.linda_state.specs.State.{IsState};
-    ghost use Rattle.linda_step.specs.Store.{IsOrderly};
+    ghost use Rattle.linda_store_state.specs.State.{IsState};
+    ghost use Rattle.linda_store_step.specs.Store.{IsOrderly};
 
     /// What the server keeps, in its ranges.
     pub fn state(&self) -> &State<IndexBag>
@@ -106,6 +106,14 @@ impl<D: Disk> Durable<D> {
         ensures { result ≡ is_old (form_in_use self.now.disks) }
     {
         is_old(self.disks.form())
+    }
+
+    /// Which bank is in use: of two, that of the greater generation; nothing only while none is, as the server may be
+    /// down.
+    pub fn in_use(&self) -> Option<InUse>
+        ensures { result ≡ bank_in_use self.now.disks }
+    {
+        self.disks.in_use()
     }
 
     /// How many records the bank in use has: those since the last snapshot.

@@ -2,10 +2,11 @@
 
 ghost use Rattle.std.specs.Prelude.{◌≡◌, ◌<◌, ◌⊎◌, ◌↔◌, []};
 ghost use Rattle.std.specs.Prelude.{true, false, length, IfOk, IfErr, OnOk, IsErrOf};
-ghost use Rattle.linda_state.specs.State.{empty_state};
-ghost use Rattle.linda_state.specs.DeedFormat.{written};
+ghost use Rattle.linda_store_state.specs.State.{empty_state};
+ghost use Rattle.linda_store_state.specs.DeedFormat.{written};
 ghost use Rattle.linda_disk.specs.Disk.{TellsFailures, TellsFailuresOfTwo};
 ghost use Rattle.linda_disk.specs.Run.{LeavesOnly};
+ghost use Rattle.linda_snap.specs.declared.putting.TheConstants.{EMPTY_STATE_BYTES};
 ghost use Rattle.linda_snap.specs.Snapshot.{spell_state, FitsState};
 ghost use Rattle.linda_server.specs.declared.limits.TheConstants.{MIN_LIMIT, MAX_LIMIT};
 ghost use Rattle.linda_server.specs.Pairs.{IsVoid};
@@ -16,7 +17,7 @@ use crate::limits::{MAX_LIMIT, MIN_LIMIT};
 use linda_bag::IndexBag;
 use linda_disk::{Disk, DiskFault};
 use linda_snap::put_state;
-use linda_state::State;
+use linda_store_state::State;
 use std::alloc::{AllocError, Global};
 
 /// Sees to it that both disks are empty, and that a bank may have this limit. Nothing is written.
@@ -115,7 +116,7 @@ pub(crate) fn of_device(fault: DiskFault) -> OpenFault
 pub(crate) fn spell_empty(alloc: Global) -> Result<Vec<u8>, AllocError>
     ensures bytes { IfOk result (λ v. v.items ≡ spell_state written empty_state) }
     ensures fits { OnOk result (FitsState written empty_state) }
-    ensures short { length (spell_state written empty_state) ≡ 16 }
+    ensures short { length (spell_state written empty_state) ≡ EMPTY_STATE_BYTES }
 {
     let state: State<IndexBag> = State::new(alloc);
     let mut body = Vec::new(alloc);

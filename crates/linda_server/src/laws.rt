@@ -3,7 +3,7 @@
 
 ghost use Rattle.std.specs.Prelude.{ℕ, List};
 ghost use Rattle.linda_wire.specs.declared.reply.Reply.{Reply};
-ghost use Rattle.linda_state.specs.declared.deed.Deed.{Deed};
+ghost use Rattle.linda_store_state.specs.declared.deed.Deed.{Deed};
 ghost use Rattle.linda_server.specs.declared.durable.Durable.{Durable};
 ghost use Rattle.linda_server.specs.Lives.{Life, Serving, Stopped, IsOpenedOn};
 ghost use Rattle.linda_server.specs.Promises.{KeepsItsWord, AreReady, IsFreed};

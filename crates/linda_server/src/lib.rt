@@ -3,7 +3,6 @@
 
 mod clearing;
 mod commit;
-mod crossing;
 mod disks;
 mod durable;
 mod empty;
@@ -11,11 +10,13 @@ mod fault;
 mod laws;
 mod limits;
 mod renewal;
+mod send;
 mod served;
 mod serving;
 
+pub use disks::InUse;
 pub use durable::Durable;
 pub use fault::{OpenFault, ServeFault};
 pub use laws::servers_keep_their_word;
 pub use limits::{MAX_LIMIT, MIN_LIMIT, SNAPSHOT_RECORDS};
-pub use served::{Served, Share};
+pub use served::{Portion, Served};

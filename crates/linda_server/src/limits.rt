@@ -1,7 +1,11 @@
 //! The limits of a server.
 
-/// The fewest bytes that a bank may be limited to: those of a new one.
-pub const MIN_LIMIT: usize = 34;
+use linda_journal::{GATE_BYTES, MIN_BYTES, RECORD_HEAD};
+use linda_snap::EMPTY_STATE_BYTES;
+
+/// The fewest bytes that a bank may be limited to: those of a new one, whose body is a snapshot of the empty state, and
+/// whose journal is a closed gate.
+pub const MIN_LIMIT: usize = MIN_BYTES + EMPTY_STATE_BYTES + GATE_BYTES;
 
 /// The most bytes that a bank may be limited to.
 pub const MAX_LIMIT: usize = 1_073_741_824;
@@ -10,4 +14,4 @@ pub const MAX_LIMIT: usize = 1_073_741_824;
 pub const SNAPSHOT_RECORDS: usize = 1024;
 
 /// The bytes of a record but for its deeds, and of the closed gate after it.
-pub(crate) const RECORD_BYTES: usize = 6;
+pub(crate) const RECORD_BYTES: usize = RECORD_HEAD + GATE_BYTES;

@@ -1,7 +1,7 @@
 //! How the disk that is not in use becomes a new bank, which is then in use.
 
 ghost use Rattle.std.specs.Prelude.{◌≡◌, ◌<◌, ◌^◌, ◌↔◌, ◌⊎◌, true, IfErr, OnOk, IsErrOf};
-ghost use Rattle.linda_state.specs.State.{IsState};
+ghost use Rattle.linda_store_state.specs.State.{IsState};
 ghost use Rattle.linda_disk.specs.Disk.{TellsFailures};
 ghost use Rattle.linda_snap.specs.Stands.{Stands};
 ghost use Rattle.linda_server.specs.Pairs.{PairsSince};
@@ -16,7 +16,7 @@ use linda_bag::Bag;
 use linda_disk::Disk;
 use linda_journal::Bank;
 use linda_snap::{SwitchFault, switch};
-use linda_state::State;
+use linda_store_state::State;
 use std::alloc::Global;
 use std::mem;
 

@@ -2,7 +2,7 @@
 
 ghost use Rattle.std.specs.Prelude.{◌≡◌};
 
-use linda_state::Deed;
+use linda_store_state::Deed;
 use linda_wire::Reply;
 
 /// What messages led to, one after another: all deeds, all replies, and which of them are whose.
@@ -12,8 +12,8 @@ pub struct Served {
     pub deeds: Vec<Deed>,
     /// The replies with the clients that they go to, in order.
     pub sends: Vec<(u32, Reply)>,
-    /// For each message, in order, its share of both.
-    pub shares: Vec<Share>,
+    /// For each message, in order, its portion of both.
+    pub portions: Vec<Portion>,
 }
 
 impl Served {
@@ -36,7 +36,7 @@ impl Served {
 
 /// What one message led to.
 #[derive(Clone, Copy, Debug, PartialEq, Eq)]
-pub struct Share {
+pub struct Portion {
     /// Whether it did a deed: then that is the next one.
     pub has_deed: bool,
     /// How many replies it sent: the next ones.

@@ -5,10 +5,10 @@ ghost use Rattle.std.specs.Prelude.{length, OnOk, IfOk, false, option_to_list};
 ghost use Rattle.std.specs.Option.{is_some};
 ghost use Rattle.linda_server.specs.Served.{messages_of, IsServed, IsServedToo};
 
-use crate::served::{Served, Share};
+use crate::served::{Portion, Served};
 use linda_bag::IndexBag;
-use linda_state::Deed;
-use linda_step::{Step, Store};
+use linda_store_state::Deed;
+use linda_store_step::{Step, Store};
 use linda_wire::{Message, Reply};
 use std::alloc::{AllocError, Global};
 
@@ -81,12 +81,12 @@ fn serve_each(
 fn none(alloc: Global) -> Served
     ensures deeds { result.deeds.items ≡ [] }
     ensures sends { result.sends.items ≡ [] }
-    ensures shares { result.shares.items ≡ [] }
+    ensures portions { result.portions.items ≡ [] }
 {
     Served {
         deeds: Vec::new(alloc),
         sends: Vec::new(alloc),
-        shares: Vec::new(alloc),
+        portions: Vec::new(alloc),
     }
 }
 
@@ -94,12 +94,12 @@ fn none(alloc: Global) -> Served
 fn none_of(alloc: Global, messages: usize) -> Result<Served, AllocError>
     ensures deeds { IfOk result (λ served. served.deeds.items ≡ []) }
     ensures sends { IfOk result (λ served. served.sends.items ≡ []) }
-    ensures shares { IfOk result (λ served. served.shares.items ≡ []) }
+    ensures portions { IfOk result (λ served. served.portions.items ≡ []) }
 {
     Ok(Served {
         deeds: Vec::with_capacity(alloc, messages)?,
         sends: Vec::with_capacity(alloc, messages)?,
-        shares: Vec::with_capacity(alloc, messages)?,
+        portions: Vec::with_capacity(alloc, messages)?,
     })
 }
 
@@ -118,18 +118,18 @@ fn add(
 {
     let step = store.step(alloc, client, message)?;
     let Step { deed, mut sends } = step;
-    let share = share_of(&deed, &sends);
+    let portion = portion_of(&deed, &sends);
     push_deed(&mut served.deeds, deed)?;
     served.sends.append(&mut sends)?;
-    served.shares.push(share)?;
+    served.portions.push(portion)?;
     Ok(())
 }
 
-// The share of one answer.
-fn share_of(deed: &Option<Deed>, sends: &[(u32, Reply)]) -> Share
+// The portion of one answer.
+fn portion_of(deed: &Option<Deed>, sends: &[(u32, Reply)]) -> Portion
     ensures { result ≡ record { has_deed = is_some deed.now; sends = length sends.now } }
 {
-    Share {
+    Portion {
         has_deed: deed.is_some(),
         sends: sends.len(),
     }

@@ -1,4 +1,4 @@
 mod WorkingLaws
 mod SeatLaws
-mod TrayLaws
+mod GroupLaws
 mod AddressedLaws

@@ -2,11 +2,11 @@
 use Rattle.std.proofs.Common.{◌≡◌, ◌⊎◌, inl, inr, subst, ℕ, ◌+◌, ◌-◌, ◌^◌, min, List, [], ◌∷◌, Option, Some, None, IfSome, IsSome, true≢false, refl, sym, ap, ◌∙◌, arith}
 use Rattle.std.proofs.lemmas.List.Sums.{sum_by-cons}
 use Rattle.linda_wire.specs.declared.message.Message.{Message}
-use Rattle.linda_receipt.specs.declared.receipt.Receipt.{Receipt}
-use Rattle.linda_receipt.specs.declared.fault.SharedFault.{SharedFault}
-use Rattle.linda_receipt.specs.declared.fault.SharedFault.TheVariants as faults
-use Rattle.linda_receipt.specs.Account.{Account}
-use Rattle.linda_mail.specs.Seat.{with_all, AreToldOf, IsLeftBy, deeds_told}
+use Rattle.linda_shared_accounts.specs.declared.receipt.Receipt.{Receipt}
+use Rattle.linda_shared_accounts.specs.declared.fault.SharedFault.{SharedFault}
+use Rattle.linda_shared_accounts.specs.declared.fault.SharedFault.TheVariants as faults
+use Rattle.linda_shared_accounts.specs.Account.{Account}
+use Rattle.linda_shared_queue.specs.Seat.{with_all, AreToldOf, IsLeftBy, deeds_told}
 
 -- ---- messages of which nothing was told
 

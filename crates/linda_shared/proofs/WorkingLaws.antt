@@ -1,7 +1,7 @@
 -- What follows of seats that worked.
 use Rattle.std.proofs.Common.{◌≡◌, List, [], ◌∷◌, ◌++◌, map, sym, ap, ◌∙◌}
 use Rattle.std.proofs.lemmas.List.{map-append}
-use Rattle.linda_receipt.specs.Account.{Account}
+use Rattle.linda_shared_accounts.specs.Account.{Account}
 use Rattle.linda_shared.specs.Working.{HasWorked, AllHaveWorked}
 
 -- One more after each.

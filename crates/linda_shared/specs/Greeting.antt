@@ -3,10 +3,10 @@ use Rattle.std.specs.Prelude.{◌≡◌, ℕ, Result, Ok, Err}
 use Rattle.std.specs.Arc.{arc_value}
 use Rattle.linda_wire.specs.declared.message.Message.{Message}
 use Rattle.linda_wire.specs.declared.message.Message.TheVariants as messages
-use Rattle.linda_state.specs.State.{State}
-use Rattle.linda_receipt.specs.Account.{Account}
-use Rattle.linda_receipt.specs.Till.{Places}
-use Rattle.linda_desk.specs.Greeting.{IsGreeted}
+use Rattle.linda_store_state.specs.State.{State}
+use Rattle.linda_shared_accounts.specs.Account.{Account}
+use Rattle.linda_shared_accounts.specs.Accounts.{Places}
+use Rattle.linda_shared_held.specs.Greeting.{IsGreeted}
 use Rattle.linda_shared.specs.declared.greeted.Greeted.{Greeted}
 use Rattle.linda_shared.specs.declared.greeted.Greeted.TheVariants.{Welcome, Refused}
 

@@ -1,4 +1,4 @@
 pub mod Addressed
-pub mod Tray
+pub mod Group
 pub mod Greeting
 pub mod Working

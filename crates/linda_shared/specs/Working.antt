@@ -1,8 +1,8 @@
 -- What contracts say of seats that went to work and came back.
 use Rattle.std.specs.Prelude.{◌≡◌, ◌≤◌, ℕ, List, [], ◌∷◌, Result, Ok, Err, nat_lt, if◌then◌else◌}
-use Rattle.linda_receipt.specs.Account.{Account}
-use Rattle.linda_receipt.specs.declared.fault.SharedFault.{SharedFault}
-use Rattle.linda_receipt.specs.declared.fault.SharedFault.TheVariants as faults
+use Rattle.linda_shared_accounts.specs.Account.{Account}
+use Rattle.linda_shared_accounts.specs.declared.fault.SharedFault.{SharedFault}
+use Rattle.linda_shared_accounts.specs.declared.fault.SharedFault.TheVariants as faults
 
 -- It is the same client's, which was told of no fewer deeds.
 pub record HasWorked (before after : Account) : Type 0 where

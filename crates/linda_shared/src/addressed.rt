@@ -4,7 +4,7 @@ ghost use Rattle.std.specs.Prelude.{◌≡◌, map, All, length, IfOk};
 ghost use Rattle.std.specs.Arc.{arc_value};
 ghost use Rattle.linda_shared.specs.Addressed.{up_to};
 
-use linda_mail::{Address, Mailbox};
+use linda_shared_queue::{Address, Mailbox};
 use linda_wire::Message;
 use std::alloc::{AllocError, Global};
 use std::sync::Arc;

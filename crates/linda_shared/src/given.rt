@@ -1,37 +1,37 @@
-//! What becomes of a group's letters.
+//! What becomes of a group's deliveries.
 
 ghost use Rattle.std.specs.Prelude.{◌≡◌, true, false, not, All, IsTrue, map, vec_len, vec_capacity};
-ghost use Rattle.linda_shared.specs.Tray.{has_copy, all_true};
+ghost use Rattle.linda_shared.specs.Group.{has_copy, all_true};
 
-use linda_desk::Held;
 use linda_disk::Disk;
-use linda_mail::Letter;
+use linda_shared_held::Held;
+use linda_shared_queue::Delivery;
 use std::sync::ledger::Ledger;
 
-/// Whether all letters have their copies, and so may go out. Else the server is given up, and all are lost.
+/// Whether all deliveries have their copies, and so may go out. Else the server is given up, and all are lost.
 pub(crate) fn settle<D: Disk, L: Ledger>(
-    letters: &mut Vec<Letter<L>>,
+    deliveries: &mut Vec<Delivery<L>>,
     held: &mut Held<D, L>,
 ) -> bool
-    ensures is { result ≡ all_true (map has_copy letters.old.items) }
-    ensures kept { result ≡ true → (letters.new.items ≡ letters.old.items) × (held.new ≡ held.old) }
+    ensures is { result ≡ all_true (map has_copy deliveries.old.items) }
+    ensures kept { result ≡ true → (deliveries.new.items ≡ deliveries.old.items) × (held.new ≡ held.old) }
     ensures down { result ≡ false → held.new.server.down ≡ true }
-    ensures each { (vec_len letters.new ≡ vec_len letters.old)
-        × (vec_capacity letters.new ≡ vec_capacity letters.old) }
+    ensures each { (vec_len deliveries.new ≡ vec_len deliveries.old)
+        × (vec_capacity deliveries.new ≡ vec_capacity deliveries.old) }
 {
-    if !has_lost(letters) {
+    if !has_lost(deliveries) {
         return true;
     }
     held.give_up();
-    lose_all(letters);
+    lose_all(deliveries);
     false
 }
 
 // Whether one of these is lost.
-fn has_lost<L: Ledger>(letters: &[Letter<L>]) -> bool
-    ensures { result ≡ not (all_true (map has_copy letters.now)) }
+fn has_lost<L: Ledger>(deliveries: &[Delivery<L>]) -> bool
+    ensures { result ≡ not (all_true (map has_copy deliveries.now)) }
 {
-    let mut rest = letters;
+    let mut rest = deliveries;
     while let [first, others @ ..] = rest {
         if first.is_lost() {
             return true;
@@ -42,10 +42,10 @@ fn has_lost<L: Ledger>(letters: &[Letter<L>]) -> bool
 }
 
 // All of these are lost.
-fn lose_all<L: Ledger>(letters: &mut Vec<Letter<L>>)
-    ensures { (vec_len letters.new ≡ vec_len letters.old) × (vec_capacity letters.new ≡ vec_capacity letters.old) }
+fn lose_all<L: Ledger>(deliveries: &mut Vec<Delivery<L>>)
+    ensures { (vec_len deliveries.new ≡ vec_len deliveries.old) × (vec_capacity deliveries.new ≡ vec_capacity deliveries.old) }
 {
-    for index in 0..letters.len() {
-        letters[index].lose();
+    for index in 0..deliveries.len() {
+        deliveries[index].lose();
     }
 }

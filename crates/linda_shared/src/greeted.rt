@@ -1,7 +1,7 @@
 //! What a greeting comes to.
 
 use crate::seat::Seat;
-use linda_mail::Outlet;
+use linda_shared_queue::Outlet;
 use std::sync::ledger::Ledger;
 
 /// What a greeting comes to.

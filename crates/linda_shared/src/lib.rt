@@ -6,24 +6,24 @@
 #![tactic(auto)]
 
 mod addressed;
-mod crossing;
-mod desk;
 mod gate;
 mod given;
 mod greeted;
+mod group;
+mod locked;
 mod seat;
+mod send;
 mod shared;
-mod tray;
 mod worker;
 mod workers;
 
-pub use crossing::{outlet_crosses, seat_crosses, shared_may_be_lent};
 pub use gate::Gate;
 pub use greeted::Greeted;
-pub use linda_desk::{Gauge, Report};
-pub use linda_mail::Outlet;
-pub use linda_receipt::{Receipt, SharedFault};
+pub use linda_shared_accounts::{Receipt, SharedFault};
+pub use linda_shared_held::{Gauge, Report};
+pub use linda_shared_queue::Outlet;
 pub use seat::Seat;
+pub use send::{outlet_crosses, seat_crosses, shared_may_be_lent};
 pub use shared::Shared;
 pub use worker::{MOST_TURNS, Next, Worker};
 pub use workers::{Worked, run_workers};

@@ -2,11 +2,11 @@
 
 ghost use Rattle.std.specs.Prelude.{◌≡◌, ◌-◌, ◌^◌, min};
 ghost use Rattle.std.specs.Arc.{arc_value};
-ghost use Rattle.linda_receipt.specs.Account as seen;
-ghost use Rattle.linda_receipt.specs.Ring.{last_number};
+ghost use Rattle.linda_shared_accounts.specs.Account as seen;
+ghost use Rattle.linda_shared_accounts.specs.Ring.{last_number};
 
-use linda_mail::Mailbox;
-use linda_receipt::Account;
+use linda_shared_accounts::Account;
+use linda_shared_queue::Mailbox;
 use std::alloc::Global;
 use std::marker::Model;
 use std::sync::Arc;
@@ -23,8 +23,8 @@ pub struct Seat<L: Ledger> {
 impl<L: Ledger> Model for Seat<L> {
     ghost use Rattle.std.specs.Prelude.{◌≡◌};
     ghost use Rattle.std.specs.Arc.{arc_value};
-    ghost use Rattle.linda_receipt.specs.Account as seen;
-    ghost use Rattle.linda_receipt.specs.Codes.{account_code};
+    ghost use Rattle.linda_shared_accounts.specs.Account as seen;
+    ghost use Rattle.linda_shared_accounts.specs.Codes.{account_code};
 
     ghost Value = { seen.Account };
 

@@ -8,25 +8,25 @@ mod leave;
 mod submit;
 
 ghost use Rattle.std.specs.Prelude.{◌≡◌, false};
-ghost use Rattle.linda_receipt.specs.declared.limits.TheConstants.{PARTS};
+ghost use Rattle.linda_shared_accounts.specs.declared.limits.TheConstants.{PARTS};
 
-use crate::desk::Desk;
-use crate::tray::Tray;
-use linda_desk::{Durable, Gauge, Held};
+use crate::group::Group;
+use crate::locked::Locked;
 use linda_disk::Disk;
-use linda_mail::{Office, Outlet, Queue};
-use linda_receipt::SharedFault;
+use linda_shared_accounts::SharedFault;
+use linda_shared_held::{Durable, Gauge, Held};
+use linda_shared_queue::{Outlet, Queue, Router};
 use linda_wire::Reply;
 use std::alloc::{AllocError, Global};
 use std::sync::ledger::{Blank, Ledger};
 use std::sync::{Mutex, Wait};
 
-/// A server that threads share. Order of locks: the desk, the office, the queue, a mailbox. The desk is held while a
-/// group is written to the disks; the office while what a group came to is given out, beside the next group.
+/// A server that threads share. Order of locks: the server, the router, the queue, a mailbox. The server is locked
+/// while a group is written to the disks; the router while what a group came to is given out, beside the next group.
 #[derive(Drop)]
 pub struct Shared<D: Disk, L: Ledger> {
-    desk: Mutex<Desk<D, L>>,
-    office: Mutex<Office<L>>,
+    locked: Mutex<Locked<D, L>>,
+    router: Mutex<Router<L>>,
     queue: Mutex<Queue<L>>,
     alloc: Global,
 }
@@ -41,16 +41,16 @@ impl<D: Disk, L: Ledger> Shared<D, L> {
         requires up { server.down ≡ false }
         requires blank { (blank.name ≡ L.name) × (blank.parts ≡ L.parts) × (L.parts ≡ PARTS) }
     {
-        let tray = Tray::new(alloc)?;
-        let office = Office::new(alloc)?;
+        let group = Group::new(alloc)?;
+        let router = Router::new(alloc)?;
         let held = Held::new(alloc, server, blank);
         Ok(Shared {
-            desk: Mutex::new(Desk {
+            locked: Mutex::new(Locked {
                 held,
-                tray,
+                group,
                 is_given_up: false,
             }),
-            office: Mutex::new(office),
+            router: Mutex::new(router),
             queue: Mutex::new(Queue::new(alloc)),
             alloc,
         })
@@ -69,33 +69,33 @@ impl<D: Disk, L: Ledger> Shared<D, L> {
 
     /// Whether the server is down.
     pub fn is_down<R: Wait>(&self, rt: &R) -> bool {
-        self.desk.lock(rt).held.is_down()
+        self.locked.lock(rt).held.is_down()
     }
 
     /// Whether a snapshot is due.
     pub fn needs_snapshot<R: Wait>(&self, rt: &R) -> bool {
-        self.desk.lock(rt).held.needs_snapshot()
+        self.locked.lock(rt).held.needs_snapshot()
     }
 
     /// Whether a snapshot is to be taken, as `Held::pays` says: for the program that serves, and takes them.
     pub fn pays<R: Wait>(&self, rt: &R) -> bool {
-        self.desk.lock(rt).held.pays()
+        self.locked.lock(rt).held.pays()
     }
 
     /// Has no snapshot that pays tried before there are as many records more as make one due; one that a deed asks for
     /// which was refused for room is taken all the same. For a server that was opened, and may have gone down in one.
     pub fn put_off<R: Wait>(&self, rt: &R) {
-        self.desk.lock(rt).held.put_off();
+        self.locked.lock(rt).held.put_off();
     }
 
     /// What the server comes to at a moment, in numbers, for whoever tells its operator. Takes no memory.
     pub fn gauge<R: Wait>(&self, rt: &R) -> Gauge {
-        self.desk.lock(rt).held.gauge()
+        self.locked.lock(rt).held.gauge()
     }
 
     /// How many clients have a mailbox here: as many as have a seat.
     pub fn mailboxes<R: Wait>(&self, rt: &R) -> usize {
-        self.office.lock(rt).len()
+        self.router.lock(rt).len()
     }
 
     /// Takes a snapshot.
@@ -104,7 +104,7 @@ impl<D: Disk, L: Ledger> Shared<D, L> {
     ///
     /// `Down`: the server is down. `Full`: nothing changed.
     pub fn snapshot<R: Wait>(&self, rt: &R) -> Result<(), SharedFault> {
-        let mut guard = self.desk.lock(rt);
+        let mut guard = self.locked.lock(rt);
         let answer = guard.held.snapshot(self.alloc);
         let is_down = guard.held.is_down();
         drop(guard);
@@ -115,7 +115,7 @@ impl<D: Disk, L: Ledger> Shared<D, L> {
     // Where the server is down no reply comes any more.
     fn end_where<R: Wait>(&self, rt: &R, is_down: bool) {
         if is_down {
-            self.office.lock(rt).end_all(rt);
+            self.router.lock(rt).end_all(rt);
         }
     }
 }

@@ -9,14 +9,14 @@ mod trace;
 
 ghost use Rattle.std.specs.Prelude.{◌≡◌, ◌≤◌, All, IfOk, length, map};
 ghost use Rattle.linda_client.specs.declared.limits.TheConstants.{MAX_SERVERS};
-ghost use Rattle.linda_run.specs.Reached.{IsUnused};
+ghost use Rattle.linda_world_laws.specs.Reached.{IsUnused};
 
 use command::{Command, read_command};
 pub use fault::ScriptFault;
 use linda_client::ClientFault;
 use linda_disk::{MemDisk, Torn};
-use linda_line::{LineFault, write_fault, write_outcome, write_refusal};
 use linda_server::Durable;
+use linda_shell_text::{LineFault, write_fault, write_outcome, write_refusal};
 use linda_store::Node;
 use linda_world::{Seen, World, WorldEvent, WorldFault};
 use listing::list_state;

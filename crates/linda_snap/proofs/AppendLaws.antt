@@ -2,12 +2,12 @@
 use Rattle.std.proofs.Common.{◌≡◌, ℕ, ◌⊎◌, inl, inr, List, [], ◌∷◌, ◌++◌, refl, sym, ap, subst, append_assoc, append-nil}
 use Rattle.std.proofs.lemmas.List.{flat_map_more}
 use Rattle.linda_tuple.specs.declared.form.Form.{Form}
-use Rattle.linda_state.specs.declared.deed.Deed.{Deed}
-use Rattle.linda_state.specs.State.{State, IsState}
-use Rattle.linda_state.specs.After.{IsAfter}
-use Rattle.linda_state.specs.Proper.{IsProper, AreDone}
-use Rattle.linda_state.proofs.AfterLaws.{none_after, one_after, joined_after}
-use Rattle.linda_state.proofs.ProperLaws.{front_proper, reached, takes_below, proper_state, more_done}
+use Rattle.linda_store_state.specs.declared.deed.Deed.{Deed}
+use Rattle.linda_store_state.specs.State.{State, IsState}
+use Rattle.linda_store_state.specs.After.{IsAfter}
+use Rattle.linda_store_state.specs.Proper.{IsProper, AreDone}
+use Rattle.linda_store_state.proofs.AfterLaws.{none_after, one_after, joined_after}
+use Rattle.linda_store_state.proofs.ProperLaws.{front_proper, reached, takes_below, proper_state, more_done}
 use Rattle.linda_disk.specs.View.{View}
 use Rattle.linda_journal.specs.Bank.{IsSettled, IsOldOrMore}
 use Rattle.linda_snap.specs.Snapshot.{spell_state}

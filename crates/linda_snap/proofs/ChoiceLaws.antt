@@ -8,12 +8,13 @@ use Rattle.linda_journal.specs.declared.heading.Heading.TheVariants.{NoBank, For
 use Rattle.linda_journal.specs.Heading.{IsHeading}
 use Rattle.linda_codec.specs.Formats.{number}
 use Rattle.linda_codec.proofs.FormatLaws.{number_is}
-use Rattle.linda_state.specs.declared.deed.Deed.{Deed}
-use Rattle.linda_state.specs.State.{State}
-use Rattle.linda_state.specs.After.{IsAfter}
-use Rattle.linda_state.specs.Proper.{IsProper}
-use Rattle.linda_state.proofs.AfterLaws.{one_after}
-use Rattle.linda_disk.specs.View.{View, IsDurable}
+use Rattle.linda_store_state.specs.declared.deed.Deed.{Deed}
+use Rattle.linda_store_state.specs.State.{State}
+use Rattle.linda_store_state.specs.After.{IsAfter}
+use Rattle.linda_store_state.specs.Proper.{IsProper}
+use Rattle.linda_store_state.proofs.AfterLaws.{one_after}
+use Rattle.linda_disk.specs.View.{View, IsDurable, IsTimed}
+use Rattle.linda_disk.proofs.RunLaws.{joined as one_run, leaves_now}
 use Rattle.linda_journal.specs.declared.record.Record.{Record}
 use Rattle.linda_journal.specs.declared.fault.BankFault.{BankFault}
 use Rattle.linda_journal.specs.declared.fault.BankFault.TheVariants as banks
@@ -29,7 +30,7 @@ use Rattle.linda_snap.specs.declared.choice.ChoiceFault.TheVariants.{NoStore, Da
 use Rattle.linda_snap.specs.Snapshot.{spell_state, IsSnapshot}
 use Rattle.linda_snap.specs.Replay.{joined, IsReplayFault}
 use Rattle.linda_snap.specs.Stands.{deeds_in, StandsOn, IsLesser, IsInUse, Stands, IsStored, IsUp}
-use Rattle.linda_snap.specs.Choice.{choice, IsChoice, IsRecovered, IsUnrecovered, IsFaultOfFile, IsFaultOfBoth, chosen, fault_on, fault_of_replay}
+use Rattle.linda_snap.specs.Choice.{choice, IsChoice, IsRecovered, IsUnrecovered, IsFaultOfFile, IsFaultOfBoth, LeavesNothingNew, chosen, fault_on, fault_of_replay}
 use Rattle.linda_snap.proofs.SnapshotLaws.{one_snapshot}
 use Rattle.linda_snap.proofs.ReplayLaws.{none_improper}
 use Rattle.linda_snap.proofs.StandsLaws.{heading_of, stands_on}
@@ -316,3 +317,8 @@ used_here used_file other_file form generation end used other st up here there =
 pub chosen_fault : (left right : List ℕ) (side : Bool) (fault : BankFault) (told : ChoiceFault) → IsChoice left right (Ok side) → told ≡ fault_on side fault → (fault ≢ banks.Disk → IsFaultOfFile (chosen side left right) fault) → told ≢ Disk → IsFaultOfBoth left right told
 chosen_fault left right side fault told is told_is there disk =
     inr record { side = side; choice_is = is; fault = fault; told_is = told_is; fault_is = there (λ e. disk (told_is ∙ ap (fault_on side) e)) }
+
+-- What leaves nothing new twice leaves nothing new.
+pub nothing_new : (old mid new : View) → LeavesNothingNew old mid → IsTimed mid → LeavesNothingNew mid new → LeavesNothingNew old new
+nothing_new old mid new first timed second =
+    one_run old mid new old.may_leave mid.may_leave old.may_leave first second (λ image is. is) (λ image left. leaves_now old mid old.may_leave first timed image left)

@@ -4,9 +4,9 @@ use Rattle.std.specs.List.{flat_map, AllByRecursion}
 use Rattle.std.specs.Ordering.{nat_cmp}
 use Rattle.std.specs.FinMap.{FinMap, entries}
 use Rattle.std.proofs.lemmas.List.Elements.{All-from_recursion}
-use Rattle.linda_state.specs.DeedFormat.{written}
+use Rattle.linda_store_state.specs.DeedFormat.{written}
 use Rattle.linda_codec.specs.Formats.{Format, short_number}
-use Rattle.linda_state.specs.State.{State}
+use Rattle.linda_store_state.specs.State.{State}
 use Rattle.linda_snap.specs.Snapshot as format
 use Rattle.linda_snap.specs.Snapshot.{listed, spell_state}
 use Rattle.linda_snap.specs.Rising.{entries_from}

@@ -2,11 +2,11 @@
 use Rattle.std.proofs.Common.{◌≡◌, ℕ, List, [], ◌∷◌, ◌++◌, length, refl, sym, ap, subst, ◌∙◌, append_assoc, append-nil, arith}
 use Rattle.std.proofs.lemmas.List.{flat_map_more, map-append}
 use Rattle.std.proofs.lemmas.Grind.{flat_map-append}
-use Rattle.linda_state.specs.declared.deed.Deed.{Deed}
-use Rattle.linda_state.specs.State.{State, IsState}
-use Rattle.linda_state.specs.After.{IsAfter}
-use Rattle.linda_state.specs.Proper.{IsAllowed, IsProper, AreDone}
-use Rattle.linda_state.proofs.ProperLaws.{none_done, more_done, never_done}
+use Rattle.linda_store_state.specs.declared.deed.Deed.{Deed}
+use Rattle.linda_store_state.specs.State.{State, IsState}
+use Rattle.linda_store_state.specs.After.{IsAfter}
+use Rattle.linda_store_state.specs.Proper.{IsAllowed, IsProper, AreDone}
+use Rattle.linda_store_state.proofs.ProperLaws.{none_done, more_done, never_done}
 use Rattle.linda_journal.specs.declared.record.Record.{Record}
 use Rattle.linda_journal.specs.Journal.{deeds_of}
 use Rattle.linda_snap.specs.Stands.{deeds_in}

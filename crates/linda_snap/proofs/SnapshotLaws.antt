@@ -11,7 +11,7 @@ use Rattle.linda_codec.proofs.ManyLaws.{many_takes, many_again}
 use Rattle.linda_codec.proofs.BoundLaws.{bounded_then, many_bounded}
 use Rattle.linda_codec.proofs.FormatLaws.{short_number_is, number_is, both_is}
 use Rattle.linda_book.proofs.ReplyFormatLaws.{placed_is, reply_is}
-use Rattle.linda_state.specs.State.{State}
+use Rattle.linda_store_state.specs.State.{State}
 use Rattle.linda_journal.proofs.ApartLaws.{format_apart}
 use Rattle.linda_snap.specs.Snapshot as format
 use Rattle.linda_snap.specs.Snapshot.{listed, Parts, parts_of, spell_state, IsSnapshot}

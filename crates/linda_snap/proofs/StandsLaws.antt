@@ -1,10 +1,10 @@
 -- Which state stands on two banks, while one of them becomes a new one.
 use Rattle.std.proofs.Common.{ℕ, ◌+◌, inl, inr, List, [], sym, subst, arith}
-use Rattle.linda_state.specs.DeedFormat.{written}
+use Rattle.linda_store_state.specs.DeedFormat.{written}
 use Rattle.linda_tuple.specs.declared.form.Form.{Form}
-use Rattle.linda_state.specs.State.{State, IsState}
-use Rattle.linda_state.proofs.ProperLaws.{none_done}
-use Rattle.linda_state.specs.declared.deed.Deed.{Deed}
+use Rattle.linda_store_state.specs.State.{State, IsState}
+use Rattle.linda_store_state.proofs.ProperLaws.{none_done}
+use Rattle.linda_store_state.specs.declared.deed.Deed.{Deed}
 use Rattle.linda_disk.specs.View.{View, IsTimed}
 use Rattle.linda_disk.specs.Run.{LeavesOnly}
 use Rattle.linda_disk.proofs.RunLaws.{started, weaker, joined}

@@ -14,7 +14,7 @@ use Rattle.linda_codec.proofs.FormatLaws.{short_number_is, number_is}
 use Rattle.linda_codec.proofs.TakeLaws.{ok_is}
 use Rattle.linda_book.specs.Entries.{Entry}
 use Rattle.linda_wire.specs.declared.limits.TheConstants.{NUMBER_LIMIT}
-use Rattle.linda_state.specs.State.{State}
+use Rattle.linda_store_state.specs.State.{State}
 use Rattle.linda_journal.proofs.ApartLaws.{format_apart}
 use Rattle.linda_snap.specs.declared.reading.SnapshotFault.{SnapshotFault}
 use Rattle.linda_snap.specs.declared.reading.SnapshotFault.TheVariants.{NoSnapshot, Memory}

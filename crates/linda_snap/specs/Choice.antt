@@ -1,10 +1,12 @@
 -- Which of two banks is chosen, and why none is.
-use Rattle.std.specs.Prelude.{◌≡◌, ℕ, ◌==◌, ◌⊎◌, nat_lt, Bool, true, false, if◌then◌else◌, List}
-use Rattle.std.specs.Prelude.{Result, Ok, Err}
+use Rattle.std.specs.Prelude.{◌≡◌, ◌≢◌, ℕ, ◌+◌, ◌==◌, ◌⊎◌, ◌↔◌, nat_lt, Bool, true, false, if◌then◌else◌, List}
+use Rattle.std.specs.Prelude.{Result, Ok, Err, IfOk, IfErr}
 use Rattle.linda_tuple.specs.declared.form.Form.{Form}
-use Rattle.linda_state.specs.State.{State}
-use Rattle.linda_state.specs.Proper.{AreDone}
-use Rattle.linda_disk.specs.View.{View}
+use Rattle.linda_store_state.specs.State.{State, IsState}
+use Rattle.linda_store_state.specs.Proper.{AreDone}
+use Rattle.linda_disk.specs.declared.disk.Disk.{Ghosts}
+use Rattle.linda_disk.specs.View.{View, IsDurable}
+use Rattle.linda_disk.specs.Disk.{TellsFailuresOfTwo}
 use Rattle.linda_disk.specs.Run.{LeavesOnly}
 use Rattle.linda_disk.specs.declared.fault.DiskFault.{DiskFault}
 use Rattle.linda_disk.specs.declared.fault.DiskFault.TheVariants as device
@@ -18,6 +20,7 @@ use Rattle.linda_journal.specs.Heading.{IsHeading}
 use Rattle.linda_journal.specs.Journal.{deeds_of}
 use Rattle.linda_journal.specs.Bank.{IsBank}
 use Rattle.linda_journal.specs.Image.{IsFaultOfBank}
+use Rattle.linda_snap.specs.declared.choice.Chosen.{Chosen}
 use Rattle.linda_snap.specs.declared.choice.ChoiceFault.{ChoiceFault}
 use Rattle.linda_snap.specs.declared.choice.ChoiceFault.TheVariants.{NoStore, Damaged, Disk, Memory}
 use Rattle.linda_snap.specs.declared.replay.ReplayFault.{ReplayFault}
@@ -25,6 +28,7 @@ use Rattle.linda_snap.specs.declared.replay.ReplayFault.TheVariants as replays
 use Rattle.linda_snap.specs.Snapshot.{IsSnapshot}
 use Rattle.linda_snap.specs.Reading.{IsNoSnapshot}
 use Rattle.linda_snap.specs.Replay.{joined, IsImproper}
+use Rattle.linda_snap.specs.Stands.{IsStored, IsUp, Stands}
 
 -- Which of two is chosen by what they begin with: true is the right one. The left one is looked at first. Generations
 -- are compared whatever the forms are.
@@ -138,3 +142,45 @@ pub record IsFaultOfChosen (left right : List ℕ) (told : ChoiceFault) : Type 0
 
 abbrev pub IsFaultOfBoth : List ℕ → List ℕ → ChoiceFault → Type 0
 IsFaultOfBoth left right told = IsChoice left right (Err told) ⊎ IsFaultOfChosen left right told
+
+module _ {B D : Type 0} {g : Ghosts D} where
+  -- Of two disks the bank that stands was chosen, with the state that it stands for, or none was, and the disks are
+  -- handed back, left and right (`choose_bank`).
+  pub record Chooses (left right : D) (limit : ℕ) (result : Result (Chosen B D g) (ChoiceFault × D × D)) : Type 0 where
+    -- The two banks stand for the state,
+    pub found : g.honest left → g.honest right → IfOk result (λ c. Stands (g.view left).seen (g.view right).seen c.state)
+    -- and a crash now leaves them so;
+    pub up : g.honest left → g.honest right
+        → IfOk result (λ c. IsUp c.bank.form c.bank.generation c.bank.end (g.view c.bank.disk) (g.view c.other) c.state)
+    -- the disks read as they did at entry.
+    pub sides : g.honest left → g.honest right
+        → IfOk result (λ c. ((g.view c.bank.disk).seen ≡ chosen c.is_right (g.view left).seen (g.view right).seen)
+        × ((g.view c.other).seen ≡ chosen c.is_right (g.view right).seen (g.view left).seen))
+    -- So two banks that stand for a state are read as that state, or a device failed, or memory ran out.
+    pub only : (st : State) → g.honest left → g.honest right → Stands (g.view left).seen (g.view right).seen st
+        → IfOk result (λ c. c.state ≡ st) × IfErr result (λ e. (e.0 ≡ Disk) ⊎ (e.0 ≡ Memory))
+    -- A fault is one of those bytes.
+    pub fault : g.honest left → g.honest right
+        → IfErr result (λ e. e.0 ≢ Disk → e.0 ≢ Memory → IsFaultOfBoth (g.view left).seen (g.view right).seen e.0)
+    -- At no moment a crash leaves of either disk what it could not leave at entry.
+    pub any_moment : g.honest left → g.honest right
+        → IfOk result (λ c. ChosenLeaves c.is_right (g.view left) (g.view right) (g.view c.bank.disk) (g.view c.other))
+        × IfErr result (λ e. LeavesNothingNew (g.view left) (g.view e.1) × LeavesNothingNew (g.view right) (g.view e.2))
+    pub new : IfOk result (λ c. (c.bank.limit ≡ limit) × (c.bank.is_spent ≡ false))
+    -- The state is in its ranges; the bank that was chosen stands for it on its own disk, whatever the other one is;
+    -- and a crash leaves of the other disk what a read gives.
+    pub ranges : IfOk result (λ c. IsState c.state)
+    pub stored : IfOk result (λ c. g.honest c.bank.disk
+        → IsStored c.bank.form c.bank.generation c.bank.end (g.view c.bank.disk) c.state)
+    pub durable : IfOk result (λ c. g.honest c.other → IsDurable (g.view c.other))
+    pub honest : IfOk result (λ c. (g.honest left × g.honest right) ↔ (g.honest c.bank.disk × g.honest c.other))
+        × IfErr result (λ e. (g.honest left × g.honest right) ↔ (g.honest e.1 × g.honest e.2))
+    -- The counts of failures rise where a device is reported to have failed, and there alone.
+    pub cause : IfErr result (λ e.
+        TellsFailuresOfTwo Disk e.0 (g.failures left) (g.failures right) (g.failures e.1) (g.failures e.2))
+    pub steady : IfOk result (λ c. (g.failures c.bank.disk ≡ chosen c.is_right (g.failures left) (g.failures right))
+        × (g.failures c.other ≡ chosen c.is_right (g.failures right) (g.failures left)))
+    -- Each disk is synced once.
+    pub clock : g.honest left → g.honest right
+        → IfOk result (λ c. ((g.view c.bank.disk).moment ≡ chosen c.is_right (g.view left).moment (g.view right).moment + 1)
+        × ((g.view c.other).moment ≡ chosen c.is_right (g.view right).moment (g.view left).moment + 1))

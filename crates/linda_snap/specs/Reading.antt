@@ -10,7 +10,7 @@ use Rattle.linda_codec.specs.declared.fault.ReadFault.{ReadFault}
 use Rattle.linda_codec.specs.declared.fault.ReadFault.TheVariants as reading
 use Rattle.linda_book.specs.Entries.{Entry}
 use Rattle.linda_wire.specs.declared.limits.TheConstants.{NUMBER_LIMIT}
-use Rattle.linda_state.specs.State.{State}
+use Rattle.linda_store_state.specs.State.{State}
 use Rattle.linda_snap.specs.Snapshot.{listed, IsSnapshot}
 use Rattle.linda_snap.specs.declared.reading.SnapshotFault.{SnapshotFault}
 use Rattle.linda_snap.specs.declared.reading.SnapshotFault.TheVariants.{NoSnapshot, Memory}

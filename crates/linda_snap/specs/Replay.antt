@@ -1,8 +1,8 @@
 -- Doing again what the records of a journal say.
 use Rattle.std.specs.Prelude.{◌≡◌, ℕ, List, ◌∷◌, ◌++◌}
-use Rattle.linda_state.specs.declared.deed.Deed.{Deed}
-use Rattle.linda_state.specs.State.{State, IsState}
-use Rattle.linda_state.specs.Proper.{IsProper, AreDone}
+use Rattle.linda_store_state.specs.declared.deed.Deed.{Deed}
+use Rattle.linda_store_state.specs.State.{State, IsState}
+use Rattle.linda_store_state.specs.Proper.{IsProper, AreDone}
 use Rattle.linda_journal.specs.declared.record.Record.{Record}
 use Rattle.linda_journal.specs.Journal.{deeds_of}
 use Rattle.linda_snap.specs.declared.replay.ReplayFault.{ReplayFault}

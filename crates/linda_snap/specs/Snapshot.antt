@@ -8,7 +8,7 @@ use Rattle.linda_codec.specs.Steps.{◌>>=◌, many_at}
 use Rattle.linda_codec.specs.Formats.{Format, short_number, number, both}
 use Rattle.linda_book.specs.Entries.{Entry}
 pub use Rattle.linda_book.specs.ReplyFormat.{placed, reply}
-use Rattle.linda_state.specs.State.{State, IsState}
+use Rattle.linda_store_state.specs.State.{State, IsState}
 
 -- ---- entries
 

@@ -2,7 +2,7 @@
 use Rattle.std.specs.Prelude.{◌≡◌, ℕ, ◌⊎◌, List}
 use Rattle.linda_disk.specs.declared.fault.DiskFault.{DiskFault}
 use Rattle.linda_disk.specs.declared.fault.DiskFault.TheVariants as device
-use Rattle.linda_state.specs.DeedFormat.{written}
+use Rattle.linda_store_state.specs.DeedFormat.{written}
 use Rattle.linda_journal.specs.Bank.{IsNoneOrNew}
 use Rattle.linda_snap.specs.declared.renewal.SwitchFault.{SwitchFault}
 use Rattle.linda_snap.specs.declared.renewal.SwitchFault.TheVariants.{Disk, Memory}

@@ -1,25 +1,22 @@
 //! Which of two banks stands, and for which state.
 
-ghost use Rattle.std.specs.Prelude.{◌≡◌, ◌≢◌, ◌+◌, ◌<◌, ◌↔◌, ◌⊎◌, ℕ, List, true, false, length, Ok};
-ghost use Rattle.std.specs.Prelude.{Err, IfOk, IfErr, OnOk, IsErrOf};
-ghost use Rattle.linda_state.specs.State as states;
-ghost use Rattle.linda_state.specs.State.{IsState};
+ghost use Rattle.std.specs.Prelude.{◌≡◌, ◌≢◌, ◌+◌, ◌<◌, ◌↔◌, false, length, Ok, Err, IfOk, IfErr};
+ghost use Rattle.std.specs.Prelude.{OnOk};
+ghost use Rattle.linda_store_state.specs.State.{IsState};
 ghost use Rattle.linda_disk.specs.View.{IsDurable};
 ghost use Rattle.linda_disk.specs.Disk.{CountsFailure, TellsFailures, TellsFailuresOfTwo};
 ghost use Rattle.linda_disk.specs.Run.{LeavesOnly};
 ghost use Rattle.linda_journal.specs.Heading.{IsHeading};
-ghost use Rattle.linda_snap.specs.Stands.{IsStored, IsUp, Stands};
-ghost use Rattle.linda_snap.specs.Choice.{choice, chosen, IsChoice, ChosenLeaves, IsRecovered};
-ghost use Rattle.linda_snap.specs.Choice.{IsUnrecovered};
-ghost use Rattle.linda_snap.specs.Choice.{IsFaultOfFile, IsFaultOfBoth, fault_on};
-ghost use Rattle.linda_snap.specs.Choice.{fault_of_device, fault_of_replay};
+ghost use Rattle.linda_snap.specs.Stands.{IsStored};
+ghost use Rattle.linda_snap.specs.Choice.{choice, IsChoice, Chooses, IsRecovered, IsUnrecovered};
+ghost use Rattle.linda_snap.specs.Choice.{IsFaultOfFile, fault_on, fault_of_device, fault_of_replay};
 
 use crate::reading::{SnapshotFault, get_state};
 use crate::replay::{ReplayFault, replay};
 use linda_bag::Bag;
 use linda_disk::{Disk, DiskFault};
 use linda_journal::{Bank, BankFault, Heading, MIN_BYTES, Record, read_heading};
-use linda_state::State;
+use linda_store_state::State;
 use linda_tuple::Form;
 use std::alloc::Global;
 use thiserror::Error;
@@ -79,54 +76,7 @@ pub fn choose_bank<B: Bag, D: Disk>(
     right: D,
     limit: usize,
 ) -> Result<Chosen<B, D>, (ChoiceFault, D, D)>
-    // The two banks stand for the state,
-    ensures found { D.honest left → D.honest right
-        → IfOk result (λ c. Stands (D.view left).seen (D.view right).seen c.state) }
-    // and a crash now leaves them so;
-    ensures up { D.honest left → D.honest right
-        → IfOk result (λ c. IsUp c.bank.form c.bank.generation c.bank.end (D.view c.bank.disk)
-        (D.view c.other) c.state) }
-    // the disks read as they did at entry.
-    ensures sides { D.honest left → D.honest right → IfOk result (λ c.
-        ((D.view c.bank.disk).seen ≡ chosen c.is_right (D.view left).seen (D.view right).seen)
-        × ((D.view c.other).seen ≡ chosen c.is_right (D.view right).seen (D.view left).seen)) }
-    // So two banks that stand for a state are read as that state, or a device failed, or memory ran out.
-    ensures only { (st : states.State) → D.honest left → D.honest right
-        → Stands (D.view left).seen (D.view right).seen st
-        → IfOk result (λ c. c.state ≡ st)
-        × IfErr result (λ e. (e.0 ≡ ChoiceFault.Disk) ⊎ (e.0 ≡ ChoiceFault.Memory)) }
-    // A fault is one of those bytes.
-    ensures fault { D.honest left → D.honest right
-        → IfErr result (λ e. e.0 ≢ ChoiceFault.Disk → e.0 ≢ ChoiceFault.Memory
-        → IsFaultOfBoth (D.view left).seen (D.view right).seen e.0) }
-    // At no moment a crash leaves of either disk what it could not leave at entry.
-    ensures any_moment { D.honest left → D.honest right
-        → IfOk result (λ c. ChosenLeaves c.is_right (D.view left) (D.view right)
-        (D.view c.bank.disk) (D.view c.other))
-        × IfErr result (λ e. LeavesOnly (D.view left) (D.view e.1) (D.view left).may_leave
-        × LeavesOnly (D.view right) (D.view e.2) (D.view right).may_leave) }
-    ensures new { IfOk result (λ c. (c.bank.limit ≡ limit) × (c.bank.is_spent ≡ false)) }
-    // The state is in its ranges; the bank that was chosen stands for it on its own disk, whatever the other one is;
-    // and a crash leaves of the other disk what a read gives.
-    ensures ranges { IfOk result (λ c. IsState c.state) }
-    ensures stored { IfOk result (λ c. D.honest c.bank.disk
-        → IsStored c.bank.form c.bank.generation c.bank.end (D.view c.bank.disk) c.state) }
-    ensures durable { IfOk result (λ c. D.honest c.other → IsDurable (D.view c.other)) }
-    ensures honest { IfOk result (λ c. (D.honest left × D.honest right)
-        ↔ (D.honest c.bank.disk × D.honest c.other))
-        × IfErr result (λ e. (D.honest left × D.honest right) ↔ (D.honest e.1 × D.honest e.2)) }
-    // The counts of failures rise where a device is reported to have failed, and there alone.
-    ensures cause { IfErr result (λ e. TellsFailuresOfTwo ChoiceFault.Disk e.0
-        (D.failures left) (D.failures right) (D.failures e.1) (D.failures e.2)) }
-    ensures steady { IfOk result (λ c.
-        (D.failures c.bank.disk ≡ chosen c.is_right (D.failures left) (D.failures right))
-        × (D.failures c.other ≡ chosen c.is_right (D.failures right) (D.failures left))) }
-    // Each disk is synced once.
-    ensures clock { D.honest left → D.honest right → IfOk result (λ c.
-        ((D.view c.bank.disk).moment
-        ≡ chosen c.is_right (D.view left).moment (D.view right).moment + 1)
-        × ((D.view c.other).moment
-        ≡ chosen c.is_right (D.view right).moment (D.view left).moment + 1)) }
+    ensures { Chooses left right limit result }
 {
     let mut left = left;
     let mut right = right;
@@ -259,8 +209,12 @@ fn look_at<D: Disk>(disk: &mut D) -> Result<Heading, DiskFault>
     Ok(read_heading(&front))
 }
 
-// Whether the right one is chosen of two banks that begin so.
-fn choose(left: Heading, right: Heading) -> Result<bool, ChoiceFault>
+/// Whether the right one is chosen of two banks that begin so.
+///
+/// # Errors
+///
+/// `NoStore`, `Damaged`.
+pub fn choose(left: Heading, right: Heading) -> Result<bool, ChoiceFault>
     ensures { result ≡ choice left right }
 {
     match (left, right) {

@@ -4,12 +4,12 @@ ghost use Rattle.std.specs.Prelude.{◌≡◌, ◌∷◌, [], ◌<◌, ◌≤◌
 ghost use Rattle.std.specs.Prelude.{IsSome};
 ghost use Rattle.std.specs.FinMap as maps;
 ghost use Rattle.linda_wire.specs.declared.limits.TheConstants.{NUMBER_LIMIT};
-ghost use Rattle.linda_state.specs.State.{IsState};
+ghost use Rattle.linda_store_state.specs.State.{IsState};
 ghost use Rattle.linda_snap.specs.Rising.{entries_from, first_after};
 
 use linda_bag::Bag;
 use linda_book::{Book, KeptReply};
-use linda_state::State;
+use linda_store_state::State;
 use linda_tuple::Tuple;
 
 /// The first tuple of the state from this id on, with its id.

@@ -5,7 +5,7 @@ ghost use Rattle.std.specs.Prelude.{◌≡◌, ◌++◌, ◌≤◌, ◌+◌, len
 ghost use Rattle.linda_codec.specs.declared.limits.TheConstants.{NUMBER_BYTES};
 ghost use Rattle.linda_codec.specs.Steps.{Gives};
 ghost use Rattle.linda_codec.specs.Values as value;
-ghost use Rattle.linda_state.specs.DeedFormat.{written};
+ghost use Rattle.linda_store_state.specs.DeedFormat.{written};
 ghost use Rattle.linda_snap.specs.declared.entry.TheConstants.{CLIENT_BYTES, MAX_KEPT_BYTES, MAX_PLACED_BYTES};
 ghost use Rattle.linda_snap.specs.Snapshot as format;
 
@@ -14,7 +14,7 @@ use linda_codec::{
     KIND_BYTES, MAX_TUPLE_BYTES, NUMBER_BYTES, ReadFault, SHORT_NUMBER_BYTES, Spelled, read_u32,
     read_u64,
 };
-use linda_state::BANK_FORM;
+use linda_store_state::BANK_FORM;
 use linda_tuple::{Form, Tuple};
 use std::alloc::{AllocError, Global};
 

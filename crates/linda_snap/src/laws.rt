@@ -1,9 +1,9 @@
 //! What the definitions of standing banks come to, each stated by the contract of a function that does nothing.
 
 ghost use Rattle.std.specs.Prelude.{◌≡◌, ◌⊎◌, ℕ, List};
-ghost use Rattle.linda_state.specs.declared.deed.Deed.{Deed};
-ghost use Rattle.linda_state.specs.State.{State};
-ghost use Rattle.linda_state.specs.Proper.{AreDone};
+ghost use Rattle.linda_store_state.specs.declared.deed.Deed.{Deed};
+ghost use Rattle.linda_store_state.specs.State.{State};
+ghost use Rattle.linda_store_state.specs.Proper.{AreDone};
 ghost use Rattle.linda_journal.specs.Bank.{IsOldOrMore};
 ghost use Rattle.linda_snap.specs.Snapshot.{spell_state};
 ghost use Rattle.linda_snap.specs.Stands.{IsInUse, Stands};

@@ -3,7 +3,8 @@
 //!
 //! - A snapshot is the one spelling of a state. What is put is read again, and bytes are refused only where they spell
 //!   no state that is in its ranges.
-//! - `choose_bank` answers the state that two banks stand for, or what is wrong with them, on which side and where.
+//! - `choose_bank` answers the state that two banks stand for, or what is wrong with them, on which side and where;
+//!   `choose` says which of the two that is, by what they begin with.
 //! - `switch` makes a new bank of the next generation on the other disk. At no moment of it a crash leaves anything but
 //!   what stands for the same state.
 #![tactic(auto)]
@@ -17,9 +18,9 @@ mod reading;
 mod renewal;
 mod replay;
 
-pub use choice::{ChoiceFault, Chosen, choose_bank};
+pub use choice::{ChoiceFault, Chosen, choose, choose_bank};
 pub use laws::{an_append_leaves_the_old_state_or_the_new, two_banks_stand_for_one_state};
 pub use linda_journal::{Closed, Whole, fill, shut, unlock};
-pub use putting::put_state;
+pub use putting::{EMPTY_STATE_BYTES, put_state};
 pub use reading::{SnapshotFault, get_state};
 pub use renewal::{SwitchFault, switch};

@@ -5,8 +5,8 @@ ghost use Rattle.std.specs.Prelude.{IfNone};
 ghost use Rattle.std.specs.List.{flat_map};
 ghost use Rattle.std.specs.FinMap.{entries};
 ghost use Rattle.linda_codec.specs.Formats.{short_number};
-ghost use Rattle.linda_state.specs.State.{IsState};
-ghost use Rattle.linda_state.specs.DeedFormat.{written};
+ghost use Rattle.linda_store_state.specs.State.{IsState};
+ghost use Rattle.linda_store_state.specs.DeedFormat.{written};
 ghost use Rattle.linda_snap.specs.Snapshot as format;
 ghost use Rattle.linda_snap.specs.Snapshot.{listed, spell_state, FitsState};
 
@@ -15,8 +15,11 @@ use crate::entry::{kept_len, placed_len, push_kept, push_placed};
 use linda_bag::Bag;
 use linda_book::Book;
 use linda_codec::{NUMBER_BYTES, SHORT_NUMBER_BYTES};
-use linda_state::State;
+use linda_store_state::State;
 use std::alloc::AllocError;
+
+/// The bytes of a snapshot of a state that keeps nothing: the next id, and the counts of tuples and of clients.
+pub const EMPTY_STATE_BYTES: usize = NUMBER_BYTES + SHORT_NUMBER_BYTES + SHORT_NUMBER_BYTES;
 
 /// Appends the spelling of the state in the form of new banks. Where memory runs out, a part of it may stand after
 /// the old bytes.

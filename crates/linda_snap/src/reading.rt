@@ -3,7 +3,7 @@
 ghost use Rattle.std.specs.Prelude.{◌≡◌, ◌≢◌, ◌<◌, ◌≤◌, ◌^◌, ℕ, List, true, false, IfOk, IfErr};
 ghost use Rattle.std.specs.FinMap.{entries};
 ghost use Rattle.linda_wire.specs.declared.limits.TheConstants.{NUMBER_LIMIT};
-ghost use Rattle.linda_state.specs.State as states;
+ghost use Rattle.linda_store_state.specs.State as states;
 ghost use Rattle.linda_snap.specs.declared.reading.SnapshotFault.TheVariants.{Memory};
 ghost use Rattle.linda_snap.specs.Snapshot as format;
 ghost use Rattle.linda_snap.specs.Snapshot.{IsSnapshot};
@@ -16,7 +16,7 @@ use crate::entry::{read_kept, read_placed};
 use linda_bag::Bag;
 use linda_book::Book;
 use linda_codec::{ReadFault, read_u32, read_u64};
-use linda_state::{NUMBER_LIMIT, State};
+use linda_store_state::{NUMBER_LIMIT, State};
 use linda_tuple::Form;
 use linda_wire::MAX_CLIENTS;
 use std::alloc::{AllocError, AllocFailed, Global};

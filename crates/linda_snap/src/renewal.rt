@@ -2,8 +2,8 @@
 
 ghost use Rattle.std.specs.Prelude.{◌≡◌, ◌∷◌, [], ◌++◌, ◌<◌, ◌≤◌, ◌+◌, ◌^◌, ◌↔◌, ◌⊎◌, ℕ, List};
 ghost use Rattle.std.specs.Prelude.{true, false, length, IfOk, IfErr, IfSome, IfNone, OnOk, OnSome};
-ghost use Rattle.linda_state.specs.State.{IsState};
-ghost use Rattle.linda_state.specs.DeedFormat.{written};
+ghost use Rattle.linda_store_state.specs.State.{IsState};
+ghost use Rattle.linda_store_state.specs.DeedFormat.{written};
 ghost use Rattle.linda_disk.specs.View.{IsDurable};
 ghost use Rattle.linda_disk.specs.Disk.{TellsFailures};
 ghost use Rattle.linda_disk.specs.Run.{LeavesOnly};
@@ -19,7 +19,7 @@ use crate::putting::{put_state, room_after};
 use linda_bag::Bag;
 use linda_disk::{Disk, DiskFault};
 use linda_journal::{Bank, CLOSED, MIN_BYTES, fill, shut, spell_heading, unlock};
-use linda_state::State;
+use linda_store_state::State;
 use std::alloc::{AllocError, Global};
 use thiserror::Error;
 

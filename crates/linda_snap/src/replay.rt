@@ -1,14 +1,14 @@
 //! Doing again what the records of a journal say.
 
 ghost use Rattle.std.specs.Prelude.{◌≡◌, ◌++◌, true, false, IfOk, IfErr, OnOk};
-ghost use Rattle.linda_state.specs.State.{IsState};
-ghost use Rattle.linda_state.specs.Proper.{AreDone};
+ghost use Rattle.linda_store_state.specs.State.{IsState};
+ghost use Rattle.linda_store_state.specs.Proper.{AreDone};
 ghost use Rattle.linda_snap.specs.declared.replay.ReplayFault.TheVariants.{Memory};
 ghost use Rattle.linda_snap.specs.Replay.{GoesOn, Stops, joined, IsReplayFault};
 
 use linda_bag::Bag;
 use linda_journal::Record;
-use linda_state::{Deed, State};
+use linda_store_state::{Deed, State};
 use std::alloc::{AllocError, Global};
 
 /// Why records were not done again.

@@ -2,29 +2,29 @@
 use Rattle.std.proofs.Common.{◌≡◌, ℕ, Bool, true, false, true≢false, List, [], ◌∷◌, ◌++◌, option_to_list, All, refl, sym, ap, ◌∙◌, subst, append-nil, append_assoc}
 use Rattle.std.proofs.lemmas.List.Elements.{All-nil, All-append, All-weaker}
 use Rattle.linda_wire.specs.declared.reply.Reply.{Reply}
-use Rattle.linda_state.specs.declared.deed.Deed.{Deed}
-use Rattle.linda_state.specs.State.{State, empty_state}
-use Rattle.linda_step.specs.Soft.{Soft}
-use Rattle.linda_step.specs.Dispatch.{on_close}
-use Rattle.linda_state.specs.After.{IsAfter}
-use Rattle.linda_state.specs.Proper.{IsProper}
-use Rattle.linda_step.specs.Answer.{Answer}
-use Rattle.linda_step.specs.History.{Coming, says, hangs_up, Comes, History, Happens}
-use Rattle.linda_step.specs.Store.{IsOrderly}
-use Rattle.linda_state.proofs.StateLaws.{empty_is_state}
-use Rattle.linda_state.proofs.AfterLaws.{joined_after}
-use Rattle.linda_state.proofs.ProperLaws.{front_proper, takes_below, proper_state}
-use Rattle.linda_step.proofs.AnswerLaws.{step_proper}
-use Rattle.linda_step.proofs.OrderLaws.{step_orderly, close_orderly, no_asks_orderly}
-use Rattle.linda_promise.specs.Replies.{reports_deed, ReportsOne, KeepsReply}
+use Rattle.linda_store_state.specs.declared.deed.Deed.{Deed}
+use Rattle.linda_store_state.specs.State.{State, empty_state}
+use Rattle.linda_store_step.specs.Soft.{Soft}
+use Rattle.linda_store_step.specs.Dispatch.{on_close}
+use Rattle.linda_store_state.specs.After.{IsAfter}
+use Rattle.linda_store_state.specs.Proper.{IsProper}
+use Rattle.linda_store_step.specs.Answer.{Answer}
+use Rattle.linda_store_step.specs.History.{Coming, says, hangs_up, Comes, History, Happens}
+use Rattle.linda_store_step.specs.Store.{IsOrderly}
+use Rattle.linda_store_state.proofs.StateLaws.{empty_is_state}
+use Rattle.linda_store_state.proofs.AfterLaws.{joined_after}
+use Rattle.linda_store_state.proofs.ProperLaws.{front_proper, takes_below, proper_state}
+use Rattle.linda_store_step.proofs.AnswerLaws.{step_proper}
+use Rattle.linda_store_step.proofs.OrderLaws.{step_orderly, close_orderly, no_asks_orderly}
+use Rattle.linda_store_step.specs.Replies.{reports_deed, ReportsOne, KeepsReply}
 use Rattle.std.specs.Prelude.{Result, Ok, Err}
 use Rattle.std.specs.Global.{Vec}
-use Rattle.linda_step.specs.Course.{IsFront}
+use Rattle.linda_store_step.specs.Course.{IsFront}
 use Rattle.linda_store.specs.declared.node.NodeFault.{NodeFault}
 use Rattle.linda_store.specs.declared.node.NodeFault.TheVariants as faults
 use Rattle.linda_store.specs.Node.{Node, NodeAnswer, Sent, IsFull, IsDown, MayRemain, WentDown, IsOpened, Works, Closes, Snaps, Stops}
 use Rattle.linda_store.specs.Sound.{IsSound, AreBacked, added}
-use Rattle.linda_promise.proofs.ReplyLaws.{step_backed, close_backed, book_reports}
+use Rattle.linda_store_step.proofs.ReplyLaws.{step_backed, close_backed, book_reports}
 
 -- A reply to a deed is one whatever is done later.
 pub reply_later : (ds es : List Deed) (c : ℕ) (r : Reply) → ReportsOne ds c r → ReportsOne (ds ++ es) c r

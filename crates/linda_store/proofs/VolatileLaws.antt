@@ -2,13 +2,13 @@
 use Rattle.std.proofs.Common.{◌≡◌, ℕ, true, false, true≢false, List, [], refl, sym, ap, ◌∙◌, subst, append-nil}
 use Rattle.std.proofs.lemmas.Bool.{cond-true, cond-false}
 use Rattle.linda_wire.specs.declared.reply.Reply.{Reply}
-use Rattle.linda_state.specs.declared.deed.Deed.{Deed}
-use Rattle.linda_state.specs.State.{State}
-use Rattle.linda_state.specs.After.{IsAfter}
-use Rattle.linda_step.specs.Soft.{no_asks}
-use Rattle.linda_step.specs.Store.{Store, IsOrderly}
-use Rattle.linda_step.specs.History.{Coming, History, Happens, nothing_yet}
-use Rattle.linda_step.proofs.HistoryLaws.{all_safe}
+use Rattle.linda_store_state.specs.declared.deed.Deed.{Deed}
+use Rattle.linda_store_state.specs.State.{State}
+use Rattle.linda_store_state.specs.After.{IsAfter}
+use Rattle.linda_store_step.specs.Soft.{no_asks}
+use Rattle.linda_store_step.specs.Store.{Store, IsOrderly}
+use Rattle.linda_store_step.specs.History.{Coming, History, Happens, nothing_yet}
+use Rattle.linda_store_step.proofs.HistoryLaws.{all_safe}
 use Rattle.linda_store.specs.Node.{IsDone, WentDown, IsOpened}
 use Rattle.linda_store.specs.Volatile.{shown}
 

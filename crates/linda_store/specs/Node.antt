@@ -3,15 +3,15 @@ use Rattle.std.specs.Prelude.{◌≡◌, ◌≢◌, ℕ, ◌≤◌, Bool, true, 
 use Rattle.std.specs.Global.{Vec}
 use Rattle.linda_wire.specs.declared.message.Message.{Message}
 use Rattle.linda_wire.specs.declared.reply.Reply.{Reply}
-use Rattle.linda_state.specs.declared.deed.Deed.{Deed}
-use Rattle.linda_state.specs.State.{State}
-use Rattle.linda_state.specs.After.{IsAfter}
-use Rattle.linda_step.specs.Soft.{Soft, no_asks}
-use Rattle.linda_step.specs.History.{Coming, says, hangs_up, History, Happens, comings, history_of}
-use Rattle.linda_step.specs.Course.{IsFront}
+use Rattle.linda_store_state.specs.declared.deed.Deed.{Deed}
+use Rattle.linda_store_state.specs.State.{State}
+use Rattle.linda_store_state.specs.After.{IsAfter}
+use Rattle.linda_store_step.specs.Soft.{Soft, no_asks}
+use Rattle.linda_store_step.specs.History.{Coming, says, hangs_up, History, Happens, comings, history_of}
+use Rattle.linda_store_step.specs.Course.{IsFront}
 use Rattle.linda_store.specs.declared.work.Work.{Work}
 use Rattle.linda_store.specs.declared.work.Work.TheVariants as works
-use Rattle.linda_step.specs.declared.size.TheConstants.{MAX_BATCH}
+use Rattle.linda_store_step.specs.declared.size.TheConstants.{MAX_BATCH}
 use Rattle.linda_store.specs.declared.node.NodeFault.{NodeFault}
 use Rattle.linda_store.specs.declared.node.NodeFault.TheVariants as faults
 

@@ -2,14 +2,14 @@
 use Rattle.std.specs.Prelude.{◌≡◌, ℕ, true, false, List, [], ◌++◌, All, Result, Ok, Err}
 use Rattle.std.specs.Global.{Vec}
 use Rattle.linda_wire.specs.declared.reply.Reply.{Reply}
-use Rattle.linda_state.specs.declared.deed.Deed.{Deed}
-use Rattle.linda_state.specs.State.{empty_state}
-use Rattle.linda_state.specs.After.{IsAfter}
-use Rattle.linda_state.specs.Proper.{IsProper}
-use Rattle.linda_step.specs.Store.{IsOrderly}
+use Rattle.linda_store_state.specs.declared.deed.Deed.{Deed}
+use Rattle.linda_store_state.specs.State.{empty_state}
+use Rattle.linda_store_state.specs.After.{IsAfter}
+use Rattle.linda_store_state.specs.Proper.{IsProper}
+use Rattle.linda_store_step.specs.Store.{IsOrderly}
 use Rattle.linda_store.specs.declared.node.NodeFault.{NodeFault}
 use Rattle.linda_store.specs.Node.{Node}
-use Rattle.linda_promise.specs.Replies.{reports_deed, ReportsOne}
+use Rattle.linda_store_step.specs.Replies.{reports_deed, ReportsOne}
 
 -- Its deeds are a proper list and its state is the one after them; while it is up it is in order, and while it is down
 -- the deeds that it may have done besides would go on from there.

@@ -1,7 +1,7 @@
 -- A node in memory alone, as contracts see it: its store, and the state before the last call.
 use Rattle.std.specs.Prelude.{false, [], if◌then◌else◌}
-use Rattle.linda_state.specs.State.{State}
-use Rattle.linda_step.specs.Store.{Store}
+use Rattle.linda_store_state.specs.State.{State}
+use Rattle.linda_store_step.specs.Store.{Store}
 use Rattle.linda_store.specs.Node.{Node}
 
 abbrev pub shown : State → Store → Node

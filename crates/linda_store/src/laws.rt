@@ -3,8 +3,8 @@
 ghost use Rattle.std.specs.Prelude.{ℕ, List, ◌++◌, Result};
 ghost use Rattle.std.specs.Global.{Vec};
 ghost use Rattle.linda_wire.specs.declared.reply.Reply.{Reply};
-ghost use Rattle.linda_state.specs.declared.deed.Deed.{Deed};
-ghost use Rattle.linda_step.specs.History.{Coming};
+ghost use Rattle.linda_store_state.specs.declared.deed.Deed.{Deed};
+ghost use Rattle.linda_store_step.specs.History.{Coming};
 ghost use Rattle.linda_store.specs.declared.node.NodeFault.{NodeFault};
 ghost use Rattle.linda_store.specs.Node.{Node, NodeAnswer, Sent, Works, Closes, Snaps, Stops};
 ghost use Rattle.linda_store.specs.Sound.{IsSound, AreBacked, added};

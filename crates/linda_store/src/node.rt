@@ -4,7 +4,7 @@ ghost use Rattle.std.specs.Prelude.{◌≡◌, ◌≤◌, false, length};
 
 use crate::work::Work;
 use linda_disk::Torn;
-use linda_state::Deed;
+use linda_store_state::Deed;
 use linda_wire::{Message, Reply};
 use std::alloc::Global;
 use thiserror::Error;
@@ -23,10 +23,10 @@ pub enum NodeFault {
 /// One server: it takes messages of clients and answers them. A node that is down answers `Down` to
 /// everything but a stop, which opens it again.
 pub trait Node: Drop {
-    ghost use Rattle.linda_step.specs.Store.{IsOrderly};
+    ghost use Rattle.linda_store_step.specs.Store.{IsOrderly};
     ghost use Rattle.linda_store.specs.Node as seen;
     ghost use Rattle.linda_store.specs.Node.{Handles, HandlesAll, Closes, Snaps, Stops, IsBatch, in_hand, node_answer};
-    ghost use Rattle.linda_step.specs.declared.size.TheConstants.{MAX_BATCH};
+    ghost use Rattle.linda_store_step.specs.declared.size.TheConstants.{MAX_BATCH};
 
     /// What contracts see of the node.
     ghost shown: { Self → seen.Node };

@@ -46,7 +46,7 @@ impl Model for Session {
 }
 
 impl Session {
-    /// A connection of which nothing came yet. Takes no memory.
+    /// A connection of which nothing came yet.
     pub fn new(alloc: Global) -> Session
         ensures { result ≡ beginner }
     {
@@ -58,21 +58,21 @@ impl Session {
         }
     }
 
-    /// The client that the node welcomed, if it did. Takes no memory.
+    /// The client that the node welcomed, if it did.
     pub fn greeted(&self) -> Option<u32>
         ensures { result ≡ self.now.greeted }
     {
         self.greeted
     }
 
-    /// How the connection stands. Takes no memory.
+    /// How the connection stands.
     pub fn stage(&self) -> Stage
         ensures { result ≡ self.now.stage }
     {
         self.stage
     }
 
-    /// How many bytes came that make no whole message yet. Takes no memory.
+    /// How many bytes came that make no whole message yet.
     pub fn rest(&self) -> usize
         ensures { result ≡ length self.now.unread }
     {

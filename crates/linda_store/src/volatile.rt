@@ -1,9 +1,9 @@
 //! A server that keeps nothing over its end.
 
 ghost use Rattle.std.specs.Prelude.{◌≡◌, true, false, [], IfOk, OnOk, OnErr};
-ghost use Rattle.linda_state.specs.State.{IsState, empty_state};
-ghost use Rattle.linda_step.specs.Soft.{no_asks};
-ghost use Rattle.linda_step.specs.History.{Happens, comings};
+ghost use Rattle.linda_store_state.specs.State.{IsState, empty_state};
+ghost use Rattle.linda_store_step.specs.Soft.{no_asks};
+ghost use Rattle.linda_store_step.specs.History.{Happens, comings};
 ghost use Rattle.linda_store.specs.Node.{in_hand};
 
 use crate::node::{Node, NodeFault};
@@ -11,8 +11,8 @@ use crate::work::Work;
 use linda_bag::IndexBag;
 use linda_disk::Torn;
 use linda_hold::Holds;
-use linda_state::{Deed, State};
-use linda_step::{Step, Steps, Store};
+use linda_store_state::{Deed, State};
+use linda_store_step::{Step, Steps, Store};
 use linda_wire::{Message, Reply};
 use std::alloc::{AllocError, Global};
 use std::snapshot::Snapshot;
@@ -36,7 +36,7 @@ impl Drop for Volatile {
 }
 
 impl Volatile {
-    /// A server that was never used. Takes no memory.
+    /// A server that was never used.
     pub fn new(alloc: Global) -> Volatile
         ensures { ⟦<Volatile as Node>⟧.shown result
             ≡ record { state = empty_state; soft = no_asks; is_down = false; may_fill = false; lost = [] } }
@@ -46,7 +46,7 @@ impl Volatile {
         Volatile { store, before }
     }
 
-    /// What the server keeps, in its ranges. Takes no memory.
+    /// What the server keeps, in its ranges.
     pub fn state(&self) -> &State<IndexBag>
         ensures state { (⟦<Volatile as Node>⟧.shown self.now).is_down ≡ false
             → result.now ≡ (⟦<Volatile as Node>⟧.shown self.now).state }
@@ -55,7 +55,7 @@ impl Volatile {
         self.store.state()
     }
 
-    /// Which tuple is held for which request. Takes no memory.
+    /// Which tuple is held for which request.
     pub fn holds(&self) -> &Holds
         ensures { result.now ≡ (⟦<Volatile as Node>⟧.shown self.now).soft.holds }
     {

@@ -18,7 +18,7 @@ use Rattle.linda_text.specs.Letters.{is_special, escaped, truth_word}
 use Rattle.linda_text.specs.Grammar.{IsForm, IsContent, IsAtomText, IsPatternText, EndsNumeral}
 use Rattle.linda_text.specs.Steps.{Reader}
 use Rattle.linda_text.specs.Reading.{after_blanks, wrong, word_at, named, with_byte, with_escape, content_at, if_short, if_text, short_at, string_at, integer_at, made, atom_at, formal_at, pattern_at}
-use Rattle.linda_text.proofs.StepLaws.{bind_ok, guard_then, guard_right, ok_is}
+use Rattle.linda_codec.proofs.TakeLaws.{bind_ok, guard_then, guard_right, ok_is}
 use Rattle.linda_text.proofs.BlankLaws.{no_blank, beyond_blanks}
 use Rattle.linda_text.proofs.NumeralLaws.{integer_takes, integer_again, number_begins}
 use Rattle.linda_text.specs.declared.marks.TheConstants as mark

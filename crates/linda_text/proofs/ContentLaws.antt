@@ -9,12 +9,13 @@ use Rattle.linda_tuple.specs.declared.limits.TheConstants.{MAX_TEXT}
 use Rattle.linda_text.specs.declared.fault.TextFault.{TextFault}
 use Rattle.linda_text.specs.declared.fault.TextFault.TheVariants.{SyntaxAt, TextTooLong}
 use Rattle.linda_text.specs.Letters.{is_special, escaped}
-use Rattle.linda_text.specs.Steps.{Read, ◌>>=◌, left_by}
+use Rattle.linda_codec.specs.Steps.{◌>>=◌, left_by}
+use Rattle.linda_text.specs.Steps.{Read}
 use Rattle.linda_text.specs.Reading.{wrong, chosen, escape_at, said_at, with_byte, with_escape, content_at}
 use Rattle.linda_text.specs.Reading.{if_short, if_text, short_at, string_at, made}
-use Rattle.linda_text.proofs.StepLaws.{bind_ok, guard_then, guard_right, ok_is}
+use Rattle.linda_codec.proofs.TakeLaws.{bind_ok, guard_then, guard_right, ok_is}
 use Rattle.linda_text.proofs.LoopLaws.{with_front, regroup}
-use Rattle.linda_text.proofs.SkipLaws.{is_fault, left_made}
+use Rattle.linda_codec.proofs.SkipLaws.{is_fault, left_made}
 use Rattle.linda_text.proofs.Utf8Laws.{says_text}
 use Rattle.linda_text.specs.declared.marks.TheConstants as mark
 

@@ -1,4 +1,3 @@
-pub mod StepLaws
 pub mod LoopLaws
 pub mod SkipLaws
 pub mod NumeralLaws

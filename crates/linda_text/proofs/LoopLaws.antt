@@ -3,7 +3,8 @@ use Rattle.std.proofs.Common.{◌≡◌, ◌≢◌, ℕ, suc, ◌-◌, ◌+◌, 
 use Rattle.std.proofs.lemmas.List.{append-nil}
 use Rattle.linda_text.specs.declared.fault.TextFault.{TextFault}
 use Rattle.linda_text.specs.declared.fault.TextFault.TheVariants.{Memory}
-use Rattle.linda_text.specs.Steps.{Read, Reader, ◌>>=◌}
+use Rattle.linda_codec.specs.Steps.{◌>>=◌}
+use Rattle.linda_text.specs.Steps.{Read, Reader}
 use Rattle.linda_text.specs.Reading.{after_blanks, more_at, no_more_at, fields_at}
 
 -- What was read before, and what is still read.

@@ -15,8 +15,8 @@ use Rattle.std.proofs.lemmas.List.{take_at, drop_at, take-append-drop}
 use Rattle.linda_text.specs.declared.fault.TextFault.TheVariants.{SyntaxAt, NumberRange}
 use Rattle.linda_text.specs.Grammar.{EndsNumeral}
 use Rattle.linda_text.specs.Reading.{digit_count, positive_len, number_of, positive_at, natural_at, integer_of, integer_at}
-use Rattle.linda_text.specs.Steps.{◌>>=◌}
-use Rattle.linda_text.proofs.StepLaws.{bind_ok, guard_right, ok_is}
+use Rattle.linda_codec.specs.Steps.{◌>>=◌}
+use Rattle.linda_codec.proofs.TakeLaws.{bind_ok, guard_right, ok_is}
 use Rattle.linda_text.specs.declared.marks.TheConstants as mark
 
 -- `parse` takes it before digits, and no text has it there.

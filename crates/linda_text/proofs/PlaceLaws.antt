@@ -8,7 +8,7 @@ use Rattle.linda_text.specs.Grammar.{AreBlanks, Stands, IsAlone}
 use Rattle.linda_text.specs.Steps.{Reader}
 use Rattle.linda_text.specs.Reading.{after_blanks, ended, only_of}
 use Rattle.linda_text.specs.Places.{placed, told}
-use Rattle.linda_text.proofs.StepLaws.{bind_ok, ok_is}
+use Rattle.linda_codec.proofs.TakeLaws.{bind_ok, ok_is}
 use Rattle.linda_text.proofs.BlankLaws.{blanks_take, blanks_again}
 use Rattle.linda_text.proofs.RowLaws.{IsSpaced, Anything}
 

@@ -11,9 +11,10 @@ use Rattle.linda_tuple.specs.Tuple.{Tuple, IsWithin}
 use Rattle.linda_tuple.specs.Template.{Template, IsSoundPattern, IsWithinTemplate}
 use Rattle.linda_text.specs.declared.fault.TextFault.TheVariants.{TooManyFields}
 use Rattle.linda_text.specs.Grammar.{AreBlanks, Stands, IsAtomText, EndsNumeral, AreFields, IsRowText, IsTupleText, IsTemplateText}
-use Rattle.linda_text.specs.Steps.{Read, Reader, ◌>>=◌}
+use Rattle.linda_codec.specs.Steps.{◌>>=◌}
+use Rattle.linda_text.specs.Steps.{Read, Reader}
 use Rattle.linda_text.specs.Reading.{after_blanks, wrong, word_at, made, more_at, no_more_at, fields_at, atom_at, tag_at, row_at, tuple_of, template_of, tuple_at, template_at, spaced_atom_at}
-use Rattle.linda_text.proofs.StepLaws.{bind_ok, ok_is}
+use Rattle.linda_codec.proofs.TakeLaws.{bind_ok, ok_is}
 use Rattle.linda_text.proofs.BlankLaws.{no_blank, blanks_take, blanks_again, blanks_end}
 use Rattle.linda_text.proofs.AtomLaws.{IsReading, Begins, word_takes, atom_is, pattern_is}
 use Rattle.linda_text.specs.declared.marks.TheConstants as mark

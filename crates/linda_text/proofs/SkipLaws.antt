@@ -1,43 +1,10 @@
--- What reading leaves after the value, by what each step leaves.
+-- What reading leaves after the fields, by what each step leaves.
 use Rattle.std.proofs.Common.{◌≡◌, ℕ, suc, ◌-◌, ◌+◌, ◌≤◌, ◌<◌, Bool, true, false, List, [], ◌∷◌, Result, Ok, Err, refl, sym, ap, ◌∙◌, arith}
-use Rattle.std.specs.Prelude.{IsOk}
 use Rattle.linda_text.specs.declared.fault.TextFault.{TextFault}
-use Rattle.linda_text.specs.Steps.{Read, Reader, ◌>>=◌, left_by}
+use Rattle.linda_codec.specs.Steps.{◌>>=◌, left_by}
+use Rattle.linda_text.specs.Steps.{Read, Reader}
 use Rattle.linda_text.specs.Reading.{after_blanks, more_at, no_more_at, fields_at}
-
--- Where bytes are left, a value stands before them.
-pub is_there : {F A : Type 0} (read : Result (A × List ℕ) F) (rest : List ℕ) → left_by read ≡ Ok rest → IsOk read
-is_there (Ok x) rest e = refl
-is_there (Err fault) rest e = absurd cc
-
--- A fault that is returned for what is left is the fault.
-pub is_fault : {F A : Type 0} (read : Result (A × List ℕ) F) (fault : F) → left_by read ≡ Err fault → read ≡ Err fault
-is_fault (Ok x) fault e = absurd cc
-is_fault (Err f) fault e = cc
-
-abbrev left : (F : Type 0) → List ℕ → Result (List ℕ) F
-left F rest = Ok rest
-
-left_is : {F : Type 0} (x y : List ℕ) → left F x ≡ left F y → x ≡ y
-left_is x y e = cc
-
--- A step that leaves these bytes, and the next one.
-pub left_then : {F A B : Type 0} (step : Result (A × List ℕ) F) (next : A × List ℕ → Result (B × List ℕ) F) (rest : List ℕ) (total : Result (List ℕ) F) → left_by step ≡ Ok rest
-    → ((a : A) → left_by (next (a, rest)) ≡ total) → left_by (step >>= next) ≡ total
-left_then (Ok x) next rest total e others = rw (left_is x.1 rest e) (others x.0)
-left_then (Err fault) next rest total e others = absurd cc
-
--- A step that fails.
-pub left_fault : {F A B : Type 0} (step : Result (A × List ℕ) F) (next : A × List ℕ → Result (B × List ℕ) F) (fault : F) → left_by step ≡ Err fault → left_by (step >>= next) ≡ Err fault
-left_fault (Ok x) next fault e = absurd cc
-left_fault (Err f) next fault e = e
-
--- What a step leaves is left where the next one only makes something of the value.
-pub left_made : {F A B : Type 0} (step : Result (A × List ℕ) F) (make : A → B) → left_by (step >>= λ x. Ok (make x.0, x.1)) ≡ left_by step
-left_made (Ok x) make = refl
-left_made (Err fault) make = refl
-
--- ---- the loop over fields
+use Rattle.linda_codec.proofs.SkipLaws.{left_then, left_fault, left_made}
 
 abbrev with_others : {A : Type 0} → Reader A → ℕ → A × List ℕ → Read (List A)
 with_others field room first = fields_at field room first.1 >>= λ others. Ok (first.0 ∷ others.0, others.1)

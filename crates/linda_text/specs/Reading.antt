@@ -18,7 +18,8 @@ use Rattle.linda_text.specs.declared.fault.TextFault.{TextFault}
 use Rattle.linda_text.specs.declared.fault.TextFault.TheVariants.{SyntaxAt, TooManyFields}
 use Rattle.linda_text.specs.declared.fault.TextFault.TheVariants.{TextTooLong, NumberRange}
 use Rattle.linda_text.specs.Letters.{is_blank, is_special, escaped}
-use Rattle.linda_text.specs.Steps.{Read, Reader, ◌>>=◌}
+use Rattle.linda_codec.specs.Steps.{◌>>=◌}
+use Rattle.linda_text.specs.Steps.{Read, Reader}
 use Rattle.linda_text.specs.declared.marks.TheConstants as mark
 
 -- The fault of a text that does not go on at the first of these bytes, or that ends before them.

@@ -4,7 +4,8 @@
 ghost use Rattle.std.specs.Prelude.{◌≡◌};
 ghost use Rattle.linda_tuple.specs.declared.limits.TheConstants.{MAX_FIELDS};
 ghost use Rattle.linda_text.specs.Reading.{after_blanks, more_at, no_more_at, fields_at};
-ghost use Rattle.linda_text.specs.Steps.{Reader, Gives, GivesAlways, left_by};
+ghost use Rattle.linda_codec.specs.Steps.{left_by};
+ghost use Rattle.linda_text.specs.Steps.{Reader, Gives, GivesAlways};
 
 use crate::blank::skip_blanks;
 use crate::fault::TextFault;

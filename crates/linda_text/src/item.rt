@@ -2,7 +2,8 @@
 
 ghost use Rattle.std.specs.Prelude.{◌≡◌, IsOk, IsErrOf};
 ghost use Rattle.linda_text.specs.Reading.{atom_at, formal_at, pattern_at};
-ghost use Rattle.linda_text.specs.Steps.{Gives, GivesAlways, left_by};
+ghost use Rattle.linda_codec.specs.Steps.{left_by};
+ghost use Rattle.linda_text.specs.Steps.{Gives, GivesAlways};
 
 use crate::fault::TextFault;
 use crate::field::Field;

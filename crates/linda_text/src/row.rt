@@ -4,7 +4,8 @@
 ghost use Rattle.std.specs.Prelude.{◌≡◌, IsOk, IsErrOf};
 ghost use Rattle.linda_text.specs.Reading.{after_blanks, tag_at, row_at};
 ghost use Rattle.linda_text.specs.Reading.{tuple_at, template_at, spaced_atom_at};
-ghost use Rattle.linda_text.specs.Steps.{Gives, GivesAlways, left_by};
+ghost use Rattle.linda_codec.specs.Steps.{left_by};
+ghost use Rattle.linda_text.specs.Steps.{Gives, GivesAlways};
 
 use crate::blank::skip_blanks;
 use crate::fault::TextFault;

@@ -6,7 +6,8 @@
 
 ghost use Rattle.std.specs.Prelude.{◌≡◌, ◌<◌, false, length, IfOk, IsOk, IsErrOf};
 ghost use Rattle.linda_text.specs.Reading.{content_at, short_at, said_at, escape_at, string_at, made};
-ghost use Rattle.linda_text.specs.Steps.{Gives, GivesAlways, left_by};
+ghost use Rattle.linda_codec.specs.Steps.{left_by};
+ghost use Rattle.linda_text.specs.Steps.{Gives, GivesAlways};
 
 use crate::fault::TextFault;
 use crate::marks::{

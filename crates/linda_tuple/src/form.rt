@@ -38,7 +38,7 @@ impl Form {
     }
 }
 
-/// Whether the tuple has a spelling in this form. Takes no memory.
+/// Whether the tuple has a spelling in this form.
 pub fn fits(form: Form, tuple: &Tuple) -> bool
     ensures { IsTrue result ↔ FitsIn form tuple.now }
 {

@@ -1,12 +1,13 @@
 //! The parts of a tuple, and how a tuple holds them: by itself, or together with its copies.
 
-ghost use Rattle.std.specs.Prelude.{◌≡◌, IfOk};
+ghost use Rattle.std.specs.Prelude.{◌≡◌, ◌∷◌, [], IfOk};
 ghost use Rattle.linda_tuple.specs.Held.{held_tuple, tuple_of};
 
 use crate::atom::Atom;
 use crate::limits::SHARED_FROM;
 use crate::tuple::copies;
 use std::alloc::{AllocError, Global};
+use std::slice;
 use std::sync::Arc;
 
 /// A tag and the fields that follow it.
@@ -21,18 +22,45 @@ pub(crate) struct Parts {
 pub(crate) enum Held {
     /// In the tuple itself. A copy has memory of its own.
     Own(Parts),
+    /// A tag and the only field, in the tuple itself: it takes no memory for a list of fields.
+    Single { tag: Atom, field: Atom },
     /// In memory that the tuple has in common with its copies.
     Shared(Arc<Parts, Global>),
 }
 
 impl Held {
-    /// The parts, wherever they are.
-    pub(crate) fn parts(&self) -> &Parts
-        ensures { tuple_of result.now ≡ held_tuple self.now }
+    /// A tag and fields in the tuple itself. Takes no memory.
+    pub(crate) fn own(tag: Atom, fields: Vec<Atom>) -> Held
+        ensures { held_tuple result ≡ record { tag = tag; fields = fields.items } }
+    {
+        let mut fields = fields;
+        if fields.len() == 1
+            && let Some(field) = fields.pop()
+        {
+            return Held::Single { tag, field };
+        }
+        Held::Own(Parts { tag, fields })
+    }
+
+    /// The tag.
+    pub(crate) fn tag(&self) -> &Atom
+        ensures { result.now ≡ (held_tuple self.now).tag }
     {
         match self {
-            Held::Own(parts) => parts,
-            Held::Shared(parts) => &**parts,
+            Held::Own(parts) => &parts.tag,
+            Held::Single { tag, .. } => tag,
+            Held::Shared(parts) => &(**parts).tag,
+        }
+    }
+
+    /// The fields, in order.
+    pub(crate) fn fields(&self) -> &[Atom]
+        ensures { result.now ≡ (held_tuple self.now).fields }
+    {
+        match self {
+            Held::Own(parts) => &parts.fields,
+            Held::Single { field, .. } => slice::from_ref(field),
+            Held::Shared(parts) => &(**parts).fields,
         }
     }
 
@@ -42,6 +70,10 @@ impl Held {
     {
         match self {
             Held::Own(parts) => Ok(Held::Own(parts.try_clone(alloc)?)),
+            Held::Single { tag, field } => Ok(Held::Single {
+                tag: tag.try_clone(alloc)?,
+                field: field.try_clone(alloc)?,
+            }),
             Held::Shared(parts) => Ok(Held::Shared(Arc::try_clone(parts)?)),
         }
     }
@@ -58,6 +90,12 @@ impl Held {
                 }
                 Held::Own(parts)
             }
+            Held::Single { tag, field } => {
+                if text_len(&tag).saturating_add(text_len(&field)) >= SHARED_FROM {
+                    return share_single(alloc, tag, field);
+                }
+                Held::Single { tag, field }
+            }
             Held::Shared(parts) => Held::Shared(parts),
         }
     }
@@ -71,6 +109,17 @@ fn share(alloc: Global, parts: Parts) -> Held
         Ok(shared) => Held::Shared(shared),
         Err(refused) => Held::Own(refused.value),
     }
+}
+
+// A tag and the only field in memory to be shared; as they were if there is none.
+fn share_single(alloc: Global, tag: Atom, field: Atom) -> Held
+    ensures { held_tuple result ≡ record { tag = tag; fields = field ∷ [] } }
+{
+    let Ok(mut fields) = Vec::with_capacity(alloc, 1) else {
+        return Held::Single { tag, field };
+    };
+    fields.push_reserved(field);
+    share(alloc, Parts { tag, fields })
 }
 
 impl Parts {

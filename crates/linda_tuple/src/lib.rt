@@ -8,27 +8,29 @@
 //!
 //! Contracts see a text as its bytes, a tuple as the `Tuple` of `specs/Tuple` and a template as the
 //! `Template` of `specs/Template`, and know nothing of capacities or places in memory.
+//!
+//! A call that may take memory has a fault for that; no other call takes any.
 #![tactic(auto)]
 
 mod atom;
-mod crossing;
 mod fault;
 mod form;
 mod held;
 mod limits;
 mod matching;
 mod pattern;
+mod send;
 mod template;
 mod text;
 mod tuple;
 
 pub use atom::Atom;
-pub use crossing::tuple_crosses;
 pub use fault::ValueFault;
 pub use form::{Form, fits};
 pub use limits::{MAX_FIELDS, MAX_TEXT, ONE_MAX_FIELDS, ONE_MAX_TEXT};
 pub use matching::{bindings, matches};
 pub use pattern::Pattern;
+pub use send::tuple_crosses;
 pub use template::Template;
 pub use text::Text;
 pub use tuple::Tuple;

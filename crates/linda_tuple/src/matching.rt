@@ -10,7 +10,7 @@ use crate::tuple::Tuple;
 use std::alloc::{AllocError, Global};
 
 /// Whether the template matches the tuple: the tags are equal, there are as many fields as patterns,
-/// and each pattern fits the field at its place. Takes no memory.
+/// and each pattern fits the field at its place.
 #[tactic(auto, unfolding(crate::specs::Matching::is_match))]
 pub fn matches(template: &Template, tuple: &Tuple) -> bool
     ensures { result ≡ is_match template.now tuple.now }

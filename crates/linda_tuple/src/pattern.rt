@@ -46,7 +46,7 @@ impl Pattern {
         }
     }
 
-    /// Whether the atom is what the pattern asks for. Takes no memory.
+    /// Whether the atom is what the pattern asks for.
     pub fn fits(&self, atom: &Atom) -> bool
         ensures { result ≡ is_fit self.now atom.now }
     {

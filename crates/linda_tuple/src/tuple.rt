@@ -6,7 +6,7 @@ ghost use Rattle.linda_tuple.specs.Tuple.{IsWithin};
 
 use crate::atom::Atom;
 use crate::fault::ValueFault;
-use crate::held::{Held, Parts};
+use crate::held::Held;
 use crate::limits::MAX_FIELDS;
 use std::alloc::{AllocError, Global};
 use std::marker::Model;
@@ -54,7 +54,7 @@ impl Tuple {
             return Err(ValueFault::TextTooLong);
         }
         Ok(Tuple {
-            held: Held::Own(Parts { tag, fields }),
+            held: Held::own(tag, fields),
         })
     }
 
@@ -65,7 +65,7 @@ impl Tuple {
         ensures { result ≡ record { tag = tag; fields = fields.items } }
     {
         Tuple {
-            held: Held::Own(Parts { tag, fields }),
+            held: Held::own(tag, fields),
         }
     }
 
@@ -85,7 +85,7 @@ impl Tuple {
         ensures value { result.now ≡ self.now.tag }
         ensures within { IsWithin self.now }
     {
-        &self.held.parts().tag
+        self.held.tag()
     }
 
     /// The values after the tag, in order; at most 32.
@@ -93,7 +93,7 @@ impl Tuple {
         ensures value { result.now ≡ self.now.fields }
         ensures within { IsWithin self.now }
     {
-        &self.held.parts().fields
+        self.held.fields()
     }
 
     /// A copy. It shares the memory of a tuple that `shared` gave, and takes none then, if that one is large; else it

@@ -46,7 +46,7 @@ impl<T: Framed> Model for FrameFeed<T> {
 }
 
 impl<T: Framed> FrameFeed<T> {
-    /// A stream of which nothing came yet. Takes no memory.
+    /// A stream of which nothing came yet.
     pub fn new(alloc: Global) -> FrameFeed<T>
         ensures { result ≡ [] }
     {

@@ -6,6 +6,8 @@
 //! up to the first frame that spells nothing, whose fault it returns from then on. A `ReplyFeed` does so
 //! for the replies of the other side. A `Refusal` is why a server says no, with its code and detail. `specs/Frames`
 //! says what the bytes are, `specs/Stream` what stands at the front of a stream.
+//!
+//! A call that may take memory has a fault for that; no other call takes any.
 #![tactic(auto)]
 
 mod codes;

@@ -26,7 +26,7 @@ impl Model for Unread {
 }
 
 impl Unread {
-    /// No bytes. Takes no memory.
+    /// No bytes.
     pub(crate) fn new(alloc: Global) -> Unread
         ensures { result ≡ [] }
     {

@@ -7,10 +7,10 @@ use Rattle.std.specs.FinMap.{get, insert, from_entries}
 use Rattle.std.proofs.lemmas.Bool.Decides.{eqb_tells}
 use Rattle.linda_maps.proofs.MapLaws.{get_same, get_other, same_map_by_key, one_set, viewed}
 use Rattle.linda_client.specs.React.{Call, react}
-use Rattle.linda_run.specs.declared.packet.Packet.{Packet}
-use Rattle.linda_run.specs.declared.seen.Seen.{Seen}
-use Rattle.linda_run.specs.World.{Member, Members}
-use Rattle.linda_run.specs.Steps.{Told}
+use Rattle.linda_world_laws.specs.declared.packet.Packet.{Packet}
+use Rattle.linda_world_laws.specs.declared.seen.Seen.{Seen}
+use Rattle.linda_world_laws.specs.World.{Member, Members}
+use Rattle.linda_world_laws.specs.Steps.{Told}
 use Rattle.linda_world.specs.declared.fault.WorldFault.{WorldFault}
 use Rattle.linda_world.specs.declared.fault.WorldFault.TheVariants as faults
 use Rattle.linda_world.specs.Member.{refusal_of, refusal_to, Reacts, ReactsOrNot, ReactsIn, SameGot, ReactsInOrNot}

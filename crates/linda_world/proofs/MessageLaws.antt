@@ -5,9 +5,9 @@ use Rattle.std.proofs.lemmas.Option.{slice_get_within, slice_get_read}
 use Rattle.std.proofs.lemmas.List.Elements.{All-nil, All-cons}
 use Rattle.std.proofs.Math.Seq.{take-suc}
 use Rattle.linda_wire.specs.declared.message.Message.{Message}
-use Rattle.linda_run.specs.declared.packet.Body.TheVariants as bodies
-use Rattle.linda_run.specs.declared.packet.Packet.{Packet}
-use Rattle.linda_run.specs.Steps.{IsMessageAt, AreMessagesAt}
+use Rattle.linda_world_laws.specs.declared.packet.Body.TheVariants as bodies
+use Rattle.linda_world_laws.specs.declared.packet.Packet.{Packet}
+use Rattle.linda_world_laws.specs.Steps.{IsMessageAt, AreMessagesAt}
 use Rattle.linda_world.specs.Refusal.{is_message_at, is_message_to, is_message_body}
 
 -- One message more.

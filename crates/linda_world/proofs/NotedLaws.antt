@@ -4,10 +4,10 @@ use Rattle.std.proofs.lemmas.Bool.{cases_eq}
 use Rattle.std.proofs.lemmas.List.{take-append-le, take_all}
 use Rattle.std.specs.FinMap.{empty, get, insert}
 use Rattle.linda_maps.proofs.MapLaws.{get_same, get_other, get_empty}
-use Rattle.linda_state.specs.declared.deed.Deed.{Deed}
-use Rattle.linda_state.specs.Deed.{client_of, number_of}
-use Rattle.linda_promise.specs.Deeds.{last_in}
-use Rattle.linda_promise.proofs.NumberLaws.{last_of_own, last_of_other, last_of_none}
+use Rattle.linda_store_state.specs.declared.deed.Deed.{Deed}
+use Rattle.linda_store_state.specs.Deed.{client_of, number_of}
+use Rattle.linda_store_step.specs.Deeds.{last_in}
+use Rattle.linda_store_step.proofs.LastLaws.{last_of_own, last_of_other, last_of_none}
 use Rattle.linda_world.specs.Noted.{AreNoted, Lasts, noted_number}
 
 -- Of no deed nothing is noted.

@@ -5,24 +5,24 @@ use Rattle.std.specs.Prelude.{nat_lt, ◌≤◌, true}
 use Rattle.std.specs.List.{list_all}
 use Rattle.std.proofs.lemmas.Bool.{cond-true, cond-false, lt-ltb, le-ltb}
 use Rattle.std.proofs.lemmas.Option.{same_Some, slice_get_read}
-use Rattle.linda_step.specs.declared.size.TheConstants.{MAX_BATCH}
-use Rattle.linda_run.specs.declared.seen.Seen.{Seen}
+use Rattle.linda_store_step.specs.declared.size.TheConstants.{MAX_BATCH}
+use Rattle.linda_world_laws.specs.declared.seen.Seen.{Seen}
 use Rattle.linda_world.specs.Refusal.{early_refusal_by, early_refusal_of_packet, is_message_at, refusal_at, refusal_by, refusal_of_packet, refusal_of_stop}
 use Rattle.std.specs.FinMap.{get, insert}
 use Rattle.linda_wire.specs.declared.message.Message.{Message}
 use Rattle.linda_wire.specs.declared.reply.Reply.{Reply}
 use Rattle.linda_client.specs.React.{Call, Receive}
-use Rattle.linda_run.specs.declared.packet.Body.{Body}
-use Rattle.linda_run.specs.declared.packet.Body.TheVariants as bodies
-use Rattle.linda_run.specs.declared.packet.Packet.{Packet}
-use Rattle.linda_run.specs.World.{Server, Members, World, delivered, delivered_at}
-use Rattle.linda_run.specs.Steps.{Told, Task, Takes, HasReacted, HasServed, Carries, Delivers}
+use Rattle.linda_world_laws.specs.declared.packet.Body.{Body}
+use Rattle.linda_world_laws.specs.declared.packet.Body.TheVariants as bodies
+use Rattle.linda_world_laws.specs.declared.packet.Packet.{Packet}
+use Rattle.linda_world_laws.specs.World.{Server, Members, World, delivered, delivered_at}
+use Rattle.linda_world_laws.specs.Steps.{Told, Task, Takes, HasReacted, HasServed, Carries, Delivers}
 use Rattle.linda_world.specs.declared.fault.WorldFault.{WorldFault}
 use Rattle.linda_world.specs.declared.fault.WorldFault.TheVariants as faults
 use Rattle.linda_world.specs.Answer.{Tells, Serves, ServesOrNot}
 use Rattle.linda_world.specs.Member.{refusal_of, refusal_to, ReactsIn}
 use Rattle.linda_world.specs.Scene.{IsShownAs, AsksOrNot, TriesOrNot, answer_of, seen_of}
-use Rattle.linda_run.proofs.MarkLaws.{all_delivered_front, delivered_front}
+use Rattle.linda_world_laws.proofs.MarkLaws.{all_delivered_front, delivered_front}
 
 -- a server whose deeds stayed leaves all deeds as they were
 same_deeds : (servers : List Server) (s : ℕ) (server now : Server) → slice_get servers s ≡ Some server → now.deeds ≡ server.deeds

@@ -4,17 +4,17 @@ use Rattle.std.specs.Prelude.{Option, None, Result, Ok, Err}
 use Rattle.std.specs.Global.{Vec}
 use Rattle.linda_wire.specs.declared.message.Message.{Message}
 use Rattle.linda_wire.specs.declared.reply.Reply.{Reply}
-use Rattle.linda_state.specs.declared.deed.Deed.{Deed}
-use Rattle.linda_step.specs.History.{says}
-use Rattle.linda_promise.specs.Steps.{reported_deed}
-use Rattle.linda_promise.specs.Deeds.{last_in as last_number}
+use Rattle.linda_store_state.specs.declared.deed.Deed.{Deed}
+use Rattle.linda_store_step.specs.History.{says}
+use Rattle.linda_store_step.specs.Reported.{reported_deed}
+use Rattle.linda_store_step.specs.Deeds.{last_in as last_number}
 use Rattle.linda_store.specs.declared.node.NodeFault.{NodeFault}
 use Rattle.linda_store.specs.Node.{Node, Sent, IsFull, IsDown, Handles, Works}
 use Rattle.linda_store.specs.Sound.{IsSound}
-use Rattle.linda_run.specs.declared.packet.Packet.{Packet}
-use Rattle.linda_run.specs.declared.seen.Seen.{Seen}
-use Rattle.linda_run.specs.World.{Server, sent_from}
-use Rattle.linda_run.specs.Steps.{Told, Task, Takes, Does, without_room}
+use Rattle.linda_world_laws.specs.declared.packet.Packet.{Packet}
+use Rattle.linda_world_laws.specs.declared.seen.Seen.{Seen}
+use Rattle.linda_world_laws.specs.World.{Server, sent_from}
+use Rattle.linda_world_laws.specs.Steps.{Told, Task, Takes, Does, without_room}
 use Rattle.linda_world.specs.Answer.{Serves}
 
 abbrev pub seen_served : Seen

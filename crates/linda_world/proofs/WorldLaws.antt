@@ -8,14 +8,14 @@ use Rattle.linda_client.specs.declared.limits.TheConstants.{MAX_SERVERS}
 use Rattle.linda_store.specs.Node.{Node}
 use Rattle.linda_world.specs.declared.fault.WorldFault.{WorldFault}
 use Rattle.linda_world.specs.declared.fault.WorldFault.TheVariants as faults
-use Rattle.linda_run.specs.declared.event.WorldEvent.{WorldEvent}
-use Rattle.linda_run.specs.declared.seen.Seen.{Seen}
-use Rattle.linda_run.specs.World as run
-use Rattle.linda_run.specs.Steps as steps
-use Rattle.linda_run.specs.Steps.{Told, HasJoined}
-use Rattle.linda_run.specs.Reached.{IsUnused, IsNew, IsStart, IsReached, joins, goes}
+use Rattle.linda_world_laws.specs.declared.event.WorldEvent.{WorldEvent}
+use Rattle.linda_world_laws.specs.declared.seen.Seen.{Seen}
+use Rattle.linda_world_laws.specs.World as run
+use Rattle.linda_world_laws.specs.Steps as steps
+use Rattle.linda_world_laws.specs.Steps.{Told, HasJoined}
+use Rattle.linda_world_laws.specs.Reached.{IsUnused, IsNew, IsStart, IsReached, joins, goes}
 use Rattle.linda_world.specs.Refusal.{refusal}
-use Rattle.linda_world.specs.Scene.{IsShownAs, AddsOrNot, new_server, world_of}
+use Rattle.linda_world.specs.Scene.{IsShownAs, AddsOrNot, Answers, new_server, world_of}
 use Rattle.linda_world.specs.World.{World, IsRun, Steps, Runs, StopsAt}
 
 same_shown : (w : run.World) → IsShownAs w w
@@ -42,6 +42,24 @@ falls_short w new was is shown = record {
   shown = record { deeds = shown.deeds ∙ is.shown.deeds; got = λ d. shown.got d ∙ is.shown.got d; packets = shown.packets ∙ is.shown.packets };
   whole = λ e. absurd (true≢false e);
 }
+
+-- After a fault: an event where the server is down took place, one that is refused changed nothing, and where memory ran
+-- out the world is spent.
+pub fails : (w new : run.World) (was spent : Bool) (event : WorldEvent) (fault : WorldFault) → IsRun (record { world = w; is_spent = was }) → was ≡ false → (fault ≡ faults.Memory → spent ≡ true) → Answers w event (Err fault) new → IsRun (record { world = new; is_spent = spent })
+fails w new was spent event fault is unspent is_spent answer = by fault is_spent answer
+  where
+    stays : new ≡ w → IsRun (record { world = new; is_spent = spent })
+    stays same = is_run new spent (subst IsReached (sym same) (reached_now (record { world = w; is_spent = was }) is unspent))
+
+    by : (f : WorldFault) → (f ≡ faults.Memory → spent ≡ true) → Answers w event (Err f) new → IsRun (record { world = new; is_spent = spent })
+    by (faults.Down s) short told = goes_on w new was spent event (Err s) is unspent told
+    by faults.Memory short told = subst (λ b. IsRun (record { world = new; is_spent = b })) (sym (short refl)) (falls_short w new was is told.1)
+    by faults.NoClient short told = stays told.1
+    by faults.NoServer short told = stays told.1
+    by faults.NoPacket short told = stays told.1
+    by faults.ClientKnown short told = stays told.1
+    by faults.TooManyPackets short told = stays told.1
+    by (faults.Client why) short told = stays told.1
 
 -- One event more.
 pub runs_more : (w mid new : World) (events : List WorldEvent) (event : WorldEvent) (seen : Seen) → Runs w events mid → Steps mid event (Ok seen) new → Runs w (events ++ event ∷ []) new

@@ -1,12 +1,12 @@
 -- What a call of a world, or of a part of it, answers: that something is done, that it is refused,
 -- or that memory ran out.
 use Rattle.std.specs.Prelude.{◌≡◌, ℕ, List, ◌++◌, Result, Ok, Err, map}
-use Rattle.linda_state.specs.declared.deed.Deed.{Deed}
+use Rattle.linda_store_state.specs.declared.deed.Deed.{Deed}
 use Rattle.linda_store.specs.Node.{Node, NodeAnswer}
-use Rattle.linda_run.specs.declared.packet.Packet.{Packet}
-use Rattle.linda_run.specs.declared.seen.Seen.{Seen}
-use Rattle.linda_run.specs.World.{Server, sent_from}
-use Rattle.linda_run.specs.Steps.{Told, Task, Does, sends_of, served}
+use Rattle.linda_world_laws.specs.declared.packet.Packet.{Packet}
+use Rattle.linda_world_laws.specs.declared.seen.Seen.{Seen}
+use Rattle.linda_world_laws.specs.World.{Server, sent_from}
+use Rattle.linda_world_laws.specs.Steps.{Told, Task, Does, sends_of, served}
 use Rattle.linda_world.specs.declared.fault.WorldFault.{WorldFault}
 use Rattle.linda_world.specs.declared.fault.WorldFault.TheVariants as faults
 

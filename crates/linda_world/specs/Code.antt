@@ -3,56 +3,27 @@ use Rattle.std.specs.Prelude.{◌≡◌, ℕ, Bool, ◌⊎◌, List, refl}
 use Rattle.std.specs.Coded.{Coded, code_by, coded×, coded⊎, coded_ℕ, coded_bool, coded_list}
 use Rattle.std.specs.FinMap as map
 use Rattle.std.proofs.Common.{inl, inr, ap}
-use Rattle.linda_tuple.specs.Tuple.{Tuple}
 use Rattle.linda_wire.specs.declared.message.Message.{Message}
 use Rattle.linda_wire.specs.declared.reply.Reply.{Reply}
-use Rattle.linda_state.specs.declared.deed.Deed.{Deed}
-use Rattle.linda_state.specs.declared.deed.Deed.TheVariants as deeds
-use Rattle.linda_state.specs.State.{State}
-use Rattle.linda_state.specs.Codes.{state_code}
-use Rattle.linda_step.specs.Soft.{Soft}
-use Rattle.linda_step.specs.Codes.{soft_code}
+use Rattle.linda_store_state.specs.declared.deed.Deed.{Deed}
+use Rattle.linda_store_state.specs.State.{State}
+use Rattle.linda_store_state.specs.Codes.{state_code}
+use Rattle.linda_store_state.specs.DeedCode.{deed_code}
+use Rattle.linda_store_step.specs.Soft.{Soft}
+use Rattle.linda_store_step.specs.Codes.{soft_code}
 use Rattle.linda_store.specs.Node.{Node}
 use Rattle.linda_client.specs.Client.{Client}
 use Rattle.linda_client.specs.ClientCode.{client_code}
-use Rattle.linda_run.specs.declared.packet.Body.{Body}
-use Rattle.linda_run.specs.declared.packet.Body.TheVariants as bodies
-use Rattle.linda_run.specs.declared.packet.Packet.{Packet}
-use Rattle.linda_run.specs.World.{Server, Member, Members, World}
-use Rattle.linda_world.specs.MessageCode.{pair_code, row_code, message_code, reply_code}
+use Rattle.linda_world_laws.specs.declared.packet.Body.{Body}
+use Rattle.linda_world_laws.specs.declared.packet.Body.TheVariants as bodies
+use Rattle.linda_world_laws.specs.declared.packet.Packet.{Packet}
+use Rattle.linda_world_laws.specs.World.{Server, Member, Members, World}
+use Rattle.linda_world.specs.MessageCode.{pair_code, message_code, reply_code}
 
 -- the code of a client with what it was given
 abbrev pub member_code : Coded Member
 member_code = code_by (Client × List (ℕ × ℕ)) (coded× client_code (coded_list pair_code))
     (λ m. (m.client, m.got)) (λ p. record { client = p.0; got = p.1 }) (λ _. refl)
-
-abbrev pub DeedParts : Type 0
-DeedParts = (ℕ × (ℕ × Tuple)) ⊎ ((ℕ × (ℕ × ℕ)) ⊎ ((ℕ × (ℕ × ℕ)) ⊎ (ℕ × ℕ)))
-
-abbrev pub deed_parts : Deed → DeedParts
-deed_parts (deeds.Out c n row) = inl (c, (n, row))
-deed_parts (deeds.Take c n id) = inr (inl (c, (n, id)))
-deed_parts (deeds.Pass c n id) = inr (inr (inl (c, (n, id))))
-deed_parts (deeds.Leave c n) = inr (inr (inr (c, n)))
-
-abbrev pub deed_of_parts : DeedParts → Deed
-deed_of_parts (inl p) = deeds.Out p.0 p.1.0 p.1.1
-deed_of_parts (inr (inl p)) = deeds.Take p.0 p.1.0 p.1.1
-deed_of_parts (inr (inr (inl p))) = deeds.Pass p.0 p.1.0 p.1.1
-deed_of_parts (inr (inr (inr p))) = deeds.Leave p.0 p.1
-
-abbrev pub deed_again : (d : Deed) → deed_of_parts (deed_parts d) ≡ d
-deed_again (deeds.Out c n row) = refl
-deed_again (deeds.Take c n id) = refl
-deed_again (deeds.Pass c n id) = refl
-deed_again (deeds.Leave c n) = refl
-
--- the code of a deed
-abbrev pub deed_code : Coded Deed
-deed_code = code_by DeedParts
-    (coded⊎ (coded× coded_ℕ row_code)
-    (coded⊎ (coded× coded_ℕ pair_code) (coded⊎ (coded× coded_ℕ pair_code) pair_code)))
-    deed_parts deed_of_parts deed_again
 
 -- the code of a node
 abbrev pub node_code : Coded Node

@@ -4,10 +4,10 @@ use Rattle.std.specs.Option.{option_map}
 use Rattle.std.specs.FinMap as maps
 use Rattle.linda_client.specs.Reaction.{Answer, Reaction}
 use Rattle.linda_client.specs.React.{Call, react}
-use Rattle.linda_run.specs.declared.packet.Packet.{Packet}
-use Rattle.linda_run.specs.declared.seen.Seen.{Seen}
-use Rattle.linda_run.specs.World.{Member, Members, member_then, sent_by}
-use Rattle.linda_run.specs.Steps.{Told, reacted}
+use Rattle.linda_world_laws.specs.declared.packet.Packet.{Packet}
+use Rattle.linda_world_laws.specs.declared.seen.Seen.{Seen}
+use Rattle.linda_world_laws.specs.World.{Member, Members, member_then, sent_by}
+use Rattle.linda_world_laws.specs.Steps.{Told, reacted}
 use Rattle.linda_world.specs.declared.fault.WorldFault.{WorldFault}
 use Rattle.linda_world.specs.declared.fault.WorldFault.TheVariants as faults
 use Rattle.linda_world.specs.Answer.{Tells}

@@ -2,8 +2,8 @@
 use Rattle.std.specs.Prelude.{◌≡◌, ℕ, ◌≤◌, List, length, take, Option, Some, None}
 use Rattle.std.specs.Ordering.{nat_cmp}
 use Rattle.std.specs.FinMap as map
-use Rattle.linda_state.specs.declared.deed.Deed.{Deed}
-use Rattle.linda_promise.specs.Deeds.{last_in}
+use Rattle.linda_store_state.specs.declared.deed.Deed.{Deed}
+use Rattle.linda_store_step.specs.Deeds.{last_in}
 
 -- numbers by clients
 abbrev pub Lasts : Type 0

@@ -3,17 +3,17 @@ use Rattle.std.specs.Prelude.{ℕ, ◌==◌, nat_lt, Bool, true, false, ◌&&◌
 use Rattle.std.specs.List.{slice_get, list_all}
 use Rattle.std.specs.FinMap as map
 use Rattle.linda_event.specs.Trees.{tree_of}
-use Rattle.linda_step.specs.declared.size.TheConstants.{MAX_BATCH}
+use Rattle.linda_store_step.specs.declared.size.TheConstants.{MAX_BATCH}
 use Rattle.linda_client.specs.declared.fault.ClientFault.{ClientFault}
 use Rattle.linda_client.specs.declared.fault.ClientFault.TheVariants as refusals
 use Rattle.linda_client.specs.React as calls
 use Rattle.linda_client.specs.React.{Receive, Resend, Abandon, Leave}
-use Rattle.linda_run.specs.declared.event.WorldEvent.{WorldEvent}
-use Rattle.linda_run.specs.declared.event.WorldEvent.TheVariants as events
-use Rattle.linda_run.specs.declared.packet.Body.{Body}
-use Rattle.linda_run.specs.declared.packet.Body.TheVariants as bodies
-use Rattle.linda_run.specs.declared.packet.Packet.{Packet}
-use Rattle.linda_run.specs.World.{Member, World}
+use Rattle.linda_world_laws.specs.declared.event.WorldEvent.{WorldEvent}
+use Rattle.linda_world_laws.specs.declared.event.WorldEvent.TheVariants as events
+use Rattle.linda_world_laws.specs.declared.packet.Body.{Body}
+use Rattle.linda_world_laws.specs.declared.packet.Body.TheVariants as bodies
+use Rattle.linda_world_laws.specs.declared.packet.Packet.{Packet}
+use Rattle.linda_world_laws.specs.World.{Member, World}
 use Rattle.linda_world.specs.declared.fault.WorldFault.{WorldFault}
 use Rattle.linda_world.specs.declared.fault.WorldFault.TheVariants as faults
 use Rattle.linda_world.specs.Member.{refusal_to}

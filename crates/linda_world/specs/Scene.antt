@@ -2,10 +2,10 @@
 use Rattle.std.specs.Prelude.{◌≡◌, ℕ, List, [], Option, Some, None, IsSome, Result, Ok, Err, map}
 use Rattle.std.specs.FinMap as maps
 use Rattle.linda_store.specs.Node.{Node}
-use Rattle.linda_run.specs.declared.event.WorldEvent.{WorldEvent}
-use Rattle.linda_run.specs.declared.seen.Seen.{Seen}
-use Rattle.linda_run.specs.World.{Server, World}
-use Rattle.linda_run.specs.Steps.{Told, Steps, HasJoined}
+use Rattle.linda_world_laws.specs.declared.event.WorldEvent.{WorldEvent}
+use Rattle.linda_world_laws.specs.declared.seen.Seen.{Seen}
+use Rattle.linda_world_laws.specs.World.{Server, World}
+use Rattle.linda_world_laws.specs.Steps.{Told, Steps, HasJoined}
 use Rattle.linda_world.specs.declared.fault.WorldFault.{WorldFault}
 use Rattle.linda_world.specs.declared.fault.WorldFault.TheVariants as faults
 use Rattle.linda_world.specs.Answer.{Tells}

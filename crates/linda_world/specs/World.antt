@@ -2,13 +2,13 @@
 use Rattle.std.specs.Prelude.{◌≡◌, ℕ, Bool, true, false, List, [], ◌∷◌, ◌++◌, Option, Some, None}
 use Rattle.std.specs.Prelude.{IsSome, Result, Ok, Err}
 use Rattle.std.specs.FinMap as maps
-use Rattle.linda_state.specs.declared.deed.Deed.{Deed}
-use Rattle.linda_run.specs.declared.event.WorldEvent.{WorldEvent}
-use Rattle.linda_run.specs.declared.seen.Seen.{Seen}
-use Rattle.linda_run.specs.World as run
-use Rattle.linda_run.specs.Steps as steps
-use Rattle.linda_run.specs.Steps.{Told, HasJoined}
-use Rattle.linda_run.specs.Reached.{IsReached}
+use Rattle.linda_store_state.specs.declared.deed.Deed.{Deed}
+use Rattle.linda_world_laws.specs.declared.event.WorldEvent.{WorldEvent}
+use Rattle.linda_world_laws.specs.declared.seen.Seen.{Seen}
+use Rattle.linda_world_laws.specs.World as run
+use Rattle.linda_world_laws.specs.Steps as steps
+use Rattle.linda_world_laws.specs.Steps.{Told, HasJoined}
+use Rattle.linda_world_laws.specs.Reached.{IsReached}
 use Rattle.linda_world.specs.declared.fault.WorldFault.{WorldFault}
 use Rattle.linda_world.specs.declared.fault.WorldFault.TheVariants as faults
 use Rattle.linda_world.specs.Answer.{Tells}

@@ -1,7 +1,7 @@
 -- How a world is stored where a model's value holds one.
 use Rattle.std.specs.Prelude.{Bool, refl}
 use Rattle.std.specs.Coded.{Coded, code_by, coded×, coded_bool}
-use Rattle.linda_run.specs.World as run
+use Rattle.linda_world_laws.specs.World as run
 use Rattle.linda_world.specs.Code.{world_code}
 use Rattle.linda_world.specs.World.{World}
 

@@ -2,11 +2,12 @@
 
 ghost use Rattle.std.specs.Prelude.{◌≡◌, ◌++◌, [], IfOk, OnOk, OnErr, length, option_to_list};
 ghost use Rattle.std.specs.FinMap as map;
-ghost use Rattle.linda_promise.specs.Deeds.{last_in};
+ghost use Rattle.linda_store_step.specs.Deeds.{last_in};
 ghost use Rattle.linda_world.specs.Noted.{AreNoted, noted_number};
 
-use linda_run::{Packet, append_both};
-use linda_state::Deed;
+use crate::post::append_both;
+use linda_store_state::Deed;
+use linda_world_laws::Packet;
 use std::alloc::{AllocError, Global};
 use std::collections::BTreeMap;
 use std::marker::Model;
@@ -86,8 +87,8 @@ pub(crate) struct Deeds {
 impl Model for Deeds {
     ghost use Rattle.std.specs.Prelude.{List};
     ghost use Rattle.std.specs.Coded.{coded_list};
-    ghost use Rattle.linda_state.specs.declared.deed.Deed as seen;
-    ghost use Rattle.linda_world.specs.Code.{deed_code};
+    ghost use Rattle.linda_store_state.specs.declared.deed.Deed as seen;
+    ghost use Rattle.linda_store_state.specs.DeedCode.{deed_code};
     ghost use Rattle.linda_world.specs.Noted.{AreNoted};
 
     ghost Value = { List seen.Deed };

@@ -7,9 +7,11 @@ ghost use Rattle.linda_client.specs.Call.{call_of};
 ghost use Rattle.linda_world.specs.Member.{ReactsOrNot, ReactsInOrNot};
 
 use crate::fault::WorldFault;
+use crate::given::given_by;
+use crate::post::{append_both, packets_by};
 use crate::refusal::refused;
 use linda_client::{Call, Client, Reaction};
-use linda_run::{Packet, Seen, append_both, given_by, packets_by};
+use linda_world_laws::{Packet, Seen};
 use std::alloc::{AllocError, Global};
 use std::collections::BTreeMap;
 use std::marker::Model;
@@ -22,7 +24,7 @@ pub(crate) struct Member {
 }
 
 impl Model for Member {
-    ghost use Rattle.linda_run.specs.World as seen;
+    ghost use Rattle.linda_world_laws.specs.World as seen;
     ghost use Rattle.linda_world.specs.Code.{member_code};
 
     ghost Value = { seen.Member };
@@ -80,7 +82,7 @@ pub(crate) struct Members {
 impl Model for Members {
     ghost use Rattle.std.specs.Coded.{coded_ℕ};
     ghost use Rattle.std.specs.FinMap as map;
-    ghost use Rattle.linda_run.specs.World as seen;
+    ghost use Rattle.linda_world_laws.specs.World as seen;
     ghost use Rattle.linda_world.specs.Code.{member_code};
 
     ghost Value = { seen.Members };

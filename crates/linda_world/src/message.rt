@@ -2,11 +2,11 @@
 
 ghost use Rattle.std.specs.Prelude.{◌≡◌, IfOk, Some, true};
 ghost use Rattle.std.specs.List.{list_all};
-ghost use Rattle.linda_run.specs.Steps.{AreMessagesAt};
+ghost use Rattle.linda_world_laws.specs.Steps.{AreMessagesAt};
 ghost use Rattle.linda_world.specs.Refusal.{is_message_at, is_message_to};
 
-use linda_run::{Body, Packet};
 use linda_wire::Message;
+use linda_world_laws::{Body, Packet};
 use std::alloc::{AllocError, Global};
 
 /// Whether the packet of this number is a message to the server.

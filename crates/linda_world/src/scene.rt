@@ -5,27 +5,25 @@ ghost use Rattle.std.specs.Prelude.{map as map_list};
 ghost use Rattle.std.specs.Option.{option_map};
 ghost use Rattle.std.specs.List.{slice_get};
 ghost use Rattle.std.specs.FinMap as map;
-ghost use Rattle.linda_run.specs.Steps.{HasReacted, HasServed, IsStopped, Halts, HangsUp, Saves, Takes};
-ghost use Rattle.linda_run.specs.declared.event.WorldEvent.TheVariants as events;
+ghost use Rattle.linda_world_laws.specs.Steps.{HasReacted, HasServed, IsStopped, Halts, HangsUp, Saves, Takes};
+ghost use Rattle.linda_world_laws.specs.declared.event.WorldEvent.TheVariants as events;
 ghost use Rattle.linda_client.specs.React.{Receive};
-ghost use Rattle.linda_run.specs.Reached.{IsReached};
+ghost use Rattle.linda_world_laws.specs.Reached.{IsReached};
 ghost use Rattle.linda_client.specs.Call.{call_of};
 ghost use Rattle.linda_world.specs.Member.{refusal_to};
 ghost use Rattle.linda_world.specs.Refusal.{refusal_at, refusal_of_stop};
 ghost use Rattle.linda_world.specs.Scene.{AddsOrNot, Answers, AsksOrNot, new_server, seen_of, world_of};
 
 use crate::fault::WorldFault;
+use crate::mark::{mark_all_delivered, mark_delivered};
 use crate::member::Members;
 use crate::message::{are_messages, messages_at};
 use crate::server::{Server, Told};
 use linda_client::{Call, Client};
 use linda_disk::Torn;
-use linda_run::{
-    Body, Packet, Seen, WorldEvent, mark_all_delivered, mark_delivered, servers_are_few,
-    servers_stay_sound,
-};
 use linda_store::{MAX_BATCH, Node, Work};
 use linda_wire::{Message, Reply};
+use linda_world_laws::{Body, Packet, Seen, WorldEvent, servers_are_few, servers_stay_sound};
 use std::alloc::{AllocError, Global};
 use std::marker::Model;
 
@@ -38,7 +36,7 @@ pub(crate) struct Scene<N: Node> {
 }
 
 impl<N: Node> Model for Scene<N> {
-    ghost use Rattle.linda_run.specs.World as seen;
+    ghost use Rattle.linda_world_laws.specs.World as seen;
     ghost use Rattle.linda_world.specs.Code.{world_code};
 
     ghost Value = { seen.World };

@@ -5,15 +5,16 @@ ghost use Rattle.linda_wire.specs.declared.refusal.Refusal.TheVariants as refusa
 ghost use Rattle.linda_wire.specs.Refusal.{refused};
 ghost use Rattle.linda_store.specs.Sound.{IsSound};
 ghost use Rattle.linda_store.specs.Node.{IsBatch, in_hand};
-ghost use Rattle.linda_run.specs.Steps.{Takes, HangsUp, Saves, Halts};
+ghost use Rattle.linda_world_laws.specs.Steps.{Takes, HangsUp, Saves, Halts};
 ghost use Rattle.linda_world.specs.Answer.{ServesOrNot};
 
 use crate::deeds::Deeds;
+use crate::post::packets_from;
 use linda_disk::Torn;
-use linda_promise::reported_deed;
-use linda_run::{Packet, Seen, deeds_are_learned, packets_from};
 use linda_store::{Deed, Node, NodeFault, Work};
+use linda_store_step::reported_deed;
 use linda_wire::{Message, Refusal, Reply};
+use linda_world_laws::{Packet, Seen, deeds_are_learned};
 use std::alloc::{AllocError, Global};
 use std::marker::Model;
 
@@ -28,7 +29,7 @@ pub(crate) struct Server<N: Node> {
 }
 
 impl<N: Node> Model for Server<N> {
-    ghost use Rattle.linda_run.specs.World as seen;
+    ghost use Rattle.linda_world_laws.specs.World as seen;
     ghost use Rattle.linda_world.specs.Code.{server_code};
 
     ghost Value = { seen.Server };

@@ -7,14 +7,14 @@ ghost use Rattle.std.specs.Option.{option_map};
 ghost use Rattle.std.specs.List.{slice_get};
 ghost use Rattle.std.specs.FinMap as map;
 ghost use Rattle.linda_client.specs.declared.limits.TheConstants.{MAX_SERVERS};
-ghost use Rattle.linda_run.specs.Reached.{IsUnused};
+ghost use Rattle.linda_world_laws.specs.Reached.{IsUnused};
 ghost use Rattle.linda_world.specs.Scene.{world_of};
 ghost use Rattle.linda_world.specs.World.{IsRun, Joins, Passes, Ran, Steps, deeds_by, got_by};
 
 use crate::fault::WorldFault;
 use crate::scene::Scene;
-use linda_run::{Packet, Seen, WorldEvent};
 use linda_store::{Deed, Node};
+use linda_world_laws::{Packet, Seen, WorldEvent};
 use std::alloc::{AllocError, Global};
 use std::marker::Model;
 
@@ -89,7 +89,7 @@ impl<N: Node> World<N> {
     }
 
     /// What the client was given: the server and the id of each tuple that it took, in order. Nothing if there
-    /// is no such client. Takes no memory.
+    /// is no such client.
     pub fn got(&self, client: u32) -> &[(u32, u64)]
         ensures got { result.now ≡ got_by (map.get self.now.world.members client) }
         ensures run { IsRun self.now }
@@ -100,7 +100,7 @@ impl<N: Node> World<N> {
         }
     }
 
-    /// All deeds that the server ever did, in order. None if there is no such server. Takes no memory.
+    /// All deeds that the server ever did, in order. None if there is no such server.
     pub fn deeds(&self, server: u32) -> &[Deed]
         ensures deeds { result.now ≡ deeds_by (slice_get self.now.world.servers server) }
         ensures run { IsRun self.now }
@@ -111,7 +111,7 @@ impl<N: Node> World<N> {
         }
     }
 
-    /// The node of the server, if there is such a one. Takes no memory.
+    /// The node of the server, if there is such a one.
     pub fn node(&self, server: u32) -> Option<&N>
         ensures { option_map (λ n. N.shown n) (option_copied result)
             ≡ option_map (λ s. s.node) (slice_get self.now.world.servers server) }
@@ -122,7 +122,7 @@ impl<N: Node> World<N> {
         }
     }
 
-    /// All packets that were ever sent, in order; a packet's number is its place. Takes no memory.
+    /// All packets that were ever sent, in order; a packet's number is its place.
     pub fn packets(&self) -> &[Packet]
         ensures packets { result.now ≡ self.now.world.packets }
         ensures run { IsRun self.now }
@@ -173,18 +173,11 @@ impl<N: Node> World<N> {
             return Err(WorldFault::Memory);
         }
         match self.scene.step(alloc, event) {
-            Ok(seen) => return Ok(seen),
-            Err(WorldFault::Memory) => {
-                self.spent = true;
-                return Err(WorldFault::Memory);
+            Ok(seen) => Ok(seen),
+            Err(fault) => {
+                self.spent = fault == WorldFault::Memory;
+                Err(fault)
             }
-            Err(WorldFault::Down(server)) => return Err(WorldFault::Down(server)),
-            Err(WorldFault::NoClient) => return Err(WorldFault::NoClient),
-            Err(WorldFault::NoServer) => return Err(WorldFault::NoServer),
-            Err(WorldFault::NoPacket) => return Err(WorldFault::NoPacket),
-            Err(WorldFault::ClientKnown) => return Err(WorldFault::ClientKnown),
-            Err(WorldFault::TooManyPackets) => return Err(WorldFault::TooManyPackets),
-            Err(WorldFault::Client(fault)) => return Err(WorldFault::Client(fault)),
         }
     }
 }

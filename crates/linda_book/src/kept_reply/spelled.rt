@@ -179,7 +179,7 @@ fn push_kind(out: &mut Vec<u8>, byte: u8) -> Result<(), AllocError>
 
 impl KeptReply {
     /// Whether the reply has a spelling in the form: the tuple that it gives has one, where it gives one, and that to a
-    /// Leave has one where the form has them. In the second form each reply has one. Takes no memory.
+    /// Leave has one where the form has them. In the second form each reply has one.
     pub fn fits(&self, form: Form) -> bool
         ensures exact { IsTrue result ↔ format.FitsReply form self.now }
         ensures second { format.FitsReply Two self.now }

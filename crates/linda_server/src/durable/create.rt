@@ -9,14 +9,14 @@ use crate::fault::OpenFault;
 use linda_disk::Disk;
 use linda_journal::{Bank, BankFault, lay_gate};
 use linda_moment::Moment;
-use linda_step::Store;
+use linda_store_step::Store;
 use std::alloc::Global;
 
 impl<D: Disk> Durable<D> {
     ghost use Rattle.std.specs.Prelude.{◌<◌, [], false, length, IfOk, IfErr};
-    ghost use Rattle.linda_state.specs.State.{empty_state};
+    ghost use Rattle.linda_store_state.specs.State.{empty_state};
     ghost use Rattle.linda_disk.specs.Disk.{TellsFailuresOfTwo};
-    ghost use Rattle.linda_step.specs.Soft.{no_asks};
+    ghost use Rattle.linda_store_step.specs.Soft.{no_asks};
     ghost use Rattle.linda_server.specs.Pairs.{PairsSince, two, IsVoid, TookCalls};
     ghost use Rattle.linda_server.specs.Server.{both_of, BothHonest, StandNow};
     ghost use Rattle.linda_server.specs.Calls.{IsNothingOr, IsLimit};

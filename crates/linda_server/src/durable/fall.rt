@@ -8,8 +8,8 @@ use super::Durable;
 use crate::disks::Disks;
 use linda_bag::Bag;
 use linda_disk::Disk;
-use linda_state::{Deed, State};
 use linda_store::{NodeFault, Work};
+use linda_store_state::{Deed, State};
 use std::alloc::Global;
 use std::mem;
 

@@ -12,9 +12,9 @@ use linda_wire::{Message, Reply};
 use std::alloc::Global;
 
 impl<D: Disk> Durable<D> {
-    ghost use Rattle.linda_step.specs.Dispatch.{on_close};
-    ghost use Rattle.linda_step.specs.declared.size.TheConstants.{MAX_BATCH};
-    ghost use Rattle.linda_step.specs.History.{hangs_up};
+    ghost use Rattle.linda_store_step.specs.Dispatch.{on_close};
+    ghost use Rattle.linda_store_step.specs.declared.size.TheConstants.{MAX_BATCH};
+    ghost use Rattle.linda_store_step.specs.History.{hangs_up};
     ghost use Rattle.linda_store.specs.Node.{MayRemain};
     ghost use Rattle.linda_server.specs.Calls.{StandsFor};
     ghost use Rattle.linda_server.specs.Node.{shown};

@@ -10,13 +10,13 @@ use crate::fault::OpenFault;
 use linda_disk::Disk;
 use linda_moment::Moment;
 use linda_snap::{ChoiceFault, Chosen, choose_bank};
-use linda_step::Store;
+use linda_store_step::Store;
 use std::alloc::Global;
 
 impl<D: Disk> Durable<D> {
     ghost use Rattle.std.specs.Prelude.{◌⊎◌, ◌↔◌, false, IfOk, IfErr, IsErrOf};
-    ghost use Rattle.linda_state.specs.State as states;
-    ghost use Rattle.linda_step.specs.Soft.{no_asks};
+    ghost use Rattle.linda_store_state.specs.State as states;
+    ghost use Rattle.linda_store_step.specs.Soft.{no_asks};
     ghost use Rattle.linda_disk.specs.Disk.{TellsFailuresOfTwo};
     ghost use Rattle.linda_snap.specs.Stands.{Stands};
     ghost use Rattle.linda_server.specs.Pairs.{LeavesNoOther, two, TookCalls};

@@ -20,11 +20,11 @@ use linda_wire::Message;
 use std::alloc::Global;
 
 impl<D: Disk> Durable<D> {
-    ghost use Rattle.linda_state.specs.State.{IsState};
-    ghost use Rattle.linda_state.specs.DeedFormat.{payload, SuitsForm, IsUnspelled};
-    ghost use Rattle.linda_step.specs.declared.size.TheConstants.{MAX_BATCH};
-    ghost use Rattle.linda_step.specs.History.{History, Answers};
-    ghost use Rattle.linda_step.specs.Store.{IsOrderly};
+    ghost use Rattle.linda_store_state.specs.State.{IsState};
+    ghost use Rattle.linda_store_state.specs.DeedFormat.{payload, SuitsForm, IsUnspelled};
+    ghost use Rattle.linda_store_step.specs.declared.size.TheConstants.{MAX_BATCH};
+    ghost use Rattle.linda_store_step.specs.History.{History, Answers};
+    ghost use Rattle.linda_store_step.specs.Store.{IsOrderly};
     ghost use Rattle.linda_server.specs.Served.{messages_of};
     ghost use Rattle.linda_server.specs.Calls.{LeadTo, IsEither};
     ghost use Rattle.linda_server.specs.Handled.{Serves};

@@ -3,17 +3,17 @@
 ghost use Rattle.std.specs.Prelude.{◌≡◌, ◌+◌, ◌<◌, ◌≤◌, [], length, All, IfOk, IfErr};
 ghost use Rattle.std.specs.Prelude.{vec_len, vec_capacity, OnOk, OnErr};
 ghost use Rattle.std.specs.Arc.{arc_value};
-ghost use Rattle.linda_step.specs.declared.size.TheConstants.{MAX_BATCH};
-ghost use Rattle.linda_receipt.specs.Account.{account_of};
-ghost use Rattle.linda_receipt.specs.declared.limits.TheConstants.{MOST_ASKED};
-ghost use Rattle.linda_mail.specs.Seat.{with_all, with_asked, AreToldOf, IsLeftBy, IsRequest};
+ghost use Rattle.linda_store_step.specs.declared.size.TheConstants.{MAX_BATCH};
+ghost use Rattle.linda_shared_accounts.specs.Account.{account_of};
+ghost use Rattle.linda_shared_accounts.specs.declared.limits.TheConstants.{MOST_ASKED};
+ghost use Rattle.linda_shared_queue.specs.Seat.{with_all, with_asked, AreToldOf, IsLeftBy, IsRequest};
 
 use super::Shared;
 use crate::addressed::address_all;
 use crate::seat::Seat;
 use linda_disk::Disk;
-use linda_mail::{Heard, Mailbox};
-use linda_receipt::{Account, Receipt, SharedFault};
+use linda_shared_accounts::{Account, Receipt, SharedFault};
+use linda_shared_queue::{Heard, Mailbox};
 use linda_wire::Message;
 use std::alloc::{AllocError, Global};
 use std::sync::ledger::Ledger;

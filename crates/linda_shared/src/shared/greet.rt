@@ -2,17 +2,17 @@
 
 ghost use Rattle.std.specs.Prelude.{◌≡◌, ℕ, false, IfOk, IsErrOf};
 ghost use Rattle.std.specs.Arc.{arc_value};
-ghost use Rattle.linda_outbox.specs.Waiting.{waits_for};
+ghost use Rattle.linda_shared_outbox.specs.Waiting.{waits_for};
 ghost use Rattle.linda_shared.specs.Greeting as spec;
 ghost use Rattle.linda_shared.specs.Greeting.{WasGreeted, IsSeatOf, HasOwnOutlet, greeting_of};
 
 use super::Shared;
 use crate::greeted::Greeted;
 use crate::seat::Seat;
-use linda_desk::Held;
 use linda_disk::Disk;
-use linda_mail::{Mailbox, Outlet};
-use linda_receipt::SharedFault;
+use linda_shared_accounts::SharedFault;
+use linda_shared_held::Held;
+use linda_shared_queue::{Mailbox, Outlet};
 use linda_wire::Message;
 use std::alloc::{AllocError, Global};
 use std::sync::ledger::Ledger;
@@ -33,7 +33,7 @@ impl<D: Disk, L: Ledger> Shared<D, L> {
         // What comes out of the outlet was for the seat's client.
         ensures outlet { IfOk result HasOwnOutlet }
     {
-        let mut guard = self.desk.lock(rt);
+        let mut guard = self.locked.lock(rt);
         let greeted = self.welcome(rt, &mut guard.held, message);
         let is_down = guard.held.is_down();
         drop(guard);
@@ -41,7 +41,7 @@ impl<D: Disk, L: Ledger> Shared<D, L> {
         greeted
     }
 
-    // Greets whoever comes. A mailbox for it is made first, and its place in the office: so the desk is asked only
+    // Greets whoever comes. A mailbox for it is made first, and its place in the router: so the server is asked only
     // where there is memory for them.
     fn welcome<R: Wait>(
         &self,
@@ -54,7 +54,7 @@ impl<D: Disk, L: Ledger> Shared<D, L> {
         // Without memory all is as before, so a second greeting is answered as this one was to be.
         ensures memory { IsErrOf result SharedFault.Memory → (held.new.server.down ≡ false)
             × (held.new.server.store.state ≡ held.old.server.store.state)
-            × (held.new.server.store.soft ≡ held.old.server.store.soft) × (held.new.till ≡ held.old.till)
+            × (held.new.server.store.soft ≡ held.old.server.store.soft) × (held.new.accounts ≡ held.old.accounts)
             × ((c : ℕ) → waits_for held.new.boxes c ≡ waits_for held.old.boxes c) }
     {
         if held.is_down() {
@@ -63,16 +63,16 @@ impl<D: Disk, L: Ledger> Shared<D, L> {
         let Ok((mine, theirs, out)) = owners(self.alloc, client_in(message)) else {
             return Err(SharedFault::Memory);
         };
-        let mut office = self.office.lock(rt);
+        let mut router = self.router.lock(rt);
         let newcomer = newcomer(held, message);
         if newcomer.is_some() {
-            let Ok(()) = office.open(rt, theirs) else {
+            let Ok(()) = router.open(rt, theirs) else {
                 return Err(SharedFault::Memory);
             };
         }
         let greeted = admit(held, self.alloc, message, mine, out);
         if let (Some(client), false) = (newcomer, is_welcome(&greeted)) {
-            office.shut(rt, client);
+            router.shut(rt, client);
         }
         greeted
     }
@@ -102,7 +102,7 @@ fn client_in(message: &Message) -> u32
     }
 }
 
-// Asks the desk; whoever gets a seat has this mailbox.
+// Asks the server; whoever gets a seat has this mailbox.
 fn admit<D: Disk, L: Ledger>(
     held: &mut Held<D, L>,
     alloc: Global,
@@ -116,7 +116,7 @@ fn admit<D: Disk, L: Ledger>(
     ensures outlet { IfOk result HasOwnOutlet }
     ensures memory { IsErrOf result SharedFault.Memory → (held.new.server.down ≡ false)
         × (held.new.server.store.state ≡ held.old.server.store.state)
-        × (held.new.server.store.soft ≡ held.old.server.store.soft) × (held.new.till ≡ held.old.till)
+        × (held.new.server.store.soft ≡ held.old.server.store.soft) × (held.new.accounts ≡ held.old.accounts)
         × ((c : ℕ) → waits_for held.new.boxes c ≡ waits_for held.old.boxes c) }
 {
     match held.greet(alloc, message)? {

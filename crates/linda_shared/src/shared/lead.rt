@@ -2,7 +2,7 @@
 
 use super::Shared;
 use linda_disk::Disk;
-use linda_mail::{Answer, Mailbox, Turn};
+use linda_shared_queue::{Answer, Mailbox, Turn};
 use std::sync::Wait;
 use std::sync::ledger::Ledger;
 
@@ -29,20 +29,20 @@ impl<D: Disk, L: Ledger> Shared<D, L> {
         unreachable!()
     }
 
-    // Serves a group, lets the desk go to the next leader, and then gives out what the group came to.
+    // Serves a group, lets the server go to the next leader, and then gives out what the group came to.
     fn lead<R: Wait>(&self, rt: &R) {
-        let mut desk = self.desk.lock(rt);
-        desk.tray.fill(&mut self.queue.lock(rt));
-        desk.serve(self.alloc);
-        let is_down = desk.held.is_down();
-        let mut office = self.office.lock(rt);
-        desk.tray.hand_over(rt, &mut office);
-        desk.take_posted(rt, self.alloc, &mut office);
-        drop(desk);
+        let mut locked = self.locked.lock(rt);
+        locked.group.fill(&mut self.queue.lock(rt));
+        locked.serve(self.alloc);
+        let is_down = locked.held.is_down();
+        let mut router = self.router.lock(rt);
+        locked.group.hand_over(rt, &mut router);
+        locked.take_posted(rt, self.alloc, &mut router);
+        drop(locked);
         self.queue.lock(rt).pass_on(rt);
-        office.deliver(rt);
+        router.deliver(rt);
         if is_down {
-            office.end_all(rt);
+            router.end_all(rt);
         }
     }
 }

@@ -1,14 +1,14 @@
 //! A client goes, and the end.
 
 ghost use Rattle.std.specs.Prelude.{◌≡◌, ◌+◌, ◌≤◌, IfOk, IfSome, IsSome};
-ghost use Rattle.linda_mail.specs.Seat.{deeds_told};
+ghost use Rattle.linda_shared_queue.specs.Seat.{deeds_told};
 
 use super::Shared;
 use crate::seat::Seat;
-use linda_desk::{Held, Report};
 use linda_disk::Disk;
-use linda_mail::Outlet;
-use linda_receipt::SharedFault;
+use linda_shared_accounts::SharedFault;
+use linda_shared_held::{Held, Report};
+use linda_shared_queue::Outlet;
 use std::sync::Wait;
 use std::sync::ledger::Ledger;
 
@@ -20,7 +20,7 @@ impl<D: Disk, L: Ledger> Shared<D, L> {
         seat.mailbox.end(rt);
     }
 
-    /// The client leaves: what it asked is given up, and its seat is parked for its next connection, whatever is
+    /// The session ends: what its client asked is given up, and its seat is parked for its next connection, whatever is
     /// answered. What its leaving sends to others is given out.
     ///
     /// # Errors
@@ -33,18 +33,18 @@ impl<D: Disk, L: Ledger> Shared<D, L> {
         outlet: Outlet<L>,
     ) -> Result<(), SharedFault> {
         let client = seat.client();
-        let mut desk = self.desk.lock(rt);
-        let answer = desk.held.leave(self.alloc, seat.into_account());
-        let is_down = desk.held.is_down();
-        let mut office = self.office.lock(rt);
-        desk.take_posted(rt, self.alloc, &mut office);
-        drop(desk);
-        office.shut(rt, client);
-        office.deliver(rt);
+        let mut locked = self.locked.lock(rt);
+        let answer = locked.held.leave(self.alloc, seat.into_account());
+        let is_down = locked.held.is_down();
+        let mut router = self.router.lock(rt);
+        locked.take_posted(rt, self.alloc, &mut router);
+        drop(locked);
+        router.shut(rt, client);
+        router.deliver(rt);
         if is_down {
-            office.end_all(rt);
+            router.end_all(rt);
         }
-        drop(office);
+        drop(router);
         drop(outlet);
         answer
     }
@@ -60,7 +60,7 @@ impl<D: Disk, L: Ledger> Shared<D, L> {
         // All that the given seats were told is counted.
         ensures { IfOk result (λ r. deeds_told seats.items ≤ r.deeds) }
     {
-        let mut guard = self.desk.lock(rt);
+        let mut guard = self.locked.lock(rt);
         let told = park_all(&mut guard.held, seats);
         let report = guard.held.finish(Vec::new(self.alloc))?;
         match told {

@@ -4,17 +4,17 @@ ghost use Rattle.std.specs.Prelude.{◌≡◌, ◌⊎◌, ◌+◌, ◌<◌, IfOk
 ghost use Rattle.std.specs.Arc.{arc_value};
 ghost use Rattle.linda_wire.specs.declared.refusal.Refusal.TheVariants as refusals;
 ghost use Rattle.linda_wire.specs.Refusal.{refused};
-ghost use Rattle.linda_receipt.specs.Account.{account_of};
-ghost use Rattle.linda_receipt.specs.declared.limits.TheConstants.{MOST_ASKED};
-ghost use Rattle.linda_receipt.specs.Ring.{IsNext};
-ghost use Rattle.linda_mail.specs.Seat.{with_told, IsLeft, IsToldOf};
+ghost use Rattle.linda_shared_accounts.specs.Account.{account_of};
+ghost use Rattle.linda_shared_accounts.specs.declared.limits.TheConstants.{MOST_ASKED};
+ghost use Rattle.linda_shared_accounts.specs.Ring.{IsNext};
+ghost use Rattle.linda_shared_queue.specs.Seat.{with_told, IsLeft, IsToldOf};
 
 use super::Shared;
 use crate::addressed::addressed;
 use crate::seat::Seat;
 use linda_disk::Disk;
-use linda_mail::{Mailbox, hear};
-use linda_receipt::{Account, Receipt, SharedFault};
+use linda_shared_accounts::{Account, Receipt, SharedFault};
+use linda_shared_queue::{Mailbox, hear};
 use linda_wire::{Message, Refusal, Reply};
 use std::alloc::{AllocError, Global};
 use std::sync::ledger::Ledger;

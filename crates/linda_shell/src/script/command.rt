@@ -1,7 +1,7 @@
 //! The commands of a script, a line each.
 
 use linda_event::Event;
-use linda_line::{Request, behind_word, number_in, read_request};
+use linda_shell_text::{Request, behind_word, number_in, read_request};
 use linda_text::skip_blanks;
 use linda_tuple::Tuple;
 use std::alloc::{AllocError, Global};

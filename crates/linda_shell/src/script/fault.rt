@@ -1,6 +1,6 @@
 //! Why a script ended before its end.
 
-use linda_line::LineFault;
+use linda_shell_text::LineFault;
 use thiserror::Error;
 
 /// Why a script ended before its end.

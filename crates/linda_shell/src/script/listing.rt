@@ -3,7 +3,7 @@
 use linda_bag::Bag;
 use linda_book::{Book, KeptReply};
 use linda_hold::{Holds, Request};
-use linda_state::State;
+use linda_store_state::State;
 use linda_text::write_tuple;
 use linda_tuple::Tuple;
 use std::alloc::{AllocError, Global};

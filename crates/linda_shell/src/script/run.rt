@@ -6,7 +6,7 @@ ghost use Rattle.linda_client.specs.declared.limits.TheConstants.{MAX_SERVERS};
 use super::Script;
 use super::fault::ScriptFault;
 use super::output::Output;
-use linda_line::LineFault;
+use linda_shell_text::LineFault;
 use std::alloc::Global;
 use std::io::{Read, Write, sink};
 

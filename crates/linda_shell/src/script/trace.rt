@@ -1,4 +1,4 @@
-//! The trace of a script, a line an event, as docs/TRACE.md has it.
+//! The trace of a script, a line an event, as docs/COMMANDS.md has it.
 //!
 //! What was written before is kept: how many packets, and of each server how many deeds, and what it holds. So after
 //! an event only what is new is written, and only the server that the event reached is looked at.
@@ -9,10 +9,11 @@ mod words;
 use held::Held;
 use linda_disk::MemDisk;
 use linda_server::Durable;
-use linda_state::Deed;
+use linda_shell_text::{write_message, write_reply};
+use linda_store_state::Deed;
 use linda_world::{Body, Packet, World};
 use std::alloc::{AllocError, Global};
-use words::{write_deed, write_message, write_reply};
+use words::write_deed;
 
 /// The lines that did not go out yet, and how far they and those before them went.
 #[derive(Drop)]

@@ -1,5 +1,5 @@
 use Rattle.std.proofs.Common.{[]}
-use Rattle.linda_state.specs.DeedFormat.{written}
+use Rattle.linda_store_state.specs.DeedFormat.{written}
 use Rattle.linda_journal.specs.Bank.{behind_gate}
 use Rattle.linda_journal.proofs.RenewalLaws.{unlocking, unlocked}
 use Rattle.linda_journal.proofs.bank.unlock.Goals as goal

@@ -1,6 +1,6 @@
 -- Deeds go onto the bank in use as one record, or there are none.
 use Rattle.std.proofs.Common.{◌≡◌, ◌<◌, ◌≤◌, ◌+◌, true, All, length, ap, subst}
-use Rattle.linda_state.specs.DeedFormat.{payload, SuitsForm}
+use Rattle.linda_store_state.specs.DeedFormat.{payload, SuitsForm}
 use Rattle.linda_server.specs.declared.limits.TheConstants.{RECORD_BYTES}
 use Rattle.linda_server.specs.Server.{is_usable, form_in_use, end_in_use, limit_in_use, failures_of}
 use Rattle.linda_server.proofs.CommitLaws.{some_of, failure_told}

@@ -2,7 +2,7 @@
 use Rattle.std.proofs.Common.{◌≡◌, arith}
 use Rattle.std.specs.Arc.{arc_value}
 use Rattle.linda_wire.specs.declared.message.Message.{Message}
-use Rattle.linda_mail.specs.declared.address.Address.{Address}
+use Rattle.linda_shared_queue.specs.declared.address.Address.{Address}
 use Rattle.linda_shared.proofs.AddressedLaws.{message_added, place_added, all_added}
 use Rattle.linda_shared.proofs.addressed.address_all.Goals as goal
 

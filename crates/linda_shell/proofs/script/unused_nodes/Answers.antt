@@ -2,7 +2,7 @@ use Rattle.std.proofs.Common.{◌≡◌, ◌+◌, All, List, [], ◌∷◌, ◌+
 use Rattle.std.proofs.lemmas.List.{length-append, map-append}
 use Rattle.std.proofs.lemmas.List.Elements.{All-append, All-cons, All-nil}
 use Rattle.linda_store.specs.Node.{Node}
-use Rattle.linda_run.specs.Reached.{IsUnused}
+use Rattle.linda_world_laws.specs.Reached.{IsUnused}
 use Rattle.linda_server.specs.Node as server
 use Rattle.linda_shell.proofs.script.unused_nodes.Goals as goal
 

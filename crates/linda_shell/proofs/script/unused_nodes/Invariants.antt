@@ -1,5 +1,5 @@
 use Rattle.std.proofs.Common.{◌≡◌, All, length, map}
-use Rattle.linda_run.specs.Reached.{IsUnused}
+use Rattle.linda_world_laws.specs.Reached.{IsUnused}
 use Rattle.linda_server.specs.Node as server
 use Rattle.linda_shell.proofs.script.unused_nodes.Given as goal
 

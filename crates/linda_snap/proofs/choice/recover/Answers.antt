@@ -1,5 +1,5 @@
 use Rattle.std.proofs.Common.{subst}
-use Rattle.linda_state.proofs.ProperLaws.{proper_state}
+use Rattle.linda_store_state.proofs.ProperLaws.{proper_state}
 use Rattle.linda_snap.specs.Replay.{joined}
 use Rattle.linda_snap.specs.Snapshot.{IsSnapshot}
 use Rattle.linda_snap.proofs.ChoiceLaws.{unrecovered}

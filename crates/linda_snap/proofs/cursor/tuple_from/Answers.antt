@@ -1,6 +1,6 @@
 use Rattle.std.proofs.Common.{◌≡◌, suc, ◌+◌, ◌∷◌, sym, ◌∙◌, ap, subst, arith}
 use Rattle.std.specs.FinMap.{get}
-use Rattle.linda_state.specs.State.{State}
+use Rattle.linda_store_state.specs.State.{State}
 use Rattle.linda_snap.specs.Rising.{entries_from}
 use Rattle.linda_snap.proofs.RisingLaws.{first_is, none_is}
 use Rattle.linda_snap.proofs.cursor.tuple_from.Goals as goal

@@ -1,6 +1,6 @@
 use Rattle.std.proofs.Common.{◌<◌, ◌^◌, ap, ◌∙◌, subst, sym}
 use Rattle.std.specs.FinMap.{len-entries}
-use Rattle.linda_state.specs.DeedFormat.{written}
+use Rattle.linda_store_state.specs.DeedFormat.{written}
 use Rattle.linda_codec.specs.Formats.{short_number}
 use Rattle.linda_snap.specs.Snapshot as format
 use Rattle.linda_snap.proofs.PuttingLaws.{none_put}

@@ -1,8 +1,8 @@
 use Rattle.std.proofs.Common.{◌<◌, ◌^◌, ap, ◌∙◌, subst, sym}
 use Rattle.std.specs.FinMap.{len, len-entries}
-use Rattle.linda_state.specs.DeedFormat.{written}
+use Rattle.linda_store_state.specs.DeedFormat.{written}
 use Rattle.linda_codec.specs.Formats.{short_number}
-use Rattle.linda_state.specs.State.{State}
+use Rattle.linda_store_state.specs.State.{State}
 use Rattle.linda_snap.specs.Snapshot as format
 use Rattle.linda_snap.proofs.PuttingLaws.{none_put}
 use Rattle.linda_snap.proofs.putting.push_tuples.Goals as goal

@@ -1,8 +1,8 @@
 use Rattle.std.proofs.Common.{◌<◌, ◌^◌, ◌++◌, ap, ◌∙◌, length, subst, sym}
 use Rattle.std.specs.FinMap.{entries}
-use Rattle.linda_state.specs.DeedFormat.{written}
+use Rattle.linda_store_state.specs.DeedFormat.{written}
 use Rattle.linda_codec.specs.Formats.{number}
-use Rattle.linda_state.specs.State.{State}
+use Rattle.linda_store_state.specs.State.{State}
 use Rattle.linda_snap.specs.Snapshot as format
 use Rattle.linda_snap.specs.Snapshot.{listed}
 use Rattle.linda_snap.proofs.PuttingLaws.{few_tuples, few_clients, put_in_row}

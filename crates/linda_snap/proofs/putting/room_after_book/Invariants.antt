@@ -1,5 +1,5 @@
 use Rattle.std.proofs.Common.{length}
-use Rattle.linda_state.specs.DeedFormat.{written}
+use Rattle.linda_store_state.specs.DeedFormat.{written}
 use Rattle.linda_snap.specs.Snapshot as format
 use Rattle.linda_snap.specs.Rising.{entries_from, first_after}
 use Rattle.linda_snap.proofs.PuttingLaws.{IsLeft}

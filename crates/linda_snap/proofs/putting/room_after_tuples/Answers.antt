@@ -1,5 +1,5 @@
 use Rattle.std.proofs.Common.{arith}
-use Rattle.linda_state.specs.DeedFormat.{written}
+use Rattle.linda_store_state.specs.DeedFormat.{written}
 use Rattle.linda_snap.specs.Snapshot as format
 use Rattle.linda_snap.proofs.PuttingLaws.{none_counted}
 use Rattle.linda_snap.proofs.putting.room_after_tuples.Goals as goal

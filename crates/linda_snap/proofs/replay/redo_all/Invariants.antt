@@ -1,5 +1,5 @@
 use Rattle.std.proofs.Common.{◌≡◌, ◌++◌}
-use Rattle.linda_state.specs.State.{IsState}
+use Rattle.linda_store_state.specs.State.{IsState}
 use Rattle.linda_snap.specs.Replay.{GoesOn}
 use Rattle.linda_snap.proofs.replay.redo_all.Given as goal
 

@@ -1,5 +1,5 @@
 use Rattle.std.proofs.Common.{◌∷◌, [], ◌++◌, sym, ap, ◌∙◌, append_assoc}
-use Rattle.linda_state.proofs.ProperLaws.{none_done}
+use Rattle.linda_store_state.proofs.ProperLaws.{none_done}
 use Rattle.linda_snap.proofs.ReplayLaws.{one_record_redone, improper_here}
 use Rattle.linda_snap.proofs.replay.replay.Goals as goal
 

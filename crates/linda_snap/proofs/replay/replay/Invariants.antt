@@ -1,6 +1,6 @@
 use Rattle.std.proofs.Common.{◌≡◌, ◌++◌}
-use Rattle.linda_state.specs.State.{IsState}
-use Rattle.linda_state.specs.Proper.{AreDone}
+use Rattle.linda_store_state.specs.State.{IsState}
+use Rattle.linda_store_state.specs.Proper.{AreDone}
 use Rattle.linda_snap.specs.Replay.{joined}
 use Rattle.linda_snap.proofs.replay.replay.Given as goal
 

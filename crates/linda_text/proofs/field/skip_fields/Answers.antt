@@ -1,7 +1,7 @@
 use Rattle.std.proofs.lemmas.Result.{err_from_is_err_and}
 use Rattle.linda_tuple.specs.declared.limits.TheConstants.{MAX_FIELDS}
 use Rattle.linda_text.specs.Reading.{fields_at}
-use Rattle.linda_text.specs.Steps.{left_by}
+use Rattle.linda_codec.specs.Steps.{left_by}
 use Rattle.linda_text.proofs.SkipLaws.{starts, goes_on, closes, fails_between, fails_inside, ends}
 use Rattle.linda_text.proofs.field.skip_fields.Goals as goal
 

@@ -2,7 +2,7 @@ use Rattle.std.proofs.Common.{false, ap, ◌∙◌}
 use Rattle.std.specs.Prelude.{not}
 use Rattle.std.proofs.lemmas.Result.{err_from_is_err_and}
 use Rattle.linda_text.specs.Reading.{content_at}
-use Rattle.linda_text.specs.Steps.{left_by}
+use Rattle.linda_codec.specs.Steps.{left_by}
 use Rattle.linda_text.proofs.ContentLaws.{skips_on, skips_done, skip_fails}
 use Rattle.linda_text.proofs.string.skip_content.Goals as goal
 

@@ -1,6 +1,6 @@
 use Rattle.std.proofs.Common.{◌≡◌, false, length}
 use Rattle.linda_text.specs.Reading.{content_at}
-use Rattle.linda_text.specs.Steps.{left_by}
+use Rattle.linda_codec.specs.Steps.{left_by}
 use Rattle.linda_text.proofs.string.skip_content.Given as goal
 
 -- What is left after the bytes that are still to be passed is what is left after all of them.

@@ -1,6 +1,6 @@
 use Rattle.std.proofs.Common.{◌+◌, sym, ap, ◌∙◌, subst}
 use Rattle.std.specs.FinMap.{insert}
-use Rattle.linda_state.specs.Deed.{client_of}
+use Rattle.linda_store_state.specs.Deed.{client_of}
 use Rattle.linda_world.specs.Noted.{AreNoted}
 use Rattle.linda_world.proofs.NotedLaws.{one_noted}
 use Rattle.linda_world.proofs.deeds.note_all.Goals as goal

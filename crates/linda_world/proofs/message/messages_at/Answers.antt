@@ -1,6 +1,6 @@
 use Rattle.std.proofs.Common.{◌∷◌, [], ◌++◌, length, get_or, sym, ap, ◌∙◌, subst, ltb-true}
 use Rattle.linda_wire.specs.declared.message.Message.{Message}
-use Rattle.linda_run.specs.Steps.{AreMessagesAt}
+use Rattle.linda_world_laws.specs.Steps.{AreMessagesAt}
 use Rattle.std.proofs.Common.{take, ◌+◌}
 use Rattle.linda_world.proofs.MessageLaws.{next_message}
 use Rattle.linda_world.proofs.message.messages_at.Goals as goal

@@ -1,5 +1,5 @@
 use Rattle.std.proofs.Common.{take}
-use Rattle.linda_run.specs.Steps.{AreMessagesAt}
+use Rattle.linda_world_laws.specs.Steps.{AreMessagesAt}
 use Rattle.linda_world.proofs.message.messages_at.Given as goal
 
 abbrev pub invariant-loop-k : goal.invariant-loop-k

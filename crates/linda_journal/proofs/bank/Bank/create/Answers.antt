@@ -1,5 +1,5 @@
 use Rattle.std.proofs.Common.{◌∙◌, arith, refl, ◌≡◌, ◌+◌, length, Err, ap}
-use Rattle.linda_state.specs.DeedFormat.{written}
+use Rattle.linda_store_state.specs.DeedFormat.{written}
 use Rattle.linda_journal.specs.Bank.{behind_gate}
 use Rattle.linda_journal.proofs.BankLaws.{making, made}
 use Rattle.linda_journal.specs.declared.fault.BankFault.TheVariants as banks

@@ -1,6 +1,6 @@
 -- What stood stands: nothing was done yet.
 use Rattle.std.proofs.Common.{sym, subst, ◌∙◌}
-use Rattle.linda_state.specs.State.{IsState}
+use Rattle.linda_store_state.specs.State.{IsState}
 use Rattle.linda_server.specs.Pairs.{PairsNow}
 use Rattle.linda_server.specs.Calls.{IsWithOrWithout}
 use Rattle.linda_server.specs.Server.{both_of}

@@ -1,6 +1,6 @@
 -- The other disk is emptied, for the state that stands.
 use Rattle.std.proofs.Common.{refl, sym, subst, ◌∙◌, true≢false}
-use Rattle.linda_state.specs.State.{IsState}
+use Rattle.linda_store_state.specs.State.{IsState}
 use Rattle.linda_server.specs.Pairs.{PairsNow}
 use Rattle.linda_server.specs.Calls.{StandsFor, IsWithOrWithout}
 use Rattle.linda_server.specs.Server.{both_of}

@@ -2,10 +2,10 @@
 use Rattle.std.proofs.Common.{◌≡◌, ℕ, inr, [], ◌∷◌, refl, sym, ap, ◌∙◌, subst}
 use Rattle.std.specs.Global.{Vec}
 use Rattle.linda_wire.specs.declared.reply.Reply.{Reply}
-use Rattle.linda_step.specs.Dispatch.{on_close}
-use Rattle.linda_step.specs.Store.{Store}
+use Rattle.linda_store_step.specs.Dispatch.{on_close}
+use Rattle.linda_store_step.specs.Store.{Store}
 use Rattle.linda_store.specs.declared.node.NodeFault.TheVariants.{Down}
-use Rattle.linda_step.specs.History.{hangs_up}
+use Rattle.linda_store_step.specs.History.{hangs_up}
 use Rattle.linda_server.specs.Node.{shown}
 use Rattle.linda_server.specs.Pairs.{PairsSince}
 use Rattle.linda_server.specs.Calls.{StandsFor}

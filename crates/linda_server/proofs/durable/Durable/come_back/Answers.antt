@@ -1,7 +1,7 @@
 -- What the disks read represents the state of before, or the one after the lost deeds.
 use Rattle.std.proofs.Common.{true, false, ap, ◌∙◌}
 use Rattle.std.specs.Global.{Vec}
-use Rattle.linda_state.specs.declared.deed.Deed.{Deed}
+use Rattle.linda_store_state.specs.declared.deed.Deed.{Deed}
 use Rattle.linda_server.specs.Disks.{disks_of}
 use Rattle.linda_server.specs.Calls.{IsWithOrWithout}
 use Rattle.linda_server.proofs.FallenLaws.{fewer, no_more, as_read, apart, honest_apart, honest_joined}

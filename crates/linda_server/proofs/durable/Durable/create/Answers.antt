@@ -1,9 +1,9 @@
 -- Each step of making a new server leaves no bank, or the whole new one.
 use Rattle.std.proofs.Common.{◌≡◌, ◌+◌, ◌∙◌, [], inl, refl, ap, subst}
-use Rattle.linda_state.specs.State.{empty_state}
-use Rattle.linda_state.specs.DeedFormat.{written}
+use Rattle.linda_store_state.specs.State.{empty_state}
+use Rattle.linda_store_state.specs.DeedFormat.{written}
 use Rattle.linda_journal.specs.Bank.{IsSettled}
-use Rattle.linda_step.specs.Store.{Store}
+use Rattle.linda_store_step.specs.Store.{Store}
 use Rattle.linda_server.proofs.PairLaws.{left_for}
 use Rattle.linda_journal.specs.declared.fault.BankFault.TheVariants as bank_fault
 use Rattle.linda_server.specs.declared.fault.OpenFault.TheVariants.{Disk, Memory}

@@ -2,8 +2,8 @@
 use Rattle.std.proofs.Common.{◌≡◌, inl, inr, ap, sym, subst, ◌∙◌}
 use Rattle.std.proofs.lemmas.Bool.{cases_Bool}
 use Rattle.std.specs.Global.{Vec}
-use Rattle.linda_step.specs.History.{comings}
-use Rattle.linda_state.specs.declared.deed.Deed.{Deed}
+use Rattle.linda_store_step.specs.History.{comings}
+use Rattle.linda_store_state.specs.declared.deed.Deed.{Deed}
 use Rattle.linda_store.specs.Node.{in_hand, MayRemain}
 use Rattle.linda_server.specs.Node.{shown}
 use Rattle.linda_server.proofs.CallLaws.{led, leads_to, stands_so, none_remains, all_remains_up}

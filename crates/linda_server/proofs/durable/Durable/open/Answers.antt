@@ -1,6 +1,6 @@
 -- The bank that was chosen is the one in use.
 use Rattle.std.proofs.Common.{◌∙◌, inl, inr, refl, sym, ap, subst}
-use Rattle.linda_step.specs.Store.{Store}
+use Rattle.linda_store_step.specs.Store.{Store}
 use Rattle.linda_snap.specs.Stands.{IsStored, IsUp, Stands}
 use Rattle.linda_server.specs.Opening.{fault_of_choice}
 use Rattle.linda_server.proofs.PairLaws.{left_for, now_on_sides}

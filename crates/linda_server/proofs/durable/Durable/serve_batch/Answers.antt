@@ -2,10 +2,10 @@
 use Rattle.std.proofs.Common.{◌≡◌, ◌<◌, ◌∙◌, [], inl, inr, Err, Result, false, IfOk, IfSome, ◌+◌, length, refl, sym, subst, ap, arith, rules}
 use Rattle.std.specs.Vec.{vec_len}
 use Rattle.std.proofs.lemmas.Result.{err_from_is_err_and}
-use Rattle.linda_state.proofs.DoneLaws.{on_ok}
-use Rattle.linda_step.specs.declared.size.TheConstants.{MAX_BATCH}
-use Rattle.linda_step.specs.Store.{Store}
-use Rattle.linda_step.specs.History.{comings, history_of}
+use Rattle.linda_store_state.proofs.DoneLaws.{on_ok}
+use Rattle.linda_store_step.specs.declared.size.TheConstants.{MAX_BATCH}
+use Rattle.linda_store_step.specs.Store.{Store}
+use Rattle.linda_store_step.specs.History.{comings, history_of}
 use Rattle.linda_server.specs.declared.limits.TheConstants.{RECORD_BYTES}
 use Rattle.linda_server.specs.declared.served.Served.{Served}
 use Rattle.linda_server.specs.Served.{messages_of, IsServed}
@@ -158,7 +158,7 @@ returns g c =
       done = done;
       each =
           let before = c.begin.new.self.store in
-          told_so c.settle.result served (λ (s : Served). vec_len s.shares ≡ length ms) c.settle.ensures.done
+          told_so c.settle.result served (λ (s : Served). vec_len s.portions ≡ length ms) c.settle.ensures.done
           (each_share before.state before.soft ms served after.state after.soft c.in-Ok.ensures.ok);
       now = on_ok _ _ c.settle.result (λ is_up are. stands_so g.met.D.Disk.timed new.disks new.store.state are (new.kept is_up)) c.settle.ensures.up;
       up = search rules;

@@ -1,7 +1,7 @@
 -- The deeds are put onto the bank in use, or may be.
 use Rattle.std.proofs.Common.{sym, subst, ap}
 use Rattle.std.specs.Global.{Vec}
-use Rattle.linda_state.specs.declared.deed.Deed.{Deed}
+use Rattle.linda_store_state.specs.declared.deed.Deed.{Deed}
 use Rattle.linda_server.specs.Calls.{LeadTo, IsEither, IsWithOrWithout}
 use Rattle.linda_server.proofs.CallLaws.{put_either, kept_after, now_since, with_or_without}
 use Rattle.linda_server.proofs.durable.Durable.settle.Goals as goal

@@ -1,7 +1,7 @@
 -- The size in the form of the bank in use.
 use Rattle.std.proofs.Common.{◌≡◌, All, length, IfSome, IfNone, ap, subst}
-use Rattle.linda_state.specs.DeedFormat.{payload, SuitsForm, IsUnspelled}
-use Rattle.linda_step.specs.History.{Answers}
+use Rattle.linda_store_state.specs.DeedFormat.{payload, SuitsForm, IsUnspelled}
+use Rattle.linda_store_step.specs.History.{Answers}
 use Rattle.linda_server.specs.Served.{messages_of}
 use Rattle.linda_server.proofs.durable.Durable.size_of.Goals as goal
 

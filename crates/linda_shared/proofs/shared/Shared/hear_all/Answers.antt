@@ -2,7 +2,7 @@
 use Rattle.std.proofs.Common.{◌≡◌, ◌+◌, List, [], ◌∷◌, ◌++◌, take, suc, sym, ap, ◌∙◌, subst, arith}
 use Rattle.std.proofs.Math.Seq.{take-suc}
 use Rattle.linda_wire.specs.declared.message.Message.{Message}
-use Rattle.linda_mail.specs.Heard.{HasHeard}
+use Rattle.linda_shared_queue.specs.Heard.{HasHeard}
 use Rattle.linda_shared.proofs.shared.Shared.hear_all.Goals as goal
 
 pub loop-message-preserved : goal.loop-message-preserved

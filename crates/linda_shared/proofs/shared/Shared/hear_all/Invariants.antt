@@ -1,5 +1,5 @@
 use Rattle.std.proofs.Common.{◌≡◌, ◌≤◌, take, length, vec_len, vec_capacity}
-use Rattle.linda_mail.specs.Heard.{HasHeard}
+use Rattle.linda_shared_queue.specs.Heard.{HasHeard}
 use Rattle.linda_shared.proofs.shared.Shared.hear_all.Given as goal
 
 abbrev pub invariant-loop-message : goal.invariant-loop-message

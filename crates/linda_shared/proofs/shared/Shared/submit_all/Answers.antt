@@ -1,6 +1,6 @@
 -- Where nothing was asked, nothing changed; else the client is the same.
 use Rattle.std.proofs.Common.{rules, ◌≡◌, refl, sym, ap, ◌∙◌}
-use Rattle.linda_receipt.specs.Account.{Account}
+use Rattle.linda_shared_accounts.specs.Account.{Account}
 use Rattle.linda_shared.proofs.SeatLaws.{nothing_left}
 use Rattle.linda_shared.proofs.shared.Shared.submit_all.Goals as goal
 

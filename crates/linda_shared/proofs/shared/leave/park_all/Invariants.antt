@@ -1,5 +1,5 @@
 use Rattle.std.proofs.Common.{◌≡◌, ◌+◌, IfSome}
-use Rattle.linda_mail.specs.Seat.{deeds_told}
+use Rattle.linda_shared_queue.specs.Seat.{deeds_told}
 use Rattle.linda_shared.proofs.shared.leave.park_all.Given as goal
 
 abbrev pub invariant-loop-seat : goal.invariant-loop-seat

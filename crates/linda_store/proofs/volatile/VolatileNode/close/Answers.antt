@@ -1,8 +1,8 @@
 -- The store's close is what came to the node.
 use Rattle.std.proofs.Common.{[], ◌∷◌, None, sym, ap, ◌∙◌}
-use Rattle.linda_step.specs.Answer.{only_sends}
-use Rattle.linda_step.specs.History.{hangs_up}
-use Rattle.linda_step.proofs.GrowthLaws.{one_only}
+use Rattle.linda_store_step.specs.Answer.{only_sends}
+use Rattle.linda_store_step.specs.History.{hangs_up}
+use Rattle.linda_store_step.proofs.GrowthLaws.{one_only}
 use Rattle.linda_store.proofs.VolatileLaws.{done, went_down}
 use Rattle.linda_store.proofs.volatile.VolatileNode.close.Goals as goal
 

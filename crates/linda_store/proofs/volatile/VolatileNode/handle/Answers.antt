@@ -1,7 +1,7 @@
 -- The store's step is what came to the node.
 use Rattle.std.proofs.Common.{[], ◌∷◌, option_to_list, sym, refl, ◌∙◌}
-use Rattle.linda_step.specs.History.{says}
-use Rattle.linda_step.proofs.GrowthLaws.{one_only}
+use Rattle.linda_store_step.specs.History.{says}
+use Rattle.linda_store_step.proofs.GrowthLaws.{one_only}
 use Rattle.linda_store.proofs.VolatileLaws.{done, went_down}
 use Rattle.linda_store.proofs.volatile.VolatileNode.handle.Goals as goal
 

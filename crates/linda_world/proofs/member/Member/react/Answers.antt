@@ -2,7 +2,7 @@ use Rattle.std.proofs.Common.{◌++◌, refl, ap, ◌∙◌, subst, false}
 use Rattle.std.specs.Prelude.{Ok, Some}
 use Rattle.linda_client.specs.Call.{call_of}
 use Rattle.linda_client.specs.Reaction.{shown}
-use Rattle.linda_run.specs.World.{Member}
+use Rattle.linda_world_laws.specs.World.{Member}
 use Rattle.linda_world.specs.Member.{Reacts}
 use Rattle.linda_world.proofs.member.Member.react.Goals as goal
 

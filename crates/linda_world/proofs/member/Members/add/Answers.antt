@@ -1,7 +1,7 @@
 use Rattle.std.proofs.Common.{ap, ◌∙◌}
 use Rattle.std.specs.FinMap.{insert}
 use Rattle.linda_maps.proofs.MapLaws.{one_set}
-use Rattle.linda_run.specs.World.{Member}
+use Rattle.linda_world_laws.specs.World.{Member}
 use Rattle.linda_world.proofs.member.Members.add.Goals as goal
 
 pub returns-in-Ok-clause-ok : goal.returns-in-Ok-clause-ok

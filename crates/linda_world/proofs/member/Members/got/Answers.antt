@@ -1,7 +1,7 @@
 use Rattle.std.proofs.Common.{Some, ap, ◌∙◌}
 use Rattle.std.specs.Option.{option_map}
 use Rattle.linda_maps.proofs.MapLaws.{viewed}
-use Rattle.linda_run.specs.World.{Member}
+use Rattle.linda_world_laws.specs.World.{Member}
 use Rattle.linda_world.proofs.member.Members.got.Goals as goal
 
 pub returns-in-Some : goal.returns-in-Some

@@ -1,5 +1,5 @@
 use Rattle.std.proofs.Common.{◌<◌, length, arith}
-use Rattle.linda_run.specs.Steps.{HangsUp}
+use Rattle.linda_world_laws.specs.Steps.{HangsUp}
 use Rattle.linda_world.proofs.SceneLaws.{asked_at}
 use Rattle.linda_world.proofs.scene.Scene.close.Goals as goal
 

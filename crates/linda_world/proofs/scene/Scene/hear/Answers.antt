@@ -1,8 +1,8 @@
 use Rattle.std.proofs.Common.{◌<◌, [], ◌∷◌, length, slice_get, refl, sym, ap, ◌∙◌, subst, arith}
 use Rattle.std.proofs.lemmas.Option.{slice_get_read}
 use Rattle.std.proofs.lemmas.List.Elements.{All-nil, All-cons}
-use Rattle.linda_run.specs.World.{World}
-use Rattle.linda_run.specs.Steps.{HasServed, Takes}
+use Rattle.linda_world_laws.specs.World.{World}
+use Rattle.linda_world_laws.specs.Steps.{HasServed, Takes}
 use Rattle.linda_world.specs.Refusal.{refusal_at}
 use Rattle.linda_world.proofs.SceneLaws.{done_at, short_at, served_at, shown_at, there_at}
 use Rattle.linda_world.proofs.scene.Scene.hear.Goals as goal

@@ -1,7 +1,7 @@
 use Rattle.std.proofs.Common.{◌<◌, length, sym, subst}
 use Rattle.std.specs.Prelude.{Ok}
 use Rattle.linda_client.specs.React.{Receive}
-use Rattle.linda_run.specs.World.{World}
+use Rattle.linda_world_laws.specs.World.{World}
 use Rattle.linda_world.proofs.SceneLaws.{received_at}
 use Rattle.linda_world.proofs.scene.Scene.receive.Goals as goal
 

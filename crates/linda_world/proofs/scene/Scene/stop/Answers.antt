@@ -1,9 +1,9 @@
 use Rattle.std.proofs.Common.{◌≡◌, ◌<◌, ◌≤◌, true, All, length, refl, sym, ap, ◌∙◌, subst, arith}
-use Rattle.linda_step.specs.History.{comings}
-use Rattle.linda_run.specs.World.{World, delivered}
-use Rattle.linda_run.specs.Steps.{IsStopped, AreMessagesAt, Halts}
+use Rattle.linda_store_step.specs.History.{comings}
+use Rattle.linda_world_laws.specs.World.{World, delivered}
+use Rattle.linda_world_laws.specs.Steps.{IsStopped, AreMessagesAt, Halts}
 use Rattle.std.specs.List.{list_all}
-use Rattle.linda_step.specs.declared.size.TheConstants.{MAX_BATCH}
+use Rattle.linda_store_step.specs.declared.size.TheConstants.{MAX_BATCH}
 use Rattle.linda_world.specs.Refusal.{is_message_at, refusal_of_stop}
 use Rattle.linda_world.proofs.MessageLaws.{as_many, messages_within}
 use Rattle.linda_world.proofs.SceneLaws.{done_at, short_at, served_at, shown_at, silent_serves, stop_allowed}

@@ -1,5 +1,5 @@
 use Rattle.std.proofs.Common.{◌<◌, [], length, arith}
-use Rattle.linda_run.specs.Steps.{Halts}
+use Rattle.linda_world_laws.specs.Steps.{Halts}
 use Rattle.linda_world.proofs.SceneLaws.{asked_at, silent_at}
 use Rattle.linda_world.proofs.scene.Scene.stop_snapshot.Goals as goal
 

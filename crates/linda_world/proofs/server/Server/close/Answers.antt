@@ -2,7 +2,7 @@ use Rattle.std.proofs.Common.{◌++◌, [], refl, ap, sym, ◌∙◌, subst, app
 use Rattle.std.specs.Prelude.{Err}
 use Rattle.linda_store.specs.declared.node.NodeFault.{NodeFault}
 use Rattle.linda_store.specs.Node.{Closes, node_answer}
-use Rattle.linda_run.specs.Steps.{HangsUp}
+use Rattle.linda_world_laws.specs.Steps.{HangsUp}
 use Rattle.linda_world.proofs.ServedLaws.{sent_served, down_served}
 use Rattle.linda_world.proofs.server.Server.close.Goals as goal
 

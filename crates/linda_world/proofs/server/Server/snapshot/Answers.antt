@@ -3,7 +3,7 @@ use Rattle.std.specs.Prelude.{Ok, Err}
 use Rattle.linda_store.specs.declared.node.NodeFault.{NodeFault}
 use Rattle.linda_store.specs.declared.node.NodeFault.TheVariants as faults
 use Rattle.linda_store.specs.Node.{Snaps}
-use Rattle.linda_run.specs.Steps.{Saves}
+use Rattle.linda_world_laws.specs.Steps.{Saves}
 use Rattle.linda_world.proofs.ServedLaws.{refused_by, sent_served, full_served, down_served}
 use Rattle.linda_world.proofs.server.Server.snapshot.Goals as goal
 

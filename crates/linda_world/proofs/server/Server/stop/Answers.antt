@@ -3,7 +3,7 @@ use Rattle.std.specs.Prelude.{Ok}
 use Rattle.linda_store.specs.declared.node.NodeFault.{NodeFault}
 use Rattle.linda_store.specs.declared.node.NodeFault.TheVariants as faults
 use Rattle.linda_store.specs.Node.{Stops, in_hand}
-use Rattle.linda_run.specs.Steps.{Halts}
+use Rattle.linda_world_laws.specs.Steps.{Halts}
 use Rattle.linda_world.proofs.ServedLaws.{stop_failed, sent_served, down_served}
 use Rattle.linda_world.proofs.server.Server.stop.Goals as goal
 

@@ -1,12 +1,12 @@
 use Rattle.std.proofs.Common.{◌≡◌, List, ◌++◌, ap, sym, ◌∙◌, subst, map}
-use Rattle.linda_state.specs.declared.deed.Deed.{Deed}
+use Rattle.linda_store_state.specs.declared.deed.Deed.{Deed}
 use Rattle.std.specs.Prelude.{Err}
-use Rattle.linda_promise.specs.Steps.{reported_deed}
-use Rattle.linda_promise.specs.Deeds.{last_in as last_number}
+use Rattle.linda_store_step.specs.Reported.{reported_deed}
+use Rattle.linda_store_step.specs.Deeds.{last_in as last_number}
 use Rattle.linda_store.specs.declared.node.NodeFault.{NodeFault}
 use Rattle.linda_store.specs.Node.{Node, Handles, node_answer}
-use Rattle.linda_run.specs.World.{Server, sent_from}
-use Rattle.linda_run.specs.Steps.{Takes}
+use Rattle.linda_world_laws.specs.World.{Server, sent_from}
+use Rattle.linda_world_laws.specs.Steps.{Takes}
 use Rattle.linda_world.proofs.ServedLaws.{took, full_served, down_served}
 use Rattle.linda_world.proofs.server.Server.take.Goals as goal
 

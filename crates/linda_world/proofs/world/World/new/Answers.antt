@@ -1,6 +1,6 @@
 use Rattle.std.proofs.Common.{◌≡◌, length, map, false, sym, subst, arith}
 use Rattle.std.proofs.lemmas.List.{length-map}
-use Rattle.linda_run.specs.Reached.{IsReached, begins}
+use Rattle.linda_world_laws.specs.Reached.{IsReached, begins}
 use Rattle.linda_world.specs.Scene.{world_of}
 use Rattle.linda_world.proofs.WorldLaws.{is_run, start_of}
 use Rattle.linda_world.proofs.world.World.new.Goals as goal

@@ -1,6 +1,6 @@
 -- A server that handles as a node does.
 use Rattle.std.proofs.Common.{ap}
-use Rattle.linda_step.specs.History.{comings}
+use Rattle.linda_store_step.specs.History.{comings}
 use Rattle.linda_server.specs.Node.{shown}
 use Rattle.linda_server.specs.Server.{form_in_use, end_in_use}
 use Rattle.linda_server.proofs.NodeLaws.{works}

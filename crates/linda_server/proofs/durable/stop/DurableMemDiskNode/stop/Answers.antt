@@ -1,6 +1,6 @@
 -- A stop, from a server that is up and from one that is down.
 use Rattle.std.proofs.Common.{true≢false, ap, sym, subst, refl, ◌∙◌}
-use Rattle.linda_step.specs.Store.{Store}
+use Rattle.linda_store_step.specs.Store.{Store}
 use Rattle.linda_store.specs.Node.{MayRemain, in_hand}
 use Rattle.linda_server.specs.Node.{shown}
 use Rattle.linda_server.proofs.NodeLaws.{stops}

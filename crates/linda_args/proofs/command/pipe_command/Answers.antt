@@ -1,0 +1,10 @@
+use Rattle.std.proofs.Common.{◌∙◌, ap}
+use Rattle.clap.specs.Simple.{app_of_fields}
+use Rattle.linda_args.proofs.CommandLaws.{globals_of}
+use Rattle.linda_args.proofs.command.pipe_command.Goals as goal
+
+pub returns : goal.returns
+returns c = record {
+  is = ap app_of_fields c.about.ensures ∙ c.new.ensures.app;
+  local = ap globals_of c.about.ensures ∙ c.new.ensures.local;
+}

@@ -1,0 +1,359 @@
+-- What the command line asks for, and how words that ask for nothing are refused.
+use Rattle.std.specs.Prelude.{◌≡◌, ◌≢◌, ◌<◌, ◌≤◌, ◌⊎◌, ◌==◌, ◌&&◌, ◌||◌, ◌^◌, ⊤, ℕ, Bool, true, false, not}
+use Rattle.std.specs.Prelude.{List, [], ◌∷◌, ◌++◌, length, Option, Some, IfSome, pos}
+use Rattle.std.specs.Prelude.{codes, Result, IsErrAnd}
+use Rattle.std.specs.Str.{bytes_eq}
+use Rattle.std.specs.Str.Parse.{IsNumeral, digits_value, without_leading_plus}
+use Rattle.clap.specs.Words.{App, Kinds, Rule, HasKind, app_of, new_app, new_rule, with_rule, with_subcommand}
+use Rattle.clap.specs.Simple.{on_top}
+use Rattle.clap.specs.declared.builder.action.ArgAction.TheVariants.{Set, SetTrue}
+use Rattle.clap.specs.declared.builder.command.Command.{Command}
+use Rattle.clap.specs.declared.builder.command.Command.TheViews.{out-Command as fields_of}
+use Rattle.clap.specs.declared.builder.value_parser.ValueParser.TheVariants as parsers
+use Rattle.clap.specs.declared.error.Error.{Error}
+use Rattle.clap.specs.declared.error.kind.ErrorKind.TheVariants as kinds
+use Rattle.linda_args.specs.Marks.{hyphen}
+use Rattle.linda_args.specs.Ports.{ArePorts}
+use Rattle.linda_args.specs.declared.command.Task.{Task}
+use Rattle.linda_args.specs.declared.command.Task.TheVariants as tasks
+use Rattle.linda_client.specs.declared.limits.TheConstants.{MAX_SERVERS}
+
+-- an option of this name, which may be there, with a value
+abbrev pub option_rule : List ℕ → Rule
+option_rule name = record (new_rule name) {
+  long = Some name;
+  value_names = 1;
+  action = Some Set;
+}
+
+-- an option of this name, which may be there, and stands alone
+abbrev pub flag_rule : List ℕ → Rule
+flag_rule name = record (new_rule name) {
+  long = Some name;
+  action = Some SetTrue;
+}
+
+-- words of this name, of which there must be one at least
+abbrev pub word_rule : List ℕ → Rule
+word_rule name = record (new_rule name) {
+  value_names = 1;
+  required = true;
+  action = Some Set;
+}
+
+-- the option `--servers`, which must be there, with a number from 1 to the most servers
+abbrev pub servers_rule : Rule
+servers_rule = record (option_rule (codes "servers")) {
+  required = true;
+  parser = Some (parsers.Signed (pos 1) (pos MAX_SERVERS));
+}
+
+-- the option `--trace`, which may be there, with a text
+abbrev pub trace_rule : Rule
+trace_rule = option_rule (codes "trace")
+
+-- the option `--client`, which must be there, with a number of 32 bits
+abbrev pub client_rule : Rule
+client_rule = record (option_rule (codes "client")) {
+  required = true;
+  parser = Some (parsers.Signed (pos 0) (pos 4294967295));
+}
+
+-- the words that name ports, of which there must be as many as servers there may be, and one at least
+abbrev pub ports_rule : Rule
+ports_rule = record (word_rule (codes "ports")) {
+  range = Some (record { start_inclusive = 1; end_inclusive = MAX_SERVERS });
+  parser = Some (parsers.Signed (pos 1) (pos 65535));
+}
+
+-- the option `--again`, which may be there, and stands alone
+abbrev pub again_rule : Rule
+again_rule = flag_rule (codes "again")
+
+-- the option `--port`, which must be there, with a number of 16 bits
+abbrev pub port_rule : Rule
+port_rule = record (option_rule (codes "port")) {
+  required = true;
+  parser = Some (parsers.Signed (pos 0) (pos 65535));
+}
+
+-- the option `--dir`, which must be there, with a text
+abbrev pub dir_rule : Rule
+dir_rule = record (option_rule (codes "dir")) { required = true }
+
+-- the option `--sessions`, which may be there, with a number of 32 bits
+abbrev pub sessions_rule : Rule
+sessions_rule = record (option_rule (codes "sessions")) {
+  parser = Some (parsers.Signed (pos 0) (pos 4294967295));
+}
+
+-- the option `--log`, which may be there, and stands alone
+abbrev pub log_rule : Rule
+log_rule = flag_rule (codes "log")
+
+-- the word that names the folder of a store, which must be there
+abbrev pub folder_rule : Rule
+folder_rule = word_rule (codes "dir")
+
+-- the option `--tuples`, which may be there, and stands alone
+abbrev pub tuples_rule : Rule
+tuples_rule = flag_rule (codes "tuples")
+
+-- the option `--clients`, which may be there, and stands alone
+abbrev pub clients_rule : Rule
+clients_rule = flag_rule (codes "clients")
+
+-- The commands below the program's own, as the parser has them.
+abbrev pub pipe_command : App
+pipe_command = new_app (codes "pipe")
+
+abbrev pub run_command : App
+run_command = with_rule (with_rule (new_app (codes "run")) servers_rule) trace_rule
+
+abbrev pub call_command : App
+call_command = with_rule (with_rule (with_rule (new_app (codes "call")) client_rule) ports_rule) again_rule
+
+abbrev pub serve_command : App
+serve_command = with_rule (with_rule (with_rule (with_rule (new_app (codes "serve")) port_rule) dir_rule) sessions_rule)
+    log_rule
+
+abbrev pub inspect_command : App
+inspect_command = with_rule (with_rule (with_rule (new_app (codes "inspect")) folder_rule) tuples_rule) clients_rule
+
+-- the program's command with none below it: it wants one
+abbrev pub bare_linda : App
+bare_linda = on_top (λ s. record s { subcommand_required = true }) (new_app (codes "linda"))
+
+-- The program's command as the parser has it: it wants a command below it, `pipe`, `run`, `call`, `serve` or `inspect`.
+abbrev pub linda : App
+linda = with_subcommand (with_subcommand (with_subcommand (with_subcommand (with_subcommand bare_linda
+    pipe_command.top) run_command.top) call_command.top) serve_command.top) inspect_command.top
+
+-- The command is this one, and has no argument that goes for the commands below it too.
+pub record IsCommand (app : App) (command : Command) : Type 0 where
+  pub is : app_of command ≡ app
+  pub local : (fields_of command).has_globals ≡ false
+
+-- no word, or the `--` that ends options
+abbrev pub IsEnd : List (List ℕ) → Type 0
+IsEnd words = (words ≡ []) ⊎ (words ≡ codes "--" ∷ [])
+
+-- The words are a program's name and `pipe`; the `--` that ends options may follow.
+abbrev pub AsksForPipe : List (List ℕ) → Type 0
+AsksForPipe words = (name : List ℕ)
+    × ((words ≡ name ∷ codes "pipe" ∷ []) ⊎ (words ≡ name ∷ codes "pipe" ∷ codes "--" ∷ []))
+
+-- The text is a number of servers in decimal digits. As the parser reads every whole number, a plus may
+-- stand before them, and zeros.
+pub record Spells (text : List ℕ) (n : ℕ) : Type 0 where
+  pub numeral : IsNumeral 10 (without_leading_plus text)
+  pub value : n ≡ digits_value 10 (without_leading_plus text)
+  pub some : 1 ≤ n
+  pub most : n ≤ MAX_SERVERS
+
+-- the option with its number, as two words or as one
+abbrev pub IsOption : List (List ℕ) → List ℕ → Type 0
+IsOption words number = (words ≡ codes "--servers" ∷ number ∷ [])
+    ⊎ (words ≡ (codes "--servers=" ++ number) ∷ [])
+
+-- The words are a program's name, `run` and the option with this number; the `--` that ends options may
+-- follow.
+pub record AsksForRun (words : List (List ℕ)) (n : ℕ) : Type 0 where
+  pub name : List ℕ
+  pub number : List ℕ
+  pub option : List (List ℕ)
+  pub end : List (List ℕ)
+  pub spelled : words ≡ name ∷ codes "run" ∷ (option ++ end)
+  pub is_option : IsOption option number
+  pub is_end : IsEnd end
+  pub spells : Spells number n
+
+-- The words are a program's name and `run`, and the number is such as may stand after it.
+pub record AsksForTracedRun (words : List (List ℕ)) (n : ℕ) : Type 0 where
+  pub name : List ℕ
+  pub later : List (List ℕ)
+  pub spelled : words ≡ name ∷ codes "run" ∷ later
+  pub some : 1 ≤ n
+  pub most : n ≤ MAX_SERVERS
+
+-- whether this flag is one of the words, before a `--` that ends options
+abbrev pub has_flag : List ℕ → List (List ℕ) → Bool
+has_flag flag [] = false
+has_flag flag (word ∷ words) = not (bytes_eq word (codes "--")) && (bytes_eq word flag || has_flag flag words)
+
+-- The words are a program's name and `call`, the numbers are such as may stand after it, and `again` says
+-- whether `--again` is one of the words after it.
+pub record AsksForCall (words : List (List ℕ)) (client : ℕ) (ports : List ℕ) (again : Bool) : Type 0 where
+  pub name : List ℕ
+  pub later : List (List ℕ)
+  pub spelled : words ≡ name ∷ codes "call" ∷ later
+  pub is_client : client < 2 ^ 32
+  pub are_ports : ArePorts ports
+  pub is_again : again ≡ has_flag (codes "--again") later
+
+-- The words are a program's name and `serve`, and the numbers are such as may stand after it.
+pub record AsksForServe (words : List (List ℕ)) (port : ℕ) (sessions : Option ℕ) : Type 0 where
+  pub name : List ℕ
+  pub later : List (List ℕ)
+  pub spelled : words ≡ name ∷ codes "serve" ∷ later
+  pub is_port : port < 2 ^ 16
+  pub are_sessions : IfSome sessions (λ k. k < 2 ^ 32)
+
+-- The words are a program's name and `inspect`.
+pub record AsksForInspect (words : List (List ℕ)) : Type 0 where
+  pub name : List ℕ
+  pub later : List (List ℕ)
+  pub spelled : words ≡ name ∷ codes "inspect" ∷ later
+
+-- The words are a program's name and `--version`.
+abbrev pub AsksForVersion : List (List ℕ) → Type 0
+AsksForVersion words = (name : List ℕ) × (words ≡ name ∷ codes "--version" ∷ [])
+
+-- what the words ask for
+abbrev pub AsksFor : List (List ℕ) → Task → Type 0
+AsksFor words tasks.Pipe = AsksForPipe words
+AsksFor words (tasks.Run n) = AsksForRun words n
+AsksFor words (tasks.TracedRun n file) = AsksForTracedRun words n
+AsksFor words (tasks.Call client ports again) = AsksForCall words client ports again
+AsksFor words (tasks.Serve port dir sessions log) = AsksForServe words port sessions
+AsksFor words (tasks.Inspect dir lists) = AsksForInspect words
+
+-- it is a run with a trace, by such a number
+abbrev pub IsTracedRun : Task → Type 0
+IsTracedRun tasks.Pipe = ⊥
+IsTracedRun (tasks.Run n) = ⊥
+IsTracedRun (tasks.TracedRun n file) = (1 ≤ n) × (n ≤ MAX_SERVERS)
+IsTracedRun (tasks.Call client ports again) = ⊥
+IsTracedRun (tasks.Serve port dir sessions log) = ⊥
+IsTracedRun (tasks.Inspect dir lists) = ⊥
+
+-- the flag is as the parser has its text
+pub record IsFlag (text : Option (List ℕ)) (flag : Bool) : Type 0 where
+  pub set : text ≡ Some (codes "true") → flag ≡ true
+  pub clear : text ≡ Some (codes "false") → flag ≡ false
+
+-- it is a call, by such numbers, with the flag of which the parser has this text
+abbrev pub IsCall : Option (List ℕ) → Task → Type 0
+IsCall text tasks.Pipe = ⊥
+IsCall text (tasks.Run n) = ⊥
+IsCall text (tasks.TracedRun n file) = ⊥
+IsCall text (tasks.Call client ports again) = (client < 2 ^ 32) × (ArePorts ports × IsFlag text again)
+IsCall text (tasks.Serve port dir sessions log) = ⊥
+IsCall text (tasks.Inspect dir lists) = ⊥
+
+-- it serves, by such numbers
+abbrev pub IsServe : Task → Type 0
+IsServe tasks.Pipe = ⊥
+IsServe (tasks.Run n) = ⊥
+IsServe (tasks.TracedRun n file) = ⊥
+IsServe (tasks.Call client ports again) = ⊥
+IsServe (tasks.Serve port dir sessions log) = (port < 2 ^ 16) × IfSome sessions (λ k. k < 2 ^ 32)
+IsServe (tasks.Inspect dir lists) = ⊥
+
+-- it inspects
+abbrev pub IsInspect : Task → Type 0
+IsInspect tasks.Pipe = ⊥
+IsInspect (tasks.Run n) = ⊥
+IsInspect (tasks.TracedRun n file) = ⊥
+IsInspect (tasks.Call client ports again) = ⊥
+IsInspect (tasks.Serve port dir sessions log) = ⊥
+IsInspect (tasks.Inspect dir lists) = ⊤
+
+-- what words ask for that are written out above to the letter: the pipe, or a run
+abbrev pub AsksExactlyFor : List (List ℕ) → Task → Type 0
+AsksExactlyFor words tasks.Pipe = AsksForPipe words
+AsksExactlyFor words (tasks.Run n) = AsksForRun words n
+AsksExactlyFor words (tasks.TracedRun n file) = ⊥
+AsksExactlyFor words (tasks.Call client ports again) = ⊥
+AsksExactlyFor words (tasks.Serve port dir sessions log) = ⊥
+AsksExactlyFor words (tasks.Inspect dir lists) = ⊥
+
+-- a run and a call have at least one server, and not more than there may be
+abbrev pub HasServers : Task → Type 0
+HasServers tasks.Pipe = ⊤
+HasServers (tasks.Run n) = (1 ≤ n) × (n ≤ MAX_SERVERS)
+HasServers (tasks.TracedRun n file) = (1 ≤ n) × (n ≤ MAX_SERVERS)
+HasServers (tasks.Call client ports again) = (1 ≤ length ports) × (length ports ≤ MAX_SERVERS)
+HasServers (tasks.Serve port dir sessions log) = ⊤
+HasServers (tasks.Inspect dir lists) = ⊤
+
+-- whether a word begins with a hyphen
+abbrev pub has_hyphen : List ℕ → Bool
+has_hyphen [] = false
+has_hyphen (b ∷ bs) = b == hyphen
+
+-- The words are a program's name and then a word that is no option, and none of `pipe`, `run`, `call`,
+-- `serve`, `inspect`, `help`.
+pub record HasUnknown (words : List (List ℕ)) : Type 0 where
+  pub name : List ℕ
+  pub word : List ℕ
+  pub later : List (List ℕ)
+  pub spelled : words ≡ name ∷ word ∷ later
+  pub no_option : has_hyphen word ≡ false
+  pub no_pipe : word ≢ codes "pipe"
+  pub no_run : word ≢ codes "run"
+  pub no_call : word ≢ codes "call"
+  pub no_serve : word ≢ codes "serve"
+  pub no_inspect : word ≢ codes "inspect"
+  pub no_help : word ≢ codes "help"
+
+-- The words are a program's name, `pipe`, and then a word that is no option.
+pub record HasOneTooMany (words : List (List ℕ)) : Type 0 where
+  pub name : List ℕ
+  pub word : List ℕ
+  pub later : List (List ℕ)
+  pub spelled : words ≡ name ∷ codes "pipe" ∷ word ∷ later
+  pub no_option : has_hyphen word ≡ false
+
+-- It is refused: memory ran out, or the fault is of one of these kinds.
+abbrev pub Refuses : {T : Type 0} → Kinds → Result T Error → Type 0
+Refuses kinds result = IsErrAnd result (HasKind kinds)
+
+-- The words are a program's name and `run`.
+abbrev pub LacksOption : List (List ℕ) → Type 0
+LacksOption words = (name : List ℕ) × (words ≡ name ∷ codes "run" ∷ [])
+
+-- The words are a program's name, `run` and `--servers`.
+abbrev pub LacksNumber : List (List ℕ) → Type 0
+LacksNumber words = (name : List ℕ) × (words ≡ name ∷ codes "run" ∷ codes "--servers" ∷ [])
+
+-- The words are a program's name, `run` and the option with a text that is no number of servers.
+pub record HasBadNumber (words : List (List ℕ)) : Type 0 where
+  pub name : List ℕ
+  pub number : List ℕ
+  pub option : List (List ℕ)
+  pub end : List (List ℕ)
+  pub spelled : words ≡ name ∷ codes "run" ∷ (option ++ end)
+  pub is_option : IsOption option number
+  pub is_end : IsEnd end
+  pub no_option : has_hyphen number ≡ false
+  pub no_number : (n : ℕ) → Spells number n → ⊥
+
+-- The words are a program's name, `run`, the option with its number, and then a word that is no option.
+pub record HasOneTooManyToRun (words : List (List ℕ)) : Type 0 where
+  pub name : List ℕ
+  pub number : List ℕ
+  pub n : ℕ
+  pub option : List (List ℕ)
+  pub word : List ℕ
+  pub later : List (List ℕ)
+  pub spelled : words ≡ name ∷ codes "run" ∷ (option ++ word ∷ later)
+  pub is_option : IsOption option number
+  pub spells : Spells number n
+  pub no_option : has_hyphen word ≡ false
+
+-- after `run`: no option; no number; a bad one; a word too many
+abbrev pub IsRefusedRun : List (List ℕ) → Kinds → Type 0
+IsRefusedRun words told =
+    (LacksOption words × (told ≡ kinds.MissingRequiredArgument ∷ []))
+    ⊎ ((LacksNumber words × (told ≡ kinds.InvalidValue ∷ []))
+    ⊎ ((HasBadNumber words × (told ≡ kinds.ValueValidation ∷ []))
+    ⊎ (HasOneTooManyToRun words × (told ≡ kinds.UnknownArgument ∷ []))))
+
+-- no word after the program's name; an unknown one; a word too many; a fault after `run`
+abbrev pub IsRefusedAs : List (List ℕ) → Kinds → Type 0
+IsRefusedAs words told =
+    ((length words ≤ 1) × (told ≡ kinds.MissingSubcommand ∷ []))
+    ⊎ ((HasUnknown words × (told ≡ kinds.UnknownArgument ∷ kinds.InvalidSubcommand ∷ []))
+    ⊎ ((HasOneTooMany words × (told ≡ kinds.UnknownArgument ∷ []))
+    ⊎ IsRefusedRun words told))

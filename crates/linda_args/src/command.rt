@@ -1,0 +1,513 @@
+//! The command line.
+
+mod ports;
+mod version;
+
+ghost use Rattle.std.specs.Prelude.{◌≡◌, ℕ, List, [], Some, None, false, map, codes, IfOk, IfSome, MatchResult};
+ghost use Rattle.std.specs.String.{string_bytes};
+ghost use Rattle.clap.specs.Lexer.{without_minus};
+ghost use Rattle.clap.specs.Matches.{first_value, one_text, subcommand_name_of};
+ghost use Rattle.clap.specs.Words.{App, FailsBy, Kinds, Rule, app_of, fault_of, found_of, kind_of, new_app};
+ghost use Rattle.clap.specs.Words.{rule_of, subcommand_of, subcommand_rows_of, with_rule, with_subcommand};
+ghost use Rattle.linda_args.specs.Commands as spec;
+ghost use Rattle.linda_args.specs.Commands.{AsksExactlyFor, AsksFor, AsksForPipe, AsksForRun, HasServers, Spells};
+ghost use Rattle.linda_args.specs.Commands.{IsCall, IsCommand, IsInspect, IsRefusedAs, IsServe, IsTracedRun};
+ghost use Rattle.linda_args.specs.Commands.{Refuses, client_rule, dir_rule, flag_rule, linda, option_rule};
+ghost use Rattle.linda_args.specs.Commands.{port_rule, ports_rule, servers_rule, sessions_rule, word_rule};
+ghost use Rattle.linda_args.specs.declared.command.Task.TheVariants as tasks;
+
+use clap::builder::ValueParser;
+use clap::error::ErrorKind;
+use clap::{Arg, ArgAction, ArgMatches, Command, Error, value_parser};
+use linda_client::MAX_SERVERS;
+use linda_inspect::Lists;
+pub use ports::Ports;
+use std::alloc::{AllocError, Global};
+pub use version::{VERSION_LINES, asks_for_version};
+
+/// What the command line asks for.
+#[derive(Debug, Drop)]
+pub enum Task {
+    /// One volatile server and one connection, over standard input and output.
+    Pipe,
+    /// A script from standard input, played with this many servers: from 1 to `MAX_SERVERS`.
+    Run {
+        servers: u32,
+    },
+    /// A run as `Run` is, with its trace written to this file.
+    TracedRun {
+        servers: u32,
+        file: String,
+    },
+    /// Lines of a client from standard input, over servers that listen on ports of this machine; `again` where it goes
+    /// on as a client that was used before.
+    Call {
+        client: u32,
+        ports: Ports,
+        again: bool,
+    },
+    /// The store in this folder, for clients that connect to this port, or to any where it is 0; so many connections
+    /// where a number is given, with a log or without one.
+    Serve {
+        port: u16,
+        dir: String,
+        sessions: Option<u32>,
+        log: bool,
+    },
+    /// What the store in this folder comes to, with these lists.
+    Inspect {
+        dir: String,
+        lists: Lists,
+    },
+}
+
+/// Reads the words of the command line, of which the first names the program.
+///
+/// # Errors
+///
+/// The parser's fault: a command that is missing or unknown, a word too many, a number of servers
+/// that is missing or not in its range, memory that ran out; or the help that was asked for.
+#[tactic(auto, using(crate::proofs::TaskLaws::apart))]
+pub fn read_task(alloc: Global, words: &[String]) -> Result<Task, Error>
+    ensures asked { IfOk result (λ task. AsksFor (map string_bytes words.now) task) }
+    ensures taken { (task : Task) → AsksExactlyFor (map string_bytes words.now) task
+        → MatchResult result (λ found. found ≡ task) (λ e. kind_of e ≡ ErrorKind.OutOfMemory) }
+    ensures servers { IfOk result HasServers }
+    ensures apart { (n : ℕ) → AsksForPipe (map string_bytes words.now)
+        → AsksForRun (map string_bytes words.now) n → ⊥ }
+    ensures refused { (kinds : Kinds) → IsRefusedAs (map string_bytes words.now) kinds
+        → Refuses kinds result }
+{
+    let mut linda = command(alloc)?;
+    task_by(alloc, &mut linda, words)
+}
+
+// The task that the words ask for, by the program's command.
+fn task_by<'a>(alloc: Global, linda: &mut Command<'a>, words: &'a [String]) -> Result<Task, Error>
+    requires { app_of linda.old ≡ spec.linda }
+    ensures asked { IfOk result (λ task. AsksFor (map string_bytes words.entry.now) task) }
+    ensures taken { (task : Task) → AsksExactlyFor (map string_bytes words.entry.now) task
+        → MatchResult result (λ found. found ≡ task) (λ e. kind_of e ≡ ErrorKind.OutOfMemory) }
+    ensures refused { (kinds : Kinds) → IsRefusedAs (map string_bytes words.entry.now) kinds
+        → Refuses kinds result }
+{
+    match found_by(alloc, linda, words)? {
+        Some(task) => Ok(task),
+        None => Err(linda.error(ErrorKind::MissingSubcommand, "a command is required")?),
+    }
+}
+
+// What the program's command finds that the words ask for.
+fn found_by<'a>(
+    alloc: Global,
+    linda: &mut Command<'a>,
+    words: &'a [String],
+) -> Result<Option<Task>, Error>
+    requires { app_of linda.old ≡ spec.linda }
+    ensures kinds { FailsBy (fault_of spec.linda (map string_bytes words.entry.now)) result }
+    ensures found { IfOk result (λ found. IfSome found (AsksFor (map string_bytes words.entry.now))) }
+    ensures exact { (task : Task) → AsksExactlyFor (map string_bytes words.entry.now) task
+        → IfOk result (λ found. found ≡ Some task) }
+{
+    let matches = linda.try_get_matches_from_mut(words)?;
+    Ok(task_of(alloc, &matches)?)
+}
+
+// What the parser found that the words ask for.
+fn task_of(alloc: Global, matches: &ArgMatches) -> Result<Option<Task>, AllocError>
+    ensures exact { (words : List (List ℕ)) (task : Task) → AsksExactlyFor words task
+        → subcommand_rows_of matches.now ≡ subcommand_of linda words → IfOk result (λ found. found ≡ Some task) }
+    ensures found { (words : List (List ℕ)) → fault_of linda words ≡ []
+        → subcommand_rows_of matches.now ≡ subcommand_of linda words
+        → IfOk result (λ found. IfSome found (AsksFor words)) }
+{
+    if matches.subcommand_matches(PIPE).is_some() {
+        return Ok(Some(Task::Pipe));
+    }
+    match matches.subcommand_matches(RUN) {
+        Some(below) => run_of(alloc, below),
+        None => other_of(alloc, matches),
+    }
+}
+
+// What the parser found that the words ask for, where that is neither the pipe nor a run.
+fn other_of(alloc: Global, matches: &ArgMatches) -> Result<Option<Task>, AllocError>
+    ensures exact { (words : List (List ℕ)) (task : Task) → AsksExactlyFor words task
+        → subcommand_rows_of matches.now ≡ subcommand_of linda words
+        → (subcommand_name_of matches.now ≡ Some (codes "pipe") → ⊥)
+        → (subcommand_name_of matches.now ≡ Some (codes "run") → ⊥) → IfOk result (λ found. found ≡ Some task) }
+    ensures found { (words : List (List ℕ)) → fault_of linda words ≡ []
+        → subcommand_rows_of matches.now ≡ subcommand_of linda words
+        → IfOk result (λ found. IfSome found (AsksFor words)) }
+{
+    match matches.subcommand_matches(CALL) {
+        Some(below) => call_of(alloc, below),
+        None => match matches.subcommand_matches(SERVE) {
+            Some(below) => serve_of(alloc, below),
+            None => match matches.subcommand_matches(INSPECT) {
+                Some(below) => inspect_of(alloc, below),
+                None => Ok(None),
+            },
+        },
+    }
+}
+
+// What is found below `run`.
+fn run_of(alloc: Global, below: &ArgMatches) -> Result<Option<Task>, AllocError>
+    ensures bare { (text : List ℕ) (n : ℕ) → first_value (found_of below.now) (codes "trace") ≡ None
+        → one_text (found_of below.now) (codes "servers") ≡ Some (without_minus text)
+        → Spells text n → IfOk result (λ found. found ≡ Some (tasks.Run n)) }
+    ensures traced { (first_value (found_of below.now) (codes "trace") ≡ None → ⊥)
+        → IfOk result (λ found. IfSome found IsTracedRun) }
+{
+    let Some(servers) = below.get_one::<u32>(SERVERS) else {
+        return Ok(None);
+    };
+    match below.get_str(TRACE) {
+        None => Ok(Some(Task::Run { servers })),
+        Some(file) => traced_run(alloc, servers, file),
+    }
+}
+
+// A run with its trace; the parser has judged the number.
+fn traced_run(alloc: Global, servers: u32, file: &str) -> Result<Option<Task>, AllocError>
+    ensures { IfOk result (λ found. IfSome found IsTracedRun) }
+{
+    if servers < 1 || servers > MAX_SERVERS {
+        return Ok(None);
+    }
+    let file = String::from_str(alloc, file)?;
+    Ok(Some(Task::TracedRun { servers, file }))
+}
+
+// What is found below `call`.
+fn call_of(alloc: Global, below: &ArgMatches) -> Result<Option<Task>, AllocError>
+    ensures { IfOk result (λ found. IfSome found (IsCall (one_text (found_of below.now) (codes "again")))) }
+{
+    let Some(client) = below.get_one::<u32>(CLIENT) else {
+        return Ok(None);
+    };
+    let Some(ports) = Ports::found(alloc, below, PORTS)? else {
+        return Ok(None);
+    };
+    let again = below.get_flag(AGAIN);
+    Ok(Some(Task::Call {
+        client,
+        ports,
+        again,
+    }))
+}
+
+// What is found below `serve`.
+fn serve_of(alloc: Global, below: &ArgMatches) -> Result<Option<Task>, AllocError>
+    ensures { IfOk result (λ found. IfSome found IsServe) }
+{
+    let Some(port) = below.get_one::<u16>(PORT) else {
+        return Ok(None);
+    };
+    let Some(text) = below.get_str(DIR) else {
+        return Ok(None);
+    };
+    let dir = String::from_str(alloc, text)?;
+    let sessions = below.get_one::<u32>(SESSIONS);
+    let log = below.get_flag(LOG);
+    Ok(Some(Task::Serve {
+        port,
+        dir,
+        sessions,
+        log,
+    }))
+}
+
+// What is found below `inspect`.
+fn inspect_of(alloc: Global, below: &ArgMatches) -> Result<Option<Task>, AllocError>
+    ensures { IfOk result (λ found. IfSome found IsInspect) }
+{
+    let Some(text) = below.get_str(DIR) else {
+        return Ok(None);
+    };
+    let dir = String::from_str(alloc, text)?;
+    let tuples = below.get_flag(TUPLES);
+    let clients = below.get_flag(CLIENTS);
+    let lists = Lists { tuples, clients };
+    Ok(Some(Task::Inspect { dir, lists }))
+}
+
+// The program's command.
+fn command<'a>(alloc: Global) -> Result<Command<'a>, AllocError>
+    ensures { IfOk result (λ c. app_of c ≡ linda) }
+{
+    let bare = bare_command(alloc, "linda", "A tuple space", VERSION).subcommand_required(true);
+    let piping = bare.subcommand(pipe_command(alloc));
+    let running = with_command(piping, run_command(alloc));
+    let calling = with_command(running, call_command(alloc));
+    let serving = with_command(calling, serve_command(alloc));
+    with_command(serving, inspect_command(alloc))
+}
+
+// The command with one more below it, if there was memory for both.
+fn with_command<'a>(
+    command: Result<Command<'a>, AllocError>,
+    below: Result<Command<'a>, AllocError>,
+) -> Result<Command<'a>, AllocError>
+    ensures { (old app : App) → IfOk command.entry (λ c. app_of c ≡ old) → IfOk below.entry (IsCommand app)
+        → IfOk result (λ c. app_of c ≡ with_subcommand old app.top) }
+{
+    command?.subcommand(below?)
+}
+
+// The command with one more argument, if there was memory for it so far.
+fn with_arg<'a>(
+    command: Result<Command<'a>, AllocError>,
+    arg: Arg<'a>,
+) -> Result<Command<'a>, AllocError>
+    ensures { (app : App) (rule : Rule) → IfOk command.entry (IsCommand app) → rule_of arg.entry ≡ rule
+        → arg.entry.global ≡ false → IfOk result (IsCommand (with_rule app rule)) }
+{
+    command?.arg(arg)
+}
+
+// A command of this name with no argument.
+fn bare_command<'a>(alloc: Global, name: &'a str, about: &'a str, after: &'a str) -> Command<'a>
+    ensures { IsCommand (new_app name.entry.now) result }
+{
+    Command::new(alloc, name).about(about).after_help(after)
+}
+
+// The command that serves standard input and output.
+fn pipe_command<'a>(alloc: Global) -> Command<'a>
+    ensures { IsCommand spec.pipe_command result }
+{
+    Command::new(alloc, PIPE).about("Serve one connection over lines of hexadecimal digits")
+}
+
+// The command that plays a script.
+fn run_command<'a>(alloc: Global) -> Result<Command<'a>, AllocError>
+    ensures { IfOk result (IsCommand spec.run_command) }
+{
+    let about = "Play a script from standard input with servers in memory";
+    let first = bare_command(alloc, RUN, about, SCRIPT).arg(servers(alloc));
+    with_arg(
+        first,
+        option(
+            alloc,
+            TRACE,
+            "FILE",
+            "Write what happened to this file, a line an event",
+        ),
+    )
+}
+
+// The command of a client.
+fn call_command<'a>(alloc: Global) -> Result<Command<'a>, AllocError>
+    ensures { IfOk result (IsCommand spec.call_command) }
+{
+    let about = "Put and take tuples at servers that listen on ports of this machine";
+    let first = bare_command(alloc, CALL, about, LINES).arg(client(alloc));
+    let second = with_arg(first, port_words(alloc));
+    let help = "Go on as a client that was used before";
+    with_arg(second, flag(alloc, AGAIN, help))
+}
+
+// The command that serves a folder.
+fn serve_command<'a>(alloc: Global) -> Result<Command<'a>, AllocError>
+    ensures { IfOk result (IsCommand spec.serve_command) }
+{
+    let about = "Serve the store in a folder on a port of this machine";
+    let first = bare_command(alloc, SERVE, about, SERVING).arg(port_option(alloc));
+    let second = with_arg(first, dir_option(alloc));
+    let third = with_arg(second, sessions_option(alloc));
+    let help = "Write a log to standard error: a line a minute, and one at each event";
+    with_arg(third, flag(alloc, LOG, help))
+}
+
+// The command that says what a folder holds.
+fn inspect_command<'a>(alloc: Global) -> Result<Command<'a>, AllocError>
+    ensures { IfOk result (IsCommand spec.inspect_command) }
+{
+    let about =
+        "Tell what the store in a folder holds, and whether it would be served; nothing is written";
+    let folder = word(alloc, DIR, "DIR", "The folder of the store");
+    let first = bare_command(alloc, INSPECT, about, INSPECTING).arg(folder);
+    let second = with_arg(first, flag(alloc, TUPLES, "A line for each tuple"));
+    with_arg(
+        second,
+        flag(
+            alloc,
+            CLIENTS,
+            "A line for each client, with its kept reply",
+        ),
+    )
+}
+
+// The option that says how many servers there are.
+fn servers<'a>(alloc: Global) -> Arg<'a>
+    ensures rule { rule_of result ≡ servers_rule }
+    ensures own { result.global ≡ false }
+{
+    let parser = value_parser!(u32).range(1..=i64::from(MAX_SERVERS));
+    number_option(
+        alloc,
+        SERVERS,
+        "N",
+        "How many servers, from 1 to 16",
+        parser,
+    )
+    .required(true)
+}
+
+// The option that says which client it is.
+fn client<'a>(alloc: Global) -> Arg<'a>
+    ensures rule { rule_of result ≡ client_rule }
+    ensures own { result.global ≡ false }
+{
+    let help = "Which client it is, a number that no other client has";
+    number_option(alloc, CLIENT, "C", help, value_parser!(u32)).required(true)
+}
+
+// The words that say where the servers listen.
+fn port_words<'a>(alloc: Global) -> Arg<'a>
+    ensures rule { rule_of result ≡ ports_rule }
+    ensures own { result.global ≡ false }
+{
+    word(
+        alloc,
+        PORTS,
+        "PORT",
+        "Where servers 0, 1, .. listen, from 1 to 16 of them",
+    )
+    .num_args(1..=MAX_SERVERS as usize)
+    .value_parser(value_parser!(u16).range(1..))
+}
+
+// The option that says where the server listens.
+fn port_option<'a>(alloc: Global) -> Arg<'a>
+    ensures rule { rule_of result ≡ port_rule }
+    ensures own { result.global ≡ false }
+{
+    let help = "Where the server listens; 0 for any free port";
+    number_option(alloc, PORT, "P", help, value_parser!(u16)).required(true)
+}
+
+// The option that names the folder.
+fn dir_option<'a>(alloc: Global) -> Arg<'a>
+    ensures rule { rule_of result ≡ dir_rule }
+    ensures own { result.global ≡ false }
+{
+    let help = "The folder of the store, which is created in it where there is none";
+    option(alloc, DIR, "D", help).required(true)
+}
+
+// The option that says after how many connections the server ends.
+fn sessions_option<'a>(alloc: Global) -> Arg<'a>
+    ensures rule { rule_of result ≡ sessions_rule }
+    ensures own { result.global ≡ false }
+{
+    number_option(
+        alloc,
+        SESSIONS,
+        "K",
+        "End after so many connections",
+        value_parser!(u32),
+    )
+}
+
+// An option of this name, with a number that the parser takes.
+fn number_option<'a>(
+    alloc: Global,
+    name: &'a str,
+    value: &'a str,
+    help: &'a str,
+    parser: ValueParser<'a>,
+) -> Arg<'a>
+    ensures rule { rule_of result ≡ record (option_rule name.entry.now) { parser = Some parser.entry } }
+    ensures own { result.global ≡ false }
+{
+    option(alloc, name, value, help).value_parser(parser)
+}
+
+// An option of this name, with a value that help calls so.
+fn option<'a>(alloc: Global, name: &'a str, value: &'a str, help: &'a str) -> Arg<'a>
+    ensures rule { rule_of result ≡ option_rule name.entry.now }
+    ensures own { result.global ≡ false }
+{
+    Arg::new(alloc, name)
+        .long(name)
+        .value_name(value)
+        .help(help)
+        .action(ArgAction::Set)
+}
+
+// An option of this name that stands alone.
+fn flag<'a>(alloc: Global, name: &'a str, help: &'a str) -> Arg<'a>
+    ensures rule { rule_of result ≡ flag_rule name.entry.now }
+    ensures own { result.global ≡ false }
+{
+    Arg::new(alloc, name)
+        .long(name)
+        .help(help)
+        .action(ArgAction::SetTrue)
+}
+
+// A word that must be there, which help calls so.
+fn word<'a>(alloc: Global, name: &'a str, value: &'a str, help: &'a str) -> Arg<'a>
+    ensures rule { rule_of result ≡ word_rule name.entry.now }
+    ensures own { result.global ≡ false }
+{
+    Arg::new(alloc, name)
+        .value_name(value)
+        .help(help)
+        .required(true)
+        .action(ArgAction::Set)
+}
+
+const PIPE: &str = "pipe";
+
+const RUN: &str = "run";
+
+const SERVERS: &str = "servers";
+
+const TRACE: &str = "trace";
+
+const CALL: &str = "call";
+
+const SERVE: &str = "serve";
+
+const PORT: &str = "port";
+
+const DIR: &str = "dir";
+
+const SESSIONS: &str = "sessions";
+
+const LOG: &str = "log";
+
+const INSPECT: &str = "inspect";
+
+const TUPLES: &str = "tuples";
+
+const CLIENTS: &str = "clients";
+
+const CLIENT: &str = "client";
+
+const PORTS: &str = "ports";
+
+const AGAIN: &str = "again";
+
+const SCRIPT: &str = "Example of a script:\n  \
+    7 out (\"a\", 3)\n  \
+    8 sync in (\"a\", ?i)\n  \
+    state 1";
+
+const LINES: &str = "Example, beside a server on port 7707:\n  \
+    echo 'out (\"job\", 1)' | linda call --client 1 7707\n  \
+    echo 'sync in (\"job\", ?i)' | linda call --client 2 7707";
+
+const SERVING: &str = "Example:\n  \
+    mkdir store\n  \
+    linda serve --port 7707 --dir store";
+
+const INSPECTING: &str = "Example:\n  \
+    mkdir store\n  \
+    linda inspect store --tuples --clients";
+
+const VERSION: &str = "linda --version tells the version, and the forms of banks and frames.";

@@ -1,0 +1,16 @@
+-- The links of a call.
+use Rattle.std.specs.Prelude.{◌≡◌, ℕ, Bool, List, map, All}
+use Rattle.std.specs.List.{enumerate_from}
+use Rattle.linda_net_proxy.specs.declared.link.Link.{Link}
+
+-- the number of a link's server, and its port
+abbrev pub place_of : Link → ℕ × ℕ
+place_of link = (link.server, link.port)
+
+-- a link of this client, which was never used or goes on
+abbrev pub IsOf : ℕ → Bool → Link → Type 0
+IsOf client fresh link = (link.client ≡ client) × (link.fresh ≡ fresh)
+
+-- The links of a client, one to each port in their order: the server of the first port is 0, and so on.
+abbrev pub IsLinked : ℕ → Bool → List ℕ → List Link → Type 0
+IsLinked client fresh ports links = (map place_of links ≡ enumerate_from 0 ports) × All (IsOf client fresh) links

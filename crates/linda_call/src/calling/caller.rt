@@ -1,0 +1,334 @@
+//! A client at work over its links: what comes is told to it, and what it answers is sent and written.
+
+ghost use Rattle.std.specs.Prelude.{◌≤◌, length};
+ghost use Rattle.linda_client.specs.declared.limits.TheConstants.{MAX_SERVERS};
+
+use super::asking::{is_answer, kept_ask};
+use super::clock::{is_late, ticks_in};
+use super::fault::CallFault;
+use super::kept::{write_kept, write_none};
+use super::party::Party;
+use linda_client::{ClientFault, Reaction};
+use linda_net_proxy::{Arrival, Inbox, Link};
+use linda_shell_text::{Request, behind_word, read_request, write_outcome, write_refusal};
+use linda_text::skip_blanks;
+use linda_wire::Message;
+use std::alloc::Global;
+use std::io::Write;
+use std::sync::Wait;
+use std::time::{Clock, Instant};
+
+/// A client and how it stands with each server, its links, what comes by them, and when it began.
+#[derive(Drop)]
+pub(super) struct Caller<'a> {
+    party: Party,
+    links: &'a [Link],
+    inbox: &'a Inbox,
+    start: Instant,
+}
+
+impl<'a> Caller<'a> {
+    /// A client of this number that has done nothing yet, or that goes on after what servers keep for it.
+    ///
+    /// # Errors
+    ///
+    /// `Memory`; `Clock` where the time cannot be had.
+    pub(super) fn new(
+        rt: &impl Clock,
+        alloc: Global,
+        inbox: &'a Inbox,
+        links: &'a [Link],
+        number: u32,
+        goes_on: bool,
+    ) -> Result<Caller<'a>, CallFault>
+        requires some { 1 ≤ length links.now }
+        requires few { length links.now ≤ MAX_SERVERS }
+    {
+        let party = Party::new(alloc, number, links.len() as u32, goes_on)?;
+        let Ok(start) = Instant::now(rt) else {
+            return Err(CallFault::Clock);
+        };
+        Ok(Caller {
+            party,
+            links,
+            inbox,
+            start,
+        })
+    }
+}
+
+impl Caller<'_> {
+    /// Waits until each server has welcomed the client.
+    ///
+    /// # Errors
+    ///
+    /// What the first server is given up for, `NoConnection` after ten seconds too; `Memory`; `Write`; `Clock`.
+    pub(super) fn meet_all<S: Wait + Clock, W: Write>(
+        &mut self,
+        rt: &S,
+        alloc: Global,
+        writer: &mut W,
+    ) -> Result<(), CallFault> {
+        for _ in rt.forever() {
+            let Some(server) = self.party.first_unmet() else {
+                return Ok(());
+            };
+            if let Some((server, arrival)) = self.inbox.take(rt) {
+                self.hear(rt, alloc, server, arrival, writer)?;
+            } else if is_late(self.ticks(rt)?) {
+                return Err(CallFault::NoConnection(server));
+            }
+        }
+        Ok(())
+    }
+
+    /// Does what a line asks for, waits for the outcome, and writes it. Whether the line is one of a client.
+    ///
+    /// # Errors
+    ///
+    /// Of a server that is given up or that refuses; `Memory`; `Write`; `Clock`.
+    pub(super) fn run_line<S: Wait + Clock, W: Write>(
+        &mut self,
+        rt: &S,
+        alloc: Global,
+        line: &[u8],
+        writer: &mut W,
+    ) -> Result<bool, CallFault> {
+        self.catch_up(rt, alloc, writer)?;
+        if is_last(line) {
+            self.tell_kept(rt, alloc, writer)?;
+            return Ok(true);
+        }
+        match read_request(alloc, line)? {
+            None => Ok(true),
+            Some(None) => Ok(false),
+            Some(Some(request)) => {
+                self.run(rt, alloc, request, writer)?;
+                Ok(true)
+            }
+        }
+    }
+
+    // Hears what came while nothing was pending. A server that was given up meanwhile is tried again.
+    fn catch_up<S: Wait + Clock, W: Write>(
+        &mut self,
+        rt: &S,
+        alloc: Global,
+        writer: &mut W,
+    ) -> Result<(), CallFault> {
+        for _ in rt.forever() {
+            match self.inbox.take_now(rt) {
+                None => return Ok(()),
+                Some((server, Arrival::NoConnection)) => self.retry(rt, server),
+                Some((server, arrival)) => {
+                    self.hear(rt, alloc, server, arrival, writer)?;
+                }
+            }
+        }
+        Ok(())
+    }
+
+    // Has a server tried again.
+    fn retry(&self, rt: &impl Wait, server: u32) {
+        if let Some(link) = self.links.get(server as usize) {
+            link.retry(rt);
+        }
+    }
+
+    // Writes the reply that each server keeps to the client.
+    fn tell_kept<S: Wait + Clock, W: Write>(
+        &mut self,
+        rt: &S,
+        alloc: Global,
+        writer: &mut W,
+    ) -> Result<(), CallFault> {
+        let mut server: u32 = 0;
+        for _ in 0..self.links.len() {
+            let line = self.kept_line(rt, alloc, server, writer)?;
+            write_line(writer, &line)?;
+            server = server.saturating_add(1);
+        }
+        Ok(())
+    }
+
+    // The line of the reply that a server keeps to the client. It is asked for by the number that is kept.
+    fn kept_line<S: Wait + Clock, W: Write>(
+        &mut self,
+        rt: &S,
+        alloc: Global,
+        server: u32,
+        writer: &mut W,
+    ) -> Result<String, CallFault> {
+        let number = self.party.kept(server);
+        let client = self.party.number();
+        if number == 0 {
+            return Ok(write_none(alloc, server, client)?);
+        }
+        self.send(rt, alloc, server, &kept_ask(number))?;
+        for _ in rt.forever() {
+            match self.inbox.take(rt) {
+                None => {}
+                Some((from, Arrival::Came(reply))) if is_answer(from, &reply, server, number) => {
+                    if let Some(line) = write_kept(alloc, server, client, &reply)? {
+                        return Ok(line);
+                    }
+                }
+                Some((from, arrival)) => {
+                    let is_greeted = from == server && is_greeting(&arrival);
+                    self.hear(rt, alloc, from, arrival, writer)?;
+                    if is_greeted {
+                        self.send(rt, alloc, server, &kept_ask(number))?;
+                    }
+                }
+            }
+        }
+        Ok(String::new(alloc))
+    }
+
+    // Does what is asked for. The client knows the time when it is asked.
+    fn run<S: Wait + Clock, W: Write>(
+        &mut self,
+        rt: &S,
+        alloc: Global,
+        request: Request,
+        writer: &mut W,
+    ) -> Result<(), CallFault> {
+        self.tick(rt, alloc, writer)?;
+        match self.party.ask(alloc, request) {
+            Ok(reaction) => {
+                if self.obey(rt, alloc, reaction, writer)? {
+                    return Ok(());
+                }
+                self.wait(rt, alloc, writer)
+            }
+            Err(fault) => self.refuse(alloc, fault, writer),
+        }
+    }
+
+    // Waits for the outcome of what was asked for.
+    fn wait<S: Wait + Clock, W: Write>(
+        &mut self,
+        rt: &S,
+        alloc: Global,
+        writer: &mut W,
+    ) -> Result<(), CallFault> {
+        for _ in rt.forever() {
+            let is_done = match self.inbox.take(rt) {
+                Some((server, arrival)) => self.hear(rt, alloc, server, arrival, writer)?,
+                None => self.tick(rt, alloc, writer)?,
+            };
+            if is_done {
+                return Ok(());
+            }
+        }
+        Ok(())
+    }
+
+    // How many ticks ago it began.
+    fn ticks(&self, rt: &impl Clock) -> Result<u64, CallFault> {
+        match self.start.elapsed(rt) {
+            Ok(gone) => Ok(ticks_in(gone)),
+            Err(_) => Err(CallFault::Clock),
+        }
+    }
+
+    // Tells the client the time. Whether what was pending has ended.
+    fn tick<S: Wait + Clock, W: Write>(
+        &mut self,
+        rt: &S,
+        alloc: Global,
+        writer: &mut W,
+    ) -> Result<bool, CallFault> {
+        let now = self.ticks(rt)?;
+        let reaction = self.party.tick(alloc, now)?;
+        self.obey(rt, alloc, reaction, writer)
+    }
+
+    // Tells the client what came. Whether what was pending has ended.
+    fn hear<S: Wait, W: Write>(
+        &mut self,
+        rt: &S,
+        alloc: Global,
+        server: u32,
+        arrival: Arrival,
+        writer: &mut W,
+    ) -> Result<bool, CallFault> {
+        let reaction = self.party.take(alloc, server, arrival)?;
+        self.obey(rt, alloc, reaction, writer)
+    }
+
+    // Sends what the client sends and writes what has ended. Whether something has.
+    fn obey<S: Wait, W: Write>(
+        &mut self,
+        rt: &S,
+        alloc: Global,
+        reaction: Reaction,
+        writer: &mut W,
+    ) -> Result<bool, CallFault> {
+        for (server, message) in reaction.packets {
+            let mut message = message;
+            self.party.send(server, &mut message);
+            self.send(rt, alloc, server, &message)?;
+        }
+        if let Some((server, code, detail)) = reaction.fault {
+            return Err(CallFault::Refused(server, code, detail));
+        }
+        let Some(outcome) = reaction.outcome else {
+            return Ok(false);
+        };
+        if let Some((server, ticket)) = self.party.settle() {
+            self.send(rt, alloc, server, &Message::Cancel { ticket })?;
+        }
+        let line = write_outcome(alloc, self.party.number(), &outcome)?;
+        write_line(writer, &line)?;
+        Ok(true)
+    }
+
+    // Sends a message to a server.
+    fn send(
+        &self,
+        rt: &impl Wait,
+        alloc: Global,
+        server: u32,
+        message: &Message,
+    ) -> Result<(), CallFault> {
+        if let Some(link) = self.links.get(server as usize) {
+            link.send(rt, alloc, message)?;
+        }
+        Ok(())
+    }
+
+    // Writes that the client refused what it was asked for.
+    fn refuse<W: Write>(
+        &self,
+        alloc: Global,
+        fault: ClientFault,
+        writer: &mut W,
+    ) -> Result<(), CallFault> {
+        match write_refusal(alloc, self.party.number(), fault)? {
+            Some(line) => write_line(writer, &line),
+            None => Err(CallFault::Memory),
+        }
+    }
+}
+
+// Whether the line asks for the replies that are kept.
+fn is_last(line: &[u8]) -> bool {
+    matches!(behind_word(skip_blanks(line), b"last"), Some([]))
+}
+
+// Whether a server welcomed the client.
+fn is_greeting(arrival: &Arrival) -> bool {
+    matches!(arrival, Arrival::Greeted(_))
+}
+
+// Writes a line, with its line feed, and flushes it.
+fn write_line<W: Write>(writer: &mut W, line: &str) -> Result<(), CallFault> {
+    if writer.write_all(line.as_bytes()).is_err() {
+        return Err(CallFault::Write);
+    }
+    if writer.flush().is_err() {
+        return Err(CallFault::Write);
+    }
+    Ok(())
+}

@@ -1,7 +1,0 @@
-use Rattle.std.proofs.Common.{◌∙◌}
-use Rattle.linda_desk.proofs.held.Held.park.Goals as goal
-
-pub invariant_of-self : goal.invariant_of-self
-invariant_of-self g c =
-    let h = c.args.self.now in
-    record { in_order = h.in_order; counted = c.put_back.ensures.total ∙ h.counted; covered = h.covered }

@@ -1,5 +1,0 @@
-use Rattle.linda_line.proofs.WrittenLaws.{event_alone}
-use Rattle.linda_line.proofs.laws.what_is_written_is_read_again.Goals as goal
-
-pub returns : goal.returns
-returns c = event_alone

@@ -1,6 +1,0 @@
-pub mod Words
-pub mod EventTexts
-pub mod Limits
-pub mod Steps
-pub mod Reading
-pub mod Written

@@ -1,0 +1,233 @@
+//! The connection of a client to one of its servers, greeted again where it was lost.
+
+ghost use Rattle.std.specs.Prelude.{◌≡◌};
+
+use crate::arrivals::Arrival;
+use crate::course::{Course, Next, arrival_of};
+use crate::fault::ProxyFault;
+use crate::inbox::Inbox;
+use crate::proxy::{Proxy, end, send};
+use linda_wire::Message;
+use std::alloc::{AllocError, Global};
+use std::net::{Net, TcpStream};
+use std::sync::{Mutex, Wait};
+use std::thread;
+use std::time::{Clock, Duration};
+
+/// How often it is looked whether a server that was given up is to be tried again, in milliseconds apart.
+const LOOK: u64 = 10;
+
+/// The connection to one server. One thread keeps it up, another sends.
+#[derive(Drop)]
+pub struct Link {
+    server: u32,
+    port: u16,
+    client: u32,
+    // The client was never used before.
+    fresh: bool,
+    // The connection that there is.
+    connection: Mutex<Option<Connection>>,
+    // The server was given up, and is to be tried again.
+    retries: Mutex<bool>,
+}
+
+// A connection, for whoever sends or ends it.
+#[derive(Drop)]
+struct Connection {
+    stream: TcpStream,
+    // The server has welcomed the client on it.
+    is_greeted: bool,
+}
+
+impl Link {
+    /// No connection yet, to the server of this number, which listens on this port; of a client that was never used
+    /// before, or of one that goes on.
+    pub fn new(server: u32, port: u16, client: u32, fresh: bool) -> Link
+        ensures server { result.server ≡ server }
+        ensures port { result.port ≡ port }
+        ensures client { result.client ≡ client }
+        ensures fresh { result.fresh ≡ fresh }
+    {
+        Link {
+            server,
+            port,
+            client,
+            fresh,
+            connection: Mutex::new(None),
+            retries: Mutex::new(false),
+        }
+    }
+
+    /// Has the server tried again that was given up for want of a connection.
+    pub fn retry(&self, rt: &impl Wait) {
+        *self.retries.lock(rt) = true;
+    }
+
+    /// Sends where there is a greeted connection. Where there is none, or it is lost, what counts is sent again after
+    /// the next greeting.
+    ///
+    /// # Errors
+    ///
+    /// `AllocError`: nothing was sent.
+    pub fn send(&self, rt: &impl Wait, alloc: Global, message: &Message) -> Result<(), AllocError> {
+        let mut connection = self.connection.lock(rt);
+        let Some(connection) = &mut *connection else {
+            return Ok(());
+        };
+        if !connection.is_greeted {
+            return Ok(());
+        }
+        match send(&mut connection.stream, alloc, message) {
+            Ok(()) => Ok(()),
+            Err(ProxyFault::Memory) => Err(AllocError),
+            Err(_) => {
+                end(&connection.stream);
+                Ok(())
+            }
+        }
+    }
+
+    /// Ends the connection from both sides, so that the thread that keeps it sees its end.
+    pub fn end(&self, rt: &impl Wait) {
+        let connection = self.connection.lock(rt);
+        if let Some(connection) = &*connection {
+            end(&connection.stream);
+        }
+    }
+
+    /// Keeps the connection up and brings what comes into the inbox, until that is over or the server is given up.
+    ///
+    /// The first greeting is that of a client that was never used, or of one that goes on; if no connection can be had
+    /// for it, or the server refuses it, the server is given up at once, but Busy is tried again for a client that goes
+    /// on. A connection that is lost after a greeting is greeted again; if that fails too often, `NoConnection` is
+    /// brought, and the tries begin again after `retry`.
+    pub fn keep<R: Net<Stream = TcpStream> + Wait + Clock>(
+        &self,
+        rt: &R,
+        alloc: Global,
+        inbox: &Inbox,
+    ) {
+        let mut course = Course::new(self.fresh);
+        for _ in rt.forever() {
+            if inbox.is_over(rt) {
+                return;
+            }
+            match self.greet(rt, alloc, inbox, course.says_fresh()) {
+                Ok(proxy) => {
+                    course.welcome();
+                    self.follow(rt, alloc, inbox, proxy);
+                }
+                Err(fault) => {
+                    self.let_go(rt);
+                    if !self.goes_on(rt, inbox, course.fail(fault), fault) {
+                        return;
+                    }
+                }
+            }
+        }
+    }
+
+    // Waits for the next greeting after one that failed so. Whether there is to be one.
+    fn goes_on<R: Wait + Clock>(
+        &self,
+        rt: &R,
+        inbox: &Inbox,
+        next: Next,
+        fault: ProxyFault,
+    ) -> bool {
+        match next {
+            Next::Again => {
+                thread::sleep(rt, Duration::from_millis(1));
+                true
+            }
+            Next::Later => {
+                inbox.bring(rt, self.server, Arrival::NoConnection);
+                self.wait_retry(rt, inbox)
+            }
+            Next::Over => {
+                inbox.bring(rt, self.server, arrival_of(fault));
+                false
+            }
+        }
+    }
+
+    // Brings what comes over a greeted connection until it ends.
+    fn follow(&self, rt: &impl Wait, alloc: Global, inbox: &Inbox, proxy: Proxy) {
+        let mut proxy = proxy;
+        self.listen(rt, alloc, inbox, &mut proxy);
+        self.let_go(rt);
+    }
+
+    // Waits until the server is to be tried again. Says whether it is: else nobody takes any more.
+    fn wait_retry<R: Wait + Clock>(&self, rt: &R, inbox: &Inbox) -> bool {
+        for _ in rt.forever() {
+            if inbox.is_over(rt) {
+                return false;
+            }
+            if self.takes_retry(rt) {
+                return true;
+            }
+            thread::sleep(rt, Duration::from_millis(LOOK));
+        }
+        false
+    }
+
+    // Whether the server is to be tried again, which is said once.
+    fn takes_retry(&self, rt: &impl Wait) -> bool {
+        let mut retries = self.retries.lock(rt);
+        let retry = *retries;
+        *retries = false;
+        retry
+    }
+
+    // Brings what comes until the connection ends.
+    fn listen(&self, rt: &impl Wait, alloc: Global, inbox: &Inbox, proxy: &mut Proxy) {
+        for _ in rt.forever() {
+            match proxy.receive(alloc) {
+                Ok(reply) => inbox.bring(rt, self.server, Arrival::Came(reply)),
+                Err(ProxyFault::Memory) => {
+                    inbox.bring(rt, self.server, Arrival::Memory);
+                    return;
+                }
+                Err(_) => return,
+            }
+        }
+    }
+
+    // One greeting. The connection can be ended from outside before it is waited for: whoever ends all says so in the
+    // inbox first.
+    fn greet<R: Net<Stream = TcpStream> + Wait>(
+        &self,
+        rt: &R,
+        alloc: Global,
+        inbox: &Inbox,
+        fresh: bool,
+    ) -> Result<Proxy, ProxyFault> {
+        let mut proxy = Proxy::connect(rt, alloc, self.port)?;
+        let stream = proxy.sender()?;
+        *self.connection.lock(rt) = Some(Connection {
+            stream,
+            is_greeted: false,
+        });
+        if inbox.is_over(rt) {
+            return Err(ProxyFault::Lost);
+        }
+        let last = proxy.greet(alloc, self.client, fresh)?;
+        self.welcome(rt);
+        inbox.bring(rt, self.server, Arrival::Greeted(last));
+        Ok(proxy)
+    }
+
+    // What is sent goes out from now on.
+    fn welcome(&self, rt: &impl Wait) {
+        let mut connection = self.connection.lock(rt);
+        if let Some(connection) = &mut *connection {
+            connection.is_greeted = true;
+        }
+    }
+
+    // There is no connection any more.
+    fn let_go(&self, rt: &impl Wait) {
+        *self.connection.lock(rt) = None;
+    }
+}

@@ -1,7 +1,0 @@
-use Rattle.std.proofs.Common.{ℕ, take, Contains}
-use Rattle.linda_state.specs.declared.deed.Deed.TheVariants.{Take}
-use Rattle.linda_promise.proofs.deed.taker_of.Given as goal
-
--- No deed so far takes the tuple.
-abbrev pub invariant-loop-deed : goal.invariant-loop-deed
-invariant-loop-deed l = (c n : ℕ) → Contains (take l.deed-index l.deeds) (Take c n l.id) → ⊥

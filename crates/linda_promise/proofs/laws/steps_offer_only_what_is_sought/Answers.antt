@@ -1,5 +1,0 @@
-use Rattle.linda_promise.proofs.OfferLaws.{step_sought}
-use Rattle.linda_promise.proofs.laws.steps_offer_only_what_is_sought.Goals as goal
-
-pub returns : goal.returns
-returns c = step_sought

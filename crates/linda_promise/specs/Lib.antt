@@ -1,5 +1,0 @@
-pub mod Deeds
-pub mod Replies
-pub mod Offers
-pub mod Steps
-pub mod Covered

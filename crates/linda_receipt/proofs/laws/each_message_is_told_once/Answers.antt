@@ -1,5 +1,0 @@
-use Rattle.linda_receipt.proofs.TellingLaws.{told_once}
-use Rattle.linda_receipt.proofs.laws.each_message_is_told_once.Goals as goal
-
-pub returns : goal.returns
-returns c = told_once

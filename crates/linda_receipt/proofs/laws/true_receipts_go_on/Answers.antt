@@ -1,5 +1,0 @@
-use Rattle.linda_receipt.proofs.TellingLaws.{more_true}
-use Rattle.linda_receipt.proofs.laws.true_receipts_go_on.Goals as goal
-
-pub returns : goal.returns
-returns c = more_true

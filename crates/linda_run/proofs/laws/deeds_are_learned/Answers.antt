@@ -1,5 +1,0 @@
-use Rattle.linda_run.proofs.ComingLaws.{learned}
-use Rattle.linda_run.proofs.laws.deeds_are_learned.Goals as goal
-
-pub returns : goal.returns
-returns c = learned c.replies_tell_the_deed.ensures

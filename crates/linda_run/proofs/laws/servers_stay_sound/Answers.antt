@@ -1,5 +1,0 @@
-use Rattle.linda_run.proofs.HonestLaws.{reached_honest}
-use Rattle.linda_run.proofs.laws.servers_stay_sound.Goals as goal
-
-pub returns : goal.returns
-returns c = λ w reached. (reached_honest c.laws_below.ensures.sound c.laws_below.ensures.deeds c.laws_below.ensures.calls w reached).sound

@@ -1,5 +1,0 @@
-use Rattle.linda_run.proofs.HonestLaws.{reached_handed}
-use Rattle.linda_run.proofs.laws.what_is_handed_over_was_put.Goals as goal
-
-pub returns : goal.returns
-returns c = reached_handed c.laws_below.ensures.sound c.laws_below.ensures.deeds c.laws_below.ensures.calls

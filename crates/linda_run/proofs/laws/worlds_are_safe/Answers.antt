@@ -1,5 +1,0 @@
-use Rattle.linda_run.proofs.HonestLaws.{reached_safe}
-use Rattle.linda_run.proofs.laws.worlds_are_safe.Goals as goal
-
-pub returns : goal.returns
-returns c = reached_safe c.laws_below.ensures.sound c.laws_below.ensures.deeds c.laws_below.ensures.calls

@@ -1,0 +1,31 @@
+-- What a line of a minute says, and what a log keeps for the next one.
+use Rattle.std.specs.Prelude.{ℕ, ◌+◌, ◌-◌, ◌^◌, min}
+use Rattle.linda_net.specs.declared.marks.Tally.{Tally}
+use Rattle.linda_net.specs.Counting.{more_than, none_refused}
+use Rattle.linda_serve.specs.declared.serving.minutes.Counted.{Counted}
+
+-- nothing was counted
+abbrev pub none_counted : Counted
+none_counted = record { deeds = 0; refused = 0; unserved = 0; turned = none_refused }
+
+-- how many connections were not served: those for which no thread could be had, and those that could not be had
+abbrev pub unserved : Tally → ℕ
+unserved tally = min (tally.closed + tally.missed) (2 ^ 64 - 1)
+
+-- what there is in all, with so many deeds
+abbrev pub counted : ℕ → Tally → Counted
+counted deeds tally = record {
+  deeds = deeds;
+  refused = tally.refused;
+  unserved = unserved tally;
+  turned = tally.turned;
+}
+
+-- how much more there is than before
+abbrev pub more_counted : Counted → Counted → Counted
+more_counted now before = record {
+  deeds = now.deeds - before.deeds;
+  refused = now.refused - before.refused;
+  unserved = now.unserved - before.unserved;
+  turned = more_than now.turned before.turned;
+}

@@ -1,4 +1,0 @@
-pub mod Faults
-pub mod Address
-pub mod Banks
-pub mod Minutes

@@ -1,0 +1,59 @@
+//! The server, and the batch in hand.
+
+ghost use Rattle.std.specs.Prelude.{◌≡◌, ◌++◌, ℕ, [], true, false, All, IsTrue};
+ghost use Rattle.linda_shared_outbox.specs.Waiting.{waits_for};
+ghost use Rattle.linda_shared_outbox.specs.Replies.{handed_out};
+
+use crate::group::Group;
+use linda_disk::Disk;
+use linda_shared_held::Held;
+use linda_shared_queue::Router;
+use std::alloc::Global;
+use std::sync::Wait;
+use std::sync::ledger::Ledger;
+
+/// The server, and the batch in hand. Once the answers of a group were lost the server is given up, and nothing that
+/// waits in its outboxes is given out any more.
+#[derive(Drop)]
+pub(crate) struct Locked<D: Disk, L: Ledger> {
+    pub(crate) held: Held<D, L>,
+    pub(crate) group: Group<L>,
+    pub(crate) is_given_up: bool,
+}
+
+impl<D: Disk, L: Ledger> Locked<D, L> {
+    /// Serves what is in hand.
+    pub(crate) fn serve(&mut self, alloc: Global)
+        ensures served { self.new.group.messages ≡ [] }
+        // Unless the server was given up, each answer has its copy;
+        ensures kept { self.new.is_given_up ≡ false → All IsTrue self.new.group.deliveries }
+        // and once it was it is for good.
+        ensures stays { self.old.is_given_up ≡ true → self.new.is_given_up ≡ true }
+        ensures down { self.old.is_given_up ≡ false → self.new.is_given_up ≡ true
+            → self.new.held.server.down ≡ true }
+    {
+        if !self.group.serve(alloc, &mut self.held) {
+            self.is_given_up = true;
+        }
+    }
+
+    /// Takes what is posted out of the server's outboxes.
+    pub(crate) fn take_posted<R: Wait>(&mut self, rt: &R, alloc: Global, router: &mut Router<L>)
+        // Nothing is left there, unless the server was given up: then nothing goes out.
+        ensures all { self.old.is_given_up ≡ false
+            → (c : ℕ) → handed_out (waits_for self.new.held.boxes c) ≡ [] }
+        ensures none { self.old.is_given_up ≡ true → router.new ≡ router.old }
+        ensures deliveries { router.new.deliveries ≡ router.old.deliveries }
+        ensures same { self.new.is_given_up ≡ self.old.is_given_up }
+    {
+        if self.is_given_up {
+            return;
+        }
+        for _ in rt.forever() {
+            let Some(sent) = self.held.drain_next(alloc) else {
+                return;
+            };
+            router.take_replies(rt, sent);
+        }
+    }
+}

@@ -1,0 +1,13 @@
+-- What contracts see of an account: what a session was told.
+use Rattle.std.specs.Prelude.{ℕ, List}
+use Rattle.linda_shared_accounts.specs.declared.receipt.Receipt.{Receipt}
+
+-- Its client, of how many deeds it was told, how many messages are on their way, and the last receipts.
+pub record Account : Type 0 where
+  pub client : ℕ
+  pub deeds : ℕ
+  pub asked : ℕ
+  pub ring : List Receipt
+
+abbrev pub account_of : ℕ → ℕ → ℕ → List Receipt → Account
+account_of client deeds asked ring = record { client = client; deeds = deeds; asked = asked; ring = ring }

@@ -1,0 +1,12 @@
+pub mod Receipts
+pub mod Effect
+pub mod Ring
+pub mod Account
+pub mod Tokens
+pub mod Accounts
+pub mod Agreement
+pub mod Compare
+pub mod Recall
+pub mod Telling
+pub mod Codes
+pub mod AccountsCodes

@@ -1,0 +1,11 @@
+-- What contracts see of the tokens that stand under a lock.
+use Rattle.std.specs.Prelude.{ℕ}
+
+-- The total of all amounts, what the accounts that are back were told, and how many accounts are out.
+pub record Tokens : Type 0 where
+  pub total : ℕ
+  pub back : ℕ
+  pub out : ℕ
+
+abbrev pub tokens_of : ℕ → ℕ → ℕ → Tokens
+tokens_of total back out = record { total = total; back = back; out = out }

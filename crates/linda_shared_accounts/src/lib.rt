@@ -1,0 +1,42 @@
+//! What each session was told, beside what was stored.
+//!
+//! A session carries an `Account`: of how many deeds it was told, its last receipts, and its parts of a ledger. Each
+//! message goes to the server with one part (`Asked`) and comes back with what was told (`Answered`), which the
+//! `Accounts` under the server's lock has written into the ledger. So once all accounts are back, what was told in all
+//! is what they were told; and `Accounts::compare` says whether what they were told is what was stored.
+//!
+//! A call that may take memory has a fault for that; no other call takes any.
+#![tactic(auto)]
+
+mod account;
+mod accounts;
+mod asking;
+mod effect;
+mod fault;
+mod job;
+mod laws;
+mod limits;
+mod place;
+mod places;
+mod receipt;
+mod ring;
+mod send;
+mod telling;
+mod tokens;
+
+pub use account::Account;
+pub use accounts::Accounts;
+pub use asking::is_deed_of;
+pub use effect::Effect;
+pub use fault::SharedFault;
+pub use job::{Answered, Asked};
+pub use laws::{
+    cut_rings_are_rings, each_message_is_told_once, receipts_tell_what_was_done,
+    receipts_weigh_one_each, true_receipts_go_on,
+};
+pub use limits::{ACCOUNT_PARTS, MOST_ASKED, PARTS, RING_SIZE};
+pub use place::Place;
+pub use receipt::Receipt;
+pub use ring::Ring;
+pub use send::{account_crosses, accounts_cross, jobs_cross};
+pub use telling::receipts_of;

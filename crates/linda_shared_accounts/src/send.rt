@@ -1,0 +1,27 @@
+//! What sessions carry, and what stands under the lock, may cross threads.
+
+use crate::account::Account;
+use crate::accounts::Accounts;
+use crate::job::{Answered, Asked};
+use std::sync::ledger::Ledger;
+
+fn wants<T: Send>(_x: &T) {}
+
+/// An account may cross threads.
+pub fn account_crosses<L: Ledger + Send + Sync>(account: &Account<L>) {
+    wants(account);
+}
+
+/// A accounts may cross threads.
+pub fn accounts_cross<L: Ledger + Send + Sync>(accounts: &Accounts<L>) {
+    wants(accounts);
+}
+
+/// A message on its way there, and its answer on its way back, may cross threads.
+pub fn jobs_cross<A: Send + Drop, L: Ledger + Send + Sync>(
+    asked: &Asked<A, L>,
+    answered: &Answered<A, L>,
+) {
+    wants(asked);
+    wants(answered);
+}

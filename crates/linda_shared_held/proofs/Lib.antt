@@ -1,0 +1,10 @@
+pub mod OrderLaws
+pub mod FaultLaws
+pub mod ToldLaws
+pub mod BaseLaws
+pub mod CoveredLaws
+pub mod LostLaws
+pub mod AloneLaws
+pub mod GreetLaws
+pub mod AccountsLaws
+pub mod ParkedLaws

@@ -1,0 +1,23 @@
+-- Seats that come back for their clients' next sessions.
+use Rattle.std.proofs.Common.{◌≡◌, sym, ap, subst, ◌∙◌, false}
+use Rattle.linda_shared_accounts.specs.Account.{Account, account_of}
+use Rattle.linda_shared_accounts.specs.Ring.{IsCut}
+use Rattle.linda_shared_accounts.specs.Accounts.{Accounts, accounts_of, with_place, place_for, ComesBack}
+use Rattle.linda_shared_held.specs.Parked.{IsParked}
+
+-- What is left of the account comes back where the account does.
+comes_too : (old : Accounts) (a left : Account) → left ≡ account_of a.client a.deeds a.asked left.ring → ComesBack old.places a → ComesBack old.places left
+comes_too old a left same comes = subst (ComesBack old.places) (sym same) (record { out = comes.out; all_here = comes.all_here })
+
+pub parks : (old new : Accounts) (a left : Account) → left ≡ account_of a.client a.deeds a.asked left.ring → IsCut a.ring left.ring
+    → (ComesBack old.places left → new ≡ accounts_of old.total (with_place old.places left.client (place_for left false)))
+    → ComesBack old.places a → IsParked old a new
+parks old new a left same cut parked comes = record {
+  ring = left.ring;
+  cut = cut;
+  is = parked (comes_too old a left same comes) ∙ ap (λ (b : Account). accounts_of old.total (with_place old.places b.client (place_for b false))) same;
+}
+
+pub loses : (old new : Accounts) (a left : Account) → left ≡ account_of a.client a.deeds a.asked left.ring → ((ComesBack old.places left → ⊥) → new ≡ old) → (ComesBack old.places a → ⊥) → new ≡ old
+loses old new a left same lost out =
+    lost (λ there. let back : ComesBack old.places (account_of a.client a.deeds a.asked left.ring) = subst (ComesBack old.places) same there in out (record { out = back.out; all_here = back.all_here }))

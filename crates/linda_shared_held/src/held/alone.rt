@@ -1,0 +1,222 @@
+//! Messages one by one, where they do not go in one step: what finds no room is refused, and so is what the count of
+//! deeds has no room for.
+
+ghost use Rattle.std.specs.Prelude.{◌≡◌, ◌+◌, ◌<◌, ◌^◌, ◌++◌, ◌∷◌, [], false, true, ℕ, length, vec_len};
+ghost use Rattle.std.specs.Prelude.{◌⊎◌, IfOk, IfErr, OnOk, OnErr, IsErrOf};
+ghost use Rattle.linda_wire.specs.Refusal.{refused};
+ghost use Rattle.linda_store_state.specs.State as states;
+ghost use Rattle.linda_store_step.specs.Answer.{last_number};
+ghost use Rattle.linda_store_step.specs.Reported as steps;
+ghost use Rattle.linda_store_step.specs.Reported.{number_of_message};
+ghost use Rattle.linda_shared_outbox.specs.Waiting.{waits_for};
+ghost use Rattle.linda_shared_outbox.specs.Replies.{replies_to, with_more};
+ghost use Rattle.linda_shared_held.specs.Order.{known, IsInOrder};
+ghost use Rattle.linda_shared_accounts.specs.Telling.{receipts_in};
+ghost use Rattle.linda_shared_held.specs.Posted.{GoesAlone, WentAlone, WentSome};
+ghost use Rattle.linda_shared_held.specs.Covered.{BoxesCovered};
+
+use super::serve::serve;
+use linda_bag::IndexBag;
+use linda_disk::Disk;
+use linda_server::Durable;
+use linda_shared_accounts::{Receipt, SharedFault};
+use linda_shared_outbox::Outboxes;
+use linda_store_state::State;
+use linda_wire::{Message, Refusal, Reply};
+use std::alloc::{AllocError, Global};
+use std::slice;
+
+/// Takes the messages one by one, in order.
+///
+/// # Errors
+///
+/// `Memory`: nothing changed. `Down`: the server is down, and nobody is told anything; what those before it sent stays.
+pub(super) fn serve_each<D: Disk>(
+    server: &mut Durable<D>,
+    receipts: &mut Vec<Receipt>,
+    boxes: &mut Outboxes,
+    alloc: Global,
+    count: u64,
+    messages: &[(u32, Message)],
+) -> Result<Vec<Option<Receipt>>, SharedFault>
+    ensures done { IfOk result (λ told. WentAlone server.old count (waits_for boxes.old)
+        messages.now told.items (waits_for boxes.new) server.new) }
+    ensures receipts { IfOk result (λ told. receipts.new.items ≡ receipts.old.items ++ receipts_in told.items) }
+    ensures one_each { IfOk result (λ told. vec_len told ≡ length messages.now) }
+    ensures countable { IfOk result (λ told. count + length (receipts_in told.items) < 2 ^ 64) }
+    ensures err { OnErr result (receipts.new.items ≡ receipts.old.items) }
+    ensures down { IsErrOf result SharedFault.Down → server.new.down ≡ true }
+    ensures memory { IsErrOf result SharedFault.Memory → (server.new ≡ server.old) × (boxes.new ≡ boxes.old) }
+    ensures fault { IfErr result (λ fault. (fault ≡ SharedFault.Down) ⊎ (fault ≡ SharedFault.Memory)) }
+    ensures still { OnOk result (server.new.down ≡ server.old.down) }
+    ensures some { OnErr result (WentSome server.old count messages.now
+        (waits_for boxes.old) (waits_for boxes.new)) }
+    ensures ok_order { (opening base : states.State) (count : ℕ)
+        → IsInOrder opening base receipts.old.items count server.old.down
+        (known server.old.before.value server.old.store server.old.down)
+        → IfOk result (λ told. IsInOrder opening base receipts.new.items
+        (count + length (receipts_in told.items)) server.new.down
+        (known server.new.before.value server.new.store server.new.down)) }
+    ensures err_order { (opening base : states.State) (count : ℕ)
+        → IsInOrder opening base receipts.old.items count server.old.down
+        (known server.old.before.value server.old.store server.old.down)
+        → OnErr result (IsInOrder opening base receipts.new.items count server.new.down
+        (known server.new.before.value server.new.store server.new.down)) }
+    ensures covered { (opening base : states.State) (count : ℕ)
+        → IsInOrder opening base receipts.old.items count server.old.down
+        (known server.old.before.value server.old.store server.old.down)
+        → BoxesCovered (known server.old.before.value server.old.store server.old.down) (waits_for boxes.old)
+        → BoxesCovered (known server.new.before.value server.new.store server.new.down) (waits_for boxes.new) }
+{
+    let Ok(mut told) = Vec::with_capacity(alloc, messages.len()) else {
+        return Err(SharedFault::Memory);
+    };
+    let before = receipts.len();
+    let mut made = count;
+    for message in messages {
+        match take_one(server, receipts, boxes, alloc, made, message) {
+            Ok(receipt) => {
+                made += weigh(&receipt);
+                told.push_reserved(receipt);
+            }
+            Err(_) => {
+                receipts.truncate(before);
+                return Err(SharedFault::Down);
+            }
+        }
+    }
+    Ok(told)
+}
+
+// Takes one message by itself.
+fn take_one<D: Disk>(
+    server: &mut Durable<D>,
+    receipts: &mut Vec<Receipt>,
+    boxes: &mut Outboxes,
+    alloc: Global,
+    count: u64,
+    message: &(u32, Message),
+) -> Result<Option<Receipt>, SharedFault>
+    ensures done { IfOk result (λ one. GoesAlone server.old count message.now
+        (waits_for boxes.old) one (waits_for boxes.new) server.new) }
+    ensures receipts { IfOk result (λ one. receipts.new.items ≡ receipts.old.items ++ receipts_in (one ∷ [])) }
+    ensures countable { IfOk result (λ one. count + length (receipts_in (one ∷ [])) < 2 ^ 64) }
+    ensures still { OnOk result (server.new.down ≡ server.old.down) }
+    ensures err { OnErr result ((receipts.new.items ≡ receipts.old.items) × (server.new.down ≡ true)
+        × ((c : ℕ) → waits_for boxes.new c ≡ waits_for boxes.old c)) }
+    ensures ok_order { (opening base : states.State) (count : ℕ)
+        → IsInOrder opening base receipts.old.items count server.old.down
+        (known server.old.before.value server.old.store server.old.down)
+        → IfOk result (λ one. IsInOrder opening base receipts.new.items
+        (count + length (receipts_in (one ∷ []))) server.new.down
+        (known server.new.before.value server.new.store server.new.down)) }
+    ensures err_order { (opening base : states.State) (count : ℕ)
+        → IsInOrder opening base receipts.old.items count server.old.down
+        (known server.old.before.value server.old.store server.old.down)
+        → OnErr result (IsInOrder opening base receipts.new.items count server.new.down
+        (known server.new.before.value server.new.store server.new.down)) }
+    ensures covered { (opening base : states.State) (count : ℕ)
+        → IsInOrder opening base receipts.old.items count server.old.down
+        (known server.old.before.value server.old.store server.old.down)
+        → BoxesCovered (known server.old.before.value server.old.store server.old.down) (waits_for boxes.old)
+        → BoxesCovered (known server.new.before.value server.new.store server.new.down) (waits_for boxes.new) }
+{
+    if count == u64::MAX && comes_next(server.state(), message.0, &message.1) {
+        if server.is_down() {
+            return Err(SharedFault::Down);
+        }
+        turn_away(server, boxes, alloc, message.0, Refusal::Spent)?;
+        return Ok(None);
+    }
+    match serve(server, receipts, boxes, alloc, slice::from_ref(message)) {
+        Ok(told) => Ok(first_of(told)),
+        Err(SharedFault::Full) => {
+            turn_away(server, boxes, alloc, message.0, Refusal::Full)?;
+            Ok(None)
+        }
+        Err(_) => {
+            server.give_up();
+            Err(SharedFault::Down)
+        }
+    }
+}
+
+// One where there is a receipt, else 0.
+fn weigh(receipt: &Option<Receipt>) -> u64
+    ensures { result ≡ length (receipts_in (receipt.now ∷ [])) }
+{
+    match receipt {
+        Some(_) => 1,
+        None => 0,
+    }
+}
+
+// The first of one.
+fn first_of(told: Vec<Option<Receipt>>) -> Option<Receipt>
+    requires { vec_len told ≡ 1 }
+    ensures { told.items ≡ result ∷ [] }
+{
+    let mut told = told;
+    let Some(one) = told.pop() else {
+        unreachable!()
+    };
+    one
+}
+
+// Whether the message bears the number after its client's last.
+fn comes_next(state: &State<IndexBag>, client: u32, message: &Message) -> bool
+    ensures { result ≡ steps.comes_next (number_of_message message.now) (last_number state.now client) }
+{
+    match message {
+        Message::Out { n, .. } => state.book.last(client).checked_add(1) == Some(*n),
+        Message::Accept { n, .. } => state.book.last(client).checked_add(1) == Some(*n),
+        Message::Leave { n } => state.book.last(client).checked_add(1) == Some(*n),
+        _ => false,
+    }
+}
+
+// Tells the client that its message is refused. Where there is no memory for that, the server is given up.
+fn turn_away<D: Disk>(
+    server: &mut Durable<D>,
+    boxes: &mut Outboxes,
+    alloc: Global,
+    client: u32,
+    refusal: Refusal,
+) -> Result<(), SharedFault>
+    ensures posted { OnOk result ((c : ℕ) → waits_for boxes.new c
+        ≡ with_more (replies_to c ((client, refused refusal) ∷ [])) (waits_for boxes.old c)) }
+    ensures same { OnOk result (server.new ≡ server.old) }
+    ensures err { OnErr result ((c : ℕ) → waits_for boxes.new c ≡ waits_for boxes.old c) }
+    ensures down { OnErr result (server.new.down ≡ true) }
+    ensures known { (known server.new.before.value server.new.store server.new.down
+        ≡ known server.old.before.value server.old.store server.old.down)
+        × (server.new.down ≡ false → server.old.down ≡ false) }
+    ensures covered { (st : states.State) → BoxesCovered st (waits_for boxes.old)
+        → BoxesCovered st (waits_for boxes.new) }
+{
+    match post_one(boxes, alloc, client, refusal.reply()) {
+        Ok(()) => Ok(()),
+        Err(_) => {
+            server.give_up();
+            Err(SharedFault::Down)
+        }
+    }
+}
+
+// Posts one reply.
+fn post_one(
+    boxes: &mut Outboxes,
+    alloc: Global,
+    client: u32,
+    reply: Reply,
+) -> Result<(), AllocError>
+    ensures posted { OnOk result ((c : ℕ) → waits_for boxes.new c
+        ≡ with_more (replies_to c ((client, reply) ∷ [])) (waits_for boxes.old c)) }
+    ensures err { OnErr result ((c : ℕ) → waits_for boxes.new c ≡ waits_for boxes.old c) }
+{
+    let mut sends = Vec::with_capacity(alloc, 1)?;
+    sends.push_reserved((client, reply));
+    boxes.make_places(&sends)?;
+    boxes.post_all(sends);
+    Ok(())
+}

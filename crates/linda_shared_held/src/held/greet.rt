@@ -1,0 +1,303 @@
+//! Greeting: who may have a seat.
+
+ghost use Rattle.std.specs.Prelude.{◌≡◌, ◌≢◌, ◌⊎◌, ◌∷◌, ◌+◌, ◌*◌, ◌<◌, [], ℕ, true, false, None, vec_len};
+ghost use Rattle.std.specs.Prelude.{IfOk, IfErr, OnOk, OnErr, IsErrOf, IfSome, IfNone};
+ghost use Rattle.std.specs.FinMap as map;
+ghost use Rattle.linda_wire.specs.declared.reply.Reply as wire;
+ghost use Rattle.linda_store_state.specs.State as states;
+ghost use Rattle.linda_store_step.specs.Answer.{greeting};
+ghost use Rattle.linda_shared_outbox.specs.Waiting.{waits_for};
+ghost use Rattle.linda_shared_outbox.specs.Replies.{opened};
+ghost use Rattle.linda_shared_accounts.specs.declared.limits.TheConstants.{ACCOUNT_PARTS, PARTS};
+ghost use Rattle.linda_shared_accounts.specs.declared.place.Place.TheVariants as places;
+ghost use Rattle.linda_shared_accounts.specs.Accounts.{is_away, account_at, seats_out, accounts_of};
+ghost use Rattle.linda_shared_held.specs.Order.{known};
+ghost use Rattle.linda_shared_held.specs.Greeting as spec;
+ghost use Rattle.linda_shared_held.specs.Greeting.{IsGreeted, IsAdmitted, IsGreetingReply, OnNoSeat};
+ghost use Rattle.linda_shared_held.specs.Covered.{BoxesCovered};
+
+use super::Held;
+use linda_disk::Disk;
+use linda_server::{Durable, ServeFault};
+use linda_shared_accounts::{Account, Accounts, SharedFault};
+use linda_shared_outbox::Outboxes;
+use linda_wire::{Message, Refusal, Reply, VERSION};
+use std::alloc::Global;
+use std::sync::ledger::Ledger;
+
+impl<D: Disk, L: Ledger> Held<D, L> {
+    /// Whether the client can have no seat now: its seat is out, or is parked for good.
+    pub fn is_out(&self, client: u32) -> bool
+        ensures { result ≡ is_away (map.get self.now.accounts.places client) }
+    {
+        self.accounts.is_out(client)
+    }
+
+    /// Gives the client of a Hello its seat, with the number of its last request that is kept; or refuses it with
+    /// a code and a detail. Nothing is posted. The server is asked first: a Hello changes nothing there, so where
+    /// there is no memory for the seat nothing has changed.
+    ///
+    /// # Errors
+    ///
+    /// `Down` before all, and exactly where the server is down: one that was down is as before. `Memory`: nothing
+    /// changed.
+    pub fn greet(
+        &mut self,
+        alloc: Global,
+        message: &Message,
+    ) -> Result<Result<(Account<L>, u64), (u8, u64)>, SharedFault>
+        ensures greeted { IfOk result (IsGreeted self.old.server.store.state self.old.accounts.places message.now) }
+        ensures server { OnOk result ((self.new.server.store.state ≡ self.old.server.store.state)
+            × (self.new.server.store.soft ≡ self.old.server.store.soft)
+            × (self.new.server.disks ≡ self.old.server.disks)) }
+        // Whoever is welcome has its seat, which is out, and an outbox;
+        ensures out { IfOk result (λ answer. IfOk answer (λ got. self.new.accounts
+            ≡ accounts_of self.old.accounts.total (map.insert self.old.accounts.places got.0.client places.Out))) }
+        ensures opened { IfOk result (λ answer. IfOk answer (λ got. waits_for self.new.boxes got.0.client
+            ≡ opened (waits_for self.old.boxes got.0.client))) }
+        ensures others { IfOk result (λ answer. IfOk answer (λ got. (c : ℕ) → c ≢ got.0.client
+            → waits_for self.new.boxes c ≡ waits_for self.old.boxes c)) }
+        // It is down exactly where the server is, and that before all else.
+        ensures up { OnOk result ((self.old.server.down ≡ false) × (self.new.server.down ≡ false)) }
+        ensures down { IsErrOf result SharedFault.Down → self.new.server.down ≡ true }
+        ensures first { self.old.server.down ≡ true
+            → IsErrOf result SharedFault.Down × (self.new.server ≡ self.old.server) }
+        ensures fault { IfErr result (λ fault. (fault ≡ SharedFault.Down) ⊎ (fault ≡ SharedFault.Memory)) }
+        // Where it gives no seat none is out but those of before, and what waits is as it was;
+        ensures none { OnNoSeat result ((self.new.accounts ≡ self.old.accounts)
+            × ((c : ℕ) → waits_for self.new.boxes c ≡ waits_for self.old.boxes c)) }
+        // where memory ran out the server did not change, so a second greeting is answered as this one was to be.
+        ensures memory { IsErrOf result SharedFault.Memory → (self.new.server.down ≡ false)
+            × (self.new.server.store.state ≡ self.old.server.store.state)
+            × (self.new.server.store.soft ≡ self.old.server.store.soft)
+            × (self.new.server.disks ≡ self.old.server.disks) }
+        ensures same { (self.new.opening.value ≡ self.old.opening.value) × (self.new.base.value ≡ self.old.base.value)
+            × (self.new.receipts.items ≡ self.old.receipts.items) × (self.new.count ≡ self.old.count)
+            × (self.new.pace ≡ self.old.pace) × (self.new.recall ≡ self.old.recall)
+            × (self.new.server.limit ≡ self.old.server.limit) }
+    {
+        if self.server.is_down() {
+            return Err(SharedFault::Down);
+        }
+        let Message::Hello {
+            version,
+            client,
+            fresh,
+        } = message
+        else {
+            return Ok(Err(told_why(Refusal::NoHello)));
+        };
+        if *version != VERSION {
+            return Ok(Err(told_why(Refusal::Version)));
+        }
+        if self.accounts.is_out(*client) {
+            return Ok(Err(told_why(Refusal::Busy)));
+        }
+        admit(
+            &mut self.server,
+            &mut self.boxes,
+            &mut self.accounts,
+            alloc,
+            *client,
+            *fresh,
+        )
+    }
+}
+
+// The code and the detail of a refusal.
+fn told_why(refusal: Refusal) -> (u8, u64)
+    ensures { result ≡ spec.told_why refusal }
+{
+    (refusal.code(), refusal.detail())
+}
+
+// Greets a client whose seat is not out.
+fn admit<D: Disk, L: Ledger>(
+    server: &mut Durable<D>,
+    boxes: &mut Outboxes,
+    accounts: &mut Accounts<L>,
+    alloc: Global,
+    client: u32,
+    fresh: bool,
+) -> Result<Result<(Account<L>, u64), (u8, u64)>, SharedFault>
+    requires { is_away (map.get accounts.old.places client) ≡ false }
+    ensures admitted { IfOk result (IsAdmitted server.old.store.state accounts.old.places client fresh) }
+    ensures out { IfOk result (λ answer. IfOk answer (λ got. accounts.new
+        ≡ accounts_of accounts.old.total (map.insert accounts.old.places got.0.client places.Out))) }
+    ensures opened { IfOk result (λ answer. IfOk answer (λ got. waits_for boxes.new got.0.client
+        ≡ opened (waits_for boxes.old got.0.client))) }
+    ensures others { IfOk result (λ answer. IfOk answer (λ got. (c : ℕ) → c ≢ got.0.client
+        → waits_for boxes.new c ≡ waits_for boxes.old c)) }
+    ensures up { OnOk result (server.new.down ≡ false) }
+    ensures down { IsErrOf result SharedFault.Down → server.new.down ≡ true }
+    ensures fault { IfErr result (λ fault. (fault ≡ SharedFault.Down) ⊎ (fault ≡ SharedFault.Memory)) }
+    ensures total { accounts.new.total ≡ accounts.old.total }
+    ensures server { OnOk result ((server.new.store.state ≡ server.old.store.state)
+        × (server.new.store.soft ≡ server.old.store.soft) × (server.new.disks ≡ server.old.disks)) }
+    ensures limit { server.new.limit ≡ server.old.limit }
+    ensures none { OnNoSeat result ((accounts.new ≡ accounts.old)
+        × ((c : ℕ) → waits_for boxes.new c ≡ waits_for boxes.old c)) }
+    ensures memory { IsErrOf result SharedFault.Memory → (server.new.down ≡ false)
+        × (server.new.store.state ≡ server.old.store.state) × (server.new.store.soft ≡ server.old.store.soft)
+        × (server.new.disks ≡ server.old.disks) }
+    ensures known { (known server.new.before.value server.new.store server.new.down
+        ≡ known server.old.before.value server.old.store server.old.down)
+        × (server.new.down ≡ false → server.old.down ≡ false) }
+    ensures covered { (st : states.State) → BoxesCovered st (waits_for boxes.old)
+        → BoxesCovered st (waits_for boxes.new) }
+{
+    match hello(server, alloc, client, fresh)? {
+        Err(why) => Ok(Err(why)),
+        Ok(last) => match seat(boxes, accounts, alloc, client)? {
+            Some(account) => Ok(Ok((account, last))),
+            None => Ok(Err(told_why(Refusal::TooManyClients))),
+        },
+    }
+}
+
+// The seat of a client goes out, and it has an outbox. Where there is no seat for it all is as before.
+fn seat<L: Ledger>(
+    boxes: &mut Outboxes,
+    accounts: &mut Accounts<L>,
+    alloc: Global,
+    client: u32,
+) -> Result<Option<Account<L>>, SharedFault>
+    requires { is_away (map.get accounts.old.places client) ≡ false }
+    ensures account { IfOk result (λ found. IfSome found (λ a.
+        a ≡ account_at client (map.get accounts.old.places client))) }
+    ensures out { IfOk result (λ found. IfSome found (λ a. accounts.new
+        ≡ accounts_of accounts.old.total (map.insert accounts.old.places a.client places.Out))) }
+    ensures opened { IfOk result (λ found. IfSome found (λ a. waits_for boxes.new a.client
+        ≡ opened (waits_for boxes.old a.client))) }
+    ensures others { IfOk result (λ found. IfSome found (λ a. (c : ℕ) → c ≢ a.client
+        → waits_for boxes.new c ≡ waits_for boxes.old c)) }
+    ensures only_memory { IfErr result (λ fault. fault ≡ SharedFault.Memory) }
+    ensures none { IfOk result (λ found. IfNone found (PARTS < ACCOUNT_PARTS * (seats_out accounts.old.places + 1))) }
+    ensures no_seat { IfOk result (λ found. IfNone found ((accounts.new ≡ accounts.old)
+        × ((c : ℕ) → waits_for boxes.new c ≡ waits_for boxes.old c))) }
+    ensures err { OnErr result ((accounts.new ≡ accounts.old) × ((c : ℕ) → waits_for boxes.new c ≡ waits_for boxes.old c)) }
+    ensures total { accounts.new.total ≡ accounts.old.total }
+    ensures covered { (st : states.State) → BoxesCovered st (waits_for boxes.old)
+        → BoxesCovered st (waits_for boxes.new) }
+{
+    let had_one = boxes.has(client);
+    if !open(boxes, alloc, client) {
+        return Err(SharedFault::Memory);
+    }
+    match accounts.go_out(alloc, client) {
+        Ok(Some(account)) => Ok(Some(account)),
+        Ok(None) => {
+            take_back(boxes, client, had_one);
+            Ok(None)
+        }
+        Err(_) => {
+            take_back(boxes, client, had_one);
+            Err(SharedFault::Memory)
+        }
+    }
+}
+
+// Whether the client has an outbox now. What waits stays covered.
+fn open(boxes: &mut Outboxes, alloc: Global, client: u32) -> bool
+    ensures at { result ≡ true → waits_for boxes.new client ≡ opened (waits_for boxes.old client) }
+    ensures others { (c : ℕ) → c ≢ client → waits_for boxes.new c ≡ waits_for boxes.old c }
+    ensures err { result ≡ false → (c : ℕ) → waits_for boxes.new c ≡ waits_for boxes.old c }
+    ensures covered { (st : states.State) → BoxesCovered st (waits_for boxes.old)
+        → BoxesCovered st (waits_for boxes.new) }
+{
+    match boxes.open(alloc, client) {
+        Ok(()) => true,
+        Err(_) => false,
+    }
+}
+
+// The client's outbox is shut again, where it had none before. What waits stays covered.
+fn take_back(boxes: &mut Outboxes, client: u32, had_one: bool)
+    ensures kept { had_one ≡ true → waits_for boxes.new client ≡ waits_for boxes.old client }
+    ensures shut { had_one ≡ false → waits_for boxes.new client ≡ None }
+    ensures others { (c : ℕ) → c ≢ client → waits_for boxes.new c ≡ waits_for boxes.old c }
+    ensures covered { (st : states.State) → BoxesCovered st (waits_for boxes.old)
+        → BoxesCovered st (waits_for boxes.new) }
+{
+    if !had_one {
+        boxes.shut(client);
+    }
+}
+
+// What the server answers to a Hello: the number of the last request that is kept, or a code and a detail.
+fn hello<D: Disk>(
+    server: &mut Durable<D>,
+    alloc: Global,
+    client: u32,
+    fresh: bool,
+) -> Result<Result<u64, (u8, u64)>, SharedFault>
+    ensures welcome { IfOk result (λ answer. IfOk answer (λ last.
+        greeting server.old.store.state client VERSION fresh ≡ Reply.Welcome last)) }
+    ensures refused { IfOk result (λ answer. IfErr answer (λ why.
+        greeting server.old.store.state client VERSION fresh ≡ Reply.Refused why.0 why.1)) }
+    ensures server { OnOk result ((server.new.down ≡ false)
+        × (server.new.store.state ≡ server.old.store.state) × (server.new.store.soft ≡ server.old.store.soft)
+        × (server.new.disks ≡ server.old.disks)) }
+    ensures limit { server.new.limit ≡ server.old.limit }
+    ensures only_down { IfErr result (λ fault. fault ≡ SharedFault.Down) }
+    ensures down { IsErrOf result SharedFault.Down → server.new.down ≡ true }
+    ensures known { (known server.new.before.value server.new.store server.new.down
+        ≡ known server.old.before.value server.old.store server.old.down)
+        × (server.new.down ≡ false → server.old.down ≡ false) }
+{
+    match ask(server, alloc, client, fresh)? {
+        Reply::Welcome { last } => Ok(Ok(last)),
+        Reply::Refused { code, detail } => Ok(Err((code, detail))),
+        Reply::Stored { .. } => unreachable!(),
+        Reply::Offer { .. } => unreachable!(),
+        Reply::Read { .. } => unreachable!(),
+        Reply::Taken { .. } => unreachable!(),
+        Reply::Gone { .. } => unreachable!(),
+        Reply::Left { .. } => unreachable!(),
+    }
+}
+
+// The reply to a Hello.
+fn ask<D: Disk>(
+    server: &mut Durable<D>,
+    alloc: Global,
+    client: u32,
+    fresh: bool,
+) -> Result<Reply, SharedFault>
+    ensures reply { IfOk result (λ r. r ≡ greeting server.old.store.state client VERSION fresh) }
+    ensures kind { IfOk result IsGreetingReply }
+    ensures server { OnOk result ((server.new.down ≡ false)
+        × (server.new.store.state ≡ server.old.store.state) × (server.new.store.soft ≡ server.old.store.soft)
+        × (server.new.disks ≡ server.old.disks)) }
+    ensures limit { server.new.limit ≡ server.old.limit }
+    ensures only_down { IfErr result (λ fault. fault ≡ SharedFault.Down) }
+    ensures down { IsErrOf result SharedFault.Down → server.new.down ≡ true }
+    ensures known { (known server.new.before.value server.new.store server.new.down
+        ≡ known server.old.before.value server.old.store server.old.down)
+        × (server.new.down ≡ false → server.old.down ≡ false) }
+{
+    let _ = server.is_down();
+    let message = Message::Hello {
+        version: VERSION,
+        client,
+        fresh,
+    };
+    match server.serve(alloc, client, &message) {
+        Ok(served) => Ok(first_of(served.into_sends())),
+        // A Hello does no deed.
+        Err(ServeFault::Full) => unreachable!(),
+        Err(_) => Err(SharedFault::Down),
+    }
+}
+
+// The first reply.
+fn first_of(sends: Vec<(u32, Reply)>) -> Reply
+    requires { vec_len sends ≡ 1 }
+    ensures { (c : ℕ) (r : wire.Reply) → sends.items ≡ (c, r) ∷ [] → result ≡ r }
+{
+    let mut sends = sends;
+    let Some(send) = sends.pop() else {
+        unreachable!()
+    };
+    send.1
+}

@@ -1,0 +1,12 @@
+use Rattle.std.proofs.Common.{◌≡◌, ◌<◌, ◌≤◌, [], vec_len, vec_capacity}
+use Rattle.std.specs.VecDeque.{deque_capacity}
+use Rattle.linda_store_step.specs.declared.size.TheConstants.{MAX_BATCH}
+use Rattle.linda_shared_queue.proofs.router.Router.deliver.Given as goal
+
+abbrev pub invariant-loop-delivery : goal.invariant-loop-delivery
+invariant-loop-delivery g l =
+    (vec_len l.self-inside.deliveries ≤ MAX_BATCH) × (MAX_BATCH ≤ vec_capacity l.self-inside.deliveries)
+    × (l.self-inside.replies.items ≡ []) × (0 < deque_capacity l.self-inside.replies)
+
+abbrev pub decreases-loop-delivery : goal.decreases-loop-delivery
+decreases-loop-delivery g l = vec_len l.self-inside.deliveries

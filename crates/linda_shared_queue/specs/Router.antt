@@ -1,0 +1,11 @@
+-- What contracts see of the router.
+use Rattle.std.specs.Prelude.{ℕ, List}
+use Rattle.linda_shared_outbox.specs.declared.sent.Sent.{Sent}
+
+-- How many deliveries are there, and the replies, each list with its client.
+pub record Router : Type 0 where
+  pub deliveries : ℕ
+  pub replies : List Sent
+
+abbrev pub router_of : ℕ → List Sent → Router
+router_of deliveries replies = record { deliveries = deliveries; replies = replies }

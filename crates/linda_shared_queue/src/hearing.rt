@@ -1,0 +1,88 @@
+//! What a session hears of a message.
+
+ghost use Rattle.std.specs.Prelude.{◌≡◌, ◌<◌, IfOk, IfErr, OnOk, IfSome};
+ghost use Rattle.linda_store_step.specs.Reported.{IsDeedOf};
+ghost use Rattle.linda_shared_accounts.specs.Account.{account_of};
+ghost use Rattle.linda_shared_accounts.specs.Ring.{IsNext, with_receipt};
+ghost use Rattle.linda_shared_accounts.specs.Receipts.{number_in};
+ghost use Rattle.linda_shared_queue.specs.Hearing as spec;
+ghost use Rattle.linda_shared_queue.specs.Hearing.{IsHeard};
+ghost use Rattle.linda_shared_queue.specs.Seat.{with_told, back, IsLeft, IsToldOf};
+
+use crate::answer::Answer;
+use linda_shared_accounts::{Account, Effect, Receipt, SharedFault, is_deed_of};
+use linda_wire::Message;
+use std::sync::ledger::Ledger;
+
+/// The account hears the answer to its message. A receipt joins its ring, and comes out as a copy.
+///
+/// # Errors
+///
+/// `Receipt`: the account was told of a deed that the message does not ask for, or of one that it was told before.
+/// `Down`: the copy was lost. Else what the server said, and nothing was done.
+pub fn hear<L: Ledger>(
+    account: &mut Account<L>,
+    message: &Message,
+    answer: Answer<L>,
+) -> Result<Option<Receipt>, SharedFault>
+    requires { 0 < account.old.asked }
+    ensures ok { IfOk result (λ r. account.new ≡ with_told (back account.old) r) }
+    ensures err { IfErr result (λ fault. IsLeft message.now (back account.old) fault account.new) }
+    ensures deed { IfOk result (IsToldOf account.old.client message.now) }
+    ensures next { IfOk result (λ o. IfSome o (IsNext account.old.client account.old.ring)) }
+    // Where no deed was made the answer says what comes of it.
+    ensures heard { IsHeard answer.answered.told answer.copy result }
+{
+    let (answered, copy) = answer.into_parts();
+    let (_, told) = account.hear(answered);
+    match told {
+        Effect::Deed(receipt) => {
+            note(account, message, receipt)?;
+            match copy {
+                Some(Effect::Deed(copy)) => Ok(Some(copy)),
+                Some(Effect::NoDeed) => unreachable!(),
+                Some(Effect::Failed(_)) => unreachable!(),
+                None => Err(SharedFault::Down),
+            }
+        }
+        Effect::NoDeed => match copy {
+            Some(_) => Ok(None),
+            None => Err(SharedFault::Down),
+        },
+        Effect::Failed(fault) => Err(plain(fault)),
+    }
+}
+
+// Notes the receipt, where its deed is one that the message asks for.
+fn note<L: Ledger>(
+    account: &mut Account<L>,
+    message: &Message,
+    receipt: Receipt,
+) -> Result<(), SharedFault>
+    ensures ok { OnOk result (account.new ≡ account_of account.old.client account.old.deeds account.old.asked
+        (with_receipt account.old.ring receipt)) }
+    ensures err { IfErr result (λ fault. (account.new ≡ account.old)
+        × (fault ≡ SharedFault.Receipt account.old.client (number_in receipt))) }
+    ensures deed { OnOk result (IsDeedOf account.old.client message.now receipt.deed) }
+    ensures next { OnOk result (IsNext account.old.client account.old.ring receipt) }
+{
+    let client = account.client();
+    let number = receipt.number();
+    if !is_deed_of(client, message, &receipt.deed) {
+        return Err(SharedFault::Receipt { client, number });
+    }
+    if !account.note(receipt) {
+        return Err(SharedFault::Receipt { client, number });
+    }
+    Ok(())
+}
+
+// A fault of the whole batch: never that of one receipt.
+fn plain(fault: SharedFault) -> SharedFault
+    ensures { result ≡ spec.plain fault }
+{
+    match fault {
+        SharedFault::Receipt { .. } => SharedFault::Down,
+        other => other,
+    }
+}

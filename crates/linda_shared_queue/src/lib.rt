@@ -1,0 +1,37 @@
+//! What goes between sessions and the one that serves them.
+//!
+//! - A `Mailbox` is a session's own: its replies, and a place for the answer to each message that it has on its way.
+//! - `Outlet` is where its replies come out; whoever reads there never asks for the server.
+//! - The `Queue` has the messages that wait to be served, those of which no deed comes in a line of their own, and says
+//!   who is to serve the next group.
+//! - An `Answer` is what is told of a message, with a second copy of it. A `Delivery` is one on its way to a mailbox.
+//! - `hear` is what an account hears of its answer, and `Heard` what it hears of a batch.
+//! - The `Router` has the mailbox of each session, and gives out what a group came to, while the next one is served.
+//!
+//! Order of locks: the router's, the queue's, a mailbox's. Whoever has a mailbox's lock asks for no other.
+#![tactic(auto)]
+
+mod address;
+mod answer;
+mod delivery;
+mod heard;
+mod hearing;
+mod mail;
+mod mailbox;
+mod mailboxes;
+mod outlet;
+mod queue;
+mod router;
+mod send;
+
+pub use address::Address;
+pub use answer::Answer;
+pub use delivery::Delivery;
+pub use heard::Heard;
+pub use hearing::hear;
+pub use mail::Turn;
+pub use mailbox::Mailbox;
+pub use outlet::Outlet;
+pub use queue::{Queue, Waiting};
+pub use router::Router;
+pub use send::{mailbox_crosses, outlet_crosses, queue_crosses, router_crosses};

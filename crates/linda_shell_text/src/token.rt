@@ -1,0 +1,62 @@
+//! What stands between the nodes of an event: ends of words, labels, commas and brackets.
+
+ghost use Rattle.std.specs.Prelude.{◌≡◌};
+ghost use Rattle.linda_text.specs.Steps.{GivesAlways};
+ghost use Rattle.linda_text.specs.Reading.{after_blanks};
+ghost use Rattle.linda_shell_text.specs.Words.{word_end, label_at, open_at, mark_at};
+
+use crate::marks::{CLOSING_BRACKET, OPENING_BRACKET};
+use linda_text::{COMMA, TextFault, skip_blanks, skip_word, split_number};
+
+/// The bytes, where no letter or digit stands at their front.
+#[tactic(auto, unfolding(crate::specs::Words::word_end))]
+pub(crate) fn end_word(bytes: &[u8]) -> Result<&[u8], TextFault>
+    ensures { GivesAlways (λ rest. rest.now) result (word_end bytes.now) }
+{
+    match bytes {
+        [] => Ok(bytes),
+        [first, ..] => {
+            if first.is_ascii_alphanumeric() {
+                return Err(TextFault::SyntaxAt(bytes.len()));
+            }
+            Ok(bytes)
+        }
+    }
+}
+
+/// A number after blanks, after which no letter or digit stands, and the bytes after it.
+#[tactic(auto, unfolding(crate::specs::Words::label_at))]
+pub(crate) fn read_label(bytes: &[u8]) -> Result<(u64, &[u8]), TextFault>
+    ensures { GivesAlways (λ x. (x.0, x.1.now)) result (label_at bytes.now) }
+{
+    let (number, rest) = split_number(skip_blanks(bytes))?;
+    Ok((number, end_word(rest)?))
+}
+
+/// Whether members stand after the opening bracket after the blanks, and the bytes from the first
+/// one on; or those after the closing bracket.
+#[tactic(auto, unfolding(crate::specs::Words::open_at))]
+pub(crate) fn open_list(bytes: &[u8]) -> Result<(bool, &[u8]), TextFault>
+    ensures { GivesAlways (λ x. (x.0, x.1.now)) result (open_at bytes.now) }
+{
+    let rest = skip_blanks(skip_word(skip_blanks(bytes), &[OPENING_BRACKET])?);
+    match rest {
+        [] => Ok((true, rest)),
+        [CLOSING_BRACKET, behind @ ..] => Ok((false, behind)),
+        [_, ..] => Ok((true, rest)),
+    }
+}
+
+/// Whether a comma stands after the blanks, or the closing bracket; and the bytes after it.
+#[tactic(auto, unfolding(crate::specs::Words::mark_at))]
+pub(crate) fn read_mark(bytes: &[u8]) -> Result<(bool, &[u8]), TextFault>
+    ensures { GivesAlways (λ x. (x.0, x.1.now)) result (mark_at (after_blanks bytes.now)) }
+{
+    let rest = skip_blanks(bytes);
+    match rest {
+        [] => Err(TextFault::SyntaxAt(0)),
+        [COMMA, after @ ..] => Ok((true, after)),
+        [CLOSING_BRACKET, after @ ..] => Ok((false, after)),
+        [_, ..] => Err(TextFault::SyntaxAt(rest.len())),
+    }
+}

@@ -1,0 +1,48 @@
+//! Words and numbers at the front of a line, and the blanks behind them.
+
+ghost use Rattle.std.specs.Prelude.{◌≡◌};
+ghost use Rattle.linda_text.specs.Steps.{GivesAlways};
+ghost use Rattle.linda_shell_text.specs.Words.{behind_word_at, front_number_at, Finds};
+
+use crate::token::end_word;
+use linda_text::{TextFault, skip_blanks, skip_word, split_number};
+
+/// The number at the front of the text, after which no letter or digit stands, and what stands after it and after
+/// blanks; `None` where there is none, or it has more than 64 bits.
+pub fn number_in(text: &[u8]) -> Option<(u64, &[u8])>
+    ensures { Finds (λ x. (x.0, x.1.now)) result (front_number_at text.now) }
+{
+    match front_number(text) {
+        Ok(found) => Some(found),
+        Err(_) => None,
+    }
+}
+
+/// What stands after the word, after which no letter or digit stands, and after blanks; `None` where the text does not
+/// begin with it.
+pub fn behind_word<'a>(text: &'a [u8], word: &[u8]) -> Option<&'a [u8]>
+    ensures { Finds (λ rest. rest.now) result (behind_word_at word.now text.now) }
+{
+    match skip_spaced_word(text, word) {
+        Ok(rest) => Some(rest),
+        Err(_) => None,
+    }
+}
+
+// The number at the front, after which it ends, and what stands after blanks.
+#[tactic(auto, unfolding(crate::specs::Words::front_number_at))]
+fn front_number(text: &[u8]) -> Result<(u64, &[u8]), TextFault>
+    ensures { GivesAlways (λ x. (x.0, x.1.now)) result (front_number_at text.now) }
+{
+    let (number, rest) = split_number(text)?;
+    Ok((number, skip_blanks(end_word(rest)?)))
+}
+
+// What stands after the word, after which it ends, and after blanks.
+#[tactic(auto, unfolding(crate::specs::Words::behind_word_at))]
+fn skip_spaced_word<'a>(text: &'a [u8], word: &[u8]) -> Result<&'a [u8], TextFault>
+    ensures { GivesAlways (λ rest. rest.now) result (behind_word_at word.now text.now) }
+{
+    let rest = end_word(skip_word(text, word)?)?;
+    Ok(skip_blanks(rest))
+}

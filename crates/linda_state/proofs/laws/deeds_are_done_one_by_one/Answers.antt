@@ -1,5 +1,0 @@
-use Rattle.linda_state.proofs.ProperLaws.{none_done, more_done, never_done}
-use Rattle.linda_state.proofs.laws.deeds_are_done_one_by_one.Goals as goal
-
-pub returns : goal.returns
-returns c = record { none = none_done; more = more_done; refused = never_done }

@@ -1,5 +1,0 @@
-use Rattle.linda_state.proofs.OnceLaws.{taken_once}
-use Rattle.linda_state.proofs.laws.no_tuple_is_taken_twice.Goals as goal
-
-pub returns : goal.returns
-returns c = taken_once

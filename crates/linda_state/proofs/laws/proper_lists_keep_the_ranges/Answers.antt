@@ -1,5 +1,0 @@
-use Rattle.linda_state.proofs.ProperLaws.{proper_state}
-use Rattle.linda_state.proofs.laws.proper_lists_keep_the_ranges.Goals as goal
-
-pub returns : goal.returns
-returns c = proper_state

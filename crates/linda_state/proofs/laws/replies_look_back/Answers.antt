@@ -1,5 +1,0 @@
-use Rattle.linda_state.proofs.ReplyLaws.{reply_behind, kept_behind}
-use Rattle.linda_state.proofs.laws.replies_look_back.Goals as goal
-
-pub returns : goal.returns
-returns c = record { behind = reply_behind; kept = kept_behind }

@@ -1,5 +1,0 @@
-use Rattle.linda_step.proofs.GivenUpLaws.{over_when_cancelled}
-use Rattle.linda_step.proofs.laws.a_cancelled_request_is_over.Goals as goal
-
-pub returns : goal.returns
-returns c = over_when_cancelled

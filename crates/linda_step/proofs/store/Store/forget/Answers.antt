@@ -1,7 +1,0 @@
--- With nothing held and nobody waiting a store keeps its ranges.
-use Rattle.std.proofs.Common.{refl}
-use Rattle.linda_step.proofs.OrderLaws.{given_up_at}
-use Rattle.linda_step.proofs.store.Store.forget.Goals as goal
-
-pub invariant_of-self : goal.invariant_of-self
-invariant_of-self g c = (given_up_at _ c.self.inside.state c.self.inside.soft c.new.result refl c.self.invariant.0 c.new.ensures, c.new-2.ensures _ _ _)

@@ -1,0 +1,10 @@
+pub mod State
+pub mod Deed
+pub mod After
+pub mod Proper
+pub mod Once
+pub mod Codes
+pub mod DeedCode
+pub mod DeedFormat
+pub mod Sameness
+pub mod Numbers

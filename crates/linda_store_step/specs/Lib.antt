@@ -1,0 +1,17 @@
+pub mod Soft
+pub mod Looking
+pub mod Dispatch
+pub mod Asking
+pub mod Answer
+pub mod Codes
+pub mod Store
+pub mod History
+pub mod Course
+pub mod Promises
+pub mod Size
+pub mod Judge
+pub mod Deeds
+pub mod Replies
+pub mod Offers
+pub mod Reported
+pub mod Covered

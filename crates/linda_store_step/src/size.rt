@@ -1,0 +1,127 @@
+//! How many bytes the deeds of messages will spell in a form, and whether each has a spelling there, known without
+//! doing them.
+//!
+//! Whether a message does a deed hangs on numbers alone, and on whether its client left: the last number of its client,
+//! how many clients are kept, and the next id. So these are counted on from message to message.
+
+ghost use Rattle.std.specs.Prelude.{◌≡◌, ◌≤◌, ◌∷◌, [], length, IfSome, IfNone};
+ghost use Rattle.linda_store_state.specs.declared.limits.TheConstants.{MAX_DEED_BYTES};
+ghost use Rattle.linda_store_state.specs.State.{IsState};
+ghost use Rattle.linda_store_step.specs.Judge.{demand_of};
+ghost use Rattle.linda_store_step.specs.Size as spec;
+ghost use Rattle.linda_store_step.specs.Size.{bytes_from, numbers_of, AllSuit, Suits};
+
+use crate::judge::{self, Demand, Standing, Verdict};
+use linda_bag::Bag;
+use linda_store_state::{HEAD_BYTES, ID_BYTES, State, has_leaves, tuple_len};
+use linda_tuple::{Form, fits};
+use linda_wire::Message;
+
+/// How many messages one call takes at most: as many as there may be deeds of one record.
+pub const MAX_BATCH: usize = linda_store_state::MAX_DEEDS;
+
+/// How many bytes the deeds of the messages spell in the form, each of its client, one after another; None where one of
+/// them has no spelling there.
+pub(crate) fn bytes_of<B: Bag>(
+    form: Form,
+    state: &State<B>,
+    messages: &[(u32, Message)],
+) -> Option<usize>
+    requires ranges { IsState state.now }
+    requires few { length messages.now ≤ MAX_BATCH }
+    ensures bytes { IfSome result (λ bytes. bytes ≡ bytes_from form (numbers_of state.now) messages.now) }
+    ensures suit { IfSome result (λ bytes. AllSuit form (numbers_of state.now) messages.now) }
+    ensures none { IfNone result (AllSuit form (numbers_of state.now) messages.now → ⊥) }
+{
+    let mut lasts = [(0, (0, false)); MAX_BATCH];
+    let mut count = 0;
+    let mut clients = state.book.len();
+    let mut next = state.next;
+    let mut bytes = 0;
+    for (client, message) in messages {
+        let (last, left) = last_behind(&lasts[..count], *client, state.book.standing(*client));
+        let at = Standing {
+            last,
+            left,
+            clients,
+            next,
+        };
+        let Some(done) = done_of(message, at) else {
+            continue;
+        };
+        let size = deed_bytes(form, message)?;
+        lasts[count] = (*client, (done.n, done.leaves()));
+        count += 1;
+        clients += usize::from(last == 0);
+        next += u64::from(done.puts());
+        bytes += size;
+    }
+    Some(bytes)
+}
+
+/// How many bytes the deed of the client's message spells in the form, and 0 where it does none; None where it has no
+/// spelling there.
+pub(crate) fn bytes_of_one<B: Bag>(
+    form: Form,
+    state: &State<B>,
+    client: u32,
+    message: &Message,
+) -> Option<usize>
+    ensures bytes { IfSome result (λ bytes.
+        bytes ≡ bytes_from form (numbers_of state.now) ((client, message.now) ∷ [])) }
+    ensures suit { IfSome result (λ bytes. AllSuit form (numbers_of state.now) ((client, message.now) ∷ [])) }
+    ensures none { IfNone result (AllSuit form (numbers_of state.now) ((client, message.now) ∷ []) → ⊥) }
+{
+    match done_of(message, Standing::of(state, client)) {
+        Some(_) => deed_bytes(form, message),
+        None => Some(0),
+    }
+}
+
+// What is done of the message, where its client stands so.
+fn done_of(message: &Message, at: Standing) -> Option<Demand>
+    ensures { result ≡ spec.done_by (demand_of message.now) at }
+{
+    let demand = judge::demand_of(message)?;
+    match judge::judge(demand, at) {
+        Verdict::Done => Some(demand),
+        Verdict::Refused(_) | Verdict::Repeated => None,
+    }
+}
+
+// How many bytes the deed of the message spells in the form, where it does one; None where it has no spelling there.
+fn deed_bytes(form: Form, message: &Message) -> Option<usize>
+    ensures exact { IfSome result (λ bytes. bytes ≡ spec.deed_bytes form message.now) }
+    ensures short { IfSome result (λ bytes. bytes ≤ MAX_DEED_BYTES) }
+    ensures suits { IfSome result (λ bytes. Suits form message.now) }
+    ensures none { IfNone result (Suits form message.now → ⊥) }
+{
+    match message {
+        Message::Out { tuple, .. } => {
+            if !fits(form, tuple) {
+                return None;
+            }
+            Some(HEAD_BYTES + tuple_len(form, tuple))
+        }
+        Message::Leave { .. } => {
+            if !has_leaves(form) {
+                return None;
+            }
+            Some(HEAD_BYTES)
+        }
+        _ => Some(HEAD_BYTES + ID_BYTES),
+    }
+}
+
+// What is last of the client after these, each a client with its number and whether it left; or else this one.
+fn last_behind(lasts: &[(u32, (u64, bool))], client: u32, last: (u64, bool)) -> (u64, bool)
+    ensures { result ≡ spec.last_behind lasts.now client last }
+{
+    match lasts {
+        [] => last,
+        [(other, latest), rest @ ..] => {
+            let last = if *other == client { *latest } else { last };
+            last_behind(rest, client, last)
+        }
+    }
+}

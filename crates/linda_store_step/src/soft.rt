@@ -1,0 +1,224 @@
+//! What a server keeps in memory alone: which tuple is held for which request, and the requests that wait.
+//!
+//! After an error of a call here nothing is promised of the holds and waits: their owner starts with none.
+
+mod ask;
+
+ghost use Rattle.std.specs.Prelude.{◌≡◌, ◌++◌, ℕ, Bool, Some, false, map, IfOk, OnOk};
+ghost use Rattle.std.specs.FinMap as maps;
+ghost use Rattle.linda_bag.specs.Starts.{Bagged, AreRight};
+ghost use Rattle.linda_wire.specs.declared.reply.Reply.TheVariants as replies;
+ghost use Rattle.linda_store_step.specs.Soft.{AreApart, no_asks};
+ghost use Rattle.linda_store_step.specs.Dispatch.{Sends, dispatch, release, release_all, on_close};
+ghost use Rattle.linda_store_step.specs.Looking.{is_held};
+ghost use Rattle.linda_store_step.specs.Asking.{AnswersCancel};
+
+use linda_bag::{Bag, Starts};
+use linda_hold::{Awaiting, Holds, Request, Waits};
+use linda_tuple::Tuple;
+use linda_wire::Reply;
+use std::alloc::{AllocError, Global};
+use std::marker::Model;
+
+/// The tuples that are held, each for a request, and the requests that wait.
+#[derive(Drop)]
+pub(crate) struct Soft {
+    pub(crate) holds: Holds,
+    pub(crate) waits: Waits,
+}
+
+impl Model for Soft {
+    ghost use Rattle.linda_store_step.specs.Soft as seen;
+    ghost use Rattle.linda_store_step.specs.Codes.{soft_code};
+
+    ghost Value = { seen.Soft };
+
+    ghost coded = { soft_code };
+
+    ghost view = { λ s. record { holds = s.holds; waits = s.waits } };
+}
+
+impl Soft {
+    /// Nothing is held and nobody waits.
+    pub(crate) fn new(alloc: Global) -> Soft
+        ensures { result ≡ no_asks }
+    {
+        Soft {
+            holds: Holds::new(alloc),
+            waits: Waits::new(alloc),
+        }
+    }
+
+    /// The tuple is new or free: the reads that wait for it are answered and wait no more, then it is
+    /// offered to the input that has waited longest for it, and held for that.
+    ///
+    /// # Errors
+    ///
+    /// `AllocError` where memory runs out.
+    pub(crate) fn dispatch(
+        &mut self,
+        alloc: Global,
+        id: u64,
+        tuple: &Tuple,
+        sends: &mut Vec<(u32, Reply)>,
+    ) -> Result<(), AllocError>
+        requires { AreApart self.old }
+        ensures sends { OnOk result (sends.new.items ≡ sends.old.items ++ (dispatch id tuple.now self.old).sends) }
+        ensures soft { OnOk result (self.new ≡ (dispatch id tuple.now self.old).soft) }
+    {
+        let Awaiting { readers, longest } = self.waits.take_awaiting(alloc, tuple)?;
+        answer_reads(alloc, readers, id, tuple, sends)?;
+        if let Some(request) = longest {
+            let Request { client, ticket } = request;
+            let tuple = tuple.try_clone(alloc)?;
+            sends.push((client, Reply::Offer { ticket, id, tuple }))?;
+            self.holds.insert(id, request)?;
+            self.waits.remove(request);
+        }
+        Ok(())
+    }
+
+    /// The hold of the tuple is released: the tuple, if the bag has it, is held no longer, and is free.
+    ///
+    /// # Errors
+    ///
+    /// `AllocError` where memory runs out.
+    pub(crate) fn release<B: Bag>(
+        &mut self,
+        alloc: Global,
+        bag: &B,
+        starts: &mut Starts,
+        id: u64,
+        sends: &mut Vec<(u32, Reply)>,
+    ) -> Result<(), AllocError>
+        requires { AreApart self.old }
+        ensures sends { OnOk result (sends.new.items
+            ≡ sends.old.items ++ (release (B.contents bag.now) id self.old).sends) }
+        ensures soft { OnOk result (self.new ≡ (release (B.contents bag.now) id self.old).soft) }
+        ensures apart { OnOk result (AreApart self.new) }
+        ensures right { (next : ℕ) → AreRight (B.contents bag.now) (is_held self.old.holds) next starts.old
+            → OnOk result (AreRight (B.contents bag.now) (is_held self.new.holds) next starts.new) }
+    {
+        match bag.get(id) {
+            None => Ok(()),
+            Some(tuple) => {
+                self.holds.remove(id);
+                self.dispatch(alloc, id, tuple, sends)?;
+                self.note_free(starts, id, tuple);
+                Ok(())
+            }
+        }
+    }
+
+    // The tuple was held, and is free unless it is held again.
+    fn note_free(&self, starts: &mut Starts, id: u64, tuple: &Tuple)
+        ensures { (bag : Bagged) (before : ℕ → Bool) (next : ℕ) → maps.get bag id ≡ Some tuple.now
+            → ((k : ℕ) → (k ≡ id → ⊥) → is_held self.now.holds k ≡ false → before k ≡ false)
+            → AreRight bag before next starts.old → AreRight bag (is_held self.now.holds) next starts.new }
+    {
+        match self.holds.get(id) {
+            Some(_) => {}
+            None => starts.free(id, tuple),
+        }
+    }
+
+    // Releases these holds, one after the other.
+    fn release_all<B: Bag>(
+        &mut self,
+        alloc: Global,
+        bag: &B,
+        starts: &mut Starts,
+        ids: Vec<u64>,
+        sends: &mut Vec<(u32, Reply)>,
+    ) -> Result<(), AllocError>
+        requires { AreApart self.old }
+        ensures sends { OnOk result (sends.new.items
+            ≡ sends.old.items ++ (release_all (B.contents bag.now) ids.items self.old).sends) }
+        ensures soft { OnOk result (self.new ≡ (release_all (B.contents bag.now) ids.items self.old).soft) }
+        ensures right { (next : ℕ) → AreRight (B.contents bag.now) (is_held self.old.holds) next starts.old
+            → OnOk result (AreRight (B.contents bag.now) (is_held self.new.holds) next starts.new) }
+    {
+        for id in ids {
+            self.release(alloc, bag, starts, id, sends)?;
+        }
+        Ok(())
+    }
+
+    /// The request is given up: it waits no more, or what is held for it is released. One that neither
+    /// waits nor holds changes nothing. What is sent, each reply to a client, in order.
+    ///
+    /// # Errors
+    ///
+    /// `AllocError` where memory runs out.
+    pub(crate) fn cancel<B: Bag>(
+        &mut self,
+        alloc: Global,
+        bag: &B,
+        starts: &mut Starts,
+        request: Request,
+    ) -> Result<Vec<(u32, Reply)>, AllocError>
+        requires { AreApart self.old }
+        ensures sends { IfOk result (λ sends. AnswersCancel (B.contents bag.now) request self.old
+            (record { sends = sends.items; soft = self.new })) }
+        ensures right { (next : ℕ) → AreRight (B.contents bag.now) (is_held self.old.holds) next starts.old
+            → OnOk result (AreRight (B.contents bag.now) (is_held self.new.holds) next starts.new) }
+    {
+        let mut sends = Vec::new(alloc);
+        let held = self.holds.find(request);
+        if self.waits.contains(request) {
+            self.waits.remove(request);
+            return Ok(sends);
+        }
+        match held {
+            Some(id) => {
+                self.release(alloc, bag, starts, id, &mut sends)?;
+                Ok(sends)
+            }
+            None => Ok(sends),
+        }
+    }
+
+    /// All that the client asked is given up: first its waits, then its holds, which are released by
+    /// rising id. What is sent, each reply to a client, in order.
+    ///
+    /// # Errors
+    ///
+    /// `AllocError` where memory runs out.
+    pub(crate) fn close<B: Bag>(
+        &mut self,
+        alloc: Global,
+        bag: &B,
+        starts: &mut Starts,
+        client: u32,
+    ) -> Result<Vec<(u32, Reply)>, AllocError>
+        requires { AreApart self.old }
+        ensures sends { IfOk result (λ sends. let t : Sends = record { sends = sends.items; soft = self.new }
+            in t ≡ on_close (B.contents bag.now) client self.old) }
+        ensures right { (next : ℕ) → AreRight (B.contents bag.now) (is_held self.old.holds) next starts.old
+            → OnOk result (AreRight (B.contents bag.now) (is_held self.new.holds) next starts.new) }
+    {
+        let mut sends = Vec::new(alloc);
+        self.waits.remove_client(client);
+        let held = self.holds.of_client(alloc, client)?;
+        self.release_all(alloc, bag, starts, held, &mut sends)?;
+        Ok(sends)
+    }
+}
+
+// Answers each of the reads with the tuple, in this order.
+fn answer_reads(
+    alloc: Global,
+    readers: Vec<Request>,
+    id: u64,
+    tuple: &Tuple,
+    sends: &mut Vec<(u32, Reply)>,
+) -> Result<(), AllocError>
+    ensures { OnOk result (sends.new.items
+        ≡ sends.old.items ++ map (λ r. (r.client, replies.Read r.ticket id tuple.now)) readers.items) }
+{
+    for Request { client, ticket } in readers {
+        let tuple = tuple.try_clone(alloc)?;
+        sends.push((client, Reply::Read { ticket, id, tuple }))?;
+    }
+    Ok(())
+}

@@ -1,0 +1,132 @@
+//! What a server does for one message: the replies, and the deed where there is one.
+
+mod deed;
+mod reply;
+mod request;
+
+ghost use Rattle.std.specs.Prelude.{◌≡◌, ◌∷◌, [], None, IfOk, OnOk, OnErr};
+ghost use Rattle.linda_bag.specs.Starts.{AreRight};
+ghost use Rattle.linda_store_step.specs.Store.{IsOrderly};
+ghost use Rattle.linda_store_step.specs.Looking.{is_held};
+ghost use Rattle.linda_store_step.specs.Answer.{IsStep, reply_to_numbered};
+
+use crate::soft::Soft;
+use linda_bag::{Bag, Starts};
+use linda_store_state::{Deed, State};
+use linda_wire::{Message, Reply};
+use std::alloc::{AllocError, Global};
+
+/// What one message came to.
+#[derive(Drop)]
+pub struct Step {
+    /// The change of the state, where there is one.
+    pub deed: Option<Deed>,
+    /// The replies with the clients that they go to, in order.
+    pub sends: Vec<(u32, Reply)>,
+}
+
+/// What several messages came to, one after another.
+#[derive(Drop)]
+pub struct Steps {
+    /// The changes of the state, in order.
+    pub deeds: Vec<Deed>,
+    /// The replies with the clients that they go to, in order.
+    pub sends: Vec<(u32, Reply)>,
+}
+
+/// Does what the message of the client asks, and answers it.
+///
+/// # Errors
+///
+/// `AllocError` where memory runs out, and then the state is as before; nothing is said of what is held
+/// and waits.
+pub(crate) fn answer_message<B: Bag>(
+    state: &mut State<B>,
+    soft: &mut Soft,
+    starts: &mut Starts,
+    alloc: Global,
+    client: u32,
+    message: &Message,
+) -> Result<Step, AllocError>
+    requires orderly { IsOrderly state.old soft.old }
+    requires right { AreRight state.old.bag (is_held soft.old.holds) state.old.next starts.old }
+    ensures ok { IfOk result (λ s. IsStep state.old soft.old client message.now
+        (record { deed = s.deed; sends = s.sends.items; soft = soft.new }) state.new) }
+    ensures right { OnOk result (AreRight state.new.bag (is_held soft.new.holds) state.new.next starts.new) }
+    ensures err { OnErr result (state.new ≡ state.old) }
+{
+    match reply::to_numbered(state, alloc, client, message)? {
+        Some(reply) => only_reply(alloc, client, reply),
+        None => act(state, soft, starts, alloc, client, message),
+    }
+}
+
+// Does what a message asks that is not answered by its number alone.
+fn act<B: Bag>(
+    state: &mut State<B>,
+    soft: &mut Soft,
+    starts: &mut Starts,
+    alloc: Global,
+    client: u32,
+    message: &Message,
+) -> Result<Step, AllocError>
+    requires orderly { IsOrderly state.old soft.old }
+    requires right { AreRight state.old.bag (is_held soft.old.holds) state.old.next starts.old }
+    requires none { reply_to_numbered state.old client message.now ≡ None }
+    ensures ok { IfOk result (λ s. IsStep state.old soft.old client message.now
+        (record { deed = s.deed; sends = s.sends.items; soft = soft.new }) state.new) }
+    ensures right { OnOk result (AreRight state.new.bag (is_held soft.new.holds) state.new.next starts.new) }
+    ensures err { OnErr result (state.new ≡ state.old) }
+{
+    match message {
+        Message::Hello { version, fresh, .. } => {
+            only_reply(
+                alloc,
+                client,
+                reply::greeting(state, client, *version, *fresh),
+            )
+        }
+        Message::Out { n, tuple } => deed::put(state, soft, alloc, client, *n, tuple),
+        Message::Accept { n, ticket, id } => {
+            deed::accept(state, soft, alloc, client, *n, *ticket, *id)
+        }
+        Message::Leave { n } => deed::leave(state, soft, starts, alloc, client, *n),
+        Message::Ask {
+            ticket,
+            remove,
+            template,
+        } => request::ask(
+            state, soft, starts, alloc, client, *ticket, *remove, template,
+        ),
+        Message::Cancel { ticket } => request::cancel(state, soft, starts, alloc, client, *ticket),
+    }
+}
+
+// A step that makes no deed.
+fn only_sends(sends: Vec<(u32, Reply)>) -> Step
+    ensures deed { result.deed ≡ None }
+    ensures sends { result.sends.items ≡ sends.items }
+{
+    Step { deed: None, sends }
+}
+
+// A step that changes nothing and sends one reply.
+fn only_reply(alloc: Global, client: u32, reply: Reply) -> Result<Step, AllocError>
+    ensures deed { IfOk result (λ s. s.deed ≡ None) }
+    ensures sends { IfOk result (λ s. s.sends.items ≡ (client, reply) ∷ []) }
+{
+    Ok(only_sends(one_send(alloc, client, reply)?))
+}
+
+/// One reply to a client.
+pub(crate) fn one_send(
+    alloc: Global,
+    client: u32,
+    reply: Reply,
+) -> Result<Vec<(u32, Reply)>, AllocError>
+    ensures { IfOk result (λ v. v.items ≡ (client, reply) ∷ []) }
+{
+    let mut sends = Vec::with_capacity(alloc, 1)?;
+    sends.push((client, reply))?;
+    Ok(sends)
+}

@@ -1,0 +1,396 @@
+//! Sessions in one thread, line by line.
+//!
+//! `greet hello 2 7 fresh` greets; `7 out 1 ("a", 3)` submits a message of client 7, and
+//! `all 7 out 1 ("a", 3); 7 cancel 2` several at once; `leave 7`, `pays`, `snapshot`, and `finish 7 8`, which gives
+//! both seats back; `wait 7` waits until client 7 has a reply, or none will come, and `mailboxes` counts. What comes of
+//! a line is written: `7 did 1` of a receipt for message 1, whether a snapshot pays, a fault in words, and then all
+//! replies that are there, session by session.
+
+ghost use Rattle.std.specs.Prelude.{◌≡◌, ◌≤◌, ◌<◌, true, length, All, IfOk};
+ghost use Rattle.linda_store_step.specs.declared.size.TheConstants.{MAX_BATCH};
+ghost use Rattle.linda_shared_queue.specs.Seat.{IsRequest};
+
+use linda_shared::{Receipt, SharedFault};
+use linda_store_step::MAX_BATCH;
+use linda_test_script::{
+    WordsFault, read_batch, read_message, read_numbered, split_word, write_reply,
+};
+use linda_test_server::{Host, Welcome};
+use linda_wire::{Message, Reply};
+use std::alloc::{AllocError, Global};
+use std::sync::Wait;
+
+/// A client's seat, and where its replies come out.
+#[derive(Drop)]
+struct Session<S, O> {
+    seat: S,
+    outlet: O,
+}
+
+/// The sessions of a shared server.
+#[derive(Drop)]
+pub(super) struct Sessions<S, O, H> {
+    host: H,
+    sessions: Vec<Session<S, O>>,
+}
+
+impl<S: Drop, O: Drop, H: Host<S, O>> Sessions<S, O, H> {
+    /// Nobody has a seat.
+    pub(super) fn new(alloc: Global, host: H) -> Sessions<S, O, H> {
+        Sessions {
+            host,
+            sessions: Vec::new(alloc),
+        }
+    }
+
+    /// The server by itself.
+    pub(super) fn into_host(self) -> H {
+        let Sessions { host, .. } = self;
+        host
+    }
+
+    /// Does what the line says, and writes what comes of it.
+    pub(super) fn play<R: Wait>(
+        &mut self,
+        rt: &R,
+        alloc: Global,
+        line: &str,
+        came: &mut String,
+    ) -> Result<(), WordsFault> {
+        self.act(rt, alloc, line, came)?;
+        self.tell_replies(rt, alloc, came)
+    }
+
+    // Does what the line says.
+    fn act<R: Wait>(
+        &mut self,
+        rt: &R,
+        alloc: Global,
+        line: &str,
+        came: &mut String,
+    ) -> Result<(), WordsFault> {
+        let (word, rest) = split_word(line);
+        match word {
+            "greet" => self.greet_by(rt, alloc, rest, came),
+            "all" => self.submit_batch(rt, alloc, rest, came),
+            "leave" => self.leave(rt, rest, came),
+            "finish" => self.finish(rt, alloc, rest, came),
+            "pays" => self.pays(rt, came),
+            "mailboxes" => self.mailboxes(rt, came),
+            "wait" => self.wait(rt, alloc, rest, came),
+            "snapshot" => self.snapshot(rt, came),
+            _ => self.submit_one(rt, alloc, line, came),
+        }
+    }
+
+    // Greets with the message that the words say.
+    fn greet_by<R: Wait>(
+        &mut self,
+        rt: &R,
+        alloc: Global,
+        words: &str,
+        came: &mut String,
+    ) -> Result<(), WordsFault> {
+        let hello = read_message(alloc, words)?;
+        self.greet(rt, &hello, came)
+    }
+
+    // Submits the messages that the words say at once.
+    fn submit_batch<R: Wait>(
+        &mut self,
+        rt: &R,
+        alloc: Global,
+        words: &str,
+        came: &mut String,
+    ) -> Result<(), WordsFault> {
+        let (client, messages) = requests_in(alloc, words)?;
+        self.submit_all(rt, client, &messages, came)
+    }
+
+    // Submits the message of the client whose number stands first.
+    fn submit_one<R: Wait>(
+        &mut self,
+        rt: &R,
+        alloc: Global,
+        line: &str,
+        came: &mut String,
+    ) -> Result<(), WordsFault> {
+        let (client, words) = read_numbered(line)?;
+        let message = read_message(alloc, words)?;
+        self.submit(rt, client, &message, came)
+    }
+
+    fn place(&self, client: u32) -> Option<usize> {
+        self.sessions
+            .iter()
+            .position(|s| H::client(&s.seat) == client)
+    }
+
+    fn greet<R: Wait>(
+        &mut self,
+        rt: &R,
+        hello: &Message,
+        came: &mut String,
+    ) -> Result<(), WordsFault> {
+        match self.host.greet(rt, hello) {
+            Err(fault) => tell_fault(fault, came),
+            Ok(Welcome::Refused(code, detail)) => {
+                written(writeln!(came, "> refused {code} {detail}"))
+            }
+            Ok(Welcome::Seated(seat, outlet, last)) => {
+                written(self.welcome(Session { seat, outlet }, last, came))
+            }
+        }
+    }
+
+    // A session has begun.
+    fn welcome(
+        &mut self,
+        session: Session<S, O>,
+        last: u64,
+        came: &mut String,
+    ) -> Result<(), AllocError> {
+        writeln!(came, "> {} welcome {last}", H::client(&session.seat))?;
+        Ok(self.sessions.push(session)?)
+    }
+
+    fn submit<R: Wait>(
+        &mut self,
+        rt: &R,
+        client: u32,
+        message: &Message,
+        came: &mut String,
+    ) -> Result<(), WordsFault> {
+        let place = self.place(client);
+        let seat = seat_at(&mut self.sessions, place)?;
+        match self.host.submit(rt, seat, message) {
+            Ok(receipt) => tell_receipt(&receipt, came),
+            Err(fault) => tell_fault(fault, came),
+        }
+    }
+
+    fn submit_all<R: Wait>(
+        &mut self,
+        rt: &R,
+        client: u32,
+        messages: &[Message],
+        came: &mut String,
+    ) -> Result<(), WordsFault>
+        requires some { 0 < length messages.now }
+        requires few { length messages.now ≤ MAX_BATCH }
+        requires requests { All IsRequest messages.now }
+    {
+        let place = self.place(client);
+        let seat = seat_at(&mut self.sessions, place)?;
+        match self.host.submit_all(rt, seat, messages) {
+            Ok(receipts) => tell_receipts(&receipts, came),
+            Err(fault) => tell_fault(fault, came),
+        }
+    }
+
+    fn leave<R: Wait>(
+        &mut self,
+        rt: &R,
+        client: &str,
+        came: &mut String,
+    ) -> Result<(), WordsFault> {
+        let Session { seat, outlet } = self.taken(client)?;
+        match self.host.leave(rt, seat, outlet) {
+            Ok(()) => Ok(()),
+            Err(fault) => tell_fault(fault, came),
+        }
+    }
+
+    // The session of the client whose number stands first, which is here no more.
+    fn taken(&mut self, words: &str) -> Result<Session<S, O>, WordsFault> {
+        let (client, _) = read_numbered(words)?;
+        match self.place(client) {
+            Some(place) if place < self.sessions.len() => Ok(self.sessions.remove(place)),
+            _ => Err(WordsFault::Unknown),
+        }
+    }
+
+    fn finish<R: Wait>(
+        &mut self,
+        rt: &R,
+        alloc: Global,
+        clients: &str,
+        came: &mut String,
+    ) -> Result<(), WordsFault> {
+        let seats = self.seats_of(alloc, clients)?;
+        match self.host.finish(rt, seats) {
+            Ok(report) => written(writeln!(came, "> {} deeds, {} ids", report.deeds, report.ids)),
+            Err(fault) => tell_fault(fault, came),
+        }
+    }
+
+    // The seats of these clients, which are here no more.
+    fn seats_of(&mut self, alloc: Global, clients: &str) -> Result<Vec<S>, WordsFault> {
+        let mut seats = Vec::new(alloc);
+        for client in clients.split(" ") {
+            let Session { seat, .. } = self.taken(client)?;
+            seats.push(seat)?;
+        }
+        Ok(seats)
+    }
+
+    fn pays<R: Wait>(&mut self, rt: &R, came: &mut String) -> Result<(), WordsFault> {
+        let answer = self.host.pays(rt);
+        written(writeln!(came, "> pays {answer}"))
+    }
+
+    fn mailboxes<R: Wait>(&mut self, rt: &R, came: &mut String) -> Result<(), WordsFault> {
+        let count = self.host.mailboxes(rt);
+        written(writeln!(came, "> mailboxes {count}"))
+    }
+
+    // Waits until the client whose number stands first has a reply, or none will come; writes what is there.
+    fn wait<R: Wait>(
+        &mut self,
+        rt: &R,
+        alloc: Global,
+        words: &str,
+        came: &mut String,
+    ) -> Result<(), WordsFault> {
+        let (client, _) = read_numbered(words)?;
+        let place = self.place(client);
+        let outlet = outlet_at(&mut self.sessions, place)?;
+        let replies = self.host.drain_wait(rt, outlet);
+        written(tell_all(alloc, client, &replies, came))
+    }
+
+    fn snapshot<R: Wait>(&mut self, rt: &R, came: &mut String) -> Result<(), WordsFault> {
+        match self.host.snapshot(rt) {
+            Ok(()) => Ok(()),
+            Err(fault) => tell_fault(fault, came),
+        }
+    }
+
+    // Writes the replies that are there, session by session.
+    fn tell_replies<R: Wait>(
+        &mut self,
+        rt: &R,
+        alloc: Global,
+        came: &mut String,
+    ) -> Result<(), WordsFault> {
+        for session in &mut self.sessions {
+            let client = H::client(&session.seat);
+            let replies = self.host.drain(rt, &mut session.outlet);
+            tell_all(alloc, client, &replies, came)?;
+        }
+        Ok(())
+    }
+}
+
+// The seat that stands at a place, if it is one.
+fn seat_at<S: Drop, O: Drop>(
+    sessions: &mut [Session<S, O>],
+    place: Option<usize>,
+) -> Result<&mut S, WordsFault> {
+    let Some(place) = place else {
+        return Err(WordsFault::Unknown);
+    };
+    match sessions.get_mut(place) {
+        Some(session) => Ok(&mut session.seat),
+        None => Err(WordsFault::Unknown),
+    }
+}
+
+// The outlet that stands at a place, if it is one.
+fn outlet_at<S: Drop, O: Drop>(
+    sessions: &mut [Session<S, O>],
+    place: Option<usize>,
+) -> Result<&mut O, WordsFault> {
+    let Some(place) = place else {
+        return Err(WordsFault::Unknown);
+    };
+    match sessions.get_mut(place) {
+        Some(session) => Ok(&mut session.outlet),
+        None => Err(WordsFault::Unknown),
+    }
+}
+
+// What was written, or the fault that memory ran out.
+fn written(done: Result<(), AllocError>) -> Result<(), WordsFault> {
+    Ok(done?)
+}
+
+// Writes why a call failed.
+fn tell_fault(fault: SharedFault, came: &mut String) -> Result<(), WordsFault> {
+    written(writeln!(came, "> {fault}"))
+}
+
+// Writes replies to a client.
+fn tell_all(
+    alloc: Global,
+    client: u32,
+    replies: &[Reply],
+    came: &mut String,
+) -> Result<(), AllocError> {
+    for reply in replies {
+        let words = write_reply(alloc, reply)?;
+        writeln!(came, "> {client} {words}")?;
+    }
+    Ok(())
+}
+
+// Writes a receipt, if there is one.
+fn tell_receipt(receipt: &Option<Receipt>, came: &mut String) -> Result<(), WordsFault> {
+    match receipt {
+        Some(receipt) => {
+            written(writeln!(came, "> {} did {}", receipt.client(), receipt.number()))
+        }
+        None => Ok(()),
+    }
+}
+
+// Writes the receipts that there are.
+fn tell_receipts(receipts: &[Option<Receipt>], came: &mut String) -> Result<(), WordsFault> {
+    for receipt in receipts {
+        tell_receipt(receipt, came)?;
+    }
+    Ok(())
+}
+
+// The messages of a line, which are a client's, at least one and few enough for one call, and none a Hello.
+fn requests_in(alloc: Global, words: &str) -> Result<(u32, Vec<Message>), WordsFault>
+    ensures { IfOk result (λ r. (0 < length r.1.items) × (length r.1.items ≤ MAX_BATCH) × All IsRequest r.1.items) }
+{
+    let (client, _) = read_numbered(words)?;
+    let mut messages = Vec::new(alloc);
+    for (_, message) in read_batch(alloc, words)? {
+        messages.push(message)?;
+    }
+    let all: &[Message] = &messages;
+    if all.is_empty() || all.len() > MAX_BATCH || !are_requests(all) {
+        return Err(WordsFault::Unknown);
+    }
+    Ok((client, messages))
+}
+
+// Whether none is a Hello.
+fn are_requests(messages: &[Message]) -> bool
+    ensures { result ≡ true → All IsRequest messages.now }
+{
+    let mut rest = messages;
+    while let [first, others @ ..] = rest {
+        if !is_request(first) {
+            return false;
+        }
+        rest = others;
+    }
+    true
+}
+
+fn is_request(message: &Message) -> bool
+    ensures { result ≡ true → IsRequest message.now }
+{
+    match message {
+        Message::Hello { .. } => false,
+        Message::Out { .. } => true,
+        Message::Ask { .. } => true,
+        Message::Accept { .. } => true,
+        Message::Cancel { .. } => true,
+        Message::Leave { .. } => true,
+    }
+}

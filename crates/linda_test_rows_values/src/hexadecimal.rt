@@ -1,0 +1,56 @@
+//! Bytes in rows, as hexadecimal digits.
+
+use crate::told::done;
+use linda_test_script::{WordsFault, read_hex};
+use std::alloc::{AllocError, Global};
+
+/// The bytes of these digits, between which blanks may stand.
+///
+/// # Errors
+///
+/// `Unknown` where they are none; `Memory` where memory runs out.
+pub(crate) fn bytes_of(alloc: Global, digits: &str) -> Result<Vec<u8>, WordsFault> {
+    let mut bytes = Vec::new(alloc);
+    for group in digits.split(' ') {
+        bytes.extend_from_slice(&read_hex(alloc, group)?)?;
+    }
+    Ok(bytes)
+}
+
+/// Appends a line that gives the bytes that were made.
+///
+/// # Errors
+///
+/// Why none were made; `Memory` where memory runs out.
+pub(crate) fn tell_made(
+    alloc: Global,
+    came: &mut String,
+    made: Result<Vec<u8>, WordsFault>,
+) -> Result<(), WordsFault> {
+    let bytes = made?;
+    done(tell_bytes(alloc, came, &bytes))
+}
+
+/// Appends a line that gives the bytes.
+///
+/// # Errors
+///
+/// `AllocError` where memory runs out.
+pub(crate) fn tell_bytes(alloc: Global, came: &mut String, bytes: &[u8]) -> Result<(), AllocError> {
+    push_digits(alloc, came, "> ", bytes)
+}
+
+/// Appends what stands before the bytes, their digits, and the end of the line.
+///
+/// # Errors
+///
+/// `AllocError` where memory runs out; a part of them may then stand there.
+pub(crate) fn push_digits(
+    alloc: Global,
+    came: &mut String,
+    front: &str,
+    bytes: &[u8],
+) -> Result<(), AllocError> {
+    let digits = hex::encode(alloc, bytes)?;
+    writeln!(came, "{front}{digits}")
+}
