@@ -2,7 +2,7 @@
 
 use crate::texts::done;
 use linda_serve::{
-    Cause, Event, FileCall, FileTrouble, Gauge, InUse, Log, Refused, Tally, Watcher, Why, stamp_of,
+    Cause, FileCall, FileTrouble, Gauge, InUse, Log, Notice, Refused, Tally, Watcher, Why, stamp_of,
 };
 use linda_test_script::{WordsFault, read_number, read_numbered, split_word};
 use std::alloc::{AllocError, Global};
@@ -160,7 +160,7 @@ fn tell_event<C: Clock>(
         "opened" => log.tell_opened(clock, 7000, bank_of(rest)?, &GAUGE),
         "end" => log.tell_end(clock, cause_of(rest)?, TALLY.came, &GAUGE),
         "failed" => log.tell_failed(clock, "left", &trouble_of(rest)?),
-        _ => log.tell(clock, event_of(word, rest)?, &GAUGE, &TALLY),
+        _ => log.tell(clock, notice_of(word, rest)?, &GAUGE, &TALLY),
     }
     Ok(())
 }
@@ -219,19 +219,19 @@ fn why_of(name: &str) -> Result<Why, WordsFault> {
     }
 }
 
-// The event of this name, which took so many milliseconds where it is a snapshot.
-fn event_of(name: &str, millis: &str) -> Result<Event, WordsFault> {
+// The notice of this name, which took so many milliseconds where it is a snapshot.
+fn notice_of(name: &str, millis: &str) -> Result<Notice, WordsFault> {
     match name {
-        "minute" => Ok(Event::Minute),
-        "snapshot" => Ok(Event::Snapshot(read_number(millis)?)),
-        "unsnapped" => Ok(Event::NoSnapshot(read_number(millis)?)),
-        "full" => Ok(Event::Full),
-        "closed" => Ok(Event::Closed),
-        "missed" => Ok(Event::Missed),
-        "refused" => Ok(Event::Turned(why_of(millis)?)),
-        "unwatched" => Ok(Event::Unwatched),
-        "threadless" => Ok(Event::NoThread),
-        "down" => Ok(Event::Down),
+        "minute" => Ok(Notice::Minute),
+        "snapshot" => Ok(Notice::Snapshot(read_number(millis)?)),
+        "unsnapped" => Ok(Notice::NoSnapshot(read_number(millis)?)),
+        "full" => Ok(Notice::Full),
+        "closed" => Ok(Notice::Closed),
+        "missed" => Ok(Notice::Missed),
+        "refused" => Ok(Notice::Turned(why_of(millis)?)),
+        "unwatched" => Ok(Notice::Unwatched),
+        "threadless" => Ok(Notice::NoThread),
+        "down" => Ok(Notice::Down),
         _ => Err(WordsFault::Unknown),
     }
 }
