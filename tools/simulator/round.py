@@ -227,17 +227,23 @@ class Round:
         return [max(wire.asks) for wire in wires if wire.asks]
 
     def look_at_all(self) -> None:
-        """One who asks all servers sees a tuple, and is given one to hold, if any of them has one, and else not."""
+        """One who asks all servers sees a tuple, and is given one to hold, if any of them has one, and else not: at once,
+        or when the servers have read the ends of those that held all tuples just before."""
         with self.network.lock:
             is_there = any(model.bag() for model in self.models)
-        try:
-            with Space([server.gate.port for server in self.servers], LOOKER) as space:
-                seen = space.look(*FITS) is not None
-                with space.hold(*FITS, timeout=0) as offer:
-                    is_held = offer is not None
-        except SpaceError:
-            if self.are_alive() and not any(model.may_fail for model in self.models):
-                raise
-            return
-        if (seen, is_held) != (is_there, is_there):
-            raise Fault(f"at rest a tuple is there: {is_there}; one who asks all sees one: {seen}, holds it: {is_held}")
+        until = time.monotonic() + SECONDS_FREE
+        while True:
+            try:
+                with Space([server.gate.port for server in self.servers], LOOKER) as space:
+                    seen = space.look(*FITS) is not None
+                    with space.hold(*FITS, timeout=0) as offer:
+                        is_held = offer is not None
+            except SpaceError:
+                if self.are_alive() and not any(model.may_fail for model in self.models):
+                    raise
+                return
+            if (seen, is_held) == (is_there, is_there):
+                return
+            if time.monotonic() > until:
+                raise Fault(f"at rest a tuple is there: {is_there}; one who asks all sees one: {seen}, holds it: {is_held}")
+            time.sleep(TICK)
