@@ -17,6 +17,8 @@ import client as frames  # noqa: E402, F401
 
 PROGRAM = TOP / "linda"
 PATIENCE = 60
+# The code of the refusal that a number below the client's next one gets.
+OLD = 4
 PIECE = 65_536
 
 
@@ -131,7 +133,8 @@ class Peer:
 
 def listing(port: int, template: bytes, first_client: int, patience: float | None = PATIENCE) -> dict[int, tuple]:
     """All tuples that the template (as it stands in an Ask) matches and that nobody holds, with their ids: each is asked for under a ticket of its own
-    and offered, 64 to each client, from this number on; the connections are closed at the end, which gives all of them free again."""
+    and offered, 64 to each client, from this number on; the connections are closed at the end, which gives all of them free again. A server that is
+    down, or that refuses for another reason, is a ConnectionError."""
     found: dict[int, tuple] = {}
     peers = []
     while True:
@@ -144,6 +147,8 @@ def listing(port: int, template: bytes, first_client: int, patience: float | Non
         while True:
             name, parts = peer.receive()
             if name == "Refused":
+                if parts["code"] != OLD:
+                    raise ConnectionError(f"refused: {frames.words_of(name, parts)}")
                 break
             if name != "Offer" or parts["id"] in found or parts["ticket"] != count + 1:
                 raise ValueError(f"offered as number {count + 1}: {frames.words_of(name, parts)}")
