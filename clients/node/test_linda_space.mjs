@@ -242,12 +242,13 @@ async function patient(call) {
     }
 }
 
-/** The error of a call that takes at least so many milliseconds, and not for ever. */
+/** The error of a call that takes at least so many milliseconds, and not for ever. The call began before it is given here, so some of its time is
+ * not seen. */
 async function failsAfter(least, call, type, properties) {
     const begin = performance.now();
     const fault = await fails(call, type, properties);
     const time = performance.now() - begin;
-    assert.ok(time >= least && time < LONG, `${time} ms`);
+    assert.ok(time >= 0.9 * least - 10 && time < LONG, `${time} ms`);
     return fault;
 }
 
