@@ -1,24 +1,30 @@
--- The entries of the map that keeps the waits by arrival: each request is in one of them, which is found by the request.
-use Rattle.std.proofs.Common.{◌≡◌, ℕ, ◌<◌, arith, Bool, true, false, not, ◌||◌, ◌==◌, List, [], ◌∷◌, ◌++◌, Option, None, Some, filter, cond, refl, sym, ap, ◌∙◌, nat_cmp, Less, Greater, BTreeMap}
+-- The waits that a map keeps under their numbers: each request is in one of them, which is found by the request, and what a change of the map does to the list of them in order.
+use Rattle.std.proofs.Common.{◌≡◌, ℕ, ◌<◌, ◌+◌, arith, Bool, true, false, not, ◌||◌, ◌==◌, List, [], ◌∷◌, ◌++◌, Option, None, Some, filter, cond, refl, sym, ap, subst, ◌∙◌, nat_cmp, nat_eq, Less, Greater}
 use Rattle.std.specs.declared.cmp.Ordering.{Ordering}
-use Rattle.std.specs.Ordering.{is_eq, match_ordering}
+use Rattle.std.specs.Ordering.{is_eq}
 use Rattle.std.specs.Option.{is_some, option_map, unwrap_or}
-use Rattle.std.specs.Cmp.{nat_cmp_total, nat_cmp_is, ranked, unsigned_Decides}
-use Rattle.std.specs.BTreeMap as tree
-use Rattle.std.specs.BTreeMap.{is_at, insert_entry}
+use Rattle.std.specs.Cmp.{nat_cmp_total, nat_cmp_is, nat_eq_equiv, eq_by_cmp_equiv, ranked, unsigned_Decides, unsigned_ties}
+use Rattle.std.specs.BTreeMap.{is_at}
+use Rattle.std.specs.FinMap.{entries, entries-insert, from_entries, get, get-from_entries, insert, put}
+use Rattle.std.specs.FinMap.Entries.{by_order}
 use Rattle.std.specs.List.{list_any, AllByRecursion, IsDistinct}
 use Rattle.std.specs.List.Sorted.{IsStrictlySortedBy}
-use Rattle.std.specs.Map.{lookup, keys_of, values_of, remove_entry}
+use Rattle.std.specs.Map.{lookup, keys_of, values_of}
 use Rattle.std.proofs.lemmas.Bool.{true≢false, false_from_ne_true, or_right}
-use Rattle.std.proofs.lemmas.List.Elements.{recursion_from_All, All-weaker}
-use Rattle.std.proofs.lemmas.Map.Views.{All-found}
+use Rattle.std.proofs.lemmas.Map.Entries.{option_filter, lookup-filter-values}
+use Rattle.std.proofs.lemmas.Map.Keys.{IsDistinct-from_sorted}
+use Rattle.linda_maps.proofs.MapLaws.{get_inserted, same_map}
 use Rattle.linda_hold.specs.declared.request.Request.{Request}
 use Rattle.linda_hold.specs.Request.{request_of, same_request}
 use Rattle.linda_hold.specs.Waits.{Wait, is_waiting, waits_of, without, AreDistinct}
+use Rattle.linda_hold.specs.Heads.{Waiting}
 use Rattle.linda_hold.specs.Named.{IsNumbered}
+use Rattle.linda_hold.specs.Numbered.{AreBelow, in_order, wait_at}
 use Rattle.linda_hold.specs.Index.{requests_of}
-use Rattle.linda_hold.proofs.NameLaws.{number_told}
 use Rattle.linda_hold.proofs.ListLaws.{request_told, weaker}
+use Rattle.linda_hold.proofs.NumberedLaws.{alike, each_found, found, ordered, same_list}
+use Rattle.linda_hold.proofs.PartLaws.{part, part_sorted}
+use Rattle.linda_hold.proofs.WaitLaws.{part_values}
 
 same_some : {A : Type 0} {x y : A} → Some x ≡ Some y → x ≡ y
 same_some {x = x} e = ap (λ o. unwrap_or o x) e
@@ -45,89 +51,127 @@ none_values : (p : Wait → Bool) (es : List (ℕ × Wait)) → AllByRecursion (
 none_values p [] all = refl
 none_values p (e ∷ es) all = ap (λ b. b || list_any p (values_of es)) all.0 ∙ none_values p es all.1
 
--- The entry k is the one of the request: to take it out is to take out what the request asked.
-removed : (k : ℕ) (request : Request) (es : List (ℕ × Wait)) → IsStrictlySortedBy nat_cmp (keys_of es) → AllByRecursion (λ e. is_at (nat_cmp k) e.0 ≡ same_request request e.1.0) es → values_of (remove_entry (is_at (nat_cmp k)) es) ≡ without request (values_of es)
-unfolding IsStrictlySortedBy
-removed k request [] sorted agree = refl
-removed k request (e ∷ es) sorted agree = by (is_at (nat_cmp k) e.0) refl (same_request request e.1.0) agree.0 (removed k request es sorted.1 agree.1)
+-- A number above all others goes after them.
+put_last : (k : ℕ) (w : Wait) (es : List (ℕ × Wait)) → AllByRecursion (λ e. e.0 < k) es → values_of (put nat_cmp k w es) ≡ values_of es ++ w ∷ []
+put_last k w [] above = refl
+put_last k w (e ∷ es) above =
+    ap (λ (o : Ordering). values_of (by_order o ((k, w) ∷ e ∷ es) ((e.0, w) ∷ es) (e ∷ put nat_cmp k w es))) (sym (nat_cmp_is k e.0 Greater above.0))
+    ∙ ap (λ l. e.1 ∷ l) (put_last k w es above.1)
+
+-- The test of a number, as the map makes it and as an index does.
+told : (k q : ℕ) → nat_eq k q ≡ is_eq (nat_cmp k q)
+told k q = unsigned_ties k q
+
+-- What a change of the map is to an index.
+pub as_rows : (old new : Waiting) (k : ℕ) (o : Option Wait) → ((q : ℕ) → new q ≡ cond (nat_eq k q) o (old q)) → (q : ℕ) → new q ≡ cond (is_eq (nat_cmp k q)) o (old q)
+as_rows old new k o changed q = changed q ∙ ap (λ b. cond b o (old q)) (told k q)
+
+-- Maps with the same entries have the same waits.
+pub same_waits : (Has : Waiting → Type 0) (old new : List (ℕ × Wait)) → new ≡ old → Has (wait_at old) → Has (wait_at new)
+same_waits Has old new same = subst Has (λ j. λ q. wait_at (sym same j) q)
+
+-- No wait has the next number.
+pub none_above : (next : ℕ) (waiting : Waiting) → AreBelow next waiting → waiting next ≡ None
+none_above next waiting below = by (waiting next) refl
   where
-    past : (x : ℕ) → k ≡ e.0 → nat_cmp e.0 x ≡ Less → is_at (nat_cmp k) x ≡ false
-    past x same less = ap is_eq (ap (λ y. nat_cmp y x) same ∙ less)
+    by : (o : Option Wait) → waiting next ≡ o → o ≡ None
+    by None is = refl
+    by (Some w) is = let self : next < next = below next (ap is_some is) in absurd (omega arith)
 
-    others : k ≡ e.0 → (fs : List (ℕ × Wait)) → AllByRecursion (λ y. nat_cmp e.0 y ≡ Less) (keys_of fs) → AllByRecursion (λ f. is_at (nat_cmp k) f.0 ≡ same_request request f.1.0) fs → AllByRecursion (λ f. not (same_request request f.1.0) ≡ true) fs
-    others same [] above agree = tt
-    others same (f ∷ fs) above agree = (ap not (sym agree.0 ∙ past f.0 same above.0), others same fs above.1 agree.1)
+-- whether the wait is not of this request
+abbrev other : Request → Wait → Bool
+other request w = not (same_request request w.0)
 
-    by : (b : Bool) → is_at (nat_cmp k) e.0 ≡ b → (c : Bool) → b ≡ c → values_of (remove_entry (is_at (nat_cmp k)) es) ≡ without request (values_of es) → values_of (cond b es (e ∷ remove_entry (is_at (nat_cmp k)) es)) ≡ cond (not c) (e.1 ∷ without request (values_of es)) (without request (values_of es))
-    by true is true same rest =
-        sym (kept_values (λ w. not (same_request request w.0)) es (others ((number_told k e.0).0 is) es sorted.0 agree.1))
-    by true is false same rest = absurd (true≢false same)
-    by false is true same rest = absurd (true≢false (sym same))
-    by false is false same rest = ap (λ l. e.1 ∷ l) rest
+module _ (old new : List (ℕ × Wait)) (k : ℕ) where
+  -- The next to arrive is the last in order.
+  pub added : (w : Wait) → AreBelow k (wait_at old) → ((q : ℕ) → wait_at new q ≡ cond (nat_eq k q) (Some w) (wait_at old q)) → values_of (in_order new) ≡ values_of (in_order old) ++ w ∷ []
+  added w below changed =
+      ap (λ m. values_of (entries m)) inserted
+      ∙ ap values_of (entries-insert nat_cmp_total (from_entries old) k w)
+      ∙ put_last k w (in_order old) (weaker _ (λ e. e.0 < k) (λ e there. below e.0 (ap is_some (found old e.0 ∙ there))) (in_order old) (each_found (in_order old) (ordered old)))
+    where
+      rows : (es : List (ℕ × Wait)) (q : ℕ) → get (from_entries {R = nat_cmp} es) q ≡ wait_at es q
+      rows es q = get-from_entries nat_cmp_total es q ∙ sym (alike es q)
 
--- A number above all keys goes after them.
-pub inserted_last : (k : ℕ) (w : Wait) (es : List (ℕ × Wait)) → AllByRecursion (λ q. q < k) (keys_of es) → values_of (insert_entry nat_cmp es k w) ≡ values_of es ++ w ∷ []
-inserted_last k w [] above = refl
-inserted_last k w (e ∷ es) above =
-    ap (λ (o : Ordering). values_of (match_ordering o ((k, w) ∷ e ∷ es) ((e.0, w) ∷ es) (e ∷ insert_entry nat_cmp es k w))) (sym (nat_cmp_is k e.0 Greater above.0))
-    ∙ ap (λ l. e.1 ∷ l) (inserted_last k w es above.1)
+      inserted : from_entries {R = nat_cmp} new ≡ insert (from_entries old) k w
+      inserted = same_map _ _ (λ q. rows new q ∙ changed q ∙ ap (λ b. cond b (Some w) (wait_at old q)) (nat_eq_equiv.symm k q) ∙ ap (cond (q == k) (Some w)) (sym (rows old q)) ∙ sym (get_inserted (from_entries old) k w q))
 
--- No entry has a key that is above all of them.
-pub none_above : (k : ℕ) (es : List (ℕ × Wait)) → AllByRecursion (λ q. q < k) (keys_of es) → lookup (is_at (nat_cmp k)) es ≡ None
-none_above k [] above = refl
-none_above k (e ∷ es) above =
-    ap (λ (o : Ordering). cond (is_eq o) (Some e.1) (lookup (is_at (nat_cmp k)) es)) (sym (nat_cmp_is k e.0 Greater above.0))
-    ∙ none_above k es above.1
+  -- Numbers below the next are below the one after it.
+  pub below_next : (w : Wait) → AreBelow k (wait_at old) → ((q : ℕ) → wait_at new q ≡ cond (nat_eq k q) (Some w) (wait_at old q)) → AreBelow (k + 1) (wait_at new)
+  below_next w below changed q some = by (nat_eq k q) refl (sym (ap is_some (changed q)) ∙ some)
+    where
+      by : (b : Bool) → nat_eq k q ≡ b → is_some (cond b (Some w) (wait_at old q)) ≡ true → q < k + 1
+      by true is there = let same : k ≡ q = (unsigned_Decides k q).0 is in omega arith
+      by false is there = let less : q < k = below q there in omega arith
 
-module _ (t : BTreeMap ℕ Wait) (ordered : tree.IsOrdered nat_cmp t) {u : Request → Option ℕ} (numbered : IsNumbered u (requests_of (tree.get nat_cmp t))) where
+  -- What is left is below the same number.
+  pub below_still : (next : ℕ) → AreBelow next (wait_at old) → ((q : ℕ) → wait_at new q ≡ cond (nat_eq k q) None (wait_at old q)) → AreBelow next (wait_at new)
+  below_still next below changed q some = by (nat_eq k q) (sym (ap is_some (changed q)) ∙ some)
+    where
+      by : (b : Bool) → is_some (cond b None (wait_at old q)) ≡ true → q < next
+      by true there = absurd (true≢false (sym there))
+      by false there = below q there
+
+  -- To take out the wait under the number of a request is to take out what the request asked.
+  pub taken : (request : Request) {u : Request → Option ℕ} → IsNumbered u (requests_of (wait_at old)) → u request ≡ Some k → ((q : ℕ) → wait_at new q ≡ cond (nat_eq k q) None (wait_at old q)) → values_of (in_order new) ≡ without request (values_of (in_order old))
+  taken request {u} numbered named changed =
+      ap values_of (same_list (in_order new) (part (other request) (in_order old)) (ordered new) (part_sorted (other request) (in_order old) (ordered old)) at)
+      ∙ part_values (other request) (in_order old)
+    where
+      left : (q : ℕ) (b : Bool) → nat_eq k q ≡ b → (o : Option Wait) → wait_at old q ≡ o → cond b None o ≡ option_filter (other request) o
+      left q b test None is = elim b as (λ c. cond {A = Option Wait} c None None ≡ None) [ true ↦ refl | false ↦ refl ]
+      left q true test (Some w) is =
+          let here : requests_of (wait_at old) k ≡ Some w.0 = ap (requests_of (wait_at old)) ((unsigned_Decides k q).0 test) ∙ ap (option_map (λ v. v.0)) is in
+          let same : request ≡ w.0 = same_some (sym (numbered.back request k named) ∙ here) in
+          sym (ap (λ b. cond (not b) (Some w) None) ((request_told request w.0).1 same))
+      left q false test (Some w) is =
+          sym (ap (λ b. cond (not b) (Some w) None) (false_from_ne_true _ (λ same.
+          let one : Some k ≡ Some q = sym named ∙ ap u ((request_told request w.0).0 same) ∙ numbered.there q w.0 (ap (option_map (λ v. v.0)) is) in
+          true≢false (sym ((unsigned_Decides k q).1 (same_some one)) ∙ test))))
+
+      at : (q : ℕ) → lookup (is_at (nat_cmp q)) (in_order new) ≡ lookup (is_at (nat_cmp q)) (part (other request) (in_order old))
+      at q =
+          sym (found new q)
+          ∙ changed q
+          ∙ left q (nat_eq k q) refl (wait_at old q) refl
+          ∙ ap (option_filter (other request)) (found old q)
+          ∙ sym (lookup-filter-values (eq_by_cmp_equiv nat_cmp_total) (other request) q (in_order old) (IsDistinct-from_sorted nat_cmp (keys_of (in_order old)) (ordered old)))
+
+-- The waits of a map, by their requests.
+module _ (raw : List (ℕ × Wait)) {u : Request → Option ℕ} (numbered : IsNumbered u (requests_of (wait_at raw))) where
+  abbrev es : List (ℕ × Wait)
+  es = in_order raw
+
   -- The request of an entry is that of its key, and its key is found by the request.
   record Known (e : ℕ × Wait) : Type 0 where
-    at : requests_of (tree.get nat_cmp t) e.0 ≡ Some e.1.0
+    at : requests_of (wait_at raw) e.0 ≡ Some e.1.0
     named : u e.1.0 ≡ Some e.0
 
-  each : AllByRecursion Known t.entries
+  each : AllByRecursion Known es
   each =
-      recursion_from_All Known t.entries
-      (All-weaker (λ e. tree.get nat_cmp t e.0 ≡ Some e.1) Known
-      (λ e found. let at : requests_of (tree.get nat_cmp t) e.0 ≡ Some e.1.0 = ap (option_map (λ w. w.0)) found in record { at = at; named = numbered.there e.0 e.1.0 at })
-      t.entries (All-found nat_cmp_total t ordered))
+      weaker (λ e. lookup (is_at (nat_cmp e.0)) es ≡ Some e.1) Known
+      (λ e there. let at : requests_of (wait_at raw) e.0 ≡ Some e.1.0 = ap (option_map (λ w. w.0)) (found raw e.0 ∙ there) in record { at = at; named = numbered.there e.0 e.1.0 at })
+      es (each_found es (ordered raw))
 
   -- A request that is not found is in no entry.
-  absent : (request : Request) → u request ≡ None → AllByRecursion (λ e. same_request request e.1.0 ≡ false) t.entries
+  absent : (request : Request) → u request ≡ None → AllByRecursion (λ e. same_request request e.1.0 ≡ false) es
   absent request none =
       weaker Known (λ e. same_request request e.1.0 ≡ false)
       (λ e known. false_from_ne_true _ (λ is. true≢false (ap is_some (sym known.named ∙ ap u (sym ((request_told request e.1.0).0 is)) ∙ none))))
-      t.entries each
-
-  -- The entry of a request that is found is at its number.
-  agrees : (request : Request) (k : ℕ) → u request ≡ Some k → AllByRecursion (λ e. is_at (nat_cmp k) e.0 ≡ same_request request e.1.0) t.entries
-  agrees request k found = weaker Known (λ e. is_at (nat_cmp k) e.0 ≡ same_request request e.1.0) at t.entries each
-    where
-      at : (e : ℕ × Wait) → Known e → is_at (nat_cmp k) e.0 ≡ same_request request e.1.0
-      at e known = by (is_at (nat_cmp k) e.0) refl (same_request request e.1.0) refl
-        where
-          by : (b : Bool) → is_at (nat_cmp k) e.0 ≡ b → (c : Bool) → same_request request e.1.0 ≡ c → b ≡ c
-          by true is true same = refl
-          by false is false same = refl
-          by true is false same =
-              let one : Some request ≡ Some e.1.0 = sym (numbered.back request k found) ∙ ap (requests_of (tree.get nat_cmp t)) ((number_told k e.0).0 is) ∙ known.at in
-              absurd (true≢false (sym ((request_told request e.1.0).1 (same_some one)) ∙ same))
-          by false is true same =
-              let one : Some k ≡ Some e.0 = sym found ∙ ap u ((request_told request e.1.0).0 same) ∙ known.named in
-              absurd (true≢false (sym ((number_told k e.0).1 (same_some one)) ∙ is))
+      es each
 
   -- A request waits where it is found.
-  pub waits_where_found : (request : Request) → is_some (u request) ≡ is_waiting request (values_of t.entries)
+  pub waits_where_found : (request : Request) → is_some (u request) ≡ is_waiting request (values_of es)
   waits_where_found request = by (u request) refl
     where
-      by : (o : Option ℕ) → u request ≡ o → is_some o ≡ is_waiting request (values_of t.entries)
-      by None e = sym (none_values (λ w. same_request request w.0) t.entries (absent request e))
+      by : (o : Option ℕ) → u request ≡ o → is_some o ≡ is_waiting request (values_of es)
+      by None e = sym (none_values (λ w. same_request request w.0) es (absent request e))
       by (Some k) e =
-          let found = with_request (tree.get nat_cmp t k) request (numbered.back request k e) in
-          sym (hit (λ w. same_request request w.0) (is_at (nat_cmp k)) t.entries found.0 found.1 ((request_told request found.0.0).1 (sym found.2)))
+          let own = with_request (wait_at raw k) request (numbered.back request k e) in
+          sym (hit (λ w. same_request request w.0) (is_at (nat_cmp k)) es own.0 (sym (found raw k) ∙ own.1) ((request_told request own.0.0).1 (sym own.2)))
 
   -- One that does not wait is not found.
-  pub unnamed : (request : Request) → is_waiting request (values_of t.entries) ≡ false → u request ≡ None
+  pub unnamed : (request : Request) → is_waiting request (values_of es) ≡ false → u request ≡ None
   unnamed request off = by (u request) (waits_where_found request ∙ off)
     where
       by : (o : Option ℕ) → is_some o ≡ false → o ≡ None
@@ -135,22 +179,18 @@ module _ (t : BTreeMap ℕ Wait) (ordered : tree.IsOrdered nat_cmp t) {u : Reque
       by (Some k) e = absurd (true≢false e)
 
   -- One that is not found has no wait to take out.
-  pub without_absent : (request : Request) → u request ≡ None → values_of t.entries ≡ without request (values_of t.entries)
+  pub without_absent : (request : Request) → u request ≡ None → values_of es ≡ without request (values_of es)
   without_absent request none =
-      sym (kept_values (λ w. not (same_request request w.0)) t.entries (weaker (λ e. same_request request e.1.0 ≡ false) (λ e. not (same_request request e.1.0) ≡ true) (λ e off. ap not off) t.entries (absent request none)))
-
-  -- To take out the entry of a request is to take out its wait.
-  pub without_found : (request : Request) (k : ℕ) → u request ≡ Some k → values_of (remove_entry (is_at (nat_cmp k)) t.entries) ≡ without request (values_of t.entries)
-  without_found request k found = removed k request t.entries ordered (agrees request k found)
+      sym (kept_values (λ w. not (same_request request w.0)) es (weaker (λ e. same_request request e.1.0 ≡ false) (λ e. not (same_request request e.1.0) ≡ true) (λ e off. ap not off) es (absent request none)))
 
   -- Its entry is there.
-  pub entry_found : (request : Request) (k : ℕ) → u request ≡ Some k → tree.get nat_cmp t k ≡ None → ⊥
+  pub entry_found : (request : Request) (k : ℕ) → u request ≡ Some k → wait_at raw k ≡ None → ⊥
   entry_found request k found none =
       true≢false (ap is_some (sym (numbered.back request k found) ∙ ap (option_map (λ w. w.0)) none))
 
   -- A client none of whose requests is found has no wait.
-  pub none_of_client : (client : ℕ) → ((ticket : ℕ) → u (request_of client ticket) ≡ None) → waits_of client (values_of t.entries) ≡ []
-  none_of_client client none = all t.entries each
+  pub none_of_client : (client : ℕ) → ((ticket : ℕ) → u (request_of client ticket) ≡ None) → waits_of client (values_of es) ≡ []
+  none_of_client client none = all es each
     where
       other : (e : ℕ × Wait) → Known e → (client == e.1.0.client) ≡ false
       other e known = false_from_ne_true _ (λ is.
@@ -162,9 +202,9 @@ module _ (t : BTreeMap ℕ Wait) (ordered : tree.IsOrdered nat_cmp t) {u : Reque
       all (e ∷ es) known = ap (λ b. cond b (e.1 ∷ waits_of client (values_of es)) (waits_of client (values_of es))) (other e known.0) ∙ all es known.1
 
   -- No two waits are of one request.
-  pub distinct : AreDistinct (values_of t.entries)
+  pub distinct : AreDistinct (values_of es)
   unfolding IsDistinct IsStrictlySortedBy
-  distinct = all t.entries ordered each
+  distinct = all es (ordered raw) each
     where
       later : (e : ℕ × Wait) → Known e → (es : List (ℕ × Wait)) → AllByRecursion (λ y. nat_cmp e.0 y ≡ Less) (keys_of es) → AllByRecursion Known es → AllByRecursion (λ q. same_request e.1.0 q ≡ false) (keys_of (values_of es))
       later e first [] above known = tt

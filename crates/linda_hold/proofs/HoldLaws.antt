@@ -27,11 +27,11 @@ module _ (by_id : BTreeMap ℕ Request) (ordered : tree.IsOrdered nat_cmp by_id)
   -- The set of the client's ids has them in their order.
   pub own_ids : (ids : BTreeSet ℕ) → sets.IsOrdered nat_cmp ids → HasIds ids own → ids.keys ≡ held_in client (map.entries holds)
   own_ids ids sorted has =
-      found_some (λ r. r.client == client) by_id ordered own (λ q. own_at (tree.get nat_cmp by_id q)) ids sorted has
+      found_some (λ r. r.client == client) by_id.entries ordered own (λ q. own_at (tree.get nat_cmp by_id q)) ids sorted has
       ∙ ap (held_in client) (sym same_view)
 
   -- There are as many of them as of its requests.
   pub own_count : (count : ℕ) → IsCount client (tree.get nat_cmp by_id) count → count ≡ length (held_in client (map.entries holds))
   own_count count counts =
-      counted_part (λ r. r.client == client) by_id ordered own (λ q. own_at (tree.get nat_cmp by_id q)) count counts
+      counted_part (λ r. r.client == client) by_id.entries ordered own (λ q. own_at (tree.get nat_cmp by_id q)) count counts
       ∙ ap (λ es. length (held_in client es)) (sym same_view)

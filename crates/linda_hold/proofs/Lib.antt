@@ -6,6 +6,7 @@ pub mod ViewLaws
 pub mod PartLaws
 pub mod HoldLaws
 pub mod IndexLaws
+pub mod NumberedLaws
 pub mod EntryLaws
 pub mod WaitLaws
 pub mod ArrivalLaws

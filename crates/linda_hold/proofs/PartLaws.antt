@@ -1,8 +1,7 @@
--- The part of a map that passes a test of its values: its keys are those of a set that has them.
-use Rattle.std.proofs.Common.{◌≡◌, ℕ, Bool, true, false, cond, ◌||◌, List, [], ◌∷◌, is_some, length, filter, refl, sym, ap, ◌∙◌, nat_cmp, Less, BTreeMap}
+-- The part of a map's entries, in order, that passes a test of their values: its keys are those of a set that has them.
+use Rattle.std.proofs.Common.{◌≡◌, ℕ, Bool, true, false, cond, ◌||◌, List, [], ◌∷◌, is_some, length, filter, refl, sym, ap, ◌∙◌, nat_cmp, Less}
 use Rattle.std.specs.BTreeSet.{BTreeSet}
 use Rattle.std.specs.BTreeSet as sets
-use Rattle.std.specs.BTreeMap as tree
 use Rattle.std.specs.BTreeMap.{is_at}
 use Rattle.std.specs.Cmp.{nat_cmp_total, eq_by_cmp_equiv}
 use Rattle.std.specs.List.{list_any, AllByRecursion}
@@ -31,7 +30,7 @@ module _ {X : Type 0} (p : X → Bool) where
       by true rest = (all.0, rest)
       by false rest = rest
 
-  part_sorted : (es : List (ℕ × X)) → IsStrictlySortedBy nat_cmp (keys_of es) → IsStrictlySortedBy nat_cmp (keys_of (part es))
+  pub part_sorted : (es : List (ℕ × X)) → IsStrictlySortedBy nat_cmp (keys_of es) → IsStrictlySortedBy nat_cmp (keys_of (part es))
   unfolding IsStrictlySortedBy
   part_sorted [] sorted = tt
   part_sorted (e ∷ es) sorted = by (p e.1) (kept _ es sorted.0) (part_sorted es sorted.1)
@@ -50,14 +49,14 @@ module _ {X : Type 0} (p : X → Bool) where
       ∙ sym (lookup_any (is_at (nat_cmp q)) (part es))
       ∙ ap is_some (lookup-filter-values (eq_by_cmp_equiv nat_cmp_total) p q es (IsDistinct-from_sorted nat_cmp (keys_of es) sorted))
 
-  module _ (t : BTreeMap ℕ X) (ordered : tree.IsOrdered nat_cmp t) {T : Type 0} (rows : Rows T) (same : (q : ℕ) → is_some (rows q) ≡ is_some (option_filter p (tree.get nat_cmp t q))) where
+  module _ (es : List (ℕ × X)) (ordered : IsStrictlySortedBy nat_cmp (keys_of es)) {T : Type 0} (rows : Rows T) (same : (q : ℕ) → is_some (rows q) ≡ is_some (option_filter p (lookup (is_at (nat_cmp q)) es))) where
     -- A set that has the numbers of what passes has the keys of that part, in their order.
-    pub found_some : (ids : BTreeSet ℕ) → sets.IsOrdered nat_cmp ids → HasIds ids rows → ids.keys ≡ keys_of (part t.entries)
+    pub found_some : (ids : BTreeSet ℕ) → sets.IsOrdered nat_cmp ids → HasIds ids rows → ids.keys ≡ keys_of (part es)
     found_some ids sorted has =
-        btree_set_from_contains nat_cmp_total ids (record { keys = keys_of (part t.entries) }) sorted (part_sorted t.entries ordered)
-        (λ q. has q ∙ same q ∙ sym (part_has t.entries ordered q)) exact_unsigned
+        btree_set_from_contains nat_cmp_total ids (record { keys = keys_of (part es) }) sorted (part_sorted es ordered)
+        (λ q. has q ∙ same q ∙ sym (part_has es ordered q)) exact_unsigned
 
     -- What counts the numbers in any such set counts that part.
-    pub counted_part : (count : ℕ) → ((ids : BTreeSet ℕ) → sets.IsOrdered nat_cmp ids → HasIds ids rows → count ≡ length ids.keys) → count ≡ length (keys_of (part t.entries))
+    pub counted_part : (count : ℕ) → ((ids : BTreeSet ℕ) → sets.IsOrdered nat_cmp ids → HasIds ids rows → count ≡ length ids.keys) → count ≡ length (keys_of (part es))
     counted_part count counts =
-        counts (record { keys = keys_of (part t.entries) }) (part_sorted t.entries ordered) (λ q. part_has t.entries ordered q ∙ sym (same q))
+        counts (record { keys = keys_of (part es) }) (part_sorted es ordered) (λ q. part_has es ordered q ∙ sym (same q))

@@ -1,16 +1,14 @@
 -- The waits of a client, and those that a tuple may answer: the numbers that are filed under these are those of the waits that
 -- contracts speak of.
-use Rattle.std.proofs.Common.{◌≡◌, ℕ, Bool, true, false, ◌||◌, ◌==◌, cond, List, [], ◌∷◌, Option, None, Some, length, filter, refl, sym, ap, subst, ◌∙◌, nat_cmp, BTreeMap}
-use Rattle.std.specs.BTreeMap as tree
+use Rattle.std.proofs.Common.{◌≡◌, ℕ, Bool, true, false, ◌||◌, ◌==◌, cond, List, [], ◌∷◌, Option, None, Some, length, filter, refl, sym, ap, subst, ◌∙◌, nat_cmp}
+use Rattle.std.specs.BTreeMap.{is_at}
 use Rattle.std.specs.Ordering.{is_eq}
 use Rattle.std.specs.Option.{is_some, option_map}
 use Rattle.std.specs.List.{AllByRecursion, AllZip}
 use Rattle.std.specs.List.Sorted.{IsStrictlySortedBy}
-use Rattle.std.specs.Map.{keys_of, values_of}
+use Rattle.std.specs.Map.{lookup, keys_of, values_of}
 use Rattle.std.specs.Cmp.{nat_cmp_total, eq_by_cmp_equiv, unsigned_tied}
-use Rattle.std.proofs.lemmas.List.Elements.{recursion_from_All}
 use Rattle.std.proofs.lemmas.Map.Entries.{option_filter, length-keys_of, length-values_of}
-use Rattle.std.proofs.lemmas.Map.Views.{All-found}
 use Rattle.std.proofs.lemmas.Slice.Zip.{AllZip-long}
 use Rattle.linda_tuple.specs.declared.atom.Atom.{Atom}
 use Rattle.linda_tuple.specs.declared.pattern.Pattern.{Pattern}
@@ -29,9 +27,11 @@ use Rattle.linda_hold.specs.Group.{if_unkeyed, is_reached}
 use Rattle.linda_hold.specs.Named.{Requests, IsCount, client_of}
 use Rattle.linda_hold.specs.Heads.{Waiting, count_of, alike, may_answer}
 use Rattle.linda_hold.specs.Index.{requests_of, asked_of, before, waits_at}
+use Rattle.linda_hold.proofs.ListLaws.{weaker}
+use Rattle.linda_hold.proofs.NumberedLaws.{each_found}
 use Rattle.linda_hold.proofs.PartLaws.{part, found_some, counted_part}
 
-part_values : (p : Wait → Bool) (es : List (ℕ × Wait)) → values_of (part p es) ≡ filter p (values_of es)
+pub part_values : (p : Wait → Bool) (es : List (ℕ × Wait)) → values_of (part p es) ≡ filter p (values_of es)
 part_values p [] = refl
 part_values p (e ∷ es) = by (p e.1) (part_values p es)
   where
@@ -102,10 +102,11 @@ met_at : (row : Tuple) (o : Option Wait) → may_answer row (option_map (λ w. w
 met_at row None = none_reached (first_among row.fields)
 met_at row (Some w) = sym (told (may_meet row w) w)
 
-module _ (t : BTreeMap ℕ Wait) (ordered : tree.IsOrdered nat_cmp t) where
+-- The waits es in order, and the wait under each number.
+module _ (es : List (ℕ × Wait)) (ordered : IsStrictlySortedBy nat_cmp (keys_of es)) (waiting : Waiting) (found : (q : ℕ) → waiting q ≡ lookup (is_at (nat_cmp q)) es) where
   module _ (client : ℕ) where
     abbrev pub own : Requests
-    own = rows_at nat_cmp client_of client (requests_of (tree.get nat_cmp t))
+    own = rows_at nat_cmp client_of client (requests_of waiting)
 
     own_at : (o : Option Wait) → is_some (row_at nat_cmp client (placed client_of (option_map (λ w. w.0) o))) ≡ is_some (option_filter (λ w. client == w.0.client) o)
     own_at None = refl
@@ -116,16 +117,16 @@ module _ (t : BTreeMap ℕ Wait) (ordered : tree.IsOrdered nat_cmp t) where
         ∙ sym (told (client == w.0.client) w)
 
     -- The client has as many requests as waits.
-    pub own_count : (count : ℕ) → IsCount client (requests_of (tree.get nat_cmp t)) count → count ≡ length (waits_of client (values_of t.entries))
+    pub own_count : (count : ℕ) → IsCount client (requests_of waiting) count → count ≡ length (waits_of client (values_of es))
     own_count count counts =
-        counted_part (λ w. client == w.0.client) t ordered own (λ q. own_at (tree.get nat_cmp t q)) count counts
-        ∙ part_length (λ w. client == w.0.client) t.entries
+        counted_part (λ w. client == w.0.client) es ordered own (λ q. own_at (waiting q) ∙ ap (λ o. is_some (option_filter (λ w. client == w.0.client) o)) (found q)) count counts
+        ∙ part_length (λ w. client == w.0.client) es
 
   module _ (row : Tuple) where
     -- The waits under the numbers of what the tuple may answer are those that it may answer, in order of arrival.
-    pub met_waits : (numbers : List ℕ) → IsStrictlySortedBy nat_cmp numbers → ((q : ℕ) → has_in numbers q ≡ may_answer row (asked_of (tree.get nat_cmp t) q)) → waits_at (tree.get nat_cmp t) numbers ≡ filter (may_meet row) (values_of t.entries)
+    pub met_waits : (numbers : List ℕ) → IsStrictlySortedBy nat_cmp numbers → ((q : ℕ) → has_in numbers q ≡ may_answer row (asked_of waiting q)) → waits_at waiting numbers ≡ filter (may_meet row) (values_of es)
     met_waits numbers sorted has =
-        ap (waits_at (tree.get nat_cmp t))
-        (found_some (may_meet row) t ordered (λ q. option_filter (may_meet row) (tree.get nat_cmp t q)) (λ q. refl) (record { keys = numbers }) sorted (λ q. has q ∙ met_at row (tree.get nat_cmp t q)))
-        ∙ looked_up (tree.get nat_cmp t) (part (may_meet row) t.entries) (kept_found _ (may_meet row) t.entries (recursion_from_All (λ e. tree.get nat_cmp t e.0 ≡ Some e.1) t.entries (All-found nat_cmp_total t ordered)))
-        ∙ part_values (may_meet row) t.entries
+        ap (waits_at waiting)
+        (found_some (may_meet row) es ordered (λ q. option_filter (may_meet row) (waiting q)) (λ q. ap (λ o. is_some (option_filter (may_meet row) o)) (found q)) (record { keys = numbers }) sorted (λ q. has q ∙ met_at row (waiting q)))
+        ∙ looked_up waiting (part (may_meet row) es) (kept_found _ (may_meet row) es (weaker _ (λ e. waiting e.0 ≡ Some e.1) (λ e there. found e.0 ∙ there) es (each_found es ordered)))
+        ∙ part_values (may_meet row) es

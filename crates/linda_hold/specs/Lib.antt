@@ -8,3 +8,5 @@ pub mod Codes
 pub mod Arrivals
 pub mod Firsts
 pub mod Group
+pub mod Keys
+pub mod Numbered

@@ -2,17 +2,17 @@
 
 ghost use Rattle.std.specs.Prelude.{◌≡◌, map, IfOk};
 ghost use Rattle.std.specs.Option.{option_map};
-ghost use Rattle.std.specs.Ordering.{nat_cmp};
-ghost use Rattle.std.specs.BTreeMap as tree;
 ghost use Rattle.linda_hold.specs.Waits.{is_awaited, longest, readers};
 ghost use Rattle.linda_hold.specs.Index.{waits_at};
+ghost use Rattle.linda_hold.specs.Numbered.{wait_at};
 
 use crate::arrivals::Arrivals;
 use crate::heads::Wait;
+use crate::keys::Keys;
 use crate::request::Request;
+use indexmap::IndexMap;
 use linda_tuple::{Tuple, matches};
 use std::alloc::{AllocError, Global};
-use std::collections::BTreeMap;
 
 /// The requests that wait for a tuple: the reads, in order of arrival, and the input that has waited
 /// longest.
@@ -24,12 +24,12 @@ pub struct Awaiting {
 
 /// The first input under these numbers that the tuple answers.
 pub(crate) fn first_input(
-    by_arrival: &BTreeMap<u64, Wait>,
+    by_arrival: &IndexMap<u64, Wait, Keys>,
     mut numbers: Arrivals<'_>,
     tuple: &Tuple,
 ) -> Option<Request>
     ensures { result ≡ option_map (λ w. w.0)
-        (longest tuple.now (waits_at (tree.get nat_cmp by_arrival.now) numbers.entry)) }
+        (longest tuple.now (waits_at (wait_at by_arrival.now.entries) numbers.entry)) }
 {
     while let Some(number) = numbers.next() {
         if let Some((request, asked)) = by_arrival.get(&number) {
@@ -43,12 +43,12 @@ pub(crate) fn first_input(
 
 /// Whether the tuple answers some request under these numbers.
 pub(crate) fn is_answering_one(
-    by_arrival: &BTreeMap<u64, Wait>,
+    by_arrival: &IndexMap<u64, Wait, Keys>,
     mut numbers: Arrivals<'_>,
     tuple: &Tuple,
 ) -> bool
     ensures { result
-        ≡ is_awaited tuple.now (waits_at (tree.get nat_cmp by_arrival.now) numbers.entry) }
+        ≡ is_awaited tuple.now (waits_at (wait_at by_arrival.now.entries) numbers.entry) }
 {
     while let Some(number) = numbers.next() {
         if let Some((_, asked)) = by_arrival.get(&number) {
@@ -67,14 +67,14 @@ pub(crate) fn is_answering_one(
 /// `AllocError` where memory runs out.
 pub(crate) fn awaiting_among(
     alloc: Global,
-    by_arrival: &BTreeMap<u64, Wait>,
+    by_arrival: &IndexMap<u64, Wait, Keys>,
     mut numbers: Arrivals<'_>,
     tuple: &Tuple,
 ) -> Result<Awaiting, AllocError>
     ensures readers { IfOk result (λ a. a.readers.items ≡ map (λ w. w.0)
-        (readers tuple.now (waits_at (tree.get nat_cmp by_arrival.now) numbers.entry))) }
+        (readers tuple.now (waits_at (wait_at by_arrival.now.entries) numbers.entry))) }
     ensures longest { IfOk result (λ a. a.longest ≡ option_map (λ w. w.0)
-        (longest tuple.now (waits_at (tree.get nat_cmp by_arrival.now) numbers.entry))) }
+        (longest tuple.now (waits_at (wait_at by_arrival.now.entries) numbers.entry))) }
 {
     let mut readers = Vec::new(alloc);
     let mut longest = None;

@@ -17,6 +17,7 @@ mod group;
 mod heads;
 mod holds;
 mod index;
+mod keys;
 mod names;
 mod request;
 mod waits;

@@ -1,10 +1,10 @@
 //! The requests that wait for a tuple.
 
-ghost use Rattle.std.specs.Prelude.{◌≡◌, ◌<◌, ◌++◌, ◌∷◌, [], All, false, true, length, map};
+ghost use Rattle.std.specs.Prelude.{◌≡◌, ℕ, ◌+◌, ◌++◌, ◌∷◌, [], None, cond, false, true, nat_eq, length, map};
 ghost use Rattle.std.specs.Prelude.{IfOk, OnOk, OnErr, IfSome, IfNone};
 ghost use Rattle.std.specs.Option.{option_map};
-ghost use Rattle.std.specs.BTreeMap as tree;
 ghost use Rattle.linda_hold.specs.Request.{request_of};
+ghost use Rattle.linda_hold.specs.Numbered.{wait_at};
 ghost use Rattle.linda_hold.specs.Waits.{AreDistinct, is_awaited, is_waiting, longest, readers};
 ghost use Rattle.linda_hold.specs.Waits.{waits_of, without, without_client, without_readers};
 
@@ -12,18 +12,30 @@ use crate::asked::Asked;
 use crate::awaiting::{Awaiting, awaiting_among, first_input, is_answering_one};
 use crate::heads::{Wait, arrivals};
 use crate::index::Index;
+use crate::keys::Keys;
 use crate::request::Request;
+use indexmap::IndexMap;
 use linda_tuple::Tuple;
 use std::alloc::{AllocError, Global};
-use std::collections::BTreeMap;
+use std::hash::RandomState;
 use std::marker::Model;
+
+// For so many waits a map that is empty keeps its memory, some 100 kilobytes.
+const KEPT: usize = 1_000;
 
 /// The requests that no tuple has answered yet, in order of arrival, each of them once.
 ///
-/// Each has a number, greater than those of all that came before it and wait still.
+/// Each has a number, greater than those of all that came before it. The map that keeps them by their numbers is
+/// in no order: the index gives the numbers in theirs.
+///
+/// Clients do not choose the numbers, but they choose which requests they give up, so which numbers stay. With a
+/// hash that they can work out they could keep those that lie close together in the map, at four arrivals for three
+/// that stay, and then each call looks through a large part of it. So a program that serves strangers chooses random
+/// keys for the hash before the first of them asks (`choose_keys`).
 pub struct Waits {
     alloc: Global,
-    by_arrival: BTreeMap<u64, Wait>,
+    by_arrival: IndexMap<u64, Wait, Keys>,
+    next: u64,
     index: Index,
 }
 
@@ -32,6 +44,7 @@ impl Drop for Waits {
         let Waits {
             alloc: _,
             by_arrival: _,
+            next: _,
             index: _,
         } = self;
     }
@@ -39,17 +52,17 @@ impl Drop for Waits {
 
 impl Model for Waits {
     ghost use Rattle.std.specs.Prelude.{List};
-    ghost use Rattle.std.specs.Ordering.{nat_cmp};
-    ghost use Rattle.std.specs.BTreeMap as tree;
     ghost use Rattle.linda_hold.specs.Waits as seen;
     ghost use Rattle.linda_hold.specs.Index.{HasWaits};
+    ghost use Rattle.linda_hold.specs.Numbered.{AreBelow, in_order, wait_at};
+    ghost use Rattle.std.specs.Map.{values_of};
 
     ghost Value = { List seen.Wait };
 
-    ghost view = { λ w. tree.values w.by_arrival };
+    ghost view = { λ w. values_of (in_order w.by_arrival.entries) };
 
-    ghost invariant = { λ w. tree.IsOrdered nat_cmp w.by_arrival
-        × HasWaits w.index (tree.get nat_cmp w.by_arrival) };
+    ghost invariant = { λ w. AreBelow w.next (wait_at w.by_arrival.entries)
+        × HasWaits w.index (wait_at w.by_arrival.entries) };
 }
 
 impl Waits {
@@ -59,8 +72,19 @@ impl Waits {
     {
         Waits {
             alloc,
-            by_arrival: BTreeMap::new(alloc),
+            by_arrival: IndexMap::with_hasher(alloc, Keys::Fixed),
+            next: 0,
             index: Index::empty(alloc),
+        }
+    }
+
+    /// Lets the numbers be hashed by random keys, which no client knows. If a request waits already, nothing
+    /// changes: so a program calls it as it begins.
+    pub fn choose_keys(&mut self, keys: RandomState)
+        ensures { self.new ≡ self.old }
+    {
+        if self.by_arrival.is_empty() {
+            self.by_arrival = IndexMap::with_hasher(self.alloc, Keys::Random(keys));
         }
     }
 
@@ -83,18 +107,22 @@ impl Waits {
     ///
     /// # Errors
     ///
-    /// `AllocError` where memory runs out, or the numbers do, which takes 2^64 arrivals while somebody
-    /// waits; and then the waits are as before and what was asked is dropped.
+    /// `AllocError` where memory runs out, or the numbers do, which takes 2^64 arrivals; and then the waits are as
+    /// before and what was asked is dropped.
     pub fn add(&mut self, request: Request, asked: Asked) -> Result<(), AllocError>
         requires { is_waiting request self.old ≡ false }
         ensures ok { OnOk result (self.new ≡ self.old ++ (request, asked) ∷ []) }
         ensures err { OnErr result (self.new ≡ self.old) }
     {
-        let number = next_number(&self.by_arrival)?;
+        let number = self.next;
+        let next = number_after(number)?;
         let wait = (request, asked);
         self.index.put(self.alloc, number, &wait)?;
         match self.by_arrival.insert(number, wait) {
-            Ok(_) => Ok(()),
+            Ok(_) => {
+                self.next = next;
+                Ok(())
+            }
             Err(refused) => {
                 self.index.remove(number, &refused.value.1);
                 Err(AllocError)
@@ -108,7 +136,7 @@ impl Waits {
         ensures { self.new ≡ without request self.old }
     {
         if let Some(number) = self.index.names.number_of(request) {
-            if let Some(wait) = self.by_arrival.remove(&number) {
+            if let Some(wait) = take_out(&mut self.by_arrival, number) {
                 self.index.remove(number, &wait);
             }
         }
@@ -206,12 +234,22 @@ impl Waits {
     }
 }
 
-// The number of the next to arrive, which is greater than all that are there.
-fn next_number(by_arrival: &BTreeMap<u64, Wait>) -> Result<u64, AllocError>
-    ensures { IfOk result (λ k. All (λ q. q < k) (tree.keys by_arrival.now)) }
+// Takes out the wait under the number. Once none is left, a map that grew large gives its memory back.
+fn take_out(by_arrival: &mut IndexMap<u64, Wait, Keys>, number: u64) -> Option<Wait>
+    ensures value { result ≡ wait_at by_arrival.old.entries number }
+    ensures others { (q : ℕ) → wait_at by_arrival.new.entries q
+        ≡ cond (nat_eq number q) None (wait_at by_arrival.old.entries q) }
 {
-    match by_arrival.last_key_value() {
-        Some((last, _)) => last.checked_add(1).ok_or(AllocError),
-        None => Ok(0),
+    let wait = by_arrival.swap_remove(&number)?;
+    if by_arrival.is_empty() && by_arrival.capacity() > KEPT {
+        by_arrival.shrink_to_fit();
     }
+    Some(wait)
+}
+
+// The number of the one that arrives next after that of this number.
+fn number_after(number: u64) -> Result<u64, AllocError>
+    ensures { IfOk result (λ next. next ≡ number + 1) }
+{
+    number.checked_add(1).ok_or(AllocError)
 }
