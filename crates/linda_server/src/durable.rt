@@ -26,6 +26,7 @@ use linda_journal::Bank;
 use linda_moment::Moment;
 use linda_store_state::{Deed, State};
 use linda_store_step::Store;
+use std::hash::RandomState;
 
 /// A server on two disks, of which one holds the bank in use. What it answers for is on that bank
 /// before it answers.
@@ -79,6 +80,17 @@ impl<D: Disk> Durable<D> {
         ensures { result.now ≡ self.now.store.soft.waits }
     {
         self.store.waits()
+    }
+
+    /// What waits is kept by random keys from now on, which no client knows, if nobody waits yet. For a program that
+    /// serves strangers, at its start. Nothing changes that a call answers.
+    pub fn choose_keys(&mut self, keys: RandomState)
+        ensures store { self.new.store ≡ self.old.store }
+        ensures disks { (self.new.disks ≡ self.old.disks) × (self.new.limit ≡ self.old.limit) }
+        ensures down { (self.new.down ≡ self.old.down) × (self.new.before.value ≡ self.old.before.value)
+            × (self.new.lost.items ≡ self.old.lost.items) }
+    {
+        self.store.choose_keys(keys);
     }
 
     /// Whether the server is down. While it is not, it is in order, and crashes now leave its

@@ -18,6 +18,7 @@ use linda_hold::{Awaiting, Holds, Request, Waits};
 use linda_tuple::Tuple;
 use linda_wire::Reply;
 use std::alloc::{AllocError, Global};
+use std::hash::RandomState;
 use std::marker::Model;
 
 /// The tuples that are held, each for a request, and the requests that wait.
@@ -47,6 +48,13 @@ impl Soft {
             holds: Holds::new(alloc),
             waits: Waits::new(alloc),
         }
+    }
+
+    /// The numbers of those that wait are hashed by random keys from now on, if nobody waits yet.
+    pub(crate) fn choose_keys(&mut self, keys: RandomState)
+        ensures { self.new ≡ self.old }
+    {
+        self.waits.choose_keys(keys);
     }
 
     /// The tuple is new or free: the reads that wait for it are answered and wait no more, then it is

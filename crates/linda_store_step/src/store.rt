@@ -20,6 +20,7 @@ use linda_store_state::{Deed, State};
 use linda_tuple::Form;
 use linda_wire::{Message, Reply};
 use std::alloc::{AllocError, Global};
+use std::hash::RandomState;
 use std::marker::Model;
 
 /// The state of a server, what it holds for requests and which requests wait.
@@ -80,6 +81,15 @@ impl<B: Bag> Store<B> {
             starts: Starts::new(alloc),
             spent: false,
         }
+    }
+
+    /// What waits is kept by random keys from now on, which no client knows, if nobody waits yet: so clients cannot
+    /// make look-ups slow by what they ask and give up. For a program that serves strangers, at its start. Nothing
+    /// changes that a call answers.
+    pub fn choose_keys(&mut self, keys: RandomState)
+        ensures { self.new ≡ self.old }
+    {
+        self.soft.choose_keys(keys);
     }
 
     /// Does what the message of the client asks, and answers it. No greeting is asked before.
