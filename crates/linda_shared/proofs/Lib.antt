@@ -1,4 +1,6 @@
 mod WorkingLaws
 mod SeatLaws
+mod BatchLaws
 mod GroupLaws
+mod GreetingLaws
 mod AddressedLaws

@@ -1,4 +1,5 @@
 pub mod Addressed
-pub mod Group
+pub mod Batch
 pub mod Greeting
+pub mod Group
 pub mod Working

@@ -1,7 +1,7 @@
 //! What becomes of a group's deliveries.
 
 ghost use Rattle.std.specs.Prelude.{◌≡◌, true, false, not, All, IsTrue, map, vec_len, vec_capacity};
-ghost use Rattle.linda_shared.specs.Group.{has_copy, all_true};
+ghost use Rattle.linda_shared.specs.Batch.{has_copy, all_true};
 
 use linda_disk::Disk;
 use linda_shared_held::Held;

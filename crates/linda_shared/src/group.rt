@@ -1,128 +1,121 @@
-//! The batch in hand.
+//! Messages of several sessions that are served together.
 
-ghost use Rattle.std.specs.Prelude.{◌≡◌, ◌+◌, ◌-◌, ◌≤◌, ◌++◌, [], true, false, All, IsTrue, map, length};
-ghost use Rattle.std.specs.Prelude.{nat_lt, vec_len, vec_capacity, IfOk};
-ghost use Rattle.std.specs.VecDeque.{deque_len};
+ghost use Rattle.std.specs.Prelude.{◌≡◌, ◌+◌, ◌<◌, vec_len, true, IfOk, IfSome};
+ghost use Rattle.linda_shared_accounts.specs.Account.{account_of};
+ghost use Rattle.linda_shared_accounts.specs.declared.limits.TheConstants.{MOST_ASKED};
 ghost use Rattle.linda_store_step.specs.declared.size.TheConstants.{MAX_BATCH};
-ghost use Rattle.linda_shared_queue.specs.Queue.{line, fits, asks_next};
-ghost use Rattle.linda_shared.specs.Group.{group_of, parcel, has_copy};
+ghost use Rattle.linda_shared.specs.Group.{group_of};
 
-use crate::given::settle;
+use crate::sender::Sender;
 use linda_disk::Disk;
-use linda_shared_accounts::{Answered, Asked};
+use linda_shared_accounts::{Account, Answered, Asked};
 use linda_shared_held::Held;
-use linda_shared_queue::{Address, Delivery, Queue, Router, Waiting};
 use linda_store_step::MAX_BATCH;
 use linda_wire::Message;
 use std::alloc::{AllocError, Global};
 use std::marker::Model;
-use std::sync::Wait;
 use std::sync::ledger::Ledger;
 
-/// The messages in hand, each with its client and its part of the ledger, and the deliveries that answer them.
-/// Contracts see the messages with their clients, in order, and of each delivery whether it has a copy. The client of a
-/// message is the one that its answer goes to.
+/// Messages of several sessions, each with its sender and its part of the ledger; once they were served, the answers.
+/// There is room for a batch, so nothing that it does takes memory. A message is done as that of the client of the
+/// account that asked it. Contracts see how many are asked, and how many are answered.
 #[derive(Drop)]
-pub(crate) struct Group<L: Ledger> {
+pub struct Group<L: Ledger> {
+    // Those asked, in order; once they were served those that are answered, the first one last.
     messages: Vec<(u32, Message)>,
-    asked: Vec<Asked<Address<L>, L>>,
-    answered: Vec<Answered<Address<L>, L>>,
-    pub(crate) deliveries: Vec<Delivery<L>>,
+    asked: Vec<Asked<Sender, L>>,
+    answered: Vec<Answered<Sender, L>>,
 }
 
 impl<L: Ledger> Model for Group<L> {
-    ghost use Rattle.std.specs.Prelude.{◌≡◌, ◌+◌, ◌≤◌, map, vec_len, vec_capacity};
+    ghost use Rattle.std.specs.Prelude.{◌≡◌, ◌≤◌, ◌++◌, map, vec_len, vec_capacity};
     ghost use Rattle.linda_store_step.specs.declared.size.TheConstants.{MAX_BATCH};
     ghost use Rattle.linda_shared.specs.Group as seen;
-    ghost use Rattle.linda_shared.specs.Group.{group_of, has_copy};
+    ghost use Rattle.linda_shared.specs.Group.{group_of};
 
     ghost Value = { seen.Group };
 
-    ghost view = { λ t. group_of t.messages.items (map has_copy t.deliveries.items) };
+    ghost view = { λ g. group_of (vec_len g.asked) (vec_len g.answered) };
 
-    ghost invariant = { λ t. (map (λ m. m.0) t.messages.items ≡ map (λ a. a.address.client) t.asked.items)
-        × (vec_len t.messages ≡ vec_len t.asked) × (vec_len t.answered ≡ 0)
-        × (vec_len t.asked + vec_len t.deliveries ≤ MAX_BATCH)
-        × (MAX_BATCH ≤ vec_capacity t.messages) × (MAX_BATCH ≤ vec_capacity t.asked)
-        × (MAX_BATCH ≤ vec_capacity t.answered) × (MAX_BATCH ≤ vec_capacity t.deliveries) };
+    ghost invariant = { λ g. (map (λ m. m.0) g.messages.items
+        ≡ map (λ a. a.address.client) g.asked.items ++ map (λ a. a.address.client) g.answered.items)
+        × (vec_len g.messages ≤ MAX_BATCH)
+        × (MAX_BATCH ≤ vec_capacity g.messages) × (MAX_BATCH ≤ vec_capacity g.asked)
+        × (MAX_BATCH ≤ vec_capacity g.answered) };
 }
 
 impl<L: Ledger> Group<L> {
-    /// Nothing is in hand, and there is room for a batch.
-    pub(crate) fn new(alloc: Global) -> Result<Group<L>, AllocError>
-        ensures { IfOk result (λ t. t ≡ group_of [] []) }
+    /// Nothing is asked, and there is room for a batch.
+    ///
+    /// # Errors
+    ///
+    /// `AllocError`: nothing was made.
+    pub fn new(alloc: Global) -> Result<Group<L>, AllocError>
+        ensures { IfOk result (λ g. g ≡ group_of 0 0) }
     {
         let messages = Vec::with_capacity(alloc, MAX_BATCH)?;
         let asked = Vec::with_capacity(alloc, MAX_BATCH)?;
         let answered = Vec::with_capacity(alloc, MAX_BATCH)?;
-        let deliveries = Vec::with_capacity(alloc, MAX_BATCH)?;
         Ok(Group {
             messages,
             asked,
             answered,
-            deliveries,
         })
     }
 
-    /// Takes what waits of one kind, up to a batch.
-    pub(crate) fn fill(&mut self, queue: &mut Queue<L>)
-        ensures kind { queue.new.has_asked ≡ asks_next (nat_lt 0 (deque_len queue.old.asking))
-            (nat_lt 0 (deque_len queue.old.doing)) queue.old.has_asked }
-        // The messages in hand, and those of this kind that wait, are the same, in order;
-        ensures taken { self.new.messages ++ map parcel (line queue.new.has_asked queue.new)
-            ≡ self.old.messages ++ map parcel (line queue.new.has_asked queue.old) }
-        // and no call of those that wait fits any more.
-        ensures full { fits (MAX_BATCH - length self.new.messages - length self.new.deliveries)
-            (line queue.new.has_asked queue.new) ≡ false }
-        ensures deliveries { self.new.deliveries ≡ self.old.deliveries }
+    /// How many messages are here.
+    pub fn len(&self) -> usize
+        ensures { result ≡ self.now.asked + self.now.answered }
     {
-        queue.begin();
-        for _ in 0..MAX_BATCH {
-            let room = MAX_BATCH - self.asked.len() - self.deliveries.len();
-            let Some(waiting) = queue.next(room) else {
-                break;
-            };
-            let Waiting { message, asked, .. } = waiting;
-            self.messages
-                .push_reserved((asked.address().client(), message));
-            self.asked.push_reserved(asked);
+        self.asked.len() + self.answered.len()
+    }
+
+    /// Whether there is room for one message more, and no answer waits to be heard.
+    pub fn has_room(&self) -> bool
+        ensures room { result ≡ true → self.now.asked < MAX_BATCH }
+        ensures none { result ≡ true → self.now.answered ≡ 0 }
+    {
+        self.answered.is_empty() && self.asked.len() < MAX_BATCH
+    }
+
+    /// A message of this account goes on its way. Its answer comes back with this key.
+    pub fn ask(&mut self, account: &mut Account<L>, key: usize, message: Message)
+        requires room { self.old.asked < MAX_BATCH }
+        requires none { self.old.answered ≡ 0 }
+        requires few { account.old.asked < MOST_ASKED }
+        ensures account { account.new ≡ account_of account.old.client account.old.deeds (account.old.asked + 1)
+            account.old.ring }
+        ensures group { self.new ≡ group_of (self.old.asked + 1) 0 }
+    {
+        let client = account.client();
+        let asked = account.ask(Sender::new(client, key));
+        self.messages.push_reserved((client, message));
+        self.asked.push_reserved(asked);
+    }
+
+    /// Serves all that was asked, as one step of the server after another. If answers of before wait to be heard
+    /// nothing is done.
+    pub(crate) fn serve<D: Disk>(&mut self, alloc: Global, held: &mut Held<D, L>)
+        ensures each { self.new.asked + self.new.answered ≡ self.old.asked + self.old.answered }
+        ensures all { self.old.answered ≡ 0 → self.new.asked ≡ 0 }
+    {
+        if !self.answered.is_empty() {
+            return;
         }
-    }
-
-    /// Serves all that was asked, and writes a delivery for each. Where there is no memory for all of these the server
-    /// is given up, and they are lost.
-    pub(crate) fn serve<D: Disk>(&mut self, alloc: Global, held: &mut Held<D, L>) -> bool
-        ensures served { self.new.messages ≡ [] }
-        ensures each { length self.new.deliveries ≡ length self.old.messages + length self.old.deliveries }
-        ensures kept { result ≡ true → All IsTrue self.new.deliveries }
-        ensures down { result ≡ false → held.new.server.down ≡ true }
-    {
         let _ = held.handle_all(alloc, &self.messages, &mut self.asked, &mut self.answered);
-        self.messages.clear();
-        write_all(alloc, &mut self.answered, &mut self.deliveries);
-        settle(&mut self.deliveries, held)
+        self.messages.reverse();
     }
 
-    /// The deliveries, for room to write as many again.
-    pub(crate) fn hand_over<R: Wait>(&mut self, rt: &R, router: &mut Router<L>)
-        ensures { self.new ≡ group_of self.old.messages [] }
+    /// The next message that was answered, in order, with its answer; nothing before the group was served.
+    pub fn next(&mut self) -> Option<(Message, Answered<Sender, L>)>
+        ensures fewer { IfSome result (λ _. (self.new.answered + 1 ≡ self.old.answered)
+            × (self.new.asked ≡ self.old.asked)) }
     {
-        router.take_deliveries(rt, &mut self.deliveries);
-    }
-}
-
-// Writes a delivery for each answer.
-fn write_all<L: Ledger>(
-    alloc: Global,
-    answered: &mut Vec<Answered<Address<L>, L>>,
-    deliveries: &mut Vec<Delivery<L>>,
-)
-    requires { vec_len deliveries.old + vec_len answered.old ≤ vec_capacity deliveries.old }
-    ensures answered { (vec_len answered.new ≡ 0) × (vec_capacity answered.new ≡ vec_capacity answered.old) }
-    ensures deliveries { (vec_len deliveries.new ≡ vec_len deliveries.old + vec_len answered.old)
-        × (vec_capacity deliveries.new ≡ vec_capacity deliveries.old) }
-{
-    while let Some(one) = answered.pop() {
-        deliveries.push_reserved(Delivery::of(alloc, one));
+        if !self.asked.is_empty() {
+            return None;
+        }
+        let answered = self.answered.pop()?;
+        let message = self.messages.pop()?;
+        Some((message.1, answered))
     }
 }

@@ -3,9 +3,14 @@
 //! `Shared` has the server under a lock. What waits is served in groups: whoever finds nobody serving leads, takes a
 //! batch of what waits to the server, and while the answers are given out the next session leads the next group. A
 //! `Seat` is what a session carries; its replies come out of an `Outlet`, which never asks for the server.
+//!
+//! One thread may serve many sessions too, and then waits for none of them: each is an `Account`, its messages go to the
+//! server in a `Group` with those of the others (`admit`, `serve_group`, `depart`), and `hear_answer` is what it hears.
+//! What is sent to clients goes to a `Post`.
 #![tactic(auto)]
 
 mod addressed;
+mod batch;
 mod gate;
 mod given;
 mod greeted;
@@ -13,17 +18,21 @@ mod group;
 mod locked;
 mod seat;
 mod send;
+mod sender;
 mod shared;
 mod worker;
 mod workers;
 
 pub use gate::Gate;
 pub use greeted::Greeted;
-pub use linda_shared_accounts::{Receipt, SharedFault};
+pub use group::Group;
+pub use linda_shared_accounts::{Account, Answered, MOST_ASKED, Receipt, SharedFault};
 pub use linda_shared_held::{Gauge, Report};
-pub use linda_shared_queue::Outlet;
+pub use linda_shared_outbox::Sent;
+pub use linda_shared_queue::{Outlet, hear_answer};
 pub use seat::Seat;
 pub use send::{outlet_crosses, seat_crosses, shared_may_be_lent};
-pub use shared::Shared;
+pub use sender::Sender;
+pub use shared::{Post, Shared};
 pub use worker::{MOST_TURNS, Next, Worker};
 pub use workers::{Worked, run_workers};

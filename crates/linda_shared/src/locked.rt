@@ -4,7 +4,8 @@ ghost use Rattle.std.specs.Prelude.{◌≡◌, ◌++◌, ℕ, [], true, false, A
 ghost use Rattle.linda_shared_outbox.specs.Waiting.{waits_for};
 ghost use Rattle.linda_shared_outbox.specs.Replies.{handed_out};
 
-use crate::group::Group;
+use crate::batch::Batch;
+use crate::shared::Post;
 use linda_disk::Disk;
 use linda_shared_held::Held;
 use linda_shared_queue::Router;
@@ -17,22 +18,22 @@ use std::sync::ledger::Ledger;
 #[derive(Drop)]
 pub(crate) struct Locked<D: Disk, L: Ledger> {
     pub(crate) held: Held<D, L>,
-    pub(crate) group: Group<L>,
+    pub(crate) batch: Batch<L>,
     pub(crate) is_given_up: bool,
 }
 
 impl<D: Disk, L: Ledger> Locked<D, L> {
     /// Serves what is in hand.
     pub(crate) fn serve(&mut self, alloc: Global)
-        ensures served { self.new.group.messages ≡ [] }
+        ensures served { self.new.batch.messages ≡ [] }
         // Unless the server was given up, each answer has its copy;
-        ensures kept { self.new.is_given_up ≡ false → All IsTrue self.new.group.deliveries }
+        ensures kept { self.new.is_given_up ≡ false → All IsTrue self.new.batch.deliveries }
         // and once it was it is for good.
         ensures stays { self.old.is_given_up ≡ true → self.new.is_given_up ≡ true }
         ensures down { self.old.is_given_up ≡ false → self.new.is_given_up ≡ true
             → self.new.held.server.down ≡ true }
     {
-        if !self.group.serve(alloc, &mut self.held) {
+        if !self.batch.serve(alloc, &mut self.held) {
             self.is_given_up = true;
         }
     }
@@ -54,6 +55,25 @@ impl<D: Disk, L: Ledger> Locked<D, L> {
                 return;
             };
             router.take_replies(rt, sent);
+        }
+    }
+
+    /// Posts what waits in the server's outboxes.
+    pub(crate) fn post_all<R: Wait, P: Post>(&mut self, rt: &R, alloc: Global, posts: &mut P)
+        // Nothing is left there, unless the server was given up: then nothing goes out.
+        ensures all { self.old.is_given_up ≡ false
+            → (c : ℕ) → handed_out (waits_for self.new.held.boxes c) ≡ [] }
+        ensures none { self.old.is_given_up ≡ true → posts.new ≡ posts.old }
+        ensures same { self.new.is_given_up ≡ self.old.is_given_up }
+    {
+        if self.is_given_up {
+            return;
+        }
+        for _ in rt.forever() {
+            let Some(sent) = self.held.drain_next(alloc) else {
+                return;
+            };
+            posts.post(rt, sent);
         }
     }
 }

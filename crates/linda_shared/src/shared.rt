@@ -3,6 +3,7 @@
 mod batch;
 mod end;
 mod greet;
+mod group;
 mod lead;
 mod leave;
 mod submit;
@@ -10,8 +11,9 @@ mod submit;
 ghost use Rattle.std.specs.Prelude.{◌≡◌, false};
 ghost use Rattle.linda_shared_accounts.specs.declared.limits.TheConstants.{PARTS};
 
-use crate::group::Group;
+use crate::batch::Batch;
 use crate::locked::Locked;
+pub use group::Post;
 use linda_disk::Disk;
 use linda_shared_accounts::SharedFault;
 use linda_shared_held::{Durable, Gauge, Held};
@@ -41,13 +43,13 @@ impl<D: Disk, L: Ledger> Shared<D, L> {
         requires up { server.down ≡ false }
         requires blank { (blank.name ≡ L.name) × (blank.parts ≡ L.parts) × (L.parts ≡ PARTS) }
     {
-        let group = Group::new(alloc)?;
+        let batch = Batch::new(alloc)?;
         let router = Router::new(alloc)?;
         let held = Held::new(alloc, server, blank);
         Ok(Shared {
             locked: Mutex::new(Locked {
                 held,
-                group,
+                batch,
                 is_given_up: false,
             }),
             router: Mutex::new(router),

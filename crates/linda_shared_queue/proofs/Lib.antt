@@ -1,3 +1,4 @@
 mod SeatLaws
 mod HeardLaws
 mod OwnerLaws
+mod HearingLaws

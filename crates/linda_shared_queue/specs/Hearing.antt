@@ -1,5 +1,5 @@
 -- What an account hears where no deed was made.
-use Rattle.std.specs.Prelude.{◌≡◌, Option, Some, None, Result, Ok, Err}
+use Rattle.std.specs.Prelude.{◌≡◌, Option, Some, None, Result, Ok, Err, IsOk}
 use Rattle.linda_shared_accounts.specs.declared.receipt.Receipt.{Receipt}
 use Rattle.linda_shared_accounts.specs.declared.effect.Effect.{Effect}
 use Rattle.linda_shared_accounts.specs.declared.effect.Effect.TheVariants as tidings
@@ -22,3 +22,9 @@ IsHeard (tidings.Deed receipt) copy heard = Unit {0}
 IsHeard tidings.NoDeed None heard = heard ≡ Err faults.Down
 IsHeard tidings.NoDeed (Some told) heard = heard ≡ Ok None
 IsHeard (tidings.Failed fault) copy heard = heard ≡ Err (plain fault)
+
+-- The same of an answer that has no copy, and so cannot be lost.
+abbrev pub IsAnswered : Effect → Result (Unit {0}) SharedFault → Type 0
+IsAnswered (tidings.Deed receipt) heard = Unit {0}
+IsAnswered tidings.NoDeed heard = IsOk heard
+IsAnswered (tidings.Failed fault) heard = heard ≡ Err (plain fault)

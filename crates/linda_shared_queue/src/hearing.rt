@@ -6,11 +6,11 @@ ghost use Rattle.linda_shared_accounts.specs.Account.{account_of};
 ghost use Rattle.linda_shared_accounts.specs.Ring.{IsNext, with_receipt};
 ghost use Rattle.linda_shared_accounts.specs.Receipts.{number_in};
 ghost use Rattle.linda_shared_queue.specs.Hearing as spec;
-ghost use Rattle.linda_shared_queue.specs.Hearing.{IsHeard};
-ghost use Rattle.linda_shared_queue.specs.Seat.{with_told, back, IsLeft, IsToldOf};
+ghost use Rattle.linda_shared_queue.specs.Hearing.{IsHeard, IsAnswered};
+ghost use Rattle.linda_shared_queue.specs.Seat.{with_told, back, IsLeft, IsLost, IsToldOf};
 
 use crate::answer::Answer;
-use linda_shared_accounts::{Account, Effect, Receipt, SharedFault, is_deed_of};
+use linda_shared_accounts::{Account, Answered, Effect, Receipt, SharedFault, is_deed_of};
 use linda_wire::Message;
 use std::sync::ledger::Ledger;
 
@@ -49,6 +49,33 @@ pub fn hear<L: Ledger>(
             Some(_) => Ok(None),
             None => Err(SharedFault::Down),
         },
+        Effect::Failed(fault) => Err(plain(fault)),
+    }
+}
+
+/// The account hears the answer to its message, of which there is no copy. A receipt joins its ring.
+///
+/// # Errors
+///
+/// `Receipt`: the account was told of a deed that the message does not ask for, or of one that it was told before.
+/// Else what the server said, and nothing was done.
+pub fn hear_answer<A: Drop, L: Ledger>(
+    account: &mut Account<L>,
+    message: &Message,
+    answered: Answered<A, L>,
+) -> Result<(), SharedFault>
+    requires { 0 < account.old.asked }
+    // It was told nothing, or a deed that the message asks for, whose receipt joined the ring after the others;
+    ensures ok { OnOk result (IsLost message.now (back account.old) account.new) }
+    // else it is as before, but for `Receipt`.
+    ensures err { IfErr result (λ fault. IsLeft message.now (back account.old) fault account.new) }
+    // If no deed was made the answer says what comes of it.
+    ensures heard { IsAnswered answered.told result }
+{
+    let (_, told) = account.hear(answered);
+    match told {
+        Effect::Deed(receipt) => note(account, message, receipt),
+        Effect::NoDeed => Ok(()),
         Effect::Failed(fault) => Err(plain(fault)),
     }
 }

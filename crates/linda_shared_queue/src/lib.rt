@@ -5,7 +5,8 @@
 //! - The `Queue` has the messages that wait to be served, those of which no deed comes in a line of their own, and says
 //!   who is to serve the next group.
 //! - An `Answer` is what is told of a message, with a second copy of it. A `Delivery` is one on its way to a mailbox.
-//! - `hear` is what an account hears of its answer, and `Heard` what it hears of a batch.
+//! - `hear` is what an account hears of its answer, and `Heard` what it hears of a batch; `hear_answer` is for an answer
+//!   that is not copied, since whoever serves a group gives it to the session itself.
 //! - The `Router` has the mailbox of each session, and gives out what a group came to, while the next one is served.
 //!
 //! Order of locks: the router's, the queue's, a mailbox's. Whoever has a mailbox's lock asks for no other.
@@ -28,7 +29,7 @@ pub use address::Address;
 pub use answer::Answer;
 pub use delivery::Delivery;
 pub use heard::Heard;
-pub use hearing::hear;
+pub use hearing::{hear, hear_answer};
 pub use mail::Turn;
 pub use mailbox::Mailbox;
 pub use outlet::Outlet;

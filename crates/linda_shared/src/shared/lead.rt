@@ -32,11 +32,11 @@ impl<D: Disk, L: Ledger> Shared<D, L> {
     // Serves a group, lets the server go to the next leader, and then gives out what the group came to.
     fn lead<R: Wait>(&self, rt: &R) {
         let mut locked = self.locked.lock(rt);
-        locked.group.fill(&mut self.queue.lock(rt));
+        locked.batch.fill(&mut self.queue.lock(rt));
         locked.serve(self.alloc);
         let is_down = locked.held.is_down();
         let mut router = self.router.lock(rt);
-        locked.group.hand_over(rt, &mut router);
+        locked.batch.hand_over(rt, &mut router);
         locked.take_posted(rt, self.alloc, &mut router);
         drop(locked);
         self.queue.lock(rt).pass_on(rt);

@@ -1,5 +1,5 @@
 use Rattle.std.proofs.Common.{◌≡◌, map, length}
-use Rattle.linda_shared.specs.Group.{has_copy, all_true}
+use Rattle.linda_shared.specs.Batch.{has_copy, all_true}
 use Rattle.linda_shared.proofs.given.has_lost.Given as goal
 
 abbrev pub invariant-loop-rest : goal.invariant-loop-rest

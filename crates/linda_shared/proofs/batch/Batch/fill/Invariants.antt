@@ -1,8 +1,8 @@
 use Rattle.std.proofs.Common.{◌≡◌, ◌+◌, ◌≤◌, ◌++◌, map, vec_len, vec_capacity, nat_lt, deque_len}
 use Rattle.linda_store_step.specs.declared.size.TheConstants.{MAX_BATCH}
 use Rattle.linda_shared_queue.specs.Queue.{line, asks_next}
-use Rattle.linda_shared.specs.Group.{parcel, has_copy}
-use Rattle.linda_shared.proofs.group.Group.fill.Given as goal
+use Rattle.linda_shared.specs.Batch.{parcel, has_copy}
+use Rattle.linda_shared.proofs.batch.Batch.fill.Given as goal
 
 -- Each step takes one message in hand, and those in hand and those that wait are the same, in order.
 abbrev pub invariant-loop : goal.invariant-loop
