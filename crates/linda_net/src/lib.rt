@@ -7,6 +7,7 @@
 #![tactic(auto)]
 
 mod frames;
+mod loops;
 mod marks;
 mod reader;
 mod refusals;
@@ -23,5 +24,5 @@ pub use linda_net_pump::{Intake, pump};
 pub use linda_shared::{Gauge, Shared, SharedFault};
 pub use marks::Tally;
 pub use refusals::{Refused, Why};
-pub use serving::{serve, serve_watched};
+pub use serving::{serve, serve_loop, serve_watched};
 pub use watching::{Notice, Watcher};

@@ -4,6 +4,7 @@ ghost use Rattle.std.specs.Prelude.{◌≡◌, ◌*◌, ◌-◌, ◌<◌, ◌≤
 ghost use Rattle.std.specs.Duration.{as_nanos};
 ghost use Rattle.linda_net.specs.Counting.{one_less};
 
+use crate::loops::Loops;
 use crate::marks::{Marks, Tally};
 use crate::reader::read_messages;
 use crate::watching::{Notice, Silent, Watcher, take_snapshot, tell, watch};
@@ -11,12 +12,12 @@ use crate::writer::{Writer, write_news};
 use linda_disk::Disk;
 use linda_shared::{Shared, SharedFault};
 use std::alloc::Global;
-use std::net::{TcpListener, TcpStream};
+use std::net::{Net, TcpListener, TcpStream};
 use std::sync::ledger::Ledger;
 use std::sync::{Mutex, Wait};
-use std::thread;
 use std::thread::{Scope, Threads};
 use std::time::{Clock, Duration};
+use std::{io, thread};
 
 /// How often it is looked whether a snapshot pays for itself, and what happened, in milliseconds.
 const LOOK: u64 = 100;
@@ -69,18 +70,75 @@ pub fn serve_watched<
     let counts = Marks::new();
     let marks = &counts;
     thread::scope(thread::scope_env(), rt, |scope| {
-        let watches = scope.spawn(move || watch(rt, shared, over, marks, watcher));
-        if watches.is_err() {
-            tell(rt, shared, marks, watcher, Notice::Unwatched);
-        }
-        let renews = scope.spawn(move || take_snapshots(rt, shared, marks, over));
-        if renews.is_err() {
-            tell(rt, shared, marks, watcher, Notice::NoThread);
-        }
+        begin_beside(scope, rt, shared, over, marks, watcher);
         accept_all(rt, alloc, listener, shared, marks, sessions);
         *over.lock(rt) = true;
     });
     (ended(shared.is_down(rt)), marks.tally())
+}
+
+/// Serves as `serve_watched` does, but not with two threads for each connection: a few loops, each in a thread of its
+/// own, read what came and write what is sent. A loop takes what its connections have to the server as one group, those
+/// messages first of which no deed comes. An idle connection costs no thread. If the system has no room for a loop, it
+/// serves as `serve_watched` does.
+pub fn serve_loop<
+    D: Disk + Send,
+    L: Ledger + Send + Sync,
+    R: Net + Threads + Wait + Clock + Sync,
+    T: Watcher + Send,
+>(
+    rt: &R,
+    alloc: Global,
+    listener: TcpListener,
+    shared: &Shared<D, L>,
+    sessions: Option<u32>,
+    watcher: &Mutex<T>,
+) -> (Result<(), SharedFault>, Tally) {
+    let Ok((loops, relays)) = Loops::begin(rt, alloc) else {
+        return serve_watched(rt, alloc, &listener, shared, sessions, watcher);
+    };
+    if listener.set_nonblocking(true).is_err() {
+        return serve_watched(rt, alloc, &listener, shared, sessions, watcher);
+    }
+    let mut loops = loops;
+    if loops.open(listener, sessions).is_err() {
+        return (Err(SharedFault::NoThread), Tally::none());
+    }
+    let is_over = Mutex::new(false);
+    let over = &is_over;
+    let lent = &relays;
+    thread::scope(thread::scope_env(), rt, |scope| {
+        begin_beside(scope, rt, shared, over, &lent.marks, watcher);
+        loops.run(rt, shared, lent);
+        *over.lock(rt) = true;
+    });
+    (ended(shared.is_down(rt)), relays.marks.tally())
+}
+
+// Begins the threads beside those of connections: one tells the watcher, one takes snapshots, until it is over.
+fn begin_beside<
+    's,
+    E,
+    D: Disk + Send,
+    L: Ledger + Send + Sync,
+    R: Threads + Wait + Clock + Sync,
+    T: Watcher + Send,
+>(
+    scope: &'s Scope<'s, E>,
+    rt: &'s R,
+    shared: &'s Shared<D, L>,
+    over: &'s Mutex<bool>,
+    marks: &'s Marks,
+    watcher: &'s Mutex<T>,
+) {
+    let watches = scope.spawn(move || watch(rt, shared, over, marks, watcher));
+    if watches.is_err() {
+        tell(rt, shared, marks, watcher, Notice::Unwatched);
+    }
+    let renews = scope.spawn(move || take_snapshots(rt, shared, marks, over));
+    if renews.is_err() {
+        tell(rt, shared, marks, watcher, Notice::NoThread);
+    }
 }
 
 // Serves the connections to their ends.

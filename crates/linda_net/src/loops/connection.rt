@@ -1,0 +1,305 @@
+//! One connection of a loop: what it sent, and what is to be written to it, without waiting for it.
+
+ghost use Rattle.std.specs.Prelude.{◌≤◌, vec_len};
+
+use crate::marks::Marks;
+use linda_shared::{Account, SharedFault};
+use linda_wire::{Feed, FrameFault, LENGTH_BYTES, Message, Refusal, Reply, encode_reply};
+use mio::net::TcpStream;
+use std::alloc::Global;
+use std::io::{ErrorKind, Read, Write};
+use std::net::Shutdown;
+use std::sync::ledger::Ledger;
+
+/// How many bytes may wait to be written to a connection while more is taken from it.
+const MOST_UNSENT: usize = 262_144;
+
+/// How many bytes of room an idle connection keeps for what is written to it.
+const MOST_SPARE: usize = 1_024;
+
+/// How often a connection is read at most before others are looked at.
+const MOST_READS: u32 = 16;
+
+/// What a connection has next.
+pub(super) enum Next {
+    /// A message.
+    Message(Message),
+    /// Nothing for now.
+    None,
+    /// It was read often enough: others are looked at first.
+    Later,
+}
+
+/// One connection.
+#[derive(Drop)]
+pub(super) struct Connection<L: Ledger> {
+    alloc: Global,
+    stream: TcpStream,
+    feed: Feed,
+    // A message that was read and could not go yet.
+    held: Option<Message>,
+    /// Once its client was greeted.
+    pub(super) account: Option<Account<L>>,
+    /// Its first message is being answered.
+    pub(super) is_greeting: bool,
+    /// How many of its messages of which a deed may come are on their way.
+    pub(super) doing: u64,
+    /// It is in the list of those that may have something, and of those that are written to.
+    pub(super) is_ready: bool,
+    pub(super) is_touched: bool,
+    out: Vec<u8>,
+    sent: usize,
+    // The socket may have more to read.
+    may_read: bool,
+    // The peer sends no more: what is there is read to its end.
+    is_shut: bool,
+    // Nothing more is read from it, and it ends once all is answered and written.
+    is_ending: bool,
+    // What it is told at its end.
+    last: Option<Refusal>,
+    // It can be neither read nor written.
+    is_broken: bool,
+    ghost written: { sent ≤ vec_len out },
+}
+
+impl<L: Ledger> Connection<L> {
+    /// A connection that sent nothing yet, or that was not looked at.
+    pub(super) fn new(alloc: Global, stream: TcpStream) -> Connection<L> {
+        Connection {
+            alloc,
+            stream,
+            feed: Feed::new(alloc),
+            held: None,
+            account: None,
+            is_greeting: false,
+            doing: 0,
+            is_ready: false,
+            is_touched: false,
+            out: Vec::new(alloc),
+            sent: 0,
+            may_read: true,
+            is_shut: false,
+            is_ending: false,
+            last: None,
+            is_broken: false,
+        }
+    }
+
+    /// The socket.
+    pub(super) fn stream(&mut self) -> &mut TcpStream {
+        &mut self.stream
+    }
+
+    /// The socket may have more to read; or no more than what is there, and then its end.
+    pub(super) fn wake(&mut self, is_shut: bool) {
+        self.may_read = true;
+        self.is_shut = self.is_shut || is_shut;
+    }
+
+    /// How many of its messages are on their way.
+    pub(super) fn asked(&self) -> u64 {
+        match &self.account {
+            Some(account) => account.asked(),
+            None => 0,
+        }
+    }
+
+    /// Whether something of it is on its way. Until it came back the connection stays where it is.
+    pub(super) fn is_waiting(&self) -> bool {
+        self.is_greeting || self.asked() > 0
+    }
+
+    /// Whether something is still to be written.
+    pub(super) fn has_unsent(&self) -> bool {
+        self.sent < self.out.len()
+    }
+
+    /// Whether there may be something to take from it now.
+    pub(super) fn has_more(&self) -> bool {
+        self.may_give()
+            && (self.held.is_some() || self.may_read || self.feed.rest() >= LENGTH_BYTES)
+    }
+
+    // Whether anything is taken from it now.
+    fn may_give(&self) -> bool {
+        !self.is_ending && !self.is_greeting && self.out.len() - self.sent <= MOST_UNSENT
+    }
+
+    /// Its next message. It is read if less than one is there.
+    pub(super) fn next(&mut self, buffer: &mut [u8]) -> Next {
+        if !self.may_give() {
+            return Next::None;
+        }
+        if let Some(message) = self.held.take() {
+            return Next::Message(message);
+        }
+        for _ in 0..MOST_READS {
+            match self.feed.next(self.alloc) {
+                Ok(Some(message)) => return Next::Message(message),
+                Ok(None) => {}
+                Err(fault) => {
+                    self.end_with(last_word(fault));
+                    return Next::None;
+                }
+            }
+            if !self.may_read {
+                return Next::None;
+            }
+            self.read(buffer);
+            if self.is_ending {
+                return Next::None;
+            }
+        }
+        Next::Later
+    }
+
+    // Reads what is there. A short read leaves nothing to read, unless the peer is known to send no more: then its end
+    // is still to be read, of which no second event comes.
+    fn read(&mut self, buffer: &mut [u8]) {
+        match self.stream.read(buffer) {
+            Ok(0) => {
+                self.may_read = false;
+                self.is_ending = true;
+            }
+            Ok(len) => {
+                self.may_read = self.is_shut || len == buffer.len();
+                if self.feed.feed(&buffer[..len]).is_err() {
+                    self.end_with(None);
+                }
+            }
+            Err(error) => match error.kind() {
+                ErrorKind::WouldBlock => self.may_read = false,
+                ErrorKind::Interrupted => {}
+                _ => self.fail(),
+            },
+        }
+    }
+
+    /// A message that was read cannot go yet.
+    pub(super) fn hold(&mut self, message: Message) {
+        self.held = Some(message);
+    }
+
+    /// It is told this, after all that came before, which is counted.
+    pub(super) fn tell(&mut self, marks: &Marks, reply: &Reply) {
+        if self.is_broken {
+            return;
+        }
+        marks.sends(reply);
+        if encode_reply(&mut self.out, reply).is_err() {
+            self.fail();
+        }
+    }
+
+    /// Nothing more is taken from it. It ends once what is on its way came back, with this word, if there is one.
+    pub(super) fn end_with(&mut self, word: Option<Refusal>) {
+        self.is_ending = true;
+        if self.last.is_none() {
+            self.last = word;
+        }
+    }
+
+    /// Nothing more is taken from it, since its server could not do what was asked.
+    pub(super) fn end_by(&mut self, fault: SharedFault) {
+        self.end_with(word_of(fault));
+    }
+
+    /// It can be neither read nor written.
+    pub(super) fn fail(&mut self) {
+        self.is_ending = true;
+        self.is_broken = true;
+        self.last = None;
+        self.out.clear();
+        self.sent = 0;
+    }
+
+    /// Writes what it can take.
+    pub(super) fn flush(&mut self, marks: &Marks) {
+        if self.is_ending && !self.is_waiting() {
+            if let Some(word) = self.last.take() {
+                self.tell(marks, &word.reply());
+            }
+        }
+        for _ in 0..self.out.len() {
+            if self.sent >= self.out.len() || !self.write() {
+                break;
+            }
+        }
+        self.shrink();
+    }
+
+    // Writes some of what is to be written. Whether more can be written now.
+    fn write(&mut self) -> bool {
+        match self.stream.write(&self.out[self.sent..]) {
+            Ok(0) => self.fail(),
+            Ok(len) => {
+                self.sent += len;
+                return true;
+            }
+            Err(error) => match error.kind() {
+                ErrorKind::WouldBlock => {}
+                ErrorKind::Interrupted => return true,
+                _ => self.fail(),
+            },
+        }
+        false
+    }
+
+    // Forgets what is written.
+    fn shrink(&mut self) {
+        if self.sent == 0 {
+            return;
+        }
+        let left = self.out.len() - self.sent;
+        if left > 0 {
+            self.out.copy_within(self.sent.., 0);
+        }
+        self.out.truncate(left);
+        self.sent = 0;
+        if left == 0 && self.out.capacity() > MOST_SPARE {
+            self.out = Vec::new(self.alloc);
+        }
+    }
+
+    /// Whether it is over: nothing of it is on its way, and nothing more is to be written.
+    pub(super) fn is_over(&self) -> bool {
+        self.is_ending
+            && !self.is_waiting()
+            && self.account.is_none()
+            && self.last.is_none()
+            && !self.has_unsent()
+    }
+
+    /// Whether its client leaves now: nothing more comes of it, and all is answered.
+    pub(super) fn leaves(&self) -> bool {
+        self.is_ending && !self.is_waiting() && self.account.is_some()
+    }
+
+    /// Its socket is shut.
+    pub(super) fn shut(&self) {
+        let _ = self.stream.shutdown(Shutdown::Both);
+    }
+}
+
+// What is said of a server's fault; nothing if memory ran out.
+fn word_of(fault: SharedFault) -> Option<Refusal> {
+    match fault {
+        SharedFault::Memory => None,
+        SharedFault::Down => Some(Refusal::Down),
+        SharedFault::Full => Some(Refusal::Down),
+        SharedFault::SeatMissing => Some(Refusal::Down),
+        SharedFault::Receipt { .. } => Some(Refusal::Down),
+        SharedFault::Stuck(_) => Some(Refusal::Down),
+        SharedFault::NoThread => Some(Refusal::Down),
+    }
+}
+
+// What is said of a fault of a frame; nothing if memory ran out.
+fn last_word(fault: FrameFault) -> Option<Refusal> {
+    match fault {
+        FrameFault::Memory => None,
+        FrameFault::EmptyFrame => Some(Refusal::Malformed(0)),
+        FrameFault::FrameTooLong(_) => Some(Refusal::Malformed(0)),
+        FrameFault::Malformed(offset) => Some(Refusal::Malformed(offset)),
+    }
+}

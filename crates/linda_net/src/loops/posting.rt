@@ -1,0 +1,35 @@
+//! Who takes what is sent to clients while a loop has the server.
+
+use super::relays::Relays;
+use super::sessions::Sessions;
+use linda_shared::{Post, Sent};
+use std::sync::Wait;
+use std::sync::ledger::Ledger;
+
+/// A loop that serves a group. What is for its own clients is written to their connections, after what other loops
+/// handed to it before; all else is handed to the loop that serves the client. That is done under the server's lock, so
+/// what is sent to a client stays in order.
+#[derive(Drop)]
+pub(super) struct Posting<'s, 'r, L: Ledger> {
+    pub(super) sessions: &'s mut Sessions<L>,
+    pub(super) relays: &'r Relays,
+    // What other loops handed to this one before is taken.
+    pub(super) has_taken: bool,
+    // Something was handed to another loop.
+    pub(super) has_handed: bool,
+}
+
+impl<L: Ledger> Post for Posting<'_, '_, L> {
+    fn post<R: Wait>(&mut self, rt: &R, sent: Sent) {
+        if !self.sessions.has(sent.client()) {
+            self.relays.post(rt, sent);
+            self.has_handed = true;
+            return;
+        }
+        if !self.has_taken {
+            self.has_taken = true;
+            self.sessions.take_sent(rt, self.relays);
+        }
+        self.sessions.tell(&self.relays.marks, sent);
+    }
+}

@@ -1,0 +1,125 @@
+//! What loops hand to each other, and which loop serves which client.
+
+use super::relay::Relay;
+use crate::marks::Marks;
+use linda_shared::Sent;
+use mio::net::TcpStream;
+use std::alloc::{AllocError, Global};
+use std::collections::BTreeMap;
+use std::sync::{Mutex, Wait};
+
+/// Up to so many connections all are served by the first loop: few clients gain more from going in one group than from
+/// a second thread.
+const FEW: u64 = 32;
+
+/// What all loops have in common: the relay of each loop, the loop of each client that was greeted, and what they count.
+/// A client has an entry from its greeting to its leaving, so what is sent to it meanwhile goes to the loop that has its
+/// connection.
+#[derive(Drop)]
+pub(crate) struct Relays {
+    /// What they count, for the thread that watches.
+    pub(crate) marks: Marks,
+    relays: Vec<Relay>,
+    routes: Mutex<BTreeMap<u32, usize>>,
+}
+
+impl Relays {
+    /// Loops with these relays. Nobody was greeted, and nothing is counted.
+    pub(super) fn new(alloc: Global, relays: Vec<Relay>) -> Relays {
+        Relays {
+            marks: Marks::new(),
+            relays,
+            routes: Mutex::new(BTreeMap::new(alloc)),
+        }
+    }
+
+    /// The relay of this loop.
+    pub(super) fn get(&self, index: usize) -> Option<&Relay> {
+        self.relays.get(index)
+    }
+
+    /// The loop of this number does not run.
+    pub(super) fn set_off(&self, index: usize) {
+        if let Some(relay) = self.relays.get(index) {
+            relay.set_off();
+        }
+    }
+
+    /// The client is served by this loop from now on.
+    pub(super) fn open<R: Wait>(
+        &self,
+        rt: &R,
+        client: u32,
+        index: usize,
+    ) -> Result<(), AllocError> {
+        self.routes.lock(rt).insert(client, index)?;
+        Ok(())
+    }
+
+    /// The client is no more served by this loop. Where another one has it already, that stays.
+    pub(super) fn shut<R: Wait>(&self, rt: &R, client: u32, index: usize) {
+        let mut routes = self.routes.lock(rt);
+        if routes.get(&client) == Some(&index) {
+            let _ = routes.remove(&client);
+        }
+    }
+
+    /// Hands replies to the loop that serves their client; drops them if none does.
+    pub(super) fn post<R: Wait>(&self, rt: &R, sent: Sent) {
+        let index = self.routes.lock(rt).get(&sent.client()).copied();
+        if let Some(relay) = index.and_then(|index| self.relays.get(index)) {
+            relay.post(rt, sent);
+        }
+    }
+
+    /// Wakes the loops that others handed something to.
+    pub(super) fn ring_all<R: Wait>(&self, rt: &R) {
+        for relay in self.relays.iter() {
+            relay.ring(rt);
+        }
+    }
+
+    /// No connection comes any more.
+    pub(super) fn close_all<R: Wait>(&self, rt: &R) {
+        for relay in self.relays.iter() {
+            relay.close(rt);
+        }
+    }
+
+    /// The server is down.
+    pub(super) fn end_all<R: Wait>(&self, rt: &R) {
+        for relay in self.relays.iter() {
+            relay.set_down(rt);
+        }
+    }
+
+    /// Hands a connection that came to the loop that has the fewest. Says whether that was possible.
+    pub(super) fn hand<R: Wait>(&self, rt: &R, stream: TcpStream) -> bool {
+        let Some(relay) = self.relays.get(self.least()) else {
+            return false;
+        };
+        relay.gains();
+        if relay.hand(rt, stream) {
+            return true;
+        }
+        relay.loses();
+        false
+    }
+
+    // The loop that the next connection goes to.
+    fn least(&self) -> usize {
+        let mut least: usize = 0;
+        let mut load: u64 = u64::MAX;
+        for (index, relay) in self.relays.iter().enumerate() {
+            let here = relay.load();
+            if index == 0 && here < FEW {
+                return 0;
+            }
+            if here < load {
+                load = here;
+                least = index;
+            }
+        }
+        least
+    }
+}

@@ -1,0 +1,367 @@
+//! The connections of a loop, and the sessions of their clients.
+
+use super::batch::{Batch, Call};
+use super::connection::{Connection, Next};
+use super::place::place;
+use super::relays::Relays;
+use crate::marks::Marks;
+use linda_shared::{Account, Answered, Group, MOST_ASKED, Sender, Sent, SharedFault, hear_answer};
+use linda_wire::{Message, Reply};
+use mio::event::Event;
+use mio::net::TcpStream;
+use mio::{Interest, Registry, Token};
+use slab::Slab;
+use std::alloc::{AllocError, Global};
+use std::collections::{BTreeMap, VecDeque};
+use std::sync::Wait;
+use std::sync::ledger::Ledger;
+
+/// The tokens before those of connections.
+pub(super) const FIRST: usize = 2;
+
+/// How many bytes are read at once.
+const PIECE: usize = 16_384;
+
+/// What a greeting came to: an account with the number of the last request that is kept, or a code and a detail.
+type Greeting<L> = Result<Result<(Account<L>, u64), (u8, u64)>, SharedFault>;
+
+/// The connections of one loop, by keys.
+#[derive(Drop)]
+pub(super) struct Sessions<L: Ledger> {
+    alloc: Global,
+    // Which of the loops it is.
+    index: usize,
+    connections: Slab<Connection<L>>,
+    // The connection of each client that was greeted here.
+    clients: BTreeMap<u32, usize>,
+    // Connections that may have something, and those that may have to be written to: each at most once, so there is
+    // always room.
+    ready: VecDeque<usize>,
+    touched: Vec<usize>,
+    /// Clients that come and go: at most one for each connection.
+    pub(super) calls: VecDeque<Call<L>>,
+    // Where replies are put that other loops handed to this one.
+    handed: Vec<Sent>,
+    buffer: Vec<u8>,
+}
+
+impl<L: Ledger> Sessions<L> {
+    /// The loop of this number has no connections.
+    pub(super) fn new(alloc: Global, index: usize) -> Result<Sessions<L>, AllocError> {
+        let buffer = Vec::from_elem(alloc, 0u8, PIECE)?;
+        Ok(Sessions {
+            alloc,
+            index,
+            connections: Slab::new(alloc),
+            clients: BTreeMap::new(alloc),
+            ready: VecDeque::new(alloc),
+            touched: Vec::new(alloc),
+            calls: VecDeque::new(alloc),
+            handed: Vec::new(alloc),
+            buffer,
+        })
+    }
+
+    /// Which of the loops it is.
+    pub(super) fn index(&self) -> usize {
+        self.index
+    }
+
+    /// How many connections it has.
+    pub(super) fn len(&self) -> usize {
+        self.connections.len()
+    }
+
+    /// Whether some connection may have something.
+    pub(super) fn has_ready(&self) -> bool {
+        !self.ready.is_empty()
+    }
+
+    /// Whether the client was greeted here.
+    pub(super) fn has(&self, client: u32) -> bool {
+        self.clients.contains_key(&client)
+    }
+
+    /// Lets a connection in. Says whether that was possible; else it is closed.
+    pub(super) fn let_in(&mut self, registry: &Registry, stream: TcpStream) -> bool {
+        let _ = stream.set_nodelay(true);
+        if self.make_room().is_err() {
+            return false;
+        }
+        let Ok(key) = self.connections.insert(Connection::new(self.alloc, stream)) else {
+            return false;
+        };
+        if self.register(registry, key) {
+            self.make_ready(key);
+            return true;
+        }
+        let _ = self.connections.try_remove(key);
+        false
+    }
+
+    // Makes room in the lists for one connection more.
+    fn make_room(&mut self) -> Result<(), AllocError> {
+        let count = self.connections.len().saturating_add(1);
+        self.ready.reserve(count)?;
+        self.touched.reserve(count)?;
+        self.calls.reserve(count)
+    }
+
+    // Has the connection of this key looked at when it may be read or written.
+    fn register(&mut self, registry: &Registry, key: usize) -> bool {
+        let Some(connection) = self.connections.get_mut(key) else {
+            return false;
+        };
+        let token = Token(key.saturating_add(FIRST));
+        let both = Interest::READABLE | Interest::WRITABLE;
+        registry.register(connection.stream(), token, both).is_ok()
+    }
+
+    /// Something happened at a connection.
+    pub(super) fn wake(&mut self, event: &Event) {
+        let token = event.token().0;
+        if token < FIRST {
+            return;
+        }
+        let key = token - FIRST;
+        let Some(connection) = self.connections.get_mut(key) else {
+            return;
+        };
+        connection.wake(event.is_read_closed() || event.is_error());
+        let writes = event.is_writable() && connection.has_unsent();
+        if writes {
+            self.touch(key);
+        }
+        self.make_ready(key);
+    }
+
+    // The connection may have something.
+    fn make_ready(&mut self, key: usize) {
+        if let Some(connection) = self.connections.get_mut(key) {
+            if !connection.is_ready && connection.has_more() && self.ready.push_back(key).is_ok() {
+                connection.is_ready = true;
+            }
+        }
+    }
+
+    // The connection is looked at when others are written to.
+    fn touch(&mut self, key: usize) {
+        if let Some(connection) = self.connections.get_mut(key) {
+            if !connection.is_touched && self.touched.push(key).is_ok() {
+                connection.is_touched = true;
+            }
+        }
+    }
+
+    /// Takes what ready connections have, as far as there is room in the batch. One that has more stays ready, behind
+    /// the others.
+    pub(super) fn gather(&mut self, batch: &mut Batch<L>, marks: &Marks) {
+        for _ in 0..self.ready.len() {
+            if !batch.doing.has_room() || !batch.asking.has_room() {
+                return;
+            }
+            let Some(key) = self.ready.pop_front() else {
+                return;
+            };
+            let stays = self.take_from(key, batch, marks);
+            if stays && self.ready.push_back(key).is_ok() {
+                continue;
+            }
+            if let Some(connection) = self.connections.get_mut(key) {
+                connection.is_ready = false;
+            }
+            self.touch(key);
+        }
+    }
+
+    // Takes what a connection has. Says whether it stays ready.
+    fn take_from(&mut self, key: usize, batch: &mut Batch<L>, marks: &Marks) -> bool {
+        let Some(connection) = self.connections.get_mut(key) else {
+            return false;
+        };
+        for _ in 0..=MOST_ASKED {
+            match connection.next(&mut self.buffer) {
+                Next::Message(message) => {
+                    if !place(connection, key, message, &mut self.calls, batch, marks) {
+                        return !connection.is_waiting();
+                    }
+                }
+                Next::Later => return true,
+                Next::None => return false,
+            }
+        }
+        true
+    }
+
+    /// A greeting came to this.
+    pub(super) fn greet<R: Wait>(
+        &mut self,
+        rt: &R,
+        relays: &Relays,
+        key: usize,
+        greeting: Greeting<L>,
+    ) {
+        match greeting {
+            Ok(Ok((account, last))) => self.welcome(rt, relays, key, account, last),
+            Ok(Err((code, detail))) => self.refuse(&relays.marks, key, code, detail),
+            Err(fault) => self.end(key, fault),
+        }
+        if let Some(connection) = self.connections.get_mut(key) {
+            connection.is_greeting = false;
+        }
+        self.make_ready(key);
+        self.touch(key);
+    }
+
+    // The client is welcome. What was sent to it in an earlier session goes nowhere.
+    fn welcome<R: Wait>(
+        &mut self,
+        rt: &R,
+        relays: &Relays,
+        key: usize,
+        account: Account<L>,
+        last: u64,
+    ) {
+        let client = account.client();
+        self.take_sent(rt, relays);
+        let is_kept = self.clients.insert(client, key).is_ok()
+            && relays.open(rt, client, self.index).is_ok();
+        let Some(connection) = self.connections.get_mut(key) else {
+            return;
+        };
+        connection.account = Some(account);
+        connection.tell(&relays.marks, &Reply::Welcome { last });
+        if !is_kept {
+            connection.fail();
+        }
+    }
+
+    // The client is refused. It may greet again.
+    fn refuse(&mut self, marks: &Marks, key: usize, code: u8, detail: u64) {
+        if let Some(connection) = self.connections.get_mut(key) {
+            connection.tell(marks, &Reply::Refused { code, detail });
+        }
+    }
+
+    // The connection ends since its server could not do what was asked.
+    fn end(&mut self, key: usize, fault: SharedFault) {
+        if let Some(connection) = self.connections.get_mut(key) {
+            connection.end_by(fault);
+        }
+    }
+
+    /// Sessions hear the answers of a group that was served. Of a group of deeds it is noted that they are done.
+    pub(super) fn hear_all(&mut self, group: &mut Group<L>, are_deeds: bool) {
+        for _ in 0..group.len() {
+            let Some((message, answered)) = group.next() else {
+                return;
+            };
+            self.hear(&message, answered, are_deeds);
+        }
+    }
+
+    // A session hears the answer to its message.
+    fn hear(&mut self, message: &Message, answered: Answered<Sender, L>, is_deed: bool) {
+        let sender = *answered.address();
+        let key = sender.key();
+        let Some(connection) = self.connections.get_mut(key) else {
+            return;
+        };
+        if is_deed {
+            connection.doing = connection.doing.saturating_sub(1);
+        }
+        let Some(account) = &mut connection.account else {
+            return;
+        };
+        if account.asked() == 0 || account.client() != sender.client() {
+            return;
+        }
+        if let Err(fault) = hear_answer(account, message, answered) {
+            connection.end_by(fault);
+        }
+        self.touch(key);
+    }
+
+    /// Takes what other loops handed to this one.
+    pub(super) fn take_sent<R: Wait>(&mut self, rt: &R, relays: &Relays) {
+        let Some(relay) = relays.get(self.index) else {
+            return;
+        };
+        let mut handed = std::mem::replace(&mut self.handed, Vec::new(self.alloc));
+        relay.take_sent(rt, &mut handed);
+        for sent in handed.drain(..) {
+            self.tell(&relays.marks, sent);
+        }
+        self.handed = handed;
+    }
+
+    /// These go to their client, after all that went to it before; nowhere if it has no connection here.
+    pub(super) fn tell(&mut self, marks: &Marks, sent: Sent) {
+        let Some(key) = self.clients.get(&sent.client()).copied() else {
+            return;
+        };
+        if let Some(connection) = self.connections.get_mut(key) {
+            for reply in sent.into_replies() {
+                connection.tell(marks, &reply);
+            }
+        }
+        self.touch(key);
+    }
+
+    /// Writes what is to be written, and lets go those connections that are over.
+    pub(super) fn flush<R: Wait>(&mut self, rt: &R, relays: &Relays) {
+        for _ in 0..self.touched.len() {
+            let Some(key) = self.touched.pop() else {
+                return;
+            };
+            self.flush_one(rt, relays, key);
+        }
+    }
+
+    // Writes to one connection. If its client leaves that is a call.
+    fn flush_one<R: Wait>(&mut self, rt: &R, relays: &Relays, key: usize) {
+        let Some(connection) = self.connections.get_mut(key) else {
+            return;
+        };
+        connection.is_touched = false;
+        connection.flush(&relays.marks);
+        if connection.leaves() {
+            if let Some(account) = connection.account.take() {
+                let client = account.client();
+                let _ = self.clients.remove(&client);
+                relays.shut(rt, client, self.index);
+                let _ = self.calls.push_back(Call::Leave(account));
+            }
+        }
+        if connection.is_over() {
+            connection.shut();
+            let _ = self.connections.try_remove(key);
+            relays.marks.ends();
+            if let Some(relay) = relays.get(self.index) {
+                relay.loses();
+            }
+            return;
+        }
+        self.make_ready(key);
+    }
+
+    /// All connections end: the server is down, or a reply was lost.
+    pub(super) fn end_all(&mut self) {
+        for key in 0..self.connections.capacity() {
+            if let Some(connection) = self.connections.get_mut(key) {
+                connection.end_with(None);
+            }
+            self.touch(key);
+        }
+    }
+
+    /// All connections are closed, whatever is still to be written to them.
+    pub(super) fn fail_all(&mut self) {
+        for key in 0..self.connections.capacity() {
+            if let Some(connection) = self.connections.get_mut(key) {
+                connection.fail();
+            }
+            self.touch(key);
+        }
+    }
+}

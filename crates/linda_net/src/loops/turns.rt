@@ -1,0 +1,357 @@
+//! What a loop does, again and again.
+
+use super::batch::{Batch, Call};
+use super::door::{DOOR, Door};
+use super::posting::Posting;
+use super::relay::Relay;
+use super::relays::Relays;
+use super::sessions::Sessions;
+use linda_disk::Disk;
+use linda_shared::{Group, Shared, SharedFault};
+use mio::net::TcpStream;
+use mio::{Events, Poll, Token, Waker};
+use std::alloc::Global;
+use std::io;
+use std::net::Net;
+use std::sync::Wait;
+use std::sync::ledger::Ledger;
+use std::time::Duration;
+
+/// The token of the bell.
+const BELL: usize = 1;
+
+/// How many events are taken at once.
+const EVENTS: usize = 1_024;
+
+/// How long is waited at most if nothing happens, in milliseconds: then it is looked whether the server is down.
+const QUIET: u64 = 1_000;
+
+/// How long is waited at most after a connection could not be had, in milliseconds.
+const REST: u64 = 10;
+
+/// How often messages of which no deed comes are served before the others.
+const MOST_ROUNDS: u32 = 16;
+
+/// How often a loop goes round at most once the server is down, before connections are closed that take nothing.
+const MOST_ENDING: u32 = 1_024;
+
+/// How often it is looked at most for more that is ready before a group is written to the disks.
+const MOST_LOOKS: u32 = 8;
+
+/// A loop: some of the connections, and what of theirs goes to the server next.
+#[derive(Drop)]
+pub(super) struct Loop<L: Ledger> {
+    poll: Poll,
+    events: Events,
+    sessions: Sessions<L>,
+    batch: Batch<L>,
+    // Where connections are put that were handed to it.
+    streams: Vec<TcpStream>,
+    // Where connections come in, if that is here.
+    door: Option<Door>,
+    // No connection is handed to it any more.
+    is_closed: bool,
+    // The server is down.
+    is_ending: bool,
+    // How often it goes round before connections are closed that take nothing.
+    patience: u32,
+}
+
+/// The loop of this number, and its relay.
+///
+/// # Errors
+///
+/// The system has no more room for it, or there is no memory.
+pub(super) fn begin_loop<L: Ledger, R: Net>(
+    rt: &R,
+    alloc: Global,
+    index: usize,
+) -> io::Result<(Loop<L>, Relay)> {
+    let poll = Poll::new(rt)?;
+    let bell = Waker::new(poll.registry(), Token(BELL))?;
+    let events = Events::with_capacity(alloc, EVENTS)?;
+    let sessions = Sessions::new(alloc, index)?;
+    let batch = Batch::new(alloc)?;
+    let made = Loop {
+        poll,
+        events,
+        sessions,
+        batch,
+        streams: Vec::new(alloc),
+        door: None,
+        is_closed: false,
+        is_ending: false,
+        patience: MOST_ENDING,
+    };
+    Ok((made, Relay::new(alloc, bell)))
+}
+
+impl<L: Ledger> Loop<L> {
+    /// Connections come in here.
+    ///
+    /// # Errors
+    ///
+    /// The system does not look at the listener.
+    pub(super) fn open(&mut self, door: Door) -> io::Result<()> {
+        let mut door = door;
+        door.register(self.poll.registry())?;
+        self.door = Some(door);
+        Ok(())
+    }
+
+    // Whether it is over: it has no connection, and none comes any more.
+    fn is_over(&self) -> bool {
+        self.is_closed && self.sessions.len() == 0 && self.sessions.calls.is_empty()
+    }
+
+    // How many milliseconds it may wait for something.
+    fn rest(&self) -> u64 {
+        if self.sessions.has_ready() || !self.batch.is_empty() || !self.sessions.calls.is_empty() {
+            return 0;
+        }
+        match &self.door {
+            Some(door) => {
+                if door.has_more() {
+                    0
+                } else if door.has_missed() {
+                    REST
+                } else {
+                    QUIET
+                }
+            }
+            None => QUIET,
+        }
+    }
+
+    // Waits until something happens, and notes what. Says whether nothing did.
+    fn wait<R: Wait>(&mut self, rt: &R, relay: &Relay, millis: u64) -> bool {
+        let millis = if millis > 0 && !relay.may_sleep(rt) {
+            0
+        } else {
+            millis
+        };
+        !self.look(millis) && millis > 0
+    }
+
+    // Waits so many milliseconds at most, and notes what happened. Says whether something did.
+    fn look(&mut self, millis: u64) -> bool {
+        let timeout = Some(Duration::from_millis(millis));
+        if self.poll.poll(&mut self.events, timeout).is_err() {
+            return true;
+        }
+        for event in self.events.iter() {
+            if event.token().0 == DOOR {
+                if let Some(door) = &mut self.door {
+                    door.wake();
+                }
+            } else {
+                self.sessions.wake(event);
+            }
+        }
+        !self.events.is_empty()
+    }
+
+    // Takes what was handed to it, and lets connections in.
+    fn take<R: Wait>(&mut self, rt: &R, relay: &Relay, relays: &Relays) {
+        if let Some(door) = &mut self.door {
+            door.accept(rt, relays, self.is_ending);
+        }
+        let news = relay.take_streams(rt, &mut self.streams);
+        self.is_closed = news.is_closed;
+        for stream in self.streams.drain(..) {
+            if self.is_ending || !self.sessions.let_in(self.poll.registry(), stream) {
+                relays.marks.ends();
+                relay.loses();
+            }
+        }
+        self.sessions.take_sent(rt, relays);
+        if news.is_lost {
+            self.sessions.end_all();
+        }
+        if news.is_down {
+            self.end_all();
+        }
+    }
+
+    // The server is down: all its connections end.
+    fn end_all(&mut self) {
+        if !self.is_ending {
+            self.is_ending = true;
+            self.sessions.end_all();
+        }
+    }
+
+    // Once the server is down: nobody waits longer for connections that take nothing, after a while in which nothing
+    // happened, or after many turns.
+    fn end_soon(&mut self, is_quiet: bool) {
+        if !self.is_ending {
+            return;
+        }
+        self.patience = self.patience.saturating_sub(1);
+        if is_quiet || self.patience == 0 {
+            self.sessions.fail_all();
+        }
+    }
+
+    // Takes what is ready and serves it: first what makes no deed, and then the rest, as one group with what is ready by
+    // then. Says whether the server is up.
+    fn pass<D: Disk, R: Wait>(&mut self, rt: &R, shared: &Shared<D, L>, relays: &Relays) -> bool {
+        let mut is_up = self.serve_asks(rt, shared, relays);
+        for _ in 0..MOST_LOOKS {
+            let count = self.batch.doing.len();
+            let is_all = count == 0 || count >= self.sessions.len();
+            if is_all || !self.batch.doing.has_room() || !self.look(0) {
+                break;
+            }
+            is_up = self.serve_asks(rt, shared, relays) && is_up;
+            if self.batch.doing.len() == count {
+                break;
+            }
+        }
+        self.serve_deeds(rt, shared, relays) && is_up
+    }
+
+    // Takes what is ready, and serves what makes no deed, and clients that come and go. Says whether the server is up.
+    fn serve_asks<D: Disk, R: Wait>(
+        &mut self,
+        rt: &R,
+        shared: &Shared<D, L>,
+        relays: &Relays,
+    ) -> bool {
+        let Loop {
+            sessions,
+            batch,
+            ..
+        } = self;
+        let mut is_up = true;
+        for _ in 0..MOST_ROUNDS {
+            sessions.gather(batch, &relays.marks);
+            sessions.flush(rt, relays);
+            is_up = serve_calls(rt, shared, relays, sessions) && is_up;
+            let is_full = !batch.asking.has_room();
+            if batch.asking.len() > 0 {
+                let asking = &mut batch.asking;
+                is_up = serve(rt, shared, relays, sessions, asking, false) && is_up;
+            }
+            sessions.flush(rt, relays);
+            if !is_full {
+                break;
+            }
+        }
+        is_up
+    }
+
+    // Serves the rest as one group. Says whether the server is up.
+    fn serve_deeds<D: Disk, R: Wait>(
+        &mut self,
+        rt: &R,
+        shared: &Shared<D, L>,
+        relays: &Relays,
+    ) -> bool {
+        let Loop {
+            sessions,
+            batch,
+            ..
+        } = self;
+        if batch.doing.len() == 0 {
+            return true;
+        }
+        serve(rt, shared, relays, sessions, &mut batch.doing, true)
+    }
+}
+
+// Serves clients that come and go. Says whether the server is up.
+fn serve_calls<D: Disk, L: Ledger, R: Wait>(
+    rt: &R,
+    shared: &Shared<D, L>,
+    relays: &Relays,
+    sessions: &mut Sessions<L>,
+) -> bool {
+    let mut is_up = true;
+    for _ in 0..sessions.calls.len() {
+        let Some(call) = sessions.calls.pop_front() else {
+            break;
+        };
+        match call {
+            Call::Greet(key, message) => {
+                let greeting = shared.admit(rt, &message);
+                is_up = !is_down(&greeting) && is_up;
+                sessions.greet(rt, relays, key, greeting);
+            }
+            Call::Leave(account) => {
+                let mut posting = posting(sessions, relays);
+                is_up = shared.depart(rt, account, &mut posting) && is_up;
+                ring(rt, &posting);
+            }
+        }
+    }
+    is_up
+}
+
+// Serves a group of the sessions. Says whether the server is up.
+fn serve<D: Disk, L: Ledger, R: Wait>(
+    rt: &R,
+    shared: &Shared<D, L>,
+    relays: &Relays,
+    sessions: &mut Sessions<L>,
+    group: &mut Group<L>,
+    are_deeds: bool,
+) -> bool {
+    let mut posting = posting(sessions, relays);
+    let is_up = shared.serve_group(rt, group, &mut posting);
+    ring(rt, &posting);
+    sessions.hear_all(group, are_deeds);
+    is_up
+}
+
+// Whether the server that answers so is down.
+fn is_down<T>(answer: &Result<T, SharedFault>) -> bool {
+    matches!(answer, Err(SharedFault::Down))
+}
+
+// Who takes what is sent while the loop has the server.
+fn posting<'s, 'r, L: Ledger>(
+    sessions: &'s mut Sessions<L>,
+    relays: &'r Relays,
+) -> Posting<'s, 'r, L> {
+    Posting {
+        sessions,
+        relays,
+        has_taken: false,
+        has_handed: false,
+    }
+}
+
+// Wakes the loops that something was handed to.
+fn ring<L: Ledger, R: Wait>(rt: &R, posting: &Posting<'_, '_, L>) {
+    if posting.has_handed {
+        posting.relays.ring_all(rt);
+    }
+}
+
+/// Goes round until all connections are over.
+pub(super) fn turn<D: Disk, L: Ledger, R: Wait>(
+    rt: &R,
+    shared: &Shared<D, L>,
+    relays: &Relays,
+    it: &mut Loop<L>,
+) {
+    let Some(relay) = relays.get(it.sessions.index()) else {
+        return;
+    };
+    for _ in rt.forever() {
+        let rest = it.rest();
+        let is_quiet = it.wait(rt, relay, rest);
+        it.end_soon(is_quiet);
+        it.take(rt, relay, relays);
+        let is_up = it.pass(rt, shared, relays) && !(is_quiet && shared.is_down(rt));
+        if !is_up && !it.is_ending {
+            it.end_all();
+            relays.end_all(rt);
+        }
+        it.sessions.flush(rt, relays);
+        if it.is_over() {
+            return;
+        }
+    }
+}
