@@ -21,7 +21,7 @@ _linda() {
         ;;
     esac
     case ${COMP_WORDS[1]} in
-    serve) options="--port --dir --sessions --log --help" ;;
+    serve) options="--port --dir --sessions --log --threads --help" ;;
     call) options="--client --again --help" ;;
     inspect) options="--tuples --clients --help" ;;
     run) options="--servers --trace --help" ;;

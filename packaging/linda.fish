@@ -13,6 +13,7 @@ complete -c linda -n '__fish_seen_subcommand_from serve' -l port -x -d 'The port
 complete -c linda -n '__fish_seen_subcommand_from serve' -l dir -x -a '(__fish_complete_directories)' -d 'The folder of the store'
 complete -c linda -n '__fish_seen_subcommand_from serve' -l sessions -x -d 'End after so many connections'
 complete -c linda -n '__fish_seen_subcommand_from serve' -l log -d 'Write a log to standard error'
+complete -c linda -n '__fish_seen_subcommand_from serve' -l threads -d 'Give each connection two threads'
 complete -c linda -n '__fish_seen_subcommand_from serve' -l help -d 'Print a summary'
 
 complete -c linda -n '__fish_seen_subcommand_from call' -l client -x -d 'Which client it is'

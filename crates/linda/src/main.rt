@@ -9,8 +9,9 @@
 //! `linda call --client C [--again] PORT..` plays lines from standard input as client C, over the servers that listen
 //! on these ports of this machine; with `--again` it goes on as a client that was used before.
 //!
-//! `linda serve --port P --dir D [--sessions K] [--log]` serves the store in a folder to clients that connect to a port
-//! of this machine; with `--log` it writes what it does to standard error.
+//! `linda serve --port P --dir D [--sessions K] [--log] [--threads]` serves the store in a folder to clients that connect
+//! to a port of this machine; with `--log` it writes what it does to standard error, and with `--threads` each
+//! connection has two threads.
 //!
 //! `linda inspect DIR [--tuples] [--clients]` says what the store in a folder holds, and whether it would be served.
 //!
@@ -47,6 +48,7 @@ use std::fs::File;
 use std::io::{ErrorKind, Write};
 use std::net::{Net, TcpListener, TcpStream};
 use std::process::ExitCode;
+use std::random::RandomSource;
 use std::sync::Wait;
 use std::thread::Threads;
 use std::time::Clock;
@@ -67,12 +69,14 @@ fn main(rt: HostRuntime) -> ExitCode {
 }
 
 // Does what the words of the command line ask for.
-fn answer<S: Net<Listener = TcpListener, Stream = TcpStream> + Threads + Wait + Clock + Sync>(
-    rt: &HostRuntime,
-    threads: &S,
-    streams: &Streams,
-    words: &[String],
-) -> ExitCode {
+fn answer<
+    S: Net<Listener = TcpListener, Stream = TcpStream>
+        + Threads
+        + Wait
+        + Clock
+        + RandomSource
+        + Sync,
+>(rt: &HostRuntime, threads: &S, streams: &Streams, words: &[String]) -> ExitCode {
     if asks_for_version(words) {
         return tell_version(rt);
     }
@@ -83,12 +87,14 @@ fn answer<S: Net<Listener = TcpListener, Stream = TcpStream> + Threads + Wait + 
 }
 
 // Does this task.
-fn perform<S: Net<Listener = TcpListener, Stream = TcpStream> + Threads + Wait + Clock + Sync>(
-    rt: &HostRuntime,
-    threads: &S,
-    streams: &Streams,
-    task: &Task,
-) -> ExitCode
+fn perform<
+    S: Net<Listener = TcpListener, Stream = TcpStream>
+        + Threads
+        + Wait
+        + Clock
+        + RandomSource
+        + Sync,
+>(rt: &HostRuntime, threads: &S, streams: &Streams, task: &Task) -> ExitCode
     requires { HasServers task.now }
 {
     if !streams.has_output() && changes_files(task) {
@@ -108,7 +114,16 @@ fn perform<S: Net<Listener = TcpListener, Stream = TcpStream> + Threads + Wait +
             dir,
             sessions,
             log,
-        } => run_serve(rt, threads, *port, dir, *sessions, *log),
+            threads: by_threads,
+        } => {
+            let plan = Plan {
+                port: *port,
+                folder: dir,
+                sessions: *sessions,
+                by_threads: *by_threads,
+            };
+            run_serve(rt, threads, &plan, *log)
+        }
         Task::Inspect { dir, lists } => run_inspect(rt, dir, *lists),
     }
 }
@@ -235,24 +250,19 @@ fn end_of_call(rt: &HostRuntime, ended: Result<(), CallFault>) -> ExitCode
 }
 
 // Serves the store in a folder on a port.
-fn run_serve<S: Net<Listener = TcpListener, Stream = TcpStream> + Threads + Wait + Clock + Sync>(
-    rt: &HostRuntime,
-    threads: &S,
-    port: u16,
-    dir: &str,
-    sessions: Option<u32>,
-    log: bool,
-) -> ExitCode
+fn run_serve<
+    S: Net<Listener = TcpListener, Stream = TcpStream>
+        + Threads
+        + Wait
+        + Clock
+        + RandomSource
+        + Sync,
+>(rt: &HostRuntime, threads: &S, plan: &Plan<'_>, log: bool) -> ExitCode
     ensures { (exit_status result ≡ 0) ⊎ (exit_status result ≡ 3) }
 {
-    let plan = Plan {
-        port,
-        folder: dir,
-        sessions,
-    };
     let mut stderr = rt.stderr();
     let sink = if log { Some(&mut stderr) } else { None };
-    match serve_folder(rt, threads, rt.alloc(), &mut rt.stdout(), sink, &plan) {
+    match serve_folder(rt, threads, rt.alloc(), &mut rt.stdout(), sink, plan) {
         Ok(()) => ExitCode::SUCCESS,
         Err(cause) => end(rt, cause, REFUSED),
     }

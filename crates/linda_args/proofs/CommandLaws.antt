@@ -1,12 +1,14 @@
 -- How a command is put together.
-use Rattle.std.proofs.Common.{◌≡◌, ◌∙◌, ◌||◌, Bool, ap, ap₂, false}
+use Rattle.std.proofs.Common.{◌≡◌, ◌∙◌, ◌||◌, ℕ, Bool, List, [], ap, ap₂, subst, sym, false, true, refl}
 use Rattle.std.specs.Prelude.{Result, IfOk}
 use Rattle.std.proofs.lemmas.Result.{IfOk-weaker}
-use Rattle.clap.specs.Words.{AddsArg, AddsSubcommand, App, Rule, app_of, rule_of, with_rule, with_subcommand}
+use Rattle.clap.specs.Words.{AddsArg, AddsSubcommand, App, HasKind, HasMatchesOf, Rule, app_of, fault_of, is_simple, is_simple_and_free, subcommand_of, subcommand_rows_of, rule_of, with_rule, with_subcommand}
 use Rattle.clap.specs.declared.builder.arg.Arg.{Arg}
 use Rattle.clap.specs.declared.builder.command.Command.{Command}
 use Rattle.clap.specs.declared.builder.command.Command.TheOpen.{Command-F}
-use Rattle.linda_args.specs.Commands.{IsCommand}
+use Rattle.clap.specs.declared.error.Error.{Error}
+use Rattle.clap.specs.declared.parser.matches.ArgMatches.{ArgMatches}
+use Rattle.linda_args.specs.Commands.{IsCommand, linda}
 
 abbrev pub globals_of : Command-F Command → Bool
 globals_of f = f.has_globals
@@ -32,3 +34,23 @@ pub with_below : {E : Type 0} (app below : App) (old sub : Command) (result : Re
     → IfOk result (AddsSubcommand old sub) → IfOk result (λ c. app_of c ≡ with_subcommand app below.top)
 with_below app below old sub result h s adds =
     IfOk-weaker result _ _ (λ new a. a.shape s.local ∙ ap₂ with_subcommand h (ap (λ (a : App). a.top) s.is)) adds
+
+-- The program's command is one whose faults the parser names by the words alone.
+pub linda_is_simple : (app : App) → app ≡ linda → is_simple_and_free app ≡ true
+linda_is_simple app is = ap is_simple_and_free is ∙ all_simple where
+  all_simple : is_simple_and_free linda ≡ true
+  all_simple = refl
+
+-- so where it parsed the words they have no fault, and where it did not its fault is theirs
+pub none_by_words : (app : App) (words : List (List ℕ)) → app ≡ linda → (is_simple_and_free app ≡ true → fault_of app words ≡ []) → fault_of linda words ≡ []
+none_by_words app words is parsed = ap (λ a. fault_of a words) (sym is) ∙ parsed (linda_is_simple app is)
+
+pub fault_by_words : (app : App) (words : List (List ℕ)) (error : Error) → app ≡ linda → (is_simple_and_free app ≡ true → HasKind (fault_of app words) error)
+    → HasKind (fault_of linda words) error
+fault_by_words app words error is failed = subst (λ a. HasKind (fault_of a words) error) is (failed (linda_is_simple app is))
+
+-- and where it parsed them the rows below the command are theirs
+pub rows_by_words : (app : App) (words : List (List ℕ)) (m : ArgMatches) → app ≡ linda → HasMatchesOf app words m → subcommand_rows_of m ≡ subcommand_of linda words
+rows_by_words app words m is parsed = (parsed (ap is_simple is ∙ all_simple)).1 ∙ ap (λ a. subcommand_of a words) is where
+  all_simple : is_simple linda ≡ true
+  all_simple = refl

@@ -91,6 +91,10 @@ sessions_rule = record (option_rule (codes "sessions")) {
 abbrev pub log_rule : Rule
 log_rule = flag_rule (codes "log")
 
+-- the option `--threads`, which may be there, and stands alone
+abbrev pub threads_rule : Rule
+threads_rule = flag_rule (codes "threads")
+
 -- the word that names the folder of a store, which must be there
 abbrev pub folder_rule : Rule
 folder_rule = word_rule (codes "dir")
@@ -114,8 +118,9 @@ abbrev pub call_command : App
 call_command = with_rule (with_rule (with_rule (new_app (codes "call")) client_rule) ports_rule) again_rule
 
 abbrev pub serve_command : App
-serve_command = with_rule (with_rule (with_rule (with_rule (new_app (codes "serve")) port_rule) dir_rule) sessions_rule)
-    log_rule
+serve_command =
+    with_rule (with_rule (with_rule (with_rule (with_rule (new_app (codes "serve")) port_rule) dir_rule) sessions_rule)
+    log_rule) threads_rule
 
 abbrev pub inspect_command : App
 inspect_command = with_rule (with_rule (with_rule (new_app (codes "inspect")) folder_rule) tuples_rule) clients_rule
@@ -215,7 +220,7 @@ AsksFor words tasks.Pipe = AsksForPipe words
 AsksFor words (tasks.Run n) = AsksForRun words n
 AsksFor words (tasks.TracedRun n file) = AsksForTracedRun words n
 AsksFor words (tasks.Call client ports again) = AsksForCall words client ports again
-AsksFor words (tasks.Serve port dir sessions log) = AsksForServe words port sessions
+AsksFor words (tasks.Serve port dir sessions log threads) = AsksForServe words port sessions
 AsksFor words (tasks.Inspect dir lists) = AsksForInspect words
 
 -- it is a run with a trace, by such a number
@@ -224,7 +229,7 @@ IsTracedRun tasks.Pipe = ⊥
 IsTracedRun (tasks.Run n) = ⊥
 IsTracedRun (tasks.TracedRun n file) = (1 ≤ n) × (n ≤ MAX_SERVERS)
 IsTracedRun (tasks.Call client ports again) = ⊥
-IsTracedRun (tasks.Serve port dir sessions log) = ⊥
+IsTracedRun (tasks.Serve port dir sessions log threads) = ⊥
 IsTracedRun (tasks.Inspect dir lists) = ⊥
 
 -- the flag is as the parser has its text
@@ -238,7 +243,7 @@ IsCall text tasks.Pipe = ⊥
 IsCall text (tasks.Run n) = ⊥
 IsCall text (tasks.TracedRun n file) = ⊥
 IsCall text (tasks.Call client ports again) = (client < 2 ^ 32) × (ArePorts ports × IsFlag text again)
-IsCall text (tasks.Serve port dir sessions log) = ⊥
+IsCall text (tasks.Serve port dir sessions log threads) = ⊥
 IsCall text (tasks.Inspect dir lists) = ⊥
 
 -- it serves, by such numbers
@@ -247,7 +252,7 @@ IsServe tasks.Pipe = ⊥
 IsServe (tasks.Run n) = ⊥
 IsServe (tasks.TracedRun n file) = ⊥
 IsServe (tasks.Call client ports again) = ⊥
-IsServe (tasks.Serve port dir sessions log) = (port < 2 ^ 16) × IfSome sessions (λ k. k < 2 ^ 32)
+IsServe (tasks.Serve port dir sessions log threads) = (port < 2 ^ 16) × IfSome sessions (λ k. k < 2 ^ 32)
 IsServe (tasks.Inspect dir lists) = ⊥
 
 -- it inspects
@@ -256,7 +261,7 @@ IsInspect tasks.Pipe = ⊥
 IsInspect (tasks.Run n) = ⊥
 IsInspect (tasks.TracedRun n file) = ⊥
 IsInspect (tasks.Call client ports again) = ⊥
-IsInspect (tasks.Serve port dir sessions log) = ⊥
+IsInspect (tasks.Serve port dir sessions log threads) = ⊥
 IsInspect (tasks.Inspect dir lists) = ⊤
 
 -- what words ask for that are written out above to the letter: the pipe, or a run
@@ -265,7 +270,7 @@ AsksExactlyFor words tasks.Pipe = AsksForPipe words
 AsksExactlyFor words (tasks.Run n) = AsksForRun words n
 AsksExactlyFor words (tasks.TracedRun n file) = ⊥
 AsksExactlyFor words (tasks.Call client ports again) = ⊥
-AsksExactlyFor words (tasks.Serve port dir sessions log) = ⊥
+AsksExactlyFor words (tasks.Serve port dir sessions log threads) = ⊥
 AsksExactlyFor words (tasks.Inspect dir lists) = ⊥
 
 -- a run and a call have at least one server, and not more than there may be
@@ -274,7 +279,7 @@ HasServers tasks.Pipe = ⊤
 HasServers (tasks.Run n) = (1 ≤ n) × (n ≤ MAX_SERVERS)
 HasServers (tasks.TracedRun n file) = (1 ≤ n) × (n ≤ MAX_SERVERS)
 HasServers (tasks.Call client ports again) = (1 ≤ length ports) × (length ports ≤ MAX_SERVERS)
-HasServers (tasks.Serve port dir sessions log) = ⊤
+HasServers (tasks.Serve port dir sessions log threads) = ⊤
 HasServers (tasks.Inspect dir lists) = ⊤
 
 -- whether a word begins with a hyphen

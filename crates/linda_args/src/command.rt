@@ -46,13 +46,14 @@ pub enum Task {
         ports: Ports,
         again: bool,
     },
-    /// The store in this folder, for clients that connect to this port, or to any where it is 0; so many connections
-    /// where a number is given, with a log or without one.
+    /// The store in this folder, for clients that connect to this port, or to any if it is 0; so many connections if a
+    /// number is given, with a log or without one, and in two threads for each connection or in a few loops.
     Serve {
         port: u16,
         dir: String,
         sessions: Option<u32>,
         log: bool,
+        threads: bool,
     },
     /// What the store in this folder comes to, with these lists.
     Inspect {
@@ -211,11 +212,13 @@ fn serve_of(alloc: Global, below: &ArgMatches) -> Result<Option<Task>, AllocErro
     let dir = String::from_str(alloc, text)?;
     let sessions = below.get_one::<u32>(SESSIONS);
     let log = below.get_flag(LOG);
+    let threads = below.get_flag(THREADS);
     Ok(Some(Task::Serve {
         port,
         dir,
         sessions,
         log,
+        threads,
     }))
 }
 
@@ -318,7 +321,9 @@ fn serve_command<'a>(alloc: Global) -> Result<Command<'a>, AllocError>
     let second = with_arg(first, dir_option(alloc));
     let third = with_arg(second, sessions_option(alloc));
     let help = "Write a log to standard error: a line a minute, and one at each event";
-    with_arg(third, flag(alloc, LOG, help))
+    let fourth = with_arg(third, flag(alloc, LOG, help));
+    let help = "Give each connection two threads, as before there were loops";
+    with_arg(fourth, flag(alloc, THREADS, help))
 }
 
 // The command that says what a folder holds.
@@ -480,6 +485,8 @@ const DIR: &str = "dir";
 const SESSIONS: &str = "sessions";
 
 const LOG: &str = "log";
+
+const THREADS: &str = "threads";
 
 const INSPECT: &str = "inspect";
 

@@ -2,6 +2,7 @@
 
 mod address;
 mod fault;
+mod heap;
 mod log;
 mod minutes;
 mod stamp;
@@ -13,8 +14,9 @@ ghost use Rattle.linda_shared_accounts.specs.declared.limits.TheConstants.{PARTS
 use address::{of_this_machine, ready_line};
 pub use fault::ServingFault;
 use fault::served;
+use heap::keep_heap;
 use linda_disk::FileDisk;
-use linda_net::{Shared, SharedFault, Tally, serve_watched};
+use linda_net::{Shared, SharedFault, Tally, serve_loop, serve_watched};
 use linda_server::Durable;
 pub use linda_server::InUse;
 use linda_shared_accounts::PARTS;
@@ -22,9 +24,11 @@ pub use log::{Cause, Log};
 pub use stamp::stamp_of;
 use std::alloc::Global;
 use std::fs::{File, Files};
+use std::hash::RandomState;
 use std::io::Write;
 use std::marker::Brand;
 use std::net::{Net, TcpListener, TcpStream};
+use std::random::RandomSource;
 use std::sync::ledger::{Blank, Ledger};
 use std::sync::{Mutex, Wait};
 use std::thread::Threads;
@@ -42,6 +46,8 @@ pub struct Plan<'a> {
     pub folder: &'a str,
     /// After how many connections it ends, if it does.
     pub sessions: Option<u32>,
+    /// Whether each connection has two threads; else a few loops serve all of them.
+    pub by_threads: bool,
 }
 
 /// Serves the store in a folder to clients that connect to a port of this machine, and writes `ready PORT` once it
@@ -57,7 +63,12 @@ pub struct Plan<'a> {
 /// server went down, at the next connection or at the end. `Memory`.
 pub fn serve_folder<
     F: Files<File = File>,
-    S: Net<Listener = TcpListener, Stream = TcpStream> + Threads + Wait + Clock + Sync,
+    S: Net<Listener = TcpListener, Stream = TcpStream>
+        + Threads
+        + Wait
+        + Clock
+        + RandomSource
+        + Sync,
     W: Write,
     E: Write + Send,
 >(
@@ -68,7 +79,8 @@ pub fn serve_folder<
     sink: Option<&mut E>,
     plan: &Plan<'_>,
 ) -> Result<(), ServingFault> {
-    let (server, bank) = open_to_serve(files, alloc, plan.folder)?;
+    let (mut server, bank) = open_to_serve(files, alloc, plan.folder)?;
+    choose_keys(rt, &mut server);
     let log = Log::new(alloc, sink)?;
     listen_and_serve::<Brand, S, W, E>(
         rt,
@@ -97,6 +109,15 @@ fn open_to_serve<F: Files<File = File>>(
         give_back(&mut server)?;
     }
     Ok((server, bank))
+}
+
+// The server keeps what waits by random keys, if the system has any; else by those that it has.
+fn choose_keys<S: RandomSource>(rt: &S, server: &mut Durable<FileDisk>)
+    ensures { server.new.down ≡ server.old.down }
+{
+    if let Ok(keys) = RandomState::new(rt) {
+        server.choose_keys(keys);
+    }
 }
 
 // Shares a server that was opened. Its next snapshot is put off, unless its bank is in the old form: so it serves for a
@@ -139,11 +160,16 @@ fn listen_and_serve<
 {
     let mut log = log;
     let shared: Shared<FileDisk, L> = share(rt, alloc, server, blank)?;
+    keep_heap(alloc);
     let listener = listen(rt, plan.port)?;
     log.tell_opened(rt, port_of(&listener)?, bank, &shared.gauge(rt));
     tell_ready(alloc, writer, &listener)?;
     let watcher = Mutex::new(log);
-    let (ended, tally) = serve_watched(rt, alloc, &listener, &shared, plan.sessions, &watcher);
+    let (ended, tally) = if plan.by_threads {
+        serve_watched(rt, alloc, &listener, &shared, plan.sessions, &watcher)
+    } else {
+        serve_loop(rt, alloc, listener, &shared, plan.sessions, &watcher)
+    };
     tell_end(rt, watcher.into_inner(), shared, ended, &tally)
 }
 

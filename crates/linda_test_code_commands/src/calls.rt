@@ -4,7 +4,7 @@ use super::serves::{bound, free_port, tell_printed};
 use linda_call::{CallFault, call};
 use linda_store::{Volatile, converse};
 use std::alloc::{AllocError, Global};
-use std::io::Read;
+use std::io::{Read, Write};
 use std::net::{Net, TcpListener, TcpStream};
 use std::process::Abort;
 use std::sync::Wait;
@@ -23,6 +23,41 @@ struct Row<'a> {
     lost: usize,
     // The calls from this one on, from 0, go on after what the server keeps.
     again: usize,
+}
+
+/// Takes all that it is given, and gives on what was written before the last flush.
+#[derive(Drop)]
+struct Buffered {
+    bytes: Vec<u8>,
+    flushed: usize,
+}
+
+impl Buffered {
+    /// Nothing was written yet.
+    fn new(alloc: Global) -> Buffered {
+        Buffered {
+            bytes: Vec::new(alloc),
+            flushed: 0,
+        }
+    }
+
+    /// What was flushed.
+    fn flushed(&self) -> &[u8] {
+        let bytes: &[u8] = &self.bytes;
+        &bytes[..self.flushed.min(bytes.len())]
+    }
+}
+
+impl Write for Buffered {
+    fn write(&mut self, buf: &[u8]) -> io::Result<usize> {
+        self.bytes.extend_from_slice(buf)?;
+        Ok(buf.len())
+    }
+
+    fn flush(&mut self) -> io::Result<()> {
+        self.flushed = self.bytes.len();
+        Ok(())
+    }
 }
 
 #[test]
@@ -122,7 +157,7 @@ fn call_alone<S: Net<Listener = TcpListener, Stream = TcpStream> + Threads + Wai
     call(rt, alloc, &mut lines, &mut printed, 7, &[port], false)
 }
 
-/// The calls of a row over one server in memory print this; after what a call prints stands how it ends.
+/// The calls of a row over one server in memory print this, and flush it; how a call ends comes after it.
 fn expect<
     S: Net<Listener = TcpListener, Stream = TcpStream> + Threads + Wait + Clock + Abort + Sync,
 >(rt: &S, alloc: Global, row: Row<'_>, want: &str) -> io::Result<()> {
@@ -174,10 +209,10 @@ fn call_all<S: Net<Listener = TcpListener, Stream = TcpStream> + Threads + Wait 
     let mut made: usize = 0;
     for (client, lines) in row.calls {
         let mut text = lines.as_bytes();
-        let mut out: Vec<u8> = Vec::new(alloc);
+        let mut out = Buffered::new(alloc);
         let goes_on = made >= row.again;
         let ended = call(rt, alloc, &mut text, &mut out, *client, &[port], goes_on);
-        tell_printed(&out, told)?;
+        tell_printed(out.flushed(), told)?;
         tell_end(ended, told)?;
         made = made.saturating_add(1);
     }

@@ -10,6 +10,7 @@ use linda_text::write_tuple;
 use std::alloc::{AllocError, Global};
 use std::fs::{self, File, Files};
 use std::net::{Ipv4Addr, Net, SocketAddr, TcpListener, TcpStream};
+use std::random::RandomSource;
 use std::sync::{Mutex, Wait};
 use std::thread::Threads;
 use std::time::{Clock, Duration};
@@ -31,21 +32,29 @@ const TOLD: &str =
 
 #[test]
 fn serves_a_folder_that_keeps_what_was_done(rt: HostRuntime) -> io::Result<()> {
-    fs::create_dir(&rt, FOLDER)?;
-    let told = served_and_kept(&rt, &rt, rt.alloc());
-    fs::remove_dir_all(&rt, FOLDER)?;
-    let told = told?;
-    assert_eq!(rt; told.as_str(), TOLD);
+    // By loops, and by two threads a connection.
+    for by_threads in [false, true] {
+        fs::create_dir(&rt, FOLDER)?;
+        let told = served_and_kept(&rt, &rt, rt.alloc(), by_threads);
+        fs::remove_dir_all(&rt, FOLDER)?;
+        let told = told?;
+        assert_eq!(rt; told.as_str(), TOLD);
+    }
     Ok(())
 }
 
 // What is told while the folder is served, and of what it keeps after that.
 fn served_and_kept<
     F: Files<File = File>,
-    S: Net<Listener = TcpListener, Stream = TcpStream> + Threads + Wait + Clock + Sync,
->(files: &F, rt: &S, alloc: Global) -> io::Result<String> {
+    S: Net<Listener = TcpListener, Stream = TcpStream>
+        + Threads
+        + Wait
+        + Clock
+        + RandomSource
+        + Sync,
+>(files: &F, rt: &S, alloc: Global, by_threads: bool) -> io::Result<String> {
     let mut told = String::new(alloc);
-    served(files, rt, alloc, &mut told)?;
+    served(files, rt, alloc, by_threads, &mut told)?;
     tell_kept(files, alloc, &mut told)?;
     Ok(told)
 }
@@ -53,11 +62,16 @@ fn served_and_kept<
 // What a call prints to a server on the folder, which ends after it, and how both end.
 fn served<
     F: Files<File = File>,
-    S: Net<Listener = TcpListener, Stream = TcpStream> + Threads + Wait + Clock + Sync,
->(files: &F, rt: &S, alloc: Global, told: &mut String) -> io::Result<()> {
+    S: Net<Listener = TcpListener, Stream = TcpStream>
+        + Threads
+        + Wait
+        + Clock
+        + RandomSource
+        + Sync,
+>(files: &F, rt: &S, alloc: Global, by_threads: bool, told: &mut String) -> io::Result<()> {
     let port = free_port(rt)?;
     let printed: Mutex<Vec<u8>> = Mutex::new(Vec::new(alloc));
-    let ended = serve_and_call(files, rt, alloc, port, &printed);
+    let ended = serve_and_call(files, rt, alloc, port, by_threads, &printed);
     tell_printed(&printed.into_inner(), told)?;
     tell_end(ended, told)?;
     Ok(())
@@ -87,12 +101,18 @@ fn tell_fault(fault: &ServingFault, told: &mut String) -> Result<(), AllocError>
 // Serves the folder on this port, while a thread calls the server.
 fn serve_and_call<
     F: Files<File = File>,
-    S: Net<Listener = TcpListener, Stream = TcpStream> + Threads + Wait + Clock + Sync,
+    S: Net<Listener = TcpListener, Stream = TcpStream>
+        + Threads
+        + Wait
+        + Clock
+        + RandomSource
+        + Sync,
 >(
     files: &F,
     rt: &S,
     alloc: Global,
     port: u16,
+    by_threads: bool,
     printed: &Mutex<Vec<u8>>,
 ) -> Result<(), ServingFault> {
     let mut ready: Vec<u8> = Vec::new(alloc);
@@ -104,6 +124,7 @@ fn serve_and_call<
             port,
             folder: FOLDER,
             sessions: Some(1),
+            by_threads,
         };
         let nowhere: Option<&mut Vec<u8>> = None;
         serve_folder(files, rt, alloc, &mut ready, nowhere, &plan)
@@ -111,12 +132,14 @@ fn serve_and_call<
 }
 
 // Calls the server until it listens, and writes what the call prints and how it ends.
-fn call_server<S: Net<Listener = TcpListener, Stream = TcpStream> + Threads + Wait + Clock + Sync>(
-    rt: &S,
-    alloc: Global,
-    port: u16,
-    printed: &Mutex<Vec<u8>>,
-) {
+fn call_server<
+    S: Net<Listener = TcpListener, Stream = TcpStream>
+        + Threads
+        + Wait
+        + Clock
+        + RandomSource
+        + Sync,
+>(rt: &S, alloc: Global, port: u16, printed: &Mutex<Vec<u8>>) {
     for _ in 0..TRIES {
         let mut out: Vec<u8> = Vec::new(alloc);
         let mut text = LINES.as_bytes();
