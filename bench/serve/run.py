@@ -1,87 +1,245 @@
 #!/usr/bin/env python3
-"""Times `linda serve` under load, by what the same disk can sync: acknowledged requests for each append and data sync of a plain loop.
+"""Measures `linda serve` under load, by what the same disk can sync, and what the server uses for it.
 
-    bench/serve/run.py [ROUNDS] [SECONDS] [--realtime]     rounds (3) over all cells, so many seconds each (1)
+    bench/serve/run.py [ROUNDS] [SECONDS]     rounds (3) over all cells, so many seconds each (1)
+        --program 'FILE [WORD..]'   the program, and further words for its `serve`; ./linda if none is given.
+                                    Each further one is a further column
+        --against                   each program once more, with --threads
+        --only TEXT                 the cells with this text in their names, and those of each further one
+        --realtime                  all in a real-time class
 
-The driver, drive.c, is built with cc; it speaks frames over sockets as docs/FORMATS.md has them, from one thread. The store lies in a new folder below this
-repository, so on its disk, and each cell has a new server. Before and behind each cell the plain loop appends 64 bytes and syncs them, on the same disk. What is
-told of a cell: acknowledged puts and takes a second (of 50 ms slices the 80th percentile, and the mean) over those of the loop, the mean of both times; the
-median, the least and the greatest of the rounds. A deed needs two syncs, so one client alone can have 0.5 at most. `wake` tells times: from the moment that a put is sent until
-a waiting client has the offer, and until it has the tuple, the median of all; and how many appends and syncs of the loop fit in.
+The driver, drive.c, is built with cc; it speaks frames over sockets as docs/FORMATS.md has them, from one thread. The
+stores lie in new folders below this repository, so on its disk, and each cell has a new server. In a round each cell is
+measured with each program in turn; in the next round the programs come in the other order. Before and after each cell a
+plain loop appends 64 bytes and syncs them, on the same disk.
 
-With --realtime server, driver and loop run in a real-time class (which takes root), ahead of all else on the machine: where others use the processors,
-a thread that wakes has to wait for them otherwise, and nothing is told of the server.
+A request is a put or a take that was acknowledged; the Ask of a take does not count as one. What is printed of a cell:
+- Its requests a second (of 50 ms slices the 80th percentile, and the mean) over the turns of the loop, the mean of both
+  times; the median, the least and the greatest of the rounds. A deed needs two syncs, so one client that waits for each
+  reply can have 0.5 at most.
+- The latency that 50, 99 and 99.9 in 100 did not exceed: of a put, or of a put with the Ask and the take that follow;
+  the medians of the rounds. The time in the driver counts. With fewer than 1,000 the last figure is the greatest.
+- The server's processor time and the voluntary and involuntary context switches of all its threads, from the first
+  message to the last reply, for each request. Then the part of one processor that the driver used in that time: if it
+  is near 1, the driver limits the cell and not the server.
+- For `wake` the time from the moment that a put is sent until a waiting client has the offer, and until it has the
+  tuple, the median of all; and how many appends and syncs of the loop fit into the latter.
+
+The other cells, with each program:
+- Idle connections, which are greeted and do nothing, in the first round: the server's memory (PSS) with and without
+  them, and its threads. What the kernel has for sockets and threads is not counted.
+- A start with 1,000,000 tuples `("job", i)` in a snapshot, which the system still has in memory: the time until
+  `ready`, and the most memory in use. `tools/large` measures large tuples, `bench/durable` an opening without a server.
+- A snapshot of 500,000 such tuples while 64 clients put: the greatest time between two acknowledgements, whoever had
+  them, and the time that the log says.
+
+With --realtime server, driver and loop run in a real-time class (which takes root), ahead of all else on the machine.
+If others use the processors, a thread that wakes waits for them otherwise, and the figures say little of the server.
+
+It ends with 1 if a cell could not be measured. A cell that needs more open files than a process may have here is left
+out, with a line that says so.
 """
 
+import argparse
 import os
-import shutil
+import re
+import resource
 import statistics
 import subprocess
 import sys
 import tempfile
+import time
+from collections import defaultdict
 from dataclasses import dataclass, field
 from pathlib import Path
+from typing import Callable
 
 HERE = Path(__file__).resolve().parent
 TOP = HERE.parent.parent
-PROGRAM = TOP / "linda"
-CELLS = {
-    "put, 1 client": ["put", "1", "1"],
-    "put and take, 1 client": ["pair", "1"],
-    "put and take, 16 clients": ["pair", "16"],
-    "put and take, 64 clients": ["pair", "64"],
-    "put, 64 clients": ["put", "64", "1"],
-    "put, 1 client with 64 under way": ["put", "1", "64"],
+sys.dont_write_bytecode = True
+sys.path.insert(0, str(TOP / "tools"))
+import banks  # noqa: E402
+from served import PROGRAM, Server  # noqa: E402
+
+# The driver's words between the server and the seconds: the clients; for all but `wake` the connections that are idle
+# beside them; for puts how many are under way.
+LOADS = {
+    "put, 1 client": ["put", "1", "0", "1"],
+    "put, 64 clients": ["put", "64", "0", "1"],
+    "put, 1 client with 64 under way": ["put", "1", "0", "64"],
+    "put and take, 1 client": ["pair", "1", "0"],
+    "put and take, 4 clients": ["pair", "4", "0"],
+    "put and take, 16 clients": ["pair", "16", "0"],
+    "put and take, 64 clients": ["pair", "64", "0"],
+    "put and take, 256 clients": ["pair", "256", "0"],
+    "put and take, 1,000 clients": ["pair", "1000", "0"],
+    "put and take, 64 clients of 10,000": ["pair", "64", "9936"],
     "wake, 1 waits": ["wake", "1"],
     "wake, 64 wait": ["wake", "64"],
 }
-PROBE_SECONDS = "0.5"
+IDLE = {"idle connections, 1,000": 1_000, "idle connections, 10,000": 10_000}
+START, PAUSE = "start with 1,000,000 tuples", "snapshot of 500,000 tuples"
+STARTED, SAVED = 1_000_000, 500_000
+PROBE_SECONDS, PAUSE_SECONDS = "0.5", "2"
+# The log looks for events ten times a second.
+LOG_SECONDS = 0.5
+# So many open files of a process are no connections, at most.
+OTHER_FILES = 64
+# A client that no connection has, which put what is in a store at first.
+EARLIER = 1_000_000
+DEEDS_OF_A_RECORD = 64
+SNAPSHOT_TAKEN = re.compile(r" snapshot result taken milliseconds (\d+)")
+PRIORITY = 5
+
+
+class Missing(Exception):
+    """Why a cell was not measured."""
+
+
+class Forbidden(Missing):
+    """A limit of the machine is why."""
+
+
+@dataclass(frozen=True)
+class Way:
+    """A program with further words for its `serve`, and its name as a column."""
+
+    name: str
+    program: Path
+    words: tuple[str, ...]
+
+
+Lines = dict[str, list[list[int]]]
+Measures = dict[str, float]
+Found = dict[str, list[float]]
 
 
 @dataclass
 class Bench:
+    """The driver, a folder for stores, and what the probes found; the last one is the one before the next cell."""
+
     driver: str
     folder: Path
     seconds: str
-    before: list[str]
+    before: tuple[float, float] = (0.0, 0.0)
+    probes: list[float] = field(default_factory=list)
+    loads: list[float] = field(default_factory=list)
 
-    def run(self, *words: str) -> list[list[int]]:
-        done = subprocess.run([*self.before, self.driver, *words], stdout=subprocess.PIPE, text=True, check=True)
-        return [[int(word) for word in line.split()] for line in done.stdout.splitlines()]
+    def run(self, *words: object) -> Lines:
+        """The lines that the driver prints, by their first words."""
+        done = subprocess.run([self.driver, *map(str, words)], capture_output=True, text=True)
+        if done.returncode:
+            raise Missing(done.stderr.strip() or f"the driver ended with {done.returncode}")
+        lines: Lines = defaultdict(list)
+        for line in done.stdout.splitlines():
+            word, *numbers = line.split()
+            lines[word].append([int(number) for number in numbers])
+        return lines
 
-    def probe(self) -> tuple[float, float]:
+    def probe(self) -> None:
         """Appends and syncs a second: by the 80th percentile of slices, and the mean."""
         path = self.folder / "plain"
-        rates = of_slices(self.run("sync", str(path), PROBE_SECONDS))
+        self.before = rates_of(self.run("sync", path, PROBE_SECONDS))
         path.unlink()
-        return rates
+        self.probes.append(self.before[0])
+        self.loads.append(os.getloadavg()[0])
 
-    def cell(self, words: list[str]) -> list[list[int]]:
-        store = self.folder / "store"
-        store.mkdir()
-        server = subprocess.Popen([*self.before, PROGRAM, "serve", "--port", "0", "--dir", store], stdout=subprocess.PIPE, text=True)
-        assert server.stdout
-        try:
-            port = server.stdout.readline().split()[1]
-            return self.run(words[0], port, *words[1:], self.seconds)
-        finally:
-            server.kill()
-            server.communicate()
-            shutil.rmtree(store)
+    def store(self) -> "tempfile.TemporaryDirectory[str]":
+        return tempfile.TemporaryDirectory(dir=self.folder)
+
+    def measure(self, name: str, way: Way, bank: bytes) -> Measures:
+        with self.store() as folder:
+            if bank:
+                (Path(folder) / "left.bank").write_bytes(bank)
+                (Path(folder) / "right.bank").write_bytes(b"")
+            words = (*way.words, "--log") if name == PAUSE else way.words
+            began = time.monotonic()
+            with Server(Path(folder), program=way.program, words=words) as server:
+                if name == START:
+                    return {"seconds": time.monotonic() - began, "peak": server.use().most / 1024}
+                if name == PAUSE:
+                    return self.pause(server)
+                return self.hold(server, IDLE[name]) if name in IDLE else self.load(server, *LOADS[name])
+
+    def load(self, server: Server, kind: str, *words: str) -> Measures:
+        need(sum(map(int, words[:2])))
+        (fast, mean), lines = self.before, self.run(kind, server.port, server.process.pid, *words, self.seconds)
+        self.probe()
+        fast, mean = (fast + self.before[0]) / 2, (mean + self.before[1]) / 2
+        requests, processor, voluntary, involuntary = lines["server"][0]
+        found = dict(zip(("half", "99", "99.9"), (time / 1e3 for time in lines["latency"][0])))
+        found |= {"processor": processor / 1e3 / requests}
+        found |= {"voluntary": voluntary / requests, "involuntary": involuntary / requests}
+        found |= {"driver": lines["driver"][0][0] / lines["driver"][0][1]}
+        if kind == "wake":
+            offer, take = (statistics.median(times) / 1e3 for times in zip(*lines["wake"]))
+            return found | {"offer": offer, "take": take, "syncs": take * fast / 1e6}
+        rates = rates_of(lines)
+        return found | {"rate": rates[0], "fast": rates[0] / fast, "mean": rates[1] / mean}
+
+    def hold(self, server: Server, count: int) -> Measures:
+        """The server's memory without connections and with so many, for each of them, and its threads."""
+        need(count)
+        without = memory_of(server)
+        with subprocess.Popen([self.driver, "hold", str(server.port), str(count)], stdin=subprocess.PIPE,
+                              stdout=subprocess.PIPE, stderr=subprocess.PIPE, text=True) as driver:
+            assert driver.stdout and driver.stderr
+            if driver.stdout.readline() != f"held {count}\n":
+                raise Missing(driver.stderr.read().strip())
+            memory, threads = memory_of(server), server.use().threads
+            driver.communicate("\n")
+        return {"each": (memory - without) / count, "without": without / 1024, "with": memory / 1024,
+                "threads": threads}
+
+    def pause(self, server: Server) -> Measures:
+        """The greatest time between two acknowledgements around a snapshot, and the time in the log, in ms."""
+        lines = self.run("put", server.port, server.process.pid, "64", "0", "1", PAUSE_SECONDS)
+        time.sleep(LOG_SECONDS)
+        server.process.kill()
+        assert server.process.stderr
+        taken = SNAPSHOT_TAKEN.findall(server.process.stderr.read())
+        if len(taken) != 1:
+            raise Missing(f"{len(taken)} snapshots in {PAUSE_SECONDS} s")
+        return {"gap": lines["gap"][0][0] / 1e6, "log": float(taken[0])}
 
 
-@dataclass
-class Cell:
-    best: list[float] = field(default_factory=list)
-    mean: list[float] = field(default_factory=list)
-    rates: list[float] = field(default_factory=list)
-    offers: list[float] = field(default_factory=list)
-    takes: list[float] = field(default_factory=list)
-    syncs: list[float] = field(default_factory=list)
+def need(connections: int) -> None:
+    """Raises Forbidden if a process may not have so many connections here."""
+    limit = resource.getrlimit(resource.RLIMIT_NOFILE)[0]
+    if connections + OTHER_FILES > limit:
+        raise Forbidden(f"{connections:,} connections, and a process may have {limit:,} open files here")
 
 
-def of_slices(lines: list[list[int]]) -> tuple[float, float]:
-    counts = sorted(line[0] for line in lines)
+def memory_of(server: Server) -> float:
+    """The memory of a server in KiB; what it shares with other processes is counted in part (PSS)."""
+    text = Path(f"/proc/{server.process.pid}/smaps_rollup").read_text()
+    return float(text.split("\nPss:")[1].split()[0])
+
+
+def job(number: int) -> bytes:
+    return b"\2\0\3job\1\1" + number.to_bytes(8, "big")
+
+
+def saved_bank() -> bytes:
+    """A bank with its tuples in the snapshot."""
+    bag = {place: job(place) for place in range(1, STARTED + 1)}
+    return banks.spell_bank(1, banks.State(STARTED + 1, bag, {EARLIER: (STARTED, ("Stored", STARTED))}))
+
+
+def recorded_bank() -> bytes:
+    """A bank with its tuples in records after an empty snapshot: 1,024 records later its server takes a snapshot."""
+    def deed(number: int) -> bytes:
+        return b"\1" + EARLIER.to_bytes(4, "big") + number.to_bytes(8, "big") + job(number)
+
+    parts = [banks.spell_bank(1, banks.State())[:-1]]
+    for first in range(1, SAVED + 1, DEEDS_OF_A_RECORD):
+        deeds = b"".join(map(deed, range(first, min(first + DEEDS_OF_A_RECORD, SAVED + 1))))
+        parts.append(b"\1" + len(deeds).to_bytes(4, "big") + deeds)
+    return b"".join(parts) + b"\0"
+
+
+def rates_of(lines: Lines) -> tuple[float, float]:
+    counts = sorted(line[0] for line in lines["slice"])
     return counts[len(counts) * 80 // 100] * 20.0, sum(counts) / len(counts) * 20.0
 
 
@@ -89,50 +247,113 @@ def spread(values: list[float]) -> str:
     return f"{statistics.median(values):.2f} ({min(values):.2f} to {max(values):.2f})"
 
 
-def main() -> None:
-    words = [word for word in sys.argv[1:] if word != "--realtime"]
-    before = ["chrt", "-r", "5"] if "--realtime" in sys.argv else []
-    if len(words) > 2 or not all(word.replace(".", "").isdigit() for word in words):
-        sys.exit(__doc__)
-    rounds, seconds = int(words[0]) if words else 3, words[1] if len(words) > 1 else "1"
-    cells, probes, loads = {name: Cell() for name in CELLS}, [], []
+def middle(values: list[float]) -> str:
+    value = statistics.median(values)
+    return f"{value:,.0f}" if value >= 100 else f"{value:.1f}" if value >= 10 else f"{value:.2f}"
+
+
+def limits(values: list[float]) -> str:
+    return f"{min(values):,.0f} to {max(values):,.0f}"
+
+
+def wake(found: Found) -> str:
+    offer, take = (f"{middle(found[name])} ({limits(found[name])})" for name in ("offer", "take"))
+    return f"{offer}; {take}; {spread(found['syncs'])}"
+
+
+def idle(found: Found) -> str:
+    each, without, with_them = (middle(found[name]) for name in ("each", "without", "with"))
+    return f"{each} KiB; {without} and {with_them} MiB; {found['threads'][0]:,.0f}"
+
+
+# The tables: the title, a measure that the cells of the table have, and what is printed of a cell.
+TABLES: list[tuple[str, str, Callable[[Found], str]]] = [
+    ("requests for each append and sync, by the best fifth", "fast", lambda found: spread(found["fast"])),
+    ("requests for each append and sync, by the mean", "mean", lambda found: spread(found["mean"])),
+    ("requests a second by the best fifth, least and most", "rate", lambda found: limits(found["rate"])),
+    ("latency in us: 50, 99 and 99.9 in 100", "half",
+     lambda found: ", ".join(middle(found[name]) for name in ("half", "99", "99.9"))),
+    ("the server, a request: us of processor; voluntary; involuntary switches; the driver's part of one", "processor",
+     lambda found: "; ".join(middle(found[name]) for name in ("processor", "voluntary", "involuntary", "driver"))),
+    ("us until the offer; until the tuple; appends and syncs in that time", "offer", wake),
+    ("memory of a connection; of the server without and with all; its threads", "each", idle),
+    ("seconds until it is ready; most memory in MiB", "seconds",
+     lambda found: f"{spread(found['seconds'])}; {middle(found['peak'])}"),
+    ("ms between two acknowledgements at most; of the snapshot by the log", "gap",
+     lambda found: f"{limits(found['gap'])}; {limits(found['log'])}"),
+]
+
+
+def ways_of(programs: list[str], is_against: bool) -> list[Way]:
+    ways = []
+    for text in programs or [os.path.relpath(PROGRAM)]:
+        name, *words = text.split()
+        ways.append(Way(text, Path(name).resolve(), tuple(words)))
+        if is_against:
+            ways.append(Way(f"{text} --threads", Path(name).resolve(), (*words, "--threads")))
+    return ways
+
+
+def raise_limit() -> None:
+    """Lets processes have as many open files as the cells need, or else as many as this user may have."""
+    _, hard = resource.getrlimit(resource.RLIMIT_NOFILE)
+    for most in (max(hard, 2 * max(IDLE.values())), hard):
+        try:
+            return resource.setrlimit(resource.RLIMIT_NOFILE, (most, most))
+        except (ValueError, OSError):
+            continue
+
+
+def main() -> int:
+    options = argparse.ArgumentParser(description=__doc__, formatter_class=argparse.RawDescriptionHelpFormatter)
+    options.add_argument("rounds", type=int, nargs="?", default=3)
+    options.add_argument("seconds", type=float, nargs="?", default=1.0)
+    options.add_argument("--program", action="append", default=[])
+    options.add_argument("--against", action="store_true")
+    options.add_argument("--only", action="append", default=[])
+    options.add_argument("--realtime", action="store_true")
+    given = options.parse_args()
+    ways = ways_of(given.program, given.against)
+    names = [name for name in (*LOADS, *IDLE, START, PAUSE) if any(text in name for text in given.only or [""])]
+    if given.rounds < 1 or given.seconds < 0.05 or not names:
+        options.error("no round, no slice of 50 ms, or no cell")
+    raise_limit()
+    stored = {name: make() for name, make in ((START, saved_bank), (PAUSE, recorded_bank)) if name in names}
+    found: dict[tuple[str, str], Found] = defaultdict(lambda: defaultdict(list))
+    missing: dict[tuple[str, str], Missing] = {}
     with tempfile.TemporaryDirectory() as built, tempfile.TemporaryDirectory(dir=TOP) as folder:
         driver = f"{built}/drive"
         subprocess.run(["cc", "-O2", "-Wall", "-o", driver, HERE / "drive.c"], check=True)
-        bench = Bench(driver, Path(folder), seconds, before)
-        for _ in range(rounds):
-            old = bench.probe()
-            for name, call in CELLS.items():
-                lines = bench.cell(call)
-                new = bench.probe()
-                loads.append(os.getloadavg()[0])
-                best, mean = (old[0] + new[0]) / 2, (old[1] + new[1]) / 2
-                probes.append(best)
-                take_in(cells[name], call, lines, best, mean)
-                old = new
-    print(f"{rounds} rounds of {seconds} s a cell{', real-time' if before else ''}; processes that ran or waited to: {min(loads):.1f} to {max(loads):.1f}; "
-          f"the loop: {min(probes):,.0f} to {max(probes):,.0f} appends and syncs a second, median {statistics.median(probes):,.0f}")
-    print("| cell | acknowledged for each append and sync, by the best fifth | by the mean | acknowledged a second, least and most |\n|---|---|---|---|")
-    for name, cell in cells.items():
-        if cell.best:
-            print(f"| {name} | {spread(cell.best)} | {spread(cell.mean)} | {min(cell.rates):,.0f} to {max(cell.rates):,.0f} |")
-    print("| cell | until a waiting client has the offer | until it has the tuple | appends and syncs in that time |\n|---|---|---|---|")
-    for name, cell in cells.items():
-        if cell.offers:
-            offer, take = (f"{statistics.median(times):,.0f} us (rounds {min(times):,.0f} to {max(times):,.0f})" for times in (cell.offers, cell.takes))
-            print(f"| {name} | {offer} | {take} | {spread(cell.syncs)} |")
+        if given.realtime:
+            os.sched_setscheduler(0, os.SCHED_RR, os.sched_param(PRIORITY))
+        bench = Bench(driver, Path(folder), str(given.seconds))
+        bench.probe()
+        for turn in range(given.rounds):
+            cells = [name for name in names if turn == 0 or name not in IDLE]
+            for cell in [(name, way) for name in cells for way in (ways[::-1] if turn % 2 else ways)]:
+                name, way = cell
+                if (name, way.name) in missing:
+                    continue
+                try:
+                    for measure, value in bench.measure(name, way, stored.get(name, b"")).items():
+                        found[name, way.name][measure].append(value)
+                except Missing as why:
+                    missing[name, way.name] = why
+    head = f"{given.rounds} rounds of {given.seconds:g} s a cell{', real-time' if given.realtime else ''}"
+    busy = f"processes that ran or waited to: {min(bench.loads):.1f} to {max(bench.loads):.1f}"
+    loop = f"the loop: {limits(bench.probes)} appends and syncs a second, median {middle(bench.probes)}"
+    print(f"{head}; {busy}; {loop}")
+    for title, measure, shown in TABLES:
+        rows = {name: [found[name, way.name] for way in ways] for name in names}
+        rows = {name: row for name, row in rows.items() if any(measure in cell for cell in row)}
+        if rows:
+            print(f"\n| {title} | {' | '.join(way.name for way in ways)} |\n|---|{'---|' * len(ways)}")
+        for name, row in rows.items():
+            print(f"| {name} | {' | '.join(shown(cell) if measure in cell else '' for cell in row)} |")
+    for (name, way_name), why in missing.items():
+        print(f"\nnot measured: {name}, {way_name}: {why}")
+    return int(any(not isinstance(why, Forbidden) for why in missing.values()))
 
 
-def take_in(cell: Cell, call: list[str], lines: list[list[int]], best: float, mean: float) -> None:
-    if call[0] == "wake":
-        cell.offers.append(statistics.median(line[0] for line in lines) / 1e3)
-        cell.takes.append(statistics.median(line[1] for line in lines) / 1e3)
-        cell.syncs.append(cell.takes[-1] * best / 1e6)
-    else:
-        rates = of_slices(lines)
-        cell.rates.append(rates[0])
-        cell.best.append(rates[0] / best)
-        cell.mean.append(rates[1] / mean)
-
-
-main()
+if __name__ == "__main__":
+    sys.exit(main())
