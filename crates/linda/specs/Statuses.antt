@@ -12,7 +12,8 @@ abbrev pub status_after : Result Unit PipeFault → ℕ
 status_after (Ok done) = 0
 status_after (Err fault) = status_of fault
 
--- 4 for a fault of a line of a script, 3 for one of the input or the output, or where memory runs out before a line
+-- 4 for a fault of a line of a script, 3 for one of the input or the output, or where memory runs
+-- out before a line
 abbrev pub status_of_script : ScriptFault → ℕ
 status_of_script (scripts.Line n fault) = 4
 status_of_script scripts.Read = 3

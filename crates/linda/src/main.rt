@@ -1,28 +1,34 @@
 //! The programs of the tuple space, behind one command line.
 //!
-//! `linda pipe` serves one connection to a new server in memory. Each line of standard input is a piece of
-//! the client's stream in hexadecimal digits; each reply is such a line on standard output.
+//! `linda pipe` serves one connection to a new server in memory. Each line of standard input is a
+//! piece of the client's stream in hexadecimal digits; each reply is such a line on standard
+//! output.
 //!
-//! `linda run --servers N [--trace FILE]` plays a script from standard input with N servers on disks in memory, 1 to
-//! 16, and writes the trace of the run to a file, which is made, or emptied where it is there.
+//! `linda run --servers N [--trace FILE]` plays a script from standard input with N servers on
+//! disks in memory, 1 to 16, and writes the trace of the run to a file, which is made, or emptied
+//! where it is there.
 //!
-//! `linda call --client C [--again] PORT..` plays lines from standard input as client C, over the servers that listen
-//! on these ports of this machine; with `--again` it goes on as a client that was used before.
+//! `linda call --client C [--again] PORT..` plays lines from standard input as client C, over the
+//! servers that listen on these ports of this machine; with `--again` it goes on as a client that
+//! was used before.
 //!
-//! `linda serve --port P --dir D [--sessions K] [--log] [--threads]` serves the store in a folder to clients that connect
-//! to a port of this machine; with `--log` it writes what it does to standard error, and with `--threads` each
-//! connection has two threads.
+//! `linda serve --port P --dir D [--sessions K] [--log] [--threads]` serves the store in a folder
+//! to clients that connect to a port of this machine; with `--log` it writes what it does to
+//! standard error, and with `--threads` each connection has two threads.
 //!
-//! `linda inspect DIR [--tuples] [--clients]` says what the store in a folder holds, and whether it would be served.
+//! `linda inspect DIR [--tuples] [--clients]` says what the store in a folder holds, and whether it
+//! would be served.
 //!
 //! `linda --version` prints the version of the program, and the forms of banks and frames.
 //!
-//! A standard stream that is closed is filled before anything is opened, so that no file and no socket gets its number.
+//! A standard stream that is closed is filled before anything is opened, so that no file and no
+//! socket gets its number.
 //!
-//! The exit status is 0 at the end; 2 for a fault of the command line, with the parser's text on standard
-//! error; 3 with one line there, `io` or `memory`, where standard input or output fails or memory runs out, or
-//! `server S: no connection`, `server S: refused CODE DETAIL`, `server S: restored`, or what is said of a store; 4 with
-//! one line there for a fault of a line of the input.
+//! The exit status is 0 at the end; 2 for a fault of the command line, with the parser's text on
+//! standard error; 3 with one line there, `io` or `memory`, where standard input or output fails or
+//! memory runs out, or
+//! `server S: no connection`, `server S: refused CODE DETAIL`, `server S: restored`, or what is
+//! said of a store; 4 with one line there for a fault of a line of the input.
 #![tactic(auto)]
 
 ghost use Rattle.std.specs.Prelude.{◌≡◌, ◌≢◌, ◌≤◌, ◌⊎◌};
@@ -128,7 +134,8 @@ fn perform<
     }
 }
 
-// Whether the task changes files. If what it prints cannot be printed, it ends before it touches them.
+// Whether the task changes files. If what it prints cannot be printed, it ends before it touches
+// them.
 fn changes_files(task: &Task) -> bool {
     match task {
         Task::TracedRun { .. } => true,
@@ -161,7 +168,8 @@ fn run_pipe(rt: &HostRuntime) -> ExitCode
 // Ends as the pipe ended: well, or with its fault's line on standard error.
 fn end_of_pipe(rt: &HostRuntime, ended: Result<(), PipeFault>) -> ExitCode
     ensures status { exit_status result ≡ status_after ended }
-    ensures range { (exit_status result ≡ 0) ⊎ ((exit_status result ≡ 3) ⊎ (exit_status result ≡ 4)) }
+    ensures range { (exit_status result ≡ 0)
+        ⊎ ((exit_status result ≡ 3) ⊎ (exit_status result ≡ 4)) }
 {
     match ended {
         Ok(()) => ExitCode::SUCCESS,
@@ -205,7 +213,8 @@ fn run_traced(rt: &HostRuntime, servers: u32, file: &str) -> ExitCode
 // Ends as the script ended: well, or with its fault's line on standard error.
 fn end_of_script(rt: &HostRuntime, ended: Result<(), ScriptFault>) -> ExitCode
     ensures status { exit_status result ≡ status_after_script ended }
-    ensures range { (exit_status result ≡ 0) ⊎ ((exit_status result ≡ 3) ⊎ (exit_status result ≡ 4)) }
+    ensures range { (exit_status result ≡ 0)
+        ⊎ ((exit_status result ≡ 3) ⊎ (exit_status result ≡ 4)) }
 {
     match ended {
         Ok(()) => ExitCode::SUCCESS,
@@ -213,8 +222,8 @@ fn end_of_script(rt: &HostRuntime, ended: Result<(), ScriptFault>) -> ExitCode
     }
 }
 
-// Plays the lines on standard input as a client, over the servers that listen on these ports; with `again` as one that
-// was used before.
+// Plays the lines on standard input as a client, over the servers that listen on these ports; with
+// `again` as one that was used before.
 fn run_call<S: Net<Listener = TcpListener, Stream = TcpStream> + Threads + Wait + Clock + Sync>(
     rt: &HostRuntime,
     threads: &S,
@@ -241,7 +250,8 @@ fn run_call<S: Net<Listener = TcpListener, Stream = TcpStream> + Threads + Wait 
 // Ends as the call ended: well, or with its fault's line on standard error.
 fn end_of_call(rt: &HostRuntime, ended: Result<(), CallFault>) -> ExitCode
     ensures status { exit_status result ≡ status_after_call ended }
-    ensures range { (exit_status result ≡ 0) ⊎ ((exit_status result ≡ 3) ⊎ (exit_status result ≡ 4)) }
+    ensures range { (exit_status result ≡ 0)
+        ⊎ ((exit_status result ≡ 3) ⊎ (exit_status result ≡ 4)) }
 {
     match ended {
         Ok(()) => ExitCode::SUCCESS,
@@ -293,7 +303,8 @@ fn show(rt: &HostRuntime, error: &clap::Error) -> ExitCode
     ensures memory { kind_of error.now ≡ kinds.OutOfMemory → exit_status result ≡ 3 }
     ensures mistake { kind_of error.now ≢ kinds.OutOfMemory → kind_of error.now ≢ kinds.DisplayHelp
         → kind_of error.now ≢ kinds.DisplayVersion → exit_status result ≡ 2 }
-    ensures help { (kind_of error.now ≡ kinds.DisplayHelp) ⊎ (kind_of error.now ≡ kinds.DisplayVersion)
+    ensures help { (kind_of error.now ≡ kinds.DisplayHelp)
+        ⊎ (kind_of error.now ≡ kinds.DisplayVersion)
         → (exit_status result ≡ 0) ⊎ (exit_status result ≡ 3) }
 {
     if error.kind() == clap::error::ErrorKind::OutOfMemory {

@@ -1,5 +1,6 @@
-//! Standard streams that are closed. The system gives the least free descriptor to what is opened: if that is one of a
-//! standard stream, what is printed goes into the file of a bank, or to a server. So the free ones are filled first.
+//! Standard streams that are closed. The system gives the least free descriptor to what is opened:
+//! if that is one of a standard stream, what is printed goes into the file of a bank, or to a
+//! server. So the free ones are filled first.
 
 use std::fs::{File, Files, OpenOptions};
 use std::io;
@@ -14,11 +15,12 @@ const NOTHING: &str = "/dev/null";
 /// What is there on every system, if that is not.
 const ROOT: &str = "/";
 
-/// How many files a process may have open was reached: then no descriptor of a standard stream is free.
+/// How many files a process may have open was reached: then no descriptor of a standard stream is
+/// free.
 const TOO_MANY_FILES: i32 = 24;
 
-/// What fills the standard streams that were closed, until it is dropped. Each fails where it is read or written, as a
-/// closed one does: a file that is open for the other alone.
+/// What fills the standard streams that were closed, until it is dropped. Each fails where it is
+/// read or written, as a closed one does: a file that is open for the other alone.
 #[derive(Drop)]
 pub struct Streams {
     input: Option<File>,
@@ -58,7 +60,8 @@ impl Streams {
     }
 }
 
-// A file for reading that gives nothing, with the least free descriptor; none if as many files as may be are open.
+// A file for reading that gives nothing, with the least free descriptor; none if as many files as
+// may be are open.
 fn open_nothing<F: Files<File = File>>(files: &F) -> io::Result<Option<File>> {
     match File::open(files, NOTHING) {
         Ok(file) => Ok(Some(file)),
@@ -70,7 +73,8 @@ fn open_nothing<F: Files<File = File>>(files: &F) -> io::Result<Option<File>> {
     }
 }
 
-// A file that cannot be read, in place of this one and with its descriptor; this one if there is none.
+// A file that cannot be read, in place of this one and with its descriptor; this one if there is
+// none.
 fn unreadable<F: Files<File = File>>(files: &F, file: File) -> File {
     let Ok(spare) = OpenOptions::new().write(true).open(files, NOTHING) else {
         return file;

@@ -1,10 +1,12 @@
 -- What the command line asks for, and how words that ask for nothing are refused.
-use Rattle.std.specs.Prelude.{◌≡◌, ◌≢◌, ◌<◌, ◌≤◌, ◌⊎◌, ◌==◌, ◌&&◌, ◌||◌, ◌^◌, ⊤, ℕ, Bool, true, false, not}
+use Rattle.std.specs.Prelude.{◌≡◌, ◌≢◌, ◌<◌, ◌≤◌, ◌⊎◌, ◌==◌, ◌&&◌, ◌||◌, ◌^◌, ⊤, ℕ, Bool, true}
+use Rattle.std.specs.Prelude.{false, not}
 use Rattle.std.specs.Prelude.{List, [], ◌∷◌, ◌++◌, length, Option, Some, IfSome, pos}
 use Rattle.std.specs.Prelude.{codes, Result, IsErrAnd}
 use Rattle.std.specs.Str.{bytes_eq}
 use Rattle.std.specs.Str.Parse.{IsNumeral, digits_value, without_leading_plus}
-use Rattle.clap.specs.Words.{App, Kinds, Rule, HasKind, app_of, new_app, new_rule, with_rule, with_subcommand}
+use Rattle.clap.specs.Words.{App, Kinds, Rule, HasKind, app_of, new_app, new_rule, with_rule}
+use Rattle.clap.specs.Words.{with_subcommand}
 use Rattle.clap.specs.Simple.{on_top}
 use Rattle.clap.specs.declared.builder.action.ArgAction.TheVariants.{Set, SetTrue}
 use Rattle.clap.specs.declared.builder.command.Command.{Command}
@@ -59,7 +61,8 @@ client_rule = record (option_rule (codes "client")) {
   parser = Some (parsers.Signed (pos 0) (pos 4294967295));
 }
 
--- the words that name ports, of which there must be as many as servers there may be, and one at least
+-- the words that name ports, of which there must be as many as servers there may be, and one at
+-- least
 abbrev pub ports_rule : Rule
 ports_rule = record (word_rule (codes "ports")) {
   range = Some (record { start_inclusive = 1; end_inclusive = MAX_SERVERS });
@@ -115,23 +118,30 @@ abbrev pub run_command : App
 run_command = with_rule (with_rule (new_app (codes "run")) servers_rule) trace_rule
 
 abbrev pub call_command : App
-call_command = with_rule (with_rule (with_rule (new_app (codes "call")) client_rule) ports_rule) again_rule
+call_command =
+    with_rule (with_rule (with_rule (new_app (codes "call")) client_rule) ports_rule) again_rule
 
 abbrev pub serve_command : App
 serve_command =
-    with_rule (with_rule (with_rule (with_rule (with_rule (new_app (codes "serve")) port_rule) dir_rule) sessions_rule)
+    with_rule (with_rule
+    (with_rule (with_rule (with_rule (new_app (codes "serve")) port_rule) dir_rule)
+    sessions_rule)
     log_rule) threads_rule
 
 abbrev pub inspect_command : App
-inspect_command = with_rule (with_rule (with_rule (new_app (codes "inspect")) folder_rule) tuples_rule) clients_rule
+inspect_command =
+    with_rule (with_rule (with_rule (new_app (codes "inspect")) folder_rule) tuples_rule)
+    clients_rule
 
 -- the program's command with none below it: it wants one
 abbrev pub bare_linda : App
 bare_linda = on_top (λ s. record s { subcommand_required = true }) (new_app (codes "linda"))
 
--- The program's command as the parser has it: it wants a command below it, `pipe`, `run`, `call`, `serve` or `inspect`.
+-- The program's command as the parser has it: it wants a command below it, `pipe`, `run`, `call`,
+-- `serve` or `inspect`.
 abbrev pub linda : App
-linda = with_subcommand (with_subcommand (with_subcommand (with_subcommand (with_subcommand bare_linda
+linda =
+    with_subcommand (with_subcommand (with_subcommand (with_subcommand (with_subcommand bare_linda
     pipe_command.top) run_command.top) call_command.top) serve_command.top) inspect_command.top
 
 -- The command is this one, and has no argument that goes for the commands below it too.
@@ -148,8 +158,8 @@ abbrev pub AsksForPipe : List (List ℕ) → Type 0
 AsksForPipe words = (name : List ℕ)
     × ((words ≡ name ∷ codes "pipe" ∷ []) ⊎ (words ≡ name ∷ codes "pipe" ∷ codes "--" ∷ []))
 
--- The text is a number of servers in decimal digits. As the parser reads every whole number, a plus may
--- stand before them, and zeros.
+-- The text is a number of servers in decimal digits. As the parser reads every whole number, a plus
+-- may stand before them, and zeros.
 pub record Spells (text : List ℕ) (n : ℕ) : Type 0 where
   pub numeral : IsNumeral 10 (without_leading_plus text)
   pub value : n ≡ digits_value 10 (without_leading_plus text)
@@ -161,8 +171,8 @@ abbrev pub IsOption : List (List ℕ) → List ℕ → Type 0
 IsOption words number = (words ≡ codes "--servers" ∷ number ∷ [])
     ⊎ (words ≡ (codes "--servers=" ++ number) ∷ [])
 
--- The words are a program's name, `run` and the option with this number; the `--` that ends options may
--- follow.
+-- The words are a program's name, `run` and the option with this number; the `--` that ends options
+-- may follow.
 pub record AsksForRun (words : List (List ℕ)) (n : ℕ) : Type 0 where
   pub name : List ℕ
   pub number : List ℕ
@@ -184,11 +194,13 @@ pub record AsksForTracedRun (words : List (List ℕ)) (n : ℕ) : Type 0 where
 -- whether this flag is one of the words, before a `--` that ends options
 abbrev pub has_flag : List ℕ → List (List ℕ) → Bool
 has_flag flag [] = false
-has_flag flag (word ∷ words) = not (bytes_eq word (codes "--")) && (bytes_eq word flag || has_flag flag words)
+has_flag flag (word ∷ words) =
+    not (bytes_eq word (codes "--")) && (bytes_eq word flag || has_flag flag words)
 
--- The words are a program's name and `call`, the numbers are such as may stand after it, and `again` says
--- whether `--again` is one of the words after it.
-pub record AsksForCall (words : List (List ℕ)) (client : ℕ) (ports : List ℕ) (again : Bool) : Type 0 where
+-- The words are a program's name and `call`, the numbers are such as may stand after it, and
+-- `again` says whether `--again` is one of the words after it.
+pub record AsksForCall (words : List (List ℕ)) (client : ℕ) (ports : List ℕ) (again : Bool)
+    : Type 0 where
   pub name : List ℕ
   pub later : List (List ℕ)
   pub spelled : words ≡ name ∷ codes "call" ∷ later
@@ -242,7 +254,8 @@ abbrev pub IsCall : Option (List ℕ) → Task → Type 0
 IsCall text tasks.Pipe = ⊥
 IsCall text (tasks.Run n) = ⊥
 IsCall text (tasks.TracedRun n file) = ⊥
-IsCall text (tasks.Call client ports again) = (client < 2 ^ 32) × (ArePorts ports × IsFlag text again)
+IsCall text (tasks.Call client ports again) =
+    (client < 2 ^ 32) × (ArePorts ports × IsFlag text again)
 IsCall text (tasks.Serve port dir sessions log threads) = ⊥
 IsCall text (tasks.Inspect dir lists) = ⊥
 
@@ -252,7 +265,8 @@ IsServe tasks.Pipe = ⊥
 IsServe (tasks.Run n) = ⊥
 IsServe (tasks.TracedRun n file) = ⊥
 IsServe (tasks.Call client ports again) = ⊥
-IsServe (tasks.Serve port dir sessions log threads) = (port < 2 ^ 16) × IfSome sessions (λ k. k < 2 ^ 32)
+IsServe (tasks.Serve port dir sessions log threads) =
+    (port < 2 ^ 16) × IfSome sessions (λ k. k < 2 ^ 32)
 IsServe (tasks.Inspect dir lists) = ⊥
 
 -- it inspects
@@ -287,7 +301,8 @@ abbrev pub has_hyphen : List ℕ → Bool
 has_hyphen [] = false
 has_hyphen (b ∷ bs) = b == hyphen
 
--- The words are a program's name and then a word that is no option, and none of `pipe`, `run`, `call`,
+-- The words are a program's name and then a word that is no option, and none of `pipe`, `run`,
+-- `call`,
 -- `serve`, `inspect`, `help`.
 pub record HasUnknown (words : List (List ℕ)) : Type 0 where
   pub name : List ℕ
@@ -334,7 +349,8 @@ pub record HasBadNumber (words : List (List ℕ)) : Type 0 where
   pub no_option : has_hyphen number ≡ false
   pub no_number : (n : ℕ) → Spells number n → ⊥
 
--- The words are a program's name, `run`, the option with its number, and then a word that is no option.
+-- The words are a program's name, `run`, the option with its number, and then a word that is no
+-- option.
 pub record HasOneTooManyToRun (words : List (List ℕ)) : Type 0 where
   pub name : List ℕ
   pub number : List ℕ

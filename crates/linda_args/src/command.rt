@@ -3,17 +3,24 @@
 mod ports;
 mod version;
 
-ghost use Rattle.std.specs.Prelude.{◌≡◌, ℕ, List, [], Some, None, false, map, codes, IfOk, IfSome, MatchResult};
+ghost use Rattle.std.specs.Prelude.{◌≡◌, ℕ, List, [], Some, None, false, map, codes, IfOk, IfSome};
+ghost use Rattle.std.specs.Prelude.{MatchResult};
 ghost use Rattle.std.specs.String.{string_bytes};
 ghost use Rattle.clap.specs.Lexer.{without_minus};
 ghost use Rattle.clap.specs.Matches.{first_value, one_text, subcommand_name_of};
-ghost use Rattle.clap.specs.Words.{App, FailsBy, Kinds, Rule, app_of, fault_of, found_of, kind_of, new_app};
-ghost use Rattle.clap.specs.Words.{rule_of, subcommand_of, subcommand_rows_of, with_rule, with_subcommand};
+ghost use Rattle.clap.specs.Words.{App, FailsBy, Kinds, Rule, app_of, fault_of, found_of, kind_of};
+ghost use Rattle.clap.specs.Words.{new_app};
+ghost use Rattle.clap.specs.Words.{rule_of, subcommand_of, subcommand_rows_of, with_rule};
+ghost use Rattle.clap.specs.Words.{with_subcommand};
 ghost use Rattle.linda_args.specs.Commands as spec;
-ghost use Rattle.linda_args.specs.Commands.{AsksExactlyFor, AsksFor, AsksForPipe, AsksForRun, HasServers, Spells};
-ghost use Rattle.linda_args.specs.Commands.{IsCall, IsCommand, IsInspect, IsRefusedAs, IsServe, IsTracedRun};
-ghost use Rattle.linda_args.specs.Commands.{Refuses, client_rule, dir_rule, flag_rule, linda, option_rule};
-ghost use Rattle.linda_args.specs.Commands.{port_rule, ports_rule, servers_rule, sessions_rule, word_rule};
+ghost use Rattle.linda_args.specs.Commands.{AsksExactlyFor, AsksFor, AsksForPipe, AsksForRun};
+ghost use Rattle.linda_args.specs.Commands.{HasServers, Spells};
+ghost use Rattle.linda_args.specs.Commands.{IsCall, IsCommand, IsInspect, IsRefusedAs, IsServe};
+ghost use Rattle.linda_args.specs.Commands.{IsTracedRun};
+ghost use Rattle.linda_args.specs.Commands.{Refuses, client_rule, dir_rule, flag_rule, linda};
+ghost use Rattle.linda_args.specs.Commands.{option_rule};
+ghost use Rattle.linda_args.specs.Commands.{port_rule, ports_rule, servers_rule, sessions_rule};
+ghost use Rattle.linda_args.specs.Commands.{word_rule};
 ghost use Rattle.linda_args.specs.declared.command.Task.TheVariants as tasks;
 
 use clap::builder::ValueParser;
@@ -39,15 +46,16 @@ pub enum Task {
         servers: u32,
         file: String,
     },
-    /// Lines of a client from standard input, over servers that listen on ports of this machine; `again` where it goes
-    /// on as a client that was used before.
+    /// Lines of a client from standard input, over servers that listen on ports of this machine;
+    /// `again` where it goes on as a client that was used before.
     Call {
         client: u32,
         ports: Ports,
         again: bool,
     },
-    /// The store in this folder, for clients that connect to this port, or to any if it is 0; so many connections if a
-    /// number is given, with a log or without one, and in two threads for each connection or in a few loops.
+    /// The store in this folder, for clients that connect to this port, or to any if it is 0; so
+    /// many connections if a number is given, with a log or without one, and in two threads for
+    /// each connection or in a few loops.
     Serve {
         port: u16,
         dir: String,
@@ -106,7 +114,8 @@ fn found_by<'a>(
 ) -> Result<Option<Task>, Error>
     requires { app_of linda.old ≡ spec.linda }
     ensures kinds { FailsBy (fault_of spec.linda (map string_bytes words.entry.now)) result }
-    ensures found { IfOk result (λ found. IfSome found (AsksFor (map string_bytes words.entry.now))) }
+    ensures found { IfOk result (λ found.
+        IfSome found (AsksFor (map string_bytes words.entry.now))) }
     ensures exact { (task : Task) → AsksExactlyFor (map string_bytes words.entry.now) task
         → IfOk result (λ found. found ≡ Some task) }
 {
@@ -117,7 +126,8 @@ fn found_by<'a>(
 // What the parser found that the words ask for.
 fn task_of(alloc: Global, matches: &ArgMatches) -> Result<Option<Task>, AllocError>
     ensures exact { (words : List (List ℕ)) (task : Task) → AsksExactlyFor words task
-        → subcommand_rows_of matches.now ≡ subcommand_of linda words → IfOk result (λ found. found ≡ Some task) }
+        → subcommand_rows_of matches.now ≡ subcommand_of linda words
+        → IfOk result (λ found. found ≡ Some task) }
     ensures found { (words : List (List ℕ)) → fault_of linda words ≡ []
         → subcommand_rows_of matches.now ≡ subcommand_of linda words
         → IfOk result (λ found. IfSome found (AsksFor words)) }
@@ -136,7 +146,8 @@ fn other_of(alloc: Global, matches: &ArgMatches) -> Result<Option<Task>, AllocEr
     ensures exact { (words : List (List ℕ)) (task : Task) → AsksExactlyFor words task
         → subcommand_rows_of matches.now ≡ subcommand_of linda words
         → (subcommand_name_of matches.now ≡ Some (codes "pipe") → ⊥)
-        → (subcommand_name_of matches.now ≡ Some (codes "run") → ⊥) → IfOk result (λ found. found ≡ Some task) }
+        → (subcommand_name_of matches.now ≡ Some (codes "run") → ⊥)
+        → IfOk result (λ found. found ≡ Some task) }
     ensures found { (words : List (List ℕ)) → fault_of linda words ≡ []
         → subcommand_rows_of matches.now ≡ subcommand_of linda words
         → IfOk result (λ found. IfSome found (AsksFor words)) }
@@ -183,7 +194,8 @@ fn traced_run(alloc: Global, servers: u32, file: &str) -> Result<Option<Task>, A
 
 // What is found below `call`.
 fn call_of(alloc: Global, below: &ArgMatches) -> Result<Option<Task>, AllocError>
-    ensures { IfOk result (λ found. IfSome found (IsCall (one_text (found_of below.now) (codes "again")))) }
+    ensures { IfOk result (λ found.
+        IfSome found (IsCall (one_text (found_of below.now) (codes "again")))) }
 {
     let Some(client) = below.get_one::<u32>(CLIENT) else {
         return Ok(None);
@@ -253,7 +265,8 @@ fn with_command<'a>(
     command: Result<Command<'a>, AllocError>,
     below: Result<Command<'a>, AllocError>,
 ) -> Result<Command<'a>, AllocError>
-    ensures { (old app : App) → IfOk command.entry (λ c. app_of c ≡ old) → IfOk below.entry (IsCommand app)
+    ensures { (old app : App) → IfOk command.entry (λ c. app_of c ≡ old)
+        → IfOk below.entry (IsCommand app)
         → IfOk result (λ c. app_of c ≡ with_subcommand old app.top) }
 {
     command?.subcommand(below?)
@@ -264,7 +277,8 @@ fn with_arg<'a>(
     command: Result<Command<'a>, AllocError>,
     arg: Arg<'a>,
 ) -> Result<Command<'a>, AllocError>
-    ensures { (app : App) (rule : Rule) → IfOk command.entry (IsCommand app) → rule_of arg.entry ≡ rule
+    ensures { (app : App) (rule : Rule) → IfOk command.entry (IsCommand app)
+        → rule_of arg.entry ≡ rule
         → arg.entry.global ≡ false → IfOk result (IsCommand (with_rule app rule)) }
 {
     command?.arg(arg)
@@ -425,7 +439,8 @@ fn number_option<'a>(
     help: &'a str,
     parser: ValueParser<'a>,
 ) -> Arg<'a>
-    ensures rule { rule_of result ≡ record (option_rule name.entry.now) { parser = Some parser.entry } }
+    ensures rule { rule_of result
+        ≡ record (option_rule name.entry.now) { parser = Some parser.entry } }
     ensures own { result.global ≡ false }
 {
     option(alloc, name, value, help).value_parser(parser)

@@ -9,7 +9,8 @@ use Rattle.linda_tuple.specs.Template.{Template}
 use Rattle.linda_bag.specs.Filing.{Rows, rows_at}
 use Rattle.linda_bag.specs.Heads.{with_head}
 
--- what a tuple is filed under: its tag, then the number of its fields, then its first field, if it has one
+-- what a tuple is filed under: its tag, then the number of its fields, then its first field, if it
+-- has one
 abbrev pub tag_of : Tuple → Atom
 tag_of row = row.tag
 
@@ -37,8 +38,9 @@ abbrev pub with_first : Option Atom → Rows Tuple → Rows Tuple
 with_first None rows = rows
 with_first (Some v) rows = rows_at atom_ord.ghosts.cmp first_of v rows
 
--- those of the rows that have the template's tag and as many fields as it has patterns and, where the first pattern is
--- a value, that value first
+-- those of the rows that have the template's tag and as many fields as it has patterns and, where
+-- the first pattern is a value, that value first
 abbrev pub candidates : Template → Rows Tuple → Rows Tuple
 candidates template rows =
-    with_first (first_value template.fields) (with_head tag_of count_of template.tag (length template.fields) rows)
+    with_first (first_value template.fields)
+    (with_head tag_of count_of template.tag (length template.fields) rows)

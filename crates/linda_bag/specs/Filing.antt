@@ -29,19 +29,25 @@ module _ {T : Type 0} where
   abbrev pub HasIds : BTreeSet ℕ → Rows T → Type 0
   HasIds ids rows = (id : ℕ) → contains nat_cmp ids id ≡ is_some (rows id)
 
-  -- What had the rows has them still, but for the id: there it had `before`, and now it has `after`.
+  -- What had the rows has them still, but for the id: there it had `before`, and now it has
+  -- `after`.
   abbrev pub Refiles : (Rows T → Type 0) → (Rows T → Type 0) → ℕ → Option T → Option T → Type 0
-  Refiles Old New id before after = (rows : Rows T) → rows id ≡ before → Old rows → New (with_row rows id after)
+  Refiles Old New id before after =
+      (rows : Rows T) → rows id ≡ before → Old rows → New (with_row rows id after)
 
-  -- The shelf has the rows, of which there is one at least; where there is no shelf, there is no row.
+  -- The shelf has the rows, of which there is one at least; where there is no shelf, there is no
+  -- row.
   abbrev pub IsShelved : {S : Type 0} → (S → Rows T → Type 0) → Option S → Rows T → Type 0
   IsShelved Has None rows = IsBare rows
   IsShelved Has (Some shelf) rows = Has shelf rows × (IsBare rows → ⊥)
 
-  -- What was found is the shelf with a part of the rows that the index has; nothing, where that part has none.
-  abbrev pub FindsShelf : {S : Type 0} → (Rows T → Type 0) → (S → Rows T → Type 0) → (Rows T → Rows T) → Option S
+  -- What was found is the shelf with a part of the rows that the index has; nothing, where that
+  -- part has none.
+  abbrev pub FindsShelf : {S : Type 0} → (Rows T → Type 0) → (S → Rows T → Type 0)
+      → (Rows T → Rows T) → Option S
       → Type 0
-  FindsShelf Has HasFound part found = (rows : Rows T) → Has rows → IsShelved HasFound found (part rows)
+  FindsShelf Has HasFound part found =
+      (rows : Rows T) → Has rows → IsShelved HasFound found (part rows)
 
 module _ {K T : Type 0} where
   -- the row with its key, if it has one
@@ -73,13 +79,15 @@ module _ {K T : Type 0} (cmp : K → K → Ordering) where
     abbrev pub IsFiledBy : BTreeMap K S → (K → Rows T) → Type 0
     IsFiledBy shelves parts = (q : K) → IsShelved Has (get cmp shelves q) (parts q)
 
-    -- Under each key stands a shelf with the rows to which `key_of` gives that key, where there are any.
+    -- Under each key stands a shelf with the rows to which `key_of` gives that key, where there are
+    -- any.
     abbrev pub IsFiled : (T → Option K) → BTreeMap K S → Rows T → Type 0
     IsFiled key_of shelves rows = IsFiledBy shelves (λ q. rows_at key_of q rows)
 
-    -- The shelves had the parts, and have them still, but for the id: it was filed by `before` and is
-    -- now by `after`.
-    abbrev pub RefilesBy : BTreeMap K S → BTreeMap K S → ℕ → Option (K × T) → Option (K × T) → Type 0
+    -- The shelves had the parts, and have them still, but for the id: it was filed by `before` and
+    -- is now by `after`.
+    abbrev pub RefilesBy : BTreeMap K S → BTreeMap K S → ℕ → Option (K × T) → Option (K × T)
+        → Type 0
     RefilesBy old new id before after =
         (parts : K → Rows T)
         → ((q : K) → parts q id ≡ row_at q before)
@@ -88,6 +96,8 @@ module _ {K T : Type 0} (cmp : K → K → Ordering) where
 
     -- One shelf changed: where it stands the id was filed by `before`, and is now by `after`; the
     -- others are as they were.
-    pub record RefilesAt (old new : BTreeMap K S) (key : K) (id : ℕ) (before after : Option T) : Type 0 where
-      pub here : Refiles (IsShelved Has (get cmp old key)) (IsShelved Has (get cmp new key)) id before after
+    pub record RefilesAt (old new : BTreeMap K S) (key : K) (id : ℕ) (before after : Option T)
+        : Type 0 where
+      pub here : Refiles (IsShelved Has (get cmp old key)) (IsShelved Has (get cmp new key))
+          id before after
       pub apart : (q : K) → is_eq (cmp key q) ≡ false → get cmp new q ≡ get cmp old q

@@ -1,4 +1,5 @@
--- Rows that are filed under the values that they begin with: those that are integers in one map, all others in another.
+-- Rows that are filed under the values that they begin with: those that are integers in one map,
+-- all others in another.
 use Rattle.std.specs.Prelude.{ℤ, Option, None, Some}
 use Rattle.std.specs.Ordering.{int_cmp}
 use Rattle.linda_tuple.specs.declared.atom.Atom.{Atom}
@@ -45,4 +46,5 @@ module _ {R : Type 0} (first_of : R → Option Atom) where
   -- Under each such value stand the ids of the rows that begin with it.
   abbrev pub HasFirsts : Firsts → Rows R → Type 0
   HasFirsts firsts rows =
-      IsFiled int_cmp IsOf int_of firsts.ints rows × IsFiled atom_ord.ghosts.cmp IsOf other_of firsts.others rows
+      IsFiled int_cmp IsOf int_of firsts.ints rows
+      × IsFiled atom_ord.ghosts.cmp IsOf other_of firsts.others rows

@@ -8,7 +8,8 @@ use Rattle.linda_tuple.specs.Template.{Template}
 use Rattle.linda_tuple.specs.Matching.{Matches}
 
 -- The bag has a tuple under the id, the template matches it, and the id is not passed over.
-pub record IsFreeMatch (bag : FinMap nat_cmp Tuple) (shape : Template) (passed : ℕ → Bool) (id : ℕ) : Type 0 where
+pub record IsFreeMatch (bag : FinMap nat_cmp Tuple) (shape : Template) (passed : ℕ → Bool) (id : ℕ)
+    : Type 0 where
   pub row : Tuple
   pub stored : get bag id ≡ Some row
   pub matches : Matches shape row

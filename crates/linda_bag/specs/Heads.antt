@@ -16,7 +16,8 @@ module _ {T : Type 0} (tag_of : T → Atom) (count_of : T → ℕ) where
   -- Under each head stands a shelf with the rows that have it.
   abbrev pub HasHeads : {S : Type 0} → (S → Rows T → Type 0) → Heads S → Rows T → Type 0
   HasHeads Has heads rows =
-      IsFiled atom_ord.ghosts.cmp (HasCounts count_of Has) (λ row. Some (tag_of row)) heads.tags rows
+      IsFiled atom_ord.ghosts.cmp (HasCounts count_of Has) (λ row. Some (tag_of row))
+      heads.tags rows
 
   -- those of the rows that have the tag, and as many fields
   abbrev pub with_head : Atom → ℕ → Rows T → Rows T

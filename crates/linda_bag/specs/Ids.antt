@@ -19,7 +19,8 @@ IsOf set rows = (id : ℕ) → has_id set id ≡ is_some (rows id)
 
 -- The set has these two ids, and no others.
 abbrev pub HasPair : ℕ → ℕ → BTreeSet ℕ → Type 0
-HasPair one other both = (id : ℕ) → contains nat_cmp both id ≡ (is_eq (nat_cmp id one) || is_eq (nat_cmp id other))
+HasPair one other both =
+    (id : ℕ) → contains nat_cmp both id ≡ (is_eq (nat_cmp id one) || is_eq (nat_cmp id other))
 
 -- whether the id is one of the set, where there is a set
 abbrev pub has_any : Option Ids → ℕ → Bool

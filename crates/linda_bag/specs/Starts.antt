@@ -20,7 +20,8 @@ Bagged = map.FinMap nat_cmp Tuple
 abbrev pub Covers : Start → ℕ → Type 0
 Covers start id = (start.from ≤ id) ⊎ (contains nat_cmp start.freed id ≡ true)
 
--- A search for the template that begins there comes to each free match, and to each tuple from the next id on.
+-- A search for the template that begins there comes to each free match, and to each tuple from the
+-- next id on.
 pub record IsRight (bag : Bagged) (passed : ℕ → Bool) (next : ℕ) (start : Start) : Type 0 where
   pub below : start.from ≤ next
   pub each : (k : ℕ) → IsFreeMatch bag start.template passed k → Covers start k

@@ -59,7 +59,8 @@ pub trait Bag: Drop {
         ensures none { IfNone result ((k : ℕ)
             → IsFreeMatch (contents self.now) template.now (contains nat_cmp passed.now) k → ⊥) };
 
-    /// As `least_match`, of the ids from `from` on alone; and how many tuples were looked at in vain.
+    /// As `least_match`, of the ids from `from` on alone; and how many tuples were looked at in
+    /// vain.
     fn least_match_from<P: IdSet>(&self, template: &Template, passed: &P, from: u64) -> Found
         ensures found { IfSome result.id
             (IsFreeMatch (contents self.now) template.now (P.has passed.now)) }

@@ -1,11 +1,12 @@
-//! The values that rows of one tag and one number of fields begin with, and the ids under each. Most are
-//! integers: those stand in a map of their own, whose entries are small, so that a look-up reads little
-//! memory.
+//! The values that rows of one tag and one number of fields begin with, and the ids under each.
+//! Most are integers: those stand in a map of their own, whose entries are small, so that a look-up
+//! reads little memory.
 
 ghost use Rattle.std.specs.Prelude.{◌≡◌, ◌↔◌, Some, None, OnOk, OnErr, IsTrue};
 ghost use Rattle.std.specs.Option.{option_copied};
 ghost use Rattle.linda_tuple.specs.contracts.atom.AtomOrd.TheImpl as atom_ord;
-ghost use Rattle.linda_bag.specs.Filing.{no_rows, rows_at, place, placed, FindsShelf, Refiles, Rows, IsBare};
+ghost use Rattle.linda_bag.specs.Filing.{no_rows, rows_at, place, placed, FindsShelf, Refiles};
+ghost use Rattle.linda_bag.specs.Filing.{Rows, IsBare};
 ghost use Rattle.linda_bag.specs.Ids.{IsOf};
 ghost use Rattle.linda_bag.specs.Firsts.{HasFirsts, int_of, other_of, keyed_of};
 
@@ -16,7 +17,8 @@ use linda_tuple::Atom;
 use std::alloc::{AllocError, Global};
 use std::collections::BTreeMap;
 
-/// The ids of rows under the values that they begin with. A row that begins with none is under none.
+/// The ids of rows under the values that they begin with. A row that begins with none is under
+/// none.
 #[derive(Drop)]
 pub struct Firsts {
     ints: BTreeMap<i64, Ids>,
@@ -36,7 +38,8 @@ impl Firsts {
 
     /// The ids of the rows that begin with the value; nothing where there are none.
     pub fn get<R: Headed>(&self, first: &Atom) -> Option<&Ids>
-        ensures { FindsShelf (HasFirsts R.first_of self.now) IsOf (rows_at atom_ord.ghosts.cmp R.first_of first.now)
+        ensures { FindsShelf (HasFirsts R.first_of self.now) IsOf
+            (rows_at atom_ord.ghosts.cmp R.first_of first.now)
             (option_copied result) }
     {
         match first {
@@ -46,8 +49,8 @@ impl Firsts {
         }
     }
 
-    /// Files the id by what the row `new` begins with, and no more by what `old` does, which had the id
-    /// before.
+    /// Files the id by what the row `new` begins with, and no more by what `old` does, which had
+    /// the id before.
     ///
     /// # Errors
     ///
@@ -59,9 +62,11 @@ impl Firsts {
         old: Option<&'a R>,
         new: &'a R,
     ) -> Result<(), AllocError>
-        ensures ok { OnOk result (Refiles (HasFirsts R.first_of self.old) (HasFirsts R.first_of self.new)
+        ensures ok { OnOk result (Refiles (HasFirsts R.first_of self.old)
+            (HasFirsts R.first_of self.new)
             id (option_copied old.entry) (Some new.now)) }
-        ensures err { OnErr result (Refiles (HasFirsts R.first_of self.old) (HasFirsts R.first_of self.new)
+        ensures err { OnErr result (Refiles (HasFirsts R.first_of self.old)
+            (HasFirsts R.first_of self.new)
             id (option_copied old.entry) (option_copied old.entry)) }
     {
         // The map that the id goes into alone may want memory, so it comes first.

@@ -1,5 +1,5 @@
-//! Ids of rows, often of a single one, which then takes no memory of its own: one tuple stands under a
-//! key of a queue of jobs or of a request.
+//! Ids of rows, often of a single one, which then takes no memory of its own: one tuple stands
+//! under a key of a queue of jobs or of a request.
 
 ghost use Rattle.std.specs.Prelude.{◌≡◌, ℕ, true, IfOk};
 ghost use Rattle.std.specs.Ordering.{nat_cmp};
@@ -10,8 +10,8 @@ use crate::shelf::Shelf;
 use std::alloc::{AllocError, Global};
 use std::collections::BTreeSet;
 
-/// A set of ids. It is as small as it can be, since one stands under each key: so several are behind a
-/// box.
+/// A set of ids. It is as small as it can be, since one stands under each key: so several are
+/// behind a box.
 #[derive(Drop)]
 pub enum Ids {
     Nothing,

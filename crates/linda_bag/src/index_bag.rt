@@ -1,5 +1,5 @@
-//! The bag of a server that has many tuples: a look-up looks at those alone that have the template's
-//! head, its tag, its number of fields and the value that it begins with.
+//! The bag of a server that has many tuples: a look-up looks at those alone that have the
+//! template's head, its tag, its number of fields and the value that it begins with.
 
 ghost use Rattle.std.specs.Prelude.{◌≡◌, ◌≤◌, ◌<◌, ◌↔◌, ℕ, None, true, IsTrue, IfSome, IfNone};
 ghost use Rattle.std.specs.Ordering.{nat_cmp};
@@ -19,8 +19,8 @@ use std::alloc::{AllocError, Global};
 use std::collections::BTreeSet;
 use std::marker::Model;
 
-/// A bag that keeps, beside its tuples in the order of their ids, an index of the ids by tag, number
-/// of fields and first field.
+/// A bag that keeps, beside its tuples in the order of their ids, an index of the ids by tag,
+/// number of fields and first field.
 pub struct IndexBag {
     alloc: Global,
     tuples: Tuples,
@@ -151,7 +151,8 @@ fn least_free<P: IdSet>(
     ensures found { IfSome result.id
         (IsFreeMatch tuples.now template.now (P.has passed.now)) }
     ensures above { IfSome result.id (λ id. from ≤ id) }
-    ensures least { IfSome result.id (λ id. (k : ℕ) → from ≤ k → k < id → contains nat_cmp ids.now k ≡ true
+    ensures least { IfSome result.id
+        (λ id. (k : ℕ) → from ≤ k → k < id → contains nat_cmp ids.now k ≡ true
         → IsFreeMatch tuples.now template.now (P.has passed.now) k → ⊥) }
     ensures none { IfNone result.id ((k : ℕ) → from ≤ k → contains nat_cmp ids.now k ≡ true
         → IsFreeMatch tuples.now template.now (P.has passed.now) k → ⊥) }

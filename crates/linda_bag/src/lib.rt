@@ -2,13 +2,14 @@
 //!
 //! Whoever keeps tuples says what `Bag` says, and contracts see the bag as a finite map from ids to
 //! `Tuple`s. So a store is written and proved once, for every bag. `ListBag` is the plain one, and
-//! `IndexBag` the one whose look-ups stay fast: it looks at the tuples of the template's own tag and
-//! number of fields alone and, where the template begins with a value, at those that begin with it.
+//! `IndexBag` the one whose look-ups stay fast: it looks at the tuples of the template's own tag
+//! and number of fields alone and, where the template begins with a value, at those that begin with
+//! it.
 //!
 //! `specs/FreeMatch` says which tuples a template may be answered with; the answer is always the
-//! least id among them. `specs/Filing` and `specs/Candidates` say what an index has and what is found
-//! in it. `heads`, `firsts` and `ids` are written for rows of any type, so that `linda_hold` files its requests
-//! by them. What follows of finite maps is in `linda_maps`.
+//! least id among them. `specs/Filing` and `specs/Candidates` say what an index has and what is
+//! found in it. `heads`, `firsts` and `ids` are written for rows of any type, so that `linda_hold`
+//! files its requests by them. What follows of finite maps is in `linda_maps`.
 //!
 //! A call that may take memory has a fault for that; no other call takes any.
 #![tactic(auto)]

@@ -100,9 +100,9 @@ impl<T> Shelf<T> for BTreeSet<u64> {
     }
 }
 
-/// Files the id under one key in place of another: by `old` it was filed before, by `new` it is filed
-/// now. Each is a key and the row that has it, or nothing where the row has no such key, or where
-/// there is no row.
+/// Files the id under one key in place of another: by `old` it was filed before, by `new` it is
+/// filed now. Each is a key and the row that has it, or nothing where the row has no such key, or
+/// where there is no row.
 ///
 /// # Errors
 ///

@@ -1,8 +1,9 @@
-//! Where searches for free tuples begin, so that those that are held are not looked at anew by each of them.
+//! Where searches for free tuples begin, so that those that are held are not looked at anew by each
+//! of them.
 //!
-//! A template for which a search looked at many tuples in vain gets a start: an id, below which its free matches are
-//! those alone that came free again since. A start says what a search may leave out, and nothing else: it may go at
-//! any time.
+//! A template for which a search looked at many tuples in vain gets a start: an id, below which its
+//! free matches are those alone that came free again since. A start says what a search may leave
+//! out, and nothing else: it may go at any time.
 
 ghost use Rattle.std.specs.Prelude.{◌≡◌, ◌≤◌, ◌<◌, ℕ, Bool, true, false, Some, IfSome, IfNone};
 ghost use Rattle.std.specs.FinMap as map;
@@ -50,9 +51,9 @@ impl Starts {
         }
     }
 
-    /// The least id of the bag outside `held` whose tuple the template matches; nothing only where there is none. Each
-    /// id of the bag is below `next`. It needs no memory; where there is some the next search for the template begins
-    /// here, if this one looked at many tuples in vain.
+    /// The least id of the bag outside `held` whose tuple the template matches; nothing only where
+    /// there is none. Each id of the bag is below `next`. It needs no memory; where there is some
+    /// the next search for the template begins here, if this one looked at many tuples in vain.
     pub fn least_match<B: Bag, P: IdSet>(
         &mut self,
         alloc: Global,
@@ -81,7 +82,8 @@ impl Starts {
 
     /// The tuple under the id is held no more.
     pub fn free(&mut self, id: u64, tuple: &Tuple)
-        ensures { (bag : Bagged) (before after : ℕ → Bool) (next : ℕ) → map.get bag id ≡ Some tuple.now
+        ensures { (bag : Bagged) (before after : ℕ → Bool) (next : ℕ)
+            → map.get bag id ≡ Some tuple.now
             → ((k : ℕ) → (k ≡ id → ⊥) → after k ≡ false → before k ≡ false)
             → AreRight bag before next self.old → AreRight bag after next self.new }
     {
@@ -146,8 +148,8 @@ impl Starts {
         }
     }
 
-    // The template gets a start, in place of another one of its tag, where there is memory for it. Where there are too
-    // many starts all of them go.
+    // The template gets a start, in place of another one of its tag, where there is memory for it.
+    // Where there are too many starts all of them go.
     fn begin(&mut self, alloc: Global, template: &Template, from: u64)
         ensures { Begins template.now from self.old self.new }
     {

@@ -1,6 +1,7 @@
--- How the number of a client's message stands to the last number that is kept for the client, 0 if there is none, and
--- whether the client left by that.
-use Rattle.std.specs.Prelude.{◌≡◌, ℕ, ◌+◌, ◌<◌, ◌==◌, ◌⊎◌, Bool, true, false, nat_lt, ◌||◌, if◌then◌else◌}
+-- How the number of a client's message stands to the last number that is kept for the client, 0 if
+-- there is none, and whether the client left by that.
+use Rattle.std.specs.Prelude.{◌≡◌, ℕ, ◌+◌, ◌<◌, ◌==◌, ◌⊎◌, Bool, true, false, nat_lt, ◌||◌}
+use Rattle.std.specs.Prelude.{if◌then◌else◌}
 use Rattle.linda_book.specs.declared.class.Class.{Class}
 use Rattle.linda_book.specs.declared.class.Class.TheVariants.{Fresh, Kept, Old, Left, Gap}
 
@@ -13,8 +14,8 @@ class_of last left n =
     else (if nat_lt (last + 1) n then Gap last
     else Fresh)))
 
--- What each class says: the next number; the last one, which there is; none or an earlier one; one beyond that of a
--- Leave; one beyond the next.
+-- What each class says: the next number; the last one, which there is; none or an earlier one; one
+-- beyond that of a Leave; one beyond the next.
 abbrev pub IsClass : ℕ → Bool → ℕ → Class → Type 0
 IsClass last left n Fresh = (n ≡ last + 1) × (left ≡ false)
 IsClass last left n Kept = (n ≡ last) × (0 < last)

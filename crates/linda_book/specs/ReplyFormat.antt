@@ -1,10 +1,12 @@
--- The format of kept replies in each of the two forms: the one spelling of each, which have one, and the reader.
+-- The format of kept replies in each of the two forms: the one spelling of each, which have one,
+-- and the reader.
 use Rattle.std.specs.Prelude.{ℕ, List, [], ◌∷◌}
 use Rattle.linda_tuple.specs.declared.form.Form.{Form}
 use Rattle.linda_tuple.specs.declared.form.Form.TheVariants.{One, Two}
 use Rattle.linda_tuple.specs.Tuple.{Tuple}
 use Rattle.linda_codec.specs.Steps.{Reader}
-use Rattle.linda_codec.specs.Formats.{Format, number, nothing, both, made_at, no_kind, body_at, choice_at}
+use Rattle.linda_codec.specs.Formats.{Format, number, nothing, both, made_at, no_kind, body_at}
+use Rattle.linda_codec.specs.Formats.{choice_at}
 use Rattle.linda_codec.specs.Values as value
 use Rattle.linda_book.specs.declared.kept_reply.KeptReply.{KeptReply}
 use Rattle.linda_book.specs.declared.kept_reply.KeptReply.TheVariants.{Stored, Taken, Gone, Left}
@@ -41,7 +43,8 @@ left_kinds Two = (kind.LEFT, made_at (λ _. Left) nothing) ∷ []
 -- The kinds of kept replies, each with its body.
 abbrev pub reply_kinds : Form → List (ℕ × Reader KeptReply)
 reply_kinds form =
-    (kind.STORED, made_at (λ id. Stored id) number) ∷ (kind.TAKEN, made_at (λ p. Taken p.0 p.1) (placed form))
+    (kind.STORED, made_at (λ id. Stored id) number)
+    ∷ (kind.TAKEN, made_at (λ p. Taken p.0 p.1) (placed form))
     ∷ (kind.GONE, made_at (λ _. Gone) nothing) ∷ left_kinds form
 
 -- A kept reply of that kind, of which the kind is read.
@@ -49,4 +52,9 @@ abbrev pub reply_body_at : Form → ℕ → Reader KeptReply
 reply_body_at form = body_at (reply_kinds form) no_kind
 
 abbrev pub reply : Form → Format KeptReply
-reply form = record { spell = spell_reply form; Fits = FitsReply form; read = choice_at (reply_kinds form) no_kind }
+reply form =
+    record {
+      spell = spell_reply form;
+      Fits = FitsReply form;
+      read = choice_at (reply_kinds form) no_kind;
+    }

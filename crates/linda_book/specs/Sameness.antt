@@ -36,13 +36,15 @@ taken_parts : (i j : ℕ) (s t : Tuple) → Taken i s ≡ Taken j t → (i ≡ j
 taken_parts i j s t same = (cc same, cc same)
 
 pub same_kept-decides : (a b : KeptReply) → Decides (same_kept a b) (a ≡ b)
-same_kept-decides (Stored i) (Stored j) = Decides-like (i == j) (λ e. ap Stored e) (λ e. cc) (Decides-eqb i j)
+same_kept-decides (Stored i) (Stored j) =
+    Decides-like (i == j) (λ e. ap Stored e) (λ e. cc) (Decides-eqb i j)
 same_kept-decides (Stored i) (Taken j t) = never (λ e. cc)
 same_kept-decides (Stored i) Gone = never (λ e. cc)
 same_kept-decides (Stored i) Left = never (λ e. cc)
 same_kept-decides (Taken i s) (Stored j) = never (λ e. cc)
 same_kept-decides (Taken i s) (Taken j t) =
-    Decides-like ((i == j) && same_tuple s t) (λ both k. Taken (both.0 k) (both.1 k)) (taken_parts i j s t)
+    Decides-like ((i == j) && same_tuple s t) (λ both k. Taken (both.0 k) (both.1 k))
+    (taken_parts i j s t)
     (Decides-and (i == j) (same_tuple s t) (Decides-eqb i j) (same_tuple-decides s t))
 same_kept-decides (Taken i s) Gone = never (λ e. cc)
 same_kept-decides (Taken i s) Left = never (λ e. cc)

@@ -13,8 +13,8 @@ use std::collections::BTreeMap;
 use std::marker::Model;
 use std::ops::Bound;
 
-/// What is kept for each client, at most one entry a client. Contracts see a finite map from clients
-/// to pairs of a number and a reply. The book itself sets no limit to clients or numbers.
+/// What is kept for each client, at most one entry a client. Contracts see a finite map from
+/// clients to pairs of a number and a reply. The book itself sets no limit to clients or numbers.
 pub struct Book {
     entries: BTreeMap<u32, (u64, KeptReply)>,
 }
@@ -58,7 +58,8 @@ impl Book {
         }
     }
 
-    /// The number that is kept for the client, 0 if there is none, and whether the client left by that.
+    /// The number that is kept for the client, 0 if there is none, and whether the client left by
+    /// that.
     pub fn standing(&self, client: u32) -> (u64, bool)
         ensures last { result.0 ≡ number_in (map.get self.now client) }
         ensures left { result.1 ≡ left_in (map.get self.now client) }
@@ -72,8 +73,10 @@ impl Book {
     /// How the number of a message stands to the last one that is kept for the client.
     #[tactic(auto, using(crate::proofs::MeaningLaws::class_means))]
     pub fn classify(&self, client: u32, n: u64) -> Class
-        ensures class { result ≡ class_of (number_in (map.get self.now client)) (left_in (map.get self.now client)) n }
-        ensures means { IsClass (number_in (map.get self.now client)) (left_in (map.get self.now client)) n result }
+        ensures class { result ≡ class_of (number_in (map.get self.now client))
+            (left_in (map.get self.now client)) n }
+        ensures means { IsClass (number_in (map.get self.now client))
+            (left_in (map.get self.now client)) n result }
     {
         let (last, left) = self.standing(client);
         class::class_of(last, left, n)
@@ -93,8 +96,8 @@ impl Book {
     ///
     /// # Errors
     ///
-    /// `AllocError` where memory runs out, and then the book is as before. It comes only for a client
-    /// for which nothing is kept: to replace an entry takes no memory.
+    /// `AllocError` where memory runs out, and then the book is as before. It comes only for a
+    /// client for which nothing is kept: to replace an entry takes no memory.
     pub fn keep(&mut self, client: u32, n: u64, reply: KeptReply) -> Result<(), AllocError>
         ensures ok { OnOk result (self.new ≡ map.insert self.old client (n, reply)) }
         ensures err { OnErr result (self.new ≡ self.old) }
@@ -115,7 +118,8 @@ impl Book {
     pub fn next_from(&self, client: u32) -> Option<u32>
         ensures found { IfSome result (λ next. IsSome (map.get self.now next)) }
         ensures above { IfSome result (λ next. client ≤ next) }
-        ensures least { IfSome result (λ next. (c : ℕ) → client ≤ c → c < next → map.get self.now c ≡ None) }
+        ensures least { IfSome result (λ next. (c : ℕ) → client ≤ c → c < next
+            → map.get self.now c ≡ None) }
         ensures none { IfNone result ((c : ℕ) → client ≤ c → map.get self.now c ≡ None) }
     {
         let (next, _) = self.entries.range(client..).next()?;
@@ -126,7 +130,8 @@ impl Book {
     pub fn next_after(&self, client: u32) -> Option<u32>
         ensures found { IfSome result (λ next. IsSome (map.get self.now next)) }
         ensures above { IfSome result (λ next. client < next) }
-        ensures least { IfSome result (λ next. (c : ℕ) → client < c → c < next → map.get self.now c ≡ None) }
+        ensures least { IfSome result (λ next. (c : ℕ) → client < c → c < next
+            → map.get self.now c ≡ None) }
         ensures none { IfNone result ((c : ℕ) → client < c → map.get self.now c ≡ None) }
     {
         let above = (Bound::Excluded(client), Bound::Unbounded);

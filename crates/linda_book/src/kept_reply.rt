@@ -38,7 +38,8 @@ impl KeptReply {
     ///
     /// # Errors
     ///
-    /// `AllocError` where memory runs out. It comes only for a reply with a tuple: the others take no memory.
+    /// `AllocError` where memory runs out. It comes only for a reply with a tuple: the others take
+    /// no memory.
     pub fn try_clone(&self, alloc: Global) -> Result<KeptReply, AllocError>
         ensures ok { IfOk result (λ copy. copy ≡ self.now) }
         ensures err { OnErr result (HasTuple self.now) }

@@ -14,6 +14,7 @@ is_late ticks = nat_le 10000 ticks
 tries_after_a_loss : course.MAX_TRIES ≡ 10000
 tries_after_a_loss = refl
 
--- How often one is greeted first for a client that goes on, while it says that the client has another connection.
+-- How often one is greeted first for a client that goes on, while it says that the client has
+-- another connection.
 tries_of_a_client_that_goes_on : course.FIRST_TRIES ≡ 2000
 tries_of_a_client_that_goes_on = refl

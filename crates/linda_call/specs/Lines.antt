@@ -1,8 +1,10 @@
 -- The numbers of lines, and what is wrong with one.
-use Rattle.std.specs.Prelude.{ℕ, ◌+◌, ◌-◌, ◌^◌, min, Bool, true, false, Option, Some, None, Result, Ok, Err}
+use Rattle.std.specs.Prelude.{ℕ, ◌+◌, ◌-◌, ◌^◌, min, Bool, true, false, Option, Some, None, Result}
+use Rattle.std.specs.Prelude.{Ok, Err}
 use Rattle.linda_shell_text.specs.declared.line_fault.LineFault.TheVariants as lines
 use Rattle.linda_call.specs.declared.calling.fault.CallFault.{CallFault}
-use Rattle.linda_call.specs.declared.calling.fault.CallFault.TheVariants.{Line, NoConnection, Refused, Restored, Memory}
+use Rattle.linda_call.specs.declared.calling.fault.CallFault.TheVariants.{Line, NoConnection}
+use Rattle.linda_call.specs.declared.calling.fault.CallFault.TheVariants.{Refused, Restored, Memory}
 use Rattle.linda_call.specs.declared.calling.fault.CallFault.TheVariants.{Read}
 use Rattle.linda_call.specs.declared.calling.fault.CallFault.TheVariants.{Write, Turns, Clock}
 
@@ -22,7 +24,8 @@ fault_at number Write = Write
 fault_at number Turns = Turns
 fault_at number Clock = Clock
 
--- What ends the call at the line of this number, of which it was said whether it is one of a client.
+-- What ends the call at the line of this number, of which it was said whether it is one of a
+-- client.
 abbrev pub end_at : ℕ → Result Bool CallFault → Option CallFault
 end_at number (Ok true) = None
 end_at number (Ok false) = Some (Line number lines.NotACommand)

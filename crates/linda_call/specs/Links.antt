@@ -11,6 +11,8 @@ place_of link = (link.server, link.port)
 abbrev pub IsOf : ℕ → Bool → Link → Type 0
 IsOf client fresh link = (link.client ≡ client) × (link.fresh ≡ fresh)
 
--- The links of a client, one to each port in their order: the server of the first port is 0, and so on.
+-- The links of a client, one to each port in their order: the server of the first port is 0, and so
+-- on.
 abbrev pub IsLinked : ℕ → Bool → List ℕ → List Link → Type 0
-IsLinked client fresh ports links = (map place_of links ≡ enumerate_from 0 ports) × All (IsOf client fresh) links
+IsLinked client fresh ports links =
+    (map place_of links ≡ enumerate_from 0 ports) × All (IsOf client fresh) links

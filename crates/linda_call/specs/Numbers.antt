@@ -1,10 +1,12 @@
--- The numbers of a client that goes on: what it counts from 1 on, its server counts after the number that it kept
--- before.
+-- The numbers of a client that goes on: what it counts from 1 on, its server counts after the
+-- number that it kept before.
 use Rattle.std.specs.Prelude.{ℕ, ◌+◌, ◌-◌, ◌^◌, min, nat_le, if◌then◌else◌, Option, Some, None}
 use Rattle.linda_wire.specs.declared.message.Message.{Message}
-use Rattle.linda_wire.specs.declared.message.Message.TheVariants.{Hello, Out, Ask, Accept, Cancel, Leave}
+use Rattle.linda_wire.specs.declared.message.Message.TheVariants.{Hello, Out, Ask, Accept, Cancel}
+use Rattle.linda_wire.specs.declared.message.Message.TheVariants.{Leave}
 use Rattle.linda_wire.specs.declared.reply.Reply.{Reply}
-use Rattle.linda_wire.specs.declared.reply.Reply.TheVariants.{Welcome, Stored, Offer, Read, Taken, Gone, Refused, Left}
+use Rattle.linda_wire.specs.declared.reply.Reply.TheVariants.{Welcome, Stored, Offer, Read, Taken}
+use Rattle.linda_wire.specs.declared.reply.Reply.TheVariants.{Gone, Refused, Left}
 
 -- The number that a server sees in place of one of the client, of the 64 bits that there are.
 abbrev pub counted_on : ℕ → ℕ → ℕ
@@ -23,7 +25,8 @@ onward_of base (Leave n) = Leave (counted_on base n)
 abbrev pub above : {A : Type 0} → ℕ → ℕ → (ℕ → A) → Option A
 above base n make = if nat_le n base then None else Some (make (n - base))
 
--- The reply that the client sees, of a server that kept so many numbers before; nothing if it answers one of those.
+-- The reply that the client sees, of a server that kept so many numbers before; nothing if it
+-- answers one of those.
 abbrev pub homeward_of : ℕ → Reply → Option Reply
 homeward_of base (Welcome last) = Some (Welcome last)
 homeward_of base (Stored n id) = above base n (λ m. Stored m id)

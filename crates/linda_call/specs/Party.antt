@@ -1,5 +1,6 @@
 -- What a call makes of lines, of the clock and of what comes from its servers.
-use Rattle.std.specs.Prelude.{◌≡◌, ℕ, Bool, true, false, if◌then◌else◌, List, [], Option, Some, None, Ok}
+use Rattle.std.specs.Prelude.{◌≡◌, ℕ, Bool, true, false, if◌then◌else◌, List, [], Option, Some}
+use Rattle.std.specs.Prelude.{None, Ok}
 use Rattle.linda_wire.specs.declared.message.Message.{Message}
 use Rattle.linda_wire.specs.declared.message.Message.TheVariants as message
 use Rattle.linda_wire.specs.declared.reply.Reply.{Reply}
@@ -39,11 +40,12 @@ accepted_after before server (message.Accept n ticket id) = Some (server, ticket
 accepted_after before server (message.Cancel ticket) = before
 accepted_after before server (message.Leave n) = before
 
--- The offer whose ticket is cancelled once what was pending has ended: the one that was accepted last, if something was
--- asked for again at its server.
+-- The offer whose ticket is cancelled once what was pending has ended: the one that was accepted
+-- last, if something was asked for again at its server.
 abbrev pub cancelled_at : List Standing → Option (ℕ × ℕ) → Option (ℕ × ℕ)
 cancelled_at standings None = None
-cancelled_at standings (Some offer) = if (standing_at standings offer.0).asked_again then Some offer else None
+cancelled_at standings (Some offer) =
+    if (standing_at standings offer.0).asked_again then Some offer else None
 
 -- nothing is sent and nothing is reported
 abbrev pub IsQuiet : Told → Type 0
@@ -52,8 +54,10 @@ IsQuiet told = (told.packets.items ≡ []) × (told.outcome ≡ None) × (told.f
 -- What the client does with the reply that it sees, if there is one for it.
 abbrev pub Hears : Client → ℕ → Option Reply → Told → Client → Type 0
 Hears old server None told new = IsQuiet told × (new ≡ old)
-Hears old server (Some reply) told new = react old (calls.Receive server reply) ≡ Ok (shown told new)
+Hears old server (Some reply) told new =
+    react old (calls.Receive server reply) ≡ Ok (shown told new)
 
--- what a server that welcomes the client is known to have: it was asked again if Asks are sent to it
+-- what a server that welcomes the client is known to have: it was asked again if Asks are sent to
+-- it
 abbrev pub asked : Bool → Standing → Standing
 asked is_asked s = if is_asked then record s { asked_again = true } else s

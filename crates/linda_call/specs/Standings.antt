@@ -1,6 +1,8 @@
 -- How a client stands with its servers.
-use Rattle.std.specs.Prelude.{ℕ, ◌+◌, ◌-◌, ◌^◌, min, Bool, true, false, ◌&&◌, nat_lt, max, if◌then◌else◌}
-use Rattle.std.specs.Prelude.{List, [], ◌∷◌, length, replicate, slice_index_or, slice_set, Option, Some, None}
+use Rattle.std.specs.Prelude.{ℕ, ◌+◌, ◌-◌, ◌^◌, min, Bool, true, false, ◌&&◌, nat_lt, max}
+use Rattle.std.specs.Prelude.{if◌then◌else◌}
+use Rattle.std.specs.Prelude.{List, [], ◌∷◌, length, replicate, slice_index_or, slice_set, Option}
+use Rattle.std.specs.Prelude.{Some, None}
 use Rattle.linda_call.specs.declared.calling.standing.Standing.{Standing}
 
 -- a server that was not met yet
@@ -14,11 +16,14 @@ all_unmet n = replicate n unmet
 -- the first that was not met, of those that are numbered from this number on, by numbers of 32 bits
 abbrev pub first_unmet : ℕ → List Standing → Option ℕ
 first_unmet server [] = None
-first_unmet server (s ∷ rest) = if s.is_met then first_unmet (min (server + 1) (2 ^ 32 - 1)) rest else Some server
+first_unmet server (s ∷ rest) =
+    if s.is_met then first_unmet (min (server + 1) (2 ^ 32 - 1)) rest else Some server
 
--- how the client stands with the server of this number, and as with one that was not met if there is none
+-- how the client stands with the server of this number, and as with one that was not met if there
+-- is none
 abbrev pub standing_at : List Standing → ℕ → Standing
-standing_at standings server = if nat_lt server (length standings) then slice_index_or standings server unmet else unmet
+standing_at standings server =
+    if nat_lt server (length standings) then slice_index_or standings server unmet else unmet
 
 -- the server of this number stands so, if there is one
 abbrev pub with_standing : List Standing → ℕ → Standing → List Standing

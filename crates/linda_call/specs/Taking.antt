@@ -2,7 +2,8 @@
 use Rattle.std.specs.Prelude.{◌≡◌, ℕ, true, List, Result, Ok, Err, IfOk}
 use Rattle.std.specs.List.{list_any}
 use Rattle.linda_net_proxy.specs.declared.arrivals.Arrival.{Arrival}
-use Rattle.linda_net_proxy.specs.declared.arrivals.Arrival.TheVariants.{Greeted, Came, Refused, NoConnection, Memory}
+use Rattle.linda_net_proxy.specs.declared.arrivals.Arrival.TheVariants.{Greeted, Came, Refused}
+use Rattle.linda_net_proxy.specs.declared.arrivals.Arrival.TheVariants.{NoConnection, Memory}
 use Rattle.linda_client.specs.React as calls
 use Rattle.linda_client.specs.React.{react}
 use Rattle.linda_client.specs.Reaction.{shown}
@@ -15,21 +16,25 @@ use Rattle.linda_call.specs.declared.calling.standing.Standing.{Standing}
 use Rattle.linda_call.specs.declared.calling.fault.CallFault.{CallFault}
 use Rattle.linda_call.specs.declared.calling.fault.CallFault.TheVariants as faults
 
--- What a server brings is taken so: the client sees a reply by its own numbers; after a welcome it sends again what is
--- pending there, unless the server keeps less than it answered; all else ends the call.
+-- What a server brings is taken so: the client sees a reply by its own numbers; after a welcome it
+-- sends again what is pending there, unless the server keeps less than it answered; all else ends
+-- the call.
 abbrev pub IsTaken : Party → ℕ → Arrival → Result Told CallFault → Party → Type 0
 IsTaken old server (Came reply) result new = IfOk result (λ told. Hears old.client server
     (homeward_of (standing_at old.standings.items server).base reply) told new.client)
 IsTaken old server (Greeted last) result new =
-    (IfOk result (λ told. (react old.client (calls.Reconnected server) ≡ Ok (shown told old.client))))
+    (IfOk result (λ told.
+    (react old.client (calls.Reconnected server) ≡ Ok (shown told old.client))))
     × (new.client ≡ old.client)
-    × (is_restored last (standing_at old.standings.items server) ≡ true → result ≡ Err (faults.Restored server))
-IsTaken old server (Refused code detail) result new = result ≡ Err (faults.Refused server code detail)
+    × (is_restored last (standing_at old.standings.items server) ≡ true
+    → result ≡ Err (faults.Restored server))
+IsTaken old server (Refused code detail) result new =
+    result ≡ Err (faults.Refused server code detail)
 IsTaken old server NoConnection result new = result ≡ Err (faults.NoConnection server)
 IsTaken old server Memory result new = result ≡ Err faults.Memory
 
--- How the client stands with its servers once what a server brings was taken well: a reply may have answered a number,
--- and a server that welcomes the client is met.
+-- How the client stands with its servers once what a server brings was taken well: a reply may have
+-- answered a number, and a server that welcomes the client is met.
 abbrev pub standings_after : Party → ℕ → Arrival → Told → List Standing
 standings_after old server (Came reply) told = with_standing old.standings.items server
     (answered (standing_at old.standings.items server) (answered_in reply))

@@ -31,22 +31,25 @@ use std::time::Clock;
 // The most bytes of one read.
 const BUFFER: usize = 4096;
 
-/// Plays lines as a client of this number over the servers that listen on these ports of this machine, which are
-/// numbered from 0: `out TUPLE`, `sync EVENT`, `leave` and `last`, one at a time. Each outcome is written and flushed
-/// before the next line is looked at; `last` writes the reply that each server keeps to the client. A carriage return
-/// at a line's end is dropped; the last line may lack its line feed.
+/// Plays lines as a client of this number over the servers that listen on these ports of this
+/// machine, which are numbered from 0: `out TUPLE`, `sync EVENT`, `leave` and `last`, one at a
+/// time. Each outcome is written and flushed before the next line is looked at; `last` writes the
+/// reply that each server keeps to the client. A carriage return at a line's end is dropped; the
+/// last line may lack its line feed.
 ///
-/// The client is one that was never used, or goes on after the numbers that servers keep for it. All servers are
-/// greeted before the first line is, and each has ten seconds to answer. A connection that is lost is greeted again,
-/// and what is pending is sent again; if a server is away for longer while nothing is pending, it is tried again at
-/// the next line. A tick of the client's clock is a millisecond since the call began.
+/// The client is one that was never used, or goes on after the numbers that servers keep for it.
+/// All servers are greeted before the first line is, and each has ten seconds to answer. A
+/// connection that is lost is greeted again, and what is pending is sent again; if a server is away
+/// for longer while nothing is pending, it is tried again at the next line. A tick of the client's
+/// clock is a millisecond since the call began.
 ///
 /// # Errors
 ///
-/// `Line` with the number of the first line that was not done, from 1: the outcomes of the lines before it are
-/// written. `NoConnection` and `Refused` of the first server that is given up or that refuses a request; `Restored` of
-/// one that has lost what it answered. `Read`, `Turns`, `Write` and `Clock` where the input, the output or the clock
-/// fails. `Memory` where memory, or a thread, cannot be had outside of a line.
+/// `Line` with the number of the first line that was not done, from 1: the outcomes of the lines
+/// before it are written. `NoConnection` and `Refused` of the first server that is given up or that
+/// refuses a request; `Restored` of one that has lost what it answered. `Read`, `Turns`, `Write`
+/// and `Clock` where the input, the output or the clock fails. `Memory` where memory, or a thread,
+/// cannot be had outside of a line.
 pub fn call<
     S: Net<Listener = TcpListener, Stream = TcpStream> + Threads + Wait + Clock + Sync,
     R: Read,
@@ -98,7 +101,8 @@ fn links_to(alloc: Global, client: u32, ports: &[u16], fresh: bool) -> Result<Ve
     Ok(links)
 }
 
-// Waits until every server has welcomed the client, and then does the lines, to the end of the input.
+// Waits until every server has welcomed the client, and then does the lines, to the end of the
+// input.
 fn play<S: Wait + Clock, R: Read, W: Write>(
     rt: &S,
     alloc: Global,
@@ -156,7 +160,8 @@ impl Lines<'_> {
         Ok(())
     }
 
-    // Does the line that was begun, and begins the next one. Memory that runs out is reported as a fault of the line.
+    // Does the line that was begun, and begins the next one. Memory that runs out is reported as a
+    // fault of the line.
     fn end_line<S: Wait + Clock, W: Write>(
         &mut self,
         rt: &S,

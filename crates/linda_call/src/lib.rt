@@ -1,8 +1,10 @@
 //! `linda call`: a client of servers that listen on ports of this machine.
 //!
-//! `call` plays lines, `out TUPLE`, `sync EVENT`, `leave` and `last`, one at a time, over a link to each port, as a
-//! client of as many servers; it writes the outcome of each before it looks at the next. Where it ends otherwise a
-//! `CallFault` says why. What the client does is what linda_client promises of it; what is printed is shown by tests.
+//! `call` plays lines, `out TUPLE`, `sync EVENT`, `leave` and `last`, one at a time, over a link to
+//! each port, as a client of as many servers; it writes the outcome of each before it looks at the
+//! next. Where it ends otherwise a
+//! `CallFault` says why. What the client does is what linda_client promises of it; what is printed
+//! is shown by tests.
 #![tactic(auto)]
 
 mod calling;

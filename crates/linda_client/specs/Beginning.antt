@@ -10,14 +10,15 @@ use Rattle.linda_client.specs.Client.{Client}
 use Rattle.linda_client.specs.React.{ask_servers, on_sync}
 use Rattle.linda_client.specs.Reaction.{IsRefusal, shown}
 
--- The servers are asked: nothing of the event is ready, it is within its limits, and so are its tickets.
+-- The servers are asked: nothing of the event is ready, it is within its limits, and so are its
+-- tickets.
 pub record MustAsk (c : Client) (event : Tree) : Type 0 where
   pub answer : on_sync c event ≡ Ok (ask_servers c event)
   pub within : IsWithinLimits event
   pub room : c.ticket + length (asks event) ≤ NUMBER_LIMIT
 
--- What is found at once: the servers are asked, or a base is ready and the client stays as it is; or the call
--- is refused, or memory runs out.
+-- What is found at once: the servers are asked, or a base is ready and the client stays as it is;
+-- or the call is refused, or memory runs out.
 abbrev pub AtOnce : Client → Tree → Result (Option Told) ClientFault → Type 0
 AtOnce c event (Ok None) = MustAsk c event
 AtOnce c event (Ok (Some told)) = on_sync c event ≡ Ok (shown told c)

@@ -1,5 +1,6 @@
 -- A client as contracts see it, and what every client keeps.
-use Rattle.std.specs.Prelude.{◌≡◌, ℕ, ◌+◌, ◌<◌, ◌≤◌, ◌==◌, Bool, true, false, ◌&&◌, List, [], ◌∷◌, length}
+use Rattle.std.specs.Prelude.{◌≡◌, ℕ, ◌+◌, ◌<◌, ◌≤◌, ◌==◌, Bool, true, false, ◌&&◌, List, [], ◌∷◌}
+use Rattle.std.specs.Prelude.{length}
 use Rattle.std.specs.Prelude.{Option, Some, None, All, IfSome, slice_index}
 use Rattle.linda_wire.specs.declared.limits.TheConstants.{NUMBER_LIMIT}
 use Rattle.linda_client.specs.declared.limits.TheConstants.{MAX_SERVERS}
@@ -10,8 +11,8 @@ use Rattle.linda_client.specs.declared.arrival.Arrival.{Arrival}
 use Rattle.linda_client.specs.declared.ask.Ask.{Ask}
 use Rattle.linda_client.specs.Pending.{Pending, IsPending, ask_at, ticket_count}
 
--- A client: its number, its clock, the next number at each server, the count of its outs, the next ticket,
--- and what is pending.
+-- A client: its number, its clock, the next number at each server, the count of its outs, the next
+-- ticket, and what is pending.
 pub record Client : Type 0 where
   pub number : ℕ
   pub clock : ℕ
@@ -98,8 +99,8 @@ abbrev pub AreRising : ℕ → List (ℕ × ℕ) → Type 0
 AreRising from [] = Unit {0}
 AreRising from (p ∷ ps) = (from ≤ p.0) × AreRising (p.0 + 1) ps
 
--- The Leaves that are not answered yet, each a server with the number of its Leave: there is one at least,
--- their servers rise, and each has the last number that was used at its server.
+-- The Leaves that are not answered yet, each a server with the number of its Leave: there is one at
+-- least, their servers rise, and each has the last number that was used at its server.
 pub record AreLeavesOf (c : Client) (leaves : List (ℕ × ℕ)) : Type 0 where
   pub some : 1 ≤ length leaves
   pub rising : AreRising 0 leaves

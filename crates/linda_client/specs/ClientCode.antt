@@ -40,7 +40,8 @@ abbrev pub task_code : Coded Task
 task_code = code_by TaskParts
     (coded_option (coded_option (coded⊎
     (coded× coded_ℕ (coded× coded_ℕ tuple_code))
-    (coded⊎ pending_code (coded_list (coded× coded_ℕ coded_ℕ)))))) task_parts task_of_parts task_again
+    (coded⊎ pending_code (coded_list (coded× coded_ℕ coded_ℕ))))))
+    task_parts task_of_parts task_again
 
 -- the code of a client
 abbrev pub client_code : Coded Client

@@ -27,9 +27,9 @@ EndsSync (Some (Synced base got labels raised)) = Unit {0}
 EndsSync (Some (Dropped raised)) = Unit {0}
 EndsSync (Some Left) = ⊥
 
--- What a base can get when the clock is there: an input takes a tuple that its template matches, and a read
--- copies one, each with what the template binds; an alarm rings once its time has come; and a value is
--- always there.
+-- What a base can get when the clock is there: an input takes a tuple that its template matches,
+-- and a read copies one, each with what the template binds; an alarm rings once its time has come;
+-- and a value is always there.
 abbrev pub CanGet : ℕ → Kind → Got → Type 0
 CanGet clock (input template) (Took server id row bindings)
     = Matches template row × (bindings ≡ bindings_of template row)
@@ -41,18 +41,22 @@ CanGet clock _ _ = ⊥
 
 -- There is a base of this number, and it can get this.
 abbrev pub BaseGets : ℕ → Tree → ℕ → Got → Type 0
-BaseGets clock event base got = IsSomeAnd (slice_get (paths.bases_of event) base) (λ kind. CanGet clock kind got)
+BaseGets clock event base got =
+    IsSomeAnd (slice_get (paths.bases_of event) base) (λ kind. CanGet clock kind got)
 
--- A commitment to a base of an event: it got what that base can get, with the labels above the base and the
--- nack numbers of all nodes that are not above it.
-pub record IsCommitment (clock : ℕ) (event : Tree) (base : ℕ) (got : Got) (labels raised : List ℕ) : Type 0 where
+-- A commitment to a base of an event: it got what that base can get, with the labels above the base
+-- and the nack numbers of all nodes that are not above it.
+pub record IsCommitment (clock : ℕ) (event : Tree) (base : ℕ) (got : Got) (labels raised : List ℕ)
+    : Type 0 where
   pub gets : BaseGets clock event base got
   pub labels_are : labels ≡ paths.labels event base
   pub raised_are : raised ≡ paths.raised event base
 
--- The end of a synchronization on an event: a commitment to one base, or all nack numbers are raised.
+-- The end of a synchronization on an event: a commitment to one base, or all nack numbers are
+-- raised.
 abbrev pub EndsAs : ℕ → Tree → Option Outcome → Type 0
-EndsAs clock event (Some (Synced base got labels raised)) = IsCommitment clock event base got labels raised
+EndsAs clock event (Some (Synced base got labels raised)) =
+    IsCommitment clock event base got labels raised
 EndsAs clock event (Some (Dropped raised)) = raised ≡ paths.all_nacks event
 EndsAs clock event _ = ⊥
 
@@ -66,7 +70,8 @@ spared_at pending (Some (Synced base got labels raised)) = spared_for pending go
 spared_at pending _ = None
 
 -- A ticket of the synchronization is to be cancelled at a server.
-pub record IsDue (count : ℕ) (pending : Pending) (own : Option (ℕ × ℕ)) (server ticket : ℕ) : Type 0 where
+pub record IsDue (count : ℕ) (pending : Pending) (own : Option (ℕ × ℕ)) (server ticket : ℕ)
+    : Type 0 where
   pub server_is : server < count
   pub from : pending.first ≤ ticket
   pub below : ticket < pending.first + ticket_count pending
@@ -77,8 +82,9 @@ abbrev pub IsCancel : Packet → Type 0
 IsCancel (server, messages.Cancel ticket) = Unit {0}
 IsCancel _ = ⊥
 
--- The end of the pending synchronization: nothing is pending after it, it ends as its event says, and what
--- is sent are Cancels: of each ticket to each server but where it is spared, and no others.
+-- The end of the pending synchronization: nothing is pending after it, it ends as its event says,
+-- and what is sent are Cancels: of each ticket to each server but where it is spared, and no
+-- others.
 pub record IsEnd (c : Client) (pending : Pending) (r : Reaction) : Type 0 where
   pub idle : r.client.task ≡ Idle
   pub ends : EndsAs r.client.clock pending.event r.outcome
@@ -87,8 +93,8 @@ pub record IsEnd (c : Client) (pending : Pending) (r : Reaction) : Type 0 where
       ↔ IsDue (servers c) pending (spared_at pending r.outcome) server ticket
   pub only : All IsCancel r.packets
 
--- A Taken that answers the unanswered Accept by server, number and id, whose tuple the input base of this
--- number gets.
+-- A Taken that answers the unanswered Accept by server, number and id, whose tuple the input base
+-- of this number gets.
 pub record IsTaking (c : Client) (call : Call) (base server id : ℕ) (row : Tuple) : Type 0 where
   pub pending : Pending
   pub own : Accepted

@@ -10,7 +10,8 @@ use Rattle.linda_client.specs.declared.outcome.Outcome.TheVariants.{Stored, Sync
 use Rattle.linda_client.specs.Client.{Client}
 use Rattle.linda_client.specs.Packets.{Packet}
 use Rattle.linda_client.specs.Reaction.{Answer, Reaction}
-use Rattle.linda_client.specs.React.{Call, Out, Sync, Receive, Tick, Resend, Reconnected, Abandon, Leave, new_client}
+use Rattle.linda_client.specs.React.{Call, Out, Sync, Receive, Tick, Resend, Reconnected, Abandon}
+use Rattle.linda_client.specs.React.{Leave, new_client}
 use Rattle.linda_client.specs.React.{react}
 use Rattle.linda_client.specs.Numbers.{number_of}
 
@@ -63,7 +64,8 @@ sync_count acts = count_by (λ e. is_sync e.call) acts
 
 -- Two numbered messages to one server under one number are the same.
 abbrev pub NumbersAreOnce : List Packet → Type 0
-NumbersAreOnce sent = (server n : ℕ) (a b : Message) → Contains sent (server, a) → Contains sent (server, b)
+NumbersAreOnce sent =
+    (server n : ℕ) (a b : Message) → Contains sent (server, a) → Contains sent (server, b)
     → number_of a ≡ Some n → number_of b ≡ Some n → a ≡ b
 
 -- Two Asks under one ticket, to whichever servers, ask the same.

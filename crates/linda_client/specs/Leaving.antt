@@ -15,7 +15,8 @@ pub record StaysAway (r : Reaction) : Type 0 where
 -- A client that has left stays away; and the outcome is Left exactly where the client leaves.
 pub record LeavesForGood (c : Client) (r : Reaction) : Type 0 where
   pub stays : has_left c.task ≡ true → StaysAway r
-  pub outcome : (r.outcome ≡ Some outcomes.Left) ↔ ((has_left c.task ≡ false) × (has_left r.client.task ≡ true))
+  pub outcome : (r.outcome ≡ Some outcomes.Left)
+      ↔ ((has_left c.task ≡ false) × (has_left r.client.task ≡ true))
 
 -- After the outcome Left nothing but Cancels is sent.
 abbrev pub SendsNoMore : List Act → Type 0

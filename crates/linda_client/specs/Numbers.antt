@@ -1,6 +1,7 @@
--- How the numbered messages of a client go on at each server, an Out, an Accept or a Leave each: which are
--- sent, and which the server has not answered yet.
-use Rattle.std.specs.Prelude.{◌≡◌, ◌≢◌, ℕ, ◌+◌, ◌<◌, ◌≤◌, ◌⊎◌, [], ◌∷◌, Option, Some, None, All, Contains}
+-- How the numbered messages of a client go on at each server, an Out, an Accept or a Leave each:
+-- which are sent, and which the server has not answered yet.
+use Rattle.std.specs.Prelude.{◌≡◌, ◌≢◌, ℕ, ◌+◌, ◌<◌, ◌≤◌, ◌⊎◌, [], ◌∷◌, Option, Some, None, All}
+use Rattle.std.specs.Prelude.{Contains}
 use Rattle.std.specs.Prelude.{IsSome}
 use Rattle.linda_tuple.specs.Tuple.{Tuple}
 use Rattle.linda_wire.specs.declared.message.Message.{Message}
@@ -26,9 +27,11 @@ pub record Rises (old new : Client) : Type 0 where
   pub tickets : old.ticket ≤ new.ticket
   pub same_servers : servers new ≡ servers old
 
--- The call is the answer to a numbered message: it comes from the server of the message, with its number.
+-- The call is the answer to a numbered message: it comes from the server of the message, with its
+-- number.
 abbrev pub IsAnswerTo : Packet → Call → Type 0
-IsAnswerTo (server, messages.Out n row) call = (id : ℕ) × (call ≡ Receive server (replies.Stored n id))
+IsAnswerTo (server, messages.Out n row) call =
+    (id : ℕ) × (call ≡ Receive server (replies.Stored n id))
 IsAnswerTo (server, messages.Accept n ticket id) call = (call ≡ Receive server (replies.Gone n))
     ⊎ ((row : Tuple) × (call ≡ Receive server (replies.Taken n id row)))
 IsAnswerTo (server, messages.Leave n) call = call ≡ Receive server (replies.Left n)
@@ -38,19 +41,22 @@ IsAnswerTo _ call = ⊥
 abbrev pub IsUnanswered : Client → ℕ → Message → Type 0
 IsUnanswered c server m = Contains (unanswered c.task) (server, m)
 
--- No number is used at the server: a numbered message that is sent to it is one that it had not answered, as
--- it was; and each of those stays, or is answered, and no other joins them.
+-- No number is used at the server: a numbered message that is sent to it is one that it had not
+-- answered, as it was; and each of those stays, or is answered, and no other joins them.
 pub record UsesNoNumber (c : Client) (call : Call) (r : Reaction) (server : ℕ) : Type 0 where
   pub next : next_at r.client server ≡ next_at c server
-  pub again : (m : Message) → Contains r.packets (server, m) → IsSome (number_of m) → IsUnanswered c server m
+  pub again : (m : Message) → Contains r.packets (server, m) → IsSome (number_of m)
+      → IsUnanswered c server m
   pub old : (m : Message) → IsUnanswered r.client server m → IsUnanswered c server m
-  pub stays : (m : Message) → IsUnanswered c server m → IsUnanswered r.client server m ⊎ IsAnswerTo (server, m) call
+  pub stays : (m : Message) → IsUnanswered c server m
+      → IsUnanswered r.client server m ⊎ IsAnswerTo (server, m) call
 
--- A number is used at the server, which is there: this numbered message is sent to it, under its next
--- number, which then is one greater; and all that is sent goes so, each to its server under the next number
--- there, and unless the client leaves this one alone. Whatever was unanswered, at any server, is answered, and
--- what is sent is what is unanswered.
-pub record UsesNumber (c : Client) (call : Call) (r : Reaction) (server : ℕ) (m : Message) : Type 0 where
+-- A number is used at the server, which is there: this numbered message is sent to it, under its
+-- next number, which then is one greater; and all that is sent goes so, each to its server under
+-- the next number there, and unless the client leaves this one alone. Whatever was unanswered, at
+-- any server, is answered, and what is sent is what is unanswered.
+pub record UsesNumber (c : Client) (call : Call) (r : Reaction) (server : ℕ) (m : Message)
+    : Type 0 where
   pub sent : Contains r.packets (server, m)
   pub own : (k : Message) → Contains r.packets (server, k) → k ≡ m
   pub fresh : All (λ (p : Packet). number_of p.1 ≡ Some (next_at c p.0)) r.packets
@@ -63,4 +69,5 @@ pub record UsesNumber (c : Client) (call : Call) (r : Reaction) (server : ℕ) (
 
 -- How numbers go on at a call: at each server none is used, or one is.
 abbrev pub NumbersGoOn : Client → Call → Reaction → Type 0
-NumbersGoOn c call r = (server : ℕ) → UsesNoNumber c call r server ⊎ ((m : Message) × UsesNumber c call r server m)
+NumbersGoOn c call r =
+    (server : ℕ) → UsesNoNumber c call r server ⊎ ((m : Message) × UsesNumber c call r server m)

@@ -27,20 +27,24 @@ tickets pending = range_with_len pending.first (ticket_count pending)
 
 -- an ask with its ticket, to each server
 abbrev pub asks_to_all : ℕ → ℕ × Ask → List Packet
-asks_to_all count ask = map (λ s. (s, messages.Ask ask.0 ask.1.remove ask.1.template)) (all_servers count)
+asks_to_all count ask =
+    map (λ s. (s, messages.Ask ask.0 ask.1.remove ask.1.template)) (all_servers count)
 
 -- The Asks of a synchronization: by rising ticket, then rising server.
 abbrev pub ask_packets : ℕ → Pending → List Packet
-ask_packets count pending = flat_map (asks_to_all count) (enumerate_from pending.first (asks pending.event))
+ask_packets count pending =
+    flat_map (asks_to_all count) (enumerate_from pending.first (asks pending.event))
 
 -- whether an arrival is of this server and ticket
 abbrev pub is_of : ℕ × ℕ → Arrival → Bool
 is_of pair a = (a.server == pair.0) && (a.ticket == pair.1)
 
--- the server and the ticket of the accepted offer, if there is one, unless an offer of them is saved
+-- the server and the ticket of the accepted offer, if there is one, unless an offer of them is
+-- saved
 abbrev pub spared_by : Option Accepted → List Arrival → Option (ℕ × ℕ)
 spared_by None saved = None
-spared_by (Some a) saved = (if list_any (is_of (a.server, a.ticket)) saved then None else Some (a.server, a.ticket))
+spared_by (Some a) saved =
+    (if list_any (is_of (a.server, a.ticket)) saved then None else Some (a.server, a.ticket))
 
 -- What is not cancelled when a synchronization ends: a server and a ticket, if any.
 abbrev pub spared : Pending → Option (ℕ × ℕ)
@@ -56,8 +60,8 @@ abbrev pub cancels_of : ℕ → Option (ℕ × ℕ) → ℕ → List Packet
 cancels_of count own ticket = map (λ s. (s, messages.Cancel ticket))
     (filter (λ s. not (is_spared own (s, ticket))) (all_servers count))
 
--- the Cancels of all tickets of a synchronization, but where they are spared: by rising ticket, then rising
--- server
+-- the Cancels of all tickets of a synchronization, but where they are spared: by rising ticket,
+-- then rising server
 abbrev pub cancels_but : ℕ → Option (ℕ × ℕ) → Pending → List Packet
 cancels_but count own pending = flat_map (cancels_of count own) (tickets pending)
 
@@ -84,7 +88,8 @@ unanswered Left = []
 
 -- What a synchronization sends again: its unanswered Accept, and its Asks.
 abbrev pub sent_for : ℕ → Pending → List Packet
-sent_for count pending = option_to_list (accept_packet pending.accepted) ++ ask_packets count pending
+sent_for count pending =
+    option_to_list (accept_packet pending.accepted) ++ ask_packets count pending
 
 -- the Asks of all open tickets
 abbrev pub open_asks : Client → Option Pending → List Packet

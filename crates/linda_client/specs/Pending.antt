@@ -13,16 +13,16 @@ use Rattle.linda_client.specs.declared.arrival.Accepted.{Accepted}
 use Rattle.linda_client.specs.declared.ask.Ask.{Ask}
 use Rattle.linda_client.specs.Ask.{asks}
 
--- The event, the first ticket, the accepted offer that no server has answered yet, and what arrived since,
--- in order of arrival.
+-- The event, the first ticket, the accepted offer that no server has answered yet, and what arrived
+-- since, in order of arrival.
 pub record Pending : Type 0 where
   pub event : Tree
   pub first : ℕ
   pub accepted : Option Accepted
   pub saved : List Arrival
 
--- What is asked by a ticket, where it is open: the k-th input or read base, from 0, has the first ticket
--- plus k.
+-- What is asked by a ticket, where it is open: the k-th input or read base, from 0, has the first
+-- ticket plus k.
 abbrev pub ask_at : Pending → ℕ → Option Ask
 ask_at pending ticket = if nat_lt ticket pending.first then None
     else slice_get (asks pending.event) (ticket - pending.first)
@@ -31,8 +31,8 @@ ask_at pending ticket = if nat_lt ticket pending.first then None
 abbrev pub ticket_count : Pending → ℕ
 ticket_count pending = length (asks pending.event)
 
--- Whether what a server sends for an ask fits it: an offer for an input, or a copy for a read, of a tuple
--- that the template matches.
+-- Whether what a server sends for an ask fits it: an offer for an input, or a copy for a read, of a
+-- tuple that the template matches.
 abbrev pub is_fit : Ask → Bool → Tuple → Bool
 is_fit ask true row = ask.remove && is_match ask.template row
 is_fit ask false row = not ask.remove && is_match ask.template row
@@ -55,7 +55,8 @@ IsOpenInput pending ticket = IsSomeAnd (ask_at pending ticket) (λ ask. ask.remo
 
 -- The ticket is open, and the template of its base matches the tuple.
 abbrev pub FitsOpen : Pending → Arrival → Type 0
-FitsOpen pending arrival = IsSomeAnd (ask_at pending arrival.ticket) (λ ask. Matches ask.template arrival.tuple)
+FitsOpen pending arrival =
+    IsSomeAnd (ask_at pending arrival.ticket) (λ ask. Matches ask.template arrival.tuple)
 
 -- The oldest arrival that it saved, where it saved some, is saved no more.
 abbrev pub drop_oldest : Pending → Pending
@@ -73,9 +74,9 @@ save_last a pending = record pending { saved = pending.saved ++ a ∷ [] }
 abbrev pub let_go : Pending → Pending
 let_go pending = record pending { accepted = None }
 
--- What every pending synchronization keeps: its event and its tickets are within their limits, what it
--- accepted is of an open input, what it saved fits open tickets, and nothing is saved while no Accept is
--- unanswered.
+-- What every pending synchronization keeps: its event and its tickets are within their limits, what
+-- it accepted is of an open input, what it saved fits open tickets, and nothing is saved while no
+-- Accept is unanswered.
 pub record IsPending (pending : Pending) : Type 0 where
   pub within : IsWithinLimits pending.event
   pub first : 1 ≤ pending.first

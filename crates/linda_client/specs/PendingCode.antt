@@ -27,6 +27,7 @@ arrival_code =
 abbrev pub pending_code : Coded Pending
 pending_code =
     code_by (Tree × (ℕ × (Option Accepted × List Arrival)))
-    (coded× tree_code (coded× coded_ℕ (coded× (coded_option accepted_code) (coded_list arrival_code))))
+    (coded× tree_code
+    (coded× coded_ℕ (coded× (coded_option accepted_code) (coded_list arrival_code))))
     (λ s. (s.event, (s.first, (s.accepted, s.saved))))
     (λ p. record { event = p.0; first = p.1.0; accepted = p.1.1.0; saved = p.1.1.1 }) (λ _. refl)

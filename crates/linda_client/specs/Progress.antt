@@ -18,7 +18,8 @@ use Rattle.linda_client.specs.Ending.{EndsAs, EndsSync, IsEnd}
 
 -- What an Ask asks is what its ticket asks, which is open; a client sends no Hello.
 abbrev pub AsksOpenly : Client → Message → Type 0
-AsksOpenly new (messages.Ask ticket remove template) = IsSomeAnd (asked_in (pending_in new.task) ticket)
+AsksOpenly new (messages.Ask ticket remove template) =
+    IsSomeAnd (asked_in (pending_in new.task) ticket)
     (λ ask. (ask.remove ≡ remove) × (ask.template ≡ template))
 AsksOpenly new (messages.Hello version client fresh) = ⊥
 AsksOpenly new _ = Unit {0}
@@ -36,8 +37,8 @@ abbrev pub IsGone : Option Accepted → Call → Type 0
 IsGone None call = ⊥
 IsGone (Some own) call = call ≡ Receive own.server (replies.Gone own.n)
 
--- The Accept stays as it was, unanswered or none, since its offer is not gone, and what is saved only
--- grows, at its end.
+-- The Accept stays as it was, unanswered or none, since its offer is not gone, and what is saved
+-- only grows, at its end.
 pub record KeepsAccept (call : Call) (pending later : Pending) : Type 0 where
   pub waits : IsGone pending.accepted call → ⊥
   pub accepted : later.accepted ≡ pending.accepted
@@ -52,8 +53,8 @@ pub record AcceptsOffer (c : Client) (call : Call) (pending later : Pending) : T
   pub accepted : later.accepted ≡ Some (accept_of c offer)
   pub saved : later.saved ≡ pending.saved
 
--- The accepted offer is gone: exactly the oldest that was saved, if any was, is saved no more, and is
--- accepted.
+-- The accepted offer is gone: exactly the oldest that was saved, if any was, is saved no more, and
+-- is accepted.
 pub record LosesOffer (c : Client) (call : Call) (pending later : Pending) : Type 0 where
   pub own : Accepted
   pub before : pending.accepted ≡ Some own
@@ -68,7 +69,8 @@ pub record Continues (c : Client) (call : Call) (pending : Pending) (r : Reactio
   pub event : later.event ≡ pending.event
   pub first : later.first ≡ pending.first
   pub silent : r.outcome ≡ None
-  pub offers : KeepsAccept call pending later ⊎ (AcceptsOffer c call pending later ⊎ LosesOffer c call pending later)
+  pub offers : KeepsAccept call pending later
+      ⊎ (AcceptsOffer c call pending later ⊎ LosesOffer c call pending later)
 
 -- No synchronization is pending then, and none has ended.
 pub record StaysApart (r : Reaction) : Type 0 where
@@ -83,8 +85,8 @@ pub record CommitsAtOnce (c : Client) (call : Call) (r : Reaction) : Type 0 wher
   pub ends : EndsAs c.clock event r.outcome
   pub silent : r.packets ≡ []
 
--- A synchronization begins: on the event of the call, with the next tickets, no Accept and nothing saved;
--- all its Asks are sent.
+-- A synchronization begins: on the event of the call, with the next tickets, no Accept and nothing
+-- saved; all its Asks are sent.
 pub record Begins (c : Client) (call : Call) (r : Reaction) : Type 0 where
   pub event : Tree
   pub called : call ≡ Sync event
@@ -93,9 +95,11 @@ pub record Begins (c : Client) (call : Call) (r : Reaction) : Type 0 where
   pub ticket : r.client.ticket ≡ c.ticket + length (asks event)
   pub silent : r.outcome ≡ None
 
--- How a call finds and leaves what is pending: a synchronization that was pending ends or goes on, with the
--- next ticket as it was; where none was pending, none is, or one commits at once, with the next ticket as
--- it was, or one begins.
+-- How a call finds and leaves what is pending: a synchronization that was pending ends or goes on,
+-- with the next ticket as it was; where none was pending, none is, or one commits at once, with the
+-- next ticket as it was, or one begins.
 abbrev pub GoesOn : Client → Call → Option Pending → Reaction → Type 0
-GoesOn c call (Some pending) r = (r.client.ticket ≡ c.ticket) × (IsEnd c pending r ⊎ Continues c call pending r)
-GoesOn c call None r = ((r.client.ticket ≡ c.ticket) × (StaysApart r ⊎ CommitsAtOnce c call r)) ⊎ Begins c call r
+GoesOn c call (Some pending) r =
+    (r.client.ticket ≡ c.ticket) × (IsEnd c pending r ⊎ Continues c call pending r)
+GoesOn c call None r =
+    ((r.client.ticket ≡ c.ticket) × (StaysApart r ⊎ CommitsAtOnce c call r)) ⊎ Begins c call r

@@ -24,15 +24,18 @@ use Rattle.linda_client.specs.declared.outcome.Outcome.TheVariants as outcomes
 use Rattle.linda_client.specs.declared.task.Task.{Task}
 use Rattle.linda_client.specs.declared.task.Task.TheVariants.{Idle, Putting, Syncing, Leaving, Left}
 use Rattle.linda_client.specs.Ask.{asks, first_alarm, first_ready}
-use Rattle.linda_client.specs.Pending.{Pending, ask_at, is_answer, is_fit, is_saved, let_go, save_last}
-use Rattle.linda_client.specs.Client.{Client, IsClient, has_left, is_idle, is_out_of, next_at, pending_in, servers}
+use Rattle.linda_client.specs.Pending.{Pending, ask_at, is_answer, is_fit, is_saved, let_go}
+use Rattle.linda_client.specs.Pending.{save_last}
+use Rattle.linda_client.specs.Client.{Client, IsClient, has_left, is_idle, is_out_of, next_at}
+use Rattle.linda_client.specs.Client.{pending_in, servers}
 use Rattle.linda_client.specs.Client.{with_pending}
 use Rattle.linda_client.specs.Packets.{ask_packets, cancels, leave_packets, sent_again}
-use Rattle.linda_client.specs.Reaction.{Answer, Reaction, commit, finish, hand_on, no_reaction, send}
+use Rattle.linda_client.specs.Reaction.{Answer, Reaction, commit, finish, hand_on, no_reaction}
+use Rattle.linda_client.specs.Reaction.{send}
 
--- A call: a tuple is put, an event is waited for, a reply of a server comes, the time is told, what is
--- unanswered is sent again, to all servers or to one, the synchronization is abandoned, and the client
--- leaves.
+-- A call: a tuple is put, an event is waited for, a reply of a server comes, the time is told, what
+-- is unanswered is sent again, to all servers or to one, the synchronization is abandoned, and the
+-- client leaves.
 pub data Call : Type 0 where
   Out : Tuple → Call
   Sync : Tree → Call
@@ -43,7 +46,8 @@ pub data Call : Type 0 where
   Abandon : Call
   Leave : Call
 
--- A new client: no out yet, each server's next number and the next ticket are 1, and nothing is pending.
+-- A new client: no out yet, each server's next number and the next ticket are 1, and nothing is
+-- pending.
 abbrev pub new_client : ℕ → ℕ → Client
 new_client number count = record {
   number = number;
@@ -69,13 +73,18 @@ use_number c server = record c { next = used_at c server }
 -- The tuple is put: it goes to the server of the next out under the next number there.
 abbrev pub put : Client → ℕ → Tuple → Reaction
 put c server row = send ((server, messages.Out (next_at c server) row) ∷ [])
-    (record c { next = used_at c server; outs = c.outs + 1; task = Putting server (next_at c server) row })
+    (record c {
+      next = used_at c server;
+      outs = c.outs + 1;
+      task = Putting server (next_at c server) row;
+    })
 
 abbrev pub on_out : Client → Tuple → Answer
 on_out c row =
     if has_left c.task then Err faults.Left
     else (if not (is_idle c.task) then Err faults.Busy
-    else (if (next_at c (out_server c) == NUMBER_LIMIT) || (c.outs + 1 == NUMBER_LIMIT) then Err faults.Spent
+    else (if (next_at c (out_server c) == NUMBER_LIMIT)
+    || (c.outs + 1 == NUMBER_LIMIT) then Err faults.Spent
     else Ok (put c (out_server c) row)))
 
 -- a synchronization that has asked and waits
@@ -96,7 +105,8 @@ lacks_tickets c event = nat_lt NUMBER_LIMIT (c.ticket + length (asks event)) && 
 abbrev pub on_ready : Client → Tree → Option (ℕ × Got) → Answer
 on_ready c event (Some ready) = Ok (commit c event [] ready.0 ready.1)
 on_ready c event None =
-    (if nat_lt NUMBER_LIMIT (c.ticket + length (asks event)) then Err faults.Spent else Ok (ask_servers c event))
+    (if nat_lt NUMBER_LIMIT (c.ticket + length (asks event)) then Err faults.Spent
+    else Ok (ask_servers c event))
 
 -- whether an event has too many bases, or too many inputs and reads among them
 abbrev pub has_too_many : Tree → Bool
@@ -119,14 +129,16 @@ on_stored c server n id =
 
 -- what is accepted by the next message to this server, for a ticket and an id
 abbrev pub next_accept : Client → ℕ → ℕ → ℕ → Accepted
-next_accept c server ticket id = record { server = server; n = next_at c server; ticket = ticket; id = id }
+next_accept c server ticket id =
+    record { server = server; n = next_at c server; ticket = ticket; id = id }
 
 -- an offer of a server is accepted, for a ticket and an id, with the next number of that server
 abbrev pub accept : Client → Pending → ℕ → ℕ → ℕ → Answer
 accept c pending server ticket id =
     if next_at c server == NUMBER_LIMIT then Err faults.Spent
     else Ok (send ((server, messages.Accept (next_at c server) ticket id) ∷ [])
-    (with_pending (use_number c server) (record pending { accepted = Some (next_accept c server ticket id) })))
+    (with_pending (use_number c server)
+    (record pending { accepted = Some (next_accept c server ticket id) })))
 
 -- what a base gets by a copy
 abbrev pub got_by_read : Ask → Arrival → Got
@@ -136,8 +148,8 @@ got_by_read ask a = gots.Copied a.server a.id a.tuple (bindings_of ask.template 
 abbrev pub got_by_input : Ask → ℕ → ℕ → Tuple → Got
 got_by_input ask server id row = gots.Took server id row (bindings_of ask.template row)
 
--- an arrival that fits its ask, while no Accept is unanswered: an offer is accepted, and a copy commits to
--- its base
+-- an arrival that fits its ask, while no Accept is unanswered: an offer is accepted, and a copy
+-- commits to its base
 abbrev pub take_up : Client → Pending → Arrival → Ask → Answer
 take_up c pending a ask =
     if ask.remove then accept c pending a.server a.ticket a.id
@@ -145,15 +157,16 @@ take_up c pending a ask =
 
 -- an arrival is saved, unless it is saved already
 abbrev pub save : Client → Pending → Arrival → Reaction
-save c pending a = no_reaction (if is_saved pending a then c else with_pending c (save_last a pending))
+save c pending a =
+    no_reaction (if is_saved pending a then c else with_pending c (save_last a pending))
 
 -- an offer for a ticket that is not open is cancelled; a copy for one is ignored
 abbrev pub on_stray : Client → Bool → Arrival → Reaction
 on_stray c true a = send ((a.server, messages.Cancel a.ticket) ∷ []) c
 on_stray c false a = no_reaction c
 
--- an offer, or a copy, given what its ticket asked: what does not fit is ignored, and what fits is saved
--- while an Accept is unanswered
+-- an offer, or a copy, given what its ticket asked: what does not fit is ignored, and what fits is
+-- saved while an Accept is unanswered
 abbrev pub on_arrival_for : Client → Pending → Bool → Arrival → Option Ask → Answer
 on_arrival_for c pending remove a None = Ok (on_stray c remove a)
 on_arrival_for c pending remove a (Some ask) =
@@ -166,8 +179,8 @@ abbrev pub on_arrival : Client → Option Pending → Bool → Arrival → Answe
 on_arrival c None remove a = Ok (on_stray c remove a)
 on_arrival c (Some pending) remove a = on_arrival_for c pending remove a (ask_at pending a.ticket)
 
--- what the offer that is taken was asked by, if it is that of the unanswered Accept: the same server,
--- number and id
+-- what the offer that is taken was asked by, if it is that of the unanswered Accept: the same
+-- server, number and id
 abbrev pub ask_of_taken : Pending → Option Accepted → ℕ → ℕ → ℕ → Option Ask
 ask_of_taken pending None server n id = None
 ask_of_taken pending (Some a) server n id =
@@ -178,7 +191,8 @@ abbrev pub on_taken_for : Client → Pending → ℕ → ℕ → Tuple → Optio
 on_taken_for c pending server id row None = no_reaction c
 on_taken_for c pending server id row (Some ask) =
     if is_fit ask true row
-    then commit c pending.event (cancels (servers c) pending) ask.base (got_by_input ask server id row)
+    then commit c pending.event (cancels (servers c) pending) ask.base
+    (got_by_input ask server id row)
     else no_reaction c
 
 -- a tuple was taken, given the synchronization that is pending
@@ -189,7 +203,8 @@ on_taken c (Some pending) server n id row = on_taken_for c pending server id row
 
 -- an alarm commits to its base, if one is ready; else the synchronization waits
 abbrev pub on_alarm : Client → Pending → Option Alarm → Reaction
-on_alarm c pending (Some alarm) = commit c pending.event (cancels (servers c) pending) alarm.base gots.Alarm
+on_alarm c pending (Some alarm) =
+    commit c pending.event (cancels (servers c) pending) alarm.base gots.Alarm
 on_alarm c pending None = no_reaction (with_pending c pending)
 
 -- an arrival that was saved, given what its ticket asked
@@ -197,19 +212,20 @@ abbrev pub on_saved : Client → Pending → Arrival → Option Ask → Answer
 on_saved c pending a None = Ok (no_reaction (with_pending c pending))
 on_saved c pending a (Some ask) = take_up c pending a ask
 
--- A synchronization goes on without the offer that it accepted: with the oldest arrival that it saved,
--- which is saved no more; else with the first alarm that is ready; else it waits.
+-- A synchronization goes on without the offer that it accepted: with the oldest arrival that it
+-- saved, which is saved no more; else with the first alarm that is ready; else it waits.
 abbrev pub go_on : Client → Pending → List Arrival → Answer
 go_on c pending [] = Ok (on_alarm c (let_go pending) (first_alarm c.clock pending.event))
-go_on c pending (a ∷ rest) = on_saved c (record pending { accepted = None; saved = rest }) a (ask_at pending a.ticket)
+go_on c pending (a ∷ rest) =
+    on_saved c (record pending { accepted = None; saved = rest }) a (ask_at pending a.ticket)
 
 -- whether a synchronization awaits the answer to its Accept of this server and number
 abbrev pub awaits : Option Accepted → ℕ → ℕ → Bool
 awaits None server n = false
 awaits (Some a) server n = is_answer a server n
 
--- an offer is gone, given the synchronization that is pending: that concerns the unanswered Accept of this
--- server and number
+-- an offer is gone, given the synchronization that is pending: that concerns the unanswered Accept
+-- of this server and number
 abbrev pub on_gone : Client → Option Pending → ℕ → ℕ → Answer
 on_gone c None server n = Ok (no_reaction c)
 on_gone c (Some pending) server n =
@@ -265,21 +281,24 @@ on_reply c server (replies.Left n) = Ok (on_left c c.task server n)
 abbrev pub on_time : Client → Option Pending → Reaction
 on_time c None = no_reaction c
 on_time c (Some pending) =
-    (if is_some pending.accepted then no_reaction c else on_alarm c pending (first_alarm c.clock pending.event))
+    (if is_some pending.accepted then no_reaction c
+    else on_alarm c pending (first_alarm c.clock pending.event))
 
--- a synchronization is abandoned: all its tickets are cancelled at all servers, and all its nack numbers
--- are raised
+-- a synchronization is abandoned: all its tickets are cancelled at all servers, and all its nack
+-- numbers are raised
 abbrev pub on_abandon : Client → Option Pending → Answer
 on_abandon c None = Err faults.Idle
 on_abandon c (Some pending) =
     (if is_some pending.accepted then Err faults.Busy
-    else Ok (finish c (cancels (servers c) pending) (outcomes.Dropped (paths.all_nacks pending.event))))
+    else Ok (finish c (cancels (servers c) pending)
+    (outcomes.Dropped (paths.all_nacks pending.event))))
 
 -- What a call of a client comes to, or why it is refused. The clock never falls.
 abbrev pub react : Client → Call → Answer
 react c (Out row) = on_out c row
 react c (Sync event) = on_sync c event
-react c (Receive server reply) = (if nat_lt server (servers c) then on_reply c server reply else Err faults.NoServer)
+react c (Receive server reply) =
+    (if nat_lt server (servers c) then on_reply c server reply else Err faults.NoServer)
 react c (Tick now) = Ok (on_time (record c { clock = max c.clock now }) (pending_in c.task))
 react c Resend = Ok (send (sent_again c) c)
 react c (Reconnected server) =
@@ -290,4 +309,5 @@ react c Leave = on_leave c
 
 -- P holds at each call of a client that is answered.
 abbrev pub AtEachCall : (Client → Call → Reaction → Type 0) → Type 0
-AtEachCall P = (c : Client) (call : Call) (r : Reaction) → IsClient c → react c call ≡ Ok r → P c call r
+AtEachCall P =
+    (c : Client) (call : Call) (r : Reaction) → IsClient c → react c call ≡ Ok r → P c call r

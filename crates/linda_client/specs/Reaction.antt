@@ -51,7 +51,8 @@ finish c packets outcome = record {
 
 -- A commitment to a base, with the labels above it and what it raises.
 abbrev pub commitment : Tree → ℕ → Got → Outcome
-commitment event base got = outcomes.Synced base got (paths.labels event base) (paths.raised event base)
+commitment event base got =
+    outcomes.Synced base got (paths.labels event base) (paths.raised event base)
 
 -- a synchronization commits to a base: it ends, and these packets are sent
 abbrev pub commit : Client → Tree → List Packet → ℕ → Got → Reaction
@@ -59,7 +60,8 @@ commit c event packets base got = finish c packets (commitment event base got)
 
 -- What a call returned, with the client after it.
 abbrev pub shown : Told → Client → Reaction
-shown told c = record { packets = told.packets.items; outcome = told.outcome; fault = told.fault; client = c }
+shown told c =
+    record { packets = told.packets.items; outcome = told.outcome; fault = told.fault; client = c }
 
 -- The refusal is that of the answer; `Memory` is returned only where the call is not refused.
 abbrev pub IsRefusal : ClientFault → Answer → Type 0
@@ -73,9 +75,9 @@ IsRefusal faults.TooManyBases answer = answer ≡ Err faults.TooManyBases
 IsRefusal faults.Spent answer = answer ≡ Err faults.Spent
 IsRefusal faults.Memory answer = IsOk answer
 
--- A call does what the answer says: what it returned and the client after it are the answer's reaction, or it
--- was refused as the answer says and the client is as before; or memory ran out where the answer is no
--- refusal, and the client is as before.
+-- A call does what the answer says: what it returned and the client after it are the answer's
+-- reaction, or it was refused as the answer says and the client is as before; or memory ran out
+-- where the answer is no refusal, and the client is as before.
 abbrev pub Does : Client → Result Told ClientFault → Client → Answer → Type 0
 Does old (Ok told) new answer = answer ≡ Ok (shown told new)
 Does old (Err fault) new answer = IsRefusal fault answer × (new ≡ old)

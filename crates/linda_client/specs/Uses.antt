@@ -1,10 +1,12 @@
 -- How often a client uses a number or a ticket. To send again what was sent before is no new use.
 use Rattle.std.specs.Prelude.{◌≡◌, ℕ, ◌==◌, ◌≤◌, Bool, true, false, ◌&&◌, if◌then◌else◌}
-use Rattle.std.specs.Prelude.{List, [], ◌∷◌, ◌++◌, Option, Some, None, All, Contains, count_by, flat_map}
+use Rattle.std.specs.Prelude.{List, [], ◌∷◌, ◌++◌, Option, Some, None, All, Contains, count_by}
+use Rattle.std.specs.Prelude.{flat_map}
 use Rattle.linda_wire.specs.declared.message.Message.{Message}
 use Rattle.linda_wire.specs.declared.message.Message.TheVariants as messages
 use Rattle.linda_client.specs.Packets.{Packet}
-use Rattle.linda_client.specs.React.{Call, Out, Sync, Receive, Tick, Resend, Reconnected, Abandon, Leave}
+use Rattle.linda_client.specs.React.{Call, Out, Sync, Receive, Tick, Resend, Reconnected, Abandon}
+use Rattle.linda_client.specs.React.{Leave}
 use Rattle.linda_client.specs.History.{Act}
 
 -- whether the call only asks for what was sent before

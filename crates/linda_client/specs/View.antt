@@ -9,9 +9,16 @@ use Rattle.linda_client.specs.Client.{Client}
 
 -- the synchronization of these fields
 abbrev pub pending_of : pending.Inside → Pending
-pending_of p = record { event = tree_of p.event; first = p.first; accepted = p.accepted; saved = p.saved.items }
+pending_of p =
+    record {
+      event = tree_of p.event;
+      first = p.first;
+      accepted = p.accepted;
+      saved = p.saved.items;
+    }
 
--- The lists that are kept beside an event are those of the event, and the synchronization is as each is.
+-- The lists that are kept beside an event are those of the event, and the synchronization is as
+-- each is.
 pub record IsWhole (p : pending.Inside) : Type 0 where
   pub asks : p.asks.items ≡ asks (tree_of p.event)
   pub alarms : p.alarms.items ≡ alarms (tree_of p.event)

@@ -10,8 +10,8 @@ use linda_tuple::Tuple;
 use linda_wire::Message;
 use std::alloc::{AllocError, Global};
 
-/// A tuple that a server offered for a ticket, or a copy of one that it sent. Which of the two it is
-/// follows from the ticket: an input is offered tuples, and a read is sent copies.
+/// A tuple that a server offered for a ticket, or a copy of one that it sent. Which of the two it
+/// is follows from the ticket: an input is offered tuples, and a read is sent copies.
 #[derive(Drop)]
 pub(crate) struct Arrival {
     pub(crate) server: u32,
@@ -86,7 +86,8 @@ impl Accepted {
 impl<'a> Arriving<'a> {
     /// The arrival of this tuple.
     pub(crate) fn new(server: u32, ticket: u64, id: u64, tuple: &'a Tuple) -> Arriving<'a>
-        ensures { arrival_of result ≡ record { server = server; ticket = ticket; id = id; tuple = tuple.now } }
+        ensures { arrival_of result
+            ≡ record { server = server; ticket = ticket; id = id; tuple = tuple.now } }
     {
         Arriving {
             server,

@@ -1,4 +1,5 @@
-//! The bases of an event that a synchronization acts on: what is asked of the servers, and the alarms.
+//! The bases of an event that a synchronization acts on: what is asked of the servers, and the
+//! alarms.
 
 ghost use Rattle.std.specs.Prelude.{◌≡◌, ◌++◌, nat_le, true, option_to_list, IfOk, OnOk, find, map};
 ghost use Rattle.linda_tuple.specs.Matching.{Matches};
@@ -14,7 +15,8 @@ use linda_tuple::{Template, Tuple, matches};
 use linda_wire::Message;
 use std::alloc::{AllocError, Global};
 
-/// A base that is asked of the servers: an input, which takes a tuple away, or a read, which copies one.
+/// A base that is asked of the servers: an input, which takes a tuple away, or a read, which copies
+/// one.
 #[derive(Drop)]
 pub(crate) struct Ask {
     /// The number of the base.
@@ -44,8 +46,8 @@ impl Ask {
         })
     }
 
-    /// Whether an offer (`remove`) or a copy of this tuple fits: the base is an input or a read, and its
-    /// template matches.
+    /// Whether an offer (`remove`) or a copy of this tuple fits: the base is an input or a read,
+    /// and its template matches.
     pub(crate) fn fits(&self, remove: bool, tuple: &Tuple) -> bool
         ensures test { result ≡ is_fit self.now remove tuple.now }
         ensures matches { result ≡ true → Matches self.now.template tuple.now }

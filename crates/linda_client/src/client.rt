@@ -1,4 +1,5 @@
-//! The client: what it keeps, and how that changes. Its calls stand in the modules below, one in each.
+//! The client: what it keeps, and how that changes. Its calls stand in the modules below, one in
+//! each.
 
 mod abandon;
 mod call;
@@ -10,13 +11,15 @@ mod sync;
 mod tick;
 
 ghost use Rattle.std.specs.Prelude.{◌≡◌, ◌+◌, ◌↔◌, ◌<◌, ◌≤◌, ◌⊎◌, [], None, true, is_some, max};
-ghost use Rattle.std.specs.Prelude.{◌==◌, false, map, option_copied, All, IfOk, IfErr, OnOk, OnErr, IsErrOf};
+ghost use Rattle.std.specs.Prelude.{◌==◌, false, map, option_copied, All, IfOk, IfErr, OnOk, OnErr};
+ghost use Rattle.std.specs.Prelude.{IsErrOf};
 ghost use Rattle.std.specs.List.{enumerate_from, list_any};
 ghost use Rattle.linda_wire.specs.declared.limits.TheConstants.{NUMBER_LIMIT};
 ghost use Rattle.linda_client.specs.declared.limits.TheConstants.{MAX_SERVERS};
 ghost use Rattle.linda_client.specs.declared.fault.ClientFault.TheVariants as faults;
 ghost use Rattle.linda_client.specs.declared.task.Task.TheVariants as tasks;
-ghost use Rattle.linda_client.specs.Client.{IsClient, OfPending, has_left, is_idle, next_at, pending_in};
+ghost use Rattle.linda_client.specs.Client.{IsClient, OfPending, has_left, is_idle, next_at};
+ghost use Rattle.linda_client.specs.Client.{pending_in};
 ghost use Rattle.linda_client.specs.Client.{servers, with_pending};
 ghost use Rattle.linda_client.specs.Pending.{FitsOpen, IsOpenInput, IsPending, let_go};
 ghost use Rattle.linda_client.specs.Pending.{save_last, take_oldest, ticket_count};
@@ -33,9 +36,9 @@ use linda_wire::NUMBER_LIMIT;
 use std::alloc::{AllocError, Global};
 use std::marker::Model;
 
-/// A client of the tuple space: what it puts and waits for, over its servers, until it leaves. At most one out,
-/// one synchronization or the leave is pending. The client sends nothing itself: each call gives the packets to
-/// be sent.
+/// A client of the tuple space: what it puts and waits for, over its servers, until it leaves. At
+/// most one out, one synchronization or the leave is pending. The client sends nothing itself: each
+/// call gives the packets to be sent.
 pub struct Client {
     number: u32,
     clock: u64,
@@ -76,15 +79,16 @@ impl Model for Client {
 }
 
 impl Client {
-    /// A client of this number, over so many servers, which are numbered from 0. Nothing is pending, its
-    /// clock stands at 0, and its numbers and tickets begin with 1.
+    /// A client of this number, over so many servers, which are numbered from 0. Nothing is
+    /// pending, its clock stands at 0, and its numbers and tickets begin with 1.
     ///
     /// # Errors
     ///
     /// `ServersRange` where the servers are not 1 to 16; else `Memory` where memory runs out.
     pub fn new(alloc: Global, client: u32, servers: u32) -> Result<Client, ClientFault>
         ensures ok { IfOk result (λ c. c ≡ new_client client servers) }
-        ensures range { IsErrOf result ClientFault.ServersRange ↔ ((servers ≡ 0) ⊎ (MAX_SERVERS < servers)) }
+        ensures range { IsErrOf result ClientFault.ServersRange
+            ↔ ((servers ≡ 0) ⊎ (MAX_SERVERS < servers)) }
         ensures faults { IfErr result (λ f. (f ≡ faults.ServersRange) ⊎ (f ≡ faults.Memory)) }
     {
         if servers == 0 || servers > MAX_SERVERS {
@@ -214,13 +218,15 @@ impl Client {
         requires accepted { pending.accepted ≡ None }
         requires saved { pending.saved ≡ [] }
         ensures { self.new
-            ≡ with_pending (record self.old { ticket = self.old.ticket + ticket_count pending }) pending }
+            ≡ with_pending (record self.old { ticket = self.old.ticket + ticket_count pending })
+            pending }
     {
         self.ticket += pending.ticket_count();
         self.task = Task::Syncing(pending);
     }
 
-    // An offer is accepted, under the next number of its server: the oldest that is saved, where some are.
+    // An offer is accepted, under the next number of its server: the oldest that is saved, where
+    // some are.
     fn accept(&mut self, accepted: Accepted)
         requires server { accepted.server < servers self.old }
         requires number { accepted.n ≡ next_at self.old accepted.server }
@@ -241,7 +247,8 @@ impl Client {
         requires server { arrival.server < servers self.old }
         requires fits { OfPending self.old (λ p. FitsOpen p arrival) }
         requires accepted { OfPending self.old (λ p. is_some p.accepted ≡ true) }
-        ensures ok { OnOk result (OfPending self.old (λ p. self.new ≡ with_pending self.old (save_last arrival p))) }
+        ensures ok { OnOk result (OfPending self.old
+            (λ p. self.new ≡ with_pending self.old (save_last arrival p))) }
         ensures err { OnErr result (self.new ≡ self.old) }
     {
         let Task::Syncing(pending) = &mut self.task else {

@@ -10,7 +10,8 @@ use linda_wire::Message;
 use std::alloc::{AllocError, Global};
 use std::marker::Model;
 
-/// The servers that have not answered the client's Leave, rising, each with the number of its Leave.
+/// The servers that have not answered the client's Leave, rising, each with the number of its
+/// Leave.
 #[derive(Drop)]
 pub(crate) struct Leaves {
     items: Vec<(u32, u64)>,

@@ -1,13 +1,14 @@
 //! The client of the tuple space, as one machine without input and output.
 //!
-//! A `Client` puts tuples by `out` and waits for an event by `sync`, until it gives its number up by `leave`.
-//! Replies of the servers come in by `receive` and the time by `tick`; each call gives a `Reaction`: the
-//! packets to be sent, and the outcome where what was pending came to its end. Packets may be lost, repeated
-//! and delayed: `resend` and `reconnected` give again what is not answered yet.
+//! A `Client` puts tuples by `out` and waits for an event by `sync`, until it gives its number up
+//! by `leave`. Replies of the servers come in by `receive` and the time by `tick`; each call gives
+//! a `Reaction`: the packets to be sent, and the outcome where what was pending came to its end.
+//! Packets may be lost, repeated and delayed: `resend` and `reconnected` give again what is not
+//! answered yet.
 //!
-//! Contracts see a client as a record of `specs/Client`. What every call comes to is one function, `react`
-//! of `specs/React`, of which each call of a client is a case. `laws` says what holds of it over one call
-//! and over many, in words of its own.
+//! Contracts see a client as a record of `specs/Client`. What every call comes to is one function,
+//! `react` of `specs/React`, of which each call of a client is a case. `laws` says what holds of it
+//! over one call and over many, in words of its own.
 //!
 //! A call that may take memory has a fault for that; no other call takes any.
 #![tactic(auto)]

@@ -121,7 +121,8 @@ pub enum Outcome {
         got: Got,
         /// The labels above the base, innermost first.
         labels: Numbers,
-        /// The numbers of the nack nodes that are not above the base, one for each node, in tree order.
+        /// The numbers of the nack nodes that are not above the base, one for each node, in tree
+        /// order.
         raised: Numbers,
     },
     /// The synchronization was abandoned.

@@ -29,7 +29,8 @@ pub(crate) fn push_asked(
     ask: &Ask,
     packets: &mut Vec<(u32, Message)>,
 ) -> Result<(), AllocError>
-    ensures { OnOk result (packets.new.items ≡ packets.old.items ++ asks_to_all servers (ticket, ask.now)) }
+    ensures { OnOk result (packets.new.items
+        ≡ packets.old.items ++ asks_to_all servers (ticket, ask.now)) }
 {
     for server in 0..servers {
         packets.push((server, ask.message(alloc, ticket)?))?;
@@ -44,7 +45,8 @@ pub(crate) fn push_cancelled(
     ticket: u64,
     packets: &mut Vec<(u32, Message)>,
 ) -> Result<(), AllocError>
-    ensures { OnOk result (packets.new.items ≡ packets.old.items ++ cancels_of servers spared ticket) }
+    ensures { OnOk result (packets.new.items
+        ≡ packets.old.items ++ cancels_of servers spared ticket) }
 {
     for server in 0..servers {
         if !is_spared(spared, server, ticket) {

@@ -29,9 +29,9 @@ use std::alloc::{AllocError, Global};
 use std::collections::VecDeque;
 use std::marker::Model;
 
-/// A synchronization that waits: its event, the first of its tickets, the offer that it accepted and that
-/// is not answered yet, and what arrived since and waits for that answer. The k-th ask, from 0, has the
-/// first ticket plus k.
+/// A synchronization that waits: its event, the first of its tickets, the offer that it accepted
+/// and that is not answered yet, and what arrived since and waits for that answer. The k-th ask,
+/// from 0, has the first ticket plus k.
 #[derive(Drop)]
 pub(crate) struct Pending {
     event: Event,
@@ -73,7 +73,12 @@ impl Pending {
         requires alarms { alarms.items ≡ alarms_of (tree_of event) }
         requires first { 1 ≤ first }
         requires last { first + length asks.items ≤ NUMBER_LIMIT }
-        ensures { result ≡ record { event = tree_of event; first = first; accepted = None; saved = [] } }
+        ensures { result ≡ record {
+          event = tree_of event;
+          first = first;
+          accepted = None;
+          saved = [];
+        } }
     {
         Pending {
             event,
@@ -119,8 +124,8 @@ impl Pending {
         self.saved.iter().any(|saved| saved.is(arriving))
     }
 
-    /// What the tuple was asked by that a server took for the client's message `n`, if that is the Accept
-    /// that is not answered yet, and the id is that of its offer.
+    /// What the tuple was asked by that a server took for the client's message `n`, if that is the
+    /// Accept that is not answered yet, and the id is that of its offer.
     pub(crate) fn ask_taken(&self, server: u32, n: u64, id: u64) -> Option<&Ask>
         ensures { option_copied result ≡ ask_of_taken self.now self.now.accepted server n id }
     {
@@ -173,8 +178,8 @@ impl Pending {
         first_due(&self.alarms, clock)
     }
 
-    /// The server and the ticket that are spared when the synchronization commits: those of the accepted
-    /// offer, unless an offer of them is saved.
+    /// The server and the ticket that are spared when the synchronization commits: those of the
+    /// accepted offer, unless an offer of them is saved.
     pub(crate) fn spared(&self) -> Option<(u32, u64)>
         ensures { result ≡ spared self.now }
     {
@@ -230,8 +235,8 @@ impl Pending {
         Ok(packets)
     }
 
-    /// The Cancels of all tickets to all servers but where they are spared: by rising ticket, then rising
-    /// server.
+    /// The Cancels of all tickets to all servers but where they are spared: by rising ticket, then
+    /// rising server.
     pub(crate) fn cancels(
         &self,
         alloc: Global,
@@ -247,8 +252,8 @@ impl Pending {
         Ok(packets)
     }
 
-    /// The end of the synchronization by a commitment to the base, with the Cancels but where they are
-    /// spared.
+    /// The end of the synchronization by a commitment to the base, with the Cancels but where they
+    /// are spared.
     pub(crate) fn commit(
         &self,
         alloc: Global,

@@ -7,8 +7,8 @@ use crate::leaves::Leaves;
 use crate::pending::Pending;
 use linda_tuple::Tuple;
 
-/// What is pending at a client: nothing, an out that no server has answered, a synchronization, or the Leaves
-/// that are not answered yet; or nothing for good, since the client has left.
+/// What is pending at a client: nothing, an out that no server has answered, a synchronization, or
+/// the Leaves that are not answered yet; or nothing for good, since the client has left.
 #[derive(Drop)]
 pub(crate) enum Task {
     Idle,

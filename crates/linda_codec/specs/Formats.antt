@@ -1,11 +1,14 @@
--- Formats: the one spelling of a value, which values have one, and its reader; and formats made of formats.
+-- Formats: the one spelling of a value, which values have one, and its reader; and formats made of
+-- formats.
 use Rattle.std.specs.Prelude.{◌≡◌, ℕ, zero, suc, ◌<◌, ◌≤◌, ◌^◌, ◌==◌, ℤ, Bool, true, false, List}
 use Rattle.std.specs.Prelude.{[], ◌∷◌, ◌++◌, length, take, drop, All, Ok, Err, FitsSigned, nat_lt}
 use Rattle.std.specs.Prelude.{if◌then◌else◌}
 use Rattle.std.specs.List.{flat_map}
-use Rattle.std.specs.Int.{Width, w16, w32, w64, byte_len, to_be_bytes, from_be_bytes, cast_signed, cast_unsigned}
+use Rattle.std.specs.Int.{Width, w16, w32, w64, byte_len, to_be_bytes, from_be_bytes, cast_signed}
+use Rattle.std.specs.Int.{cast_unsigned}
 use Rattle.std.specs.Str.{is_utf8}
-use Rattle.linda_codec.specs.declared.fault.ReadFault.TheVariants.{Short, BadKind, BadBool, BadText, TooMany, LongText}
+use Rattle.linda_codec.specs.declared.fault.ReadFault.TheVariants.{Short, BadKind, BadBool, BadText}
+use Rattle.linda_codec.specs.declared.fault.ReadFault.TheVariants.{TooMany, LongText}
 use Rattle.linda_codec.specs.Steps.{Reader, ◌>>=◌, many_at}
 
 -- The one spelling of a value, which values have one, and the reader.
@@ -37,7 +40,11 @@ length_at limit bytes =
 
 abbrev pub short_length : ℕ → Format ℕ
 short_length limit =
-    record { spell = to_be_bytes w16; Fits = λ n. (n ≤ limit) × (n < 2 ^ 16); read = length_at limit }
+    record {
+      spell = to_be_bytes w16;
+      Fits = λ n. (n ≤ limit) × (n < 2 ^ 16);
+      read = length_at limit;
+    }
 
 -- A number of 32 bits.
 abbrev pub short_number : Format ℕ
@@ -85,7 +92,8 @@ made_at make f bytes = f.read bytes >>= λ a. Ok (make a.0, a.1)
 
 -- A value that is made of another one, spelled as its parts.
 abbrev pub made : {A M : Type 0} → (A → M) → (M → A) → Format A → Format M
-made make parts f = record { spell = λ m. f.spell (parts m); Fits = λ m. f.Fits (parts m); read = made_at make f }
+made make parts f =
+    record { spell = λ m. f.spell (parts m); Fits = λ m. f.Fits (parts m); read = made_at make f }
 
 -- The same format, where what has a spelling is said in other words.
 abbrev pub known_as : {A : Type 0} → (A → Type 0) → Format A → Format A
@@ -105,7 +113,8 @@ sized_text size = record {
 -- A count byte that is not above the limit.
 abbrev pub count_at : ℕ → Reader ℕ
 count_at limit [] = Err Short
-count_at limit (n ∷ rest) = if nat_lt limit n then Err (TooMany (suc (length rest))) else Ok (n, rest)
+count_at limit (n ∷ rest) =
+    if nat_lt limit n then Err (TooMany (suc (length rest))) else Ok (n, rest)
 
 -- A count of at most so many, and that many values.
 abbrev pub counted : {A : Type 0} → ℕ → Format A → Format (List A)
@@ -120,10 +129,12 @@ abbrev pub no_kind : {A : Type 0} → Reader A
 no_kind [] = Err Short
 no_kind (kind ∷ rest) = Err (BadKind (suc (length rest)))
 
--- The body that a table has for a kind byte; for a kind that it has not, what the other reader makes of all the bytes.
+-- The body that a table has for a kind byte; for a kind that it has not, what the other reader
+-- makes of all the bytes.
 abbrev pub body_at : {A : Type 0} → List (ℕ × Reader A) → Reader A → ℕ → Reader A
 body_at [] other kind rest = other (kind ∷ rest)
-body_at (row ∷ rows) other kind rest = if kind == row.0 then row.1 rest else body_at rows other kind rest
+body_at (row ∷ rows) other kind rest =
+    if kind == row.0 then row.1 rest else body_at rows other kind rest
 
 -- A choice by a kind byte, after which a body of the table stands.
 abbrev pub choice_at : {A : Type 0} → List (ℕ × Reader A) → Reader A → Reader A

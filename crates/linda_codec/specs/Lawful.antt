@@ -1,7 +1,9 @@
--- Which formats are lawful: what is read is so spelled, what is spelled is read again, and what is left was there.
+-- Which formats are lawful: what is read is so spelled, what is spelled is read again, and what is
+-- left was there.
 use Rattle.std.specs.Prelude.{◌≡◌, ℕ, ◌<◌, ◌≤◌, List, ◌++◌, length, get_or, Ok, Err}
 use Rattle.linda_codec.specs.declared.fault.ReadFault.{ReadFault}
-use Rattle.linda_codec.specs.declared.fault.ReadFault.TheVariants.{Memory, Short, BadKind, BadBool, BadText}
+use Rattle.linda_codec.specs.declared.fault.ReadFault.TheVariants.{Memory, Short, BadKind, BadBool}
+use Rattle.linda_codec.specs.declared.fault.ReadFault.TheVariants.{BadText}
 use Rattle.linda_codec.specs.declared.fault.ReadFault.TheVariants.{TooMany, LongText}
 use Rattle.linda_codec.specs.Steps.{Read}
 use Rattle.linda_codec.specs.Formats.{Format}
@@ -36,6 +38,8 @@ IsSpelled spell Fits bytes x = Takes bytes (spell x.0) x.1 × Fits x.0
 
 -- What is read is so spelled and fits, what fits is read again, and what is left was there.
 pub record IsFormat {A : Type 0} (f : Format A) : Type 0 where
-  pub takes : (bytes : List ℕ) (x : A × List ℕ) → IsBytes bytes → f.read bytes ≡ Ok x → IsSpelled f.spell f.Fits bytes x
-  pub again : (value : A) (rest : List ℕ) → f.Fits value → f.read (f.spell value ++ rest) ≡ Ok (value, rest)
+  pub takes : (bytes : List ℕ) (x : A × List ℕ) → IsBytes bytes → f.read bytes ≡ Ok x
+      → IsSpelled f.spell f.Fits bytes x
+  pub again : (value : A) (rest : List ℕ) → f.Fits value
+      → f.read (f.spell value ++ rest) ≡ Ok (value, rest)
   pub bounded : (bytes : List ℕ) → IsBounded (length bytes) (f.read bytes)

@@ -2,7 +2,8 @@
 use Rattle.std.specs.Prelude.{◌≡◌, ℕ, ◌-◌, ◌<◌, ◌≤◌, List, ◌++◌, length, drop, Result, Ok, Err}
 use Rattle.std.specs.Prelude.{IfOk, IfErr, IsOk, IsErrOf}
 use Rattle.linda_codec.specs.declared.fault.ReadFault.{ReadFault}
-use Rattle.linda_codec.specs.declared.fault.ReadFault.TheVariants.{Memory, Short, BadKind, BadBool, BadText}
+use Rattle.linda_codec.specs.declared.fault.ReadFault.TheVariants.{Memory, Short, BadKind, BadBool}
+use Rattle.linda_codec.specs.declared.fault.ReadFault.TheVariants.{BadText}
 use Rattle.linda_codec.specs.declared.fault.ReadFault.TheVariants.{TooMany, LongText}
 use Rattle.linda_codec.specs.Steps.{Read, Reader, Gives}
 use Rattle.linda_codec.specs.Formats.{Format}
@@ -41,8 +42,8 @@ abbrev pub IsSpelledAt : {A : Type 0} → Format A → List ℕ → ℕ → A ×
 IsSpelledAt f bytes at x =
     f.Fits x.0 × (x.1 ≤ length bytes) × (drop at bytes ≡ f.spell x.0 ++ drop x.1 bytes)
 
--- Where a value is spelled from the offset on, it is the answer, with the offset of the byte after it, unless
--- memory runs out.
+-- Where a value is spelled from the offset on, it is the answer, with the offset of the byte after
+-- it, unless memory runs out.
 abbrev pub ReadsSpelled : {A : Type 0} → Format A → List ℕ → ℕ → Result (A × ℕ) ReadFault → Type 0
 ReadsSpelled {A = A} f bytes at answer =
     (value : A) (rest : List ℕ) → f.Fits value → drop at bytes ≡ f.spell value ++ rest

@@ -1,5 +1,5 @@
--- Reading from left to right: the steps that the readers of all formats and texts are made of. F is the type of a
--- reader's faults, and memory is the fault that says that memory ran out.
+-- Reading from left to right: the steps that the readers of all formats and texts are made of. F is
+-- the type of a reader's faults, and memory is the fault that says that memory ran out.
 use Rattle.std.specs.Prelude.{◌≡◌, ◌≢◌, ℕ, zero, suc, List, [], ◌∷◌, Result, Ok, Err}
 use Rattle.linda_codec.specs.declared.fault.ReadFault.{ReadFault}
 use Rattle.linda_codec.specs.declared.fault.ReadFault.TheVariants.{Memory}
@@ -25,7 +25,8 @@ abbrev pub GivesUnless : {F X Y : Type 0} → F → (X → Y) → Result X F →
 GivesUnless memory view (Ok x) read = read ≡ Ok (view x)
 GivesUnless memory view (Err fault) read = fault ≢ memory → read ≡ Err fault
 
--- What the code returned, seen by view, is what reading gives; it takes no memory, so none can run out.
+-- What the code returned, seen by view, is what reading gives; it takes no memory, so none can run
+-- out.
 abbrev pub GivesWithout : {F X Y : Type 0} → F → (X → Y) → Result X F → Result Y F → Type 0
 GivesWithout memory view (Ok x) read = read ≡ Ok (view x)
 GivesWithout memory view (Err fault) read = (fault ≢ memory) × (read ≡ Err fault)

@@ -13,7 +13,8 @@ use Rattle.linda_tuple.specs.Template.{Template, IsSoundPatternIn, FitsTemplateI
 use Rattle.linda_codec.specs.declared.kinds.TheConstants.{INTEGER, TEXT, TRUTH, INT_FORMAL}
 use Rattle.linda_codec.specs.declared.kinds.TheConstants.{TEXT_FORMAL, BOOL_FORMAL, WILDCARD}
 use Rattle.linda_codec.specs.Steps.{Reader}
-use Rattle.linda_codec.specs.Formats.{Format, byte, short_length, integer, truth, nothing, both, made_at, made}
+use Rattle.linda_codec.specs.Formats.{Format, byte, short_length, integer, truth, nothing, both}
+use Rattle.linda_codec.specs.Formats.{made_at, made}
 use Rattle.linda_codec.specs.Formats.{known_as, sized_text, counted, no_kind, body_at, choice_at}
 
 -- A text's length: a byte, or a number of two bytes that is not above the limit.
@@ -43,7 +44,12 @@ abbrev pub atom_body_at : Form → ℕ → Reader Atom
 atom_body_at form = body_at (atom_kinds form) no_kind
 
 abbrev pub atom : Form → Format Atom
-atom form = record { spell = spell_atom form; Fits = IsSoundIn form; read = choice_at (atom_kinds form) no_kind }
+atom form =
+    record {
+      spell = spell_atom form;
+      Fits = IsSoundIn form;
+      read = choice_at (atom_kinds form) no_kind;
+    }
 
 -- A value as the atom that it is, else the one byte of its kind.
 abbrev pub spell_pattern : Form → Pattern → List ℕ
@@ -56,8 +62,10 @@ spell_pattern form patterns.Any = WILDCARD ∷ []
 -- The kinds of patterns that are no atoms; each is its kind byte alone.
 abbrev pub formal_kinds : List (ℕ × Reader Pattern)
 formal_kinds =
-    (INT_FORMAL, made_at (λ n. patterns.IntFormal) nothing) ∷ (TEXT_FORMAL, made_at (λ n. patterns.TextFormal) nothing)
-    ∷ (BOOL_FORMAL, made_at (λ n. patterns.BoolFormal) nothing) ∷ (WILDCARD, made_at (λ n. patterns.Any) nothing) ∷ []
+    (INT_FORMAL, made_at (λ n. patterns.IntFormal) nothing)
+    ∷ (TEXT_FORMAL, made_at (λ n. patterns.TextFormal) nothing)
+    ∷ (BOOL_FORMAL, made_at (λ n. patterns.BoolFormal) nothing)
+    ∷ (WILDCARD, made_at (λ n. patterns.Any) nothing) ∷ []
 
 -- An atom, as a pattern.
 abbrev pub value_at : Form → Reader Pattern
@@ -82,10 +90,12 @@ tagged form f = both (atom form) (counted (most_fields form) f)
 abbrev pub tuple : Form → Format Tuple
 tuple form =
     known_as (FitsIn form)
-    (made (λ p. record { tag = p.0; fields = p.1 }) (λ t. (t.tag, t.fields)) (tagged form (atom form)))
+    (made (λ p. record { tag = p.0; fields = p.1 }) (λ t. (t.tag, t.fields))
+    (tagged form (atom form)))
 
 -- A template: the tag, the count of the patterns, the patterns.
 abbrev pub template : Form → Format Template
 template form =
     known_as (FitsTemplateIn form)
-    (made (λ p. record { tag = p.0; fields = p.1 }) (λ t. (t.tag, t.fields)) (tagged form (pattern form)))
+    (made (λ p. record { tag = p.0; fields = p.1 }) (λ t. (t.tag, t.fields))
+    (tagged form (pattern form)))

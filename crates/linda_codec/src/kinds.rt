@@ -1,4 +1,5 @@
-//! The bytes that stand for kinds: of atoms, and of what stands only in templates; and those of truth values.
+//! The bytes that stand for kinds: of atoms, and of what stands only in templates; and those of
+//! truth values.
 
 /// Of an integer.
 pub const INTEGER: u8 = 1;

@@ -3,7 +3,8 @@
 ghost use Rattle.std.specs.Prelude.{◌≡◌, ◌≤◌, ℕ, length};
 ghost use Rattle.linda_tuple.specs.Atom.{IsSound};
 ghost use Rattle.linda_tuple.specs.Template.{IsSoundPattern};
-ghost use Rattle.linda_codec.specs.declared.limits.TheConstants.{MAX_ATOM_BYTES, MAX_TUPLE_BYTES, TWO_LENGTH_BYTES};
+ghost use Rattle.linda_codec.specs.declared.limits.TheConstants.{MAX_ATOM_BYTES, MAX_TUPLE_BYTES};
+ghost use Rattle.linda_codec.specs.declared.limits.TheConstants.{TWO_LENGTH_BYTES};
 ghost use Rattle.linda_codec.specs.Values as format;
 
 use crate::limits::{

@@ -23,9 +23,10 @@ pub(crate) const TWO_LENGTH_BYTES: usize = 2;
 /// The bytes of the count of the fields or patterns.
 pub(crate) const COUNT_BYTES: usize = 1;
 
-/// The most bytes that an atom or a pattern spells in either form: a kind, a text's length, and the longest text.
+/// The most bytes that an atom or a pattern spells in either form: a kind, a text's length, and the
+/// longest text.
 pub const MAX_ATOM_BYTES: usize = KIND_BYTES + TWO_LENGTH_BYTES + MAX_TEXT;
 
-/// The most bytes that a tuple or a template spells in either form: a tag and as many fields as there may be, and
-/// their count.
+/// The most bytes that a tuple or a template spells in either form: a tag and as many fields as
+/// there may be, and their count.
 pub const MAX_TUPLE_BYTES: usize = MAX_ATOM_BYTES * (MAX_FIELDS + 1) + COUNT_BYTES;

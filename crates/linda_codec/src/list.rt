@@ -1,4 +1,5 @@
-//! Values one after the other: read, passed over, written and counted in the same way, whatever they are.
+//! Values one after the other: read, passed over, written and counted in the same way, whatever
+//! they are.
 
 ghost use Rattle.std.specs.Prelude.{◌≡◌, ◌≤◌, ◌<◌, ◌*◌, ◌^◌, ◌++◌, All, length, take, OnOk};
 ghost use Rattle.std.specs.List.{flat_map};
@@ -13,15 +14,16 @@ use std::alloc::{AllocError, Global};
 ///
 /// # Errors
 ///
-/// The first fault from the left, given by the count of bytes left. `Memory` may be returned before a fault that
-/// stands after it.
+/// The first fault from the left, given by the count of bytes left. `Memory` may be returned before
+/// a fault that stands after it.
 pub fn read_list<V: Spelled>(
     alloc: Global,
     form: Form,
     count: usize,
     bytes: &[u8],
 ) -> Result<(Vec<V>, &[u8]), ReadFault>
-    ensures { Gives (λ x. (x.0.items, x.1.now)) result (many_at (V.format form).read count bytes.now) }
+    ensures { Gives (λ x. (x.0.items, x.1.now)) result
+        (many_at (V.format form).read count bytes.now) }
 {
     let mut values = Vec::with_capacity(alloc, count)?;
     let mut rest = bytes;
@@ -39,7 +41,8 @@ pub fn read_list<V: Spelled>(
 ///
 /// The first fault from the left, given by the count of bytes left; never `Memory`.
 pub fn skip_list<V: Spelled>(form: Form, count: usize, bytes: &[u8]) -> Result<&[u8], ReadFault>
-    ensures { GivesAlways (λ rest. rest.now) result (left_by (many_at (V.format form).read count bytes.now)) }
+    ensures { GivesAlways (λ rest. rest.now) result
+        (left_by (many_at (V.format form).read count bytes.now)) }
 {
     let mut rest = bytes;
     for _ in 0..count {
@@ -55,7 +58,8 @@ pub fn skip_list<V: Spelled>(form: Form, count: usize, bytes: &[u8]) -> Result<&
 /// Where memory runs out, a part of the spellings may stand after the old bytes.
 pub fn push_list<V: Spelled>(form: Form, out: &mut Vec<u8>, values: &[V]) -> Result<(), AllocError>
     requires { All (V.format form).Fits values.now }
-    ensures ok { OnOk result (out.new.items ≡ out.old.items ++ flat_map (V.format form).spell values.now) }
+    ensures ok { OnOk result (out.new.items
+        ≡ out.old.items ++ flat_map (V.format form).spell values.now) }
     ensures front { take (length out.old.items) out.new.items ≡ out.old.items }
 {
     for value in values {

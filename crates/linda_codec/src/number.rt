@@ -26,7 +26,8 @@ pub fn read_u8(bytes: &[u8]) -> Result<(u8, &[u8]), ReadFault>
 ///
 /// `Short` where there are fewer, `LongText` where it is above.
 pub(crate) fn read_length(limit: usize, bytes: &[u8]) -> Result<(usize, &[u8]), ReadFault>
-    ensures { GivesAlways (λ x. (x.0, x.1.now)) result ((format.short_length limit).read bytes.now) }
+    ensures { GivesAlways (λ x. (x.0, x.1.now)) result
+        ((format.short_length limit).read bytes.now) }
 {
     if bytes.len() < 2 {
         return Err(ReadFault::Short);

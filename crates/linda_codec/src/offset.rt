@@ -1,4 +1,5 @@
-//! Readers of atoms, tuples and templates at an offset, which give the value and the offset of the byte after it.
+//! Readers of atoms, tuples and templates at an offset, which give the value and the offset of the
+//! byte after it.
 
 ghost use Rattle.std.specs.Prelude.{◌≡◌, drop};
 ghost use Rattle.linda_codec.specs.Places.{placed, IsReadAt};
@@ -10,8 +11,8 @@ use crate::spelled::Spelled;
 use linda_tuple::{Atom, Form, Template, Tuple};
 use std::alloc::Global;
 
-/// The atom whose spelling begins at the offset, and the offset of the byte after it. Past the end there are no
-/// bytes.
+/// The atom whose spelling begins at the offset, and the offset of the byte after it. Past the end
+/// there are no bytes.
 ///
 /// # Errors
 ///
@@ -27,8 +28,8 @@ pub fn get_atom(
     get(alloc, form, bytes, at)
 }
 
-/// The tuple whose spelling begins at the offset, and the offset of the byte after it. Past the end there are no
-/// bytes.
+/// The tuple whose spelling begins at the offset, and the offset of the byte after it. Past the end
+/// there are no bytes.
 ///
 /// # Errors
 ///
@@ -44,8 +45,8 @@ pub fn get_tuple(
     get(alloc, form, bytes, at)
 }
 
-/// The template whose spelling begins at the offset, and the offset of the byte after it. Past the end there are no
-/// bytes.
+/// The template whose spelling begins at the offset, and the offset of the byte after it. Past the
+/// end there are no bytes.
 ///
 /// # Errors
 ///

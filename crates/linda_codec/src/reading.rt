@@ -22,7 +22,8 @@ use std::alloc::Global;
 ///
 /// # Errors
 ///
-/// The first fault from the left, given by the count of bytes left; `Memory` where a text finds none.
+/// The first fault from the left, given by the count of bytes left; `Memory` where a text finds
+/// none.
 pub fn read_atom(alloc: Global, form: Form, bytes: &[u8]) -> Result<(Atom, &[u8]), ReadFault>
     ensures value { Gives (λ x. (x.0, x.1.now)) result ((format.atom form).read bytes.now) }
     ensures memory { IsErrOf result ReadFault.Memory → IsOk ((format.atom form).read bytes.now) }
@@ -41,7 +42,8 @@ fn read_atom_body(
     bytes: &[u8],
 ) -> Result<(Atom, &[u8]), ReadFault>
     ensures value { Gives (λ x. (x.0, x.1.now)) result (format.atom_body_at form kind bytes.now) }
-    ensures memory { IsErrOf result ReadFault.Memory → IsOk (format.atom_body_at form kind bytes.now) }
+    ensures memory { IsErrOf result ReadFault.Memory
+        → IsOk (format.atom_body_at form kind bytes.now) }
 {
     match kind {
         INTEGER => read_integer(bytes),
@@ -53,7 +55,8 @@ fn read_atom_body(
 
 // Reads an integer, as an atom.
 fn read_integer(bytes: &[u8]) -> Result<(Atom, &[u8]), ReadFault>
-    ensures { GivesAlways (λ x. (x.0, x.1.now)) result (made_at (λ n. atoms.Int n) integer bytes.now) }
+    ensures { GivesAlways (λ x. (x.0, x.1.now)) result
+        (made_at (λ n. atoms.Int n) integer bytes.now) }
 {
     let (number, rest) = read_i64(bytes)?;
     Ok((Atom::Int(number), rest))
@@ -61,7 +64,8 @@ fn read_integer(bytes: &[u8]) -> Result<(Atom, &[u8]), ReadFault>
 
 // Reads a text, as an atom.
 fn read_text(alloc: Global, form: Form, bytes: &[u8]) -> Result<(Atom, &[u8]), ReadFault>
-    ensures value { Gives (λ x. (x.0, x.1.now)) result (made_at (λ t. atoms.Text t) (format.text form) bytes.now) }
+    ensures value { Gives (λ x. (x.0, x.1.now)) result
+        (made_at (λ t. atoms.Text t) (format.text form) bytes.now) }
     ensures memory { IsErrOf result ReadFault.Memory
         → IsOk (made_at (λ t. atoms.Text t) (format.text form) bytes.now) }
 {
@@ -72,7 +76,8 @@ fn read_text(alloc: Global, form: Form, bytes: &[u8]) -> Result<(Atom, &[u8]), R
 
 // Reads a truth value, as an atom.
 fn read_truth(bytes: &[u8]) -> Result<(Atom, &[u8]), ReadFault>
-    ensures { GivesAlways (λ x. (x.0, x.1.now)) result (made_at (λ b. atoms.Bool b) truth bytes.now) }
+    ensures { GivesAlways (λ x. (x.0, x.1.now)) result
+        (made_at (λ b. atoms.Bool b) truth bytes.now) }
 {
     let (truth, rest) = read_bool(bytes)?;
     Ok((Atom::Bool(truth), rest))
@@ -82,7 +87,8 @@ fn read_truth(bytes: &[u8]) -> Result<(Atom, &[u8]), ReadFault>
 ///
 /// # Errors
 ///
-/// The first fault from the left, given by the count of bytes left; `Memory` where a tuple stands there and finds none.
+/// The first fault from the left, given by the count of bytes left; `Memory` where a tuple stands
+/// there and finds none.
 pub fn read_tuple(alloc: Global, form: Form, bytes: &[u8]) -> Result<(Tuple, &[u8]), ReadFault>
     ensures value { Gives (λ x. (x.0, x.1.now)) result ((format.tuple form).read bytes.now) }
     ensures memory { IsErrOf result ReadFault.Memory → IsOk ((format.tuple form).read bytes.now) }
@@ -102,15 +108,16 @@ pub fn read_tuple(alloc: Global, form: Form, bytes: &[u8]) -> Result<(Tuple, &[u
 ///
 /// # Errors
 ///
-/// The first fault from the left, given by the count of bytes left; `Memory` where a template stands there and finds
-/// none.
+/// The first fault from the left, given by the count of bytes left; `Memory` where a template
+/// stands there and finds none.
 pub fn read_template(
     alloc: Global,
     form: Form,
     bytes: &[u8],
 ) -> Result<(Template, &[u8]), ReadFault>
     ensures value { Gives (λ x. (x.0, x.1.now)) result ((format.template form).read bytes.now) }
-    ensures memory { IsErrOf result ReadFault.Memory → IsOk ((format.template form).read bytes.now) }
+    ensures memory { IsErrOf result ReadFault.Memory
+        → IsOk ((format.template form).read bytes.now) }
 {
     match build_template(alloc, form, bytes) {
         Ok(read) => Ok(read),
@@ -165,8 +172,10 @@ fn read_pattern_body(
     kind: u8,
     bytes: &[u8],
 ) -> Result<(Pattern, &[u8]), ReadFault>
-    ensures value { Gives (λ x. (x.0, x.1.now)) result (format.pattern_body_at form kind bytes.now) }
-    ensures memory { IsErrOf result ReadFault.Memory → IsOk (format.pattern_body_at form kind bytes.now) }
+    ensures value { Gives (λ x. (x.0, x.1.now)) result
+        (format.pattern_body_at form kind bytes.now) }
+    ensures memory { IsErrOf result ReadFault.Memory
+        → IsOk (format.pattern_body_at form kind bytes.now) }
 {
     match kind {
         INT_FORMAL => Ok((Pattern::IntFormal, bytes)),
@@ -185,7 +194,8 @@ fn read_value(
     bytes: &[u8],
 ) -> Result<(Pattern, &[u8]), ReadFault>
     ensures value { Gives (λ x. (x.0, x.1.now)) result (format.value_at form (kind ∷ bytes.now)) }
-    ensures memory { IsErrOf result ReadFault.Memory → IsOk (format.value_at form (kind ∷ bytes.now)) }
+    ensures memory { IsErrOf result ReadFault.Memory
+        → IsOk (format.value_at form (kind ∷ bytes.now)) }
 {
     let (value, rest) = read_atom_body(alloc, form, kind, bytes)?;
     Ok((Pattern::Value(value), rest))

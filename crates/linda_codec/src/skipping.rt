@@ -1,4 +1,5 @@
-//! Passing over tuples and templates: what their readers leave and which fault they return, without taking memory.
+//! Passing over tuples and templates: what their readers leave and which fault they return, without
+//! taking memory.
 
 ghost use Rattle.std.specs.Prelude.{◌≡◌, ◌∷◌};
 ghost use Rattle.linda_codec.specs.Steps.{GivesAlways, left_by};
@@ -31,14 +32,16 @@ pub fn skip_tuple(form: Form, bytes: &[u8]) -> Result<&[u8], ReadFault>
 ///
 /// The first fault from the left, given by the count of bytes left; never `Memory`.
 pub fn skip_template(form: Form, bytes: &[u8]) -> Result<&[u8], ReadFault>
-    ensures { GivesAlways (λ rest. rest.now) result (left_by ((format.template form).read bytes.now)) }
+    ensures { GivesAlways (λ rest. rest.now) result
+        (left_by ((format.template form).read bytes.now)) }
 {
     skip_tagged::<Pattern>(form, bytes)
 }
 
 // The bytes after a tag and so many values as are counted after it.
 fn skip_tagged<V: Spelled>(form: Form, bytes: &[u8]) -> Result<&[u8], ReadFault>
-    ensures { GivesAlways (λ rest. rest.now) result (left_by ((format.tagged form (V.format form)).read bytes.now)) }
+    ensures { GivesAlways (λ rest. rest.now) result
+        (left_by ((format.tagged form (V.format form)).read bytes.now)) }
 {
     let rest = skip_atom(form, bytes)?;
     let (count, rest) = read_count(form, rest)?;
@@ -57,7 +60,8 @@ pub(crate) fn skip_atom(form: Form, bytes: &[u8]) -> Result<&[u8], ReadFault>
 
 // The bytes after an atom of that kind, of which the kind is read and the body is at the front.
 fn skip_atom_body(form: Form, kind: u8, bytes: &[u8]) -> Result<&[u8], ReadFault>
-    ensures { GivesAlways (λ rest. rest.now) result (left_by (format.atom_body_at form kind bytes.now)) }
+    ensures { GivesAlways (λ rest. rest.now) result
+        (left_by (format.atom_body_at form kind bytes.now)) }
 {
     match kind {
         INTEGER => skip_integer(bytes),
@@ -93,7 +97,8 @@ fn skip_truth(bytes: &[u8]) -> Result<&[u8], ReadFault>
 
 /// The bytes after the pattern at the front.
 pub(crate) fn skip_pattern(form: Form, bytes: &[u8]) -> Result<&[u8], ReadFault>
-    ensures { GivesAlways (λ rest. rest.now) result (left_by ((format.pattern form).read bytes.now)) }
+    ensures { GivesAlways (λ rest. rest.now) result
+        (left_by ((format.pattern form).read bytes.now)) }
 {
     match bytes {
         [] => Err(ReadFault::Short),
@@ -103,7 +108,8 @@ pub(crate) fn skip_pattern(form: Form, bytes: &[u8]) -> Result<&[u8], ReadFault>
 
 // The bytes after a pattern of that kind, of which the kind is read.
 fn skip_pattern_body(form: Form, kind: u8, bytes: &[u8]) -> Result<&[u8], ReadFault>
-    ensures { GivesAlways (λ rest. rest.now) result (left_by (format.pattern_body_at form kind bytes.now)) }
+    ensures { GivesAlways (λ rest. rest.now) result
+        (left_by (format.pattern_body_at form kind bytes.now)) }
 {
     match kind {
         INT_FORMAL => Ok(bytes),
@@ -116,7 +122,8 @@ fn skip_pattern_body(form: Form, kind: u8, bytes: &[u8]) -> Result<&[u8], ReadFa
 
 // The bytes after an atom, as a pattern, of which the kind is read.
 fn skip_value(form: Form, kind: u8, bytes: &[u8]) -> Result<&[u8], ReadFault>
-    ensures { GivesAlways (λ rest. rest.now) result (left_by (format.value_at form (kind ∷ bytes.now))) }
+    ensures { GivesAlways (λ rest. rest.now) result
+        (left_by (format.value_at form (kind ∷ bytes.now))) }
 {
     skip_atom_body(form, kind, bytes)
 }

@@ -1,4 +1,5 @@
-//! What a value with a spelling in bytes can do: be read, passed over, written and counted, in each of the two forms.
+//! What a value with a spelling in bytes can do: be read, passed over, written and counted, in each
+//! of the two forms.
 
 ghost use Rattle.std.specs.Prelude.{◌≡◌, ◌≤◌, ◌++◌, ℕ, length, take, IsOk, IsErrOf, OnOk};
 ghost use Rattle.linda_tuple.specs.declared.form.Form as forms;
@@ -28,8 +29,8 @@ pub trait Spelled: Drop {
     ///
     /// # Errors
     ///
-    /// The first fault from the left, given by the count of bytes left; `Memory` where a value stands there and finds
-    /// none.
+    /// The first fault from the left, given by the count of bytes left; `Memory` where a value
+    /// stands there and finds none.
     fn read(alloc: Global, form: Form, bytes: &[u8]) -> Result<(Self, &[u8]), ReadFault>
         ensures value { Gives (λ x. (x.0, x.1.now)) result ((format form).read bytes.now) }
         ensures memory { IsErrOf result ReadFault.Memory → IsOk ((format form).read bytes.now) };

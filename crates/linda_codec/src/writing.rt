@@ -35,20 +35,23 @@ pub fn put_atom(form: Form, out: &mut Vec<u8>, atom: &Atom) -> Result<(), AllocE
 /// Where memory runs out, `out` is left as it was.
 pub fn put_tuple(form: Form, out: &mut Vec<u8>, tuple: &Tuple) -> Result<(), AllocError>
     requires { FitsIn form tuple.now }
-    ensures ok { OnOk result (out.new.items ≡ out.old.items ++ (format.tuple form).spell tuple.now) }
+    ensures ok { OnOk result (out.new.items
+        ≡ out.old.items ++ (format.tuple form).spell tuple.now) }
     ensures err { OnErr result (out.new.items ≡ out.old.items) }
 {
     put(form, out, tuple)
 }
 
-/// Appends the spelling of the template, which is one that has a spelling in the form: in the second all have one.
+/// Appends the spelling of the template, which is one that has a spelling in the form: in the
+/// second all have one.
 ///
 /// # Errors
 ///
 /// Where memory runs out, `out` is left as it was.
 pub fn put_template(form: Form, out: &mut Vec<u8>, template: &Template) -> Result<(), AllocError>
     requires { FitsTemplateIn form template.now }
-    ensures ok { OnOk result (out.new.items ≡ out.old.items ++ (format.template form).spell template.now) }
+    ensures ok { OnOk result (out.new.items
+        ≡ out.old.items ++ (format.template form).spell template.now) }
     ensures err { OnErr result (out.new.items ≡ out.old.items) }
 {
     put(form, out, template)
@@ -81,10 +84,12 @@ fn kept_or_cut(
     pushed
 }
 
-/// Appends the spelling of the tuple; where memory runs out, a part of it may stand after the old bytes.
+/// Appends the spelling of the tuple; where memory runs out, a part of it may stand after the old
+/// bytes.
 pub(crate) fn push_tuple(form: Form, out: &mut Vec<u8>, tuple: &Tuple) -> Result<(), AllocError>
     requires { FitsIn form tuple.now }
-    ensures ok { OnOk result (out.new.items ≡ out.old.items ++ (format.tuple form).spell tuple.now) }
+    ensures ok { OnOk result (out.new.items
+        ≡ out.old.items ++ (format.tuple form).spell tuple.now) }
     ensures front { take (length out.old.items) out.new.items ≡ out.old.items }
 {
     let fields = tuple.fields();
@@ -98,7 +103,8 @@ pub(crate) fn push_template(
     template: &Template,
 ) -> Result<(), AllocError>
     requires { FitsTemplateIn form template.now }
-    ensures ok { OnOk result (out.new.items ≡ out.old.items ++ (format.template form).spell template.now) }
+    ensures ok { OnOk result (out.new.items
+        ≡ out.old.items ++ (format.template form).spell template.now) }
     ensures front { take (length out.old.items) out.new.items ≡ out.old.items }
 {
     let patterns = template.fields();
@@ -116,7 +122,8 @@ fn push_tagged<V: Spelled>(
     requires count { length values.now ≤ most_fields form }
     requires values { All (V.format form).Fits values.now }
     ensures ok { OnOk result
-        (out.new.items ≡ out.old.items ++ (format.tagged form (V.format form)).spell (tag.now, values.now)) }
+        (out.new.items ≡ out.old.items
+        ++ (format.tagged form (V.format form)).spell (tag.now, values.now)) }
     ensures front { take (length out.old.items) out.new.items ≡ out.old.items }
 {
     push_atom(form, out, tag)?;
@@ -131,7 +138,8 @@ pub(crate) fn push_pattern(
     pattern: &Pattern,
 ) -> Result<(), AllocError>
     requires { IsSoundPatternIn form pattern.now }
-    ensures ok { OnOk result (out.new.items ≡ out.old.items ++ (format.pattern form).spell pattern.now) }
+    ensures ok { OnOk result (out.new.items
+        ≡ out.old.items ++ (format.pattern form).spell pattern.now) }
     ensures front { take (length out.old.items) out.new.items ≡ out.old.items }
 {
     let kind = match pattern {
@@ -158,9 +166,11 @@ pub(crate) fn push_atom(form: Form, out: &mut Vec<u8>, atom: &Atom) -> Result<()
     }
 }
 
-// Appends the kind of an integer and the integer; where memory runs out, a part of it may stand after the old bytes.
+// Appends the kind of an integer and the integer; where memory runs out, a part of it may stand
+// after the old bytes.
 fn push_integer(out: &mut Vec<u8>, number: i64) -> Result<(), AllocError>
-    ensures ok { OnOk result (out.new.items ≡ out.old.items ++ INTEGER ∷ formats.integer.spell number) }
+    ensures ok { OnOk result (out.new.items
+        ≡ out.old.items ++ INTEGER ∷ formats.integer.spell number) }
     ensures front { take (length out.old.items) out.new.items ≡ out.old.items }
 {
     out.push(INTEGER)?;
@@ -170,7 +180,8 @@ fn push_integer(out: &mut Vec<u8>, number: i64) -> Result<(), AllocError>
 // Appends the kind of a text, its length and the text; likewise.
 fn push_text(form: Form, out: &mut Vec<u8>, text: &Text) -> Result<(), AllocError>
     requires { length text.now ≤ longest_text form }
-    ensures ok { OnOk result (out.new.items ≡ out.old.items ++ TEXT ∷ (format.text form).spell text.now) }
+    ensures ok { OnOk result (out.new.items
+        ≡ out.old.items ++ TEXT ∷ (format.text form).spell text.now) }
     ensures front { take (length out.old.items) out.new.items ≡ out.old.items }
 {
     out.push(TEXT)?;
@@ -191,7 +202,8 @@ fn push_truth(out: &mut Vec<u8>, truth: bool) -> Result<(), AllocError>
 // Appends the length of a text; where memory runs out, a part of it may stand after the old bytes.
 fn push_text_length(form: Form, out: &mut Vec<u8>, len: usize) -> Result<(), AllocError>
     requires { len ≤ longest_text form }
-    ensures ok { OnOk result (out.new.items ≡ out.old.items ++ (format.text_length form).spell len) }
+    ensures ok { OnOk result (out.new.items
+        ≡ out.old.items ++ (format.text_length form).spell len) }
     ensures front { take (length out.old.items) out.new.items ≡ out.old.items }
 {
     match form {

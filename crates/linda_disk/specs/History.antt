@@ -1,5 +1,7 @@
--- What a disk in memory held at first and each call since, the newest first, and what follows from it.
-use Rattle.std.specs.Prelude.{◌≡◌, ℕ, ◌≤◌, ◌⊎◌, Bool, true, nat_le, ◌&&◌, List, [], ◌∷◌, length, take, replicate}
+-- What a disk in memory held at first and each call since, the newest first, and what follows from
+-- it.
+use Rattle.std.specs.Prelude.{◌≡◌, ℕ, ◌≤◌, ◌⊎◌, Bool, true, nat_le, ◌&&◌, List, [], ◌∷◌, length}
+use Rattle.std.specs.Prelude.{take, replicate}
 use Rattle.linda_disk.specs.declared.call.DeviceCall.{DeviceCall}
 use Rattle.linda_disk.specs.declared.call.DeviceCall.TheVariants.{Write, Cut, Sync}
 use Rattle.linda_disk.specs.declared.torn.Torn.{Torn}
@@ -53,7 +55,8 @@ abbrev pub Leaves : List ℕ → List DeviceCall → List ℕ → Type 0
 Leaves first [] image = image ≡ first
 Leaves first (Write at bytes ∷ calls) image =
     (before : List ℕ) × Leaves first calls before × TornWrite at (length bytes) before image
-Leaves first (Cut n ∷ calls) image = (before : List ℕ) × Leaves first calls before × TornCut n before image
+Leaves first (Cut n ∷ calls) image =
+    (before : List ℕ) × Leaves first calls before × TornCut n before image
 Leaves first (Sync ∷ calls) image = image ≡ content_from first calls
 
 -- A crash after t calls or more might have left this.
@@ -65,7 +68,8 @@ LeftSince first (call ∷ calls) t image =
 -- Each write began within the file or at its end.
 abbrev pub fits_from : List ℕ → List DeviceCall → Bool
 fits_from first [] = true
-fits_from first (Write at bytes ∷ calls) = nat_le at (length (content_from first calls)) && fits_from first calls
+fits_from first (Write at bytes ∷ calls) =
+    nat_le at (length (content_from first calls)) && fits_from first calls
 fits_from first (Cut n ∷ calls) = fits_from first calls
 fits_from first (Sync ∷ calls) = fits_from first calls
 
@@ -74,8 +78,8 @@ abbrev pub fill_all : ℕ → List DeviceCall → List ℕ → List ℕ
 fill_all b [] file = file
 fill_all b (call ∷ calls) file = fill_all b calls (fill b call file)
 
--- Of a history: what a read gives, the bytes at the last sync, those with b in each byte that was written since,
--- and whether its writes fit.
+-- Of a history: what a read gives, the bytes at the last sync, those with b in each byte that was
+-- written since, and whether its writes fit.
 abbrev pub content : History → List ℕ
 content h = content_from h.first h.calls
 

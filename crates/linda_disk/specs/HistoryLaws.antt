@@ -1,5 +1,5 @@
--- What a read gives, and what the crashes of a disk in memory leave, are outcomes of a crash; and moments
--- are its calls.
+-- What a read gives, and what the crashes of a disk in memory leave, are outcomes of a crash; and
+-- moments are its calls.
 use Rattle.std.proofs.Common.{◌≡◌, ℕ, zero, suc, ◌+◌, ◌≤◌, inl, inr, true, max, List, [], ◌∷◌, ◌++◌}
 use Rattle.std.proofs.Common.{length, take, drop, replicate, refl, ap, subst, ◌∙◌, arith}
 use Rattle.std.proofs.Common.{length-append, append_assoc, length-take, length-drop}
@@ -16,7 +16,8 @@ use Rattle.linda_disk.specs.History.{LeftSince, fits_from, fits, left, view_of}
 
 -- A write that is not done is a torn one.
 pub not_written : (at n : ℕ) (file : List ℕ) → TornWrite at n file file
-not_written at n file = record { before = refl; after = refl; no_shorter = omega arith; no_longer = grind arith }
+not_written at n file =
+    record { before = refl; after = refl; no_shorter = omega arith; no_longer = grind arith }
 
 -- What is written ends where the write ends, or where the file did.
 pub length-overlay : (at : ℕ) (bytes file : List ℕ) → at ≤ length file
@@ -36,9 +37,11 @@ written at bytes file le =
     let long = length-overlay at bytes file le in
     let rest = drop (at + length bytes) file in
     let start = take at file in
-    let so_far : length (start ++ bytes) ≡ at + length bytes = omega (arith, front, length-append start bytes) in
+    let so_far : length (start ++ bytes)
+    ≡ at + length bytes = omega (arith, front, length-append start bytes) in
     record {
-      before = ap (take at) (append_assoc start bytes rest) ∙ take_at start (bytes ++ rest) at front;
+      before =
+          ap (take at) (append_assoc start bytes rest) ∙ take_at start (bytes ++ rest) at front;
       after = drop_at (start ++ bytes) rest (at + length bytes) so_far;
       no_shorter = grind (arith, long);
       no_longer = omega (arith, long);
@@ -46,7 +49,8 @@ written at bytes file le =
 
 -- A cut that has not happened, and one that has.
 pub not_cut : (n : ℕ) (file : List ℕ) → TornCut n file file
-not_cut n file = record { no_shorter = grind arith; front = take_all (length file) file (omega arith) }
+not_cut n file =
+    record { no_shorter = grind arith; front = take_all (length file) file (omega arith) }
 
 take-length-take : (n : ℕ) (file : List ℕ) → take (length (take n file)) file ≡ take n file
 take-length-take zero file = refl
@@ -54,7 +58,8 @@ take-length-take (suc n) [] = refl
 take-length-take (suc n) (b ∷ file) = ap (λ (l : List ℕ). b ∷ l) (take-length-take n file)
 
 pub is_cut : (n : ℕ) (file : List ℕ) → TornCut n file (take n file)
-is_cut n file = record { no_shorter = grind (arith, length-take n file); front = take-length-take n file }
+is_cut n file =
+    record { no_shorter = grind (arith, length-take n file); front = take-length-take n file }
 
 -- What a fitting history says of its last write, and of the calls before.
 fits_at : (first : List ℕ) (at : ℕ) (bytes : List ℕ) (calls : List DeviceCall)
@@ -67,23 +72,31 @@ pub left_kept : (first : List ℕ) (calls : List DeviceCall) → fits_from first
     → Leaves first calls (content_from first calls)
 left_kept first [] fit = refl
 left_kept first (Write at bytes ∷ calls) fit =
-    let parts = fits_at first at bytes calls fit in
-    (content_from first calls, left_kept first calls parts.1, written at bytes (content_from first calls) parts.0)
+    let parts = fits_at first at bytes calls fit in (
+      content_from first calls,
+      left_kept first calls parts.1,
+      written at bytes (content_from first calls) parts.0,
+    )
 left_kept first (Cut n ∷ calls) fit =
     (content_from first calls, left_kept first calls fit, is_cut n (content_from first calls))
 left_kept first (Sync ∷ calls) fit = refl
 
 -- It may leave what was there at the last sync.
-pub left_lost : (first : List ℕ) (calls : List DeviceCall) → Leaves first calls (synced_from first calls)
+pub left_lost : (first : List ℕ) (calls : List DeviceCall)
+    → Leaves first calls (synced_from first calls)
 left_lost first [] = refl
-left_lost first (Write at bytes ∷ calls) =
-    (synced_from first calls, left_lost first calls, not_written at (length bytes) (synced_from first calls))
+left_lost first (Write at bytes ∷ calls) = (
+  synced_from first calls,
+  left_lost first calls,
+  not_written at (length bytes) (synced_from first calls),
+)
 left_lost first (Cut n ∷ calls) =
     (synced_from first calls, left_lost first calls, not_cut n (synced_from first calls))
 left_lost first (Sync ∷ calls) = refl
 
 -- No length since the last sync was greater than that of the filled file.
-pub content_within_filled : (b : ℕ) (first : List ℕ) (calls : List DeviceCall) → fits_from first calls ≡ true
+pub content_within_filled : (b : ℕ) (first : List ℕ) (calls : List DeviceCall)
+    → fits_from first calls ≡ true
     → length (content_from first calls) ≤ length (filled_from b first calls)
 content_within_filled b first [] fit = omega arith
 content_within_filled b first (Write at bytes ∷ calls) fit =
@@ -92,7 +105,8 @@ content_within_filled b first (Write at bytes ∷ calls) fit =
     let long = length-overlay at bytes (content_from first calls) parts.0 in
     let copies = length-replicate (length bytes) b in
     let starts : at ≤ length (filled_from b first calls) = omega (arith, within, parts.0) in
-    let long_filled = length-overlay at (replicate (length bytes) b) (filled_from b first calls) starts in
+    let long_filled =
+    length-overlay at (replicate (length bytes) b) (filled_from b first calls) starts in
     grind (arith, within, long, long_filled, copies)
 content_within_filled b first (Cut n ∷ calls) fit =
     let within = content_within_filled b first calls fit in
@@ -109,10 +123,15 @@ left_filled b first (Write at bytes ∷ calls) fit =
     let copies = replicate (length bytes) b in
     let file = filled_from b first calls in
     let torn = written at copies file (omega (arith, within, parts.0)) in
-    let step = subst (λ n. TornWrite at n file (overlay at copies file)) (length-replicate (length bytes) b) torn in
+    let step =
+    subst (λ n. TornWrite at n file (overlay at copies file))
+    (length-replicate (length bytes) b) torn in
     (file, left_filled b first calls parts.1, step)
-left_filled b first (Cut n ∷ calls) fit =
-    (filled_from b first calls, left_filled b first calls fit, not_cut n (filled_from b first calls))
+left_filled b first (Cut n ∷ calls) fit = (
+  filled_from b first calls,
+  left_filled b first calls fit,
+  not_cut n (filled_from b first calls),
+)
 left_filled b first (Sync ∷ calls) fit = refl
 
 -- Each way to come out of a crash is an outcome of one.
@@ -122,16 +141,19 @@ left_torn Lost h fit = left_lost h.first h.calls
 left_torn (Filled b) h fit = left_filled b h.first h.calls fit
 
 -- This moment counts as one of those since an earlier one, and since it there is no other.
-counts_now : (first : List ℕ) (calls : List DeviceCall) (t : ℕ) (image : List ℕ) → Leaves first calls image
+counts_now : (first : List ℕ) (calls : List DeviceCall) (t : ℕ) (image : List ℕ)
+    → Leaves first calls image
     → LeftSince first calls t image
 counts_now first [] t image left = left
 counts_now first (call ∷ calls) t image left = inl left
 
-only_now : (first : List ℕ) (calls : List DeviceCall) (image : List ℕ) → LeftSince first calls (length calls) image
+only_now : (first : List ℕ) (calls : List DeviceCall) (image : List ℕ)
+    → LeftSince first calls (length calls) image
     → Leaves first calls image
 only_now first [] image left = left
 only_now first (call ∷ calls) image (inl left) = left
-only_now first (call ∷ calls) image (inr earlier) = absurd (let late = earlier.0 in omega (arith, late))
+only_now first (call ∷ calls) image (inr earlier) =
+    absurd (let late = earlier.0 in omega (arith, late))
 
 pub timed : (h : History) → fits h ≡ true → IsTimed (view_of h)
 timed h fit = record {

@@ -37,8 +37,8 @@ answer_at Works = Ok tt
 answer_at Stops = Err Device
 answer_at Fails = Err Device
 
--- Where the machine stops inside a write or a cut, it is done in full. A sync in which it stops has not
--- happened.
+-- Where the machine stops inside a write or a cut, it is done in full. A sync in which it stops has
+-- not happened.
 abbrev pub history_at : Turn → DeviceCall → History → History
 history_at Works call h = after call h
 history_at Stops (Write at bytes) h = after (Write at bytes) h
@@ -53,7 +53,8 @@ failures_at Stops n = n + 1
 failures_at Fails n = n + 1
 
 -- A call at this turn, which leaves this history: where memory runs out, all is as before.
-pub record GoesBy (turn : Turn × Trouble) (then : History) (result : Told) (old new : MemDisk) : Type 0 where
+pub record GoesBy (turn : Turn × Trouble) (then : History) (result : Told) (old new : MemDisk)
+    : Type 0 where
   pub memory : IsErrOf result Memory → new ≡ old
   -- a call that is to fail takes none: it says so, as long as the count can rise
   pub no_memory : turn.0 ≡ Fails → IsErrOf result Memory → 2 ^ 64 ≤ failures old + 1

@@ -1,4 +1,5 @@
--- What the record of a file comes to: the bytes that it held when it was opened, and the calls since.
+-- What the record of a file comes to: the bytes that it held when it was opened, and the calls
+-- since.
 use Rattle.std.specs.Prelude.{ℕ, zero, suc, List, [], ◌∷◌, ◌++◌}
 use Rattle.linda_disk.specs.declared.past.Spelling.{Spelling, fold-Spelling}
 use Rattle.linda_disk.specs.declared.past.Spelling.TheOpen.{Spelling-F}

@@ -6,7 +6,8 @@ use Rattle.linda_disk.specs.declared.trouble.Turn.{Turn}
 use Rattle.linda_disk.specs.declared.trouble.Turn.TheVariants.{Works, Stops, Fails}
 use Rattle.linda_disk.specs.declared.trouble.Trouble.{Trouble}
 
--- The turn of a call where the power is on: the one that is to fail once fails, and those before it work.
+-- The turn of a call where the power is on: the one that is to fail once fails, and those before it
+-- work.
 abbrev pub turn_with : Power → Option ℕ → Turn × Trouble
 turn_with power None = (Works, record { power = power; failing = None })
 turn_with power (Some zero) = (Fails, record { power = power; failing = None })
@@ -21,7 +22,8 @@ turn_of_read trouble = at_read trouble.power trouble.failing
     at_read (OnFor k) failing = turn_with (OnFor k) failing
     at_read Off failing = (Fails, record { power = Off; failing = failing })
 
--- The turn of a write, a cut or a sync: where no more of them pass, the power goes off inside this one.
+-- The turn of a write, a cut or a sync: where no more of them pass, the power goes off inside this
+-- one.
 abbrev pub turn_of_call : Trouble → Turn × Trouble
 turn_of_call trouble = at_call trouble.power trouble.failing
   where

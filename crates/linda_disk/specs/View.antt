@@ -19,7 +19,8 @@ IsDurable v = (image : List ℕ) → v.may_leave image → image ≡ v.seen
 -- What holds of each view of an honest disk.
 pub record IsTimed (v : View) : Type 0 where
   -- this moment is one of those since any before it
-  pub counts_now : (t : ℕ) (image : List ℕ) → t ≤ v.moment → v.may_leave image → v.left_since t image
+  pub counts_now : (t : ℕ) (image : List ℕ) → t ≤ v.moment → v.may_leave image
+      → v.left_since t image
   -- since this moment there is no other
   pub only_now : (image : List ℕ) → v.left_since v.moment image → v.may_leave image
   -- a crash may leave what a read gives
@@ -32,12 +33,14 @@ LeavesNoMore old new = (image : List ℕ) → new.may_leave image → old.may_le
 -- What a crash may leave now is one step from what it could leave before.
 abbrev pub Follows : (List ℕ → List ℕ → Type 0) → View → View → Type 0
 Follows step old new =
-    (image : List ℕ) → new.may_leave image → (before : List ℕ) × old.may_leave before × step before image
+    (image : List ℕ) → new.may_leave image
+    → (before : List ℕ) × old.may_leave before × step before image
 
--- Time goes on: what a crash since t might have left is what it might have left before, and what it may
--- leave now.
+-- Time goes on: what a crash since t might have left is what it might have left before, and what it
+-- may leave now.
 pub record Elapses (old new : View) : Type 0 where
   pub later : old.moment ≤ new.moment
   pub nothing_else : (t : ℕ) (image : List ℕ) → t ≤ old.moment → new.left_since t image
       → old.left_since t image ⊎ new.may_leave image
-  pub nothing_lost : (t : ℕ) (image : List ℕ) → t ≤ old.moment → old.left_since t image → new.left_since t image
+  pub nothing_lost : (t : ℕ) (image : List ℕ) → t ≤ old.moment → old.left_since t image
+      → new.left_since t image

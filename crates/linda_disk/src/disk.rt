@@ -8,10 +8,10 @@ use crate::fault::DiskFault;
 
 /// One file on a device. All but the count of failures is promised of an honest disk only.
 ///
-/// Until a sync succeeds, a crash may leave any bytes in the ranges that were written since the last one
-/// and past the length of then, any length between the least and the greatest since then, and a cut may
-/// not have happened. Each call is one step from what a crash could leave before it to what it may leave
-/// after it, so that several calls between two syncs add up by themselves.
+/// Until a sync succeeds, a crash may leave any bytes in the ranges that were written since the
+/// last one and past the length of then, any length between the least and the greatest since then,
+/// and a cut may not have happened. Each call is one step from what a crash could leave before it
+/// to what it may leave after it, so that several calls between two syncs add up by themselves.
 pub trait Disk: Drop {
     /// The disk meets the model. No call changes it.
     ghost honest: { Self → Type 0 };
@@ -33,7 +33,8 @@ pub trait Disk: Drop {
         ensures honest { honest self.old ↔ honest self.new }
         ensures cause { CountsFailure result (failures self.old) (failures self.new) };
 
-    /// Fills the buffer with the bytes from this offset on. After an error the buffer may hold anything.
+    /// Fills the buffer with the bytes from this offset on. After an error the buffer may hold
+    /// anything.
     ///
     /// # Errors
     ///
@@ -50,7 +51,8 @@ pub trait Disk: Drop {
     ///
     /// # Errors
     ///
-    /// `Device` where the device failed, which it counts: the write may be done, in part too. `Memory`.
+    /// `Device` where the device failed, which it counts: the write may be done, in part too.
+    /// `Memory`.
     fn write_at(&mut self, at: usize, bytes: &[u8]) -> Result<(), DiskFault>
         requires { honest self.old → at ≤ length (view self.old).seen }
         ensures writes { honest self.old

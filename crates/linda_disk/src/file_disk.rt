@@ -11,9 +11,10 @@ use std::io;
 use std::io::ErrorKind;
 use std::os::unix::fs::FileExt;
 
-/// A file of the operating system as a disk. It syncs the file and reads it when it is made. Until the first write or
-/// cut, reads are answered from what it keeps of that; then only its length and its first byte are known. What
-/// contracts say of it is the record of its own calls: see the README for what stays to be trusted.
+/// A file of the operating system as a disk. It syncs the file and reads it when it is made. Until
+/// the first write or cut, reads are answered from what it keeps of that; then only its length and
+/// its first byte are known. What contracts say of it is the record of its own calls: see the
+/// README for what stays to be trusted.
 #[derive(Drop)]
 pub struct FileDisk {
     file: File,
@@ -28,8 +29,9 @@ impl FileDisk {
     ghost use Rattle.linda_disk.specs.View.{IsDurable};
     ghost use Rattle.linda_disk.specs.FileDisk as disk;
 
-    /// The file as a disk, which keeps all bytes until they are read to the end of the file: from then on a front of
-    /// 4,096 bytes. It is to be open for reading and writing, and not for appending, and nobody else writes to it.
+    /// The file as a disk, which keeps all bytes until they are read to the end of the file: from
+    /// then on a front of 4,096 bytes. It is to be open for reading and writing, and not for
+    /// appending, and nobody else writes to it.
     ///
     /// # Errors
     ///
@@ -42,8 +44,8 @@ impl FileDisk {
         FileDisk::made(alloc, file, usize::MAX)
     }
 
-    /// The file as a disk of which no more than a front of 4,096 bytes is to be read, and no more is kept. All of it is
-    /// synced and read as by `new`, which takes 64 KiB of memory for a while.
+    /// The file as a disk of which no more than a front of 4,096 bytes is to be read, and no more
+    /// is kept. All of it is synced and read as by `new`, which takes 64 KiB of memory for a while.
     ///
     /// # Errors
     ///

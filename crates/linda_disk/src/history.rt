@@ -6,8 +6,8 @@ use crate::torn::Torn;
 use std::alloc::{AllocError, Global};
 use std::marker::Model;
 
-/// What a disk in memory held at first, the calls since, and what a read gives. Contracts see the first
-/// two.
+/// What a disk in memory held at first, the calls since, and what a read gives. Contracts see the
+/// first two.
 #[derive(Drop)]
 pub(crate) struct History {
     first: Vec<u8>,
@@ -61,7 +61,8 @@ impl History {
         &self.bytes
     }
 
-    /// Makes the call, and puts it on record. A write costs its own length, and no copy of the file.
+    /// Makes the call, and puts it on record. A write costs its own length, and no copy of the
+    /// file.
     ///
     /// # Errors
     ///

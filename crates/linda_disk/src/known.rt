@@ -17,8 +17,8 @@ pub(crate) const FRONT: usize = 4096;
 /// How many bytes are read at a time, of those that are not kept.
 const PIECE: usize = 65_536;
 
-/// What a file held when it was opened, and each call since: for contracts all of that, and at run time its length, its
-/// first byte, and until the first write or cut a front of it.
+/// What a file held when it was opened, and each call since: for contracts all of that, and at run
+/// time its length, its first byte, and until the first write or cut a front of it.
 #[derive(Drop)]
 pub(crate) struct Known {
     len: usize,
@@ -34,7 +34,8 @@ pub(crate) struct Known {
 }
 
 impl Known {
-    ghost use Rattle.std.specs.Prelude.{◌≡◌, ◌+◌, ◌<◌, ◌≤◌, [], true, length, take, drop, IfOk, OnOk, OnErr, Err};
+    ghost use Rattle.std.specs.Prelude.{◌≡◌, ◌+◌, ◌<◌, ◌≤◌, [], true, length, take, drop, IfOk};
+    ghost use Rattle.std.specs.Prelude.{OnOk, OnErr, Err};
     ghost use Rattle.linda_disk.specs.declared.call.DeviceCall.TheVariants.{Write, Cut, Sync};
     ghost use Rattle.linda_disk.specs.History.{after, content};
     ghost use Rattle.linda_disk.specs.Known.{history};
@@ -68,8 +69,8 @@ impl Known {
         self.len
     }
 
-    /// Fills the buffer with what is kept from this offset on; false if that does not reach so far. After a read to the
-    /// end of the file a front of it is kept.
+    /// Fills the buffer with what is kept from this offset on; false if that does not reach so far.
+    /// After a read to the end of the file a front of it is kept.
     pub(crate) fn read(&mut self, at: usize, buffer: &mut [u8]) -> bool
         requires { at + length buffer.old ≤ length (content (history self.old)) }
         ensures bytes { result ≡ true
@@ -108,7 +109,8 @@ impl Known {
     /// `Memory` if no file reaches so far, and then nothing is.
     pub(crate) fn write(&mut self, at: usize, bytes: &[u8]) -> Result<(), DiskFault>
         requires { at ≤ length (content (history self.old)) }
-        ensures ok { OnOk result (history self.new ≡ after (Write at bytes.now) (history self.old)) }
+        ensures ok { OnOk result (history self.new
+            ≡ after (Write at bytes.now) (history self.old)) }
         ensures err { OnErr result (history self.new ≡ history self.old) }
         ensures fault { OnErr result (result ≡ Err DiskFault.Memory) }
     {

@@ -12,9 +12,9 @@ use crate::trouble::{Power, Trouble, Turn};
 use crate::turn::{counted, is_done, told};
 use std::alloc::Global;
 
-/// A disk in memory. It keeps a record of its writes, cuts and syncs since it was made or last crashed,
-/// so that contracts can say what a crash may leave: the record takes as much memory as was written since
-/// then.
+/// A disk in memory. It keeps a record of its writes, cuts and syncs since it was made or last
+/// crashed, so that contracts can say what a crash may leave: the record takes as much memory as
+/// was written since then.
 pub struct MemDisk {
     alloc: Global,
     history: History,
@@ -93,9 +93,9 @@ impl MemDisk {
         self.failures
     }
 
-    /// Lets `passes` writes, cuts and syncs more pass, and then the power goes off inside the next one:
-    /// that call fails, a write or a cut done in full, and so does each call after it, reads too. It
-    /// takes the place of an earlier fuse, and a crash takes it away.
+    /// Lets `passes` writes, cuts and syncs more pass, and then the power goes off inside the next
+    /// one: that call fails, a write or a cut done in full, and so does each call after it, reads
+    /// too. It takes the place of an earlier fuse, and a crash takes it away.
     pub fn fuse(&mut self, passes: u64)
         ensures trouble { disk.trouble self.new
             ≡ record { power = OnFor passes; failing = (disk.trouble self.old).failing } }
@@ -105,8 +105,8 @@ impl MemDisk {
         self.trouble.power = Power::OnFor(passes);
     }
 
-    /// Lets the call of this number, from 0, fail and change nothing: lengths and reads count too. Those
-    /// after it work. It takes the place of an earlier one, and a crash takes it away.
+    /// Lets the call of this number, from 0, fail and change nothing: lengths and reads count too.
+    /// Those after it work. It takes the place of an earlier one, and a crash takes it away.
     pub fn fail_once(&mut self, number: u64)
         ensures trouble { disk.trouble self.new
             ≡ record { power = (disk.trouble self.old).power; failing = Some number } }
@@ -116,8 +116,8 @@ impl MemDisk {
         self.trouble.failing = Some(number);
     }
 
-    /// The machine stops and starts again: the disk holds what this crash leaves, all of it synced, and
-    /// nothing more is to go wrong. The count of failures lasts.
+    /// The machine stops and starts again: the disk holds what this crash leaves, all of it synced,
+    /// and nothing more is to go wrong. The count of failures lasts.
     ///
     /// # Errors
     ///

@@ -5,7 +5,8 @@ ghost use Rattle.linda_disk.specs.Image as spec;
 
 use std::alloc::AllocError;
 
-/// Writes the bytes at the offset, over what is there and past the end. It costs the bytes' own length.
+/// Writes the bytes at the offset, over what is there and past the end. It costs the bytes' own
+/// length.
 ///
 /// # Errors
 ///

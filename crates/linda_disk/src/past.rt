@@ -1,5 +1,5 @@
-//! The record of a file: what it held when it was opened, and each call since. Only contracts see it: it takes no
-//! memory.
+//! The record of a file: what it held when it was opened, and each call since. Only contracts see
+//! it: it takes no memory.
 
 ghost use Rattle.std.specs.Prelude.{◌≡◌, [], ◌++◌};
 ghost use Rattle.linda_disk.specs.declared.call.DeviceCall.TheVariants.{Write, Cut, Sync};

@@ -1,6 +1,7 @@
 //! Calls that are on record, done once more.
 
-ghost use Rattle.std.specs.Prelude.{◌≡◌, ◌≤◌, ℕ, List, length, take, drop, reverse, IfOk, OnOk, OnErr};
+ghost use Rattle.std.specs.Prelude.{◌≡◌, ◌≤◌, ℕ, List, length, take, drop, reverse, IfOk, OnOk};
+ghost use Rattle.std.specs.Prelude.{OnErr};
 ghost use Rattle.linda_disk.specs.History as history;
 
 use crate::call::DeviceCall;
@@ -40,8 +41,8 @@ pub(crate) fn redo(file: &mut Vec<u8>, call: &DeviceCall) -> Result<(), AllocErr
     Ok(())
 }
 
-/// Does these calls, the first of them first, with this byte in place of each that they wrote, and no
-/// cut.
+/// Does these calls, the first of them first, with this byte in place of each that they wrote, and
+/// no cut.
 pub(crate) fn fill_all(
     alloc: Global,
     file: &mut Vec<u8>,

@@ -1,6 +1,7 @@
 //! What a call returns at its turn, and how it counts.
 
-ghost use Rattle.std.specs.Prelude.{◌≡◌, ◌≢◌, ◌≤◌, ◌+◌, ◌^◌, if◌then◌else◌, IsTrue, IfOk, IfErr, OnErr};
+ghost use Rattle.std.specs.Prelude.{◌≡◌, ◌≢◌, ◌≤◌, ◌+◌, ◌^◌, if◌then◌else◌, IsTrue, IfOk, IfErr};
+ghost use Rattle.std.specs.Prelude.{OnErr};
 ghost use Rattle.linda_disk.specs.History.{History, after};
 ghost use Rattle.linda_disk.specs.MemDisk.{answer_at, history_at, failures_at};
 
@@ -32,7 +33,8 @@ pub(crate) fn is_done(turn: Turn, call: &DeviceCall) -> bool
     }
 }
 
-/// The count of failures after one more. A disk that has failed 2^64 - 1 times fails no more: it answers
+/// The count of failures after one more. A disk that has failed 2^64 - 1 times fails no more: it
+/// answers
 /// `Memory` in place of it, and the count never wraps.
 pub(crate) fn one_more(failures: u64) -> Result<u64, DiskFault>
     ensures ok { IfOk result (λ n. n ≡ failures + 1) }

@@ -60,12 +60,14 @@ mutual
   tree_one (choose ts) (nack n u) e = cc
   tree_one (wrap m t) (leaf l) e = cc
   tree_one (wrap m t) (choose us) e = cc
-  tree_one (wrap m t) (wrap n u) e = let below : t ≡ u = tree_one t u cc in let label : m ≡ n = cc in cc
+  tree_one (wrap m t) (wrap n u) e =
+      let below : t ≡ u = tree_one t u cc in let label : m ≡ n = cc in cc
   tree_one (wrap m t) (nack n u) e = cc
   tree_one (nack m t) (leaf l) e = cc
   tree_one (nack m t) (choose us) e = cc
   tree_one (nack m t) (wrap n u) e = cc
-  tree_one (nack m t) (nack n u) e = let below : t ≡ u = tree_one t u cc in let number : m ≡ n = cc in cc
+  tree_one (nack m t) (nack n u) e =
+      let below : t ≡ u = tree_one t u cc in let number : m ≡ n = cc in cc
 
   trees_one : (ts us : Trees) → trees_stored ts ≡ trees_stored us → ts ≡ us
   trees_one no_trees no_trees e = refl

@@ -17,8 +17,8 @@ is_ask never = false
 abbrev pub is_too_deep : Tree → Bool
 is_too_deep event = list_any (λ leaf. ltb MAX_DEPTH (length leaf.0)) (leaves event)
 
--- An event within its limits: no leaf under too many nodes, and not too many bases, nor too many inputs and
--- reads among them.
+-- An event within its limits: no leaf under too many nodes, and not too many bases, nor too many
+-- inputs and reads among them.
 pub record IsWithinLimits (event : Tree) : Type 0 where
   pub depth : is_too_deep event ≡ false
   pub bases : length (bases_of event) ≤ MAX_BASES

@@ -1,5 +1,5 @@
--- The nodes of an event in tree order, and what stands above a base: its labels, and which nack numbers are
--- raised.
+-- The nodes of an event in tree order, and what stands above a base: its labels, and which nack
+-- numbers are raised.
 use Rattle.std.specs.Prelude.{ℕ, ◌+◌, ◌==◌, Bool, true, false, ◌&&◌, not, List, [], ◌∷◌, ◌++◌}
 use Rattle.std.specs.Prelude.{Option, Some, None, option_map, map, filter, filter_map, reverse}
 use Rattle.std.specs.Prelude.{slice_get}
@@ -12,8 +12,8 @@ pub data Mark : Type 0 where
   at_label : ℕ → Mark
   at_nack : ℕ → Mark
 
--- A place: the member numbers that lead there from the root. What stands under a label or a nack number is
--- its member 0.
+-- A place: the member numbers that lead there from the root. What stands under a label or a nack
+-- number is its member 0.
 abbrev pub Place : Type 0
 Place = List ℕ
 
@@ -111,8 +111,8 @@ nacks_beside place event = nacks_among (filter (λ node. not (is_above place nod
 abbrev pub labels : Tree → ℕ → List ℕ
 labels event number = reverse (labels_above (place_of event number) event)
 
--- What a commitment to a base raises: the nack numbers of all nodes that are not above it, in tree order.
--- Where there is no base of this number, no node is above it.
+-- What a commitment to a base raises: the nack numbers of all nodes that are not above it, in tree
+-- order. Where there is no base of this number, no node is above it.
 abbrev pub raised : Tree → ℕ → List ℕ
 raised event number = nacks_beside (place_of event number) event
 

@@ -4,10 +4,11 @@ use Rattle.std.specs.Prelude.{option_map, length, slice_get, if◌then◌else◌
 use Rattle.linda_event.specs.Trees.{Kind}
 use Rattle.linda_event.specs.Paths.{Place}
 
--- what a search for the leaf after so many others answers: its place was appended, or nothing was and so
--- many are left
+-- what a search for the leaf after so many others answers: its place was appended, or nothing was
+-- and so many are left
 abbrev pub IsFound : List (Place × Kind) → ℕ → List ℕ → List ℕ → Option ℕ → Type 0
-IsFound leaves left before after None = option_map (λ leaf. before ++ leaf.0) (slice_get leaves left) ≡ Some after
+IsFound leaves left before after None =
+    option_map (λ leaf. before ++ leaf.0) (slice_get leaves left) ≡ Some after
 IsFound leaves left before after (Some rest) = (after ≡ before) × (left ≡ length leaves + rest)
 
 -- the leaf of the member of this number, as a leaf of the event above

@@ -19,8 +19,8 @@ pub enum Base<'a> {
     Never,
 }
 
-/// The bases of an event, in tree order: each leaf once, `Never` among them. The place of a base in the
-/// list is its number. Time is linear in the event.
+/// The bases of an event, in tree order: each leaf once, `Never` among them. The place of a base in
+/// the list is its number. Time is linear in the event.
 ///
 /// # Errors
 ///

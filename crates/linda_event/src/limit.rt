@@ -26,9 +26,9 @@ pub enum EventFault {
 ///
 /// # Errors
 ///
-/// `TooDeep` where a leaf stands under more than 64 choices, labels and nack numbers, however many stand
-/// above no leaf; else `TooManyBases` where the event has more than 256 bases, or more than 64 of them
-/// are inputs or reads.
+/// `TooDeep` where a leaf stands under more than 64 choices, labels and nack numbers, however many
+/// stand above no leaf; else `TooManyBases` where the event has more than 256 bases, or more than
+/// 64 of them are inputs or reads.
 pub fn check(event: &Event) -> Result<(), EventFault>
     ensures within { IsOk result ↔ IsWithinLimits (tree_of event.now) }
     ensures deep { IsErrOf result EventFault.TooDeep ↔ (is_too_deep (tree_of event.now) ≡ true) }
@@ -60,8 +60,8 @@ pub fn base_count(event: &Event) -> usize
     }
 }
 
-/// How many of the event's bases are inputs or reads, or `usize::MAX` where there are more. Takes no
-/// memory.
+/// How many of the event's bases are inputs or reads, or `usize::MAX` where there are more. Takes
+/// no memory.
 pub fn ask_count(event: &Event) -> usize
     ensures { result ≡ min (count_by is_ask (bases_of (tree_of event.now))) usize.MAX }
 {
@@ -81,9 +81,11 @@ pub fn ask_count(event: &Event) -> usize
     }
 }
 
-// Whether some leaf of the event stands under more than 64 nodes, of which so many are above the event.
+// Whether some leaf of the event stands under more than 64 nodes, of which so many are above the
+// event.
 fn is_deep(event: &Event, above: usize) -> bool
-    ensures { result ≡ list_any (λ leaf. ltb MAX_DEPTH (above + length leaf.0)) (leaves (tree_of event.now)) }
+    ensures { result ≡ list_any (λ leaf. ltb MAX_DEPTH (above + length leaf.0))
+        (leaves (tree_of event.now)) }
 {
     match event {
         Event::Choose(members) => {

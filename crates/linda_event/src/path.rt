@@ -9,8 +9,8 @@ ghost use Rattle.linda_event.specs.Ways.{IsFound, leaf_under, way_under};
 use crate::event::Event;
 use std::alloc::{AllocError, Global};
 
-/// The labels above the base of this number, innermost first; none where there is no such base. Time is
-/// linear in the event.
+/// The labels above the base of this number, innermost first; none where there is no such base.
+/// Time is linear in the event.
 ///
 /// # Errors
 ///
@@ -25,9 +25,9 @@ pub fn labels_of(alloc: Global, event: &Event, base: usize) -> Result<Vec<u64>, 
     Ok(found)
 }
 
-/// What a commitment to the base of this number raises: the numbers of all nack nodes that are not above
-/// it, one for each node, in tree order, a node before those below it. Where there is no such base, all
-/// of them. Time is linear in the event.
+/// What a commitment to the base of this number raises: the numbers of all nack nodes that are not
+/// above it, one for each node, in tree order, a node before those below it. Where there is no such
+/// base, all of them. Time is linear in the event.
 ///
 /// # Errors
 ///
@@ -41,8 +41,8 @@ pub fn nacks_of(alloc: Global, event: &Event, base: usize) -> Result<Vec<u64>, A
     Ok(found)
 }
 
-/// What is raised where nothing is chosen: the numbers of all nack nodes, one for each node, in tree order,
-/// a node before those below it.
+/// What is raised where nothing is chosen: the numbers of all nack nodes, one for each node, in
+/// tree order, a node before those below it.
 ///
 /// # Errors
 ///
@@ -64,15 +64,16 @@ fn find(alloc: Global, event: &Event, base: usize) -> Result<Option<Vec<usize>>,
     Ok(if rest.is_none() { Some(place) } else { None })
 }
 
-// Appends the way to the base after so many others, and answers `None`; or appends nothing, and answers how
-// many of them are still to be passed after all bases of the event.
+// Appends the way to the base after so many others, and answers `None`; or appends nothing, and
+// answers how many of them are still to be passed after all bases of the event.
 #[cycle(descent)]
 fn descend(
     event: &Event,
     mut left: usize,
     place: &mut Vec<usize>,
 ) -> Result<Option<usize>, AllocError>
-    ensures { IfOk result (λ rest. IsFound (leaves (tree_of event.now)) left place.old.items place.new.items rest) }
+    ensures { IfOk result (λ rest.
+        IsFound (leaves (tree_of event.now)) left place.old.items place.new.items rest) }
 {
     match event {
         Event::Choose(members) => {
@@ -120,7 +121,8 @@ fn way_to(place: &Option<Vec<usize>>) -> Option<&[usize]>
 
 // What is left of the way to a place after the member of this number, if it leads there.
 fn way_in<'a>(way: Option<&'a [usize]>, number: usize) -> Option<&'a [usize]>
-    ensures { option_map (λ s. s.now) result ≡ way_under number (option_map (λ s. s.now) way.entry) }
+    ensures { option_map (λ s. s.now) result
+        ≡ way_under number (option_map (λ s. s.now) way.entry) }
 {
     match way {
         Some([first, rest @ ..]) if number == *first => Some(rest),

@@ -8,8 +8,8 @@ ghost use Rattle.linda_event.specs.Bases.{is_ready};
 
 use crate::event::Event;
 
-/// Whether some base of the event is ready at this clock: an alarm whose time has come, or a value. Takes
-/// no memory, and time linear in the event.
+/// Whether some base of the event is ready at this clock: an alarm whose time has come, or a value.
+/// Takes no memory, and time linear in the event.
 pub fn is_any_ready(event: &Event, clock: u64) -> bool
     ensures { result ≡ list_any (is_ready clock) (bases_of (tree_of event.now)) }
 {

@@ -1,5 +1,5 @@
--- Requests that ask for tuples of one tag and one number of fields: which of them a tuple may answer, by its
--- first field.
+-- Requests that ask for tuples of one tag and one number of fields: which of them a tuple may
+-- answer, by its first field.
 use Rattle.std.specs.Prelude.{Bool, ◌||◌, Option, None, Some}
 use Rattle.std.specs.Option.{is_some}
 use Rattle.linda_tuple.specs.declared.atom.Atom.{Atom}
@@ -31,7 +31,8 @@ keyed_at (Some v) asked = row_at atom_ord.ghosts.cmp v (placed first_of asked)
 abbrev pub is_reached : Option Atom → Option Asked → Bool
 is_reached first asked = is_some (keyed_at first asked) || is_some (unkeyed_at asked)
 
--- Each number is filed under the value that the template of its request begins with, or is with the others.
+-- Each number is filed under the value that the template of its request begins with, or is with the
+-- others.
 abbrev pub HasGroup : Group → Rows Asked → Type 0
 HasGroup group asked =
     HasFirsts first_of group.firsts asked × HasIds group.unkeyed (unkeyed_of asked)

@@ -1,5 +1,5 @@
--- Which requests a tuple may answer: those that ask for its tag and its number of fields and, where their
--- template begins with a value, for its first field.
+-- Which requests a tuple may answer: those that ask for its tag and its number of fields and, where
+-- their template begins with a value, for its first field.
 use Rattle.std.specs.Prelude.{ℕ, Bool, Option, length}
 use Rattle.linda_tuple.specs.declared.atom.Atom.{Atom}
 use Rattle.linda_tuple.specs.Tuple.{Tuple}

@@ -16,7 +16,8 @@ IsHeldAt holds request None = (id : ℕ) → map.get holds id ≡ Some request �
 -- No request holds two tuples.
 abbrev pub IsOneEach : HeldFor → Type 0
 IsOneEach holds =
-    (i k : ℕ) (request : Request) → map.get holds i ≡ Some request → map.get holds k ≡ Some request → i ≡ k
+    (i k : ℕ) (request : Request) → map.get holds i ≡ Some request → map.get holds k ≡ Some request
+    → i ≡ k
 
 -- the ids that are held for a client, in the order of the entries
 abbrev pub held_in : ℕ → List (ℕ × Request) → List ℕ

@@ -14,4 +14,5 @@ same_request p q = (p.client == q.client) && (p.ticket == q.ticket)
 -- the code of a request
 abbrev pub request_code : Coded Request
 request_code =
-    code_by (ℕ × ℕ) (coded× coded_ℕ coded_ℕ) (λ r. (r.client, r.ticket)) (λ p. request_of p.0 p.1) (λ _. refl)
+    code_by (ℕ × ℕ) (coded× coded_ℕ coded_ℕ) (λ r. (r.client, r.ticket)) (λ p. request_of p.0 p.1)
+    (λ _. refl)

@@ -1,4 +1,5 @@
-//! Walks over some of the requests that wait, in order of arrival, for a tuple that may answer them.
+//! Walks over some of the requests that wait, in order of arrival, for a tuple that may answer
+//! them.
 
 ghost use Rattle.std.specs.Prelude.{◌≡◌, map, IfOk};
 ghost use Rattle.std.specs.Option.{option_map};
@@ -14,8 +15,8 @@ use indexmap::IndexMap;
 use linda_tuple::{Tuple, matches};
 use std::alloc::{AllocError, Global};
 
-/// The requests that wait for a tuple: the reads, in order of arrival, and the input that has waited
-/// longest.
+/// The requests that wait for a tuple: the reads, in order of arrival, and the input that has
+/// waited longest.
 #[derive(Debug, Drop)]
 pub struct Awaiting {
     pub readers: Vec<Request>,

@@ -1,5 +1,5 @@
-//! Requests that ask for tuples of one tag and one number of fields: those whose template begins with a
-//! value by that value, and the others together.
+//! Requests that ask for tuples of one tag and one number of fields: those whose template begins
+//! with a value by that value, and the others together.
 
 ghost use Rattle.std.specs.Prelude.{◌≡◌, ℕ};
 ghost use Rattle.std.specs.Option.{option_copied};
@@ -25,8 +25,8 @@ pub(crate) struct Group {
 }
 
 impl Group {
-    /// The numbers of the requests that a tuple with this first field may answer: of those whose template
-    /// begins with that value, and of those whose template begins with none.
+    /// The numbers of the requests that a tuple with this first field may answer: of those whose
+    /// template begins with that value, and of those whose template begins with none.
     pub(crate) fn arrivals(&self, first: Option<&Atom>) -> Arrivals<'_>
         ensures ordered { IsStrictlySortedBy nat_cmp result }
         ensures has { (asked : Rows asks.Asked) → HasGroup self.now asked → (q : ℕ)

@@ -1,5 +1,5 @@
-//! The requests that wait, by what a tuple must have that answers them: the tag, the number of fields
-//! and, where the template begins with a value, that value first.
+//! The requests that wait, by what a tuple must have that answers them: the tag, the number of
+//! fields and, where the template begins with a value, that value first.
 
 ghost use Rattle.std.specs.Prelude.{◌≡◌, ℕ, length};
 ghost use Rattle.std.specs.Ordering.{nat_cmp};
@@ -44,8 +44,8 @@ impl Headed for Asked {
     }
 }
 
-/// The numbers of the requests that the tuple may answer, in order of arrival: those that ask for its tag and
-/// its number of fields, and for its first field or for no value there.
+/// The numbers of the requests that the tuple may answer, in order of arrival: those that ask for
+/// its tag and its number of fields, and for its first field or for no value there.
 pub(crate) fn arrivals<'a>(heads: &'a Heads, tuple: &Tuple) -> Arrivals<'a>
     ensures ordered { IsStrictlySortedBy nat_cmp result }
     ensures has { (asked : Rows asks.Asked) → HasAsked heads.now asked → (q : ℕ)

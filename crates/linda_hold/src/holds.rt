@@ -92,7 +92,8 @@ impl Holds {
     ///
     /// `AllocError` where memory runs out.
     pub fn ids(&self, alloc: Global) -> Result<BTreeSet<u64>, AllocError>
-        ensures { IfOk result (λ ids. (id : ℕ) → set.contains nat_cmp ids id ≡ is_some (map.get self.now id)) }
+        ensures { IfOk result (λ ids. (id : ℕ)
+            → set.contains nat_cmp ids id ≡ is_some (map.get self.now id)) }
     {
         let mut ids = BTreeSet::new(alloc);
         for id in self.by_id.keys() {

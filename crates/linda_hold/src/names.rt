@@ -8,13 +8,15 @@ ghost use Rattle.std.specs.List.{list_any};
 ghost use Rattle.linda_bag.specs.Filing.{no_rows, rows_at, HasIds};
 ghost use Rattle.linda_hold.specs.declared.request.Request.{Request};
 ghost use Rattle.linda_hold.specs.Request.{request_of};
-ghost use Rattle.linda_hold.specs.Named.{Requests, HasNames, AreUsed, IsCount, Sets, number_at, client_of};
+ghost use Rattle.linda_hold.specs.Named.{Requests, HasNames, AreUsed, IsCount, Sets, number_at};
+ghost use Rattle.linda_hold.specs.Named.{client_of};
 
 use crate::request::Request;
 use std::alloc::{AllocError, Global};
 use std::collections::{BTreeMap, BTreeSet};
 
-/// The numbers of requests: those of each client by their tickets. A client without a request is not there.
+/// The numbers of requests: those of each client by their tickets. A client without a request is
+/// not there.
 #[derive(Drop)]
 pub(crate) struct Names {
     pub(crate) by_client: BTreeMap<u32, BTreeMap<u64, u64>>,
@@ -40,9 +42,11 @@ impl Names {
         }
     }
 
-    /// How many requests of the client have a number. It walks over none of them, and takes no memory.
+    /// How many requests of the client have a number. It walks over none of them, and takes no
+    /// memory.
     pub(crate) fn count_of(&self, client: u32) -> usize
-        ensures { (requests : Requests) → HasNames self.now requests → IsCount client requests result }
+        ensures { (requests : Requests) → HasNames self.now requests
+            → IsCount client requests result }
     {
         match self.by_client.get(&client) {
             Some(tickets) => tickets.len(),
@@ -52,7 +56,8 @@ impl Names {
 
     /// The least ticket of the client's requests; nothing where it has none.
     pub(crate) fn first_ticket(&self, client: u32) -> Option<u64>
-        ensures some { IfSome result (λ ticket. IsSome (number_at self.now.by_client (request_of client ticket))) }
+        ensures some { IfSome result (λ ticket.
+            IsSome (number_at self.now.by_client (request_of client ticket))) }
         ensures none { IfNone result ((ticket : ℕ)
             → number_at self.now.by_client (request_of client ticket) ≡ None) }
     {
@@ -108,7 +113,8 @@ impl Names {
 
     /// Takes the number from the request; where it has none, nothing changes.
     pub(crate) fn remove(&mut self, request: Request)
-        ensures gone { Sets (number_at self.old.by_client) (number_at self.new.by_client) request None }
+        ensures gone { Sets (number_at self.old.by_client) (number_at self.new.by_client)
+            request None }
         ensures used { AreUsed self.old.by_client → AreUsed self.new.by_client }
     {
         let Some(tickets) = self.by_client.get_mut(&request.client) else {
@@ -134,7 +140,8 @@ fn give(tickets: &mut BTreeMap<u64, u64>, ticket: u64, number: u64) -> Result<()
 // The numbers of the tickets.
 fn numbers_of(alloc: Global, tickets: &BTreeMap<u64, u64>) -> Result<BTreeSet<u64>, AllocError>
     ensures has { IfOk result (λ numbers. (q : ℕ)
-        → contains nat_cmp numbers q ≡ list_any (tree.is_at (nat_cmp q)) (tree.values tickets.now)) }
+        → contains nat_cmp numbers q
+        ≡ list_any (tree.is_at (nat_cmp q)) (tree.values tickets.now)) }
     ensures ordered { tree.IsOrdered nat_cmp tickets.now }
 {
     let mut numbers = BTreeSet::new(alloc);

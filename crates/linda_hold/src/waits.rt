@@ -1,6 +1,7 @@
 //! The requests that wait for a tuple.
 
-ghost use Rattle.std.specs.Prelude.{◌≡◌, ℕ, ◌+◌, ◌++◌, ◌∷◌, [], None, cond, false, true, nat_eq, length, map};
+ghost use Rattle.std.specs.Prelude.{◌≡◌, ℕ, ◌+◌, ◌++◌, ◌∷◌, [], None, cond, false, true, nat_eq};
+ghost use Rattle.std.specs.Prelude.{length, map};
 ghost use Rattle.std.specs.Prelude.{IfOk, OnOk, OnErr, IfSome, IfNone};
 ghost use Rattle.std.specs.Option.{option_map};
 ghost use Rattle.linda_hold.specs.Request.{request_of};
@@ -25,13 +26,14 @@ const KEPT: usize = 1_000;
 
 /// The requests that no tuple has answered yet, in order of arrival, each of them once.
 ///
-/// Each has a number, greater than those of all that came before it. The map that keeps them by their numbers is
-/// in no order: the index gives the numbers in theirs.
+/// Each has a number, greater than those of all that came before it. The map that keeps them by
+/// their numbers is in no order: the index gives the numbers in theirs.
 ///
-/// Clients do not choose the numbers, but they choose which requests they give up, so which numbers stay. With a
-/// hash that they can work out they could keep those that lie close together in the map, at four arrivals for three
-/// that stay, and then each call looks through a large part of it. So a program that serves strangers chooses random
-/// keys for the hash before the first of them asks (`choose_keys`).
+/// Clients do not choose the numbers, but they choose which requests they give up, so which numbers
+/// stay. With a hash that they can work out they could keep those that lie close together in the
+/// map, at four arrivals for three that stay, and then each call looks through a large part of it.
+/// So a program that serves strangers chooses random keys for the hash before the first of them
+/// asks (`choose_keys`).
 pub struct Waits {
     alloc: Global,
     by_arrival: IndexMap<u64, Wait, Keys>,
@@ -78,8 +80,8 @@ impl Waits {
         }
     }
 
-    /// Lets the numbers be hashed by random keys, which no client knows. If a request waits already, nothing
-    /// changes: so a program calls it as it begins.
+    /// Lets the numbers be hashed by random keys, which no client knows. If a request waits
+    /// already, nothing changes: so a program calls it as it begins.
     pub fn choose_keys(&mut self, keys: RandomState)
         ensures { self.new ≡ self.old }
     {
@@ -107,8 +109,8 @@ impl Waits {
     ///
     /// # Errors
     ///
-    /// `AllocError` where memory runs out, or the numbers do, which takes 2^64 arrivals; and then the waits are as
-    /// before and what was asked is dropped.
+    /// `AllocError` where memory runs out, or the numbers do, which takes 2^64 arrivals; and then
+    /// the waits are as before and what was asked is dropped.
     pub fn add(&mut self, request: Request, asked: Asked) -> Result<(), AllocError>
         requires { is_waiting request self.old ≡ false }
         ensures ok { OnOk result (self.new ≡ self.old ++ (request, asked) ∷ []) }
@@ -154,14 +156,15 @@ impl Waits {
 
     // The least ticket of the client's requests that wait; nothing where none does.
     fn first_ticket(&self, client: u32) -> Option<u64>
-        ensures waits { IfSome result (λ ticket. is_waiting (request_of client ticket) self.now ≡ true) }
+        ensures waits { IfSome result (λ ticket.
+            is_waiting (request_of client ticket) self.now ≡ true) }
         ensures none { IfNone result (waits_of client self.now ≡ []) }
     {
         self.index.names.first_ticket(client)
     }
 
-    /// Takes out the reads that the tuple answers, and gives them in order of arrival. The others keep
-    /// their order.
+    /// Takes out the reads that the tuple answers, and gives them in order of arrival. The others
+    /// keep their order.
     ///
     /// # Errors
     ///
@@ -175,17 +178,19 @@ impl Waits {
         Ok(awaiting.readers)
     }
 
-    /// Takes out the reads that the tuple answers, and gives them in order of arrival, with the input that
-    /// has waited longest of those that the tuple answers: it waits still. The others keep their order.
-    /// It goes once through the requests that the tuple may answer, and takes no memory where it answers
-    /// no read.
+    /// Takes out the reads that the tuple answers, and gives them in order of arrival, with the
+    /// input that has waited longest of those that the tuple answers: it waits still. The others
+    /// keep their order. It goes once through the requests that the tuple may answer, and takes no
+    /// memory where it answers no read.
     ///
     /// # Errors
     ///
     /// `AllocError` where memory runs out, and then the waits are as before.
     pub fn take_awaiting(&mut self, alloc: Global, tuple: &Tuple) -> Result<Awaiting, AllocError>
-        ensures readers { IfOk result (λ a. a.readers.items ≡ map (λ w. w.0) (readers tuple.now self.old)) }
-        ensures longest { IfOk result (λ a. a.longest ≡ option_map (λ w. w.0) (longest tuple.now self.old)) }
+        ensures readers { IfOk result (λ a.
+            a.readers.items ≡ map (λ w. w.0) (readers tuple.now self.old)) }
+        ensures longest { IfOk result (λ a.
+            a.longest ≡ option_map (λ w. w.0) (longest tuple.now self.old)) }
         ensures left { OnOk result (self.new ≡ without_readers tuple.now self.old) }
         ensures err { OnErr result (self.new ≡ self.old) }
     {
@@ -198,8 +203,10 @@ impl Waits {
 
     // The requests that wait for the tuple.
     fn awaiting(&self, alloc: Global, tuple: &Tuple) -> Result<Awaiting, AllocError>
-        ensures readers { IfOk result (λ a. a.readers.items ≡ map (λ w. w.0) (readers tuple.now self.now)) }
-        ensures longest { IfOk result (λ a. a.longest ≡ option_map (λ w. w.0) (longest tuple.now self.now)) }
+        ensures readers { IfOk result (λ a.
+            a.readers.items ≡ map (λ w. w.0) (readers tuple.now self.now)) }
+        ensures longest { IfOk result (λ a.
+            a.longest ≡ option_map (λ w. w.0) (longest tuple.now self.now)) }
         ensures distinct { AreDistinct self.now }
     {
         awaiting_among(
@@ -210,16 +217,17 @@ impl Waits {
         )
     }
 
-    /// Whether some request waits that the tuple answers. It looks at those alone that ask for its tag, its
-    /// number of fields, and its first field or no value there, and takes no memory.
+    /// Whether some request waits that the tuple answers. It looks at those alone that ask for its
+    /// tag, its number of fields, and its first field or no value there, and takes no memory.
     pub fn is_awaited(&self, tuple: &Tuple) -> bool
         ensures { result ≡ is_awaited tuple.now self.now }
     {
         is_answering_one(&self.by_arrival, arrivals(&self.index.heads, tuple), tuple)
     }
 
-    /// The input that has waited longest of those that the tuple answers. It looks at those alone that ask
-    /// for its tag, its number of fields, and its first field or no value there, and takes no memory.
+    /// The input that has waited longest of those that the tuple answers. It looks at those alone
+    /// that ask for its tag, its number of fields, and its first field or no value there, and takes
+    /// no memory.
     pub fn longest(&self, tuple: &Tuple) -> Option<Request>
         ensures { result ≡ option_map (λ w. w.0) (longest tuple.now self.now) }
     {
@@ -234,7 +242,8 @@ impl Waits {
     }
 }
 
-// Takes out the wait under the number. Once none is left, a map that grew large gives its memory back.
+// Takes out the wait under the number. Once none is left, a map that grew large gives its memory
+// back.
 fn take_out(by_arrival: &mut IndexMap<u64, Wait, Keys>, number: u64) -> Option<Wait>
     ensures value { result ≡ wait_at by_arrival.old.entries number }
     ensures others { (q : ℕ) → wait_at by_arrival.new.entries q

@@ -16,14 +16,16 @@ use Rattle.linda_inspect.specs.declared.fault.OutputFault.TheVariants as outputs
 abbrev pub MayStand : List ℕ → List ℕ → Type 0
 MayStand left right = (st : State) × Stands left right st
 
--- The fault says nothing of the banks: memory ran out, or the output failed; or a disk in memory failed.
+-- The fault says nothing of the banks: memory ran out, or the output failed; or a disk in memory
+-- failed.
 abbrev pub IsOfOutput : InspectFault → Type 0
 IsOfOutput fault = (fault ≡ faults.Memory) ⊎ ((fault ≡ faults.Io) ⊎ (fault ≡ faults.Disk))
 
 -- What a fault says of the bytes of two banks.
 abbrev pub IsFaultOf : List ℕ → List ℕ → InspectFault → Type 0
 IsFaultOf left right faults.NoStore = IsFaultOfBoth left right choices.NoStore
-IsFaultOf left right (faults.Damaged side offset) = IsFaultOfBoth left right (choices.Damaged side offset)
+IsFaultOf left right (faults.Damaged side offset) =
+    IsFaultOfBoth left right (choices.Damaged side offset)
 IsFaultOf left right faults.Disk = Unit {0}
 IsFaultOf left right faults.Memory = Unit {0}
 IsFaultOf left right faults.Io = Unit {0}

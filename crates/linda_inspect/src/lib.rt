@@ -1,8 +1,10 @@
-//! What the two banks of a store come to, read from their bytes alone and with no write: which one stands and why, its
-//! form, how much it keeps and takes, its tuples and clients; or what is damaged, and what is whole before that.
+//! What the two banks of a store come to, read from their bytes alone and with no write: which one
+//! stands and why, its form, how much it keeps and takes, its tuples and clients; or what is
+//! damaged, and what is whole before that.
 //!
-//! `write_report` ends well exactly where a server would open such banks, unless memory runs out or the output fails:
-//! where a state stands on them, or both are empty. Else it returns the fault that the server would return.
+//! `write_report` ends well exactly where a server would open such banks, unless memory runs out or
+//! the output fails: where a state stands on them, or both are empty. Else it returns the fault
+//! that the server would return.
 #![tactic(auto)]
 
 mod fault;

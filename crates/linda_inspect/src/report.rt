@@ -16,12 +16,14 @@ use linda_snap::{ChoiceFault, Chosen, choose_bank};
 use std::alloc::Global;
 use std::io::Write;
 
-/// Writes what two files of these bytes come to as the banks of a store, whose banks may have so many bytes: a line for
-/// each side, which one stands and why, and what it keeps. Where a bank is damaged, what is whole before that.
+/// Writes what two files of these bytes come to as the banks of a store, whose banks may have so
+/// many bytes: a line for each side, which one stands and why, and what it keeps. Where a bank is
+/// damaged, what is whole before that.
 ///
 /// # Errors
 ///
-/// `NoStore`, `Damaged` as a server returns them; `Memory`; `Io`, and then some first lines are written.
+/// `NoStore`, `Damaged` as a server returns them; `Memory`; `Io`, and then some first lines are
+/// written.
 pub fn write_report<W: Write>(
     alloc: Global,
     writer: &mut W,
@@ -30,7 +32,8 @@ pub fn write_report<W: Write>(
     limit: usize,
     lists: Lists,
 ) -> Result<(), InspectFault>
-    // It ends well only where a state stands on the two, or both are empty, where a server makes a store;
+    // It ends well only where a state stands on the two, or both are empty, where a server makes a
+    // store;
     ensures opens { OnOk result (((left.items ≡ []) × (right.items ≡ []))
         ⊎ MayStand left.items right.items) }
     // and there nothing but memory that runs out and a failed output keeps it from that.

@@ -12,11 +12,13 @@ use linda_journal::{CLOSED, MIN_BYTES};
 use linda_snap::{ChoiceFault, Chosen, choose_bank};
 use std::alloc::{AllocError, Global};
 
-// How often a prefix is cut off: at a record that is badly spelled, and then at one with a deed that is not allowed.
+// How often a prefix is cut off: at a record that is badly spelled, and then at one with a deed
+// that is not allowed.
 const CUTS: usize = 2;
 
-/// The bank that is whole before a damage at this offset: the bytes before it, with a closed gate after them. Where
-/// these are damaged in their turn, those before that. None where no record or snapshot is whole.
+/// The bank that is whole before a damage at this offset: the bytes before it, with a closed gate
+/// after them. Where these are damaged in their turn, those before that. None where no record or
+/// snapshot is whole.
 ///
 /// # Errors
 ///

@@ -29,14 +29,18 @@ headed form generation rest = OPEN ∷ magic form ++ (number.spell generation ++
 
 -- The same after its first gate, up to the journal.
 abbrev pub behind_gate : Form → ℕ → List ℕ → List ℕ
-behind_gate form generation body = magic form ++ (number.spell generation ++ (short_number.spell (length body) ++ body))
+behind_gate form generation body =
+    magic form ++ (number.spell generation ++ (short_number.spell (length body) ++ body))
 
--- What stands before the journal: an open gate, the magic, the generation, and a body after its length.
+-- What stands before the journal: an open gate, the magic, the generation, and a body after its
+-- length.
 abbrev pub head : Form → ℕ → List ℕ → List ℕ
 head form generation body = headed form generation (short_number.spell (length body) ++ body)
 
--- The bytes are the bank in this form, of this generation and with this body, whose journal has these records.
-pub record IsBank (form : Form) (file : List ℕ) (generation : ℕ) (body : List ℕ) (records : List (List Deed)) : Type 0 where
+-- The bytes are the bank in this form, of this generation and with this body, whose journal has
+-- these records.
+pub record IsBank (form : Form) (file : List ℕ) (generation : ℕ) (body : List ℕ)
+    (records : List (List Deed)) : Type 0 where
   pub low : 1 ≤ generation
   pub fits : generation < 2 ^ 64
   pub short : length body < 2 ^ 32
@@ -45,7 +49,8 @@ pub record IsBank (form : Form) (file : List ℕ) (generation : ℕ) (body : Lis
   pub journal : IsJournal form rest records
 
 -- The disk holds that bank, whose journal ends at this offset, and a crash now leaves it so.
-pub record IsSettled (form : Form) (generation : ℕ) (body : List ℕ) (records : List (List Deed)) (end : ℕ) (v : View) : Type 0 where
+pub record IsSettled (form : Form) (generation : ℕ) (body : List ℕ) (records : List (List Deed))
+    (end : ℕ) (v : View) : Type 0 where
   pub file : IsBank form v.seen generation body records
   pub place : length (head form generation body) + length (spell_records form records) ≡ end
   pub durable : IsDurable v
@@ -57,4 +62,5 @@ IsNoneOrNew form generation body file = (IsCandidate file → ⊥) ⊎ IsBank fo
 -- The bytes are the bank with the old records, or with one more.
 abbrev pub IsOldOrMore : Form → ℕ → List ℕ → List (List Deed) → List Deed → List ℕ → Type 0
 IsOldOrMore form generation body records deeds file =
-    IsBank form file generation body records ⊎ IsBank form file generation body (records ++ deeds ∷ [])
+    IsBank form file generation body records
+    ⊎ IsBank form file generation body (records ++ deeds ∷ [])

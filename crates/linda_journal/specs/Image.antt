@@ -35,7 +35,8 @@ pub record IsBroken (file : List ℕ) (offset : ℕ) : Type 0 where
 abbrev pub IsFaultOfBank : List ℕ → BankFault → Type 0
 IsFaultOfBank file faults.NoBank = IsCandidate file → ⊥
 IsFaultOfBank file (faults.Damaged offset) =
-    (IsHeading file headings.Foreign × (offset ≡ 1)) ⊎ ((IsCutShort file × (offset ≡ MIN_BYTES)) ⊎ IsBroken file offset)
+    (IsHeading file headings.Foreign × (offset ≡ 1))
+    ⊎ ((IsCutShort file × (offset ≡ MIN_BYTES)) ⊎ IsBroken file offset)
 IsFaultOfBank file faults.Memory = Unit {0}
 IsFaultOfBank file faults.Spent = ⊥
 IsFaultOfBank file faults.Full = ⊥

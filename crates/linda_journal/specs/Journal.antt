@@ -19,7 +19,8 @@ pub record IsJournal (form : Form) (bytes : List ℕ) (records : List (List Deed
 -- What stands after a gate is no record with the byte of a gate after it.
 abbrev pub IsNoRecord : Form → List ℕ → Type 0
 IsNoRecord form behind =
-    (ds : List Deed) (gate : ℕ) (rest : List ℕ) → IsRecord form ds → behind ≡ record_body form ds ++ gate ∷ rest → ⊥
+    (ds : List Deed) (gate : ℕ) (rest : List ℕ) → IsRecord form ds
+    → behind ≡ record_body form ds ++ gate ∷ rest → ⊥
 
 -- The bytes are some records, and then, at this place, an open gate with no record after it.
 pub record IsDamaged (form : Form) (bytes : List ℕ) (place : ℕ) : Type 0 where
@@ -48,4 +49,5 @@ AreAt form at rs = map (λ (r : Record). r.gate) rs ≡ places form at (deeds_of
 -- What a fault says of bytes that begin at this offset.
 abbrev pub IsFaultOf : Form → List ℕ → ℕ → JournalFault → Type 0
 IsFaultOf form bytes at Memory = Unit {0}
-IsFaultOf form bytes at (Damaged offset) = (place : ℕ) × (offset ≡ at + place) × IsDamaged form bytes place
+IsFaultOf form bytes at (Damaged offset) =
+    (place : ℕ) × (offset ≡ at + place) × IsDamaged form bytes place

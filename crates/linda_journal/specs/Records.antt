@@ -4,11 +4,19 @@ use Rattle.std.specs.List.{flat_map}
 use Rattle.linda_codec.specs.Formats.{short_number}
 use Rattle.linda_tuple.specs.declared.form.Form.{Form}
 use Rattle.linda_store_state.specs.declared.deed.Deed.{Deed}
-pub use Rattle.linda_store_state.specs.DeedFormat.{deed, spell_deed, FitsDeed, SuitsForm, IsUnspelled, payload}
+pub use Rattle.linda_store_state.specs.DeedFormat.{
+  deed,
+  spell_deed,
+  FitsDeed,
+  SuitsForm,
+  IsUnspelled,
+  payload,
+}
 use Rattle.linda_journal.specs.declared.kinds.TheConstants as kind
 use Rattle.linda_journal.specs.declared.limits.TheConstants.{MAX_DEEDS}
 
--- What has a spelling among records: one deed or more, no more than the limit, each with a spelling.
+-- What has a spelling among records: one deed or more, no more than the limit, each with a
+-- spelling.
 pub record IsRecord (form : Form) (ds : List Deed) : Type 0 where
   pub some : 1 ≤ length ds
   pub few : length ds ≤ MAX_DEEDS

@@ -1,4 +1,5 @@
--- How a disk that is not in use becomes a new bank: its gate is closed, then all stands after it, then it opens.
+-- How a disk that is not in use becomes a new bank: its gate is closed, then all stands after it,
+-- then it opens.
 use Rattle.std.specs.Prelude.{◌≡◌, ℕ, ◌+◌, ◌-◌, ◌/◌, ◌<◌, ◌≤◌, ◌^◌, ◌⊎◌, List, [], ◌∷◌, length}
 use Rattle.linda_tuple.specs.declared.form.Form.{Form}
 use Rattle.linda_disk.specs.View.{View}
@@ -23,21 +24,24 @@ IsOpenOrShort file = (length file < MIN_BYTES) ⊎ ((rest : List ℕ) × (file �
 abbrev pub IsSameOrNone : List ℕ → List ℕ → Type 0
 IsSameOrNone old file = (file ≡ old) ⊎ IsNoBank file
 
--- After a first gate that is still closed stands all of the new bank in this form, of this generation and with this
--- body, up to the closed gate of its journal at this offset; and a crash now leaves it so.
-pub record IsWhole (form : Form) (generation : ℕ) (body : List ℕ) (end : ℕ) (v : View) : Type 0 where
+-- After a first gate that is still closed stands all of the new bank in this form, of this
+-- generation and with this body, up to the closed gate of its journal at this offset; and a crash
+-- now leaves it so.
+pub record IsWhole (form : Form) (generation : ℕ) (body : List ℕ) (end : ℕ) (v : View)
+    : Type 0 where
   pub low : 1 ≤ generation
   pub fits : generation < 2 ^ 64
   pub short : length body < 2 ^ 32
   pub place : end ≡ MIN_BYTES + length body
   pub ready : IsReady [] 0 (behind_gate form generation body) v
 
--- In how many pieces so many bytes are written: all are whole but the last one, which has a byte where there is any.
+-- In how many pieces so many bytes are written: all are whole but the last one, which has a byte
+-- where there is any.
 abbrev pub pieces : ℕ → ℕ
 pieces bytes = (bytes - 1) / PIECE + 1
 
--- So many calls changed or synced a disk, and before them two more, a write and a sync, closed its first gate, where
--- that was not closed already on a disk of as many bytes as a bank has.
+-- So many calls changed or synced a disk, and before them two more, a write and a sync, closed its
+-- first gate, where that was not closed already on a disk of as many bytes as a bank has.
 abbrev pub TakesCalls : ℕ → View → View → Type 0
 TakesCalls calls old new =
     (IsOpenOrShort old.seen × (new.moment ≡ old.moment + (2 + calls)))

@@ -1,5 +1,6 @@
-//! A bank: what a server keeps on one disk, a body and then a journal. Its first letters tell the form in which it
-//! spells values: one that is made is in `BANK_FORM`, one that is opened stays in its own.
+//! A bank: what a server keeps on one disk, a body and then a journal. Its first letters tell the
+//! form in which it spells values: one that is made is in `BANK_FORM`, one that is opened stays in
+//! its own.
 
 ghost use Rattle.std.specs.Prelude.{◌≡◌, ◌<◌, ◌≤◌, ◌+◌, ◌^◌, [], ◌↔◌, ℕ, List, length, IfOk, IfErr};
 ghost use Rattle.std.specs.Prelude.{true, false};
@@ -77,8 +78,8 @@ impl<D: Disk> Bank<D> {
         self.limit
     }
 
-    /// Ends the use of the bank: `append` returns `Spent` then, and the disk is to be opened again. No device call
-    /// is made.
+    /// Ends the use of the bank: `append` returns `Spent` then, and the disk is to be opened again.
+    /// No device call is made.
     pub fn retire(&mut self)
         ensures spent { self.new.is_spent ≡ true }
         ensures same { (self.new.disk ≡ self.old.disk) × (self.new.form ≡ self.old.form)
@@ -96,13 +97,14 @@ impl<D: Disk> Bank<D> {
         disk
     }
 
-    /// Makes a bank of this generation with this body, whose journal has no record, on an empty disk: a closed gate
-    /// and a sync, all that stands after it and a sync, the gate opened and a sync. It is in `BANK_FORM`.
+    /// Makes a bank of this generation with this body, whose journal has no record, on an empty
+    /// disk: a closed gate and a sync, all that stands after it and a sync, the gate opened and a
+    /// sync. It is in `BANK_FORM`.
     ///
     /// # Errors
     ///
-    /// `Full` and `Memory` before the disk is touched; `Disk` where the device failed, and `Memory` where the
-    /// disk found none. Each hands the disk back.
+    /// `Full` and `Memory` before the disk is touched; `Disk` where the device failed, and `Memory`
+    /// where the disk found none. Each hands the disk back.
     pub fn create(
         alloc: Global,
         disk: D,
@@ -114,7 +116,8 @@ impl<D: Disk> Bank<D> {
         requires short { length body.now < 2 ^ 32 }
         ensures done { D.honest disk
             → IfOk result (λ b. IsSettled written generation body.now [] b.end (D.view b.disk)) }
-        ensures new { IfOk result (λ b. (b.form ≡ written) × (b.generation ≡ generation) × (b.limit ≡ limit)
+        ensures new { IfOk result (λ b. (b.form ≡ written) × (b.generation ≡ generation)
+            × (b.limit ≡ limit)
             × (b.records ≡ 0) × (b.is_spent ≡ false)) }
         // At no moment a crash leaves another bank than the whole one.
         ensures any_moment { D.honest disk → IsDurable (D.view disk) → (D.view disk).seen ≡ []
@@ -122,7 +125,8 @@ impl<D: Disk> Bank<D> {
             (IsNoneOrNew written generation body.now))
             × IfErr result (λ e. LeavesOnly (D.view disk) (D.view e.1)
             (IsNoneOrNew written generation body.now)) }
-        // It is Full exactly where the bank is longer than its limit, and then the disk is as it was.
+        // It is Full exactly where the bank is longer than its limit, and then the disk is as it
+        // was.
         ensures room { IfOk result (λ b. b.end < limit) }
         ensures full { IfErr result (λ e.
             (e.0 ≡ BankFault.Full ↔ limit < MIN_BYTES + 1 + length body.now)
@@ -157,8 +161,9 @@ impl<D: Disk> Bank<D> {
         }
     }
 
-    /// Opens the bank that the disk holds, and gives its body and the records of its journal, which is read in the
-    /// form that the bank's letters tell. The disk is synced first; nothing is written.
+    /// Opens the bank that the disk holds, and gives its body and the records of its journal, which
+    /// is read in the form that the bank's letters tell. The disk is synced first; nothing is
+    /// written.
     ///
     /// # Errors
     ///
@@ -177,8 +182,8 @@ impl<D: Disk> Bank<D> {
         }
     }
 
-    /// Opens a bank as `open` does, on a disk of which a crash leaves what a read gives, as after a sync. It is not
-    /// synced again.
+    /// Opens a bank as `open` does, on a disk of which a crash leaves what a read gives, as after a
+    /// sync. It is not synced again.
     ///
     /// # Errors
     ///
@@ -209,15 +214,15 @@ impl<D: Disk> Bank<D> {
         }
     }
 
-    /// Adds one record of these deeds to the journal, spelled in the bank's form: a write of all of it after the closed
-    /// gate at the end, a sync, a write that opens the gate, a sync.
+    /// Adds one record of these deeds to the journal, spelled in the bank's form: a write of all of
+    /// it after the closed gate at the end, a sync, a write that opens the gate, a sync.
     ///
     /// # Errors
     ///
-    /// `Spent` before all others, then `Full` where one of the deeds has no spelling in the bank's form or the record
-    /// would pass the limit, which is judged before the record is spelled, and then `Memory`: all is as before. `Disk`
-    /// where the device failed, and `Memory` where the disk found none: the record is there or it is not, and the bank
-    /// is spent.
+    /// `Spent` before all others, then `Full` where one of the deeds has no spelling in the bank's
+    /// form or the record would pass the limit, which is judged before the record is spelled, and
+    /// then `Memory`: all is as before. `Disk` where the device failed, and `Memory` where the disk
+    /// found none: the record is there or it is not, and the bank is spent.
     pub fn append(&mut self, alloc: Global, deeds: &[Deed]) -> Result<(), BankFault>
         requires some { 1 ≤ length deeds.now }
         requires few { length deeds.now ≤ MAX_DEEDS }
@@ -246,8 +251,8 @@ impl Bank<MemDisk> {
     ghost use Rattle.linda_disk.specs.declared.trouble.Power.TheVariants.{OnFor};
     ghost use Rattle.linda_disk.specs.MemDisk as mem_disk;
 
-    /// Lets so many writes, cuts and syncs more pass on the bank's disk, and then the power goes off inside the next
-    /// one, as `MemDisk::fuse` says. Nothing else changes.
+    /// Lets so many writes, cuts and syncs more pass on the bank's disk, and then the power goes
+    /// off inside the next one, as `MemDisk::fuse` says. Nothing else changes.
     pub fn fuse(&mut self, passes: u64)
         ensures trouble { mem_disk.trouble self.new.disk
             ≡ record { power = OnFor passes; failing = (mem_disk.trouble self.old.disk).failing } }
@@ -261,17 +266,19 @@ impl Bank<MemDisk> {
     }
 }
 
-/// Opens the first gate of a disk on which all of a new bank stands, in `BANK_FORM`: a write of that gate and a sync.
+/// Opens the first gate of a disk on which all of a new bank stands, in `BANK_FORM`: a write of
+/// that gate and a sync.
 ///
 /// # Errors
 ///
-/// `Device` where the device failed, `Memory` where the disk found none; each hands the disk back, on which the gate
-/// may be open.
+/// `Device` where the device failed, `Memory` where the disk found none; each hands the disk back,
+/// on which the gate may be open.
 pub fn unlock<D: Disk>(whole: Whole<D>, limit: usize) -> Result<Bank<D>, (DiskFault, D)>
     ensures done { (body : List ℕ) → D.honest whole.disk
         → IsWhole written whole.generation body whole.end (D.view whole.disk)
         → IfOk result (λ b. IsSettled written whole.generation body [] b.end (D.view b.disk)) }
-    ensures new { IfOk result (λ b. (b.form ≡ written) × (b.generation ≡ whole.generation) × (b.limit ≡ limit)
+    ensures new { IfOk result (λ b. (b.form ≡ written) × (b.generation ≡ whole.generation)
+        × (b.limit ≡ limit)
         × (b.end ≡ whole.end) × (b.records ≡ 0) × (b.is_spent ≡ false)) }
     // At no moment a crash leaves another bank than the whole new one.
     ensures any_moment { (body : List ℕ) → D.honest whole.disk

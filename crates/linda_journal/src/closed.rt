@@ -1,4 +1,5 @@
-//! A disk that is not in use, with its first gate closed, so that a new bank can be written after that gate.
+//! A disk that is not in use, with its first gate closed, so that a new bank can be written after
+//! that gate.
 
 ghost use Rattle.std.specs.Prelude.{◌≡◌, ◌≤◌, ◌↔◌, true, false, length, IfOk, IfErr, OnOk};
 ghost use Rattle.std.specs.Prelude.{IsErrOf};
@@ -6,13 +7,15 @@ ghost use Rattle.linda_disk.specs.View.{IsDurable};
 ghost use Rattle.linda_disk.specs.Disk.{CountsFailure, TellsFailures};
 ghost use Rattle.linda_disk.specs.Run.{LeavesOnly};
 ghost use Rattle.linda_journal.specs.declared.limits.TheConstants.{MIN_BYTES};
-ghost use Rattle.linda_journal.specs.Renewal.{IsNoBank, IsClosed, IsOpenOrShort, IsSameOrNone, TakesCalls};
+ghost use Rattle.linda_journal.specs.Renewal.{IsNoBank, IsClosed, IsOpenOrShort, IsSameOrNone};
+ghost use Rattle.linda_journal.specs.Renewal.{TakesCalls};
 
 use crate::kinds::{CLOSED, OPEN};
 use crate::limits::MIN_BYTES;
 use linda_disk::{Disk, DiskFault};
 
-/// A disk whose first gate is closed, and a crash leaves it so: it holds no bank, whatever is written after the gate.
+/// A disk whose first gate is closed, and a crash leaves it so: it holds no bank, whatever is
+/// written after the gate.
 #[derive(Drop)]
 pub struct Closed<D: Disk> {
     pub(crate) disk: D,
@@ -32,8 +35,9 @@ impl<D: Disk> Closed<D> {
     }
 }
 
-/// Closes the first gate of a disk that is not in use: a write of that gate and a sync. Where the disk has as many
-/// bytes as a bank and its first gate is closed already, nothing is written: to write over it might open it.
+/// Closes the first gate of a disk that is not in use: a write of that gate and a sync. Where the
+/// disk has as many bytes as a bank and its first gate is closed already, nothing is written: to
+/// write over it might open it.
 ///
 /// # Errors
 ///

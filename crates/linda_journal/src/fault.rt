@@ -15,14 +15,15 @@ pub enum BankFault {
     /// An earlier `append` was cut off by its disk, and the bank is to be opened again.
     #[error("the bank is to be opened again")]
     Spent,
-    /// The bank would pass its limit, or one of the record's deeds has no spelling in the bank's form.
+    /// The bank would pass its limit, or one of the record's deeds has no spelling in the bank's
+    /// form.
     #[error("the bank is full")]
     Full,
     /// The disk holds no bank: fewer bytes than a bank has, or a first gate that is closed.
     #[error("no bank")]
     NoBank,
-    /// The bank is damaged at this offset: 1 where it begins otherwise or has no generation, 17 where its
-    /// body is cut short, else the offset of the first open gate with no record after it.
+    /// The bank is damaged at this offset: 1 where it begins otherwise or has no generation, 17
+    /// where its body is cut short, else the offset of the first open gate with no record after it.
     #[error("damaged at {0}")]
     Damaged(usize),
     /// The device failed, which it counts.

@@ -1,5 +1,5 @@
-//! The two steps by which a body comes onto a disk whole or not at all: first it is written after a gate
-//! that is closed, and only once it is there the gate is opened.
+//! The two steps by which a body comes onto a disk whole or not at all: first it is written after a
+//! gate that is closed, and only once it is there the gate is opened.
 
 ghost use Rattle.std.specs.Prelude.{◌≡◌, ◌∷◌, [], ◌++◌, ◌<◌, ◌≤◌, ◌+◌, ◌^◌, ◌↔◌, ℕ, List, length};
 ghost use Rattle.std.specs.Prelude.{OnOk};
@@ -12,8 +12,8 @@ ghost use Rattle.linda_journal.specs.Gate.{ClosesAfter, IsShut, IsReady, IsClose
 use crate::kinds::{CLOSED, OPEN};
 use linda_disk::{Disk, DiskFault};
 
-/// Writes these bytes, a body and a closed gate, after the gate at this offset, which is closed; and sees
-/// to it that they are on the disk.
+/// Writes these bytes, a body and a closed gate, after the gate at this offset, which is closed;
+/// and sees to it that they are on the disk.
 ///
 /// # Errors
 ///
@@ -22,7 +22,8 @@ pub(crate) fn stage<D: Disk>(disk: &mut D, gate: usize, bytes: &[u8]) -> Result<
     requires room { gate + 1 < 2 ^ 64 }
     requires within { D.honest disk.old → gate < length (D.view disk.old).seen }
     ensures ready { (front body : List ℕ) → bytes.now ≡ body ++ CLOSED ∷ [] → D.honest disk.old
-        → IsShut front gate (D.view disk.old) → OnOk result (IsReady front gate body (D.view disk.new)) }
+        → IsShut front gate (D.view disk.old)
+        → OnOk result (IsReady front gate body (D.view disk.new)) }
     ensures any_moment { (front : List ℕ) → D.honest disk.old → IsShut front gate (D.view disk.old)
         → LeavesOnly (D.view disk.old) (D.view disk.new) (ClosesAfter front) }
     ensures long { D.honest disk.old

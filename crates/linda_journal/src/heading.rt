@@ -54,7 +54,8 @@ pub fn read_heading(bytes: &[u8]) -> Heading
 // The form that the letters tell, and what stands after them; None where others stand there.
 fn behind_magic(bytes: &[u8]) -> Option<(Form, &[u8])>
     ensures found { IfSome result (λ o. bytes.now ≡ magic o.0 ++ o.1.now) }
-    ensures none { IfNone result ((form : forms.Form) (rest : List ℕ) → bytes.now ≡ magic form ++ rest → ⊥) }
+    ensures none { IfNone result ((form : forms.Form) (rest : List ℕ)
+        → bytes.now ≡ magic form ++ rest → ⊥) }
 {
     match bytes {
         [b'L', b'N', b'D', b'1', rest @ ..] => Some((Form::One, rest)),

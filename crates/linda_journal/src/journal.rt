@@ -20,8 +20,8 @@ pub enum JournalFault {
     /// No memory for the records.
     #[error("out of memory")]
     Memory,
-    /// The offset of the first open gate with no record after it: what is there is cut short, is not
-    /// 1 to 64 deeds that fill their length, or has no gate after it.
+    /// The offset of the first open gate with no record after it: what is there is cut short, is
+    /// not 1 to 64 deeds that fill their length, or has no gate after it.
     #[error("no record at {0}")]
     Damaged(usize),
 }
@@ -64,7 +64,8 @@ pub fn read_journal(
 ) -> Result<Journal, JournalFault>
     requires { at < length bytes.now }
     // What is read stands there,
-    ensures found { IfOk result (λ j. IsJournal form (drop at bytes.now) (deeds_of j.records.items)) }
+    ensures found { IfOk result (λ j.
+        IsJournal form (drop at bytes.now) (deeds_of j.records.items)) }
     // each record at its offset.
     ensures places { IfOk result (λ j. AreAt form at j.records.items
         × (j.end ≡ at + length (spell_records form (deeds_of j.records.items)))) }
@@ -85,7 +86,8 @@ pub fn read_journal(
 // Reads record after record. The clauses on other readings follow from these.
 fn collect(alloc: Global, form: Form, bytes: &[u8], at: usize) -> Result<Journal, JournalFault>
     requires { at < length bytes.now }
-    ensures found { IfOk result (λ j. IsJournal form (drop at bytes.now) (deeds_of j.records.items)) }
+    ensures found { IfOk result (λ j.
+        IsJournal form (drop at bytes.now) (deeds_of j.records.items)) }
     ensures places { IfOk result (λ j. AreAt form at j.records.items
         × (j.end ≡ at + length (spell_records form (deeds_of j.records.items)))) }
     ensures fault { IfErr result (IsFaultOf form (drop at bytes.now) at) }

@@ -11,10 +11,12 @@ pub const GATE_BYTES: usize = 1;
 // The bytes of the letters that tell the form of a bank.
 const LETTER_BYTES: usize = 4;
 
-/// The offset of the length of a bank's body: its first gate, the letters and the generation come before it.
+/// The offset of the length of a bank's body: its first gate, the letters and the generation come
+/// before it.
 pub const LENGTH_PLACE: usize = GATE_BYTES + LETTER_BYTES + NUMBER_BYTES;
 
-/// The bytes that every bank has: its first gate, four letters, the generation, and the length of its body.
+/// The bytes that every bank has: its first gate, four letters, the generation, and the length of
+/// its body.
 pub const MIN_BYTES: usize = LENGTH_PLACE + SHORT_NUMBER_BYTES;
 
 /// The bytes of a record before its deeds: its gate and the length of its payload.

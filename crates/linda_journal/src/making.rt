@@ -21,8 +21,8 @@ use linda_store_state::BANK_FORM;
 use linda_tuple::Form;
 use std::alloc::{AllocError, Global};
 
-/// What is to stand after the first gate of a new bank, which is in `BANK_FORM`, with the closed gate of its journal at
-/// its end.
+/// What is to stand after the first gate of a new bank, which is in `BANK_FORM`, with the closed
+/// gate of its journal at its end.
 pub fn spell_front(alloc: Global, generation: u64, body: &[u8]) -> Result<Vec<u8>, AllocError>
     requires { length body.now < 2 ^ 32 }
     ensures { IfOk result (λ v. v.items ≡ behind_gate written generation body.now ++ CLOSED ∷ []) }
@@ -33,8 +33,9 @@ pub fn spell_front(alloc: Global, generation: u64, body: &[u8]) -> Result<Vec<u8
     Ok(out)
 }
 
-/// What a new bank, which is in `BANK_FORM`, has between its first gate and a body of so many bytes. There is room for
-/// the body and the closed gate behind it, so a body that is spelled there is in memory once.
+/// What a new bank, which is in `BANK_FORM`, has between its first gate and a body of so many
+/// bytes. There is room for the body and the closed gate behind it, so a body that is spelled there
+/// is in memory once.
 ///
 /// # Errors
 ///
@@ -50,9 +51,11 @@ pub fn spell_heading(alloc: Global, generation: u64, len: usize) -> Result<Vec<u
     Ok(out)
 }
 
-// Appends the letters of the form and the generation. Where memory runs out, a part of them may stand there.
+// Appends the letters of the form and the generation. Where memory runs out, a part of them may
+// stand there.
 fn push_heading(form: Form, out: &mut Vec<u8>, generation: u64) -> Result<(), AllocError>
-    ensures { OnOk result (out.new.items ≡ out.old.items ++ (magic form ++ number.spell generation)) }
+    ensures { OnOk result (out.new.items
+        ≡ out.old.items ++ (magic form ++ number.spell generation)) }
 {
     out.extend_from_slice(&letters(form))?;
     out.extend_from_slice(&generation.to_be_bytes())
@@ -68,7 +71,8 @@ fn letters(form: Form) -> [u8; 4]
     }
 }
 
-/// Puts these bytes, with a closed gate at their end, after an open gate at the front of an empty disk.
+/// Puts these bytes, with a closed gate at their end, after an open gate at the front of an empty
+/// disk.
 ///
 /// # Errors
 ///
@@ -79,7 +83,8 @@ pub(crate) fn inscribe<D: Disk>(disk: &mut D, bytes: &[u8]) -> Result<(), BankFa
     ensures any_moment { (body : List ℕ) → bytes.now ≡ body ++ CLOSED ∷ [] → D.honest disk.old
         → IsDurable (D.view disk.old) → (D.view disk.old).seen ≡ []
         → LeavesOnly (D.view disk.old) (D.view disk.new) (IsLaid body) }
-    ensures long { D.honest disk.old → OnOk result (length bytes.now < length (D.view disk.new).seen) }
+    ensures long { D.honest disk.old
+        → OnOk result (length bytes.now < length (D.view disk.new).seen) }
     ensures known { IsErrOf result BankFault.Full → ⊥ }
     ensures honest { D.honest disk.old ↔ D.honest disk.new }
     ensures cause { IfErr result (λ fault. TellsFailures BankFault.Disk fault

@@ -1,6 +1,7 @@
 //! A bank read from its disk.
 
-ghost use Rattle.std.specs.Prelude.{◌≡◌, ◌≢◌, ◌<◌, ◌≤◌, ◌+◌, ◌-◌, ◌↔◌, take, drop, length, IfOk, IfErr, OnOk};
+ghost use Rattle.std.specs.Prelude.{◌≡◌, ◌≢◌, ◌<◌, ◌≤◌, ◌+◌, ◌-◌, ◌↔◌, take, drop, length, IfOk};
+ghost use Rattle.std.specs.Prelude.{IfErr, OnOk};
 ghost use Rattle.linda_disk.specs.View.{IsDurable};
 ghost use Rattle.linda_disk.specs.Disk.{TellsFailures};
 ghost use Rattle.linda_disk.specs.Run.{LeavesOnly};
@@ -37,7 +38,8 @@ pub(crate) fn load<D: Disk>(alloc: Global, disk: &mut D) -> Result<Contents, Ban
         (deeds_of o.journal.records.items) o.journal.end (D.view disk.new)) }
     ensures within { D.honest disk.old
         → IfOk result (λ o. o.journal.end < length (D.view disk.new).seen) }
-    ensures gates { IfOk result (λ o. AreAt o.form (MIN_BYTES + length o.body.items) o.journal.records.items) }
+    ensures gates { IfOk result (λ o.
+        AreAt o.form (MIN_BYTES + length o.body.items) o.journal.records.items) }
     ensures counted { IfOk result (λ o. length o.journal.records.items ≤ o.journal.end) }
     ensures seen { D.honest disk.old
         → OnOk result ((D.view disk.new).seen ≡ (D.view disk.old).seen) }
@@ -62,8 +64,8 @@ pub(crate) fn load<D: Disk>(alloc: Global, disk: &mut D) -> Result<Contents, Ban
     })
 }
 
-// The body of a bank of these bytes, whose journal begins at this offset. It is left in their memory, and the room of
-// the others is given back.
+// The body of a bank of these bytes, whose journal begins at this offset. It is left in their
+// memory, and the room of the others is given back.
 fn body_of(bytes: Vec<u8>, at: usize) -> Vec<u8>
     requires { (MIN_BYTES ≤ at) × (at ≤ length bytes.items) }
     ensures { result.items ≡ take (at - MIN_BYTES) (drop MIN_BYTES bytes.items) }

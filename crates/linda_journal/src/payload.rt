@@ -13,7 +13,8 @@ use linda_store_state::Deed;
 use linda_tuple::Form;
 use std::alloc::{AllocError, Global};
 
-/// The deeds that all of the payload spells; None where it spells no record's. They are counted first, without memory.
+/// The deeds that all of the payload spells; None where it spells no record's. They are counted
+/// first, without memory.
 pub(crate) fn read_payload(
     alloc: Global,
     form: Form,
@@ -61,7 +62,8 @@ fn read_deeds(
     count: usize,
     payload: &[u8],
 ) -> Result<Vec<Deed>, AllocError>
-    ensures { (ds : List deed.Deed) → IsRecord form ds → payload.now ≡ format.payload form ds → length ds ≡ count
+    ensures { (ds : List deed.Deed) → IsRecord form ds → payload.now ≡ format.payload form ds
+        → length ds ≡ count
         → IfOk result (λ v. v.items ≡ ds) }
 {
     match read_list(alloc, form, count, payload) {

@@ -25,8 +25,8 @@ pub struct Record {
     pub deeds: Vec<Deed>,
 }
 
-/// The deeds of the record after an open gate, and the bytes from the next gate on. None where no record
-/// stands there with the byte of a gate after it.
+/// The deeds of the record after an open gate, and the bytes from the next gate on. None where no
+/// record stands there with the byte of a gate after it.
 pub(crate) fn read_record(
     alloc: Global,
     form: Form,
@@ -52,8 +52,8 @@ pub(crate) fn read_record(
     }
 }
 
-/// What is to stand after the gate of the record of these deeds, with a closed gate at its end: as many bytes as the
-/// record has, which are these.
+/// What is to stand after the gate of the record of these deeds, with a closed gate at its end: as
+/// many bytes as the record has, which are these.
 pub(crate) fn spell_body(
     alloc: Global,
     form: Form,

@@ -25,8 +25,8 @@ pub struct Whole<D: Disk> {
     ghost inside: { D.honest disk → end < length (D.view disk).seen },
 }
 
-/// Writes these bytes, what stands after the first gate of a new bank of this generation, in order and in pieces; and
-/// then sees to it that they are on the disk.
+/// Writes these bytes, what stands after the first gate of a new bank of this generation, in order
+/// and in pieces; and then sees to it that they are on the disk.
 ///
 /// # Errors
 ///
@@ -78,14 +78,16 @@ fn write_behind<D: Disk>(disk: &mut D, bytes: &[u8]) -> Result<(), DiskFault>
     ensures honest { D.honest disk.old ↔ D.honest disk.new }
     ensures cause { CountsFailure result (D.failures disk.old) (D.failures disk.new) }
     ensures clock { D.honest disk.old
-        → OnOk result ((D.view disk.new).moment ≡ (D.view disk.old).moment + (pieces (length bytes.now) + 1)) }
+        → OnOk result ((D.view disk.new).moment
+        ≡ (D.view disk.old).moment + (pieces (length bytes.now) + 1)) }
 {
     write_pieces(disk, bytes)?;
     disk.sync()?;
     Ok(())
 }
 
-// Writes these bytes from offset 1 on, in order and in pieces, of which the last one may be shorter.
+// Writes these bytes from offset 1 on, in order and in pieces, of which the last one may be
+// shorter.
 fn write_pieces<D: Disk>(disk: &mut D, bytes: &[u8]) -> Result<(), DiskFault>
     requires closed { D.honest disk.old → IsClosed (D.view disk.old).seen }
     requires durable { D.honest disk.old → IsDurable (D.view disk.old) }
@@ -96,7 +98,8 @@ fn write_pieces<D: Disk>(disk: &mut D, bytes: &[u8]) -> Result<(), DiskFault>
     ensures honest { D.honest disk.old ↔ D.honest disk.new }
     ensures cause { CountsFailure result (D.failures disk.old) (D.failures disk.new) }
     ensures clock { D.honest disk.old
-        → OnOk result ((D.view disk.new).moment ≡ (D.view disk.old).moment + pieces (length bytes.now)) }
+        → OnOk result ((D.view disk.new).moment
+        ≡ (D.view disk.old).moment + pieces (length bytes.now)) }
 {
     let mut at = 1;
     let mut rest = bytes;

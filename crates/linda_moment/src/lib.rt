@@ -1,7 +1,8 @@
 //! A value as it was at one moment, which contracts alone see.
 //!
-//! A `Moment<T>` takes no bytes and owns nothing: its ghost field names what was behind a reference when it was made.
-//! So it may go to another thread whatever `T` is, and a struct that keeps one is `Send` where its other fields are.
+//! A `Moment<T>` takes no bytes and owns nothing: its ghost field names what was behind a reference
+//! when it was made. So it may go to another thread whatever `T` is, and a struct that keeps one is
+//! `Send` where its other fields are.
 #![tactic(auto)]
 
 ghost use Rattle.std.specs.Prelude.{◌≡◌};

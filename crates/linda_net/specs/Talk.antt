@@ -1,4 +1,5 @@
--- What a connection decides: how many of its messages go together, what it answers a greeting, and its last word.
+-- What a connection decides: how many of its messages go together, what it answers a greeting, and
+-- its last word.
 use Rattle.std.specs.Prelude.{ℕ, suc, max, Bool, true, false, if◌then◌else◌, List, [], ◌∷◌}
 use Rattle.std.specs.Prelude.{Option, Some, None, Result, Ok, Err}
 use Rattle.linda_wire.specs.declared.message.Message.{Message}
@@ -29,8 +30,8 @@ abbrev pub requests : List Message → ℕ
 requests [] = 0
 requests (m ∷ ms) = if is_hello m then 0 else suc (requests ms)
 
--- How many messages are taken at once: of a client that was greeted all before the next Hello; a Hello by itself, and
--- each message before the greeting.
+-- How many messages are taken at once: of a client that was greeted all before the next Hello; a
+-- Hello by itself, and each message before the greeting.
 abbrev pub at_once : {A : Type 0} → Option A → List Message → ℕ
 at_once None ms = 1
 at_once (Some seat) ms = max 1 (requests ms)
@@ -55,8 +56,8 @@ ended_by (shared.Stuck client) = faults.Down
 ended_by shared.NoThread = faults.Down
 ended_by shared.Memory = faults.Memory
 
--- What a connection is told at its end: that a frame is none, with its offset, or that the server is down; else
--- nothing.
+-- What a connection is told at its end: that a frame is none, with its offset, or that the server
+-- is down; else nothing.
 abbrev pub last_word : Result End ConverseFault → Option Reply
 last_word (Ok (ends.Ended rest)) = None
 last_word (Ok (ends.Malformed offset)) = Some (refused (refusals.Malformed offset))

@@ -1,4 +1,5 @@
--- What whoever watches is told: which troubles there are, which of them comes first, and what a snapshot came to.
+-- What whoever watches is told: which troubles there are, which of them comes first, and what a
+-- snapshot came to.
 use Rattle.std.specs.Prelude.{ℕ, nat_lt, Bool, true, false, Option, Some, None, Result, Ok, Err}
 use Rattle.linda_shared_accounts.specs.declared.fault.SharedFault.{SharedFault}
 use Rattle.linda_shared_accounts.specs.declared.fault.SharedFault.TheVariants as faults

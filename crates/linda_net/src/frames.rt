@@ -11,8 +11,8 @@ use linda_wire::{Reply, encode_reply};
 use std::alloc::AllocError;
 use std::io::Write;
 
-/// Writes the frames of the replies, in order, and then those of the last ones. They are spelled in these bytes,
-/// whatever those were.
+/// Writes the frames of the replies, in order, and then those of the last ones. They are spelled in
+/// these bytes, whatever those were.
 ///
 /// # Errors
 ///

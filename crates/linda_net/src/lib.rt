@@ -1,8 +1,10 @@
 //! What stands between sockets and servers.
 //!
-//! - `serve` gives each connection of a listener its threads, over a server that they share; `serve_watched` also tells a
+//! - `serve` gives each connection of a listener its threads, over a server that they share;
+//!   `serve_watched` also tells a
 //!   `Watcher` what happens.
-//! - The reading loop is that of linda_net_pump, and a client's connections are those of linda_net_proxy: both are
+//! - The reading loop is that of linda_net_pump, and a client's connections are those of
+//!   linda_net_proxy: both are
 //!   named here too.
 #![tactic(auto)]
 

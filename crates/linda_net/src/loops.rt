@@ -1,10 +1,13 @@
-//! Serving the connections of a listener without a thread for each: a few loops, each of which waits until some of its
-//! connections are ready, takes what they sent to the server as one group, and writes what that led to.
+//! Serving the connections of a listener without a thread for each: a few loops, each of which
+//! waits until some of its connections are ready, takes what they sent to the server as one group,
+//! and writes what that led to.
 //!
 //! - `Loops` are all of them, and run in threads of their own.
-//! - A `Loop` has some of the connections (`Sessions`), and what of theirs goes to the server next (`Batch`).
+//! - A `Loop` has some of the connections (`Sessions`), and what of theirs goes to the server next
+//!   (`Batch`).
 //! - A `Connection` is read and written without waiting for it.
-//! - A `Relay` is what others hand to a loop: connections that came, and replies to its clients. `Relays` has them all,
+//! - A `Relay` is what others hand to a loop: connections that came, and replies to its clients.
+//!   `Relays` has them all,
 //!   which loop serves which client, and what is counted.
 
 mod batch;

@@ -91,8 +91,8 @@ impl Marks {
         let _ = self.missed.fetch_add(1, Ordering::SeqCst);
     }
 
-    /// This reply goes out: if it says that the bank is full, or refuses its client for what an operator may mend, that
-    /// is counted.
+    /// This reply goes out: if it says that the bank is full, or refuses its client for what an
+    /// operator may mend, that is counted.
     pub(crate) fn sends(&self, reply: &Reply) {
         if tells_full(reply) {
             let _ = self.refused.fetch_add(1, Ordering::SeqCst);

@@ -3,7 +3,8 @@
 ghost use Rattle.std.specs.Prelude.{◌≡◌, ◌≤◌, None, length, take, All, IfOk, IfErr};
 ghost use Rattle.linda_store_step.specs.declared.size.TheConstants.{MAX_BATCH};
 ghost use Rattle.linda_shared_queue.specs.Seat.{IsRequest};
-ghost use Rattle.linda_net.specs.Talk.{is_hello, requests, at_once, told_of, seat_of, ended_by, last_word};
+ghost use Rattle.linda_net.specs.Talk.{is_hello, requests, at_once, told_of, seat_of, ended_by};
+ghost use Rattle.linda_net.specs.Talk.{last_word};
 ghost use Rattle.linda_net_pump.specs.Pumping.{IsOfIntake};
 ghost use Rattle.linda_shared.specs.Greeting.{greeting_of};
 
@@ -46,7 +47,8 @@ impl<D: Disk, L: Ledger, R: Wait> Intake for Reader<'_, D, L, R> {
 }
 
 impl<D: Disk, L: Ledger, R: Wait> Reader<'_, D, L, R> {
-    // Takes the first of these messages, as many as are taken at once, and writes what they led to. Returns how many.
+    // Takes the first of these messages, as many as are taken at once, and writes what they led to.
+    // Returns how many.
     fn take_some(&mut self, messages: &[Message]) -> Result<usize, ConverseFault>
         requires some { 1 ≤ length messages.now }
         requires few { length messages.now ≤ MAX_BATCH }
@@ -91,12 +93,14 @@ impl<D: Disk, L: Ledger, R: Wait> Reader<'_, D, L, R> {
         }
     }
 
-    // A client that is welcome has its seat and its outlet from now on. Returns what it is answered.
+    // A client that is welcome has its seat and its outlet from now on. Returns what it is
+    // answered.
     fn settle(&mut self, greeted: Greeted<L>) -> Result<Reply, ConverseFault>
         requires { self.old.seat ≡ None }
         ensures reply { IfOk result (λ reply. reply ≡ told_of (greeting_of greeted)) }
         ensures seat { IfOk result (λ _. self.new.seat ≡ seat_of (greeting_of greeted)) }
-        ensures err { IfErr result (λ fault. (fault ≡ ConverseFault.Memory) × (self.new.seat ≡ None)) }
+        ensures err { IfErr result (λ fault. (fault ≡ ConverseFault.Memory)
+            × (self.new.seat ≡ None)) }
     {
         match greeted {
             Greeted::Refused(code, detail) => Ok(Reply::Refused { code, detail }),
@@ -195,8 +199,8 @@ fn is_hello(message: &Message) -> bool
     }
 }
 
-/// Reads a connection to its end, and submits what comes. The session of a client that was greeted ends then,
-/// after all of its replies were written.
+/// Reads a connection to its end, and submits what comes. The session of a client that was greeted
+/// ends then, after all of its replies were written.
 pub(crate) fn read_messages<D: Disk, L: Ledger, R: Wait>(
     rt: &R,
     alloc: Global,

@@ -28,7 +28,8 @@ impl Seen {
 
     /// A trouble that began, which is reported then and not again.
     pub(crate) fn next(&mut self, tally: &Tally, is_down: bool) -> Option<Notice>
-        ensures first { result ≡ first_untold (came_since tally.now self.old.since is_down) self.old.told }
+        ensures first { result ≡ first_untold (came_since tally.now self.old.since is_down)
+            self.old.told }
         ensures told { self.new.told ≡ with_first self.old.told result }
         ensures since { self.new.since ≡ self.old.since }
     {
@@ -42,7 +43,8 @@ impl Seen {
         }
     }
 
-    /// A minute ends: a trouble of which nothing came in it is over. That the server is down is never over.
+    /// A minute ends: a trouble of which nothing came in it is over. That the server is down is
+    /// never over.
     pub(crate) fn end_minute(&mut self, tally: &Tally)
         ensures told { self.new.told ≡ came_since tally.now self.old.since self.old.told.down }
         ensures since { self.new.since ≡ tally.now }

@@ -1,6 +1,7 @@
 //! Serving the connections of a listener.
 
-ghost use Rattle.std.specs.Prelude.{◌≡◌, ◌*◌, ◌-◌, ◌<◌, ◌≤◌, ◌^◌, min, true, false, Some, None, IsOk, IsErrOf};
+ghost use Rattle.std.specs.Prelude.{◌≡◌, ◌*◌, ◌-◌, ◌<◌, ◌≤◌, ◌^◌, min, true, false, Some, None};
+ghost use Rattle.std.specs.Prelude.{IsOk, IsErrOf};
 ghost use Rattle.std.specs.Duration.{as_nanos};
 ghost use Rattle.linda_net.specs.Counting.{one_less};
 
@@ -22,19 +23,21 @@ use std::{io, thread};
 /// How often it is looked whether a snapshot pays for itself, and what happened, in milliseconds.
 const LOOK: u64 = 100;
 
-/// How many times as long as a snapshot took it is waited before the next one is looked for: however full the bank is,
-/// messages are served most of the time.
+/// How many times as long as a snapshot took it is waited before the next one is looked for:
+/// however full the bank is, messages are served most of the time.
 const PAUSES: u64 = 3;
 
-/// How long nobody is let in where a connection could not be had, as where no file is left for it, in milliseconds.
+/// How long nobody is let in where a connection could not be had, as where no file is left for it,
+/// in milliseconds.
 const REST: u64 = 10;
 
-/// Serves the connections that come, each in two threads of its own: one reads, submits what came, 64 messages at most
-/// at once, and writes what that led to; the other writes what others' messages send. If a number is given, so many
-/// connections are served, and it ends when the last of them has. A connection for which no thread can be had is
-/// closed, and if a connection cannot be had the next is waited for. One that stops reading, or sends half of a
-/// frame and waits, holds up nobody else. Another thread takes a snapshot whenever one pays for itself, and goes on
-/// if it is refused; if no thread can be had for that, none is taken.
+/// Serves the connections that come, each in two threads of its own: one reads, submits what came,
+/// 64 messages at most at once, and writes what that led to; the other writes what others' messages
+/// send. If a number is given, so many connections are served, and it ends when the last of them
+/// has. A connection for which no thread can be had is closed, and if a connection cannot be had
+/// the next is waited for. One that stops reading, or sends half of a frame and waits, holds up
+/// nobody else. Another thread takes a snapshot whenever one pays for itself, and goes on if it is
+/// refused; if no thread can be had for that, none is taken.
 ///
 /// # Errors
 ///
@@ -50,8 +53,9 @@ pub fn serve<D: Disk + Send, L: Ledger + Send + Sync, R: Threads + Wait + Clock 
     ended
 }
 
-/// Serves as `serve` does, and a thread of its own reports to a watcher what happens, until all connections are over:
-/// nobody else waits for it. Returns how it ended, as `serve` does, and how often what happened.
+/// Serves as `serve` does, and a thread of its own reports to a watcher what happens, until all
+/// connections are over: nobody else waits for it. Returns how it ended, as `serve` does, and how
+/// often what happened.
 pub fn serve_watched<
     D: Disk + Send,
     L: Ledger + Send + Sync,
@@ -77,10 +81,10 @@ pub fn serve_watched<
     (ended(shared.is_down(rt)), marks.tally())
 }
 
-/// Serves as `serve_watched` does, but not with two threads for each connection: a few loops, each in a thread of its
-/// own, read what came and write what is sent. A loop takes what its connections have to the server as one group, those
-/// messages first of which no deed comes. An idle connection costs no thread. If the system has no room for a loop, it
-/// serves as `serve_watched` does.
+/// Serves as `serve_watched` does, but not with two threads for each connection: a few loops, each
+/// in a thread of its own, read what came and write what is sent. A loop takes what its connections
+/// have to the server as one group, those messages first of which no deed comes. An idle connection
+/// costs no thread. If the system has no room for a loop, it serves as `serve_watched` does.
 pub fn serve_loop<
     D: Disk + Send,
     L: Ledger + Send + Sync,
@@ -115,7 +119,8 @@ pub fn serve_loop<
     (ended(shared.is_down(rt)), relays.marks.tally())
 }
 
-// Begins the threads beside those of connections: one tells the watcher, one takes snapshots, until it is over.
+// Begins the threads beside those of connections: one tells the watcher, one takes snapshots, until
+// it is over.
 fn begin_beside<
     's,
     E,

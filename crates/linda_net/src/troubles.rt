@@ -1,7 +1,8 @@
 //! The troubles that whoever watches is told of when they begin.
 
 ghost use Rattle.std.specs.Prelude.{◌≡◌};
-ghost use Rattle.linda_net.specs.Troubles.{no_trouble, came_since, notice_or, first_turned, first_untold, with_told};
+ghost use Rattle.linda_net.specs.Troubles.{no_trouble, came_since, notice_or, first_turned};
+ghost use Rattle.linda_net.specs.Troubles.{first_untold, with_told};
 
 use crate::marks::Tally;
 use crate::refusals::Why;

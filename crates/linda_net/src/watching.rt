@@ -30,7 +30,8 @@ pub enum Notice {
     Snapshot(u64),
     /// A snapshot was refused after so many milliseconds, since the new bank would be full.
     NoSnapshot(u64),
-    /// Puts or takes are refused since the bank is full: reported once, and again only after a minute without.
+    /// Puts or takes are refused since the bank is full: reported once, and again only after a
+    /// minute without.
     Full,
     /// A connection was closed since no thread could be had: reported as `Full` is.
     Closed,
@@ -60,8 +61,8 @@ impl Watcher for Silent {
     fn tell<C: Clock>(&mut self, _clock: &C, _notice: Notice, _gauge: &Gauge, _tally: &Tally) {}
 }
 
-/// Looks ten times a second until it is over, and then once more, and reports what happened. Only this thread waits
-/// where whoever is told does not go on.
+/// Looks ten times a second until it is over, and then once more, and reports what happened. Only
+/// this thread waits where whoever is told does not go on.
 pub(crate) fn watch<D: Disk, L: Ledger, R: Wait + Clock, T: Watcher>(
     rt: &R,
     shared: &Shared<D, L>,
@@ -90,7 +91,8 @@ pub(crate) fn watch<D: Disk, L: Ledger, R: Wait + Clock, T: Watcher>(
     }
 }
 
-/// Takes a snapshot, and notes what came of it, unless the server is down. Returns how many milliseconds it took.
+/// Takes a snapshot, and notes what came of it, unless the server is down. Returns how many
+/// milliseconds it took.
 pub(crate) fn take_snapshot<D: Disk, L: Ledger, R: Wait + Clock>(
     rt: &R,
     shared: &Shared<D, L>,

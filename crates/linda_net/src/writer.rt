@@ -30,12 +30,13 @@ struct Slot<L: Ledger> {
     is_over: bool,
 }
 
-/// The writing side of a connection. Two threads write: the one that submits, what its own messages led to, and another
-/// one, what others' messages sent.
+/// The writing side of a connection. Two threads write: the one that submits, what its own messages
+/// led to, and another one, what others' messages sent.
 #[derive(Drop)]
 pub(crate) struct Writer<L: Ledger> {
     stream: TcpStream,
-    // Whoever has it writes. It is locked before a mailbox is emptied, so replies go out in their order.
+    // Whoever has it writes. It is locked before a mailbox is emptied, so replies go out in their
+    // order.
     output: Mutex<Output<L>>,
     slot: Mutex<Slot<L>>,
     filled: Condvar,
@@ -78,8 +79,9 @@ impl<L: Ledger> Writer<L> {
         Ok(())
     }
 
-    /// If there is a last word, writes the replies that are there now, and then that. Nothing is written any more.
-    /// Returns the outlet, if the connection was greeted. Whoever waits for one waits no more.
+    /// If there is a last word, writes the replies that are there now, and then that. Nothing is
+    /// written any more. Returns the outlet, if the connection was greeted. Whoever waits for one
+    /// waits no more.
     pub(crate) fn close<R: Wait>(
         &self,
         rt: &R,
@@ -96,8 +98,8 @@ impl<L: Ledger> Writer<L> {
         guard.outlet.take()
     }
 
-    /// Waits a second at most for the outlet. Says whether it has to be waited for still, with the outlet if it is
-    /// there.
+    /// Waits a second at most for the outlet. Says whether it has to be waited for still, with the
+    /// outlet if it is there.
     pub(crate) fn wait_outlet<R: Wait + Clock>(&self, rt: &R) -> (bool, Option<Outlet<L>>) {
         let (mut slot, _) = self.filled.wait_timeout_while(
             rt,
@@ -112,7 +114,8 @@ impl<L: Ledger> Writer<L> {
     ///
     /// # Errors
     ///
-    /// `Write`: a part may have gone out; `Memory`: some replies are lost. The connection cannot go on.
+    /// `Write`: a part may have gone out; `Memory`: some replies are lost. The connection cannot go
+    /// on.
     pub(crate) fn flush<R: Wait>(
         &self,
         rt: &R,
@@ -168,8 +171,9 @@ fn note(marks: &Marks, replies: &[Reply]) {
     }
 }
 
-/// Writes what others' messages send to the client of this connection, until no more comes or it cannot be written. A
-/// connection that is not greeted yet is looked at once a second: where the server is down, nothing more is read.
+/// Writes what others' messages send to the client of this connection, until no more comes or it
+/// cannot be written. A connection that is not greeted yet is looked at once a second: where the
+/// server is down, nothing more is read.
 pub(crate) fn write_news<D: Disk, L: Ledger, R: Wait + Clock>(
     rt: &R,
     alloc: Global,

@@ -9,5 +9,6 @@ IsSame old new = (new.waiting.items ≡ old.waiting.items) × (new.has_lost ≡ 
 
 -- it waits after all others, or all is as it was, and that something is lost is known
 abbrev pub IsBrought : Arrivals → ℕ × Arrival → Arrivals → Type 0
-IsBrought old came new = ((new.waiting.items ≡ old.waiting.items ++ came ∷ []) × (new.has_lost ≡ old.has_lost))
+IsBrought old came new =
+    ((new.waiting.items ≡ old.waiting.items ++ came ∷ []) × (new.has_lost ≡ old.has_lost))
     ⊎ ((new.waiting.items ≡ old.waiting.items) × (new.has_lost ≡ true))

@@ -1,5 +1,6 @@
 -- How a link goes on after a greeting: which Hello it sends, and what follows of a fault.
-use Rattle.std.specs.Prelude.{ℕ, ◌-◌, ◌==◌, Bool, true, false, ◌&&◌, ◌||◌, not, nat_lt, if◌then◌else◌}
+use Rattle.std.specs.Prelude.{ℕ, ◌-◌, ◌==◌, Bool, true, false, ◌&&◌, ◌||◌, not, nat_lt}
+use Rattle.std.specs.Prelude.{if◌then◌else◌}
 use Rattle.std.specs.Prelude.{Result, Ok, Err}
 use Rattle.linda_wire.specs.declared.codes.TheConstants.{BUSY}
 use Rattle.linda_wire.specs.declared.limits.TheConstants.{VERSION}
@@ -10,7 +11,8 @@ use Rattle.linda_wire.specs.declared.reply.Reply.TheVariants as reply
 use Rattle.linda_net_proxy.specs.declared.arrivals.Arrival.{Arrival}
 use Rattle.linda_net_proxy.specs.declared.arrivals.Arrival.TheVariants as arrival
 use Rattle.linda_net_proxy.specs.declared.fault.ProxyFault.{ProxyFault}
-use Rattle.linda_net_proxy.specs.declared.fault.ProxyFault.TheVariants.{Unreachable, Lost, Refused, Memory}
+use Rattle.linda_net_proxy.specs.declared.fault.ProxyFault.TheVariants.{Unreachable, Lost, Refused}
+use Rattle.linda_net_proxy.specs.declared.fault.ProxyFault.TheVariants.{Memory}
 use Rattle.linda_net_proxy.specs.declared.course.Course.{Course}
 use Rattle.linda_net_proxy.specs.declared.course.Next.{Next}
 use Rattle.linda_net_proxy.specs.declared.course.Next.TheVariants.{Again, Later, Over}
@@ -20,7 +22,8 @@ use Rattle.linda_net_proxy.specs.declared.course.TheConstants.{FIRST_TRIES, MAX_
 abbrev pub hello_of : ℕ → Bool → Message
 hello_of client fresh = Hello VERSION client fresh
 
--- What the answer to a Hello says: the last number that is kept, the refusal, or nothing that answers it.
+-- What the answer to a Hello says: the last number that is kept, the refusal, or nothing that
+-- answers it.
 abbrev pub welcome_in : Reply → Result ℕ ProxyFault
 welcome_in (reply.Welcome last) = Ok last
 welcome_in (reply.Stored n id) = Err Lost
@@ -31,12 +34,14 @@ welcome_in (reply.Gone n) = Err Lost
 welcome_in (reply.Refused code detail) = Err (Refused code detail)
 welcome_in (reply.Left n) = Err Lost
 
--- Whether a client says that it was never used: only before a Hello of it may have reached the server.
+-- Whether a client says that it was never used: only before a Hello of it may have reached the
+-- server.
 abbrev pub says_fresh : Course → Bool
 says_fresh c = c.fresh && not c.is_met
 
--- Whether a greeting that failed so may be made again. Before a Hello may have reached the server, only if this one
--- may have, or if the server says that a client that goes on has another connection.
+-- Whether a greeting that failed so may be made again. Before a Hello may have reached the server,
+-- only if this one may have, or if the server says that a client that goes on has another
+-- connection.
 abbrev pub is_again : Course → ProxyFault → Bool
 is_again c Unreachable = c.is_met
 is_again c Lost = true
@@ -51,7 +56,8 @@ begun fresh = record { fresh = fresh; is_met = false; left = FIRST_TRIES }
 abbrev pub met : Course → Course
 met c = record c { is_met = true; left = MAX_TRIES }
 
--- The tries are over: they begin anew once that is asked for, or the server is given up if it never was met.
+-- The tries are over: they begin anew once that is asked for, or the server is given up if it never
+-- was met.
 abbrev pub spent : Course → Next × Course
 spent c = if c.is_met then (Later, met c) else (Over, c)
 

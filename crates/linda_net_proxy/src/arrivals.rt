@@ -43,7 +43,8 @@ impl Arrivals {
         }
     }
 
-    /// Brings what came from a server: it waits after all others. If memory runs out for it, that is remembered.
+    /// Brings what came from a server: it waits after all others. If memory runs out for it, that
+    /// is remembered.
     pub(crate) fn bring(&mut self, server: u32, arrival: Arrival)
         ensures { IsBrought self.old (server, arrival) self.new }
     {
@@ -52,8 +53,8 @@ impl Arrivals {
         }
     }
 
-    /// Takes what came first, after the number of its server; `None` if nothing waits. If memory ran out for something
-    /// that came, it is `Memory` of server 0, and nothing is taken.
+    /// Takes what came first, after the number of its server; `None` if nothing waits. If memory
+    /// ran out for something that came, it is `Memory` of server 0, and nothing is taken.
     pub(crate) fn take(&mut self) -> Option<(u32, Arrival)>
         ensures lost { self.old.has_lost ≡ true → result ≡ Some (0, arrival.Memory) }
         ensures none { self.old.has_lost ≡ true → IsSame self.old self.new }

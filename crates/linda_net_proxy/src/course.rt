@@ -7,12 +7,12 @@ use crate::arrivals::Arrival;
 use crate::fault::ProxyFault;
 use linda_wire::{Message, Refusal, Reply, VERSION};
 
-/// How often a server is greeted whose connection was lost, a millisecond apart. A refusal Busy is a try too: the
-/// server may not have seen yet that the old connection ended.
+/// How often a server is greeted whose connection was lost, a millisecond apart. A refusal Busy is
+/// a try too: the server may not have seen yet that the old connection ended.
 pub const MAX_TRIES: u32 = 10_000;
 
-/// How often a server is greeted first for a client that was used before, a millisecond apart, while it says that the
-/// client has another connection.
+/// How often a server is greeted first for a client that was used before, a millisecond apart,
+/// while it says that the client has another connection.
 pub const FIRST_TRIES: u32 = 2_000;
 
 /// What follows of a greeting that failed.
@@ -119,7 +119,8 @@ pub(crate) fn hello_of(client: u32, fresh: bool) -> Message
     }
 }
 
-/// What the answer to a Hello says: the last number that the server keeps, or why it does not go on.
+/// What the answer to a Hello says: the last number that the server keeps, or why it does not go
+/// on.
 pub(crate) fn welcome_in(reply: &Reply) -> Result<u64, ProxyFault>
     ensures { result ≡ spec.welcome_in reply.now }
 {

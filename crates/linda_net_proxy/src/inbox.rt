@@ -38,7 +38,8 @@ impl Inbox {
         self.arrived.notify_one();
     }
 
-    /// What came first, after the number of its server; `None` where nothing has come for a millisecond.
+    /// What came first, after the number of its server; `None` where nothing has come for a
+    /// millisecond.
     pub fn take<R: Wait + Clock>(&self, rt: &R) -> Option<(u32, Arrival)> {
         let (mut kept, _) = self.arrived.wait_timeout_while(
             rt,
@@ -49,7 +50,8 @@ impl Inbox {
         kept.arrivals.take()
     }
 
-    /// What came first, after the number of its server; `None` if nothing waits. It waits for nobody.
+    /// What came first, after the number of its server; `None` if nothing waits. It waits for
+    /// nobody.
     pub fn take_now(&self, rt: &impl Wait) -> Option<(u32, Arrival)> {
         self.kept.lock(rt).arrivals.take()
     }

@@ -4,7 +4,8 @@
 //! - A `Link` keeps one up, greets again where it was lost, and brings what comes into an `Inbox`.
 //! - An `Inbox` has what came from all servers, in order of arrival.
 //!
-//! Every call that waits for nobody ends. What goes over a socket no contract can say: tests over sockets show it.
+//! Every call that waits for nobody ends. What goes over a socket no contract can say: tests over
+//! sockets show it.
 #![tactic(auto)]
 
 mod arrivals;

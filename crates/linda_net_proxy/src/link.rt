@@ -14,7 +14,8 @@ use std::sync::{Mutex, Wait};
 use std::thread;
 use std::time::{Clock, Duration};
 
-/// How often it is looked whether a server that was given up is to be tried again, in milliseconds apart.
+/// How often it is looked whether a server that was given up is to be tried again, in milliseconds
+/// apart.
 const LOOK: u64 = 10;
 
 /// The connection to one server. One thread keeps it up, another sends.
@@ -40,8 +41,8 @@ struct Connection {
 }
 
 impl Link {
-    /// No connection yet, to the server of this number, which listens on this port; of a client that was never used
-    /// before, or of one that goes on.
+    /// No connection yet, to the server of this number, which listens on this port; of a client
+    /// that was never used before, or of one that goes on.
     pub fn new(server: u32, port: u16, client: u32, fresh: bool) -> Link
         ensures server { result.server ≡ server }
         ensures port { result.port ≡ port }
@@ -63,8 +64,8 @@ impl Link {
         *self.retries.lock(rt) = true;
     }
 
-    /// Sends where there is a greeted connection. Where there is none, or it is lost, what counts is sent again after
-    /// the next greeting.
+    /// Sends where there is a greeted connection. Where there is none, or it is lost, what counts
+    /// is sent again after the next greeting.
     ///
     /// # Errors
     ///
@@ -95,12 +96,14 @@ impl Link {
         }
     }
 
-    /// Keeps the connection up and brings what comes into the inbox, until that is over or the server is given up.
+    /// Keeps the connection up and brings what comes into the inbox, until that is over or the
+    /// server is given up.
     ///
-    /// The first greeting is that of a client that was never used, or of one that goes on; if no connection can be had
-    /// for it, or the server refuses it, the server is given up at once, but Busy is tried again for a client that goes
-    /// on. A connection that is lost after a greeting is greeted again; if that fails too often, `NoConnection` is
-    /// brought, and the tries begin again after `retry`.
+    /// The first greeting is that of a client that was never used, or of one that goes on; if no
+    /// connection can be had for it, or the server refuses it, the server is given up at once, but
+    /// Busy is tried again for a client that goes on. A connection that is lost after a greeting is
+    /// greeted again; if that fails too often, `NoConnection` is brought, and the tries begin again
+    /// after `retry`.
     pub fn keep<R: Net<Stream = TcpStream> + Wait + Clock>(
         &self,
         rt: &R,
@@ -194,8 +197,8 @@ impl Link {
         }
     }
 
-    // One greeting. The connection can be ended from outside before it is waited for: whoever ends all says so in the
-    // inbox first.
+    // One greeting. The connection can be ended from outside before it is waited for: whoever ends
+    // all says so in the inbox first.
     fn greet<R: Net<Stream = TcpStream> + Wait>(
         &self,
         rt: &R,

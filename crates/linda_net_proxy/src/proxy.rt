@@ -1,6 +1,7 @@
 //! A connection of a client to one server.
 
-ghost use Rattle.std.specs.Prelude.{◌≡◌, ◌≢◌, ◌↔◌, ◌⊎◌, ◌++◌, None, Ok, IfOk, IfErr, IfSome, IsErrOf, OnErr};
+ghost use Rattle.std.specs.Prelude.{◌≡◌, ◌≢◌, ◌↔◌, ◌⊎◌, ◌++◌, None, Ok, IfOk, IfErr, IfSome};
+ghost use Rattle.std.specs.Prelude.{IsErrOf, OnErr};
 ghost use Rattle.linda_wire.specs.Frames.{frame, reply as replies};
 ghost use Rattle.linda_wire.specs.Stream.{Partial, IsWhole, front};
 ghost use Rattle.linda_net_proxy.specs.declared.fault.ProxyFault.TheVariants as faults;
@@ -45,18 +46,20 @@ impl Proxy {
         Ok(Proxy { stream, feed })
     }
 
-    /// Greets the server: with `fresh` as a client that was never used, which a server refuses that keeps a reply for
-    /// it. Gives the last number that the server keeps. It waits for the answer.
+    /// Greets the server: with `fresh` as a client that was never used, which a server refuses that
+    /// keeps a reply for it. Gives the last number that the server keeps. It waits for the answer.
     ///
     /// # Errors
     ///
-    /// `Refused`, as the server said; `Lost`; `Memory`. The server may have welcomed the client at the last two.
+    /// `Refused`, as the server said; `Lost`; `Memory`. The server may have welcomed the client at
+    /// the last two.
     pub fn greet(&mut self, alloc: Global, client: u32, fresh: bool) -> Result<u64, ProxyFault> {
         send(&mut self.stream, alloc, &hello_of(client, fresh))?;
         welcome_in(&self.receive(alloc)?)
     }
 
-    /// Another hand on the same connection, for whoever sends or ends it while somebody else receives.
+    /// Another hand on the same connection, for whoever sends or ends it while somebody else
+    /// receives.
     ///
     /// # Errors
     ///
@@ -72,7 +75,8 @@ impl Proxy {
     ///
     /// # Errors
     ///
-    /// `Lost` where the connection ended, or what came is no reply; `Memory`, after which it may be called again.
+    /// `Lost` where the connection ended, or what came is no reply; `Memory`, after which it may be
+    /// called again.
     pub fn receive(&mut self, alloc: Global) -> Result<Reply, ProxyFault> {
         let mut buffer = [0; PIECE];
         for _ in 0..MAX_READS {
@@ -91,10 +95,11 @@ impl Proxy {
     }
 }
 
-// The reply at the front of what came, which is then read; `None` where less than a whole frame is there. What is no
-// reply ends the connection.
+// The reply at the front of what came, which is then read; `None` where less than a whole frame is
+// there. What is no reply ends the connection.
 fn next_reply(feed: &mut ReplyFeed, alloc: Global) -> Result<Option<Reply>, ProxyFault>
-    ensures found { IfOk result (λ o. IfSome o (λ r. feed.old ≡ frame (replies.spell r) ++ feed.new)) }
+    ensures found { IfOk result (λ o.
+        IfSome o (λ r. feed.old ≡ frame (replies.spell r) ++ feed.new)) }
     ensures partial { (result ≡ Ok None) ↔ (front replies feed.old ≡ Partial) }
     ensures fault { IfErr result (λ f. (f ≡ faults.Lost) ⊎ (f ≡ faults.Memory)) }
     ensures memory { IsErrOf result ProxyFault.Memory → IsWhole (front replies feed.old) }

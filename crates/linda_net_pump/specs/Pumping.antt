@@ -1,5 +1,5 @@
--- What came of a stream that was pumped: the bytes that were read, the messages that they spell, and those that were
--- taken.
+-- What came of a stream that was pumped: the bytes that were read, the messages that they spell,
+-- and those that were taken.
 use Rattle.std.specs.Prelude.{◌≡◌, ℕ, ◌≤◌, List, ◌++◌, ◌∷◌, All, length, take, ⊤}
 use Rattle.std.specs.Prelude.{Option, Some, None, Result, Ok, Err}
 use Rattle.std.specs.List.{flat_map}
@@ -43,7 +43,8 @@ pub record IsReading (bytes : List ℕ) (messages : List Message) (rest : List �
 
 -- the messages after a first one
 abbrev pub ReadsOn : List ℕ → List ℕ → Message → List Message → Type 0
-ReadsOn bytes rest first messages = (more : List Message) × ((messages ≡ first ∷ more) × IsReading bytes more rest)
+ReadsOn bytes rest first messages =
+    (more : List Message) × ((messages ≡ first ∷ more) × IsReading bytes more rest)
 
 -- How the bytes after the last message stand: no whole frame and no fault, or a fault.
 abbrev pub StandsAs : Option ℕ → List ℕ → Type 0
@@ -53,14 +54,17 @@ StandsAs (Some detail) rest = IsMalformed rest detail
 -- All messages in the bytes were taken, up to a rest that stands so.
 abbrev pub AllTaken : List ℕ → Option ℕ → List ℕ → Known → Known → Type 0
 AllTaken bytes stand rest old new =
-    (messages : List Message) × (IsReading bytes messages rest × (StandsAs stand rest × Takes old new messages))
+    (messages : List Message)
+    × (IsReading bytes messages rest × (StandsAs stand rest × Takes old new messages))
 
 -- Some first messages in the bytes were taken.
 abbrev pub SomeTaken : List ℕ → Known → Known → Type 0
 SomeTaken bytes old new =
-    (messages : List Message) × ((rest : List ℕ) × (IsReading bytes messages rest × TakesSome old new messages))
+    (messages : List Message)
+    × ((rest : List ℕ) × (IsReading bytes messages rest × TakesSome old new messages))
 
--- What a call that hands over all messages in the bytes did: it says how the bytes after them stand.
+-- What a call that hands over all messages in the bytes did: it says how the bytes after them
+-- stand.
 abbrev pub HandsOver : List ℕ → List ℕ → Known → Known → Result (Option ℕ) ConverseFault → Type 0
 HandsOver bytes rest old new (Ok stand) = AllTaken bytes stand rest old new
 HandsOver bytes rest old new (Err fault) = IsOfIntake fault × SomeTaken bytes old new
@@ -69,7 +73,8 @@ HandsOver bytes rest old new (Err fault) = IsOfIntake fault × SomeTaken bytes o
 abbrev pub EndsSo : Result End ConverseFault → List ℕ → Option (List ℕ) → Known → Known → Type 0
 EndsSo (Ok (ends.Ended n)) read left old new =
     IsAtEnd left × ((rest : List ℕ) × (AllTaken read None rest old new × (n ≡ length rest)))
-EndsSo (Ok (ends.Malformed detail)) read left old new = (rest : List ℕ) × AllTaken read (Some detail) rest old new
+EndsSo (Ok (ends.Malformed detail)) read left old new =
+    (rest : List ℕ) × AllTaken read (Some detail) rest old new
 EndsSo (Err faults.Read) read left old new = (rest : List ℕ) × AllTaken read None rest old new
 EndsSo (Err faults.Turns) read left old new =
     (MAX_READS ≤ length read) × ((rest : List ℕ) × AllTaken read None rest old new)
@@ -78,7 +83,8 @@ EndsSo (Err faults.Down) read left old new = SomeTaken read old new
 EndsSo (Err faults.Memory) read left old new = SomeTaken read old new
 
 -- A pump took bytes off a reader, and ended so.
-pub record HasPumped (input left : Option (List ℕ)) (old new : Known) (result : Result End ConverseFault) : Type 0 where
+pub record HasPumped (input left : Option (List ℕ)) (old new : Known)
+    (result : Result End ConverseFault) : Type 0 where
   pub read : List ℕ
   pub consumed : Consumes input left read
   pub ends : EndsSo result read left old new

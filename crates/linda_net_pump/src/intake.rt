@@ -10,7 +10,8 @@ use linda_wire::Message;
 
 /// Whoever takes the messages of a stream.
 pub trait Intake {
-    /// The messages that were taken, in order; `None` where nothing is said of them, as of a server that threads share.
+    /// The messages that were taken, in order; `None` where nothing is said of them, as of a server
+    /// that threads share.
     ghost taken: { Self → Option (List MessageValue) };
 
     /// Takes messages, in order; there is one at least, and no more than a batch has.

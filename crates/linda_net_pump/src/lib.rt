@@ -1,7 +1,9 @@
 //! The reading loop of a connection.
 //!
-//! - `pump` reads a stream to its end and hands the message of each whole frame to an `Intake`, once and in the order
-//!   read, whatever the pieces that come: all messages that are whole at a time go together, 64 at most.
+//! - `pump` reads a stream to its end and hands the message of each whole frame to an `Intake`,
+//!   once and in the order
+//!   read, whatever the pieces that come: all messages that are whole at a time go together, 64 at
+//!   most.
 //! - A list in memory is an `Intake` that keeps what it takes.
 #![tactic(auto)]
 

@@ -1,6 +1,8 @@
-//! The reading loop of a connection: bytes come in, and the messages of whole frames go to an intake.
+//! The reading loop of a connection: bytes come in, and the messages of whole frames go to an
+//! intake.
 
-ghost use Rattle.std.specs.Prelude.{◌≡◌, ◌≢◌, ◌++◌, ◌∷◌, [], ◌+◌, ◌≤◌, Some, length, take, vec_len, IfOk, IfErr, OnOk};
+ghost use Rattle.std.specs.Prelude.{◌≡◌, ◌≢◌, ◌++◌, ◌∷◌, [], ◌+◌, ◌≤◌, Some, length, take, vec_len};
+ghost use Rattle.std.specs.Prelude.{IfOk, IfErr, OnOk};
 ghost use Rattle.std.specs.Io.KnownBytes.{Consumes, Keeps, IsAtEnd};
 ghost use Rattle.linda_wire.specs.declared.message.Message.{Message as MessageValue};
 ghost use Rattle.linda_store.specs.declared.end.ConverseFault.TheVariants.{Read as ReadFault};
@@ -19,12 +21,14 @@ use std::io::Read;
 /// The most bytes that are read at once.
 const PIECE: usize = 4096;
 
-/// Reads a stream to its end, and hands over the message of each whole frame, once and in the order read.
+/// Reads a stream to its end, and hands over the message of each whole frame, once and in the order
+/// read.
 ///
 /// # Errors
 ///
-/// `Read` where the reader failed, `Turns` after 4,294,967,295 reads: the messages of all whole frames that
-/// were read were handed over. `Memory`, and what the intake answers: those of some first frames.
+/// `Read` where the reader failed, `Turns` after 4,294,967,295 reads: the messages of all whole
+/// frames that were read were handed over. `Memory`, and what the intake answers: those of some
+/// first frames.
 pub fn pump<R: Read, I: Intake>(
     alloc: Global,
     reader: &mut R,
@@ -62,14 +66,16 @@ fn read_piece<R: Read>(reader: &mut R, buffer: &mut [u8; PIECE]) -> Result<usize
     }
 }
 
-// Feeds a piece and hands over all messages that are whole then; the offset of a fault after them, if there is one.
+// Feeds a piece and hands over all messages that are whole then; the offset of a fault after them,
+// if there is one.
 fn hand_over<I: Intake>(
     alloc: Global,
     feed: &mut Feed,
     piece: &[u8],
     intake: &mut I,
 ) -> Result<Option<u32>, ConverseFault>
-    ensures { HandsOver (feed.old ++ piece.now) feed.new (I.taken intake.old) (I.taken intake.new) result }
+    ensures { HandsOver (feed.old ++ piece.now) feed.new (I.taken intake.old) (I.taken intake.new)
+        result }
 {
     match feed.feed(piece) {
         Ok(()) => hand_over_whole(alloc, feed, intake),

@@ -38,14 +38,15 @@ pub record IsEnded (first : Node) (read written : List ℕ) (left : Option (List
 
 -- The node of an exchange is shown so.
 module _ {N : Type 0} (shown : N → Node) where
-  -- The conversation over these bytes, in which this is said, began with that node and stands as the exchange has it.
+  -- The conversation over these bytes, in which this is said, began with that node and stands as
+  -- the exchange has it.
   abbrev pub HasTalked : Node → List ℕ → List Reply → Exchange N → Type 0
   HasTalked first bytes said x =
       IsConversation (beginning first) bytes said x.session.stage x.session.unread
       (point_of x.session (shown x.node))
 
-  -- A conversation in which `said` was said stands over these bytes now; what was said to the newest of them is in the
-  -- buffer.
+  -- A conversation in which `said` was said stands over these bytes now; what was said to the
+  -- newest of them is in the buffer.
   pub record IsContinued (first : Node) (bytes : List ℕ) (said : List Reply) (goes_on : Bool)
       (old new : Exchange N) : Type 0 where
     pub later : List Reply
@@ -56,11 +57,12 @@ module _ {N : Type 0} (shown : N → Node) where
   -- What taking a piece leads to.
   abbrev pub Continues : List ℕ → Bool → Exchange N → Exchange N → Type 0
   Continues piece goes_on old new =
-      (first : Node) (bytes : List ℕ) (said : List Reply) → IsOpen old.session → HasTalked first bytes said old
+      (first : Node) (bytes : List ℕ) (said : List Reply) → IsOpen old.session
+      → HasTalked first bytes said old
       → IsContinued first (bytes ++ piece) said goes_on old new
 
-  -- The text so far is lines, which were answered, and this unfinished line. The reply lines are those that were sent
-  -- and those in the buffer. The node was that one at first.
+  -- The text so far is lines, which were answered, and this unfinished line. The reply lines are
+  -- those that were sent and those in the buffer. The node was that one at first.
   pub record IsAtLine (first : Node) (text sent line : List ℕ) (x : Exchange N) : Type 0 where
     pub lines : List (List ℕ)
     pub pieces : List (List ℕ)
@@ -87,12 +89,15 @@ module _ {N : Type 0} (shown : N → Node) where
   abbrev pub ReadsTo :
       Node → List ℕ → List ℕ → Option (List ℕ) → Exchange N → Result Bool PipeFault → Type 0
   ReadsTo first read sent left x (Ok true) = IsUnderway first read sent x
-  ReadsTo first read sent left x (Ok false) = IsEnded first read (sent ++ x.replies.items) left (Ok tt)
-  ReadsTo first read sent left x (Err fault) = IsEnded first read (sent ++ x.replies.items) left (Err fault)
+  ReadsTo first read sent left x (Ok false) =
+      IsEnded first read (sent ++ x.replies.items) left (Ok tt)
+  ReadsTo first read sent left x (Err fault) =
+      IsEnded first read (sent ++ x.replies.items) left (Err fault)
 
   -- After so many reads, each of which gave a byte at least: what was read is under way, and all
   -- reply lines were written.
-  pub record IsPiping (first : Node) (reads : ℕ) (reader_old reader_new writer_old writer_new : Option (List ℕ))
+  pub record IsPiping (first : Node) (reads : ℕ)
+      (reader_old reader_new writer_old writer_new : Option (List ℕ))
       (x : Exchange N) : Type 0 where
     pub read : List ℕ
     pub written : List ℕ
@@ -103,7 +108,8 @@ module _ {N : Type 0} (shown : N → Node) where
     pub sent : x.replies.items ≡ []
 
   -- What one read leads to, with which there were so many.
-  abbrev pub TurnsTo : Node → ℕ → Option (List ℕ) → Option (List ℕ) → Option (List ℕ) → Option (List ℕ)
+  abbrev pub TurnsTo : Node → ℕ → Option (List ℕ) → Option (List ℕ) → Option (List ℕ)
+      → Option (List ℕ)
       → Exchange N → Result Bool PipeFault → Type 0
   TurnsTo first reads reader_old reader_new writer_old writer_new x (Ok true) =
       IsPiping first reads reader_old reader_new writer_old writer_new x

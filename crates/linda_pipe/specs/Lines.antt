@@ -11,13 +11,14 @@ HasNoFeed bytes = All (λ b. b ≢ LINE_FEED) bytes
 abbrev pub ended : List ℕ → List ℕ
 ended line = line ++ LINE_FEED ∷ []
 
--- The text is these lines, one after the other, each with the line feed that ends it; and then there is more.
+-- The text is these lines, one after the other, each with the line feed that ends it; and then
+-- there is more.
 pub record IsCut (text : List ℕ) (lines : List (List ℕ)) (more : List ℕ) : Type 0 where
   pub spelled : text ≡ flat_map ended lines ++ more
   pub whole : All HasNoFeed lines
 
--- An unfinished line gets the front of a text. Behind that front the text has a line feed and a rest; with no line
--- feed in the text, it all goes to the line.
+-- An unfinished line gets the front of a text. Behind that front the text has a line feed and a
+-- rest; with no line feed in the text, it all goes to the line.
 abbrev pub Extends : List ℕ → List ℕ → List ℕ → Option (List ℕ) → Type 0
 Extends line text longer (Some rest) =
     (front : List ℕ) × (HasNoFeed front

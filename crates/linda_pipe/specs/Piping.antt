@@ -25,10 +25,13 @@ reply_line reply = ended (encode_lower (reply_frame reply))
 
 -- a volatile server that was never used
 abbrev pub unused : Node
-unused = record { state = empty_state; soft = no_asks; is_down = false; may_fill = false; lost = [] }
+unused =
+    record { state = empty_state; soft = no_asks; is_down = false; may_fill = false; lost = [] }
 
--- The lines say pieces of a stream, and these replies are all that a node, which was this one at first, says to it.
-pub record IsAnswered (first : Node) (lines : List (List ℕ)) (said : List Reply) (stage : Stage) : Type 0 where
+-- The lines say pieces of a stream, and these replies are all that a node, which was this one at
+-- first, says to it.
+pub record IsAnswered (first : Node) (lines : List (List ℕ)) (said : List Reply) (stage : Stage)
+    : Type 0 where
   pub pieces : List (List ℕ)
   pub unread : List ℕ
   pub to : Point
@@ -43,7 +46,8 @@ pub record HasBadLine (text : List ℕ) : Type 0 where
   pub whole : HasNoFeed line
   pub bad : piece_of line ≡ None
 
--- A conversation that ended well: the text and the input have ended, or a reply has ended the conversation.
+-- A conversation that ended well: the text and the input have ended, or a reply has ended the
+-- conversation.
 abbrev pub IsDone : Stage → List ℕ → Option (List ℕ) → Type 0
 IsDone stages.Open more left = (more ≡ []) × IsAtEnd left
 IsDone (stages.Malformed detail) more left = Unit {0}
@@ -58,7 +62,8 @@ EndsAs (Err (faults.NotHexadecimal n)) count size more left stage =
 EndsAs (Err (faults.Memory n)) count size more left stage = (n ≡ count + 1) × (stage ≡ stages.Open)
 EndsAs (Err faults.Read) count size more left stage = HasNoFeed more × (stage ≡ stages.Open)
 EndsAs (Err faults.Write) count size more left stage = Unit {0}
-EndsAs (Err faults.Turns) count size more left stage = (HasNoFeed more × (stage ≡ stages.Open)) × (MAX_READS ≤ size)
+EndsAs (Err faults.Turns) count size more left stage =
+    (HasNoFeed more × (stage ≡ stages.Open)) × (MAX_READS ≤ size)
 
 -- What has gone out: all reply lines, or, where writing failed, some first bytes of them.
 abbrev pub GoesOut : Result Unit PipeFault → List ℕ → List ℕ → Type 0
@@ -81,12 +86,13 @@ pub record HasEnded (first : Node) (text written : List ℕ) (left : Option (Lis
   pub ending : EndsAs result (length lines) (length text) more left stage
   pub out : GoesOut result (flat_map reply_line said) written
 
--- The text that was read; where the input has ended, its last line may lack the line feed, which is then added.
+-- The text that was read; where the input has ended, its last line may lack the line feed, which is
+-- then added.
 abbrev pub IsTextOf : List ℕ → Option (List ℕ) → List ℕ → Type 0
 IsTextOf read left text = (text ≡ read) ⊎ (IsAtEnd left × (text ≡ ended read))
 
--- From its reader and its writer as they were to what they are: what was read was taken line by line, and what was
--- written are the lines of the replies of a node that was this one at first.
+-- From its reader and its writer as they were to what they are: what was read was taken line by
+-- line, and what was written are the lines of the replies of a node that was this one at first.
 pub record IsPipedTo (first : Node) (reader_old reader_new writer_old writer_new : Option (List ℕ))
     (result : Result Unit PipeFault) : Type 0 where
   pub read : List ℕ

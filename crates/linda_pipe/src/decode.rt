@@ -11,8 +11,8 @@ use std::alloc::{AllocError, Global};
 /// What may stand at the end of a line, and is no part of it.
 pub(crate) const CARRIAGE_RETURN: u8 = b'\r';
 
-/// The bytes that a line says, in digits of either case; a carriage return at its end is passed over. `None`
-/// where the line is not hexadecimal, also where memory is short.
+/// The bytes that a line says, in digits of either case; a carriage return at its end is passed
+/// over. `None` where the line is not hexadecimal, also where memory is short.
 pub fn decode_line(alloc: Global, line: &[u8]) -> Result<Option<Vec<u8>>, AllocError>
     ensures piece { IfOk result (λ piece. option_map (λ p. p.items) piece ≡ piece_of line.now) }
     // Memory runs out only where the line is hexadecimal.

@@ -1,13 +1,15 @@
 //! One connection to a server whose stream comes as lines of hexadecimal digits.
 
-ghost use Rattle.std.specs.Prelude.{◌≡◌, ◌+◌, ◌<◌, ◌≤◌, ◌^◌, ◌++◌, true, [], ℕ, List, Option, None, Ok, Err};
+ghost use Rattle.std.specs.Prelude.{◌≡◌, ◌+◌, ◌<◌, ◌≤◌, ◌^◌, ◌++◌, true, [], ℕ, List, Option, None};
+ghost use Rattle.std.specs.Prelude.{Ok, Err};
 ghost use Rattle.std.specs.Prelude.{length, IfOk, IfErr, OnOk, OnErr};
 ghost use Rattle.std.specs.Io.KnownBytes.{IsAtEnd};
 ghost use Rattle.linda_pipe.specs.Hex.{piece_of};
 ghost use Rattle.linda_pipe.specs.Lines.{ended, HasNoFeed};
 ghost use Rattle.linda_store.specs.Node as seen;
 ghost use Rattle.linda_store.specs.Sending.{HasSent};
-ghost use Rattle.linda_pipe.specs.Exchanges.{Continues, IsAtLine, IsEnded, IsOver, IsUnderway, LeadsTo, ReadsTo};
+ghost use Rattle.linda_pipe.specs.Exchanges.{Continues, IsAtLine, IsEnded, IsOver, IsUnderway};
+ghost use Rattle.linda_pipe.specs.Exchanges.{LeadsTo, ReadsTo};
 
 use crate::decode::decode_line;
 use crate::fault::PipeFault;
@@ -20,8 +22,9 @@ use std::mem;
 
 /// A server, a connection to it, and the texts on both sides that are not done yet.
 ///
-/// Contracts say how it stands by `IsUnderway`: all whole lines of the text so far were answered, and the replies are
-/// those that were sent and those in the buffer. What the server was at first is `first` there.
+/// Contracts say how it stands by `IsUnderway`: all whole lines of the text so far were answered,
+/// and the replies are those that were sent and those in the buffer. What the server was at first
+/// is `first` there.
 #[derive(Drop)]
 pub struct Exchange<N: Node> {
     node: N,
@@ -50,7 +53,8 @@ impl<N: Node> Exchange<N> {
         }
     }
 
-    /// Takes the bytes that a read gave, none at the end of the input, and says whether more is to be read.
+    /// Takes the bytes that a read gave, none at the end of the input, and says whether more is to
+    /// be read.
     pub fn take_read(&mut self, alloc: Global, bytes: &[u8]) -> Result<bool, PipeFault>
         requires { self.old.lines + length bytes.now + 1 < 2 ^ 64 }
         ensures reads { (first : seen.Node) (read sent : List ℕ) (left : Option (List ℕ))
@@ -68,7 +72,8 @@ impl<N: Node> Exchange<N> {
 
     /// Sends the reply lines in the buffer, which is empty then.
     pub fn send_replies<W: Write>(&mut self, writer: &mut W) -> Result<(), PipeFault>
-        ensures sent { HasSent (W.contents writer.old) (W.contents writer.new) self.old.replies.items result }
+        ensures sent { HasSent (W.contents writer.old) (W.contents writer.new)
+            self.old.replies.items result }
         ensures fault { IfErr result (λ fault. fault ≡ PipeFault.Write) }
         ensures empty { OnOk result (self.new.replies.items ≡ []) }
         ensures same { self.new ≡ record self.old { replies = self.new.replies } }
@@ -83,7 +88,8 @@ impl<N: Node> Exchange<N> {
     // Takes the end of the text: a last line that has no line feed is a line too.
     fn finish(&mut self, alloc: Global) -> Result<(), PipeFault>
         requires { self.old.lines + 1 < 2 ^ 64 }
-        ensures ends { (first : seen.Node) (read sent : List ℕ) (left : Option (List ℕ)) → IsAtEnd left
+        ensures ends { (first : seen.Node) (read sent : List ℕ) (left : Option (List ℕ))
+            → IsAtEnd left
             → IsUnderway N.shown first read sent self.old
             → IsEnded first read (sent ++ self.new.replies.items) left result }
         ensures count { OnOk result (self.new.lines ≤ self.old.lines + 1) }
@@ -94,10 +100,12 @@ impl<N: Node> Exchange<N> {
         Ok(())
     }
 
-    // Takes a part of the text, which may begin and end anywhere in a line, and says whether the conversation goes on.
+    // Takes a part of the text, which may begin and end anywhere in a line, and says whether the
+    // conversation goes on.
     fn take_text(&mut self, alloc: Global, text: &[u8]) -> Result<bool, PipeFault>
         requires { self.old.lines + length text.now + 1 < 2 ^ 64 }
-        ensures leads { (first : seen.Node) (read sent : List ℕ) → IsUnderway N.shown first read sent self.old
+        ensures leads { (first : seen.Node) (read sent : List ℕ)
+            → IsUnderway N.shown first read sent self.old
             → LeadsTo N.shown first (read ++ text.now) sent self.new result }
         ensures count { OnOk result (self.new.lines ≤ self.old.lines + length text.now) }
     {
@@ -112,12 +120,13 @@ impl<N: Node> Exchange<N> {
         Ok(true)
     }
 
-    // Takes the end of a line. Where nothing of the line came before, it is decoded where it stands, and is reported as
-    // not hexadecimal even where memory is short.
+    // Takes the end of a line. Where nothing of the line came before, it is decoded where it
+    // stands, and is reported as not hexadecimal even where memory is short.
     fn take_end(&mut self, alloc: Global, end: &[u8]) -> Result<bool, PipeFault>
         requires few { self.old.lines + 1 < 2 ^ 64 }
         requires no_feed { HasNoFeed end.now }
-        ensures leads { (first : seen.Node) (read sent : List ℕ) → IsUnderway N.shown first read sent self.old
+        ensures leads { (first : seen.Node) (read sent : List ℕ)
+            → IsUnderway N.shown first read sent self.old
             → LeadsTo N.shown first (ended (read ++ end.now)) sent self.new result }
         ensures bad { self.old.line.items ≡ [] → piece_of end.now ≡ None
             → result ≡ Err (PipeFault.NotHexadecimal (self.old.lines + 1)) }
@@ -134,7 +143,8 @@ impl<N: Node> Exchange<N> {
     fn keep(&mut self, text: &[u8]) -> Result<(), PipeFault>
         requires few { self.old.lines + 1 < 2 ^ 64 }
         requires no_feed { HasNoFeed text.now }
-        ensures ok { OnOk result ((first : seen.Node) (read sent : List ℕ) → IsUnderway N.shown first read sent self.old
+        ensures ok { OnOk result ((first : seen.Node) (read sent : List ℕ)
+            → IsUnderway N.shown first read sent self.old
             → IsUnderway N.shown first (read ++ text.now) sent self.new) }
         ensures err { IfErr result (λ fault. (first : seen.Node) (read sent : List ℕ)
             → IsUnderway N.shown first read sent self.old
@@ -150,7 +160,8 @@ impl<N: Node> Exchange<N> {
     // Takes the unfinished line, which is whole now.
     fn take_kept(&mut self, alloc: Global) -> Result<bool, PipeFault>
         requires { self.old.lines + 1 < 2 ^ 64 }
-        ensures leads { (first : seen.Node) (text sent : List ℕ) → IsUnderway N.shown first text sent self.old
+        ensures leads { (first : seen.Node) (text sent : List ℕ)
+            → IsUnderway N.shown first text sent self.old
             → LeadsTo N.shown first (ended text) sent self.new result }
         ensures count { OnOk result (self.new.lines ≡ self.old.lines + 1) }
         ensures line { self.new.line.items ≡ [] }
@@ -159,14 +170,16 @@ impl<N: Node> Exchange<N> {
         self.take_line(alloc, &line)
     }
 
-    // Takes a whole line, which is not kept here, as a piece of the stream. One that is not hexadecimal is reported as
-    // such even where memory is short.
+    // Takes a whole line, which is not kept here, as a piece of the stream. One that is not
+    // hexadecimal is reported as such even where memory is short.
     fn take_line(&mut self, alloc: Global, line: &[u8]) -> Result<bool, PipeFault>
         requires few { self.old.lines + 1 < 2 ^ 64 }
         requires none_kept { self.old.line.items ≡ [] }
-        ensures leads { (first : seen.Node) (text sent : List ℕ) → IsAtLine N.shown first text sent line.now self.old
+        ensures leads { (first : seen.Node) (text sent : List ℕ)
+            → IsAtLine N.shown first text sent line.now self.old
             → LeadsTo N.shown first (ended text) sent self.new result }
-        ensures bad { piece_of line.now ≡ None → result ≡ Err (PipeFault.NotHexadecimal (self.old.lines + 1)) }
+        ensures bad { piece_of line.now ≡ None
+            → result ≡ Err (PipeFault.NotHexadecimal (self.old.lines + 1)) }
         ensures count { OnOk result (self.new.lines ≡ self.old.lines + 1) }
         ensures line { self.new.line.items ≡ [] }
     {
@@ -184,10 +197,11 @@ impl<N: Node> Exchange<N> {
         Ok(goes_on)
     }
 
-    // Takes a piece of the stream and says whether the conversation goes on. Where memory runs out, in the server too,
-    // no reply to the piece is kept.
+    // Takes a piece of the stream and says whether the conversation goes on. Where memory runs out,
+    // in the server too, no reply to the piece is kept.
     fn take_piece(&mut self, alloc: Global, piece: &[u8]) -> Result<bool, AllocError>
-        ensures ok { IfOk result (λ goes_on. Continues N.shown piece.now goes_on self.old self.new) }
+        ensures ok { IfOk result (λ goes_on.
+            Continues N.shown piece.now goes_on self.old self.new) }
         ensures err { OnErr result (self.new.replies.items ≡ self.old.replies.items) }
         ensures lines { self.new.lines ≡ self.old.lines }
         ensures line { self.new.line.items ≡ self.old.line.items }

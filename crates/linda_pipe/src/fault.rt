@@ -14,7 +14,8 @@ pub const BAD_LINE: u8 = 4;
 /// Why the pipe ended before its input did. The numbers are those of lines, from 1.
 #[derive(Clone, Copy, Debug, PartialEq, Eq, Error)]
 pub enum PipeFault {
-    /// The line of this number is not hexadecimal. All lines before it were taken, and their replies written.
+    /// The line of this number is not hexadecimal. All lines before it were taken, and their
+    /// replies written.
     #[error("line {0}: not hexadecimal")]
     NotHexadecimal(u64),
     /// Memory ran out at the line of this number. The replies to the lines before it were written.

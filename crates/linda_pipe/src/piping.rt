@@ -15,17 +15,19 @@ use std::io::{Read, Write};
 // The most bytes of one read.
 const BUFFER: usize = 65536;
 
-/// Serves one connection to a new server. Each line of the input is a piece of the client's stream in hexadecimal
-/// digits; each reply is a line of them too, and it is written and flushed before more is read.
+/// Serves one connection to a new server. Each line of the input is a piece of the client's stream
+/// in hexadecimal digits; each reply is a line of them too, and it is written and flushed before
+/// more is read.
 ///
-/// It ends well at the end of the input, where the last line may lack its line feed, and after a reply that ends the
-/// connection; then nothing more is read.
+/// It ends well at the end of the input, where the last line may lack its line feed, and after a
+/// reply that ends the connection; then nothing more is read.
 ///
 /// # Errors
 ///
-/// `NotHexadecimal` at the first such line and `Memory` at the line where memory runs out: the replies to all lines
-/// before it are written. `Read` and `Turns` where the input fails, or has not ended after 4,294,967,295 reads: all
-/// replies are written. `Write` where the output fails: some first bytes of the replies are.
+/// `NotHexadecimal` at the first such line and `Memory` at the line where memory runs out: the
+/// replies to all lines before it are written. `Read` and `Turns` where the input fails, or has not
+/// ended after 4,294,967,295 reads: all replies are written. `Write` where the output fails: some
+/// first bytes of the replies are.
 pub fn pipe<R: Read, W: Write>(
     alloc: Global,
     reader: &mut R,
@@ -70,9 +72,11 @@ fn read_once<N: Node, R: Read, W: Write>(
 ) -> Result<bool, PipeFault>
     requires { exchange.old.lines + BUFFER + 1 < 2 ^ 64 }
     ensures turns { (first : seen.Node) (reads : ℕ) (first_left first_written : Option (List ℕ))
-        → IsPiping N.shown first reads first_left (R.remaining reader.old) first_written (W.contents writer.old)
+        → IsPiping N.shown first reads first_left (R.remaining reader.old) first_written
+        (W.contents writer.old)
         exchange.old
-        → TurnsTo N.shown first (reads + 1) first_left (R.remaining reader.new) first_written (W.contents writer.new)
+        → TurnsTo N.shown first (reads + 1) first_left (R.remaining reader.new) first_written
+        (W.contents writer.new)
         exchange.new result }
     ensures count { OnOk result (exchange.new.lines ≤ exchange.old.lines + BUFFER + 1) }
 {

@@ -20,7 +20,8 @@ pub fn push_reply_lines(
     lines: &mut Vec<u8>,
     replies: &[Reply],
 ) -> Result<(), AllocError>
-    ensures ok { OnOk result (lines.new.items ≡ lines.old.items ++ flat_map reply_line replies.now) }
+    ensures ok { OnOk result (lines.new.items
+        ≡ lines.old.items ++ flat_map reply_line replies.now) }
     ensures err { OnErr result (lines.new.items ≡ lines.old.items) }
 {
     let len = lines.len();
@@ -33,7 +34,8 @@ pub fn push_reply_lines(
 
 // Appends the lines of some replies; where memory runs out, some of them.
 fn push_each(alloc: Global, lines: &mut Vec<u8>, replies: &[Reply]) -> Result<(), AllocError>
-    ensures ok { OnOk result (lines.new.items ≡ lines.old.items ++ flat_map reply_line replies.now) }
+    ensures ok { OnOk result (lines.new.items
+        ≡ lines.old.items ++ flat_map reply_line replies.now) }
     ensures err { OnErr result (IsFront lines.old.items lines.new.items) }
 {
     for reply in replies {

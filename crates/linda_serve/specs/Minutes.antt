@@ -8,7 +8,8 @@ use Rattle.linda_serve.specs.declared.serving.minutes.Counted.{Counted}
 abbrev pub none_counted : Counted
 none_counted = record { deeds = 0; refused = 0; unserved = 0; turned = none_refused }
 
--- how many connections were not served: those for which no thread could be had, and those that could not be had
+-- how many connections were not served: those for which no thread could be had, and those that
+-- could not be had
 abbrev pub unserved : Tally → ℕ
 unserved tally = min (tally.closed + tally.missed) (2 ^ 64 - 1)
 

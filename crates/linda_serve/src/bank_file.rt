@@ -6,8 +6,8 @@ use std::io::ErrorKind;
 use std::os::unix::fs::MetadataExt;
 use std::{fs, io};
 
-/// Refuses what is there under this path and is no regular file: to open a pipe may wait for ever, and a device keeps
-/// nothing. Nothing is opened.
+/// Refuses what is there under this path and is no regular file: to open a pipe may wait for ever,
+/// and a device keeps nothing. Nothing is opened.
 ///
 /// # Errors
 ///

@@ -1,4 +1,5 @@
-//! `linda inspect`: what the store in a folder comes to. Its files are opened for reading alone, and no lock is taken.
+//! `linda inspect`: what the store in a folder comes to. Its files are opened for reading alone,
+//! and no lock is taken.
 
 mod banks;
 
@@ -13,14 +14,14 @@ use std::alloc::Global;
 use std::fs::{File, Files};
 use std::io::Write;
 
-/// Writes what the store in a folder comes to, as `write_report` does of the bytes of its two files, of which one
-/// that is missing is empty.
+/// Writes what the store in a folder comes to, as `write_report` does of the bytes of its two
+/// files, of which one that is missing is empty.
 ///
 /// # Errors
 ///
-/// As a server returns them that is not kept from the folder by another one: `NoStore`, `Damaged`, `Disk` where the
-/// folder or a file in it cannot be read, `Memory`; `Io` where the output fails. `InUse` where a server went over to
-/// its other bank at each reading.
+/// As a server returns them that is not kept from the folder by another one: `NoStore`, `Damaged`,
+/// `Disk` where the folder or a file in it cannot be read, `Memory`; `Io` where the output fails.
+/// `InUse` where a server went over to its other bank at each reading.
 pub fn inspect_folder<F: Files<File = File>, W: Write>(
     files: &F,
     alloc: Global,

@@ -50,17 +50,18 @@ pub struct Plan<'a> {
     pub by_threads: bool,
 }
 
-/// Serves the store in a folder to clients that connect to a port of this machine, and writes `ready PORT` once it
-/// listens. If there is a sink, it gets a log, as docs/OPERATING.md has it; a line that cannot be written there is lost.
+/// Serves the store in a folder to clients that connect to a port of this machine, and writes
+/// `ready PORT` once it listens. If there is a sink, it gets a log, as docs/OPERATING.md has it; a
+/// line that cannot be written there is lost.
 ///
-/// If the last snapshot was cut off, its room is given back. The next one is put off until there are as many records
-/// more as make one due, unless the bank in use is in the old form or a deed is refused for room: so a disk that has no
-/// room for a snapshot is no reason to serve nobody.
+/// If the last snapshot was cut off, its room is given back. The next one is put off until there
+/// are as many records more as make one due, unless the bank in use is in the old form or a deed is
+/// refused for room: so a disk that has no room for a snapshot is no reason to serve nobody.
 ///
 /// # Errors
 ///
-/// As `open_store` returns them, and then `Io` if the port cannot be listened on, or the output fails. `Down` if the
-/// server went down, at the next connection or at the end. `Memory`.
+/// As `open_store` returns them, and then `Io` if the port cannot be listened on, or the output
+/// fails. `Down` if the server went down, at the next connection or at the end. `Memory`.
 pub fn serve_folder<
     F: Files<File = File>,
     S: Net<Listener = TcpListener, Stream = TcpStream>
@@ -94,8 +95,8 @@ pub fn serve_folder<
     )
 }
 
-// Opens the store in a folder to serve it, and gives back the room of a snapshot that was cut off; with the bank in
-// use.
+// Opens the store in a folder to serve it, and gives back the room of a snapshot that was cut off;
+// with the bank in use.
 fn open_to_serve<F: Files<File = File>>(
     files: &F,
     alloc: Global,
@@ -120,8 +121,9 @@ fn choose_keys<S: RandomSource>(rt: &S, server: &mut Durable<FileDisk>)
     }
 }
 
-// Shares a server that was opened. Its next snapshot is put off, unless its bank is in the old form: so it serves for a
-// while even if the last one took it down, since the disk had no room for it.
+// Shares a server that was opened. Its next snapshot is put off, unless its bank is in the old
+// form: so it serves for a while even if the last one took it down, since the disk had no room for
+// it.
 fn share<L: Ledger, R: Wait>(
     rt: &R,
     alloc: Global,

@@ -27,7 +27,8 @@ IsOldOrNew old new left right = Stands left right old ⊎ Stands left right new
 abbrev pub IsEither : State → State → List ℕ → List ℕ → Type 0
 IsEither old new left right = ∥ IsOldOrNew old new left right ∥₁
 
--- These deeds may be done in the state of before, and they represent that state, or the one after them.
+-- These deeds may be done in the state of before, and they represent that state, or the one after
+-- them.
 pub record StandsAround (before : State) (deeds : List Deed) (left right : List ℕ) : Type 0 where
   pub new : State
   pub ranges : IsState before
@@ -62,12 +63,13 @@ StandsFor st left right = ∥ Stands left right st ∥₁
 abbrev pub IsNothingOr : State → List ℕ → List ℕ → Type 0
 IsNothingOr st left right = (IsNoBank left × IsNoBank right) ⊎ Stands left right st
 
--- The deeds have no record on a bank in this form: one of them has no spelling there; or there are some, and their
--- record, after this end, would pass the limit.
+-- The deeds have no record on a bank in this form: one of them has no spelling there; or there are
+-- some, and their record, after this end, would pass the limit.
 abbrev pub IsTooMuch : Form → ℕ → ℕ → List Deed → Type 0
 IsTooMuch form end limit deeds =
     IsUnspelled form deeds
-    ⊎ ((0 < length (payload form deeds)) × (limit < end + RECORD_BYTES + length (payload form deeds)))
+    ⊎ ((0 < length (payload form deeds))
+    × (limit < end + RECORD_BYTES + length (payload form deeds)))
 
 -- The deeds that the messages would do have no record there.
 abbrev pub HasNoRoom : Store → List (ℕ × Message) → Form → ℕ → ℕ → Type 0

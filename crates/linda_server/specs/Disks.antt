@@ -1,6 +1,7 @@
 -- The two disks of a server: which is which, and the state that stands on them. What a bank and a
 -- disk say is handed in.
-use Rattle.std.specs.Prelude.{◌≡◌, ℕ, ◌+◌, Bool, true, false, not, [], if◌then◌else◌, Option, Some, None}
+use Rattle.std.specs.Prelude.{◌≡◌, ℕ, ◌+◌, Bool, true, false, not, [], if◌then◌else◌, Option, Some}
+use Rattle.std.specs.Prelude.{None}
 use Rattle.linda_tuple.specs.declared.form.Form.{Form}
 use Rattle.linda_tuple.specs.declared.form.Form.TheVariants.{One, Two}
 use Rattle.linda_store_state.specs.State.{State}
@@ -60,7 +61,8 @@ is_ready spent Away = false
 
 -- On which side the bank in use is, and its generation; nothing where none is.
 abbrev pub used_of : {B D : Type 0} → (B → ℕ) → Disks B D → Option Used
-used_of generation (InUse pair) = Some record { is_right = pair.is_right; generation = generation pair.bank }
+used_of generation (InUse pair) =
+    Some record { is_right = pair.is_right; generation = generation pair.bank }
 used_of generation (Shut left right) = None
 used_of generation Away = None
 
@@ -87,47 +89,55 @@ are_same Two Two = true
 abbrev pub is_old : Form → Bool
 is_old form = not (are_same form written)
 
--- The bank in use, in this form, of this generation and with this end, represents the state, and a crash now
--- leaves them so.
+-- The bank in use, in this form, of this generation and with this end, represents the state, and a
+-- crash now leaves them so.
 abbrev pub IsUpOn : {B D : Type 0} → (B → Form) → (B → ℕ) → (B → ℕ) → (B → View) → (D → View)
     → Disks B D → State → Type 0
 IsUpOn form generation end bank disk (InUse pair) st =
-    IsUp (form pair.bank) (generation pair.bank) (end pair.bank) (bank pair.bank) (disk pair.other) st
+    IsUp (form pair.bank) (generation pair.bank) (end pair.bank) (bank pair.bank) (disk pair.other)
+    st
 IsUpOn form generation end bank disk (Shut left right) st = ⊥
 IsUpOn form generation end bank disk Away st = ⊥
 
--- What is known of a bank in use and of the other disk, each as far as the disks are honest: the bank represents the
--- state, a crash leaves the other disk as it reads, and that one holds a lesser bank or none.
-pub record IsKept (is_used_honest is_other_honest : Type 0) (form : Form) (generation end : ℕ) (used other : View)
+-- What is known of a bank in use and of the other disk, each as far as the disks are honest: the
+-- bank represents the state, a crash leaves the other disk as it reads, and that one holds a lesser
+-- bank or none.
+pub record IsKept (is_used_honest is_other_honest : Type 0) (form : Form) (generation end : ℕ)
+    (used other : View)
     (st : State) : Type 0 where
   pub stored : is_used_honest → IsStored form generation end used st
   pub durable : is_other_honest → IsDurable other
   pub lesser : is_used_honest → is_other_honest → IsLesser generation other.seen
 
 -- So it is of the bank in use and the other disk.
-abbrev pub IsKeptOn : {B D : Type 0} → (B → Form) → (B → ℕ) → (B → ℕ) → (B → View) → (D → View) → (B → Type 0)
+abbrev pub IsKeptOn : {B D : Type 0} → (B → Form) → (B → ℕ) → (B → ℕ) → (B → View) → (D → View)
+    → (B → Type 0)
     → (D → Type 0) → Disks B D → State → Type 0
 IsKeptOn form generation end bank disk honest_bank honest (InUse pair) st =
-    IsKept (honest_bank pair.bank) (honest pair.other) (form pair.bank) (generation pair.bank) (end pair.bank)
+    IsKept (honest_bank pair.bank) (honest pair.other) (form pair.bank) (generation pair.bank)
+    (end pair.bank)
     (bank pair.bank) (disk pair.other) st
 IsKeptOn form generation end bank disk honest_bank honest (Shut left right) st = ⊥
 IsKeptOn form generation end bank disk honest_bank honest Away st = ⊥
 
 -- The same places hold what is related so.
-abbrev pub AreRelated : {B D : Type 0} → (B → B → Type 0) → (D → D → Type 0) → Disks B D → Disks B D → Type 0
+abbrev pub AreRelated : {B D : Type 0} → (B → B → Type 0) → (D → D → Type 0) → Disks B D → Disks B D
+    → Type 0
 AreRelated bank disk (InUse old) (InUse new) =
     bank old.bank new.bank × (disk old.other new.other × (new.is_right ≡ old.is_right))
 AreRelated bank disk (InUse old) (Shut left right) = ⊥
 AreRelated bank disk (InUse old) Away = ⊥
 AreRelated bank disk (Shut left right) (InUse new) = ⊥
-AreRelated bank disk (Shut left right) (Shut new_left new_right) = disk left new_left × disk right new_right
+AreRelated bank disk (Shut left right) (Shut new_left new_right) =
+    disk left new_left × disk right new_right
 AreRelated bank disk (Shut left right) Away = ⊥
 AreRelated bank disk Away (InUse new) = ⊥
 AreRelated bank disk Away (Shut left right) = ⊥
 AreRelated bank disk Away Away = Unit {0}
 
 -- What was in use is related so to the other disk now, and the other disk to what is in use now.
-abbrev pub AreSwapped : {B D : Type 0} → (B → D → Type 0) → (D → B → Type 0) → Disks B D → Disks B D → Type 0
+abbrev pub AreSwapped : {B D : Type 0} → (B → D → Type 0) → (D → B → Type 0) → Disks B D → Disks B D
+    → Type 0
 AreSwapped bank disk (InUse old) (InUse new) = bank old.bank new.other × disk old.other new.bank
 AreSwapped bank disk (InUse old) (Shut left right) = ⊥
 AreSwapped bank disk (InUse old) Away = ⊥

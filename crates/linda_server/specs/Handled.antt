@@ -1,5 +1,7 @@
--- What calls of a server keep to: those that take messages, and those that write the same state anew.
-use Rattle.std.specs.Prelude.{◌≡◌, ℕ, ◌<◌, ◌⊎◌, ◌↔◌, List, [], length, true, false, Result, IfOk, IfErr, OnOk, IsErrOf}
+-- What calls of a server keep to: those that take messages, and those that write the same state
+-- anew.
+use Rattle.std.specs.Prelude.{◌≡◌, ℕ, ◌<◌, ◌⊎◌, ◌↔◌, List, [], length, true, false, Result, IfOk}
+use Rattle.std.specs.Prelude.{IfErr, OnOk, IsErrOf}
 use Rattle.std.specs.Global.{Vec}
 use Rattle.std.specs.Vec.{vec_len}
 use Rattle.linda_wire.specs.declared.message.Message.{Message}
@@ -20,12 +22,13 @@ use Rattle.linda_server.specs.Lives.{GoesOn}
 use Rattle.linda_server.specs.Node.{shown}
 use Rattle.linda_server.specs.Served.{IsServed}
 use Rattle.linda_server.specs.Switch.{HasNoNext}
-use Rattle.linda_server.specs.Server.{form_in_use, end_in_use, generation_in_use, BothHonest, failures_of}
+use Rattle.linda_server.specs.Server.{form_in_use, end_in_use, generation_in_use, BothHonest}
+use Rattle.linda_server.specs.Server.{failures_of}
 use Rattle.linda_server.specs.Server.{IsPutOn, AlwaysLeave, StandNow}
 
 module _ {D : Type 0} {g : Ghosts D} where
-  -- The deeds that the messages would do have no record on the bank in use: one of them has no spelling in its form, or
-  -- their record, and the gate after it, would pass the limit.
+  -- The deeds that the messages would do have no record on the bank in use: one of them has no
+  -- spelling in its form, or their record, and the gate after it, would pass the limit.
   abbrev pub HasNoRoomFor : Durable D g → List (ℕ × Message) → Type 0
   HasNoRoomFor s ms = HasNoRoom s.store ms (form_in_use s.disks) (end_in_use s.disks) s.limit
 
@@ -36,17 +39,21 @@ module _ {D : Type 0} {g : Ghosts D} where
   -- In the call in which it goes down, some first deeds of what came may be done.
   abbrev pub LosesSome : Durable D g → List (ℕ × Message) → Durable D g → Type 0
   LosesSome old ms new = old.down ≡ false → new.down ≡ true
-      → MayRemain (shown old.before.value old.store old.down old.lost.items) (comings ms) new.lost.items
+      → MayRemain (shown old.before.value old.store old.down old.lost.items) (comings ms)
+      new.lost.items
 
   -- It took these messages, or it did not (`serve`, `serve_all`).
-  pub record Serves (old : Durable D g) (ms : List (ℕ × Message)) (result : Result Served ServeFault)
+  pub record Serves (old : Durable D g) (ms : List (ℕ × Message))
+      (result : Result Served ServeFault)
       (new : Durable D g) : Type 0 where
     -- The server was in order, as each is.
     pub orderly : IsOrderly old.store.state old.store.soft
     -- At no moment crashes leave anything but the state of before, or the one after all deeds;
-    pub any_moment : old.down ≡ false → AlwaysLeave old.disks new.disks (IsBeforeOrAfter old.store (comings ms))
+    pub any_moment : old.down ≡ false
+        → AlwaysLeave old.disks new.disks (IsBeforeOrAfter old.store (comings ms))
     -- at Ok it did what they ask, each has its portion, and crashes now leave the state after that.
-    pub done : IfOk result (λ served. IsServed old.store.state old.store.soft ms served new.store.state new.store.soft)
+    pub done : IfOk result
+        (λ served. IsServed old.store.state old.store.soft ms served new.store.state new.store.soft)
     pub each : IfOk result (λ served. vec_len served.portions ≡ length ms)
     pub now : OnOk result (StandNow new.disks new.store.state)
     pub up : OnOk result ((old.down ≡ false) × (new.down ≡ false))
@@ -56,23 +63,28 @@ module _ {D : Type 0} {g : Ghosts D} where
     -- It is down exactly where it was, and goes down only where a device failed or memory ran out.
     pub was_down : IsErrOf result faults.Down ↔ (old.down ≡ true)
     pub stays_down : old.down ≡ true → new ≡ old
-    pub goes_down : (IsErrOf result faults.Disk → new.down ≡ true) × (IsErrOf result faults.Memory → new.down ≡ true)
-    pub cause : IfErr result (λ fault. TellsFailures faults.Disk fault (failures_of old.disks) (failures_of new.disks))
-    -- Where it did no deed, it made no device call; else four of them changed or synced the disk of the bank in use,
-    -- and the other disk was not touched.
+    pub goes_down : (IsErrOf result faults.Disk → new.down ≡ true)
+        × (IsErrOf result faults.Memory → new.down ≡ true)
+    pub cause : IfErr result
+        (λ fault. TellsFailures faults.Disk fault (failures_of old.disks) (failures_of new.disks))
+    -- Where it did no deed, it made no device call; else four of them changed or synced the disk of
+    -- the bank in use, and the other disk was not touched.
     pub idle : IfOk result (λ served. served.deeds.items ≡ [] → new.disks ≡ old.disks)
     pub clock : IfOk result (λ served. 0 < length served.deeds.items → IsPutOn old.disks new.disks)
     pub honest : BothHonest old.disks ↔ BothHonest new.disks
     pub limit : new.limit ≡ old.limit
     pub lost : LosesSome old ms new
-    pub before : old.down ≡ false → IsErrOf result faults.Full ⊎ (new.before.value ≡ old.store.state)
+    pub before : old.down ≡ false
+        → IsErrOf result faults.Full ⊎ (new.before.value ≡ old.store.state)
     -- Every life of the server goes on by it.
     pub life : GoesOn (λ (served : Served). served.sends.items) old result new
 
   -- It took these messages, or it did not, as a node says it (`handle`, `handle_all`).
-  pub record Handles (old : Durable D g) (ms : List (ℕ × Message)) (result : Result (Vec (ℕ × Reply)) NodeFault)
+  pub record Handles (old : Durable D g) (ms : List (ℕ × Message))
+      (result : Result (Vec (ℕ × Reply)) NodeFault)
       (new : Durable D g) : Type 0 where
-    pub any_moment : old.down ≡ false → AlwaysLeave old.disks new.disks (IsBeforeOrAfter old.store (comings ms))
+    pub any_moment : old.down ≡ false
+        → AlwaysLeave old.disks new.disks (IsBeforeOrAfter old.store (comings ms))
     pub done : IfOk result (λ sends. HasHandled old.store (comings ms) sends.items new.store)
     pub now : OnOk result (StandNow new.disks new.store.state)
     pub up : OnOk result ((old.down ≡ false) × (new.down ≡ false))
@@ -88,26 +100,34 @@ module _ {D : Type 0} {g : Ghosts D} where
     pub life : GoesOn (λ (sends : Vec (ℕ × Reply)). sends.items) old result new
 
   -- It wrote the same state anew, or a part of it (`renew`, `clear`, `snapshot`, `trim`).
-  pub record Rewrites {E : Type 0} (old : Durable D g) (result : Result (Unit {0}) E) (new : Durable D g) : Type 0 where
+  pub record Rewrites {E : Type 0} (old : Durable D g) (result : Result (Unit {0}) E)
+      (new : Durable D g) : Type 0 where
     -- At no moment crashes leave anything but the state.
     pub any_moment : old.down ≡ false → AlwaysLeave old.disks new.disks (StandsFor old.store.state)
     pub now : OnOk result (StandNow new.disks new.store.state)
     pub same : (new.store ≡ old.store) × (new.limit ≡ old.limit)
     pub up : OnOk result ((old.down ≡ false) × (new.down ≡ false))
     -- Nothing is done in the call in which it goes down.
-    pub lost : old.down ≡ false → new.down ≡ true → (new.before.value ≡ old.store.state) × (new.lost.items ≡ [])
+    pub lost : old.down ≡ false → new.down ≡ true
+        → (new.before.value ≡ old.store.state) × (new.lost.items ≡ [])
     pub honest : BothHonest old.disks ↔ BothHonest new.disks
 
-  -- It is down exactly where it was, and goes down only where a device failed or memory ran out (`renew`, `clear`).
-  pub record Fails (old : Durable D g) (result : Result (Unit {0}) ServeFault) (new : Durable D g) : Type 0 where
+  -- It is down exactly where it was, and goes down only where a device failed or memory ran out
+  -- (`renew`, `clear`).
+  pub record Fails (old : Durable D g) (result : Result (Unit {0}) ServeFault) (new : Durable D g)
+      : Type 0 where
     pub was_down : IsErrOf result faults.Down ↔ (old.down ≡ true)
     pub stays_down : old.down ≡ true → new ≡ old
-    pub goes_down : (IsErrOf result faults.Disk → new.down ≡ true) × (IsErrOf result faults.Memory → new.down ≡ true)
-    pub cause : IfErr result (λ fault. TellsFailures faults.Disk fault (failures_of old.disks) (failures_of new.disks))
+    pub goes_down : (IsErrOf result faults.Disk → new.down ≡ true)
+        × (IsErrOf result faults.Memory → new.down ≡ true)
+    pub cause : IfErr result
+        (λ fault. TellsFailures faults.Disk fault (failures_of old.disks) (failures_of new.disks))
 
-  -- It is down where it says so, and says so where it was, as a node does; and every life goes on by it (`snapshot`,
+  -- It is down where it says so, and says so where it was, as a node does; and every life goes on
+  -- by it (`snapshot`,
   -- `trim`).
-  pub record Falls (old : Durable D g) (result : Result (Unit {0}) NodeFault) (new : Durable D g) : Type 0 where
+  pub record Falls (old : Durable D g) (result : Result (Unit {0}) NodeFault) (new : Durable D g)
+      : Type 0 where
     pub down : IsErrOf result nodes.Down → new.down ≡ true
     pub stays_down : old.down ≡ true → IsErrOf result nodes.Down × (new ≡ old)
     pub life : GoesOn (λ (done : Unit {0}). []) old result new

@@ -21,7 +21,8 @@ use Rattle.linda_server.specs.Served.{IsServed}
 use Rattle.linda_server.specs.Node.{shown}
 use Rattle.linda_server.specs.Reopening.{has_done}
 
--- Of the deeds in hand those that an opening finds done: all where the last of them is in the book, and else none.
+-- Of the deeds in hand those that an opening finds done: all where the last of them is in the book,
+-- and else none.
 abbrev pub found_of : State → List Deed → List Deed
 found_of st hand = if has_done st hand then hand else []
 
@@ -30,19 +31,22 @@ abbrev pub sent : List (ℕ × Reply) → Soft → Sends
 sent sends soft = record { sends = sends; soft = soft }
 
 module _ {D : Type 0} (g : Ghosts D) where
-  -- Two disks after a crash at some moment from the one to the other: whatever may be left of each of them, that crash
-  -- may have left. They are honest.
+  -- Two disks after a crash at some moment from the one to the other: whatever may be left of each
+  -- of them, that crash may have left. They are honest.
   pub record AreLeft (old new : Both) (left right : D) : Type 0 where
     pub honest_left : g.honest left
     pub honest_right : g.honest right
-    pub left_was : (image : List ℕ) → (g.view left).may_leave image → new.left.left_since old.left.moment image
-    pub right_was : (image : List ℕ) → (g.view right).may_leave image → new.right.left_since old.right.moment image
+    pub left_was : (image : List ℕ) → (g.view left).may_leave image
+        → new.left.left_since old.left.moment image
+    pub right_was : (image : List ℕ) → (g.view right).may_leave image
+        → new.right.left_since old.right.moment image
 
   -- what `create` and `open` hand back: a server, or a fault and the two disks
   abbrev pub Made : Type 0
   Made = Result (Durable D g) (OpenFault × D × D)
 
-  -- There is a server, up or down; or there is none, and these were the deeds in hand and these are the disks.
+  -- There is a server, up or down; or there is none, and these were the deeds in hand and these are
+  -- the disks.
   pub data Phase : Type 0 where
     Serving : Durable D g → Phase
     Stopped : List Deed → D → D → Phase
@@ -51,7 +55,8 @@ module _ {D : Type 0} {g : Ghosts D} where
   -- A call that ended well: the deeds that it did, and what it sent.
   pub data Call (old new : Durable D g) : List Deed → List (ℕ × Reply) → Type 0 where
     -- of `handle` and `handle_all` (`done`)
-    handles : (xs : List Coming) (sends : List (ℕ × Reply)) (handled : HasHandled old.store xs sends new.store)
+    handles : (xs : List Coming) (sends : List (ℕ × Reply))
+        (handled : HasHandled old.store xs sends new.store)
         → Call old new handled.deeds sends
     -- of `serve` and `serve_all` (`done`)
     serves : (ms : List (ℕ × Message)) (told : Served)
@@ -68,14 +73,17 @@ module _ {D : Type 0} {g : Ghosts D} where
   pub data Fall (old new : Durable D g) : Type 0 where
     -- of `handle`, `handle_all`, `serve`, `serve_all` and `close` (`before`, `lost`)
     at_work : (xs : List Coming) → new.before.value ≡ old.store.state
-        → MayRemain (shown old.before.value old.store old.down old.lost.items) xs new.lost.items → Fall old new
+        → MayRemain (shown old.before.value old.store old.down old.lost.items) xs new.lost.items
+        → Fall old new
     -- of `snapshot`, `renew`, `trim` and `clear` (`lost`), and of `give_up` (`up`)
     at_rest : new.before.value ≡ old.store.state → new.lost.items ≡ [] → Fall old new
 
   -- A call that was cut off at some moment, with the deeds that were in hand.
   pub data Cut (old new : Durable D g) : List Deed → Type 0 where
-    -- of `handle`, `handle_all`, `serve` and `serve_all` (`any_moment`), with what the call comes to
-    amid_work : (xs : List Coming) (whole : History) → Happens old.store.state old.store.soft xs whole
+    -- of `handle`, `handle_all`, `serve` and `serve_all` (`any_moment`), with what the call comes
+    -- to
+    amid_work : (xs : List Coming) (whole : History)
+        → Happens old.store.state old.store.soft xs whole
         → AlwaysLeave old.disks new.disks (IsBeforeOrAfter old.store xs) → Cut old new whole.deeds
     -- of `close`, `snapshot`, `renew`, `trim` and `clear` (`any_moment`)
     amid_rest : AlwaysLeave old.disks new.disks (StandsFor old.store.state) → Cut old new []
@@ -96,32 +104,41 @@ module _ {D : Type 0} {g : Ghosts D} where
     pub soft_is : s.store.soft ≡ no_asks
     pub is_up : s.down ≡ false
 
-  -- All lives: the deeds so far, all that was sent, and the phase. A call that finds no room and one of a server that
-  -- is down leave the server as it was, and are no step of it.
+  -- All lives: the deeds so far, all that was sent, and the phase. A call that finds no room and
+  -- one of a server that is down leave the server as it was, and are no step of it.
   pub data Life : List Deed → List (ℕ × Reply) → Phase g → Type 0 where
     made : (s : Durable D g) → IsNew s → Life [] [] (Serving s)
-    -- a making that was cut off, or failed (`create`: `any_moment`), and an opening that found a server all the same
-    half_made : (first second left right : D) (made : Made g) (s : Durable D g) → g.honest first → g.honest second
-        → PairsSince (two (g.view first) (g.view second)) (disks_then made) (IsNothingOr empty_state)
-        → AreLeft g (two (g.view first) (g.view second)) (disks_then made) left right → IsOpenedOn left right s
+    -- a making that was cut off, or failed (`create`: `any_moment`), and an opening that found a
+    -- server all the same
+    half_made : (first second left right : D) (made : Made g) (s : Durable D g) → g.honest first
+        → g.honest second
+        → PairsSince (two (g.view first) (g.view second)) (disks_then made)
+        (IsNothingOr empty_state)
+        → AreLeft g (two (g.view first) (g.view second)) (disks_then made) left right
+        → IsOpenedOn left right s
         → Life [] [] (Serving s)
-    called : (ds es : List Deed) (all sends : List (ℕ × Reply)) (old new : Durable D g) → Life ds all (Serving old)
+    called : (ds es : List Deed) (all sends : List (ℕ × Reply)) (old new : Durable D g)
+        → Life ds all (Serving old)
         → old.down ≡ false → new.down ≡ false → Call old new es sends
         → Life (ds ++ es) (all ++ sends) (Serving new)
-    fell : (ds : List Deed) (all : List (ℕ × Reply)) (old new : Durable D g) → Life ds all (Serving old)
+    fell : (ds : List Deed) (all : List (ℕ × Reply)) (old new : Durable D g)
+        → Life ds all (Serving old)
         → old.down ≡ false → new.down ≡ true → Fall old new → Life ds all (Serving new)
     cut : (ds hand : List Deed) (all : List (ℕ × Reply)) (old new : Durable D g) (left right : D)
         → Life ds all (Serving old) → old.down ≡ false → BothHonest old.disks → Cut old new hand
-        → AreLeft g (both_of old.disks) (both_of new.disks) left right → Life ds all (Stopped hand left right)
+        → AreLeft g (both_of old.disks) (both_of new.disks) left right
+        → Life ds all (Stopped hand left right)
     -- between two calls, or while it is down
     stopped : (ds : List Deed) (all : List (ℕ × Reply)) (s : Durable D g) (left right : D)
         → Life ds all (Serving s) → BothHonest s.disks
-        → AreLeft g (both_of s.disks) (both_of s.disks) left right → Life ds all (Stopped s.lost.items left right)
+        → AreLeft g (both_of s.disks) (both_of s.disks) left right
+        → Life ds all (Stopped s.lost.items left right)
     opened : (ds hand : List Deed) (all : List (ℕ × Reply)) (left right : D) (s : Durable D g)
         → Life ds all (Stopped hand left right) → IsOpenedOn left right s
         → Life (ds ++ found_of s.store.state hand) all (Serving s)
     -- an opening that was cut off, or failed (`open`: `any_moment`)
-    not_opened : (ds hand : List Deed) (all : List (ℕ × Reply)) (first second left right : D) (made : Made g)
+    not_opened : (ds hand : List Deed) (all : List (ℕ × Reply)) (first second left right : D)
+        (made : Made g)
         → Life ds all (Stopped hand first second)
         → LeavesNoOther (two (g.view first) (g.view second)) (disks_then made)
         → AreLeft g (two (g.view first) (g.view second)) (disks_then made) left right
@@ -129,16 +146,21 @@ module _ {D : Type 0} {g : Ghosts D} where
 
   -- Every life goes on by a call that makes no device call and answers nothing.
   abbrev pub StaysOn : Durable D g → Durable D g → Type 0
-  StaysOn old new = (ds : List Deed) (all : List (ℕ × Reply)) → Life ds all (Serving old) → Life ds all (Serving new)
+  StaysOn old new =
+      (ds : List Deed) (all : List (ℕ × Reply)) → Life ds all (Serving old)
+      → Life ds all (Serving new)
 
-  -- Every life goes on by a call: at Ok by deeds and by what was sent, with a fault by nothing; and where the call was
-  -- cut off at some moment, on whatever is left of the two disks.
-  pub record GoesOn {T E : Type 0} (sends_of : T → List (ℕ × Reply)) (old : Durable D g) (result : Result T E)
+  -- Every life goes on by a call: at Ok by deeds and by what was sent, with a fault by nothing; and
+  -- where the call was cut off at some moment, on whatever is left of the two disks.
+  pub record GoesOn {T E : Type 0} (sends_of : T → List (ℕ × Reply)) (old : Durable D g)
+      (result : Result T E)
       (new : Durable D g) : Type 0 where
     pub ok : (ds : List Deed) (all : List (ℕ × Reply)) → Life ds all (Serving old)
-        → IfOk result (λ told. (es : List Deed) × Life (ds ++ es) (all ++ sends_of told) (Serving new))
+        → IfOk result (λ told. (es : List Deed)
+        × Life (ds ++ es) (all ++ sends_of told) (Serving new))
     pub err : (ds : List Deed) (all : List (ℕ × Reply)) → Life ds all (Serving old)
         → OnErr result (Life ds all (Serving new))
     pub cut : (ds : List Deed) (all : List (ℕ × Reply)) (left right : D) → Life ds all (Serving old)
-        → old.down ≡ false → BothHonest old.disks → AreLeft g (both_of old.disks) (both_of new.disks) left right
+        → old.down ≡ false → BothHonest old.disks
+        → AreLeft g (both_of old.disks) (both_of new.disks) left right
         → (hand : List Deed) × Life ds all (Stopped hand left right)

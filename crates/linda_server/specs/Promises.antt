@@ -26,8 +26,8 @@ module _ {D : Type 0} {g : Ghosts D} where
   abbrev pub state_of : Durable D g → State
   state_of s = if s.down then s.before.value else s.store.state
 
-  -- A message that bears the number of what is kept for its client gets the kept reply, whatever else it says; no deed
-  -- is done, nothing else is sent, and nothing changes.
+  -- A message that bears the number of what is kept for its client gets the kept reply, whatever
+  -- else it says; no deed is done, nothing else is sent, and nothing changes.
   abbrev pub RepeatsWhatIsKept : Durable D g → Type 0
   RepeatsWhatIsKept s =
       (c n : ℕ) (kept : KeptReply) (m : Message) (all : History)
@@ -47,22 +47,26 @@ module _ {D : Type 0} {g : Ghosts D} where
     pub covered : All (IsCovered (state_of s)) all
     pub again : s.down ≡ false → RepeatsWhatIsKept s
 
-  -- What holds of a server that was opened where these deeds were in hand: nothing is held and nobody waits, and each
-  -- tuple that was held before is there as it was, unless a deed that was in hand took it.
+  -- What holds of a server that was opened where these deeds were in hand: nothing is held and
+  -- nobody waits, and each tuple that was held before is there as it was, unless a deed that was in
+  -- hand took it.
   pub record IsFreed (ds hand : List Deed) (all : List (ℕ × Reply)) (s : Durable D g) : Type 0 where
     pub nobody : s.store.soft ≡ no_asks
     pub back : (old : Durable D g) (id : ℕ) → Life ds all (Serving old) → old.down ≡ false
         → IsSome (get old.store.soft.holds id) → is_taken id (found_of s.store.state hand) ≡ false
-        → IsSome (get s.store.state.bag id) × (get s.store.state.bag id ≡ get old.store.state.bag id)
+        → IsSome (get s.store.state.bag id)
+        × (get s.store.state.bag id ≡ get old.store.state.bag id)
 
--- On these two files stands the state after the deeds so far and those that were in hand, or none of the latter.
+-- On these two files stands the state after the deeds so far and those that were in hand, or none
+-- of the latter.
 pub record IsReady (ds hand : List Deed) (left right : List ℕ) : Type 0 where
   pub state : State
   pub stands : Stands left right state
   pub done : AreDone empty_state (ds ++ found_of state hand) state
 
 module _ {D : Type 0} (g : Ghosts D) where
-  -- What holds of two disks without a server, where these deeds were in hand: a state stands there as they read, which
+  -- What holds of two disks without a server, where these deeds were in hand: a state stands there
+  -- as they read, which
   -- `open` finds (`only`).
   pub record AreReady (ds hand : List Deed) (all : List (ℕ × Reply)) (left right : D) : Type 0 where
     pub backed : AreBacked ds all

@@ -1,5 +1,6 @@
 -- What a server comes back with that went down.
-use Rattle.std.specs.Prelude.{◌≡◌, ◌⊎◌, ◌-◌, Bool, false, nat_le, List, [], length, Option, Some, None}
+use Rattle.std.specs.Prelude.{◌≡◌, ◌⊎◌, ◌-◌, Bool, false, nat_le, List, [], length, Option, Some}
+use Rattle.std.specs.Prelude.{None}
 use Rattle.std.specs.List.{slice_get}
 use Rattle.std.specs.FinMap.{get}
 use Rattle.linda_book.specs.Entries.{number_in}
@@ -19,7 +20,8 @@ is_done st (Some d) = nat_le (number_of d) (number_in (get st.book (client_of d)
 abbrev pub has_done : State → List Deed → Bool
 has_done st ds = is_done st (slice_get ds (length ds - 1))
 
--- All of the lost deeds are done, or none of them, and these are the ones; nothing is held and nobody waits.
+-- All of the lost deeds are done, or none of them, and these are the ones; nothing is held and
+-- nobody waits.
 pub record IsReopened (before : State) (lost deeds : List Deed) (new : Store) : Type 0 where
   pub which : (deeds ≡ []) ⊎ (deeds ≡ lost)
   pub after : IsAfter before deeds new.state

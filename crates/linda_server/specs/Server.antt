@@ -8,7 +8,8 @@ use Rattle.linda_journal.specs.Renewal.{TakesCalls}
 use Rattle.linda_server.specs.declared.disks.Disks.{Disks}
 use Rattle.linda_server.specs.declared.disks.InUse.{InUse}
 use Rattle.linda_server.specs.Pairs.{Both, PairsSince, PairsNow}
-use Rattle.linda_server.specs.Disks.{both, used_of, form_of, number_of, is_ready, AreHonest, failures, IsUpOn, IsKeptOn}
+use Rattle.linda_server.specs.Disks.{both, used_of, form_of, number_of, is_ready, AreHonest}
+use Rattle.linda_server.specs.Disks.{failures, IsUpOn, IsKeptOn}
 use Rattle.linda_server.specs.Disks.{AreRelated, AreSwapped}
 use Rattle.linda_server.specs.Calls.{StandsFor}
 
@@ -29,8 +30,8 @@ module _ {D : Type 0} {g : Ghosts D} where
   abbrev pub form_in_use : Disks (Bank D g) D → Form
   form_in_use disks = form_of (λ b. b.form) disks
 
-  -- Its generation, the offset at which its journal ends, how many records that has, and the most bytes that the bank
-  -- may take; each 0 where none is in use.
+  -- Its generation, the offset at which its journal ends, how many records that has, and the most
+  -- bytes that the bank may take; each 0 where none is in use.
   abbrev pub generation_in_use : Disks (Bank D g) D → ℕ
   generation_in_use disks = number_of (λ b. b.generation) disks
 
@@ -53,32 +54,40 @@ module _ {D : Type 0} {g : Ghosts D} where
 
   -- The bank in use represents the state, and a crash now leaves the two so.
   abbrev pub IsUpFor : Disks (Bank D g) D → State → Type 0
-  IsUpFor disks st = IsUpOn (λ b. b.form) (λ b. b.generation) (λ b. b.end) (λ b. g.view b.disk) g.view disks st
+  IsUpFor disks st =
+      IsUpOn (λ b. b.form) (λ b. b.generation) (λ b. b.end) (λ b. g.view b.disk) g.view disks st
 
-  -- The bank in use represents the state, and a crash now leaves the two so, each as far as the disks are honest.
+  -- The bank in use represents the state, and a crash now leaves the two so, each as far as the
+  -- disks are honest.
   abbrev pub IsKeptFor : Disks (Bank D g) D → State → Type 0
   IsKeptFor disks st =
-      IsKeptOn (λ b. b.form) (λ b. b.generation) (λ b. b.end) (λ b. g.view b.disk) g.view (λ b. g.honest b.disk) g.honest
+      IsKeptOn (λ b. b.form) (λ b. b.generation) (λ b. b.end) (λ b. g.view b.disk) g.view
+      (λ b. g.honest b.disk) g.honest
       disks st
 
-  -- Four calls changed or synced the disk of the bank in use, if it is honest, and the other disk is as it was.
+  -- Four calls changed or synced the disk of the bank in use, if it is honest, and the other disk
+  -- is as it was.
   abbrev pub IsPutOn : Disks (Bank D g) D → Disks (Bank D g) D → Type 0
   IsPutOn old new =
-      AreRelated (λ b c. g.honest b.disk → (g.view c.disk).moment ≡ (g.view b.disk).moment + 4) (λ d e. e ≡ d) old new
+      AreRelated (λ b c. g.honest b.disk → (g.view c.disk).moment ≡ (g.view b.disk).moment + 4)
+      (λ d e. e ≡ d) old new
 
-  -- So many calls changed or synced the disk that was not in use, if it is honest, and two more where it was to be
-  -- closed first; it is in use now, and the other one is as it was.
+  -- So many calls changed or synced the disk that was not in use, if it is honest, and two more
+  -- where it was to be closed first; it is in use now, and the other one is as it was.
   abbrev pub IsRenewedBy : ℕ → Disks (Bank D g) D → Disks (Bank D g) D → Type 0
   IsRenewedBy calls old new =
-      AreSwapped (λ b d. d ≡ b.disk) (λ d b. g.honest d → TakesCalls calls (g.view d) (g.view b.disk)) old new
+      AreSwapped (λ b d. d ≡ b.disk)
+      (λ d b. g.honest d → TakesCalls calls (g.view d) (g.view b.disk)) old new
 
-  -- The bank in use is as it was. Two calls changed or synced the other disk, if it is honest, and two more if its gate
-  -- was to be closed first.
+  -- The bank in use is as it was. Two calls changed or synced the other disk, if it is honest, and
+  -- two more if its gate was to be closed first.
   abbrev pub IsClearedBy : Disks (Bank D g) D → Disks (Bank D g) D → Type 0
-  IsClearedBy old new = AreRelated (λ b c. c ≡ b) (λ d e. g.honest d → TakesCalls 2 (g.view d) (g.view e)) old new
+  IsClearedBy old new =
+      AreRelated (λ b c. c ≡ b) (λ d e. g.honest d → TakesCalls 2 (g.view d) (g.view e)) old new
 
   -- At no moment of a call crashes leave two images without P.
-  abbrev pub AlwaysLeave : Disks (Bank D g) D → Disks (Bank D g) D → (List ℕ → List ℕ → Type 0) → Type 0
+  abbrev pub AlwaysLeave : Disks (Bank D g) D → Disks (Bank D g) D → (List ℕ → List ℕ → Type 0)
+      → Type 0
   AlwaysLeave old new P = BothHonest old → PairsSince (both_of old) (both_of new) P
 
   -- Crashes now leave the state.

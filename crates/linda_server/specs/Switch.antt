@@ -11,12 +11,14 @@ use Rattle.linda_snap.specs.Snapshot.{spell_state}
 use Rattle.linda_server.specs.declared.disks.Disks.{Disks}
 use Rattle.linda_server.specs.declared.disks.Disks.TheVariants.{InUse, Shut, Away}
 
--- There is no next bank for the state: it would pass the limit, or no generation is left after this one.
+-- There is no next bank for the state: it would pass the limit, or no generation is left after this
+-- one.
 abbrev pub HasNoNext : State → ℕ → ℕ → Type 0
-HasNoNext st limit generation = (limit < MIN_BYTES + 1 + length (spell_state written st)) ⊎ (2 ^ 64 ≤ generation + 1)
+HasNoNext st limit generation =
+    (limit < MIN_BYTES + 1 + length (spell_state written st)) ⊎ (2 ^ 64 ≤ generation + 1)
 
--- How many calls make a new bank for the state after a closed gate: a write for each piece, a sync, and a write and a
--- sync that open the gate.
+-- How many calls make a new bank for the state after a closed gate: a write for each piece, a sync,
+-- and a write and a sync that open the gate.
 abbrev pub snapshot_calls : State → ℕ
 snapshot_calls st = 3 + pieces (MIN_BYTES + length (spell_state written st))
 
@@ -27,21 +29,25 @@ module _ {D : Type 0} {g : Ghosts D} where
   IsOtherDurable (Shut left right) = ⊥
   IsOtherDurable Away = ⊥
 
-  -- The two have changed places: the bank in use is in the form of new banks, of the next generation, and has no
-  -- record, and the disk of the bank that was in use is the other one, as it was.
+  -- The two have changed places: the bank in use is in the form of new banks, of the next
+  -- generation, and has no record, and the disk of the bank that was in use is the other one, as it
+  -- was.
   abbrev pub IsSwitched : Disks (Bank D g) D → Disks (Bank D g) D → Type 0
   IsSwitched (InUse old) (InUse new) =
-      (new.is_right ≡ not old.is_right) × (new.bank.form ≡ written) × (new.bank.generation ≡ old.bank.generation + 1)
+      (new.is_right ≡ not old.is_right) × (new.bank.form ≡ written)
+      × (new.bank.generation ≡ old.bank.generation + 1)
       × (new.bank.records ≡ 0) × (new.other ≡ old.bank.disk)
   IsSwitched (InUse old) (Shut left right) = ⊥
   IsSwitched (InUse old) Away = ⊥
   IsSwitched (Shut left right) new = ⊥
   IsSwitched Away new = ⊥
 
-  -- The bank in use is as it was, and the other disk holds one byte, if it is honest, which is no open gate.
+  -- The bank in use is as it was, and the other disk holds one byte, if it is honest, which is no
+  -- open gate.
   abbrev pub IsTrimmed : Disks (Bank D g) D → Disks (Bank D g) D → Type 0
   IsTrimmed (InUse old) (InUse new) = (new.bank ≡ old.bank) × (new.is_right ≡ old.is_right)
-      × (g.honest new.other → (length (g.view new.other).seen ≡ 1) × IsClosed (g.view new.other).seen)
+      × (g.honest new.other
+      → (length (g.view new.other).seen ≡ 1) × IsClosed (g.view new.other).seen)
   IsTrimmed (InUse old) (Shut left right) = ⊥
   IsTrimmed (InUse old) Away = ⊥
   IsTrimmed (Shut left right) new = ⊥

@@ -8,7 +8,8 @@ ghost use Rattle.linda_disk.specs.Run.{LeavesOnly};
 ghost use Rattle.linda_journal.specs.Renewal.{IsNoBank, IsClosed, IsSameOrNone, TakesCalls};
 ghost use Rattle.linda_snap.specs.Stands.{Stands};
 ghost use Rattle.linda_server.specs.Pairs.{PairsSince};
-ghost use Rattle.linda_server.specs.Server.{both_of, is_usable, limit_in_use, BothHonest, failures_of};
+ghost use Rattle.linda_server.specs.Server.{both_of, is_usable, limit_in_use, BothHonest};
+ghost use Rattle.linda_server.specs.Server.{failures_of};
 ghost use Rattle.linda_server.specs.Server.{IsClearedBy, IsUpFor, IsKeptFor};
 ghost use Rattle.linda_server.specs.Disks.{is_there};
 ghost use Rattle.linda_server.specs.Switch.{IsOtherDurable, IsTrimmed};
@@ -18,12 +19,13 @@ use linda_disk::{Disk, DiskFault};
 use linda_journal::{Bank, shut};
 use std::mem;
 
-/// Leaves one byte of the disk that is not in use, the closed gate of a bank that is none any more. The bank in use is
-/// not touched.
+/// Leaves one byte of the disk that is not in use, the closed gate of a bank that is none any more.
+/// The bank in use is not touched.
 ///
 /// # Errors
 ///
-/// `Device` where the device failed, and `Memory` where the disk found none: neither disk is to be used.
+/// `Device` where the device failed, and `Memory` where the disk found none: neither disk is to be
+/// used.
 pub(crate) fn clear<D: Disk>(disks: &mut Disks<Bank<D>, D>) -> Result<(), DiskFault>
     requires ready { is_usable disks.old ≡ true }
     requires durable { IsOtherDurable disks.old }

@@ -1,13 +1,15 @@
 //! How deeds come onto the bank in use.
 
-ghost use Rattle.std.specs.Prelude.{◌≡◌, ◌<◌, ◌≤◌, ◌+◌, ◌↔◌, ◌⊎◌, ◌≢◌, [], true, length, All, IfErr, OnOk, IsErrOf};
+ghost use Rattle.std.specs.Prelude.{◌≡◌, ◌<◌, ◌≤◌, ◌+◌, ◌↔◌, ◌⊎◌, ◌≢◌, [], true, length, All};
+ghost use Rattle.std.specs.Prelude.{IfErr, OnOk, IsErrOf};
 ghost use Rattle.linda_store_state.specs.DeedFormat.{payload, SuitsForm};
 ghost use Rattle.linda_store_state.specs.State as state;
 ghost use Rattle.linda_disk.specs.Disk.{TellsFailures};
 ghost use Rattle.linda_store_step.specs.declared.size.TheConstants.{MAX_BATCH};
 ghost use Rattle.linda_server.specs.declared.limits.TheConstants.{RECORD_BYTES};
 ghost use Rattle.linda_server.specs.Pairs.{PairsSince};
-ghost use Rattle.linda_server.specs.Server.{both_of, is_usable, form_in_use, end_in_use, limit_in_use};
+ghost use Rattle.linda_server.specs.Server.{both_of, is_usable, form_in_use, end_in_use};
+ghost use Rattle.linda_server.specs.Server.{limit_in_use};
 ghost use Rattle.linda_server.specs.Server.{BothHonest, failures_of, IsUpFor, IsKeptFor, IsPutOn};
 ghost use Rattle.linda_server.specs.Disks.{is_there};
 ghost use Rattle.linda_server.specs.Calls.{LeadTo, IsOldOrNew};
@@ -53,7 +55,8 @@ pub(crate) fn commit<D: Disk>(
     ensures limit { limit_in_use disks.new ≡ limit_in_use disks.old }
     // Where there are none, no device call is made.
     ensures idle { deeds.now ≡ [] → disks.new ≡ disks.old }
-    // Else four calls change or sync the disk of the bank in use, and the other disk is not touched.
+    // Else four calls change or sync the disk of the bank in use, and the other disk is not
+    // touched.
     ensures clock { 0 < length deeds.now → OnOk result (IsPutOn disks.old disks.new) }
     ensures honest { BothHonest disks.old ↔ BothHonest disks.new }
     ensures cause { IfErr result (λ fault. TellsFailures ServeFault.Disk fault

@@ -57,7 +57,8 @@ pub(crate) struct Pair<B, D> {
 impl<D: Disk> Disks<Bank<D>, D> {
     ghost use Rattle.std.specs.Prelude.{◌≡◌, true, Some};
     ghost use Rattle.linda_server.specs.Disks.{disks_of, is_there};
-    ghost use Rattle.linda_server.specs.Server.{bank_in_use, form_in_use, end_in_use, records_in_use};
+    ghost use Rattle.linda_server.specs.Server.{bank_in_use, form_in_use, end_in_use};
+    ghost use Rattle.linda_server.specs.Server.{records_in_use};
 
     /// The form of the bank in use; where none is in use, that of new banks.
     pub(crate) fn form(&self) -> Form

@@ -13,8 +13,10 @@ ghost use Rattle.std.specs.Prelude.{◌≡◌, ◌||◌, [], nat_le, true, false
 ghost use Rattle.linda_server.specs.declared.limits.TheConstants.{SNAPSHOT_RECORDS};
 ghost use Rattle.linda_server.specs.Pairs.{PairsNow};
 ghost use Rattle.linda_server.specs.Disks.{disks_of, is_there, is_old};
-ghost use Rattle.linda_server.specs.Server.{both_of, is_usable, bank_in_use, form_in_use, end_in_use};
-ghost use Rattle.linda_server.specs.Server.{records_in_use, limit_in_use, BothHonest, IsKeptFor, StandNow};
+ghost use Rattle.linda_server.specs.Server.{both_of, is_usable, bank_in_use, form_in_use};
+ghost use Rattle.linda_server.specs.Server.{end_in_use};
+ghost use Rattle.linda_server.specs.Server.{records_in_use, limit_in_use, BothHonest, IsKeptFor};
+ghost use Rattle.linda_server.specs.Server.{StandNow};
 ghost use Rattle.linda_server.specs.Calls.{IsLimit, IsWithOrWithout};
 
 use crate::disks::{Disks, InUse, is_old};
@@ -82,12 +84,13 @@ impl<D: Disk> Durable<D> {
         self.store.waits()
     }
 
-    /// What waits is kept by random keys from now on, which no client knows, if nobody waits yet. For a program that
-    /// serves strangers, at its start. Nothing changes that a call answers.
+    /// What waits is kept by random keys from now on, which no client knows, if nobody waits yet.
+    /// For a program that serves strangers, at its start. Nothing changes that a call answers.
     pub fn choose_keys(&mut self, keys: RandomState)
         ensures store { self.new.store ≡ self.old.store }
         ensures disks { (self.new.disks ≡ self.old.disks) × (self.new.limit ≡ self.old.limit) }
-        ensures down { (self.new.down ≡ self.old.down) × (self.new.before.value ≡ self.old.before.value)
+        ensures down { (self.new.down ≡ self.old.down)
+            × (self.new.before.value ≡ self.old.before.value)
             × (self.new.lost.items ≡ self.old.lost.items) }
     {
         self.store.choose_keys(keys);
@@ -104,8 +107,8 @@ impl<D: Disk> Durable<D> {
         self.down
     }
 
-    /// Whether a snapshot is due: the bank in use has so many records, or is not in the form of new banks, which every
-    /// snapshot has.
+    /// Whether a snapshot is due: the bank in use has so many records, or is not in the form of new
+    /// banks, which every snapshot has.
     pub fn needs_snapshot(&self) -> bool
         ensures { result ≡ (is_old (form_in_use self.now.disks)
             || nat_le SNAPSHOT_RECORDS (records_in_use self.now.disks)) }
@@ -120,8 +123,8 @@ impl<D: Disk> Durable<D> {
         is_old(self.disks.form())
     }
 
-    /// Which bank is in use: of two, that of the greater generation; nothing only while none is, as the server may be
-    /// down.
+    /// Which bank is in use: of two, that of the greater generation; nothing only while none is, as
+    /// the server may be down.
     pub fn in_use(&self) -> Option<InUse>
         ensures { result ≡ bank_in_use self.now.disks }
     {

@@ -3,8 +3,8 @@
 use linda_journal::{GATE_BYTES, MIN_BYTES, RECORD_HEAD};
 use linda_snap::EMPTY_STATE_BYTES;
 
-/// The fewest bytes that a bank may be limited to: those of a new one, whose body is a snapshot of the empty state, and
-/// whose journal is a closed gate.
+/// The fewest bytes that a bank may be limited to: those of a new one, whose body is a snapshot of
+/// the empty state, and whose journal is a closed gate.
 pub const MIN_LIMIT: usize = MIN_BYTES + EMPTY_STATE_BYTES + GATE_BYTES;
 
 /// The most bytes that a bank may be limited to.

@@ -5,7 +5,8 @@ ghost use Rattle.linda_store_state.specs.State.{IsState};
 ghost use Rattle.linda_disk.specs.Disk.{TellsFailures};
 ghost use Rattle.linda_snap.specs.Stands.{Stands};
 ghost use Rattle.linda_server.specs.Pairs.{PairsSince};
-ghost use Rattle.linda_server.specs.Server.{both_of, is_usable, generation_in_use, limit_in_use, BothHonest};
+ghost use Rattle.linda_server.specs.Server.{both_of, is_usable, generation_in_use, limit_in_use};
+ghost use Rattle.linda_server.specs.Server.{BothHonest};
 ghost use Rattle.linda_server.specs.Server.{failures_of, IsUpFor, IsKeptFor, IsRenewedBy};
 ghost use Rattle.linda_server.specs.Disks.{is_there};
 ghost use Rattle.linda_server.specs.Switch.{HasNoNext, IsOtherDurable, IsSwitched, snapshot_calls};
@@ -20,13 +21,13 @@ use linda_store_state::State;
 use std::alloc::Global;
 use std::mem;
 
-/// Makes a new bank of the next generation on the disk that is not in use, whose body is a snapshot of the state, and
-/// takes it into use.
+/// Makes a new bank of the next generation on the disk that is not in use, whose body is a snapshot
+/// of the state, and takes it into use.
 ///
 /// # Errors
 ///
-/// `Full` where the new bank would pass its limit or no generation is left: nothing changed. `Disk` where the device
-/// failed, and `Memory`: neither bank is to be used.
+/// `Full` where the new bank would pass its limit or no generation is left: nothing changed. `Disk`
+/// where the device failed, and `Memory`: neither bank is to be used.
 pub(crate) fn renew<B: Bag, D: Disk>(
     disks: &mut Disks<Bank<D>, D>,
     alloc: Global,
@@ -39,13 +40,14 @@ pub(crate) fn renew<B: Bag, D: Disk>(
     // At no moment crashes leave anything but the state;
     ensures any_moment { BothHonest disks.old
         → IsUpFor disks.old state.now
-        → PairsSince (both_of disks.old) (both_of disks.new) (λ left right. Stands left right state.now) }
+        → PairsSince (both_of disks.old) (both_of disks.new)
+        (λ left right. Stands left right state.now) }
     // at Ok the new bank is in use, and represents the state.
     ensures kept { IsKeptFor disks.old state.now
         → OnOk result (IsKeptFor disks.new state.now) }
     ensures switched { OnOk result (IsSwitched disks.old disks.new) }
-    // It is a write for each piece of the new bank, a sync, a write and a sync; and first a write and a sync, where the
-    // disk's first gate is to be closed.
+    // It is a write for each piece of the new bank, a sync, a write and a sync; and first a write
+    // and a sync, where the disk's first gate is to be closed.
     ensures clock { OnOk result (IsRenewedBy (snapshot_calls state.now) disks.old disks.new) }
     ensures there { is_there disks.new ≡ true }
     ensures ready { OnOk result (is_usable disks.new ≡ true) }

@@ -32,7 +32,8 @@ pub(crate) fn serve(
     batch: Batch<'_>,
 ) -> Result<Served, AllocError>
     requires { store.old.is_spent ≡ false }
-    ensures ok { IfOk result (λ served. IsServed store.old.state store.old.soft (messages_of batch.entry)
+    ensures ok { IfOk result (λ served.
+        IsServed store.old.state store.old.soft (messages_of batch.entry)
         served store.new.state store.new.soft) }
     ensures unspent { OnOk result (store.new.is_spent ≡ false) }
 {

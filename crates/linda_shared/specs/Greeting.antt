@@ -23,7 +23,8 @@ pub record WasGreeted (message : Message) (answer : Result (Account × ℕ) (ℕ
 
 -- A seat is of the Hello's client, and none of its messages is on its way.
 abbrev pub IsSeatOf : Message → Result (Account × ℕ) (ℕ × ℕ) → Type 0
-IsSeatOf (messages.Hello version client fresh) (Ok got) = (got.0.client ≡ client) × (got.0.asked ≡ 0)
+IsSeatOf (messages.Hello version client fresh) (Ok got) =
+    (got.0.client ≡ client) × (got.0.asked ≡ 0)
 IsSeatOf _ (Ok got) = ⊥
 IsSeatOf _ (Err why) = Unit {0}
 

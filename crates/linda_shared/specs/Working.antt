@@ -27,7 +27,8 @@ rank faults.NoThread = 5
 rank faults.Memory = 6
 
 -- of two ends the fault that stands first, if there is one; the earlier one of two that stand alike
-abbrev pub first_of : {A : Type 0} → Result A SharedFault → Result A SharedFault → Result A SharedFault
+abbrev pub first_of : {A : Type 0} → Result A SharedFault → Result A SharedFault
+    → Result A SharedFault
 first_of (Ok a) other = other
 first_of (Err fault) (Ok a) = Err fault
 first_of (Err a) (Err b) = if nat_lt (rank b) (rank a) then Err b else Err a

@@ -18,22 +18,26 @@ pub(crate) fn addressed<L: Ledger>(
     message: &Message,
 ) -> Result<(Message, Address<L>), AllocError>
     ensures message { IfOk result (λ m. m.0 ≡ message.now) }
-    ensures to { IfOk result (λ m. (m.1.client ≡ (arc_value mailbox.now).client) × (m.1.place ≡ place)) }
+    ensures to { IfOk result (λ m. (m.1.client ≡ (arc_value mailbox.now).client)
+        × (m.1.place ≡ place)) }
 {
     let copy = message.try_clone(alloc)?;
     let mailbox = Arc::try_clone(mailbox)?;
     Ok((copy, Address::new(place, mailbox)))
 }
 
-/// A copy of each message, in order, with the address of the place in its client's mailbox at which it stands.
+/// A copy of each message, in order, with the address of the place in its client's mailbox at which
+/// it stands.
 pub(crate) fn address_all<L: Ledger>(
     alloc: Global,
     mailbox: &Arc<Mailbox<L>, Global>,
     messages: &[Message],
 ) -> Result<Vec<(Message, Address<L>)>, AllocError>
     ensures messages { IfOk result (λ all. map (λ m. m.0) all.items ≡ messages.now) }
-    ensures places { IfOk result (λ all. map (λ m. m.1.place) all.items ≡ up_to (length messages.now)) }
-    ensures to { IfOk result (λ all. All (λ m. m.1.client ≡ (arc_value mailbox.now).client) all.items) }
+    ensures places { IfOk result (λ all.
+        map (λ m. m.1.place) all.items ≡ up_to (length messages.now)) }
+    ensures to { IfOk result (λ all.
+        All (λ m. m.1.client ≡ (arc_value mailbox.now).client) all.items) }
 {
     let mut all = Vec::with_capacity(alloc, messages.len())?;
     for place in 0..messages.len() {

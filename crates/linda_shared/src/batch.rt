@@ -1,6 +1,7 @@
 //! The batch in hand.
 
-ghost use Rattle.std.specs.Prelude.{◌≡◌, ◌+◌, ◌-◌, ◌≤◌, ◌++◌, [], true, false, All, IsTrue, map, length};
+ghost use Rattle.std.specs.Prelude.{◌≡◌, ◌+◌, ◌-◌, ◌≤◌, ◌++◌, [], true, false, All, IsTrue, map};
+ghost use Rattle.std.specs.Prelude.{length};
 ghost use Rattle.std.specs.Prelude.{nat_lt, vec_len, vec_capacity, IfOk};
 ghost use Rattle.std.specs.VecDeque.{deque_len};
 ghost use Rattle.linda_store_step.specs.declared.size.TheConstants.{MAX_BATCH};
@@ -19,9 +20,9 @@ use std::marker::Model;
 use std::sync::Wait;
 use std::sync::ledger::Ledger;
 
-/// The messages in hand, each with its client and its part of the ledger, and the deliveries that answer them.
-/// Contracts see the messages with their clients, in order, and of each delivery whether it has a copy. The client of a
-/// message is the one that its answer goes to.
+/// The messages in hand, each with its client and its part of the ledger, and the deliveries that
+/// answer them. Contracts see the messages with their clients, in order, and of each delivery
+/// whether it has a copy. The client of a message is the one that its answer goes to.
 #[derive(Drop)]
 pub(crate) struct Batch<L: Ledger> {
     messages: Vec<(u32, Message)>,
@@ -40,7 +41,8 @@ impl<L: Ledger> Model for Batch<L> {
 
     ghost view = { λ t. batch_of t.messages.items (map has_copy t.deliveries.items) };
 
-    ghost invariant = { λ t. (map (λ m. m.0) t.messages.items ≡ map (λ a. a.address.client) t.asked.items)
+    ghost invariant = { λ t. (map (λ m. m.0) t.messages.items
+        ≡ map (λ a. a.address.client) t.asked.items)
         × (vec_len t.messages ≡ vec_len t.asked) × (vec_len t.answered ≡ 0)
         × (vec_len t.asked + vec_len t.deliveries ≤ MAX_BATCH)
         × (MAX_BATCH ≤ vec_capacity t.messages) × (MAX_BATCH ≤ vec_capacity t.asked)
@@ -89,11 +91,12 @@ impl<L: Ledger> Batch<L> {
         }
     }
 
-    /// Serves all that was asked, and writes a delivery for each. Where there is no memory for all of these the server
-    /// is given up, and they are lost.
+    /// Serves all that was asked, and writes a delivery for each. Where there is no memory for all
+    /// of these the server is given up, and they are lost.
     pub(crate) fn serve<D: Disk>(&mut self, alloc: Global, held: &mut Held<D, L>) -> bool
         ensures served { self.new.messages ≡ [] }
-        ensures each { length self.new.deliveries ≡ length self.old.messages + length self.old.deliveries }
+        ensures each { length self.new.deliveries
+            ≡ length self.old.messages + length self.old.deliveries }
         ensures kept { result ≡ true → All IsTrue self.new.deliveries }
         ensures down { result ≡ false → held.new.server.down ≡ true }
     {
@@ -118,7 +121,8 @@ fn write_all<L: Ledger>(
     deliveries: &mut Vec<Delivery<L>>,
 )
     requires { vec_len deliveries.old + vec_len answered.old ≤ vec_capacity deliveries.old }
-    ensures answered { (vec_len answered.new ≡ 0) × (vec_capacity answered.new ≡ vec_capacity answered.old) }
+    ensures answered { (vec_len answered.new ≡ 0)
+        × (vec_capacity answered.new ≡ vec_capacity answered.old) }
     ensures deliveries { (vec_len deliveries.new ≡ vec_len deliveries.old + vec_len answered.old)
         × (vec_capacity deliveries.new ≡ vec_capacity deliveries.old) }
 {

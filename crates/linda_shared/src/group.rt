@@ -16,9 +16,10 @@ use std::alloc::{AllocError, Global};
 use std::marker::Model;
 use std::sync::ledger::Ledger;
 
-/// Messages of several sessions, each with its sender and its part of the ledger; once they were served, the answers.
-/// There is room for a batch, so nothing that it does takes memory. A message is done as that of the client of the
-/// account that asked it. Contracts see how many are asked, and how many are answered.
+/// Messages of several sessions, each with its sender and its part of the ledger; once they were
+/// served, the answers. There is room for a batch, so nothing that it does takes memory. A message
+/// is done as that of the client of the account that asked it. Contracts see how many are asked,
+/// and how many are answered.
 #[derive(Drop)]
 pub struct Group<L: Ledger> {
     // Those asked, in order; once they were served those that are answered, the first one last.
@@ -83,7 +84,8 @@ impl<L: Ledger> Group<L> {
         requires room { self.old.asked < MAX_BATCH }
         requires none { self.old.answered ≡ 0 }
         requires few { account.old.asked < MOST_ASKED }
-        ensures account { account.new ≡ account_of account.old.client account.old.deeds (account.old.asked + 1)
+        ensures account { account.new ≡ account_of account.old.client account.old.deeds
+            (account.old.asked + 1)
             account.old.ring }
         ensures group { self.new ≡ group_of (self.old.asked + 1) 0 }
     {
@@ -93,8 +95,8 @@ impl<L: Ledger> Group<L> {
         self.asked.push_reserved(asked);
     }
 
-    /// Serves all that was asked, as one step of the server after another. If answers of before wait to be heard
-    /// nothing is done.
+    /// Serves all that was asked, as one step of the server after another. If answers of before
+    /// wait to be heard nothing is done.
     pub(crate) fn serve<D: Disk>(&mut self, alloc: Global, held: &mut Held<D, L>)
         ensures each { self.new.asked + self.new.answered ≡ self.old.asked + self.old.answered }
         ensures all { self.old.answered ≡ 0 → self.new.asked ≡ 0 }
@@ -106,7 +108,8 @@ impl<L: Ledger> Group<L> {
         self.messages.reverse();
     }
 
-    /// The next message that was answered, in order, with its answer; nothing before the group was served.
+    /// The next message that was answered, in order, with its answer; nothing before the group was
+    /// served.
     pub fn next(&mut self) -> Option<(Message, Answered<Sender, L>)>
         ensures fewer { IfSome result (λ _. (self.new.answered + 1 ≡ self.old.answered)
             × (self.new.asked ≡ self.old.asked)) }

@@ -1,12 +1,14 @@
 //! Sessions of clients, each in a thread of its own, over one durable server.
 //!
-//! `Shared` has the server under a lock. What waits is served in groups: whoever finds nobody serving leads, takes a
-//! batch of what waits to the server, and while the answers are given out the next session leads the next group. A
-//! `Seat` is what a session carries; its replies come out of an `Outlet`, which never asks for the server.
+//! `Shared` has the server under a lock. What waits is served in groups: whoever finds nobody
+//! serving leads, takes a batch of what waits to the server, and while the answers are given out
+//! the next session leads the next group. A
+//! `Seat` is what a session carries; its replies come out of an `Outlet`, which never asks for the
+//! server.
 //!
-//! One thread may serve many sessions too, and then waits for none of them: each is an `Account`, its messages go to the
-//! server in a `Group` with those of the others (`admit`, `serve_group`, `depart`), and `hear_answer` is what it hears.
-//! What is sent to clients goes to a `Post`.
+//! One thread may serve many sessions too, and then waits for none of them: each is an `Account`,
+//! its messages go to the server in a `Group` with those of the others (`admit`, `serve_group`,
+//! `depart`), and `hear_answer` is what it hears. What is sent to clients goes to a `Post`.
 #![tactic(auto)]
 
 mod addressed;

@@ -13,8 +13,8 @@ use std::alloc::Global;
 use std::sync::Wait;
 use std::sync::ledger::Ledger;
 
-/// The server, and the batch in hand. Once the answers of a group were lost the server is given up, and nothing that
-/// waits in its outboxes is given out any more.
+/// The server, and the batch in hand. Once the answers of a group were lost the server is given up,
+/// and nothing that waits in its outboxes is given out any more.
 #[derive(Drop)]
 pub(crate) struct Locked<D: Disk, L: Ledger> {
     pub(crate) held: Held<D, L>,

@@ -12,8 +12,8 @@ use std::marker::Model;
 use std::sync::Arc;
 use std::sync::ledger::Ledger;
 
-/// What a session carries: what its client was told, and the client's mailbox, which its answers come to. Contracts see
-/// the account. Between two calls nothing is on its way.
+/// What a session carries: what its client was told, and the client's mailbox, which its answers
+/// come to. Contracts see the account. Between two calls nothing is on its way.
 #[derive(Drop)]
 pub struct Seat<L: Ledger> {
     pub(crate) account: Account<L>,
@@ -32,7 +32,8 @@ impl<L: Ledger> Model for Seat<L> {
 
     ghost view = { λ s. s.account };
 
-    ghost invariant = { λ s. (s.account.asked ≡ 0) × ((arc_value s.mailbox).client ≡ s.account.client) };
+    ghost invariant = { λ s. (s.account.asked ≡ 0)
+        × ((arc_value s.mailbox).client ≡ s.account.client) };
 }
 
 impl<L: Ledger> Seat<L> {

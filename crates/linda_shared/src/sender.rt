@@ -2,8 +2,8 @@
 
 ghost use Rattle.std.specs.Prelude.{◌≡◌};
 
-/// Who sent a message: its client, and the key under which whoever serves the session has it. Only `Group::ask` makes
-/// one, of the account that asks: so an answer leads to nobody else.
+/// Who sent a message: its client, and the key under which whoever serves the session has it. Only
+/// `Group::ask` makes one, of the account that asks: so an answer leads to nobody else.
 #[derive(Clone, Copy, Debug, PartialEq, Eq)]
 pub struct Sender {
     client: u32,

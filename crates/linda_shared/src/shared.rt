@@ -23,8 +23,9 @@ use std::alloc::{AllocError, Global};
 use std::sync::ledger::{Blank, Ledger};
 use std::sync::{Mutex, Wait};
 
-/// A server that threads share. Order of locks: the server, the router, the queue, a mailbox. The server is locked
-/// while a group is written to the disks; the router while what a group came to is given out, beside the next group.
+/// A server that threads share. Order of locks: the server, the router, the queue, a mailbox. The
+/// server is locked while a group is written to the disks; the router while what a group came to is
+/// given out, beside the next group.
 #[derive(Drop)]
 pub struct Shared<D: Disk, L: Ledger> {
     locked: Mutex<Locked<D, L>>,
@@ -63,8 +64,8 @@ impl<D: Disk, L: Ledger> Shared<D, L> {
         outlet.drain(rt, self.alloc)
     }
 
-    /// Waits until there is a reply, the server is down or the seat was hung up, and takes what is there: so nothing
-    /// where no reply comes any more. Never asks for the server.
+    /// Waits until there is a reply, the server is down or the seat was hung up, and takes what is
+    /// there: so nothing where no reply comes any more. Never asks for the server.
     pub fn drain_wait<R: Wait>(&self, rt: &R, outlet: &mut Outlet<L>) -> Vec<Reply> {
         outlet.drain_wait(rt, self.alloc)
     }
@@ -79,18 +80,21 @@ impl<D: Disk, L: Ledger> Shared<D, L> {
         self.locked.lock(rt).held.needs_snapshot()
     }
 
-    /// Whether a snapshot is to be taken, as `Held::pays` says: for the program that serves, and takes them.
+    /// Whether a snapshot is to be taken, as `Held::pays` says: for the program that serves, and
+    /// takes them.
     pub fn pays<R: Wait>(&self, rt: &R) -> bool {
         self.locked.lock(rt).held.pays()
     }
 
-    /// Has no snapshot that pays tried before there are as many records more as make one due; one that a deed asks for
-    /// which was refused for room is taken all the same. For a server that was opened, and may have gone down in one.
+    /// Has no snapshot that pays tried before there are as many records more as make one due; one
+    /// that a deed asks for which was refused for room is taken all the same. For a server that was
+    /// opened, and may have gone down in one.
     pub fn put_off<R: Wait>(&self, rt: &R) {
         self.locked.lock(rt).held.put_off();
     }
 
-    /// What the server comes to at a moment, in numbers, for whoever tells its operator. Takes no memory.
+    /// What the server comes to at a moment, in numbers, for whoever tells its operator. Takes no
+    /// memory.
     pub fn gauge<R: Wait>(&self, rt: &R) -> Gauge {
         self.locked.lock(rt).held.gauge()
     }

@@ -52,18 +52,21 @@ impl Calls {
 
     // The number of its next message, counted from 1; the last number there is for all after that.
     fn next(&mut self) -> u64
-        ensures { (self.new.sent ≡ min (self.old.sent + 1) (2 ^ 64 - 1)) × (result ≡ self.new.sent) }
+        ensures { (self.new.sent ≡ min (self.old.sent + 1) (2 ^ 64 - 1))
+            × (result ≡ self.new.sent) }
     {
         self.sent = self.sent.saturating_add(1);
         self.sent
     }
 }
 
-/// Lets the worker do its steps until it ends. The seat stays its client's, and loses nothing that it was told.
+/// Lets the worker do its steps until it ends. The seat stays its client's, and loses nothing that
+/// it was told.
 ///
 /// # Errors
 ///
-/// What `submit` refuses; `Stuck` where the gate stays closed; and where the worker waits and no reply comes any more
+/// What `submit` refuses; `Stuck` where the gate stays closed; and where the worker waits and no
+/// reply comes any more
 /// `Down`, or `Memory` if the server is up.
 pub(crate) fn work<D: Disk, L: Ledger, W: Worker, G: Gate, R: Wait + Clock>(
     rt: &R,

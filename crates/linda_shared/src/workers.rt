@@ -2,7 +2,8 @@
 
 mod begun;
 
-ghost use Rattle.std.specs.Prelude.{◌≡◌, ◌+◌, ◌<◌, ◌≤◌, ◌++◌, ◌∷◌, [], map, vec_len, vec_capacity, IfOk, IfErr};
+ghost use Rattle.std.specs.Prelude.{◌≡◌, ◌+◌, ◌<◌, ◌≤◌, ◌++◌, ◌∷◌, [], map, vec_len, vec_capacity};
+ghost use Rattle.std.specs.Prelude.{IfOk, IfErr};
 ghost use Rattle.linda_shared.specs.Working as spec;
 ghost use Rattle.linda_shared.specs.Working.{AllHaveWorked};
 
@@ -27,13 +28,14 @@ use std::time::Clock;
 pub struct Worked<L: Ledger> {
     /// Their seats, in order.
     pub seats: Vec<Seat<L>>,
-    /// Whether all ended by themselves; else the fault of one, that which stands first in `SharedFault`.
+    /// Whether all ended by themselves; else the fault of one, that which stands first in
+    /// `SharedFault`.
     pub end: Result<(), SharedFault>,
 }
 
-/// Lets each worker do its steps in a thread of its own, with a seat and an outlet. The seats come back in order,
-/// beside a fault too, each its client's and with all that it was told. Where no thread can be started for a worker
-/// that is `NoThread`, and the others go on to their ends.
+/// Lets each worker do its steps in a thread of its own, with a seat and an outlet. The seats come
+/// back in order, beside a fault too, each its client's and with all that it was told. Where no
+/// thread can be started for a worker that is `NoThread`, and the others go on to their ends.
 ///
 /// # Errors
 ///
@@ -66,7 +68,8 @@ pub fn run_workers<
         rt,
         |scope| -> Worked<L>
             requires none { (begun.items ≡ []) × (seats.items ≡ []) }
-            requires room { (vec_len workers ≤ vec_capacity begun) × (vec_len workers ≤ vec_capacity seats) }
+            requires room { (vec_len workers ≤ vec_capacity begun)
+                × (vec_len workers ≤ vec_capacity seats) }
             ensures { AllHaveWorked (map (λ w. w.0) workers.items) result.seats.items }
         {
             let begun = begin_all(scope, rt, alloc, shared, gate, &refused, workers, begun);
@@ -139,7 +142,8 @@ impl<L: Ledger> Worked<L> {
     }
 }
 
-// Of two ends the one that is returned: the fault that stands first in `SharedFault`, if there is one.
+// Of two ends the one that is returned: the fault that stands first in `SharedFault`, if there is
+// one.
 fn first_of(one: Result<(), SharedFault>, other: Result<(), SharedFault>) -> Result<(), SharedFault>
     ensures { result ≡ spec.first_of one other }
 {

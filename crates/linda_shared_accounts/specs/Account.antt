@@ -2,7 +2,8 @@
 use Rattle.std.specs.Prelude.{ℕ, List}
 use Rattle.linda_shared_accounts.specs.declared.receipt.Receipt.{Receipt}
 
--- Its client, of how many deeds it was told, how many messages are on their way, and the last receipts.
+-- Its client, of how many deeds it was told, how many messages are on their way, and the last
+-- receipts.
 pub record Account : Type 0 where
   pub client : ℕ
   pub deeds : ℕ
@@ -10,4 +11,5 @@ pub record Account : Type 0 where
   pub ring : List Receipt
 
 abbrev pub account_of : ℕ → ℕ → ℕ → List Receipt → Account
-account_of client deeds asked ring = record { client = client; deeds = deeds; asked = asked; ring = ring }
+account_of client deeds asked ring =
+    record { client = client; deeds = deeds; asked = asked; ring = ring }

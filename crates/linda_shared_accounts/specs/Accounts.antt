@@ -1,6 +1,7 @@
--- What contracts see of the accounts: how many deeds were told in all, and a place for each client that has or had a
--- seat.
-use Rattle.std.specs.Prelude.{◌≡◌, ◌⊎◌, ℕ, Bool, true, false, ◌==◌, if◌then◌else◌, List, [], Option, Some, None, IfSome}
+-- What contracts see of the accounts: how many deeds were told in all, and a place for each client
+-- that has or had a seat.
+use Rattle.std.specs.Prelude.{◌≡◌, ◌⊎◌, ℕ, Bool, true, false, ◌==◌, if◌then◌else◌, List, [], Option}
+use Rattle.std.specs.Prelude.{Some, None, IfSome}
 use Rattle.std.specs.List.{sum_by}
 use Rattle.std.specs.Ordering.{nat_cmp}
 use Rattle.std.specs.Map.{values_of}
@@ -50,7 +51,8 @@ receipts_at (Some (places.Parked ring deeds for_good)) = ring.receipts
 -- What is parked is the client's own.
 abbrev pub IsPlaceOf : ℕ → Place → Type 0
 IsPlaceOf c places.Out = Unit {0}
-IsPlaceOf c (places.Parked ring deeds for_good) = (ring.client ≡ c) × IsRing ring.client ring.receipts
+IsPlaceOf c (places.Parked ring deeds for_good) =
+    (ring.client ≡ c) × IsRing ring.client ring.receipts
 
 -- the account that a client with this place gets
 abbrev pub account_at : ℕ → Option Place → Account
@@ -61,13 +63,15 @@ account_at c (Some (places.Parked ring deeds for_good)) = account_of c deeds 0 r
 -- where an account comes back to: none where it was told of no deed, if it is not parked for good
 abbrev pub place_for : Account → Bool → Option Place
 place_for a true = Some (places.Parked (ring_of a.client a.ring) a.deeds true)
-place_for a false = if a.deeds == 0 then None else Some (places.Parked (ring_of a.client a.ring) a.deeds false)
+place_for a false =
+    if a.deeds == 0 then None else Some (places.Parked (ring_of a.client a.ring) a.deeds false)
 
 -- what is parked, with the last receipt alone, if it is not parked for good
 abbrev pub shortened : Place → Place
 shortened places.Out = places.Out
 shortened (places.Parked ring deeds true) = places.Parked ring deeds true
-shortened (places.Parked ring deeds false) = places.Parked (ring_of ring.client (keep_last 1 ring.receipts)) deeds false
+shortened (places.Parked ring deeds false) =
+    places.Parked (ring_of ring.client (keep_last 1 ring.receipts)) deeds false
 
 -- the same of a client's place, if it has one
 abbrev pub shortened_at : Option Place → Option Place
@@ -89,7 +93,8 @@ abbrev pub with_place : Places → ℕ → Option Place → Places
 with_place ps c None = map.remove ps c
 with_place ps c (Some place) = map.insert ps c place
 
--- So many seats are out, so many deeds were told to those that are back, and what is parked is each client's own.
+-- So many seats are out, so many deeds were told to those that are back, and what is parked is each
+-- client's own.
 pub record Tallies (out back : ℕ) (ps : Places) : Type 0 where
   pub out_is : out ≡ seats_out ps
   pub back_is : back ≡ deeds_back ps
@@ -102,4 +107,5 @@ pub record ComesBack (ps : Places) (a : Account) : Type 0 where
 
 -- Each place is as before, or its ring keeps its last receipt alone.
 abbrev pub AreShortened : Places → Places → Type 0
-AreShortened old new = (c : ℕ) → (map.get new c ≡ map.get old c) ⊎ (map.get new c ≡ shortened_at (map.get old c))
+AreShortened old new =
+    (c : ℕ) → (map.get new c ≡ map.get old c) ⊎ (map.get new c ≡ shortened_at (map.get old c))

@@ -23,7 +23,8 @@ place_again (places.Parked ring deeds for_good) = refl
 
 abbrev pub place_code : Coded Place
 place_code =
-    code_by (Option (Ring × (ℕ × Bool))) (coded_option (coded× ring_code (coded× coded_ℕ coded_bool)))
+    code_by (Option (Ring × (ℕ × Bool)))
+    (coded_option (coded× ring_code (coded× coded_ℕ coded_bool)))
     place_parts place_of_parts place_again
 
 -- the code of the places

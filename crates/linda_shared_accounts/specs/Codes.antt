@@ -26,5 +26,7 @@ ring_code =
 -- the code of an account
 abbrev pub account_code : Coded Account
 account_code =
-    code_by (ℕ × (ℕ × (ℕ × List Receipt))) (coded× coded_ℕ (coded× coded_ℕ (coded× coded_ℕ receipts_code)))
-    (λ a. (a.client, (a.deeds, (a.asked, a.ring)))) (λ p. account_of p.0 p.1.0 p.1.1.0 p.1.1.1) (λ _. refl)
+    code_by (ℕ × (ℕ × (ℕ × List Receipt)))
+    (coded× coded_ℕ (coded× coded_ℕ (coded× coded_ℕ receipts_code)))
+    (λ a. (a.client, (a.deeds, (a.asked, a.ring)))) (λ p. account_of p.0 p.1.0 p.1.1.0 p.1.1.1)
+    (λ _. refl)

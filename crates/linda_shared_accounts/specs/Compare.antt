@@ -22,7 +22,8 @@ IsToldSo ps r = AgreesWith (ring_for ps r) r
 abbrev pub LastIsKept : State → List Receipt → Type 0
 LastIsKept st ring = (mine : Receipt) → last_item ring ≡ Some mine → IsKept st mine
 
--- The fault names a receipt that a client was told, and among those stored is another of its client and number.
+-- The fault names a receipt that a client was told, and among those stored is another of its client
+-- and number.
 pub record NamesAnother (ps : Places) (rs : List Receipt) (fault : SharedFault) : Type 0 where
   pub mine : Receipt
   pub told : Contains (ring_for ps mine) mine

@@ -1,4 +1,5 @@
--- Receipts, one by one and in lists: their deeds, their clients, their numbers, and whether their replies are true.
+-- Receipts, one by one and in lists: their deeds, their clients, their numbers, and whether their
+-- replies are true.
 use Rattle.std.specs.Prelude.{◌≡◌, ℕ, List, [], ◌∷◌, ◌++◌, map, Some}
 use Rattle.std.specs.FinMap as map
 use Rattle.linda_store_state.specs.declared.deed.Deed.{Deed}
@@ -21,7 +22,8 @@ deeds_in rs = map (λ (r : Receipt). r.deed) rs
 -- The replies are those to the deeds, done one after another after these.
 abbrev pub AreTrue : State → List Deed → List Receipt → Type 0
 AreTrue st before [] = Unit {0}
-AreTrue st before (r ∷ rs) = (r.reply ≡ reply_of_deed st before r.deed) × AreTrue st (before ++ r.deed ∷ []) rs
+AreTrue st before (r ∷ rs) =
+    (r.reply ≡ reply_of_deed st before r.deed) × AreTrue st (before ++ r.deed ∷ []) rs
 
 -- It is what the book keeps for its client.
 abbrev pub IsKept : State → Receipt → Type 0

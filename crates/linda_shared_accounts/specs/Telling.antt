@@ -1,5 +1,6 @@
 -- What is told of messages, by what they led to.
-use Rattle.std.specs.Prelude.{◌≡◌, ℕ, List, [], ◌∷◌, ◌++◌, map, drop, Option, Some, None, if◌then◌else◌, option_to_list}
+use Rattle.std.specs.Prelude.{◌≡◌, ℕ, List, [], ◌∷◌, ◌++◌, map, drop, Option, Some, None}
+use Rattle.std.specs.Prelude.{if◌then◌else◌, option_to_list}
 use Rattle.std.specs.List.{slice_get, flat_map}
 use Rattle.linda_wire.specs.declared.message.Message.{Message}
 use Rattle.linda_wire.specs.declared.reply.Reply.{Reply}
@@ -54,7 +55,8 @@ told_by (s ∷ ss) ds sends =
     ∷ told_by ss (if s.has_deed then drop 1 ds else ds) (drop s.sends sends)
 
 -- The messages were answered one after another, and this is told of them and sent.
-pub record HasTold (st : State) (soft : Soft) (ms : List (ℕ × Message)) (told : List (Option Receipt))
+pub record HasTold (st : State) (soft : Soft) (ms : List (ℕ × Message))
+    (told : List (Option Receipt))
     (sends : List (ℕ × Reply)) (new : State) (behind : Soft) : Type 0 where
   pub answers : List Answer
   pub answered : AreAnswered st soft ms answers new behind
@@ -62,7 +64,8 @@ pub record HasTold (st : State) (soft : Soft) (ms : List (ℕ × Message)) (told
   pub sends_is : sends ≡ sends_of answers
 
 -- What is told of the answers is true of the deeds, which are done after these.
-pub record IsTrueOf (base : State) (before : List Deed) (answers : List Answer) (new : State) : Type 0 where
+pub record IsTrueOf (base : State) (before : List Deed) (answers : List Answer) (new : State)
+    : Type 0 where
   pub done : AreDone base (before ++ deeds_of answers) new
   pub deeds : deeds_in (receipts_in (map receipt_of answers)) ≡ deeds_of answers
   pub replies : AreTrue base before (receipts_in (map receipt_of answers))

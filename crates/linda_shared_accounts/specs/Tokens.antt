@@ -1,7 +1,8 @@
 -- What contracts see of the tokens that stand under a lock.
 use Rattle.std.specs.Prelude.{ℕ}
 
--- The total of all amounts, what the accounts that are back were told, and how many accounts are out.
+-- The total of all amounts, what the accounts that are back were told, and how many accounts are
+-- out.
 pub record Tokens : Type 0 where
   pub total : ℕ
   pub back : ℕ

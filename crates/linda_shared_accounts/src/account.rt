@@ -3,7 +3,8 @@
 ghost use Rattle.std.specs.Prelude.{◌≡◌, ◌+◌, ◌-◌, ◌<◌, ◌≤◌, ◌^◌, true, false, min, length};
 ghost use Rattle.linda_shared_accounts.specs.Account as seen;
 ghost use Rattle.linda_shared_accounts.specs.Account.{account_of};
-ghost use Rattle.linda_shared_accounts.specs.Ring.{IsRing, IsNext, IsCut, KeepsAbove, IsAbove, last_number};
+ghost use Rattle.linda_shared_accounts.specs.Ring.{IsRing, IsNext, IsCut, KeepsAbove, IsAbove};
+ghost use Rattle.linda_shared_accounts.specs.Ring.{last_number};
 ghost use Rattle.linda_shared_accounts.specs.Ring.{with_receipt};
 ghost use Rattle.linda_shared_accounts.specs.Effect.{weight};
 
@@ -15,8 +16,8 @@ use crate::ring::Ring;
 use std::marker::Model;
 use std::sync::ledger::{Ledger, Share};
 
-/// What a session carries: its client, of how many deeds it was told, its last receipts, and its parts of the ledger,
-/// of which one goes with each message that is on its way.
+/// What a session carries: its client, of how many deeds it was told, its last receipts, and its
+/// parts of the ledger, of which one goes with each message that is on its way.
 #[derive(Drop)]
 pub struct Account<L: Ledger> {
     pub(crate) ring: Ring,
@@ -77,7 +78,8 @@ impl<L: Ledger> Account<L> {
     /// A message goes on its way.
     pub fn ask<A: Drop>(&mut self, address: A) -> Asked<A, L>
         requires { self.old.asked < MOST_ASKED }
-        ensures account { self.new ≡ account_of self.old.client self.old.deeds (self.old.asked + 1) self.old.ring }
+        ensures account { self.new ≡ account_of self.old.client self.old.deeds (self.old.asked + 1)
+            self.old.ring }
         ensures address { result.address ≡ address }
     {
         let part = self.share.split_off(1, 0);
@@ -88,7 +90,8 @@ impl<L: Ledger> Account<L> {
     /// A message comes back that nobody took on.
     pub fn recall<A: Drop>(&mut self, asked: Asked<A, L>) -> A
         requires { 0 < self.old.asked }
-        ensures account { self.new ≡ account_of self.old.client self.old.deeds (self.old.asked - 1) self.old.ring }
+        ensures account { self.new ≡ account_of self.old.client self.old.deeds (self.old.asked - 1)
+            self.old.ring }
         ensures address { result ≡ asked.address }
     {
         let Asked { address, part, .. } = asked;
@@ -101,7 +104,8 @@ impl<L: Ledger> Account<L> {
     pub fn hear<A: Drop>(&mut self, answered: Answered<A, L>) -> (A, Effect)
         requires { 0 < self.old.asked }
         ensures account { self.new
-            ≡ account_of self.old.client (self.old.deeds + weight answered.told) (self.old.asked - 1) self.old.ring }
+            ≡ account_of self.old.client (self.old.deeds + weight answered.told)
+            (self.old.asked - 1) self.old.ring }
         ensures told { (result.0 ≡ answered.address) × (result.1 ≡ answered.told) }
     {
         let Answered {
@@ -116,10 +120,12 @@ impl<L: Ledger> Account<L> {
         (address, told)
     }
 
-    /// Notes a receipt, where it is of this client and its number is above all others; else nothing changes.
+    /// Notes a receipt, where it is of this client and its number is above all others; else nothing
+    /// changes.
     pub fn note(&mut self, receipt: Receipt) -> bool
         ensures noted { result ≡ true → IsNext self.old.client self.old.ring receipt × (self.new
-            ≡ account_of self.old.client self.old.deeds self.old.asked (with_receipt self.old.ring receipt)) }
+            ≡ account_of self.old.client self.old.deeds self.old.asked
+            (with_receipt self.old.ring receipt)) }
         ensures refused { result ≡ false
             → (IsNext self.old.client self.old.ring receipt → ⊥) × (self.new ≡ self.old) }
     {
@@ -135,7 +141,8 @@ impl<L: Ledger> Account<L> {
 
     /// Drops the receipts with numbers up to this one, but never the last.
     pub fn forget(&mut self, floor: u64)
-        ensures account { self.new ≡ account_of self.old.client self.old.deeds self.old.asked self.new.ring }
+        ensures account { self.new
+            ≡ account_of self.old.client self.old.deeds self.old.asked self.new.ring }
         ensures cut { IsCut self.old.ring self.new.ring }
         ensures kept { KeepsAbove floor self.old.ring self.new.ring }
         ensures gone { IsAbove floor self.new.ring }

@@ -8,7 +8,8 @@ ghost use Rattle.std.specs.Prelude.{IfSome, IfNone, IsSome, Some, None};
 ghost use Rattle.std.specs.FinMap as map;
 ghost use Rattle.linda_shared_accounts.specs.declared.place.Place.TheVariants as places;
 ghost use Rattle.linda_shared_accounts.specs.Accounts as seen;
-ghost use Rattle.linda_shared_accounts.specs.Accounts.{accounts_of, is_away, account_at, place_for, with_place};
+ghost use Rattle.linda_shared_accounts.specs.Accounts.{accounts_of, is_away, account_at, place_for};
+ghost use Rattle.linda_shared_accounts.specs.Accounts.{with_place};
 ghost use Rattle.linda_shared_accounts.specs.Accounts.{seats_out, deeds_back, ComesBack};
 
 use crate::account::Account;
@@ -21,7 +22,8 @@ use std::alloc::{AllocError, Global};
 use std::marker::Model;
 use std::sync::ledger::{Blank, Ledger, Share};
 
-/// How many deeds were told in all, and a place for each client that has a seat, or was told of deeds.
+/// How many deeds were told in all, and a place for each client that has a seat, or was told of
+/// deeds.
 #[derive(Drop)]
 pub struct Accounts<L: Ledger> {
     tokens: Tokens<L>,
@@ -68,17 +70,20 @@ impl<L: Ledger> Accounts<L> {
         self.places.is_away(client)
     }
 
-    /// The client's seat goes out: with what it was told before, or with a new account. None where the client can have
-    /// no seat now, or no parts are left; then nothing changes.
+    /// The client's seat goes out: with what it was told before, or with a new account. None where
+    /// the client can have no seat now, or no parts are left; then nothing changes.
     ///
     /// # Errors
     ///
-    /// `AllocError` where memory runs out, and then nothing changes. It comes only for a client with no place.
+    /// `AllocError` where memory runs out, and then nothing changes. It comes only for a client
+    /// with no place.
     pub fn go_out(&mut self, alloc: Global, client: u32) -> Result<Option<Account<L>>, AllocError>
         ensures account { IfOk result (λ found. IfSome found (λ a.
             a ≡ account_at client (map.get self.old.places client))) }
-        ensures out { IfOk result (λ found. IfSome found (λ _. (is_away (map.get self.old.places client) ≡ false)
-            × (self.new ≡ accounts_of self.old.total (map.insert self.old.places client places.Out)))) }
+        ensures out { IfOk result (λ found.
+            IfSome found (λ _. (is_away (map.get self.old.places client) ≡ false)
+            × (self.new ≡ accounts_of self.old.total
+            (map.insert self.old.places client places.Out)))) }
         ensures none { IfOk result (λ found. IfNone found ((self.new ≡ self.old)
             × ((is_away (map.get self.old.places client) ≡ true)
             ⊎ (PARTS < ACCOUNT_PARTS * (seats_out self.old.places + 1))))) }
@@ -104,10 +109,12 @@ impl<L: Ledger> Accounts<L> {
 
     // The client's seat goes out with what it was told before.
     fn go_out_again(&mut self, client: u32) -> Account<L>
-        requires place { (is_away (map.get self.old.places client) ≡ false) × IsSome (map.get self.old.places client) }
+        requires place { (is_away (map.get self.old.places client) ≡ false)
+            × IsSome (map.get self.old.places client) }
         requires parts { ACCOUNT_PARTS * (seats_out self.old.places + 1) ≤ PARTS }
         ensures account { result ≡ account_at client (map.get self.old.places client) }
-        ensures out { self.new ≡ accounts_of self.old.total (map.insert self.old.places client places.Out) }
+        ensures out { self.new ≡ accounts_of self.old.total
+            (map.insert self.old.places client places.Out) }
     {
         match self.places.swap(client, Place::Out) {
             Place::Parked { ring, deeds, .. } => {
@@ -123,12 +130,14 @@ impl<L: Ledger> Accounts<L> {
         }
     }
 
-    /// An account comes back to its client's place, for its next session or for good; one that was told of no deed is
-    /// given up, if it is not for good. Takes no memory: the place stands since the seat went out. An account that does
-    /// not belong there, or with messages on their way, is lost, and its seat stays out.
+    /// An account comes back to its client's place, for its next session or for good; one that was
+    /// told of no deed is given up, if it is not for good. Takes no memory: the place stands since
+    /// the seat went out. An account that does not belong there, or with messages on their way, is
+    /// lost, and its seat stays out.
     pub fn park(&mut self, account: Account<L>, for_good: bool)
         ensures parked { ComesBack self.old.places account → self.new
-            ≡ accounts_of self.old.total (with_place self.old.places account.client (place_for account for_good)) }
+            ≡ accounts_of self.old.total
+            (with_place self.old.places account.client (place_for account for_good)) }
         ensures lost { (ComesBack self.old.places account → ⊥) → self.new ≡ self.old }
     {
         let client = account.client();
@@ -165,8 +174,10 @@ impl<L: Ledger> Accounts<L> {
 
     /// Whether all seats are back: then all that was told was told to them.
     pub fn audit(&mut self) -> bool
-        ensures back { result ≡ true → (seats_out self.old.places ≡ 0) × (self.old.total ≡ deeds_back self.old.places) }
-        ensures none_out { result ≡ true → (c : ℕ) → map.get self.old.places c ≡ Some places.Out → ⊥ }
+        ensures back { result ≡ true → (seats_out self.old.places ≡ 0)
+            × (self.old.total ≡ deeds_back self.old.places) }
+        ensures none_out { result ≡ true → (c : ℕ) → map.get self.old.places c ≡ Some places.Out
+            → ⊥ }
         ensures out { result ≡ false → 0 < seats_out self.old.places }
         ensures same { self.new ≡ self.old }
     {

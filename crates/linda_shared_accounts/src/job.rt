@@ -8,7 +8,8 @@ use crate::accounts::Accounts;
 use crate::effect::Effect;
 use std::sync::ledger::{Ledger, Share};
 
-/// A message on its way to the server: nothing is told yet. The address says where the answer is to go.
+/// A message on its way to the server: nothing is told yet. The address says where the answer is to
+/// go.
 #[derive(Drop)]
 pub struct Asked<A: Drop, L: Ledger> {
     pub(crate) address: A,
@@ -38,7 +39,8 @@ impl<A: Drop, L: Ledger> Asked<A, L> {
     /// Writes what is told into the ledger. There is no other way back.
     pub fn answered(self, accounts: &mut Accounts<L>, told: Effect) -> Answered<A, L>
         requires { accounts.old.total + weight told < 2 ^ 64 }
-        ensures accounts { accounts.new ≡ accounts_of (accounts.old.total + weight told) accounts.old.places }
+        ensures accounts { accounts.new ≡ accounts_of (accounts.old.total + weight told)
+            accounts.old.places }
         ensures told { (result.told ≡ told) × (result.address ≡ self.address) }
     {
         let Asked {

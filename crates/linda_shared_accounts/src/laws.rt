@@ -1,4 +1,5 @@
-//! What follows from the definitions of receipts, each stated by the contract of a function that does nothing.
+//! What follows from the definitions of receipts, each stated by the contract of a function that
+//! does nothing.
 
 ghost use Rattle.std.specs.Prelude.{◌≡◌, ◌+◌, ℕ, List, [], ◌∷◌, ◌++◌, Option, length, map};
 ghost use Rattle.linda_wire.specs.declared.message.Message.{Message};
@@ -16,10 +17,13 @@ ghost use Rattle.linda_shared_accounts.specs.Ring.{IsRing, IsCut};
 ghost use Rattle.linda_shared_accounts.specs.Effect.{weight, weights, told_of};
 ghost use Rattle.linda_shared_accounts.specs.Telling.{receipts_in, HasTold, IsTrueOf};
 
-/// The receipts that are told of messages are those of their deeds, in order, with the replies to them.
+/// The receipts that are told of messages are those of their deeds, in order, with the replies to
+/// them.
 pub fn receipts_tell_what_was_done()
-    ensures { (base st new : State) (soft behind : Soft) (ms : List (ℕ × Message)) (before : List Deed)
-        (answers : List Answer) → IsState base → AreDone base before st → AreAnswered st soft ms answers new behind
+    ensures { (base st new : State) (soft behind : Soft) (ms : List (ℕ × Message))
+        (before : List Deed)
+        (answers : List Answer) → IsState base → AreDone base before st
+        → AreAnswered st soft ms answers new behind
         → IsTrueOf base before answers new }
 {}
 
@@ -31,20 +35,25 @@ pub fn true_receipts_go_on()
 
 /// Each message is told of once.
 pub fn each_message_is_told_once()
-    ensures { (st new : State) (soft behind : Soft) (ms : List (ℕ × Message)) (told : List (Option Receipt))
-        (sends : List (ℕ × Reply)) → HasTold st soft ms told sends new behind → length told ≡ length ms }
+    ensures { (st new : State) (soft behind : Soft) (ms : List (ℕ × Message))
+        (told : List (Option Receipt))
+        (sends : List (ℕ × Reply)) → HasTold st soft ms told sends new behind
+        → length told ≡ length ms }
 {}
 
 /// What is told weighs as many as there are receipts.
 pub fn receipts_weigh_one_each()
-    ensures all { (told : List (Option Receipt)) → weights (map told_of told) ≡ length (receipts_in told) }
+    ensures all { (told : List (Option Receipt))
+        → weights (map told_of told) ≡ length (receipts_in told) }
     ensures one_more { (told : List (Option Receipt)) (one : Option Receipt)
-        → length (receipts_in (told ++ one ∷ [])) ≡ length (receipts_in told) + weight (told_of one) }
+        → length (receipts_in (told ++ one ∷ []))
+        ≡ length (receipts_in told) + weight (told_of one) }
 {}
 
 /// A ring that is cut is one, and has the last receipt of before; and what is cut twice is cut.
 pub fn cut_rings_are_rings()
-    ensures ring { (client : ℕ) (old new : List Receipt) → IsRing client old → IsCut old new → IsRing client new }
+    ensures ring { (client : ℕ) (old new : List Receipt) → IsRing client old → IsCut old new
+        → IsRing client new }
     ensures last { (old new : List Receipt) → IsCut old new → last_item new ≡ last_item old }
     ensures again { (old mid new : List Receipt) → IsCut old mid → IsCut mid new → IsCut old new }
 {}

@@ -1,6 +1,7 @@
 //! A place for each client that has or had a seat.
 
-ghost use Rattle.std.specs.Prelude.{◌≡◌, ◌≢◌, ◌↔◌, ℕ, true, None, Some, IsSome, OnOk, OnErr, option_copied};
+ghost use Rattle.std.specs.Prelude.{◌≡◌, ◌≢◌, ◌↔◌, ℕ, true, None, Some, IsSome, OnOk, OnErr};
+ghost use Rattle.std.specs.Prelude.{option_copied};
 ghost use Rattle.std.specs.FinMap as map;
 ghost use Rattle.linda_shared_accounts.specs.declared.place.Place.TheVariants as kinds;
 ghost use Rattle.linda_shared_accounts.specs.Accounts as spec;
@@ -73,7 +74,8 @@ impl Places {
     ///
     /// # Errors
     ///
-    /// `AllocError` where memory runs out, and then nothing changes. It comes only for a client with no place.
+    /// `AllocError` where memory runs out, and then nothing changes. It comes only for a client
+    /// with no place.
     pub(crate) fn put(&mut self, client: u32, place: Place) -> Result<(), AllocError>
         ensures ok { OnOk result (self.new ≡ map.insert self.old client place) }
         ensures err { OnErr result (self.new ≡ self.old) }

@@ -1,10 +1,12 @@
 //! The last receipts of one client.
 
-ghost use Rattle.std.specs.Prelude.{◌≡◌, ◌≢◌, ◌<◌, ◌≤◌, true, false, All, IfOk, Contains, [], option_copied, length};
+ghost use Rattle.std.specs.Prelude.{◌≡◌, ◌≢◌, ◌<◌, ◌≤◌, true, false, All, IfOk, Contains, []};
+ghost use Rattle.std.specs.Prelude.{option_copied, length};
 ghost use Rattle.std.specs.Prelude.{slice_get};
 ghost use Rattle.circular_buffer.specs.Buffer.{keep_last, last_item};
 ghost use Rattle.linda_shared_accounts.specs.Ring as seen;
-ghost use Rattle.linda_shared_accounts.specs.Ring.{IsRing, IsNext, IsCut, KeepsAbove, IsAbove, number_at, ring_of};
+ghost use Rattle.linda_shared_accounts.specs.Ring.{IsRing, IsNext, IsCut, KeepsAbove, IsAbove};
+ghost use Rattle.linda_shared_accounts.specs.Ring.{number_at, ring_of};
 ghost use Rattle.linda_shared_accounts.specs.Ring.{with_receipt};
 ghost use Rattle.linda_shared_accounts.specs.Agreement.{AgreesWith, HasRival};
 
@@ -76,8 +78,8 @@ impl Ring {
         }
     }
 
-    /// Notes one more, where it is of this client and its number is above all others; the oldest goes where there is
-    /// no room. Else nothing changes.
+    /// Notes one more, where it is of this client and its number is above all others; the oldest
+    /// goes where there is no room. Else nothing changes.
     pub fn note(&mut self, receipt: Receipt) -> bool
         ensures noted { result ≡ true → IsNext self.old.client self.old.receipts receipt
             × (self.new ≡ ring_of self.old.client (with_receipt self.old.receipts receipt)) }

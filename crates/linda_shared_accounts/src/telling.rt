@@ -25,7 +25,8 @@ pub fn receipts_of(alloc: Global, served: &Served) -> Result<Vec<Option<Receipt>
     ensures told { IfOk result (λ told. told.items
         ≡ told_by served.now.portions.items served.now.deeds.items served.now.sends.items) }
     ensures each { IfOk result (λ told. length told.items ≡ length served.now.portions.items) }
-    ensures answers { IfOk result (λ told. (st new : states.State) (soft behind : Soft) (ms : List (ℕ × Message))
+    ensures answers { IfOk result (λ told. (st new : states.State) (soft behind : Soft)
+        (ms : List (ℕ × Message))
         → IsState st → IsServed st soft ms served.now new behind
         → HasTold st soft ms told.items served.now.sends.items new behind) }
 {

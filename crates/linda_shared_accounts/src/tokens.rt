@@ -19,7 +19,8 @@ pub(crate) struct Tokens<L: Ledger> {
 
 impl<L: Ledger> Model for Tokens<L> {
     ghost use Rattle.std.specs.Prelude.{◌≡◌, ◌+◌, ◌*◌};
-    ghost use Rattle.linda_shared_accounts.specs.declared.limits.TheConstants.{ACCOUNT_PARTS, PARTS};
+    ghost use Rattle.linda_shared_accounts.specs.declared.limits.TheConstants.{ACCOUNT_PARTS};
+    ghost use Rattle.linda_shared_accounts.specs.declared.limits.TheConstants.{PARTS};
     ghost use Rattle.linda_shared_accounts.specs.Tokens as seen;
     ghost use Rattle.linda_shared_accounts.specs.Tokens.{tokens_of};
 
@@ -72,7 +73,8 @@ impl<L: Ledger> Tokens<L> {
     pub(crate) fn lend(&mut self, deeds: u64) -> Share<L>
         requires { (ACCOUNT_PARTS * (self.old.out + 1) ≤ PARTS) × (deeds ≤ self.old.back) }
         ensures share { (result.parts ≡ ACCOUNT_PARTS) × (result.amount ≡ deeds) }
-        ensures tokens { self.new ≡ tokens_of self.old.total (self.old.back - deeds) (self.old.out + 1) }
+        ensures tokens { self.new ≡ tokens_of self.old.total (self.old.back - deeds)
+            (self.old.out + 1) }
     {
         self.out += 1;
         self.rest.split_off(ACCOUNT_PARTS, deeds)
@@ -81,7 +83,8 @@ impl<L: Ledger> Tokens<L> {
     /// The parts of an account that comes back. That was told of no more than was told in all.
     pub(crate) fn take_back(&mut self, share: Share<L>)
         requires { share.parts ≡ ACCOUNT_PARTS }
-        ensures tokens { self.new ≡ tokens_of self.old.total (self.old.back + share.amount) (self.old.out - 1) }
+        ensures tokens { self.new ≡ tokens_of self.old.total (self.old.back + share.amount)
+            (self.old.out - 1) }
         ensures out { 0 < self.old.out }
         ensures told { (share.amount ≤ self.old.total) × (self.old.total < 2 ^ 64) }
     {

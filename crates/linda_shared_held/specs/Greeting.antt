@@ -30,24 +30,27 @@ IsWelcome (replies.Left n) = ⊥
 IsWelcome (replies.Offer ticket id tuple) = ⊥
 IsWelcome (replies.Read ticket id tuple) = ⊥
 
--- A client whose seat is not out is greeted as the server says: it gets what was parked for it, or a new account,
--- and the number of its last request that is kept; or it is refused, and also if the server welcomes it and no parts
--- are left for an account.
+-- A client whose seat is not out is greeted as the server says: it gets what was parked for it, or
+-- a new account, and the number of its last request that is kept; or it is refused, and also if the
+-- server welcomes it and no parts are left for an account.
 abbrev pub IsAdmitted : State → Places → ℕ → Bool → Result (Account × ℕ) (ℕ × ℕ) → Type 0
 IsAdmitted st ps client fresh (Ok got) =
-    (greeting st client VERSION fresh ≡ replies.Welcome got.1) × (got.0 ≡ account_at client (map.get ps client))
+    (greeting st client VERSION fresh ≡ replies.Welcome got.1)
+    × (got.0 ≡ account_at client (map.get ps client))
 IsAdmitted st ps client fresh (Err why) =
     (greeting st client VERSION fresh ≡ replies.Refused why.0 why.1)
     ⊎ ((why ≡ told_why refusals.TooManyClients) × (PARTS < ACCOUNT_PARTS * (seats_out ps + 1))
     × IsWelcome (greeting st client VERSION fresh))
 
--- A Hello is refused for its version, then where its client's seat is out, then as the server says. Any other
--- message is refused.
+-- A Hello is refused for its version, then where its client's seat is out, then as the server says.
+-- Any other message is refused.
 abbrev pub IsGreeted : State → Places → Message → Result (Account × ℕ) (ℕ × ℕ) → Type 0
 IsGreeted st ps (messages.Hello version client fresh) answer =
     ((version ≢ VERSION) × (answer ≡ Err (told_why refusals.Version)))
-    ⊎ (((version ≡ VERSION) × (is_away (map.get ps client) ≡ true) × (answer ≡ Err (told_why refusals.Busy)))
-    ⊎ ((version ≡ VERSION) × (is_away (map.get ps client) ≡ false) × IsAdmitted st ps client fresh answer))
+    ⊎ (((version ≡ VERSION) × (is_away (map.get ps client) ≡ true)
+    × (answer ≡ Err (told_why refusals.Busy)))
+    ⊎ ((version ≡ VERSION) × (is_away (map.get ps client) ≡ false)
+    × IsAdmitted st ps client fresh answer))
 IsGreeted st ps _ answer = answer ≡ Err (told_why refusals.NoHello)
 
 -- What holds where a greeting gave no seat.

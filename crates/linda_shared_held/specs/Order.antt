@@ -1,5 +1,6 @@
 -- What is always so of a server, the receipts that are kept of it, and the count of its deeds.
-use Rattle.std.specs.Prelude.{◌≡◌, ℕ, ◌+◌, Bool, false, List, [], ◌++◌, length, Option, if◌then◌else◌}
+use Rattle.std.specs.Prelude.{◌≡◌, ℕ, ◌+◌, Bool, false, List, [], ◌++◌, length, Option}
+use Rattle.std.specs.Prelude.{if◌then◌else◌}
 use Rattle.linda_wire.specs.declared.reply.Reply.{Reply}
 use Rattle.linda_store_state.specs.declared.deed.Deed.{Deed}
 use Rattle.linda_store_state.specs.State.{State, IsState}
@@ -14,9 +15,10 @@ use Rattle.linda_shared_held.specs.Covered.{BoxesCovered}
 abbrev pub known : State → Store → Bool → State
 known before store is_down = if is_down then before else store.state
 
--- The state is the one after the deeds since the opening: some before the base, and after it those of the receipts;
--- while the server is down there may be others after these, of which nobody was told. The receipts have the
--- replies to their deeds, and the count is that of the deeds that were told.
+-- The state is the one after the deeds since the opening: some before the base, and after it those
+-- of the receipts; while the server is down there may be others after these, of which nobody was
+-- told. The receipts have the replies to their deeds, and the count is that of the deeds that were
+-- told.
 pub record IsInOrder (opening base : State) (receipts : List Receipt) (count : ℕ) (is_down : Bool)
     (state : State) : Type 0 where
   pub ranges : IsState opening
@@ -28,7 +30,8 @@ pub record IsInOrder (opening base : State) (receipts : List Receipt) (count : �
   pub replies : AreTrue base [] receipts
   pub counted : count ≡ length earlier + length receipts
 
--- While a server is up, the receipts lead from the base to its state, with the replies to their deeds.
+-- While a server is up, the receipts lead from the base to its state, with the replies to their
+-- deeds.
 pub record IsReplayed (base : State) (receipts : List Receipt) (state : State) : Type 0 where
   pub done : AreDone base (deeds_in receipts) state
   pub replies : AreTrue base [] receipts
@@ -39,8 +42,8 @@ pub record CountsDeeds (opening : State) (count : ℕ) (state : State) : Type 0 
   pub done : AreDone opening deeds state
   pub counted : length deeds ≡ count
 
--- Two images represent the state after the receipts' deeds, and maybe others after them. What waits in the outboxes is
--- covered in that state.
+-- Two images represent the state after the receipts' deeds, and maybe others after them. What waits
+-- in the outboxes is covered in that state.
 pub record StandsBehind (base : State) (receipts : List Receipt) (waits : ℕ → Option (List Reply))
     (left right : List ℕ) : Type 0 where
   pub untold : List Deed

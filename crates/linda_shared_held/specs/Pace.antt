@@ -4,22 +4,24 @@ use Rattle.linda_server.specs.declared.limits.TheConstants.{SNAPSHOT_RECORDS}
 use Rattle.linda_shared_held.specs.declared.limits.TheConstants.{SNAPSHOT_BYTES}
 use Rattle.linda_shared_held.specs.declared.pace.Pace.{Pace}
 
--- There are records or bytes enough, and they have at least as many bytes as the bank had when it was new, or half of
--- the limit is taken.
+-- There are records or bytes enough, and they have at least as many bytes as the bank had when it
+-- was new, or half of the limit is taken.
 abbrev pub pays : ℕ → ℕ → ℕ → ℕ → ℕ → Bool
 pays base start records used limit =
     (nat_le SNAPSHOT_RECORDS records || nat_le SNAPSHOT_BYTES (used - start))
     && (nat_le base (used - base) || nat_le (limit - used) used)
 
--- It pays, or the bank is not in the form of new banks, and none was refused just before; or a deed was refused for
--- room, and there is a record that the last try did not find.
+-- It pays, or the bank is not in the form of new banks, and none was refused just before; or a deed
+-- was refused for room, and there is a record that the last try did not find.
 abbrev pub is_due : Bool → ℕ → ℕ → ℕ → ℕ → Bool → ℕ → ℕ → ℕ → Bool
 is_due old base start not_before tried lacks records used limit =
-    (nat_le not_before records && (old || pays base start records used limit)) || (lacks && nat_lt tried records)
+    (nat_le not_before records && (old || pays base start records used limit))
+    || (lacks && nat_lt tried records)
 
 -- the pace of a bank that took so many bytes when it was new, and of which so many are not counted
 abbrev pub pace_from : ℕ → ℕ → Pace
-pace_from base start = record { base = base; start = start; not_before = 0; tried = 0; lacks_room = false }
+pace_from base start =
+    record { base = base; start = start; not_before = 0; tried = 0; lacks_room = false }
 
 -- the pace once a snapshot was tried at so many records
 abbrev pub tried_at : ℕ → Pace → Pace
@@ -32,7 +34,8 @@ tried_at records p =
       lacks_room = false;
     }
 
--- the pace once a snapshot was put off at so many records: a deed that is refused for room asks for one all the same
+-- the pace once a snapshot was put off at so many records: a deed that is refused for room asks for
+-- one all the same
 abbrev pub put_off_at : ℕ → Pace → Pace
 put_off_at records p =
     record {
@@ -46,4 +49,10 @@ put_off_at records p =
 -- the pace once a deed was refused for room
 abbrev pub refused_for_room : Pace → Pace
 refused_for_room p =
-    record { base = p.base; start = p.start; not_before = p.not_before; tried = p.tried; lacks_room = true }
+    record {
+      base = p.base;
+      start = p.start;
+      not_before = p.not_before;
+      tried = p.tried;
+      lacks_room = true;
+    }

@@ -14,7 +14,8 @@ mod serve;
 mod take;
 mod tell;
 
-ghost use Rattle.std.specs.Prelude.{◌≡◌, ◌⊎◌, ℕ, ◌+◌, ◌^◌, ◌<◌, ◌≤◌, ◌++◌, [], true, false, length, map, reverse};
+ghost use Rattle.std.specs.Prelude.{◌≡◌, ◌⊎◌, ℕ, ◌+◌, ◌^◌, ◌<◌, ◌≤◌, ◌++◌, [], true, false, length};
+ghost use Rattle.std.specs.Prelude.{map, reverse};
 ghost use Rattle.std.specs.Prelude.{replicate};
 ghost use Rattle.std.specs.Prelude.{vec_len, vec_capacity, None, IfErr, OnOk, OnErr, IsErrOf};
 ghost use Rattle.linda_store_step.specs.declared.size.TheConstants.{MAX_BATCH};
@@ -45,7 +46,8 @@ use std::sync::ledger::{Blank, Ledger};
 use take::take;
 use tell::{fail_all, settle_all};
 
-/// The server, the receipts of its deeds since the base, and the ledger of who was told of how many.
+/// The server, the receipts of its deeds since the base, and the ledger of who was told of how
+/// many.
 #[derive(Drop)]
 pub struct Held<D: Disk, L: Ledger> {
     server: Durable<D>,
@@ -63,7 +65,8 @@ pub struct Held<D: Disk, L: Ledger> {
     pace: Pace,
     recall: Recall,
     ghost counted: { accounts.total ≡ count },
-    ghost covered: { ∥ BoxesCovered (known server.before.value server.store server.down) (waits_for boxes) ∥₁ },
+    ghost covered: { ∥ BoxesCovered (known server.before.value server.store server.down)
+        (waits_for boxes) ∥₁ },
 }
 
 impl<D: Disk, L: Ledger> Held<D, L> {
@@ -72,8 +75,10 @@ impl<D: Disk, L: Ledger> Held<D, L> {
         requires up { server.down ≡ false }
         requires blank { (blank.name ≡ L.name) × (blank.parts ≡ L.parts) × (L.parts ≡ PARTS) }
         ensures server { result.server ≡ server }
-        ensures base { (result.base.value ≡ server.store.state) × (result.opening.value ≡ server.store.state) }
-        ensures none { (result.receipts.items ≡ []) × (result.count ≡ 0) × ((c : ℕ) → waits_for result.boxes c ≡ None) }
+        ensures base { (result.base.value ≡ server.store.state)
+            × (result.opening.value ≡ server.store.state) }
+        ensures none { (result.receipts.items ≡ []) × (result.count ≡ 0)
+            × ((c : ℕ) → waits_for result.boxes c ≡ None) }
         ensures accounts { result.accounts ≡ accounts_of 0 fin.empty }
         // Bytes are counted from what the bank has.
         ensures pace { result.pace ≡ pace_from 0 (end_in_use server.disks) }
@@ -94,13 +99,14 @@ impl<D: Disk, L: Ledger> Held<D, L> {
         }
     }
 
-    /// Does what was asked, and writes into the ledger what each is told: all in one call of the server, or one message
-    /// after another where it has no room for all of them, or the count of deeds could pass its last value.
+    /// Does what was asked, and writes into the ledger what each is told: all in one call of the
+    /// server, or one message after another where it has no room for all of them, or the count of
+    /// deeds could pass its last value.
     ///
     /// # Errors
     ///
-    /// `Down` before all, and exactly where the server is down: nobody is told of a deed, and one that was down is as
-    /// before. `Memory`: nothing changed, but that a snapshot may be asked for.
+    /// `Down` before all, and exactly where the server is down: nobody is told of a deed, and one
+    /// that was down is as before. `Memory`: nothing changed, but that a snapshot may be asked for.
     pub fn handle_all<A: Drop>(
         &mut self,
         alloc: Global,
@@ -111,37 +117,46 @@ impl<D: Disk, L: Ledger> Held<D, L> {
         requires few { length messages.now ≤ MAX_BATCH }
         requires one_each { length messages.now ≡ vec_len asked.old }
         requires room { vec_len answered.old + vec_len asked.old ≤ vec_capacity answered.old }
-        ensures asked { (vec_len asked.new ≡ 0) × (vec_capacity asked.new ≡ vec_capacity asked.old) }
+        ensures asked { (vec_len asked.new ≡ 0)
+            × (vec_capacity asked.new ≡ vec_capacity asked.old) }
         ensures answered { (vec_len answered.new ≡ vec_len answered.old + vec_len asked.old)
             × (vec_capacity answered.new ≡ vec_capacity answered.old) }
         // At Ok each was answered as the server's step says, and each deed has its receipt;
         ensures done { OnOk result (IsHandled self.old.server self.old.count messages.now
-            self.old.receipts.items (waits_for self.old.boxes) (map (λ a. a.told) answered.old.items)
-            self.new.receipts.items (waits_for self.new.boxes) (map (λ a. a.told) answered.new.items)
+            self.old.receipts.items (waits_for self.old.boxes)
+            (map (λ a. a.told) answered.old.items)
+            self.new.receipts.items (waits_for self.new.boxes)
+            (map (λ a. a.told) answered.new.items)
             self.new.server) }
         ensures addresses { map (λ a. a.address) answered.new.items
-            ≡ map (λ a. a.address) answered.old.items ++ reverse (map (λ a. a.address) asked.old.items) }
-        // else nobody was told anything; what is posted was sent by some first messages that went one by one.
+            ≡ map (λ a. a.address) answered.old.items
+            ++ reverse (map (λ a. a.address) asked.old.items) }
+        // else nobody was told anything; what is posted was sent by some first messages that went
+        // one by one.
         ensures err { OnErr result ((self.new.receipts.items ≡ self.old.receipts.items)
             × (self.new.count ≡ self.old.count)) }
         ensures some { OnErr result (WentSome self.old.server self.old.count messages.now
             (waits_for self.old.boxes) (waits_for self.new.boxes)) }
-        // It is down exactly where the server is, and that before all else; where memory ran out nothing changed.
+        // It is down exactly where the server is, and that before all else; where memory ran out
+        // nothing changed.
         ensures up { OnOk result ((self.old.server.down ≡ false) × (self.new.server.down ≡ false)) }
         ensures down { IsErrOf result SharedFault.Down → self.new.server.down ≡ true }
         ensures first { self.old.server.down ≡ true → IsErrOf result SharedFault.Down
             × (self.new.server ≡ self.old.server) × (self.new.boxes ≡ self.old.boxes) }
         ensures memory { IsErrOf result SharedFault.Memory → (self.new.server ≡ self.old.server)
             × (self.new.boxes ≡ self.old.boxes) × (self.old.server.down ≡ false) }
-        ensures fault { IfErr result (λ fault. (fault ≡ SharedFault.Down) ⊎ (fault ≡ SharedFault.Memory)) }
+        ensures fault { IfErr result (λ fault. (fault ≡ SharedFault.Down)
+            ⊎ (fault ≡ SharedFault.Memory)) }
         ensures failed { IfErr result (λ fault. map (λ a. a.told) answered.new.items
-            ≡ map (λ a. a.told) answered.old.items ++ replicate (vec_len asked.old) (Effect.Failed fault)) }
-        ensures base { (self.new.base.value ≡ self.old.base.value) × (self.new.opening.value ≡ self.old.opening.value) }
+            ≡ map (λ a. a.told) answered.old.items
+            ++ replicate (vec_len asked.old) (Effect.Failed fault)) }
+        ensures base { (self.new.base.value ≡ self.old.base.value)
+            × (self.new.opening.value ≡ self.old.opening.value) }
         // No seat comes or goes.
         ensures places { self.new.accounts.places ≡ self.old.accounts.places }
         ensures recall { self.new.recall ≡ self.old.recall }
-        // Where the server has no room for all of them, a snapshot is tried once there is a record that the last try
-        // did not find.
+        // Where the server has no room for all of them, a snapshot is tried once there is a record
+        // that the last try did not find.
         ensures lacks { OnOk result (self.old.count + length messages.now < 2 ^ 64
             → HasNoRoomFor self.old.server messages.now → self.new.pace.lacks_room ≡ true) }
         ensures pace { (self.new.pace ≡ self.old.pace)

@@ -1,4 +1,5 @@
 //! When records are worth a snapshot, though there are few.
 
-/// So many bytes of records ask for a snapshot, however few they are: that bounds the memory of their receipts.
+/// So many bytes of records ask for a snapshot, however few they are: that bounds the memory of
+/// their receipts.
 pub const SNAPSHOT_BYTES: usize = 33_554_432;

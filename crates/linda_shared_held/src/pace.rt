@@ -1,7 +1,8 @@
 //! When a snapshot pays for itself.
 
 ghost use Rattle.std.specs.Prelude.{◌≡◌};
-ghost use Rattle.linda_shared_held.specs.Pace.{is_due, pays, pace_from, put_off_at, tried_at, refused_for_room};
+ghost use Rattle.linda_shared_held.specs.Pace.{is_due, pays, pace_from, put_off_at, tried_at};
+ghost use Rattle.linda_shared_held.specs.Pace.{refused_for_room};
 
 use crate::limits::SNAPSHOT_BYTES;
 use linda_server::SNAPSHOT_RECORDS;
@@ -22,7 +23,8 @@ pub(crate) struct Pace {
 }
 
 impl Pace {
-    /// From a bank on that took `base` bytes when it was new. Its bytes are counted from `start` on.
+    /// From a bank on that took `base` bytes when it was new. Its bytes are counted from `start`
+    /// on.
     pub(crate) fn new(base: usize, start: usize) -> Pace
         ensures { result ≡ pace_from base start }
     {
@@ -35,8 +37,8 @@ impl Pace {
         }
     }
 
-    /// A snapshot is tried at so many records: if it is refused, then again once there are 1,024 more, or one more and
-    /// a deed was refused for room.
+    /// A snapshot is tried at so many records: if it is refused, then again once there are 1,024
+    /// more, or one more and a deed was refused for room.
     pub(crate) fn tries(&mut self, records: usize)
         ensures { self.new ≡ tried_at records self.old }
     {
@@ -59,19 +61,20 @@ impl Pace {
         self.lacks_room = true;
     }
 
-    /// Whether a snapshot of a bank with so many records, of which so many bytes are taken, is to be taken: it pays for
-    /// itself, or the bank is not in the form of new banks; or a deed was refused for room, and there is a record that
-    /// the last try did not find.
+    /// Whether a snapshot of a bank with so many records, of which so many bytes are taken, is to
+    /// be taken: it pays for itself, or the bank is not in the form of new banks; or a deed was
+    /// refused for room, and there is a record that the last try did not find.
     pub(crate) fn is_due(&self, is_old: bool, records: usize, used: usize, limit: usize) -> bool
-        ensures { result ≡ is_due is_old self.now.base self.now.start self.now.not_before self.now.tried
+        ensures { result
+            ≡ is_due is_old self.now.base self.now.start self.now.not_before self.now.tried
             self.now.lacks_room records used limit }
     {
         (records >= self.not_before && (is_old || self.pays(records, used, limit)))
             || (self.lacks_room && self.tried < records)
     }
 
-    // Whether there are records or bytes enough, and they have at least as many bytes as the bank had when it was new,
-    // or half of the limit is taken.
+    // Whether there are records or bytes enough, and they have at least as many bytes as the bank
+    // had when it was new, or half of the limit is taken.
     fn pays(&self, records: usize, used: usize, limit: usize) -> bool
         ensures { result ≡ pays self.now.base self.now.start records used limit }
     {

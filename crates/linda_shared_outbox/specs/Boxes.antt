@@ -20,7 +20,8 @@ abbrev pub replies_in : Option Outbox → Option (List Reply)
 replies_in None = None
 replies_in (Some o) = Some o.replies.items
 
--- The replies in an outbox, where there is one, and whether its client is in the list of those that wait.
+-- The replies in an outbox, where there is one, and whether its client is in the list of those that
+-- wait.
 abbrev pub shown : Option Outbox → Option (List Reply × Bool)
 shown None = None
 shown (Some o) = Some (o.replies.items, o.is_listed)
@@ -68,11 +69,14 @@ is_heard waiting c (Some (rs, false)) = is_none_left rs
 
 -- Each key is taken.
 abbrev pub AllTaken : tree.BTreeMap ℕ ℕ → slab.Slab Outbox → Type 0
-AllTaken keys boxes = (c key : ℕ) → tree.get nat_cmp keys c ≡ Some key → is_some (slab.get boxes key) ≡ true
+AllTaken keys boxes =
+    (c key : ℕ) → tree.get nat_cmp keys c ≡ Some key → is_some (slab.get boxes key) ≡ true
 
 -- Each box is the outbox of a client.
 abbrev pub AllOwned : tree.BTreeMap ℕ ℕ → slab.Slab Outbox → Type 0
-AllOwned keys boxes = (key : ℕ) → is_some (slab.get boxes key) ≡ true → ∥ ((c : ℕ) × (tree.get nat_cmp keys c ≡ Some key)) ∥₁
+AllOwned keys boxes =
+    (key : ℕ) → is_some (slab.get boxes key) ≡ true
+    → ∥ ((c : ℕ) × (tree.get nat_cmp keys c ≡ Some key)) ∥₁
 
 -- No two clients have one key.
 abbrev pub AreApart : tree.BTreeMap ℕ ℕ → Type 0

@@ -11,7 +11,8 @@ waits_for outboxes c = replies_in (box_of outboxes.keys outboxes.boxes c)
 -- There is room for so many more to this client, and for as many clients more that wait.
 abbrev pub HasRoom : ℕ → Outboxes → ℕ → Type 0
 HasRoom n outboxes c =
-    (vec_len outboxes.waiting + n ≤ vec_capacity outboxes.waiting) × TakesMore n (box_of outboxes.keys outboxes.boxes c)
+    (vec_len outboxes.waiting + n ≤ vec_capacity outboxes.waiting)
+    × TakesMore n (box_of outboxes.keys outboxes.boxes c)
 
 -- There is room for all that is sent.
 abbrev pub HasPlaces : Outboxes → List (ℕ × Reply) → Type 0

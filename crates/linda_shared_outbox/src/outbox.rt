@@ -2,7 +2,8 @@
 
 ghost use Rattle.std.specs.Prelude.{◌≡◌, ◌≢◌, ℕ, ◌+◌, ◌≤◌, OnOk};
 ghost use Rattle.slab.specs.Slab as slab;
-ghost use Rattle.linda_shared_outbox.specs.Boxes.{shown, posted, taken_out, unlisted, is_unlisted, replies_in};
+ghost use Rattle.linda_shared_outbox.specs.Boxes.{shown, posted, taken_out, unlisted, is_unlisted};
+ghost use Rattle.linda_shared_outbox.specs.Boxes.{replies_in};
 ghost use Rattle.linda_shared_outbox.specs.Boxes.{TakesMore};
 ghost use Rattle.linda_shared_outbox.specs.Replies.{handed_out};
 
@@ -25,7 +26,8 @@ pub(crate) fn make_place(
     more: usize,
 ) -> Result<(), AllocError>
     ensures room { OnOk result (TakesMore more (slab.get boxes.new key)) }
-    ensures kept { (n : ℕ) → TakesMore n (slab.get boxes.old key) → TakesMore n (slab.get boxes.new key) }
+    ensures kept { (n : ℕ) → TakesMore n (slab.get boxes.old key)
+        → TakesMore n (slab.get boxes.new key) }
     ensures same { shown (slab.get boxes.new key) ≡ shown (slab.get boxes.old key) }
     ensures others { (k : ℕ) → k ≢ key → slab.get boxes.new k ≡ slab.get boxes.old k }
 {
@@ -40,7 +42,8 @@ pub(crate) fn put(boxes: &mut Slab<Outbox>, key: usize, reply: Reply) -> bool
     requires { TakesMore 1 (slab.get boxes.old key) }
     ensures at { shown (slab.get boxes.new key) ≡ posted reply (shown (slab.get boxes.old key)) }
     ensures listed { result ≡ is_unlisted (shown (slab.get boxes.old key)) }
-    ensures room { (n : ℕ) → TakesMore (n + 1) (slab.get boxes.old key) → TakesMore n (slab.get boxes.new key) }
+    ensures room { (n : ℕ) → TakesMore (n + 1) (slab.get boxes.old key)
+        → TakesMore n (slab.get boxes.new key) }
     ensures others { (k : ℕ) → k ≢ key → slab.get boxes.new k ≡ slab.get boxes.old k }
 {
     match boxes.get_mut(key) {

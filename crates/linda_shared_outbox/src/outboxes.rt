@@ -5,8 +5,10 @@ ghost use Rattle.std.specs.Prelude.{vec_len, vec_capacity, OnOk, OnErr, OnSome, 
 ghost use Rattle.std.specs.Option.{is_some};
 ghost use Rattle.std.specs.Ordering.{nat_cmp};
 ghost use Rattle.std.specs.BTreeMap as tree;
-ghost use Rattle.linda_shared_outbox.specs.Boxes.{box_of, AllHeard, AllOwned, AllTaken, AreApart, TakesMore};
-ghost use Rattle.linda_shared_outbox.specs.Replies.{replies_to, opened, with_more, emptied, handed_out};
+ghost use Rattle.linda_shared_outbox.specs.Boxes.{box_of, AllHeard, AllOwned, AllTaken, AreApart};
+ghost use Rattle.linda_shared_outbox.specs.Boxes.{TakesMore};
+ghost use Rattle.linda_shared_outbox.specs.Replies.{replies_to, opened, with_more, emptied};
+ghost use Rattle.linda_shared_outbox.specs.Replies.{handed_out};
 
 use crate::outbox::{Outbox, make_place, put, take_out, unlist};
 use crate::sent::Sent;
@@ -125,7 +127,8 @@ impl Outboxes {
     // Posts one reply.
     fn post(&mut self, client: u32, reply: Reply)
         requires { HasRoom 1 self.old client }
-        ensures at { waits_for self.new client ≡ with_more (reply ∷ []) (waits_for self.old client) }
+        ensures at { waits_for self.new client
+            ≡ with_more (reply ∷ []) (waits_for self.old client) }
         ensures others { (c : ℕ) → c ≢ client →
             box_of self.new.keys self.new.boxes c ≡ box_of self.old.keys self.old.boxes c }
         ensures room { (n : ℕ) → HasRoom (n + 1) self.old client → HasRoom n self.new client }
@@ -149,10 +152,12 @@ impl Outboxes {
         }
     }
 
-    /// What waits for some client for which something waits; none where nothing waits for anybody. Its
-    /// outbox is empty then. Takes no memory, and looks at those alone that something was posted to.
+    /// What waits for some client for which something waits; none where nothing waits for anybody.
+    /// Its outbox is empty then. Takes no memory, and looks at those alone that something was
+    /// posted to.
     pub fn drain_next(&mut self, alloc: Global) -> Option<Sent>
-        ensures out { IfSome result (λ next. waits_for self.old next.client ≡ Some next.replies.items) }
+        ensures out { IfSome result (λ next.
+            waits_for self.old next.client ≡ Some next.replies.items) }
         ensures some { IfSome result (λ next. next.replies.items ≢ []) }
         ensures at { IfSome result (λ next. waits_for self.new next.client ≡ Some []) }
         ensures others { IfSome result (λ next. (c : ℕ) → c ≢ next.client →
@@ -170,8 +175,10 @@ impl Outboxes {
 
     // What waits for the client that was listed last, which is listed no more.
     fn drain_last(&mut self, alloc: Global) -> Option<(u32, Vec<Reply>)>
-        ensures out { IfSome result (λ last. last.1.items ≡ handed_out (waits_for self.old last.0)) }
-        ensures at { IfSome result (λ last. waits_for self.new last.0 ≡ emptied (waits_for self.old last.0)) }
+        ensures out { IfSome result (λ last.
+            last.1.items ≡ handed_out (waits_for self.old last.0)) }
+        ensures at { IfSome result (λ last.
+            waits_for self.new last.0 ≡ emptied (waits_for self.old last.0)) }
         ensures others { IfSome result (λ last. (c : ℕ) → c ≢ last.0 →
             waits_for self.new c ≡ waits_for self.old c) }
         ensures fewer { OnSome result (vec_len self.new.waiting + 1 ≡ vec_len self.old.waiting) }

@@ -26,7 +26,8 @@ is_receipt _ = false
 -- the fault of several messages: the first of a receipt, else the first
 abbrev pub worse_fault : Option SharedFault → SharedFault → SharedFault
 worse_fault None fault = fault
-worse_fault (Some first) fault = if is_receipt first then first else if is_receipt fault then fault else first
+worse_fault (Some first) fault =
+    if is_receipt first then first else if is_receipt fault then fault else first
 
 -- What holds unless the fault is that of a receipt.
 abbrev pub UnlessReceipt : Option SharedFault → Type 0 → Type 0
@@ -43,7 +44,8 @@ IsFaultOf c (faults.Receipt client number) = client ≡ c
 IsFaultOf c _ = Unit {0}
 
 -- The account was told this of its messages, and each is one that its message asks for.
-pub record IsToldAll (before : Account) (ms : List Message) (a : Account) (told : List (Option Receipt)) : Type 0 where
+pub record IsToldAll (before : Account) (ms : List Message) (a : Account)
+    (told : List (Option Receipt)) : Type 0 where
   pub account : with_asked a 0 ≡ with_all (with_asked before 0) told
   pub deeds : AreToldOf before.client ms told
   pub each : length told ≡ length ms
@@ -54,7 +56,8 @@ pub record HasNoted (before : Account) (ms : List Message) (a : Account) : Type 
   pub all : IsToldAll before ms a told
 
 -- The account heard the answers to these messages: without a fault so far, or with this one.
-pub record HasHeard (before : Account) (ms : List Message) (a : Account) (told : List (Option Receipt))
+pub record HasHeard (before : Account) (ms : List Message) (a : Account)
+    (told : List (Option Receipt))
     (fault : Option SharedFault) (as_before : Bool) : Type 0 where
   pub client : a.client ≡ before.client
   pub asked : a.asked + length ms ≡ before.asked

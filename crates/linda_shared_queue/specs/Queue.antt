@@ -1,5 +1,6 @@
 -- The messages that wait, as contracts see them, and which kind is next.
-use Rattle.std.specs.Prelude.{ℕ, ◌+◌, Bool, true, false, not, ◌&&◌, ◌||◌, List, [], ◌∷◌, map, length, nat_lt}
+use Rattle.std.specs.Prelude.{ℕ, ◌+◌, Bool, true, false, not, ◌&&◌, ◌||◌, List, [], ◌∷◌, map}
+use Rattle.std.specs.Prelude.{length, nat_lt}
 use Rattle.linda_wire.specs.declared.message.Message.{Message}
 use Rattle.linda_wire.specs.declared.message.Message.TheVariants as messages
 use Rattle.linda_shared_queue.specs.declared.address.Address.{Address}
@@ -15,8 +16,8 @@ only_asks (messages.Accept n ticket id) = false
 only_asks (messages.Cancel ticket) = true
 only_asks (messages.Leave n) = false
 
--- Whether the next group is one of Asks and Cancels, given whether such wait, whether others wait, and whether the last
--- group was one. If both kinds wait, the groups alternate.
+-- Whether the next group is one of Asks and Cancels, given whether such wait, whether others wait,
+-- and whether the last group was one. If both kinds wait, the groups alternate.
 abbrev pub asks_next : Bool → Bool → Bool → Bool
 asks_next asks others has_asked = asks && (not others || not has_asked)
 

@@ -51,23 +51,24 @@ abbrev pub IsToldOf : ℕ → Message → Option Receipt → Type 0
 IsToldOf c m None = Unit {0}
 IsToldOf c m (Some r) = IsDeedOf c m r.deed
 
--- Each deed that was told is one that the message at its position asks for; there are as many positions.
+-- Each deed that was told is one that the message at its position asks for; there are as many
+-- positions.
 abbrev pub AreToldOf : ℕ → List Message → List (Option Receipt) → Type 0
 AreToldOf c [] [] = Unit {0}
 AreToldOf c [] (t ∷ ts) = ⊥
 AreToldOf c (m ∷ ms) [] = ⊥
 AreToldOf c (m ∷ ms) (t ∷ ts) = IsToldOf c m t × AreToldOf c ms ts
 
--- An answer was lost, and the account was told what it said: nothing, or a deed that the message asks for, whose
--- receipt joined the ring after the others.
+-- An answer was lost, and the account was told what it said: nothing, or a deed that the message
+-- asks for, whose receipt joined the ring after the others.
 pub record IsLost (m : Message) (a new : Account) : Type 0 where
   pub told : Option Receipt
   pub account : new ≡ with_told a told
   pub deed : IsToldOf a.client m told
   pub next : IfSome told (IsNext a.client a.ring)
 
--- A refused message leaves the account so: it is as before, but for a receipt that was no answer to the message, and
--- for an answer that was lost.
+-- A refused message leaves the account so: it is as before, but for a receipt that was no answer to
+-- the message, and for an answer that was lost.
 abbrev pub IsLeft : Message → Account → SharedFault → Account → Type 0
 IsLeft m a faults.Down new = IsLost m a new
 IsLeft m a faults.Full new = new ≡ a
@@ -77,8 +78,8 @@ IsLeft m a (faults.Stuck client) new = new ≡ a
 IsLeft m a faults.NoThread new = new ≡ a
 IsLeft m a faults.Memory new = new ≡ a
 
--- Answers were lost, and the account was told what they said: of each message nothing, or a deed that it asks for,
--- whose receipt joined the ring.
+-- Answers were lost, and the account was told what they said: of each message nothing, or a deed
+-- that it asks for, whose receipt joined the ring.
 pub record AreLost (ms : List Message) (a new : Account) : Type 0 where
   pub told : List (Option Receipt)
   pub account : new ≡ with_all a told
@@ -96,7 +97,8 @@ abbrev pub IsLeftBy : List Message → Account → SharedFault → Account → T
 IsLeftBy ms a faults.Down new = AreLost ms a new
 IsLeftBy ms a faults.Full new = new ≡ a
 IsLeftBy ms a faults.SeatMissing new = new ≡ a
-IsLeftBy ms a (faults.Receipt client number) new = IsToldMore (length ms) a new × (client ≡ a.client)
+IsLeftBy ms a (faults.Receipt client number) new =
+    IsToldMore (length ms) a new × (client ≡ a.client)
 IsLeftBy ms a (faults.Stuck client) new = new ≡ a
 IsLeftBy ms a faults.NoThread new = new ≡ a
 IsLeftBy ms a faults.Memory new = new ≡ a

@@ -7,9 +7,9 @@ use linda_shared_accounts::{Answered, Effect};
 use std::alloc::Global;
 use std::sync::ledger::Ledger;
 
-/// What is told of a client's message, with a second copy of it: one stays with the session, the other is for whoever
-/// submitted. It knows the place where it is waited for. An answer without a copy is lost: memory ran out, and the
-/// message counts as one of a server that went down.
+/// What is told of a client's message, with a second copy of it: one stays with the session, the
+/// other is for whoever submitted. It knows the place where it is waited for. An answer without a
+/// copy is lost: memory ran out, and the message counts as one of a server that went down.
 #[derive(Drop)]
 pub struct Answer<L: Ledger> {
     client: u32,

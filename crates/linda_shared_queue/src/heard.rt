@@ -14,7 +14,8 @@ use linda_shared_accounts::{Account, Receipt, SharedFault};
 use linda_wire::Message;
 use std::sync::ledger::Ledger;
 
-/// What was told of each message so far, the worst fault, and whether the account is known to be as before.
+/// What was told of each message so far, the worst fault, and whether the account is known to be as
+/// before.
 #[derive(Drop)]
 pub struct Heard {
     /// What each message led to.
@@ -42,9 +43,10 @@ impl Heard {
         requires asked { 0 < account.old.asked }
         requires room { vec_len self.old.told < vec_capacity self.old.told }
         ensures so { (before : accounts.Account) (ms : List messages.Message)
-            → HasHeard before ms account.old self.old.told.items self.old.fault self.old.is_as_before
-            → HasHeard before (ms ++ message.now ∷ []) account.new self.new.told.items self.new.fault
-            self.new.is_as_before }
+            → HasHeard before ms account.old self.old.told.items self.old.fault
+            self.old.is_as_before
+            → HasHeard before (ms ++ message.now ∷ [])
+            account.new self.new.told.items self.new.fault self.new.is_as_before }
         ensures told { (vec_len self.new.told ≡ vec_len self.old.told + 1)
             × (vec_capacity self.new.told ≡ vec_capacity self.old.told) }
     {
@@ -61,7 +63,8 @@ impl Heard {
         ensures len { (vec_len self.new.told ≡ vec_len self.old.told + 1)
             × (vec_capacity self.new.told ≡ vec_capacity self.old.told) }
         ensures fault { self.new.fault ≡ self.old.fault }
-        ensures as_before { self.new.is_as_before ≡ true → (self.old.is_as_before ≡ true) × (one ≡ None) }
+        ensures as_before { self.new.is_as_before ≡ true
+            → (self.old.is_as_before ≡ true) × (one ≡ None) }
         ensures still { self.old.is_as_before ≡ true → one ≡ None → self.new.is_as_before ≡ true }
     {
         if one.is_some() {
@@ -94,7 +97,8 @@ impl Heard {
     ///
     /// # Errors
     ///
-    /// The worst fault; `Down` in place of one that says that nothing changed, where the account may have.
+    /// The worst fault; `Down` in place of one that says that nothing changed, where the account
+    /// may have.
     pub fn end(self) -> Result<Vec<Option<Receipt>>, SharedFault>
         ensures ok { (before account : accounts.Account) (ms : List messages.Message)
             → HasHeard before ms account self.told.items self.fault self.is_as_before

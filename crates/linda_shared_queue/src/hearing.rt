@@ -18,7 +18,8 @@ use std::sync::ledger::Ledger;
 ///
 /// # Errors
 ///
-/// `Receipt`: the account was told of a deed that the message does not ask for, or of one that it was told before.
+/// `Receipt`: the account was told of a deed that the message does not ask for, or of one that it
+/// was told before.
 /// `Down`: the copy was lost. Else what the server said, and nothing was done.
 pub fn hear<L: Ledger>(
     account: &mut Account<L>,
@@ -53,19 +54,21 @@ pub fn hear<L: Ledger>(
     }
 }
 
-/// The account hears the answer to its message, of which there is no copy. A receipt joins its ring.
+/// The account hears the answer to its message, of which there is no copy. A receipt joins its
+/// ring.
 ///
 /// # Errors
 ///
-/// `Receipt`: the account was told of a deed that the message does not ask for, or of one that it was told before.
-/// Else what the server said, and nothing was done.
+/// `Receipt`: the account was told of a deed that the message does not ask for, or of one that it
+/// was told before. Else what the server said, and nothing was done.
 pub fn hear_answer<A: Drop, L: Ledger>(
     account: &mut Account<L>,
     message: &Message,
     answered: Answered<A, L>,
 ) -> Result<(), SharedFault>
     requires { 0 < account.old.asked }
-    // It was told nothing, or a deed that the message asks for, whose receipt joined the ring after the others;
+    // It was told nothing, or a deed that the message asks for, whose receipt joined the ring after
+    // the others;
     ensures ok { OnOk result (IsLost message.now (back account.old) account.new) }
     // else it is as before, but for `Receipt`.
     ensures err { IfErr result (λ fault. IsLeft message.now (back account.old) fault account.new) }
@@ -86,7 +89,8 @@ fn note<L: Ledger>(
     message: &Message,
     receipt: Receipt,
 ) -> Result<(), SharedFault>
-    ensures ok { OnOk result (account.new ≡ account_of account.old.client account.old.deeds account.old.asked
+    ensures ok { OnOk result (account.new
+        ≡ account_of account.old.client account.old.deeds account.old.asked
         (with_receipt account.old.ring receipt)) }
     ensures err { IfErr result (λ fault. (account.new ≡ account.old)
         × (fault ≡ SharedFault.Receipt account.old.client (number_in receipt))) }

@@ -1,15 +1,21 @@
 //! What goes between sessions and the one that serves them.
 //!
-//! - A `Mailbox` is a session's own: its replies, and a place for the answer to each message that it has on its way.
+//! - A `Mailbox` is a session's own: its replies, and a place for the answer to each message that
+//!   it has on its way.
 //! - `Outlet` is where its replies come out; whoever reads there never asks for the server.
-//! - The `Queue` has the messages that wait to be served, those of which no deed comes in a line of their own, and says
+//! - The `Queue` has the messages that wait to be served, those of which no deed comes in a line of
+//!   their own, and says
 //!   who is to serve the next group.
-//! - An `Answer` is what is told of a message, with a second copy of it. A `Delivery` is one on its way to a mailbox.
-//! - `hear` is what an account hears of its answer, and `Heard` what it hears of a batch; `hear_answer` is for an answer
+//! - An `Answer` is what is told of a message, with a second copy of it. A `Delivery` is one on its
+//!   way to a mailbox.
+//! - `hear` is what an account hears of its answer, and `Heard` what it hears of a batch;
+//!   `hear_answer` is for an answer
 //!   that is not copied, since whoever serves a group gives it to the session itself.
-//! - The `Router` has the mailbox of each session, and gives out what a group came to, while the next one is served.
+//! - The `Router` has the mailbox of each session, and gives out what a group came to, while the
+//!   next one is served.
 //!
-//! Order of locks: the router's, the queue's, a mailbox's. Whoever has a mailbox's lock asks for no other.
+//! Order of locks: the router's, the queue's, a mailbox's. Whoever has a mailbox's lock asks for no
+//! other.
 #![tactic(auto)]
 
 mod address;

@@ -29,13 +29,15 @@ pub(crate) struct Mail<L: Ledger> {
     places: Vec<Option<Answer<L>>>,
     due: usize,
     leads: bool,
-    // No reply comes any more: the server is down, the seat was given up, or a reply could not be kept.
+    // No reply comes any more: the server is down, the seat was given up, or a reply could not be
+    // kept.
     is_over: bool,
 }
 
 impl<L: Ledger> Mail<L> {
     pub(crate) fn new(alloc: Global) -> Mail<L>
-        ensures { (result.replies.items ≡ []) × (result.places.items ≡ []) × (result.is_over ≡ false) }
+        ensures { (result.replies.items ≡ []) × (result.places.items ≡ [])
+            × (result.is_over ≡ false) }
     {
         Mail {
             replies: Vec::new(alloc),
@@ -99,7 +101,8 @@ impl<L: Ledger> Mail<L> {
 
     /// Puts an answer into its own place.
     pub(crate) fn put(&mut self, answer: Answer<L>)
-        ensures places { self.new.places.items ≡ slice_set self.old.places.items answer.place (Some answer) }
+        ensures places { self.new.places.items
+            ≡ slice_set self.old.places.items answer.place (Some answer) }
         ensures due { self.new.due ≡ self.old.due - 1 }
     {
         let place = answer.place();
@@ -122,7 +125,8 @@ impl<L: Ledger> Mail<L> {
     /// Puts replies after the others. Where there is no memory for them none comes any more.
     pub(crate) fn post(&mut self, sent: Sent)
         ensures kept { self.new.is_over ≡ self.old.is_over
-            → self.old.is_over ≡ false → self.new.replies.items ≡ self.old.replies.items ++ sent.replies.items }
+            → self.old.is_over ≡ false
+            → self.new.replies.items ≡ self.old.replies.items ++ sent.replies.items }
         ensures over { self.old.is_over ≡ true → self.new.is_over ≡ true }
     {
         let mut replies = sent.into_replies();
@@ -144,7 +148,8 @@ impl<L: Ledger> Mail<L> {
         std::mem::replace(&mut self.replies, Vec::new(alloc))
     }
 
-    /// Whether the session is to lead, before all; else the answer of this place, which is there no more.
+    /// Whether the session is to lead, before all; else the answer of this place, which is there no
+    /// more.
     pub(crate) fn turn(&mut self, place: usize) -> Turn<L>
         ensures gives { GivesFrom self.old.leads (slice_get self.old.places.items place) result }
         ensures leads { self.new.leads ≡ false }

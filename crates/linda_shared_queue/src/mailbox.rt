@@ -55,8 +55,8 @@ impl<L: Ledger> Mailbox<L> {
         Ok(())
     }
 
-    /// Puts replies to its client after the others. If there is no memory for them none comes any more. Whoever waits
-    /// for news is woken too, if others' messages led to these.
+    /// Puts replies to its client after the others. If there is no memory for them none comes any
+    /// more. Whoever waits for news is woken too, if others' messages led to these.
     pub(crate) fn post<R: Wait>(&self, rt: &R, sent: Sent, is_news: bool)
         requires { sent.client ≡ self.now.client }
     {
@@ -109,7 +109,8 @@ impl<L: Ledger> Mailbox<L> {
         self.news.notify_all();
     }
 
-    /// Waits until all answers are there, or the session is to lead; takes the answer of this place.
+    /// Waits until all answers are there, or the session is to lead; takes the answer of this
+    /// place.
     pub fn wait_turn<R: Wait>(&self, rt: &R, place: usize) -> Turn<L> {
         let mut mail = self
             .turned

@@ -23,13 +23,15 @@ impl<L: Ledger> Outlet<L> {
         Outlet { mailbox }
     }
 
-    /// A second outlet of the same session, for another thread. Each reply comes out of one of them.
+    /// A second outlet of the same session, for another thread. Each reply comes out of one of
+    /// them.
     ///
     /// # Errors
     ///
     /// `AllocError`: nothing was made.
     pub fn another(&self) -> Result<Outlet<L>, AllocError>
-        ensures { IfOk result (λ o. (arc_value o.mailbox).client ≡ (arc_value self.now.mailbox).client) }
+        ensures { IfOk result (λ o. (arc_value o.mailbox).client
+            ≡ (arc_value self.now.mailbox).client) }
     {
         let mailbox = Arc::try_clone(&self.mailbox)?;
         Ok(Outlet { mailbox })
@@ -40,15 +42,15 @@ impl<L: Ledger> Outlet<L> {
         self.mailbox.drain(rt, alloc)
     }
 
-    /// Waits until there is a reply, the server is down or the seat was hung up; then takes what is there. So nothing
-    /// where no reply comes any more.
+    /// Waits until there is a reply, the server is down or the seat was hung up; then takes what is
+    /// there. So nothing where no reply comes any more.
     pub fn drain_wait<R: Wait>(&mut self, rt: &R, alloc: Global) -> Vec<Reply> {
         self.mailbox.drain_wait(rt, alloc)
     }
 
-    /// Waits until there is a reply that others' messages led to, the server is down or the seat was hung up, and takes
-    /// nothing. Says whether a reply may come. It is for whoever writes beside a thread that submits, and that writes
-    /// what its own messages led to.
+    /// Waits until there is a reply that others' messages led to, the server is down or the seat
+    /// was hung up, and takes nothing. Says whether a reply may come. It is for whoever writes
+    /// beside a thread that submits, and that writes what its own messages led to.
     pub fn wait_news<R: Wait>(&self, rt: &R) -> bool {
         self.mailbox.wait_news(rt)
     }

@@ -1,7 +1,9 @@
 //! The messages that wait to be served.
 
-ghost use Rattle.std.specs.Prelude.{◌≡◌, ◌+◌, ◌<◌, ◌≤◌, ◌==◌, ◌++◌, ◌∷◌, [], true, false, not, ◌||◌, All};
-ghost use Rattle.std.specs.Prelude.{map, vec_len, nat_lt, is_some, IfOk, OnOk, OnErr, IfSome, IfNone};
+ghost use Rattle.std.specs.Prelude.{◌≡◌, ◌+◌, ◌<◌, ◌≤◌, ◌==◌, ◌++◌, ◌∷◌, [], true, false, not};
+ghost use Rattle.std.specs.Prelude.{◌||◌, All};
+ghost use Rattle.std.specs.Prelude.{map, vec_len, nat_lt, is_some, IfOk, OnOk, OnErr, IfSome};
+ghost use Rattle.std.specs.Prelude.{IfNone};
 ghost use Rattle.std.specs.VecDeque.{deque_len};
 ghost use Rattle.linda_shared_accounts.specs.Account.{account_of};
 ghost use Rattle.linda_shared_accounts.specs.declared.limits.TheConstants.{MOST_ASKED};
@@ -27,9 +29,10 @@ pub struct Waiting<L: Ledger> {
     behind: usize,
 }
 
-/// The messages that wait, each kind in order, and whether somebody leads: serves a group, or was told to. Asks and
-/// Cancels, of which no deed comes, go in groups of their own, so that who asks waits for no disk but that of the group
-/// before. Where both kinds wait the groups alternate, so neither waits for more than one of the other.
+/// The messages that wait, each kind in order, and whether somebody leads: serves a group, or was
+/// told to. Asks and Cancels, of which no deed comes, go in groups of their own, so that who asks
+/// waits for no disk but that of the group before. Where both kinds wait the groups alternate, so
+/// neither waits for more than one of the other.
 #[derive(Drop)]
 pub struct Queue<L: Ledger> {
     // Calls of which deeds may come.
@@ -54,7 +57,8 @@ impl<L: Ledger> Queue<L> {
         }
     }
 
-    /// A message of this account goes on its way, after the others of its kind. Says whether whoever asks is to lead.
+    /// A message of this account goes on its way, after the others of its kind. Says whether
+    /// whoever asks is to lead.
     ///
     /// # Errors
     ///
@@ -84,8 +88,8 @@ impl<L: Ledger> Queue<L> {
         Ok(take_lead(&mut self.is_led))
     }
 
-    /// Messages of this account go on their way, after the others of their kind and one after another; they are
-    /// served in one group. Says whether whoever asks is to lead.
+    /// Messages of this account go on their way, after the others of their kind and one after
+    /// another; they are served in one group. Says whether whoever asks is to lead.
     ///
     /// # Errors
     ///
@@ -119,19 +123,22 @@ impl<L: Ledger> Queue<L> {
     pub fn begin(&mut self)
         ensures kind { self.new.has_asked ≡ asks_next (nat_lt 0 (deque_len self.old.asking))
             (nat_lt 0 (deque_len self.old.doing)) self.old.has_asked }
-        ensures same { (line true self.new ≡ line true self.old) × (line false self.new ≡ line false self.old) }
+        ensures same { (line true self.new ≡ line true self.old)
+            × (line false self.new ≡ line false self.old) }
     {
         self.has_asked = self.is_next_to_ask();
     }
 
-    /// Takes the message of the group's kind that is in front, where there is room for it and for those of its call
-    /// after it.
+    /// Takes the message of the group's kind that is in front, where there is room for it and for
+    /// those of its call after it.
     pub fn next(&mut self, room: usize) -> Option<Waiting<L>>
         ensures room { is_some result ≡ fits room (line self.old.has_asked self.old) }
         ensures some { IfSome result (λ w. line self.old.has_asked self.old
             ≡ seen w ∷ line self.old.has_asked self.new) }
-        ensures none { IfNone result (line self.old.has_asked self.new ≡ line self.old.has_asked self.old) }
-        ensures others { line (not self.old.has_asked) self.new ≡ line (not self.old.has_asked) self.old }
+        ensures none { IfNone result (line self.old.has_asked self.new
+            ≡ line self.old.has_asked self.old) }
+        ensures others { line (not self.old.has_asked) self.new
+            ≡ line (not self.old.has_asked) self.old }
         ensures kind { self.new.has_asked ≡ self.old.has_asked }
     {
         if self.has_asked {
@@ -141,7 +148,8 @@ impl<L: Ledger> Queue<L> {
         }
     }
 
-    /// Ends a group: the session in front of the next one is to lead it. Where nobody waits, whoever comes next leads.
+    /// Ends a group: the session in front of the next one is to lead it. Where nobody waits,
+    /// whoever comes next leads.
     pub fn pass_on<R: Wait>(&mut self, rt: &R)
         ensures led { self.new.is_led
             ≡ (nat_lt 0 (deque_len self.old.asking) || nat_lt 0 (deque_len self.old.doing)) }
@@ -153,7 +161,8 @@ impl<L: Ledger> Queue<L> {
         };
     }
 
-    // Whether the next group is of Asks and Cancels: where there are some, unless the last one was and others wait.
+    // Whether the next group is of Asks and Cancels: where there are some, unless the last one was
+    // and others wait.
     fn is_next_to_ask(&self) -> bool
         ensures { result ≡ asks_next (nat_lt 0 (deque_len self.now.asking))
             (nat_lt 0 (deque_len self.now.doing)) self.now.has_asked }

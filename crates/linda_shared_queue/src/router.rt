@@ -1,6 +1,7 @@
 //! The mailboxes of all sessions, and what is on its way to them.
 
-ghost use Rattle.std.specs.Prelude.{◌≡◌, ◌⊎◌, ◌+◌, ◌<◌, ◌≤◌, ◌++◌, ◌∷◌, [], vec_len, vec_capacity, IfOk};
+ghost use Rattle.std.specs.Prelude.{◌≡◌, ◌⊎◌, ◌+◌, ◌<◌, ◌≤◌, ◌++◌, ◌∷◌, [], vec_len, vec_capacity};
+ghost use Rattle.std.specs.Prelude.{IfOk};
 ghost use Rattle.std.specs.VecDeque.{deque_capacity};
 ghost use Rattle.linda_store_step.specs.declared.size.TheConstants.{MAX_BATCH};
 ghost use Rattle.linda_shared_queue.specs.Router.{router_of};
@@ -16,8 +17,8 @@ use std::marker::Model;
 use std::sync::ledger::Ledger;
 use std::sync::{Arc, Wait};
 
-/// The mailboxes of the clients that have a seat, and what a group came to, which its leader gives out. Contracts see
-/// how many deliveries are here, a batch at most, and the replies, in order.
+/// The mailboxes of the clients that have a seat, and what a group came to, which its leader gives
+/// out. Contracts see how many deliveries are here, a batch at most, and the replies, in order.
 #[derive(Drop)]
 pub struct Router<L: Ledger> {
     boxes: Mailboxes<L>,
@@ -37,7 +38,8 @@ impl<L: Ledger> Model for Router<L> {
 
     ghost view = { λ o. router_of (vec_len o.deliveries) o.replies.items };
 
-    ghost invariant = { λ o. (vec_len o.deliveries ≤ MAX_BATCH) × (MAX_BATCH ≤ vec_capacity o.deliveries)
+    ghost invariant = { λ o. (vec_len o.deliveries ≤ MAX_BATCH)
+        × (MAX_BATCH ≤ vec_capacity o.deliveries)
         × (0 < deque_capacity o.replies) };
 }
 
@@ -91,7 +93,8 @@ impl<L: Ledger> Router<L> {
         }
     }
 
-    /// Takes the deliveries of a group, for room to write as many again. What is still here goes out first.
+    /// Takes the deliveries of a group, for room to write as many again. What is still here goes
+    /// out first.
     pub fn take_deliveries<R: Wait>(&mut self, rt: &R, deliveries: &mut Vec<Delivery<L>>)
         requires few { vec_len deliveries.old ≤ MAX_BATCH }
         requires room { MAX_BATCH ≤ vec_capacity deliveries.old }
@@ -102,7 +105,8 @@ impl<L: Ledger> Router<L> {
         std::mem::swap(&mut self.deliveries, deliveries);
     }
 
-    /// Takes replies. Where there is no memory to keep them beside the others, those go out first: so none is lost.
+    /// Takes replies. Where there is no memory to keep them beside the others, those go out first:
+    /// so none is lost.
     pub fn take_replies<R: Wait>(&mut self, rt: &R, sent: Sent)
         ensures kept { (self.new ≡ router_of self.old.deliveries (self.old.replies ++ sent ∷ []))
             ⊎ (self.new ≡ router_of self.old.deliveries (sent ∷ [])) }
@@ -143,7 +147,8 @@ fn post_all<L: Ledger, R: Wait>(
     }
 }
 
-// Puts replies into their client's mailbox, if it has one. They are news if none of its messages is being answered.
+// Puts replies into their client's mailbox, if it has one. They are news if none of its messages is
+// being answered.
 fn post<L: Ledger, R: Wait>(rt: &R, boxes: &Mailboxes<L>, deliveries: &[Delivery<L>], sent: Sent) {
     let client = sent.client();
     if let Some(mailbox) = boxes.get(client) {

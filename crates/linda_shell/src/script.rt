@@ -33,7 +33,8 @@ const LIMIT: usize = 1_048_576;
 /// The most packets that are delivered for one command, beside those that it repeats.
 const MAX_DELIVERIES: usize = 1_000_000;
 
-/// The servers and clients of a script. Between two commands every packet was delivered at least once.
+/// The servers and clients of a script. Between two commands every packet was delivered at least
+/// once.
 #[derive(Drop)]
 pub(crate) struct Script {
     world: World<Durable<MemDisk>>,
@@ -62,7 +63,8 @@ impl Script {
         })
     }
 
-    /// Does what the line of this number says, delivers all packets, and appends what is printed, line by line.
+    /// Does what the line of this number says, delivers all packets, and appends what is printed,
+    /// line by line.
     ///
     /// # Errors
     ///
@@ -238,7 +240,8 @@ impl Script {
         self.stop(alloc, server, Some(call), event, out)
     }
 
-    // Stops the server so, inside a device call or with nothing in hand, and tells each client that it was opened.
+    // Stops the server so, inside a device call or with nothing in hand, and tells each client that
+    // it was opened.
     fn stop(
         &mut self,
         alloc: Global,
@@ -287,7 +290,8 @@ impl Script {
         Ok(())
     }
 
-    // Delivers the packets that were not delivered yet, in the order in which they were sent, until none is left.
+    // Delivers the packets that were not delivered yet, in the order in which they were sent, until
+    // none is left.
     fn deliver_all(&mut self, alloc: Global, out: &mut Output) -> Result<(), LineFault> {
         for _ in 0..MAX_DELIVERIES {
             if self.delivered >= self.world.packets().len() {

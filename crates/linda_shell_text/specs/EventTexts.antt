@@ -42,7 +42,8 @@ abbrev mutual
   -- The members of a choice between brackets.
   pub IsListText : Trees → List ℕ → Type 0
   IsListText no_trees text =
-      (blanks : List ℕ) × AreBlanks blanks × (text ≡ OPENING_BRACKET ∷ (blanks ++ CLOSING_BRACKET ∷ []))
+      (blanks : List ℕ) × AreBlanks blanks
+      × (text ≡ OPENING_BRACKET ∷ (blanks ++ CLOSING_BRACKET ∷ []))
   IsListText (and_tree member others) text =
       (blanks first rest : List ℕ) × AreBlanks blanks
       × IsEventText member first × AreMore others rest
@@ -50,7 +51,8 @@ abbrev mutual
 
   -- What stands after a member: a comma and the next one, or the closing bracket.
   pub AreMore : Trees → List ℕ → Type 0
-  AreMore no_trees text = (blanks : List ℕ) × AreBlanks blanks × (text ≡ blanks ++ CLOSING_BRACKET ∷ [])
+  AreMore no_trees text =
+      (blanks : List ℕ) × AreBlanks blanks × (text ≡ blanks ++ CLOSING_BRACKET ∷ [])
   AreMore (and_tree member others) text =
       (before between next rest : List ℕ) × AreBlanks before × AreBlanks between
       × IsEventText member next × AreMore others rest

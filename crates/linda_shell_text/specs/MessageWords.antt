@@ -1,4 +1,5 @@
--- The one text of a message and of a reply: a word, numbers after one blank each, and a tuple or a template.
+-- The one text of a message and of a reply: a word, numbers after one blank each, and a tuple or a
+-- template.
 use Rattle.std.specs.Prelude.{ℕ, Bool, true, false, List, ◌∷◌, ◌++◌, codes}
 use Rattle.std.specs.Fmt.{decimal}
 use Rattle.linda_tuple.specs.Tuple.{Tuple}
@@ -40,7 +41,8 @@ message_words (messages.Hello version client fresh) =
 message_words (messages.Out n tuple) = numbered_then (codes "out") n (written_tuple tuple)
 message_words (messages.Ask ticket remove template) =
     numbered_then (ask_word remove) ticket (written_template template)
-message_words (messages.Accept n ticket id) = twice_numbered_then (codes "accept") n ticket (decimal id)
+message_words (messages.Accept n ticket id) =
+    twice_numbered_then (codes "accept") n ticket (decimal id)
 message_words (messages.Cancel ticket) = numbered (codes "cancel") ticket
 message_words (messages.Leave n) = numbered (codes "leave") n
 

@@ -1,4 +1,5 @@
--- Reading an event from left to right, by the steps of linda_codec, where the faults are those of events.
+-- Reading an event from left to right, by the steps of linda_codec, where the faults are those of
+-- events.
 use Rattle.std.specs.Prelude.{ℕ, List, Result, Ok, Err}
 use Rattle.linda_codec.specs.Steps.{ReadOr, GivesUnless, GivesWithout}
 use Rattle.linda_text.specs.declared.fault.TextFault.{TextFault}
@@ -19,10 +20,12 @@ abbrev pub lifted : {A : Type 0} → Result A TextFault → Result A EventTextFa
 lifted (Ok x) = Ok x
 lifted (Err fault) = Err (Text fault)
 
-abbrev pub Gives : {X Y : Type 0} → (X → Y) → Result X EventTextFault → Result Y EventTextFault → Type 0
+abbrev pub Gives : {X Y : Type 0} → (X → Y) → Result X EventTextFault → Result Y EventTextFault
+    → Type 0
 Gives view result read = GivesUnless (Text Memory) view result read
 
-abbrev pub GivesAlways : {X Y : Type 0} → (X → Y) → Result X EventTextFault → Result Y EventTextFault → Type 0
+abbrev pub GivesAlways : {X Y : Type 0} → (X → Y) → Result X EventTextFault
+    → Result Y EventTextFault → Type 0
 GivesAlways view result read = GivesWithout (Text Memory) view result read
 
 -- A fault given by its offset, where so many bytes were there in all.

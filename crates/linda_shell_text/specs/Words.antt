@@ -9,8 +9,10 @@ use Rattle.linda_text.specs.declared.fault.TextFault.TheVariants.{SyntaxAt}
 use Rattle.linda_text.specs.Reading.{wrong, after_blanks, word_at, natural_at}
 use Rattle.linda_text.specs.declared.marks.TheConstants.{COMMA}
 use Rattle.linda_shell_text.specs.declared.marks.TheConstants.{OPENING_BRACKET, CLOSING_BRACKET}
-use Rattle.linda_shell_text.specs.declared.marks.TheConstants.{IN_LETTER, RD_LETTER, A_LETTER, N_LETTER}
-use Rattle.linda_shell_text.specs.declared.marks.TheConstants.{CHOOSE_LETTER, WRAP_LETTER, ALWAYS_LETTER, NACK_LETTER}
+use Rattle.linda_shell_text.specs.declared.marks.TheConstants.{IN_LETTER, RD_LETTER, A_LETTER}
+use Rattle.linda_shell_text.specs.declared.marks.TheConstants.{N_LETTER}
+use Rattle.linda_shell_text.specs.declared.marks.TheConstants.{CHOOSE_LETTER, WRAP_LETTER}
+use Rattle.linda_shell_text.specs.declared.marks.TheConstants.{ALWAYS_LETTER, NACK_LETTER}
 use Rattle.linda_shell_text.specs.declared.keyword.Keyword.{Keyword}
 use Rattle.linda_shell_text.specs.declared.keyword.Keyword.TheVariants as keywords
 

@@ -31,7 +31,8 @@ abbrev mutual
   pub written_event : Tree → List ℕ
   written_event (leaf kind) = written_base kind
   written_event (choose members) =
-      written_behind keywords.Choose (OPENING_BRACKET ∷ (written_members true members ++ CLOSING_BRACKET ∷ []))
+      written_behind keywords.Choose
+      (OPENING_BRACKET ∷ (written_members true members ++ CLOSING_BRACKET ∷ []))
   written_event (wrap label below) =
       written_behind keywords.Wrap (decimal label ++ SPACE ∷ written_event below)
   written_event (nack number below) =

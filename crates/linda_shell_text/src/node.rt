@@ -1,8 +1,10 @@
 //! Events at the front of bytes, node by node.
 
 ghost use Rattle.std.specs.Prelude.{◌≡◌, map};
-ghost use Rattle.linda_event.specs.Trees.{alarm, always, choose, input, leaf, members_of, nack, read, tree_of, wrap};
-ghost use Rattle.linda_text.specs.Reading.{after_blanks, made, natural_at, spaced_atom_at, template_at};
+ghost use Rattle.linda_event.specs.Trees.{alarm, always, choose, input, leaf, members_of, nack};
+ghost use Rattle.linda_event.specs.Trees.{read, tree_of, wrap};
+ghost use Rattle.linda_text.specs.Reading.{after_blanks, made, natural_at, spaced_atom_at};
+ghost use Rattle.linda_text.specs.Reading.{template_at};
 ghost use Rattle.linda_shell_text.specs.Reading.{event_at, members_at, under_at};
 ghost use Rattle.linda_shell_text.specs.Steps.{Gives, lifted};
 
@@ -42,7 +44,8 @@ pub(crate) fn build_event(
 
 // What stands after the keyword of an input, and the bytes after it.
 fn build_input(alloc: Global, bytes: &[u8]) -> Result<(Event, &[u8]), EventTextFault>
-    ensures { Gives (λ x. (tree_of x.0, x.1.now)) result (made (λ t. leaf (input t)) (lifted (template_at bytes.now))) }
+    ensures { Gives (λ x. (tree_of x.0, x.1.now)) result
+        (made (λ t. leaf (input t)) (lifted (template_at bytes.now))) }
 {
     let (template, rest) = split_template(alloc, bytes)?;
     Ok((Event::Input(template), rest))
@@ -50,7 +53,8 @@ fn build_input(alloc: Global, bytes: &[u8]) -> Result<(Event, &[u8]), EventTextF
 
 // The same for a read.
 fn build_read(alloc: Global, bytes: &[u8]) -> Result<(Event, &[u8]), EventTextFault>
-    ensures { Gives (λ x. (tree_of x.0, x.1.now)) result (made (λ t. leaf (read t)) (lifted (template_at bytes.now))) }
+    ensures { Gives (λ x. (tree_of x.0, x.1.now)) result
+        (made (λ t. leaf (read t)) (lifted (template_at bytes.now))) }
 {
     let (template, rest) = split_template(alloc, bytes)?;
     Ok((Event::Read(template), rest))
@@ -115,7 +119,8 @@ fn build_members(
     bytes: &[u8],
     room: usize,
 ) -> Result<(Vec<Event>, &[u8]), EventTextFault>
-    ensures { Gives (λ x. (map tree_of x.0.items, x.1.now)) result (members_at (event_at room) bytes.now) }
+    ensures { Gives (λ x. (map tree_of x.0.items, x.1.now)) result
+        (members_at (event_at room) bytes.now) }
 {
     let mut members = Vec::new(alloc);
     let (some, mut rest) = open_list(bytes)?;

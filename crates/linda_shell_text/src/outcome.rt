@@ -17,7 +17,8 @@ pub fn write_outcome(alloc: Global, client: u32, outcome: &Outcome) -> Result<St
     Ok(line)
 }
 
-/// The line of a call that the client refuses, with its line feed; `None` for a fault that no call of a script has.
+/// The line of a call that the client refuses, with its line feed; `None` for a fault that no call
+/// of a script has.
 ///
 /// # Errors
 ///

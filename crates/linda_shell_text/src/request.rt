@@ -19,8 +19,9 @@ pub enum Request {
     Leave,
 }
 
-/// What a line of one client asks for, `out TUPLE`, `sync EVENT` or `leave`: nothing, where it is empty or begins
-/// with `#`; `None` inside where it is no such line. A line has no line feed and no carriage return at its end.
+/// What a line of one client asks for, `out TUPLE`, `sync EVENT` or `leave`: nothing, where it is
+/// empty or begins with `#`; `None` inside where it is no such line. A line has no line feed and no
+/// carriage return at its end.
 ///
 /// # Errors
 ///

@@ -43,7 +43,8 @@ fn skip_pattern(bytes: &[u8]) -> Result<&[u8], EventTextFault>
 
 // The bytes after a time.
 fn skip_time(bytes: &[u8]) -> Result<&[u8], EventTextFault>
-    ensures { GivesAlways (λ rest. rest.now) result (left_by (lifted (natural_at (after_blanks bytes.now)))) }
+    ensures { GivesAlways (λ rest. rest.now) result
+        (left_by (lifted (natural_at (after_blanks bytes.now)))) }
 {
     let (_time, rest) = split_number(skip_blanks(bytes))?;
     Ok(rest)
@@ -72,7 +73,8 @@ fn skip_under(bytes: &[u8], room: usize) -> Result<&[u8], EventTextFault>
 // The bytes after the members of a choice and their brackets.
 #[cycle(skipping)]
 fn skip_members(bytes: &[u8], room: usize) -> Result<&[u8], EventTextFault>
-    ensures { GivesAlways (λ rest. rest.now) result (left_by (members_at (event_at room) bytes.now)) }
+    ensures { GivesAlways (λ rest. rest.now) result
+        (left_by (members_at (event_at room) bytes.now)) }
 {
     let (some, mut rest) = open_list(bytes)?;
     if !some {

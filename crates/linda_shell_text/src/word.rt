@@ -7,8 +7,8 @@ ghost use Rattle.linda_shell_text.specs.Words.{behind_word_at, front_number_at, 
 use crate::token::end_word;
 use linda_text::{TextFault, skip_blanks, skip_word, split_number};
 
-/// The number at the front of the text, after which no letter or digit stands, and what stands after it and after
-/// blanks; `None` where there is none, or it has more than 64 bits.
+/// The number at the front of the text, after which no letter or digit stands, and what stands
+/// after it and after blanks; `None` where there is none, or it has more than 64 bits.
 pub fn number_in(text: &[u8]) -> Option<(u64, &[u8])>
     ensures { Finds (λ x. (x.0, x.1.now)) result (front_number_at text.now) }
 {
@@ -18,8 +18,8 @@ pub fn number_in(text: &[u8]) -> Option<(u64, &[u8])>
     }
 }
 
-/// What stands after the word, after which no letter or digit stands, and after blanks; `None` where the text does not
-/// begin with it.
+/// What stands after the word, after which no letter or digit stands, and after blanks; `None`
+/// where the text does not begin with it.
 pub fn behind_word<'a>(text: &'a [u8], word: &[u8]) -> Option<&'a [u8]>
     ensures { Finds (λ rest. rest.now) result (behind_word_at word.now text.now) }
 {

@@ -9,7 +9,8 @@ ghost use Rattle.linda_text.specs.declared.marks.TheConstants.{SPACE};
 ghost use Rattle.linda_shell_text.specs.declared.marks.TheConstants.{OPENING_BRACKET};
 ghost use Rattle.linda_shell_text.specs.declared.keyword.Keyword.TheVariants.{Choose};
 ghost use Rattle.linda_shell_text.specs.Words.{keyword_text};
-ghost use Rattle.linda_shell_text.specs.Written.{written_base, written_behind, written_event, written_comma};
+ghost use Rattle.linda_shell_text.specs.Written.{written_base, written_behind, written_event};
+ghost use Rattle.linda_shell_text.specs.Written.{written_comma};
 
 use crate::keyword::Keyword;
 use linda_event::Event;
@@ -68,7 +69,8 @@ fn push_keyword(out: &mut String, keyword: Keyword) -> Result<(), AllocError>
 
 // A template that is taken or read.
 fn push_pattern(out: &mut String, keyword: Keyword, template: &Template) -> Result<(), AllocError>
-    ensures { OnOk result (IsWrittenBehind out.old out.new (written_behind keyword (written_template template.now))) }
+    ensures { OnOk result (IsWrittenBehind out.old out.new
+        (written_behind keyword (written_template template.now))) }
 {
     push_keyword(out, keyword)?;
     push_template(out, template)
@@ -92,7 +94,8 @@ fn push_value(out: &mut String, value: &Atom) -> Result<(), AllocError>
 
 // What stands before the members of a choice.
 fn push_opening(out: &mut String) -> Result<(), AllocError>
-    ensures { OnOk result (IsWrittenBehind out.old out.new (written_behind Choose (OPENING_BRACKET ∷ []))) }
+    ensures { OnOk result (IsWrittenBehind out.old out.new
+        (written_behind Choose (OPENING_BRACKET ∷ []))) }
 {
     push_keyword(out, Keyword::Choose)?;
     out.push_str("[")
@@ -100,7 +103,8 @@ fn push_opening(out: &mut String) -> Result<(), AllocError>
 
 // A keyword, a number and a blank.
 fn push_label(out: &mut String, keyword: Keyword, number: u64) -> Result<(), AllocError>
-    ensures { OnOk result (IsWrittenBehind out.old out.new (written_behind keyword (decimal number ++ SPACE ∷ []))) }
+    ensures { OnOk result (IsWrittenBehind out.old out.new
+        (written_behind keyword (decimal number ++ SPACE ∷ []))) }
 {
     push_keyword(out, keyword)?;
     write!(out, "{number}")?;

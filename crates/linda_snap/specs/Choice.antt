@@ -1,5 +1,6 @@
 -- Which of two banks is chosen, and why none is.
-use Rattle.std.specs.Prelude.{◌≡◌, ◌≢◌, ℕ, ◌+◌, ◌==◌, ◌⊎◌, ◌↔◌, nat_lt, Bool, true, false, if◌then◌else◌, List}
+use Rattle.std.specs.Prelude.{◌≡◌, ◌≢◌, ℕ, ◌+◌, ◌==◌, ◌⊎◌, ◌↔◌, nat_lt, Bool, true, false}
+use Rattle.std.specs.Prelude.{if◌then◌else◌, List}
 use Rattle.std.specs.Prelude.{Result, Ok, Err, IfOk, IfErr}
 use Rattle.linda_tuple.specs.declared.form.Form.{Form}
 use Rattle.linda_store_state.specs.State.{State, IsState}
@@ -30,8 +31,8 @@ use Rattle.linda_snap.specs.Reading.{IsNoSnapshot}
 use Rattle.linda_snap.specs.Replay.{joined, IsImproper}
 use Rattle.linda_snap.specs.Stands.{IsStored, IsUp, Stands}
 
--- Which of two is chosen by what they begin with: true is the right one. The left one is looked at first. Generations
--- are compared whatever the forms are.
+-- Which of two is chosen by what they begin with: true is the right one. The left one is looked at
+-- first. Generations are compared whatever the forms are.
 abbrev pub choice : Heading → Heading → Result Bool ChoiceFault
 choice Foreign right = Err (Damaged false 1)
 choice NoBank Foreign = Err (Damaged true 1)
@@ -39,7 +40,8 @@ choice (Bank form a) Foreign = Err (Damaged true 1)
 choice NoBank NoBank = Err NoStore
 choice NoBank (Bank form b) = Ok true
 choice (Bank form a) NoBank = Ok false
-choice (Bank form a) (Bank other b) = if a == b then Err (Damaged false 5) else (if nat_lt b a then Ok false else Ok true)
+choice (Bank form a) (Bank other b) =
+    if a == b then Err (Damaged false 5) else (if nat_lt b a then Ok false else Ok true)
 
 -- What two files begin with makes that choice.
 pub record IsChoice (left right : List ℕ) (told : Result Bool ChoiceFault) : Type 0 where
@@ -60,7 +62,8 @@ pub record HasNoSnapshot (file : List ℕ) : Type 0 where
   pub bank : IsBank form file generation body (deeds_of records)
   pub none : IsNoSnapshot form body
 
--- The bank and its snapshot are well spelled, but the record with this gate has a deed that is not allowed.
+-- The bank and its snapshot are well spelled, but the record with this gate has a deed that is not
+-- allowed.
 pub record HasImproper (file : List ℕ) (gate : ℕ) : Type 0 where
   pub form : Form
   pub generation : ℕ
@@ -71,8 +74,10 @@ pub record HasImproper (file : List ℕ) (gate : ℕ) : Type 0 where
   pub snapshot : IsSnapshot form body opening
   pub improper : IsImproper opening records gate
 
--- The body is a snapshot, in the form, of a state from which the deeds of the records lead to that one.
-pub record IsRecovered (form : Form) (body : List ℕ) (records : List Record) (st : State) : Type 0 where
+-- The body is a snapshot, in the form, of a state from which the deeds of the records lead to that
+-- one.
+pub record IsRecovered (form : Form) (body : List ℕ) (records : List Record) (st : State)
+    : Type 0 where
   pub opening : State
   pub snapshot : IsSnapshot form body opening
   pub done : AreDone opening (joined records) st
@@ -96,7 +101,8 @@ fault_of_replay (replays.Improper gate) = banks.Damaged gate
 -- What a fault says of one file: that of its bank comes first.
 abbrev pub IsFaultOfFile : List ℕ → BankFault → Type 0
 IsFaultOfFile file (banks.Damaged offset) =
-    IsFaultOfBank file (banks.Damaged offset) ⊎ ((HasNoSnapshot file × (offset ≡ MIN_BYTES)) ⊎ HasImproper file offset)
+    IsFaultOfBank file (banks.Damaged offset)
+    ⊎ ((HasNoSnapshot file × (offset ≡ MIN_BYTES)) ⊎ HasImproper file offset)
 IsFaultOfFile file banks.NoBank = IsFaultOfBank file banks.NoBank
 IsFaultOfFile file banks.Memory = Unit {0}
 IsFaultOfFile file banks.Spent = ⊥
@@ -144,43 +150,60 @@ abbrev pub IsFaultOfBoth : List ℕ → List ℕ → ChoiceFault → Type 0
 IsFaultOfBoth left right told = IsChoice left right (Err told) ⊎ IsFaultOfChosen left right told
 
 module _ {B D : Type 0} {g : Ghosts D} where
-  -- Of two disks the bank that stands was chosen, with the state that it stands for, or none was, and the disks are
-  -- handed back, left and right (`choose_bank`).
-  pub record Chooses (left right : D) (limit : ℕ) (result : Result (Chosen B D g) (ChoiceFault × D × D)) : Type 0 where
+  -- Of two disks the bank that stands was chosen, with the state that it stands for, or none was,
+  -- and the disks are handed back, left and right (`choose_bank`).
+  pub record Chooses (left right : D) (limit : ℕ)
+      (result : Result (Chosen B D g) (ChoiceFault × D × D)) : Type 0 where
     -- The two banks stand for the state,
-    pub found : g.honest left → g.honest right → IfOk result (λ c. Stands (g.view left).seen (g.view right).seen c.state)
+    pub found : g.honest left → g.honest right
+        → IfOk result (λ c. Stands (g.view left).seen (g.view right).seen c.state)
     -- and a crash now leaves them so;
     pub up : g.honest left → g.honest right
-        → IfOk result (λ c. IsUp c.bank.form c.bank.generation c.bank.end (g.view c.bank.disk) (g.view c.other) c.state)
+        → IfOk result (λ c.
+        IsUp c.bank.form c.bank.generation c.bank.end (g.view c.bank.disk) (g.view c.other)
+        c.state)
     -- the disks read as they did at entry.
     pub sides : g.honest left → g.honest right
-        → IfOk result (λ c. ((g.view c.bank.disk).seen ≡ chosen c.is_right (g.view left).seen (g.view right).seen)
+        → IfOk result (λ c.
+        ((g.view c.bank.disk).seen ≡ chosen c.is_right (g.view left).seen (g.view right).seen)
         × ((g.view c.other).seen ≡ chosen c.is_right (g.view right).seen (g.view left).seen))
-    -- So two banks that stand for a state are read as that state, or a device failed, or memory ran out.
-    pub only : (st : State) → g.honest left → g.honest right → Stands (g.view left).seen (g.view right).seen st
+    -- So two banks that stand for a state are read as that state, or a device failed, or memory ran
+    -- out.
+    pub only : (st : State) → g.honest left → g.honest right
+        → Stands (g.view left).seen (g.view right).seen st
         → IfOk result (λ c. c.state ≡ st) × IfErr result (λ e. (e.0 ≡ Disk) ⊎ (e.0 ≡ Memory))
     -- A fault is one of those bytes.
     pub fault : g.honest left → g.honest right
-        → IfErr result (λ e. e.0 ≢ Disk → e.0 ≢ Memory → IsFaultOfBoth (g.view left).seen (g.view right).seen e.0)
+        → IfErr result (λ e. e.0 ≢ Disk → e.0 ≢ Memory
+        → IsFaultOfBoth (g.view left).seen (g.view right).seen e.0)
     -- At no moment a crash leaves of either disk what it could not leave at entry.
     pub any_moment : g.honest left → g.honest right
-        → IfOk result (λ c. ChosenLeaves c.is_right (g.view left) (g.view right) (g.view c.bank.disk) (g.view c.other))
-        × IfErr result (λ e. LeavesNothingNew (g.view left) (g.view e.1) × LeavesNothingNew (g.view right) (g.view e.2))
+        → IfOk result (λ c.
+        ChosenLeaves c.is_right (g.view left) (g.view right) (g.view c.bank.disk)
+        (g.view c.other))
+        × IfErr result (λ e. LeavesNothingNew (g.view left) (g.view e.1)
+        × LeavesNothingNew (g.view right) (g.view e.2))
     pub new : IfOk result (λ c. (c.bank.limit ≡ limit) × (c.bank.is_spent ≡ false))
-    -- The state is in its ranges; the bank that was chosen stands for it on its own disk, whatever the other one is;
-    -- and a crash leaves of the other disk what a read gives.
+    -- The state is in its ranges; the bank that was chosen stands for it on its own disk, whatever
+    -- the other one is; and a crash leaves of the other disk what a read gives.
     pub ranges : IfOk result (λ c. IsState c.state)
     pub stored : IfOk result (λ c. g.honest c.bank.disk
         → IsStored c.bank.form c.bank.generation c.bank.end (g.view c.bank.disk) c.state)
     pub durable : IfOk result (λ c. g.honest c.other → IsDurable (g.view c.other))
-    pub honest : IfOk result (λ c. (g.honest left × g.honest right) ↔ (g.honest c.bank.disk × g.honest c.other))
+    pub honest : IfOk result
+        (λ c. (g.honest left × g.honest right) ↔ (g.honest c.bank.disk × g.honest c.other))
         × IfErr result (λ e. (g.honest left × g.honest right) ↔ (g.honest e.1 × g.honest e.2))
     -- The counts of failures rise where a device is reported to have failed, and there alone.
     pub cause : IfErr result (λ e.
-        TellsFailuresOfTwo Disk e.0 (g.failures left) (g.failures right) (g.failures e.1) (g.failures e.2))
-    pub steady : IfOk result (λ c. (g.failures c.bank.disk ≡ chosen c.is_right (g.failures left) (g.failures right))
+        TellsFailuresOfTwo Disk e.0 (g.failures left) (g.failures right) (g.failures e.1)
+        (g.failures e.2))
+    pub steady : IfOk result
+        (λ c. (g.failures c.bank.disk ≡ chosen c.is_right (g.failures left) (g.failures right))
         × (g.failures c.other ≡ chosen c.is_right (g.failures right) (g.failures left)))
     -- Each disk is synced once.
     pub clock : g.honest left → g.honest right
-        → IfOk result (λ c. ((g.view c.bank.disk).moment ≡ chosen c.is_right (g.view left).moment (g.view right).moment + 1)
-        × ((g.view c.other).moment ≡ chosen c.is_right (g.view right).moment (g.view left).moment + 1))
+        → IfOk result (λ c.
+        ((g.view c.bank.disk).moment
+        ≡ chosen c.is_right (g.view left).moment (g.view right).moment + 1)
+        × ((g.view c.other).moment
+        ≡ chosen c.is_right (g.view right).moment (g.view left).moment + 1))

@@ -28,7 +28,8 @@ abbrev pub IsNoRun : {X : Type 0} → Format (ℕ × X) → (ℕ × X → Type 0
 IsNoRun {X = X} f Good count bytes =
     (m : FinMap nat_cmp X) (rest : List ℕ) → IsRun f Good count bytes (entries m) rest → ⊥
 
--- A count that is not above the limit, and so many entries, each of them good, stand at the front of the bytes.
+-- A count that is not above the limit, and so many entries, each of them good, stand at the front
+-- of the bytes.
 pub record IsListed {X : Type 0} (f : Format (ℕ × X)) (Good : ℕ × X → Type 0) (limit : ℕ)
     (bytes : List ℕ) (es : List (ℕ × X)) (rest : List ℕ) : Type 0 where
   pub parts : bytes ≡ (listed f).spell es ++ rest

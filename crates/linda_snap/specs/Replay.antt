@@ -16,7 +16,8 @@ joined records = deeds_in (deeds_of records)
 -- Whatever was done before, these deeds go on from one state to the other.
 abbrev pub GoesOn : State → List Deed → State → Type 0
 GoesOn old ds new =
-    (st : State) (before : List Deed) → IsState st → AreDone st before old → AreDone st (before ++ ds) new
+    (st : State) (before : List Deed) → IsState st → AreDone st before old
+    → AreDone st (before ++ ds) new
 
 -- Whatever was done before, and whatever comes later, these deeds cannot be done in this state.
 abbrev pub Stops : State → List Deed → Type 0

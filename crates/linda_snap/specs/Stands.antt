@@ -16,8 +16,8 @@ use Rattle.linda_snap.specs.Snapshot.{spell_state, FitsState}
 abbrev pub deeds_in : List (List Deed) → List Deed
 deeds_in records = flat_map (λ ds. ds) records
 
--- The bytes are a bank of this generation, in either form, with a snapshot of a state from which the deeds of its
--- records lead to that one.
+-- The bytes are a bank of this generation, in either form, with a snapshot of a state from which
+-- the deeds of its records lead to that one.
 pub record StandsOn (file : List ℕ) (generation : ℕ) (st : State) : Type 0 where
   pub form : Form
   pub opening : State
@@ -30,7 +30,8 @@ pub record StandsOn (file : List ℕ) (generation : ℕ) (st : State) : Type 0 w
 -- The bytes are no bank, or one of a lesser generation, in either form.
 abbrev pub IsLesser : ℕ → List ℕ → Type 0
 IsLesser generation file =
-    IsNoBank file ⊎ ((form : Form) × (lesser : ℕ) × IsHeading file (headings.Bank form lesser) × (lesser < generation))
+    IsNoBank file ⊎ ((form : Form) × (lesser : ℕ) × IsHeading file (headings.Bank form lesser)
+    × (lesser < generation))
 
 -- Of two banks, the first is in use and stands for the state, and the other is lesser.
 pub record IsInUse (file other : List ℕ) (st : State) : Type 0 where
@@ -42,8 +43,8 @@ pub record IsInUse (file other : List ℕ) (st : State) : Type 0 where
 abbrev pub Stands : List ℕ → List ℕ → State → Type 0
 Stands left right st = IsInUse left right st ⊎ IsInUse right left st
 
--- On a disk the bank in this form, of this generation, which ends at this offset, stands for the state, and a crash now
--- leaves it so.
+-- On a disk the bank in this form, of this generation, which ends at this offset, stands for the
+-- state, and a crash now leaves it so.
 pub record IsStored (form : Form) (generation end : ℕ) (v : View) (st : State) : Type 0 where
   pub opening : State
   pub ranges : IsState opening
@@ -52,13 +53,14 @@ pub record IsStored (form : Form) (generation end : ℕ) (v : View) (st : State)
   pub settled : IsSettled form generation (spell_state form opening) records end v
   pub done : AreDone opening (deeds_in records) st
 
--- So it is of the one of two disks that is in use; and the other one holds a lesser bank or none, and a crash leaves
--- it so.
+-- So it is of the one of two disks that is in use; and the other one holds a lesser bank or none,
+-- and a crash leaves it so.
 pub record IsUp (form : Form) (generation end : ℕ) (used other : View) (st : State) : Type 0 where
   pub stored : IsStored form generation end used st
   pub lesser : IsLesser generation other.seen
   pub durable : IsDurable other
 
--- What is left of the other disk stands, beside that bank, for the state: whichever of the two is in use.
+-- What is left of the other disk stands, beside that bank, for the state: whichever of the two is
+-- in use.
 abbrev pub StandsBeside : List ℕ → State → List ℕ → Type 0
 StandsBeside used st image = Stands used image st

@@ -9,7 +9,8 @@ ghost use Rattle.linda_disk.specs.Run.{LeavesOnly};
 ghost use Rattle.linda_journal.specs.Heading.{IsHeading};
 ghost use Rattle.linda_snap.specs.Stands.{IsStored};
 ghost use Rattle.linda_snap.specs.Choice.{choice, IsChoice, Chooses, IsRecovered, IsUnrecovered};
-ghost use Rattle.linda_snap.specs.Choice.{IsFaultOfFile, fault_on, fault_of_device, fault_of_replay};
+ghost use Rattle.linda_snap.specs.Choice.{IsFaultOfFile, fault_on, fault_of_device};
+ghost use Rattle.linda_snap.specs.Choice.{fault_of_replay};
 
 use crate::reading::{SnapshotFault, get_state};
 use crate::replay::{ReplayFault, replay};
@@ -27,9 +28,10 @@ pub enum ChoiceFault {
     /// Neither disk holds a bank.
     #[error("no store")]
     NoStore,
-    /// The bank on the right disk, or on the left one, is damaged at this offset: 1 where it begins otherwise or has
-    /// no generation, 5 where both have one generation, 17 where its snapshot does not fit or is none, else the
-    /// offset of the gate of the first record that is none or that has a deed which is not allowed.
+    /// The bank on the right disk, or on the left one, is damaged at this offset: 1 where it begins
+    /// otherwise or has no generation, 5 where both have one generation, 17 where its snapshot does
+    /// not fit or is none, else the offset of the gate of the first record that is none or that has
+    /// a deed which is not allowed.
     #[error("damaged at {offset}")]
     Damaged { right: bool, offset: usize },
     /// The device failed, which it counts.
@@ -64,12 +66,13 @@ pub struct Chosen<B: Bag, D: Disk> {
     pub is_right: bool,
 }
 
-/// Which of two disks holds the bank that stands, and the state that it stands for. Both disks are synced first;
-/// nothing is written.
+/// Which of two disks holds the bank that stands, and the state that it stands for. Both disks are
+/// synced first; nothing is written.
 ///
 /// # Errors
 ///
-/// `NoStore`, `Damaged`, `Disk` where a device failed, `Memory`; each hands the disks back, left and right.
+/// `NoStore`, `Damaged`, `Disk` where a device failed, `Memory`; each hands the disks back, left
+/// and right.
 pub fn choose_bank<B: Bag, D: Disk>(
     alloc: Global,
     left: D,
@@ -243,8 +246,8 @@ pub fn choose(left: Heading, right: Heading) -> Result<bool, ChoiceFault>
     }
 }
 
-// The state that a body in the form and the records after it come to. The memory of the body is given back before
-// they are done.
+// The state that a body in the form and the records after it come to. The memory of the body is
+// given back before they are done.
 fn recover<B: Bag>(
     alloc: Global,
     form: Form,

@@ -1,4 +1,5 @@
-//! The tuples of a state and the clients of its book, one after the other in the order of their numbers.
+//! The tuples of a state and the clients of its book, one after the other in the order of their
+//! numbers.
 
 ghost use Rattle.std.specs.Prelude.{◌≡◌, ◌∷◌, [], ◌<◌, ◌≤◌, ◌+◌, ℕ, suc, None, IfSome, IfNone};
 ghost use Rattle.std.specs.Prelude.{IsSome};
@@ -29,7 +30,8 @@ pub(crate) fn tuple_from<B: Bag>(state: &State<B>, from: u64) -> Option<(u64, &T
     Some((id, tuple))
 }
 
-/// The first client of the book above this one, or at all where none is given, with its number and reply.
+/// The first client of the book above this one, or at all where none is given, with its number and
+/// reply.
 pub(crate) fn kept_after(book: &Book, last: Option<u32>) -> Option<(u32, (u64, &KeptReply))>
     ensures found { IfSome result (λ e. entries_from (first_after last) book.now
         ≡ (e.0, (e.1.0, e.1.1.now)) ∷ entries_from (suc e.0) book.now) }

@@ -1,12 +1,13 @@
-//! The entries of a snapshot: a tuple with its id, and a client with its last number and the reply to it. They are read
-//! in either form, and written in that of new banks.
+//! The entries of a snapshot: a tuple with its id, and a client with its last number and the reply
+//! to it. They are read in either form, and written in that of new banks.
 
 ghost use Rattle.std.specs.Prelude.{◌≡◌, ◌++◌, ◌≤◌, ◌+◌, length, OnOk};
 ghost use Rattle.linda_codec.specs.declared.limits.TheConstants.{NUMBER_BYTES};
 ghost use Rattle.linda_codec.specs.Steps.{Gives};
 ghost use Rattle.linda_codec.specs.Values as value;
 ghost use Rattle.linda_store_state.specs.DeedFormat.{written};
-ghost use Rattle.linda_snap.specs.declared.entry.TheConstants.{CLIENT_BYTES, MAX_KEPT_BYTES, MAX_PLACED_BYTES};
+ghost use Rattle.linda_snap.specs.declared.entry.TheConstants.{CLIENT_BYTES, MAX_KEPT_BYTES};
+ghost use Rattle.linda_snap.specs.declared.entry.TheConstants.{MAX_PLACED_BYTES};
 ghost use Rattle.linda_snap.specs.Snapshot as format;
 
 use linda_book::KeptReply;
@@ -24,14 +25,16 @@ const CLIENT_BYTES: usize = SHORT_NUMBER_BYTES + NUMBER_BYTES;
 /// The most bytes that an id and a tuple spell.
 const MAX_PLACED_BYTES: usize = NUMBER_BYTES + MAX_TUPLE_BYTES;
 
-/// The most bytes that a client with what is kept for it spells: its number, a kind, and an id and a tuple.
+/// The most bytes that a client with what is kept for it spells: its number, a kind, and an id and
+/// a tuple.
 const MAX_KEPT_BYTES: usize = CLIENT_BYTES + KIND_BYTES + MAX_PLACED_BYTES;
 
 /// Reads an id and a tuple, and gives the bytes after them.
 ///
 /// # Errors
 ///
-/// The first fault from the left, given by the count of bytes left; `Memory` where the tuple finds none.
+/// The first fault from the left, given by the count of bytes left; `Memory` where the tuple finds
+/// none.
 pub(crate) fn read_placed(
     alloc: Global,
     form: Form,
@@ -58,13 +61,15 @@ pub(crate) fn read_kept(
     Ok((client, (n, reply), rest))
 }
 
-/// Appends the spelling of an id and a tuple. Where memory runs out, a part of it may stand after the old bytes.
+/// Appends the spelling of an id and a tuple. Where memory runs out, a part of it may stand after
+/// the old bytes.
 pub(crate) fn push_placed(out: &mut Vec<u8>, id: u64, tuple: &Tuple) -> Result<(), AllocError>
     ensures ok { OnOk result (out.new.items
         ≡ out.old.items ++ (format.placed written).spell (id, tuple.now)) }
     ensures fits { OnOk result ((format.placed written).Fits (id, tuple.now)) }
 {
-    // Every tuple has a spelling in the form of new banks, and says so when its fields are asked for.
+    // Every tuple has a spelling in the form of new banks, and says so when its fields are asked
+    // for.
     let _fields = tuple.fields();
     out.extend_from_slice(&id.to_be_bytes())?;
     tuple.push(BANK_FORM, out)
@@ -88,7 +93,8 @@ pub(crate) fn push_kept(
 
 // Appends the spelling of the kept reply; likewise.
 fn push_reply(out: &mut Vec<u8>, reply: &KeptReply) -> Result<(), AllocError>
-    ensures ok { OnOk result (out.new.items ≡ out.old.items ++ (format.reply written).spell reply.now) }
+    ensures ok { OnOk result (out.new.items
+        ≡ out.old.items ++ (format.reply written).spell reply.now) }
     ensures fits { (format.reply written).Fits reply.now }
 {
     // Every reply has a spelling in the form of new banks, too.

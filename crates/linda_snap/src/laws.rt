@@ -1,4 +1,5 @@
-//! What the definitions of standing banks come to, each stated by the contract of a function that does nothing.
+//! What the definitions of standing banks come to, each stated by the contract of a function that
+//! does nothing.
 
 ghost use Rattle.std.specs.Prelude.{◌≡◌, ◌⊎◌, ℕ, List};
 ghost use Rattle.linda_store_state.specs.declared.deed.Deed.{Deed};
@@ -19,6 +20,7 @@ pub fn two_banks_stand_for_one_state()
 pub fn an_append_leaves_the_old_state_or_the_new()
     ensures { (file other : List ℕ) (st new : State) (ds : List Deed)
         → (used : IsInUse file other st) → AreDone st ds new → (image : List ℕ)
-        → IsOldOrMore used.stands.form used.generation (spell_state used.stands.form used.stands.opening) used.stands.records ds image
+        → IsOldOrMore used.stands.form used.generation
+        (spell_state used.stands.form used.stands.opening) used.stands.records ds image
         → IsInUse image other st ⊎ IsInUse image other new }
 {}

@@ -1,11 +1,14 @@
-//! What a server keeps on two disks: a state as bytes, which of two banks stands, and the switch from one to the
-//! other.
+//! What a server keeps on two disks: a state as bytes, which of two banks stands, and the switch
+//! from one to the other.
 //!
-//! - A snapshot is the one spelling of a state. What is put is read again, and bytes are refused only where they spell
+//! - A snapshot is the one spelling of a state. What is put is read again, and bytes are refused
+//!   only where they spell
 //!   no state that is in its ranges.
-//! - `choose_bank` answers the state that two banks stand for, or what is wrong with them, on which side and where;
+//! - `choose_bank` answers the state that two banks stand for, or what is wrong with them, on which
+//!   side and where;
 //!   `choose` says which of the two that is, by what they begin with.
-//! - `switch` makes a new bank of the next generation on the other disk. At no moment of it a crash leaves anything but
+//! - `switch` makes a new bank of the next generation on the other disk. At no moment of it a crash
+//!   leaves anything but
 //!   what stands for the same state.
 #![tactic(auto)]
 

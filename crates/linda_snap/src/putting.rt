@@ -18,11 +18,12 @@ use linda_codec::{NUMBER_BYTES, SHORT_NUMBER_BYTES};
 use linda_store_state::State;
 use std::alloc::AllocError;
 
-/// The bytes of a snapshot of a state that keeps nothing: the next id, and the counts of tuples and of clients.
+/// The bytes of a snapshot of a state that keeps nothing: the next id, and the counts of tuples and
+/// of clients.
 pub const EMPTY_STATE_BYTES: usize = NUMBER_BYTES + SHORT_NUMBER_BYTES + SHORT_NUMBER_BYTES;
 
-/// Appends the spelling of the state in the form of new banks. Where memory runs out, a part of it may stand after
-/// the old bytes.
+/// Appends the spelling of the state in the form of new banks. Where memory runs out, a part of it
+/// may stand after the old bytes.
 ///
 /// # Errors
 ///
@@ -82,7 +83,8 @@ fn push_count(out: &mut Vec<u8>, count: usize) -> Result<(), AllocError>
     out.extend_from_slice(&count.to_be_bytes())
 }
 
-/// What is left of so many bytes once the state is spelled in them; None where it spells more. No memory is taken.
+/// What is left of so many bytes once the state is spelled in them; None where it spells more. No
+/// memory is taken.
 pub(crate) fn room_after<B: Bag>(state: &State<B>, room: usize) -> Option<usize>
     requires { IsState state.now }
     ensures some { IfSome result (λ left. left + length (spell_state written state.now) ≡ room) }
@@ -98,7 +100,8 @@ fn room_after_tuples<B: Bag>(state: &State<B>, room: usize) -> Option<usize>
     requires { IsState state.now }
     ensures some { IfSome result (λ left.
         left + length ((listed (format.placed written)).spell (entries state.now.bag)) ≡ room) }
-    ensures none { IfNone result (room < length ((listed (format.placed written)).spell (entries state.now.bag))) }
+    ensures none { IfNone result (room
+        < length ((listed (format.placed written)).spell (entries state.now.bag))) }
 {
     let mut left = room.checked_sub(SHORT_NUMBER_BYTES)?;
     let mut from = 0;
@@ -113,7 +116,8 @@ fn room_after_tuples<B: Bag>(state: &State<B>, room: usize) -> Option<usize>
 fn room_after_book(book: &Book, room: usize) -> Option<usize>
     ensures some { IfSome result (λ left.
         left + length ((listed (format.kept written)).spell (entries book.now)) ≡ room) }
-    ensures none { IfNone result (room < length ((listed (format.kept written)).spell (entries book.now))) }
+    ensures none { IfNone result (room
+        < length ((listed (format.kept written)).spell (entries book.now))) }
 {
     let mut left = room.checked_sub(SHORT_NUMBER_BYTES)?;
     let mut last = None;

@@ -25,7 +25,8 @@ use thiserror::Error;
 /// Why no state was read.
 #[derive(Clone, Copy, Debug, PartialEq, Eq, Error)]
 pub enum SnapshotFault {
-    /// The bytes are no state's spelling: cut short, or longer, or of another form, or out of a range.
+    /// The bytes are no state's spelling: cut short, or longer, or of another form, or out of a
+    /// range.
     #[error("no snapshot")]
     NoSnapshot,
     /// No memory for the state.
@@ -98,7 +99,8 @@ fn listed_tuples<B: Bag>(
     bytes: &[u8],
     next: u64,
 ) -> Result<(B, &[u8]), SnapshotFault>
-    ensures found { IfOk result (λ x. IsListed (format.placed form) (IsPlacedBelow next) ANY_COUNT bytes.now
+    ensures found { IfOk result (λ x.
+        IsListed (format.placed form) (IsPlacedBelow next) ANY_COUNT bytes.now
         (entries (B.contents x.0)) x.1.now) }
     ensures fault { IfErr result (λ f. f ≢ SnapshotFault.Memory
         → IsNotListed (format.placed form) (IsPlacedBelow next) ANY_COUNT bytes.now) }
@@ -131,7 +133,8 @@ fn read_tuples<B: Bag>(
     count: u32,
     next: u64,
 ) -> Result<(B, &[u8]), SnapshotFault>
-    ensures found { IfOk result (λ x. IsRun (format.placed form) (IsPlacedBelow next) count bytes.now
+    ensures found { IfOk result (λ x.
+        IsRun (format.placed form) (IsPlacedBelow next) count bytes.now
         (entries (B.contents x.0)) x.1.now) }
     ensures fault { IfErr result (λ f. f ≢ SnapshotFault.Memory
         → IsNoRun (format.placed form) (IsPlacedBelow next) count bytes.now) }

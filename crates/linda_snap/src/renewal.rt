@@ -1,4 +1,5 @@
-//! The switch of a server to its other disk: a new bank there whose body is a snapshot of the state.
+//! The switch of a server to its other disk: a new bank there whose body is a snapshot of the
+//! state.
 
 ghost use Rattle.std.specs.Prelude.{◌≡◌, ◌∷◌, [], ◌++◌, ◌<◌, ◌≤◌, ◌+◌, ◌^◌, ◌↔◌, ◌⊎◌, ℕ, List};
 ghost use Rattle.std.specs.Prelude.{true, false, length, IfOk, IfErr, IfSome, IfNone, OnOk, OnSome};
@@ -51,15 +52,17 @@ impl From<DiskFault> for SwitchFault {
     }
 }
 
-/// Makes a new bank of the next generation on the disk that is not in use, whose body is a snapshot of the state and
-/// whose journal is empty; and gives it, with the disk of the bank that was in use. That disk is not touched. The new
-/// bank is in the form of new banks, whatever the form of the one in use is.
+/// Makes a new bank of the next generation on the disk that is not in use, whose body is a snapshot
+/// of the state and whose journal is empty; and gives it, with the disk of the bank that was in
+/// use. That disk is not touched. The new bank is in the form of new banks, whatever the form of
+/// the one in use is.
 ///
 /// # Errors
 ///
-/// `BankFull` before all others, then `GenerationsSpent`, then `Memory`: before any device call, and all is handed
-/// back as it was. `Disk` where the device failed, and `Memory` where the disk found none: the bank that was in use is
-/// handed back spent, and both disks are to be opened again.
+/// `BankFull` before all others, then `GenerationsSpent`, then `Memory`: before any device call,
+/// and all is handed back as it was. `Disk` where the device failed, and `Memory` where the disk
+/// found none: the bank that was in use is handed back spent, and both disks are to be opened
+/// again.
 pub fn switch<B: Bag, D: Disk>(
     alloc: Global,
     current: Bank<D>,
@@ -69,17 +72,21 @@ pub fn switch<B: Bag, D: Disk>(
     requires ranges { IsState state.now }
     requires short { current.limit < 2 ^ 32 }
     requires durable { D.honest other → IsDurable (D.view other) }
-    // At no moment a crash leaves anything on the other disk but what stands, beside the bank in use, for the state;
+    // At no moment a crash leaves anything on the other disk but what stands, beside the bank in
+    // use, for the state;
     ensures any_moment { D.honest current.disk → D.honest other
-        → IsUp current.form current.generation current.end (D.view current.disk) (D.view other) state.now
+        → IsUp current.form current.generation current.end (D.view current.disk) (D.view other)
+        state.now
         → IfOk result (λ x. LeavesOnly (D.view other) (D.view x.0.disk)
         (StandsBeside (D.view current.disk).seen state.now))
         × IfErr result (λ e. LeavesOnly (D.view other) (D.view e.2)
         (StandsBeside (D.view current.disk).seen state.now)) }
     // at Ok the new bank is in use, and stands for it.
     ensures done { D.honest current.disk → D.honest other
-        → IsUp current.form current.generation current.end (D.view current.disk) (D.view other) state.now
-        → IfOk result (λ x. IsUp x.0.form x.0.generation x.0.end (D.view x.0.disk) (D.view x.1) state.now) }
+        → IsUp current.form current.generation current.end (D.view current.disk) (D.view other)
+        state.now
+        → IfOk result (λ x.
+        IsUp x.0.form x.0.generation x.0.end (D.view x.0.disk) (D.view x.1) state.now) }
     // It stands for it on its own disk, whatever the disk is that was in use.
     ensures stored { IfOk result (λ x. D.honest x.0.disk
         → IsStored x.0.form x.0.generation x.0.end (D.view x.0.disk) state.now) }
@@ -91,14 +98,16 @@ pub fn switch<B: Bag, D: Disk>(
     // It is BankFull exactly where the new bank would be longer than the limit,
     ensures full { IfErr result (λ e. e.0 ≡ SwitchFault.BankFull
         ↔ (current.limit < MIN_BYTES + 1 + length (spell_state written state.now))) }
-    ensures room { OnOk result (MIN_BYTES + 1 + length (spell_state written state.now) ≤ current.limit) }
+    ensures room { OnOk result (MIN_BYTES + 1 + length (spell_state written state.now)
+        ≤ current.limit) }
     // and GenerationsSpent else, exactly where no generation is left.
     ensures next { OnOk result (current.generation + 1 < 2 ^ 64) }
     ensures last { IfErr result (λ e. e.0 ≡ SwitchFault.GenerationsSpent
         ↔ (MIN_BYTES + 1 + length (spell_state written state.now) ≤ current.limit)
         × (2 ^ 64 ≤ current.generation + 1)) }
     // All is handed back as it was, or a device call was cut off and the bank is spent.
-    ensures refused { IfErr result (λ e. (e.0 ≡ SwitchFault.BankFull → (e.1 ≡ current) × (e.2 ≡ other))
+    ensures refused { IfErr result (λ e.
+        (e.0 ≡ SwitchFault.BankFull → (e.1 ≡ current) × (e.2 ≡ other))
         × (e.0 ≡ SwitchFault.GenerationsSpent → (e.1 ≡ current) × (e.2 ≡ other))
         × (e.0 ≡ SwitchFault.Memory → ((e.1 ≡ current) × (e.2 ≡ other)) ⊎ (e.1.is_spent ≡ true))
         × (e.0 ≡ SwitchFault.Disk → e.1.is_spent ≡ true)) }
@@ -108,8 +117,8 @@ pub fn switch<B: Bag, D: Disk>(
     ensures cause { IfErr result (λ e. TellsFailures SwitchFault.Disk e.0
         (D.failures other) (D.failures e.2)) }
     ensures steady { IfOk result (λ x. D.failures x.0.disk ≡ D.failures other) }
-    // It is a write for each piece of the new bank, a sync, a write and a sync; and first a write and a sync, where the
-    // disk's first gate is to be closed.
+    // It is a write for each piece of the new bank, a sync, a write and a sync; and first a write
+    // and a sync, where the disk's first gate is to be closed.
     ensures clock { D.honest other → IfOk result (λ x.
         TakesCalls (3 + pieces (MIN_BYTES + length (spell_state written state.now)))
         (D.view other) (D.view x.0.disk)) }
@@ -152,7 +161,8 @@ fn renew<D: Disk>(
         (IsOldNoneOrNew (D.view other).seen generation body))
         × IfErr result (λ e. LeavesOnly (D.view other) (D.view e.1)
         (IsOldNoneOrNew (D.view other).seen generation body)) }
-    ensures new { IfOk result (λ b. (b.form ≡ written) × (b.generation ≡ generation) × (b.limit ≡ limit)
+    ensures new { IfOk result (λ b. (b.form ≡ written) × (b.generation ≡ generation)
+        × (b.limit ≡ limit)
         × (b.records ≡ 0) × (b.is_spent ≡ false)) }
     ensures honest { IfOk result (λ b. D.honest other ↔ D.honest b.disk)
         × IfErr result (λ e. D.honest other ↔ D.honest e.1) }
@@ -186,8 +196,8 @@ fn len_within<B: Bag>(state: &State<B>, limit: usize) -> Option<usize>
     Some(room - left)
 }
 
-// What is to stand after the first gate of a new bank whose body is a snapshot of the state, which spells so many
-// bytes.
+// What is to stand after the first gate of a new bank whose body is a snapshot of the state, which
+// spells so many bytes.
 fn spell_bank<B: Bag>(
     alloc: Global,
     generation: u64,

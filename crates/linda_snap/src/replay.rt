@@ -28,8 +28,8 @@ impl From<AllocError> for ReplayFault {
     }
 }
 
-/// Does the deeds of the records, one after the other, and gives back the memory of each record after it. After an
-/// error the state may be any.
+/// Does the deeds of the records, one after the other, and gives back the memory of each record
+/// after it. After an error the state may be any.
 ///
 /// # Errors
 ///

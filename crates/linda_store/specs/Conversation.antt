@@ -1,5 +1,6 @@
 -- Whole conversations: the bytes that came in, all that was said, and where that leads.
-use Rattle.std.specs.Prelude.{◌≡◌, ℕ, Bool, true, false, List, [], ◌∷◌, ◌++◌, All, Option, Result, Ok, Err}
+use Rattle.std.specs.Prelude.{◌≡◌, ℕ, Bool, true, false, List, [], ◌∷◌, ◌++◌, All, Option, Result}
+use Rattle.std.specs.Prelude.{Ok, Err}
 use Rattle.std.specs.List.{flat_map}
 use Rattle.linda_wire.specs.Refusal.{refused}
 use Rattle.linda_wire.specs.declared.refusal.Refusal.TheVariants as refusals
@@ -36,7 +37,8 @@ detail_of (frames.Malformed offset) = offset
 
 -- the bytes begin with a fault, which is told with this detail
 abbrev pub IsMalformed : List ℕ → ℕ → Type 0
-IsMalformed bytes detail = (fault : FrameFault) × ((message_front bytes ≡ Broken fault) × (detail ≡ detail_of fault))
+IsMalformed bytes detail =
+    (fault : FrameFault) × ((message_front bytes ≡ Broken fault) × (detail ≡ detail_of fault))
 
 -- what is said last on a connection that stands so
 abbrev pub last_words : Stage → List Reply
@@ -44,22 +46,26 @@ last_words stages.Open = []
 last_words (stages.Malformed detail) = (refused (refusals.Malformed detail)) ∷ []
 last_words stages.Down = []
 
--- How the bytes after the last message stand: no whole frame and no fault, or a fault; or the node is down and nobody
--- looks at them.
+-- How the bytes after the last message stand: no whole frame and no fault, or a fault; or the node
+-- is down and nobody looks at them.
 abbrev pub StandsAs : Stage → List ℕ → Type 0
 StandsAs stages.Open rest = message_front rest ≡ Partial
 StandsAs (stages.Malformed detail) rest = IsMalformed rest detail
 StandsAs stages.Down rest = Unit {0}
 
--- The bytes spell messages, each of which fits its frame, and a rest; these replies are what is said to the messages.
-pub record IsTalk (from : Point) (bytes : List ℕ) (turns : List Reply) (rest : List ℕ) (to : Point) : Type 0 where
+-- The bytes spell messages, each of which fits its frame, and a rest; these replies are what is
+-- said to the messages.
+pub record IsTalk (from : Point) (bytes : List ℕ) (turns : List Reply) (rest : List ℕ) (to : Point)
+    : Type 0 where
   pub messages : List Message
   pub fit : All FitsMessage messages
   pub spelled : bytes ≡ flat_map message_frame messages ++ rest
   pub run : Runs from messages turns to
 
--- All messages in the bytes were taken, up to a rest that stands so, and these replies are all that is said.
-pub record IsConversation (from : Point) (bytes : List ℕ) (said : List Reply) (stage : Stage) (rest : List ℕ)
+-- All messages in the bytes were taken, up to a rest that stands so, and these replies are all that
+-- is said.
+pub record IsConversation (from : Point) (bytes : List ℕ) (said : List Reply) (stage : Stage)
+    (rest : List ℕ)
     (to : Point) : Type 0 where
   pub turns : List Reply
   pub talk : IsTalk from bytes turns rest to
@@ -73,11 +79,13 @@ IsGivenUp from bytes node greeted =
     (turns : List Reply) × ((rest : List ℕ) × ((is_open : Bool)
     × IsTalk from bytes turns rest (point_at node greeted is_open)))
 
--- What a call that takes all messages in the bytes did: it says how the connection stands, and puts what is said
--- after the replies of before. Where memory ran out, what is said may be lost.
+-- What a call that takes all messages in the bytes did: it says how the connection stands, and puts
+-- what is said after the replies of before. Where memory ran out, what is said may be lost.
 abbrev pub HasAnswered :
-    {E : Type 0} → Point → List ℕ → List Reply → Result Stage E → List ℕ → List Reply → Node → Option ℕ → Type 0
+    {E : Type 0} → Point → List ℕ → List Reply → Result Stage E → List ℕ → List Reply → Node
+    → Option ℕ → Type 0
 HasAnswered from bytes old (Ok stage) rest new node greeted =
     (said : List Reply)
-    × (IsConversation from bytes said stage rest (point_at node greeted (is_up stage)) × (new ≡ old ++ said))
+    × (IsConversation from bytes said stage rest (point_at node greeted (is_up stage))
+    × (new ≡ old ++ said))
 HasAnswered from bytes old (Err fault) rest new node greeted = IsGivenUp from bytes node greeted

@@ -41,9 +41,10 @@ pub record IsBrokenOff (from : Point) (read written : List ℕ) (to : Point) : T
   pub talk : IsTalk from read said rest to
   pub spelled : written ≡ take count (flat_map reply_frame said)
 
--- What was done with bytes that were there, where nothing but the writer or memory may fail: all is answered and
--- written, up to a rest, and the connection stands so; or some of it.
-abbrev pub AnswersSo : Result Stage ConverseFault → Point → List ℕ → List ℕ → List ℕ → Point → Type 0
+-- What was done with bytes that were there, where nothing but the writer or memory may fail: all is
+-- answered and written, up to a rest, and the connection stands so; or some of it.
+abbrev pub AnswersSo : Result Stage ConverseFault → Point → List ℕ → List ℕ → List ℕ → Point
+    → Type 0
 AnswersSo (Ok stage) from bytes written rest to = IsWritten from bytes written stage rest to
 AnswersSo (Err faults.Write) from bytes written rest to = IsWrittenInPart from bytes written to
 AnswersSo (Err faults.Memory) from bytes written rest to = IsBrokenOff from bytes written to
@@ -63,10 +64,13 @@ pub record HasReplied (old : Session) (was : Node) (piece : List ℕ) (output no
   pub stage : IfOk result (λ stage. new.stage ≡ stage)
   pub not_spent : IfOk result (λ _. new.is_spent ≡ false)
 
--- How a conversation ended: what came and what was written, what the reader has left, and where it stood then.
-abbrev pub EndsSo : Result End ConverseFault → Point → List ℕ → List ℕ → Option (List ℕ) → Point → Type 0
+-- How a conversation ended: what came and what was written, what the reader has left, and where it
+-- stood then.
+abbrev pub EndsSo : Result End ConverseFault → Point → List ℕ → List ℕ → Option (List ℕ) → Point
+    → Type 0
 EndsSo (Ok (ends.Ended n)) from read written left to =
-    IsAtEnd left × ((rest : List ℕ) × (IsWritten from read written stages.Open rest to × (n ≡ length rest)))
+    IsAtEnd left × ((rest : List ℕ)
+    × (IsWritten from read written stages.Open rest to × (n ≡ length rest)))
 EndsSo (Ok (ends.Malformed detail)) from read written left to =
     (rest : List ℕ) × IsWritten from read written (stages.Malformed detail) rest to
 EndsSo (Err faults.Down) from read written left to =
@@ -78,7 +82,8 @@ EndsSo (Err faults.Turns) from read written left to =
 EndsSo (Err faults.Write) from read written left to = IsWrittenInPart from read written to
 EndsSo (Err faults.Memory) from read written left to = IsBrokenOff from read written to
 
--- A conversation with a node took bytes off a reader and put bytes after those of a writer, and ended so.
+-- A conversation with a node took bytes off a reader and put bytes after those of a writer, and
+-- ended so.
 pub record HasEnded (node : Node) (input left output now : Option (List ℕ))
     (result : Result End ConverseFault) (to : Point) : Type 0 where
   pub read : List ℕ
@@ -91,9 +96,11 @@ pub record HasEnded (node : Node) (input left output now : Option (List ℕ))
 abbrev pub KnownBytes : Type 0
 KnownBytes = Option (List ℕ)
 
--- A conversation with a node ended so at a point of which only the node and the greeted client are given.
+-- A conversation with a node ended so at a point of which only the node and the greeted client are
+-- given.
 abbrev pub HasEndedAt :
-    Node → KnownBytes → KnownBytes → KnownBytes → KnownBytes → Result End ConverseFault → Node → Option ℕ → Type 0
+    Node → KnownBytes → KnownBytes → KnownBytes → KnownBytes → Result End ConverseFault → Node
+    → Option ℕ → Type 0
 HasEndedAt node input left output now result new greeted =
     (is_open : Bool) × HasEnded node input left output now result (point_at new greeted is_open)
 
@@ -104,6 +111,8 @@ IsLeft (Some c) old new = (answer : NodeAnswer) × Closes old c answer new
 
 -- A whole conversation: it ended in some point, and then the greeted client was closed.
 abbrev pub HasConversed :
-    Node → KnownBytes → KnownBytes → KnownBytes → KnownBytes → Result End ConverseFault → Node → Type 0
+    Node → KnownBytes → KnownBytes → KnownBytes → KnownBytes → Result End ConverseFault → Node
+    → Type 0
 HasConversed node input left output now result new =
-    (point : Point) × (HasEnded node input left output now result point × IsLeft point.greeted point.node new)
+    (point : Point) × (HasEnded node input left output now result point
+    × IsLeft point.greeted point.node new)

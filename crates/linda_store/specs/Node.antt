@@ -1,5 +1,7 @@
--- What contracts see of a node, what it may answer, and what is left of a call in which it was stopped.
-use Rattle.std.specs.Prelude.{◌≡◌, ◌≢◌, ℕ, ◌≤◌, Bool, true, false, List, [], ◌∷◌, length, Result, Ok, Err}
+-- What contracts see of a node, what it may answer, and what is left of a call in which it was
+-- stopped.
+use Rattle.std.specs.Prelude.{◌≡◌, ◌≢◌, ℕ, ◌≤◌, Bool, true, false, List, [], ◌∷◌, length, Result}
+use Rattle.std.specs.Prelude.{Ok, Err}
 use Rattle.std.specs.Global.{Vec}
 use Rattle.linda_wire.specs.declared.message.Message.{Message}
 use Rattle.linda_wire.specs.declared.reply.Reply.{Reply}
@@ -7,7 +9,8 @@ use Rattle.linda_store_state.specs.declared.deed.Deed.{Deed}
 use Rattle.linda_store_state.specs.State.{State}
 use Rattle.linda_store_state.specs.After.{IsAfter}
 use Rattle.linda_store_step.specs.Soft.{Soft, no_asks}
-use Rattle.linda_store_step.specs.History.{Coming, says, hangs_up, History, Happens, comings, history_of}
+use Rattle.linda_store_step.specs.History.{Coming, says, hangs_up, History, Happens, comings}
+use Rattle.linda_store_step.specs.History.{history_of}
 use Rattle.linda_store_step.specs.Course.{IsFront}
 use Rattle.linda_store.specs.declared.work.Work.{Work}
 use Rattle.linda_store.specs.declared.work.Work.TheVariants as works
@@ -15,9 +18,9 @@ use Rattle.linda_store_step.specs.declared.size.TheConstants.{MAX_BATCH}
 use Rattle.linda_store.specs.declared.node.NodeFault.{NodeFault}
 use Rattle.linda_store.specs.declared.node.NodeFault.TheVariants as faults
 
--- A node: its state, what it holds and lets wait, whether it is down, and whether it is of a kind that may be full;
--- and, where it is down, the deeds that may have been done in the call in which it went down. Its state is then the
--- one before that call.
+-- A node: its state, what it holds and lets wait, whether it is down, and whether it is of a kind
+-- that may be full; and, where it is down, the deeds that may have been done in the call in which
+-- it went down. Its state is then the one before that call.
 pub record Node : Type 0 where
   pub state : State
   pub soft : Soft
@@ -37,8 +40,8 @@ node_answer (Ok sends) = Sent sends.items
 node_answer (Err faults.Full) = IsFull
 node_answer (Err faults.Down) = IsDown
 
--- The deeds that may be left of a call that was broken off: some first ones of those that some first things of what
--- came led to.
+-- The deeds that may be left of a call that was broken off: some first ones of those that some
+-- first things of what came led to.
 pub record MayRemain (old : Node) (xs : List Coming) (ds : List Deed) : Type 0 where
   pub first : List Coming
   pub is_first : IsFront first xs
@@ -61,8 +64,8 @@ pub record HadNoRoom (old : Node) (xs : List Coming) (new : Node) : Type 0 where
   pub deeds : (all : History) → Happens old.state old.soft xs all → all.deeds ≢ []
   pub unchanged : new ≡ old
 
--- The node is down now, and its state is as before. If it was up, some first deeds of what came may have been done;
--- if it was down, nothing has changed.
+-- The node is down now, and its state is as before. If it was up, some first deeds of what came may
+-- have been done; if it was down, nothing has changed.
 pub record WentDown (old : Node) (xs : List Coming) (new : Node) : Type 0 where
   pub is_down : new.is_down ≡ true
   pub kind : new.may_fill ≡ old.may_fill
@@ -84,21 +87,23 @@ Handles old c m answer new = (ds : List Deed) × Works old (says c m ∷ []) ans
 abbrev pub HandlesAll : Node → List (ℕ × Message) → NodeAnswer → Node → Type 0
 HandlesAll old ms answer new = (ds : List Deed) × Works old (comings ms) answer ds new
 
--- What a node may answer to the closing of a client, which makes no deed, and where that leaves it; it is never full.
+-- What a node may answer to the closing of a client, which makes no deed, and where that leaves it;
+-- it is never full.
 abbrev pub Closes : Node → ℕ → NodeAnswer → Node → Type 0
 Closes old c (Sent sends) new = IsDone old (hangs_up c ∷ []) [] sends new
 Closes old c IsFull new = ⊥
 Closes old c IsDown new = WentDown old (hangs_up c ∷ []) new
 
--- What a node may answer where it is to write a snapshot, and where that leaves it: unless it goes down nothing
--- changes.
+-- What a node may answer where it is to write a snapshot, and where that leaves it: unless it goes
+-- down nothing changes.
 abbrev pub Snaps : {A : Type 0} → Node → Result A NodeFault → Node → Type 0
 Snaps old (Ok done) new = (old.is_down ≡ false) × (new ≡ old)
 Snaps old (Err faults.Full) new = (old.is_down ≡ false) × ((old.may_fill ≡ true) × (new ≡ old))
 Snaps old (Err faults.Down) new = WentDown old [] new
 
--- A node was stopped and opened again: it is up, nothing is held and nobody waits. These deeds were added: some
--- first ones of what was in hand; or, where it was down, of the call in which it went down.
+-- A node was stopped and opened again: it is up, nothing is held and nobody waits. These deeds were
+-- added: some first ones of what was in hand; or, where it was down, of the call in which it went
+-- down.
 pub record IsOpened (old : Node) (xs : List Coming) (ds : List Deed) (new : Node) : Type 0 where
   pub is_up : new.is_down ≡ false
   pub kind : new.may_fill ≡ old.may_fill

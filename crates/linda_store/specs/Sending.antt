@@ -5,13 +5,15 @@ use Rattle.linda_store.specs.declared.end.ConverseFault.{ConverseFault}
 use Rattle.linda_store.specs.declared.end.ConverseFault.TheVariants as faults
 
 -- All of the bytes where all went well, and else some first ones.
-abbrev pub HasSent : {A E : Type 0} → Option (List ℕ) → Option (List ℕ) → List ℕ → Result A E → Type 0
+abbrev pub HasSent : {A E : Type 0} → Option (List ℕ) → Option (List ℕ) → List ℕ → Result A E
+    → Type 0
 HasSent old new bytes (Ok done) = Appends old new bytes
 HasSent old new bytes (Err fault) = (k : ℕ) × Appends old new (take k bytes)
 
--- Of bytes that are made before they are sent, all where all went well, some first ones where writing failed, and none
--- where memory ran out; no other fault comes.
-abbrev pub HasWritten : {A : Type 0} → Option (List ℕ) → Option (List ℕ) → List ℕ → Result A ConverseFault → Type 0
+-- Of bytes that are made before they are sent, all where all went well, some first ones where
+-- writing failed, and none where memory ran out; no other fault comes.
+abbrev pub HasWritten : {A : Type 0} → Option (List ℕ) → Option (List ℕ) → List ℕ
+    → Result A ConverseFault → Type 0
 HasWritten old new bytes (Ok done) = Appends old new bytes
 HasWritten old new bytes (Err faults.Write) = (k : ℕ) × Appends old new (take k bytes)
 HasWritten old new bytes (Err faults.Memory) = Appends old new []

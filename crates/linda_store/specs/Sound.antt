@@ -11,8 +11,8 @@ use Rattle.linda_store.specs.declared.node.NodeFault.{NodeFault}
 use Rattle.linda_store.specs.Node.{Node}
 use Rattle.linda_store_step.specs.Replies.{reports_deed, ReportsOne}
 
--- Its deeds are a proper list and its state is the one after them; while it is up it is in order, and while it is down
--- the deeds that it may have done besides would go on from there.
+-- Its deeds are a proper list and its state is the one after them; while it is up it is in order,
+-- and while it is down the deeds that it may have done besides would go on from there.
 pub record IsSound (ds : List Deed) (node : Node) : Type 0 where
   pub proper : IsProper empty_state ds
   pub after : IsAfter empty_state ds node.state
@@ -21,7 +21,8 @@ pub record IsSound (ds : List Deed) (node : Node) : Type 0 where
 
 -- What is sent reports these deeds alone.
 abbrev pub AreBacked : List Deed → List (ℕ × Reply) → Type 0
-AreBacked ds sends = All (λ (send : ℕ × Reply). reports_deed send.1 ≡ true → ReportsOne ds send.0 send.1) sends
+AreBacked ds sends =
+    All (λ (send : ℕ × Reply). reports_deed send.1 ≡ true → ReportsOne ds send.0 send.1) sends
 
 -- the deeds that a stop has added
 abbrev pub added : Result (Vec Deed) NodeFault → List Deed

@@ -1,5 +1,6 @@
 -- What a connection says: the greeting, then the node's replies to the client that was greeted.
-use Rattle.std.specs.Prelude.{◌≡◌, ℕ, Bool, true, false, ◌==◌, if◌then◌else◌, List, [], ◌∷◌, ◌++◌, map, filter}
+use Rattle.std.specs.Prelude.{◌≡◌, ℕ, Bool, true, false, ◌==◌, if◌then◌else◌, List, [], ◌∷◌, ◌++◌}
+use Rattle.std.specs.Prelude.{map, filter}
 use Rattle.std.specs.Prelude.{Option, Some, None, Result, Ok, Err}
 use Rattle.std.specs.List.{list_any}
 use Rattle.linda_wire.specs.Refusal.{refused}
@@ -10,7 +11,8 @@ use Rattle.linda_wire.specs.declared.reply.Reply.{Reply}
 use Rattle.linda_wire.specs.declared.reply.Reply.TheVariants as replies
 use Rattle.linda_store.specs.Node.{Node, NodeAnswer, Sent, IsFull, IsDown, Handles}
 
--- Where a conversation stands: the node, the client that was greeted, if one was, and whether it goes on.
+-- Where a conversation stands: the node, the client that was greeted, if one was, and whether it
+-- goes on.
 pub record Point : Type 0 where
   pub node : Node
   pub greeted : Option ℕ
@@ -55,12 +57,14 @@ greeted_by c IsFull = None
 greeted_by c IsDown = None
 
 -- The message is refused by the connection itself: the node is not asked.
-pub record IsTurnedAway (reply : Reply) (from : Point) (said : List Reply) (to : Point) : Type 0 where
+pub record IsTurnedAway (reply : Reply) (from : Point) (said : List Reply) (to : Point)
+    : Type 0 where
   pub said_is : said ≡ reply ∷ []
   pub same : to ≡ from
 
 -- The node is asked for the client c.
-pub record IsAsked (c : ℕ) (m : Message) (greeted : NodeAnswer → Option ℕ) (from : Point) (said : List Reply)
+pub record IsAsked (c : ℕ) (m : Message) (greeted : NodeAnswer → Option ℕ) (from : Point)
+    (said : List Reply)
     (to : Point) : Type 0 where
   pub answer : NodeAnswer
   pub handled : Handles from.node c m answer to.node
@@ -77,8 +81,8 @@ hello_of (messages.Accept n ticket id) = None
 hello_of (messages.Cancel ticket) = None
 hello_of (messages.Leave n) = None
 
--- What is done with a message, given who is greeted and whom it greets: the first Hello and then each other message is
--- the node's, and what comes out of turn is refused.
+-- What is done with a message, given who is greeted and whom it greets: the first Hello and then
+-- each other message is the node's, and what comes out of turn is refused.
 abbrev pub TreatsAs : Option ℕ → Option ℕ → Message → Point → List Reply → Point → Type 0
 TreatsAs None (Some client) m = IsAsked client m (greeted_by client)
 TreatsAs None None m = IsTurnedAway (refused refusals.NoHello)
@@ -93,13 +97,16 @@ Treats greeted m = TreatsAs greeted (hello_of m) m
 abbrev pub Turns : Point → Message → List Reply → Point → Type 0
 Turns from m said to = (from.is_open ≡ true) × Treats from.greeted m from said to
 
--- What a call that answers one message did, given what is done with the message: it says whether the conversation goes
--- on, and puts what is said after the replies of before. Where memory ran out, what is said may be lost.
-abbrev pub HasSaid : {E : Type 0} → (Bool → List Reply → Type 0) → List Reply → Result Bool E → List Reply → Type 0
+-- What a call that answers one message did, given what is done with the message: it says whether
+-- the conversation goes on, and puts what is said after the replies of before. Where memory ran
+-- out, what is said may be lost.
+abbrev pub HasSaid : {E : Type 0} → (Bool → List Reply → Type 0) → List Reply → Result Bool E
+    → List Reply → Type 0
 HasSaid does old (Ok is_open) new = (said : List Reply) × (does is_open said × (new ≡ old ++ said))
 HasSaid does old (Err fault) new = (said : List Reply) × ((is_open : Bool) × does is_open said)
 
--- Messages one after another: all that is said to them, in order, and where the conversation stands then.
+-- Messages one after another: all that is said to them, in order, and where the conversation stands
+-- then.
 abbrev pub Runs : Point → List Message → List Reply → Point → Type 0
 Runs from [] said to = (said ≡ []) × (to ≡ from)
 Runs from (m ∷ ms) said to =

@@ -21,11 +21,11 @@ const PIECE: usize = 4096;
 /// The most reads of a conversation. Each that does not end it gives a byte at least.
 pub const MAX_READS: u32 = 4_294_967_295;
 
-/// Reads a client's stream to its end and writes the node's replies. It reads pieces of at most 4,096
-/// bytes, at most 4,294,967,295 of them, and flushes what it writes before the next read.
+/// Reads a client's stream to its end and writes the node's replies. It reads pieces of at most
+/// 4,096 bytes, at most 4,294,967,295 of them, and flushes what it writes before the next read.
 ///
-/// At the end, however it comes, the greeted client is closed; what the node answers to that changes
-/// nothing of the end.
+/// At the end, however it comes, the greeted client is closed; what the node answers to that
+/// changes nothing of the end.
 ///
 /// # Errors
 ///
@@ -55,7 +55,8 @@ fn talk<N: Node, R: Read, W: Write>(
 ) -> Result<End, ConverseFault>
     requires { session.old ≡ beginner }
     ensures { HasEndedAt (N.shown node.old) (R.remaining reader.old) (R.remaining reader.new)
-        (W.contents writer.old) (W.contents writer.new) result (N.shown node.new) session.new.greeted }
+        (W.contents writer.old) (W.contents writer.new) result (N.shown node.new)
+        session.new.greeted }
 {
     let mut buffer = [0; PIECE];
     for _ in 0..MAX_READS {
@@ -98,7 +99,8 @@ fn answer<N: Node, W: Write>(
 ) -> Result<Stage, ConverseFault>
     requires is_open { session.old.stage ≡ Open }
     requires not_spent { session.old.is_spent ≡ false }
-    ensures { HasReplied session.old (N.shown node.old) piece.now (W.contents writer.old) (W.contents writer.new)
+    ensures { HasReplied session.old (N.shown node.old) piece.now (W.contents writer.old)
+        (W.contents writer.new)
         result session.new (N.shown node.new) }
 {
     match session.take(alloc, node, piece) {

@@ -7,8 +7,8 @@ use thiserror::Error;
 pub enum End {
     /// The client's stream ended. So many bytes came after its last message, and make none.
     Ended { rest: usize },
-    /// The client sent a frame that spells nothing, and was told so. The offset in the frame of the first
-    /// byte at fault, 0 where its length is at fault.
+    /// The client sent a frame that spells nothing, and was told so. The offset in the frame of the
+    /// first byte at fault, 0 where its length is at fault.
     Malformed(u32),
 }
 

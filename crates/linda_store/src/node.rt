@@ -25,7 +25,8 @@ pub enum NodeFault {
 pub trait Node: Drop {
     ghost use Rattle.linda_store_step.specs.Store.{IsOrderly};
     ghost use Rattle.linda_store.specs.Node as seen;
-    ghost use Rattle.linda_store.specs.Node.{Handles, HandlesAll, Closes, Snaps, Stops, IsBatch, in_hand, node_answer};
+    ghost use Rattle.linda_store.specs.Node.{Handles, HandlesAll, Closes, Snaps, Stops, IsBatch};
+    ghost use Rattle.linda_store.specs.Node.{in_hand, node_answer};
     ghost use Rattle.linda_store_step.specs.declared.size.TheConstants.{MAX_BATCH};
 
     /// What contracts see of the node.
@@ -39,10 +40,11 @@ pub trait Node: Drop {
         client: u32,
         message: &Message,
     ) -> Result<Vec<(u32, Reply)>, NodeFault>
-        ensures { Handles (shown self.old) client message.now (node_answer result) (shown self.new) };
+        ensures { Handles (shown self.old) client message.now (node_answer result)
+            (shown self.new) };
 
-    /// Takes several messages, at most 64, each of its client, one after another; what is answered comes
-    /// when all of them were taken.
+    /// Takes several messages, at most 64, each of its client, one after another; what is answered
+    /// comes when all of them were taken.
     fn handle_all(
         &mut self,
         alloc: Global,
@@ -59,9 +61,9 @@ pub trait Node: Drop {
     fn snapshot(&mut self, alloc: Global) -> Result<(), NodeFault>
         ensures { Snaps (shown self.old) result (shown self.new) };
 
-    /// Begins the work, is stopped inside its device call number `at`, from 0, or after the work where there
-    /// are fewer calls, sends nothing and is opened again; `torn` says what becomes of what was not
-    /// synced. What is answered are the deeds that were added.
+    /// Begins the work, is stopped inside its device call number `at`, from 0, or after the work
+    /// where there are fewer calls, sends nothing and is opened again; `torn` says what becomes of
+    /// what was not synced. What is answered are the deeds that were added.
     fn stop(
         &mut self,
         alloc: Global,
@@ -72,8 +74,8 @@ pub trait Node: Drop {
         requires { IsBatch work }
         ensures { Stops (shown self.old) (in_hand work) result (shown self.new) };
 
-    /// Whether the node answers `Down`; takes no memory. While it does not, its state and what it holds
-    /// and lets wait are in their ranges, and nobody waits in vain.
+    /// Whether the node answers `Down`; takes no memory. While it does not, its state and what it
+    /// holds and lets wait are in their ranges, and nobody waits in vain.
     fn is_down(&self) -> bool
         ensures down { result ≡ (shown self.now).is_down }
         ensures orderly { result ≡ false → IsOrderly (shown self.now).state (shown self.now).soft };

@@ -16,14 +16,15 @@ use std::io::{ErrorKind, Write};
 ///
 /// # Errors
 ///
-/// `Memory` where there is none for the frames: nothing was written. `Write` where the writer failed or was
-/// interrupted: it has taken a prefix of the frames.
+/// `Memory` where there is none for the frames: nothing was written. `Write` where the writer
+/// failed or was interrupted: it has taken a prefix of the frames.
 pub(crate) fn write_replies<W: Write>(
     alloc: Global,
     writer: &mut W,
     replies: &[Reply],
 ) -> Result<(), ConverseFault>
-    ensures { HasWritten (W.contents writer.old) (W.contents writer.new) (flat_map reply_frame replies.now) result }
+    ensures { HasWritten (W.contents writer.old) (W.contents writer.new)
+        (flat_map reply_frame replies.now) result }
 {
     match spell_replies(alloc, replies) {
         Ok(bytes) => match send(writer, &bytes) {
@@ -64,7 +65,8 @@ pub fn send<W: Write>(writer: &mut W, bytes: &[u8]) -> io::Result<()>
 fn write_some<W: Write>(writer: &mut W, bytes: &[u8]) -> io::Result<usize>
     requires { 0 < length bytes.now }
     ensures bound { IfOk result (λ n. (0 < n) × (n ≤ length bytes.now)) }
-    ensures ok { IfOk result (λ n. Appends (W.contents writer.old) (W.contents writer.new) (take n bytes.now)) }
+    ensures ok { IfOk result (λ n.
+        Appends (W.contents writer.old) (W.contents writer.new) (take n bytes.now)) }
     ensures err { OnErr result (Keeps (W.contents writer.old) (W.contents writer.new)) }
 {
     let written = writer.write(bytes)?;

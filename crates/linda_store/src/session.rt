@@ -1,6 +1,7 @@
 //! One connection of a client: the pieces of its stream in, the replies out.
 
-ghost use Rattle.std.specs.Prelude.{◌≡◌, ◌≢◌, ◌++◌, ◌∷◌, [], length, true, false, IfOk, OnOk, IsErr, MatchResult};
+ghost use Rattle.std.specs.Prelude.{◌≡◌, ◌≢◌, ◌++◌, ◌∷◌, [], length, true, false, IfOk, OnOk};
+ghost use Rattle.std.specs.Prelude.{IsErr, MatchResult};
 ghost use Rattle.linda_wire.specs.Refusal.{refused};
 ghost use Rattle.linda_wire.specs.declared.refusal.Refusal.TheVariants as refusals;
 ghost use Rattle.linda_wire.specs.declared.fault.FrameFault.TheVariants.{Memory};
@@ -42,7 +43,12 @@ impl Model for Session {
 
     ghost Value = { seen.Session };
 
-    ghost view = { λ s. record { greeted = s.greeted; unread = s.feed; stage = s.stage; is_spent = s.spent } };
+    ghost view = { λ s. record {
+      greeted = s.greeted;
+      unread = s.feed;
+      stage = s.stage;
+      is_spent = s.spent;
+    } };
 }
 
 impl Session {
@@ -79,13 +85,13 @@ impl Session {
         self.feed.rest()
     }
 
-    /// Takes the next piece of the client's stream, of any length, and answers all messages that are
-    /// whole now. A connection that has ended takes nothing, and has no replies.
+    /// Takes the next piece of the client's stream, of any length, and answers all messages that
+    /// are whole now. A connection that has ended takes nothing, and has no replies.
     ///
     /// # Errors
     ///
-    /// Where memory runs out the session is spent: the node has taken some first messages of the piece,
-    /// and each later call answers the same and changes nothing.
+    /// Where memory runs out the session is spent: the node has taken some first messages of the
+    /// piece, and each later call answers the same and changes nothing.
     pub fn take<N: Node>(
         &mut self,
         alloc: Global,
@@ -93,10 +99,12 @@ impl Session {
         piece: &[u8],
     ) -> Result<Taken, AllocError>
         ensures open { self.old.is_spent ≡ false → self.old.stage ≡ Open
-            → AnswersPiece self.old (N.shown node.old) piece.now result self.new (N.shown node.new) }
+            → AnswersPiece self.old (N.shown node.old) piece.now result self.new
+            (N.shown node.new) }
         ensures ended { self.old.is_spent ≡ false → self.old.stage ≢ Open
             → MatchResult result
-            (λ taken. StaysSilent self.old (N.shown node.old) taken self.new (N.shown node.new)) (λ _. ⊥) }
+            (λ taken. StaysSilent self.old (N.shown node.old) taken self.new (N.shown node.new))
+            (λ _. ⊥) }
         ensures spent { self.old.is_spent ≡ true
             → IsErr result × ((self.new ≡ self.old) × (N.shown node.new ≡ N.shown node.old)) }
     {
@@ -136,7 +144,8 @@ fn answer_piece<N: Node>(
     piece: &[u8],
     replies: &mut Vec<Reply>,
 ) -> Result<Stage, AllocError>
-    ensures { HasAnswered (point_at (N.shown node.old) greeted.old true) (feed.old ++ piece.now) replies.old.items
+    ensures { HasAnswered (point_at (N.shown node.old) greeted.old true) (feed.old ++ piece.now)
+        replies.old.items
         result feed.new replies.new.items (N.shown node.new) greeted.new }
 {
     feed.feed(piece)?;
@@ -171,7 +180,8 @@ fn answer_messages<N: Node>(
 
 // Refuses a frame that is no message, which ends the connection.
 fn refuse_frame(fault: FrameFault, replies: &mut Vec<Reply>) -> Result<Stage, AllocError>
-    ensures broken { IfOk result (λ stage. (fault ≢ Memory) × (stage ≡ Malformed (detail_of fault))) }
+    ensures broken { IfOk result (λ stage. (fault ≢ Memory)
+        × (stage ≡ Malformed (detail_of fault))) }
     ensures told { OnOk result (replies.new.items
         ≡ replies.old.items ++ refused (refusals.Malformed (detail_of fault)) ∷ []) }
 {

@@ -10,8 +10,8 @@ use linda_wire::Reply;
 pub enum Stage {
     /// It goes on.
     Open,
-    /// The client sent a frame that spells nothing. The offset in the frame of the first byte at fault,
-    /// 0 where its length is at fault.
+    /// The client sent a frame that spells nothing. The offset in the frame of the first byte at
+    /// fault, 0 where its length is at fault.
     Malformed(u32),
     /// The node is down.
     Down,

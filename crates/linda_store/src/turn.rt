@@ -4,15 +4,16 @@ ghost use Rattle.std.specs.Prelude.{◌≡◌, ◌++◌, ◌∷◌, [], IsTrue, 
 ghost use Rattle.std.specs.List.{list_any};
 ghost use Rattle.linda_wire.specs.Refusal.{refused};
 ghost use Rattle.linda_store.specs.Node.{node_answer};
-ghost use Rattle.linda_store.specs.Turn.{is_welcome, replies_for, told, goes_on, hello_of, point_at};
+ghost use Rattle.linda_store.specs.Turn.{is_welcome, replies_for, told, goes_on, hello_of};
+ghost use Rattle.linda_store.specs.Turn.{point_at};
 ghost use Rattle.linda_store.specs.Turn.{greeted_by, greeted_if, IsAsked, HasSaid, Turns};
 
 use crate::node::{Node, NodeFault};
 use linda_wire::{Message, Refusal, Reply};
 use std::alloc::{AllocError, Global};
 
-/// Answers one message, and says whether the connection goes on. Where memory runs out for a reply, the
-/// node may have taken the message, and who is greeted is as it would be with the reply.
+/// Answers one message, and says whether the connection goes on. Where memory runs out for a reply,
+/// the node may have taken the message, and who is greeted is as it would be with the reply.
 pub(crate) fn turn<N: Node>(
     alloc: Global,
     greeted: &mut Option<u32>,
@@ -71,7 +72,9 @@ fn greet<N: Node>(
 ) -> Result<bool, AllocError>
     requires { greeted.old ≡ None }
     ensures { HasSaid
-        (λ is_open said. IsAsked client message.now (greeted_by client) (point_at (N.shown node.old) None true) said
+        (λ is_open said.
+        IsAsked client message.now (greeted_by client) (point_at (N.shown node.old) None true)
+        said
         (point_at (N.shown node.new) greeted.new is_open))
         replies.old.items result replies.new.items }
 {
@@ -106,7 +109,8 @@ fn tell(
     answer: Result<Vec<(u32, Reply)>, NodeFault>,
     replies: &mut Vec<Reply>,
 ) -> Result<bool, AllocError>
-    ensures told { OnOk result (replies.new.items ≡ replies.old.items ++ told client (node_answer answer)) }
+    ensures told { OnOk result (replies.new.items
+        ≡ replies.old.items ++ told client (node_answer answer)) }
     ensures goes_on { IfOk result (λ goes. goes ≡ goes_on (node_answer answer)) }
 {
     match answer {
@@ -130,7 +134,8 @@ fn push_replies(
     sends: Vec<(u32, Reply)>,
     replies: &mut Vec<Reply>,
 ) -> Result<(), AllocError>
-    ensures { OnOk result (replies.new.items ≡ replies.old.items ++ replies_for client sends.items) }
+    ensures { OnOk result (replies.new.items
+        ≡ replies.old.items ++ replies_for client sends.items) }
 {
     for (to, reply) in sends {
         if to == client {

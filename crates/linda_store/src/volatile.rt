@@ -17,9 +17,9 @@ use linda_wire::{Message, Reply};
 use std::alloc::{AllocError, Global};
 use std::snapshot::Snapshot;
 
-/// A server in memory alone. It keeps its state over a stop, and is never full: ids, numbers and clients
-/// have their limits, and a message beyond them gets a refusal. Once memory ran out it is down for good,
-/// to a stop too.
+/// A server in memory alone. It keeps its state over a stop, and is never full: ids, numbers and
+/// clients have their limits, and a message beyond them gets a refusal. Once memory ran out it is
+/// down for good, to a stop too.
 pub struct Volatile {
     store: Store<IndexBag>,
     // The state before the last call, which contracts alone see.
@@ -39,7 +39,13 @@ impl Volatile {
     /// A server that was never used.
     pub fn new(alloc: Global) -> Volatile
         ensures { ⟦<Volatile as Node>⟧.shown result
-            ≡ record { state = empty_state; soft = no_asks; is_down = false; may_fill = false; lost = [] } }
+            ≡ record {
+              state = empty_state;
+              soft = no_asks;
+              is_down = false;
+              may_fill = false;
+              lost = [];
+            } }
     {
         let store = Store::new(alloc);
         let before = Snapshot::of(store.state());
@@ -154,7 +160,12 @@ impl Node for Volatile {
 // Does all of the work.
 fn do_work(alloc: Global, store: &mut Store<IndexBag>, work: Work) -> Result<Steps, AllocError>
     ensures ok { IfOk result (λ s. Happens store.old.state store.old.soft (in_hand work)
-        (record { deeds = s.deeds.items; sends = s.sends.items; soft = store.new.soft; state = store.new.state })) }
+        (record {
+          deeds = s.deeds.items;
+          sends = s.sends.items;
+          soft = store.new.soft;
+          state = store.new.state;
+        })) }
     ensures unspent { OnOk result (store.new.is_spent ≡ false) }
     ensures err { OnErr result (store.new.is_spent ≡ true) }
 {

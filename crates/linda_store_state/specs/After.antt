@@ -1,4 +1,5 @@
--- The state after a list of deeds: a set of pairs and a last deed by client, whatever was done to get there.
+-- The state after a list of deeds: a set of pairs and a last deed by client, whatever was done to
+-- get there.
 use Rattle.std.specs.Prelude.{◌≡◌, ℕ, ◌+◌, ◌-◌, nat_lt, if◌then◌else◌}
 use Rattle.std.specs.Prelude.{List, length, Option, Some, None}
 use Rattle.std.specs.List.{slice_get}
@@ -12,7 +13,8 @@ use Rattle.linda_store_state.specs.declared.deed.Deed.TheVariants.{Out, Take, Pa
 use Rattle.linda_store_state.specs.Deed.{outs_of, is_taken, last_of, number_of}
 use Rattle.linda_store_state.specs.State.{State}
 
--- The bag: the tuples of before and those put, the k-th of them under the next id plus k, less what is taken.
+-- The bag: the tuples of before and those put, the k-th of them under the next id plus k, less what
+-- is taken.
 abbrev pub bag_after : State → List Deed → ℕ → Option Tuple
 bag_after st ds id =
     if is_taken id ds then None

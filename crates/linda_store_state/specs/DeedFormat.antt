@@ -1,11 +1,13 @@
--- The format of deeds in each of the two forms: the one spelling of each, which deeds have one, and the reader.
+-- The format of deeds in each of the two forms: the one spelling of each, which deeds have one, and
+-- the reader.
 use Rattle.std.specs.Prelude.{ℕ, List, [], ◌∷◌, All}
 use Rattle.std.specs.List.{flat_map}
 use Rattle.linda_tuple.specs.declared.form.Form.{Form}
 use Rattle.linda_tuple.specs.declared.form.Form.TheVariants.{One, Two}
 use Rattle.linda_tuple.specs.Tuple.{Tuple, FitsIn}
 use Rattle.linda_codec.specs.Steps.{Reader}
-use Rattle.linda_codec.specs.Formats.{Format, short_number, number, both, made_at, no_kind, choice_at}
+use Rattle.linda_codec.specs.Formats.{Format, short_number, number, both, made_at, no_kind}
+use Rattle.linda_codec.specs.Formats.{choice_at}
 use Rattle.linda_codec.specs.Values as value
 pub use Rattle.linda_book.specs.ReplyFormat.{HasLeaves}
 use Rattle.linda_store_state.specs.declared.deed.Deed.{Deed}
@@ -38,8 +40,8 @@ spell_deed form (Take client n id) = kind.TAKE ∷ reference.spell (client, (n, 
 spell_deed form (Pass client n id) = kind.PASS ∷ reference.spell (client, (n, id))
 spell_deed form (Leave client n) = kind.LEAVE ∷ leave.spell (client, n)
 
--- What has a spelling among deeds: numbers of their widths, and a tuple that fits in the form; a Leave where the form
--- has them.
+-- What has a spelling among deeds: numbers of their widths, and a tuple that fits in the form; a
+-- Leave where the form has them.
 abbrev pub FitsDeed : Form → Deed → Type 0
 FitsDeed form (Out client n tuple) = (out form).Fits (client, (n, tuple))
 FitsDeed form (Take client n id) = reference.Fits (client, (n, id))
@@ -71,14 +73,15 @@ payload form ds = flat_map (spell_deed form) ds
 
 -- ---- whether there is a spelling
 
--- The tuple that the deed puts, where it puts one, has a spelling in the form, and a Leave where the form has them.
--- Nothing else of a deed hangs on the form.
+-- The tuple that the deed puts, where it puts one, has a spelling in the form, and a Leave where
+-- the form has them. Nothing else of a deed hangs on the form.
 abbrev pub SuitsForm : Form → Deed → Type 0
 SuitsForm form (Out client n tuple) = FitsIn form tuple
 SuitsForm form (Take client n id) = Unit {0}
 SuitsForm form (Pass client n id) = Unit {0}
 SuitsForm form (Leave client n) = HasLeaves form
 
--- One of the deeds puts a tuple that has no spelling in the form, or is a Leave in a form without them.
+-- One of the deeds puts a tuple that has no spelling in the form, or is a Leave in a form without
+-- them.
 abbrev pub IsUnspelled : Form → List Deed → Type 0
 IsUnspelled form ds = All (SuitsForm form) ds → ⊥

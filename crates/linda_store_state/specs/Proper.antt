@@ -12,11 +12,12 @@ use Rattle.linda_store_state.specs.After.{IsAfter}
 -- what a deed asks of the next id, where it puts a tuple, and of the bag, where it takes one
 abbrev pub HasRoom : State → Deed → Type 0
 HasRoom st d =
-    IfSome (put_by d) (λ _. st.next < NUMBER_LIMIT) × IfSome (taken_by d) (λ id. IsSome (map.get st.bag id))
+    IfSome (put_by d) (λ _. st.next < NUMBER_LIMIT)
+    × IfSome (taken_by d) (λ id. IsSome (map.get st.bag id))
 
--- The deed may be done in this state: its number is the client's next and below the limit, the client has not left, a
--- new client comes only while there is a place for it, an Out only while there are ids, and a Take takes a tuple that
--- is there.
+-- The deed may be done in this state: its number is the client's next and below the limit, the
+-- client has not left, a new client comes only while there is a place for it, an Out only while
+-- there are ids, and a Take takes a tuple that is there.
 pub record IsAllowed (st : State) (d : Deed) : Type 0 where
   pub number : number_of d ≡ number_in (map.get st.book (client_of d)) + 1
   pub stays : left_in (map.get st.book (client_of d)) ≡ false

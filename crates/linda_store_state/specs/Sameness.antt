@@ -8,8 +8,8 @@ use Rattle.linda_tuple.specs.Sameness.{same_tuple, same_tuple-decides}
 use Rattle.linda_store_state.specs.declared.deed.Deed.{Deed}
 use Rattle.linda_store_state.specs.declared.deed.Deed.TheVariants.{Out, Take, Pass, Leave}
 
--- whether two deeds are equal: of one kind, of one client, with the same number, and an equal tuple or the same id
--- where they have one
+-- whether two deeds are equal: of one kind, of one client, with the same number, and an equal tuple
+-- or the same id where they have one
 abbrev pub same_deed : Deed → Deed → Bool
 same_deed (Out c n s) (Out d m t) = (c == d) && ((n == m) && same_tuple s t)
 same_deed (Out c n s) (Take d m j) = false
@@ -40,7 +40,8 @@ pub same_deed-decides : (a b : Deed) → Decides (same_deed a b) (a ≡ b)
 same_deed-decides (Out c n s) (Out d m t) =
     Decides-like (same_deed (Out c n s) (Out d m t)) (λ e k. Out (e.0 k) (e.1.0 k) (e.1.1 k))
     (λ e. (cc e, (cc e, cc e)))
-    (all_three (c == d) (n == m) (same_tuple s t) (Decides-eqb c d) (Decides-eqb n m) (same_tuple-decides s t))
+    (all_three (c == d) (n == m) (same_tuple s t) (Decides-eqb c d) (Decides-eqb n m)
+    (same_tuple-decides s t))
 same_deed-decides (Out c n s) (Take d m j) = never (λ e. cc)
 same_deed-decides (Out c n s) (Pass d m j) = never (λ e. cc)
 same_deed-decides (Out c n s) (Leave d m) = never (λ e. cc)
@@ -62,7 +63,8 @@ same_deed-decides (Leave c n) (Out d m t) = never (λ e. cc)
 same_deed-decides (Leave c n) (Take d m j) = never (λ e. cc)
 same_deed-decides (Leave c n) (Pass d m j) = never (λ e. cc)
 same_deed-decides (Leave c n) (Leave d m) =
-    Decides-like (same_deed (Leave c n) (Leave d m)) (λ e k. Leave (e.0 k) (e.1 k)) (λ e. (cc e, cc e))
+    Decides-like (same_deed (Leave c n) (Leave d m)) (λ e k. Leave (e.0 k) (e.1 k))
+    (λ e. (cc e, cc e))
     (Decides-and (c == d) (n == m) (Decides-eqb c d) (Decides-eqb n m))
 
 pub same_deed-equiv : IsEquivalence same_deed

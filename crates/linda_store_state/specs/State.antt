@@ -17,8 +17,8 @@ pub record State : Type 0 where
 abbrev pub empty_state : State
 empty_state = record { bag = map.empty; book = map.empty; next = 1 }
 
--- The ranges that every state keeps: ids of the bag are at least 1 and below the next id, kept numbers are at
--- least 1 and below the limit, and no more clients are kept than the limit.
+-- The ranges that every state keeps: ids of the bag are at least 1 and below the next id, kept
+-- numbers are at least 1 and below the limit, and no more clients are kept than the limit.
 pub record IsState (st : State) : Type 0 where
   pub next_low : 1 ≤ st.next
   pub next_high : st.next ≤ NUMBER_LIMIT

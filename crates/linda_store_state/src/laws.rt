@@ -1,4 +1,5 @@
-//! What the definitions of states and deeds come to, each stated by the contract of a function that does nothing.
+//! What the definitions of states and deeds come to, each stated by the contract of a function that
+//! does nothing.
 
 ghost use Rattle.std.specs.Prelude.{◌≡◌, ◌≢◌, ℕ, ◌+◌, ◌∷◌, ◌++◌, [], true, List, All, length, Some};
 ghost use Rattle.std.specs.FinMap as map;
@@ -17,7 +18,8 @@ pub fn no_tuple_is_taken_twice()
     ensures { (st : State) (ds : List Deed) → IsState st → IsProper st ds → IsTakenOnce ds }
 {}
 
-/// In a proper list of deeds none of a client comes after its Leave; and what is kept for a client that left stays.
+/// In a proper list of deeds none of a client comes after its Leave; and what is kept for a client
+/// that left stays.
 pub fn nothing_follows_a_leave()
     ensures others { (st : State) (front later : List Deed) (c n : ℕ)
         → IsState st → IsProper st (front ++ deeds.Leave c n ∷ later)
@@ -27,14 +29,15 @@ pub fn nothing_follows_a_leave()
         → map.get new.book c ≡ map.get st.book c }
 {}
 
-/// The state after a proper list of deeds is in its ranges: so the ids of its bag are below its next id.
+/// The state after a proper list of deeds is in its ranges: so the ids of its bag are below its
+/// next id.
 pub fn proper_lists_keep_the_ranges()
     ensures { (st new : State) (ds : List Deed)
         → IsState st → IsProper st ds → IsAfter st ds new → IsState new }
 {}
 
-/// Deeds that are done one by one, each where it is allowed, are a proper list, and lead to the state
-/// after them all; and no proper list goes on with a deed that is not allowed.
+/// Deeds that are done one by one, each where it is allowed, are a proper list, and lead to the
+/// state after them all; and no proper list goes on with a deed that is not allowed.
 pub fn deeds_are_done_one_by_one()
     ensures none { (st : State) → IsState st → AreDone st [] st }
     ensures more { (st mid new : State) (ds : List Deed) (d : Deed)
@@ -44,8 +47,8 @@ pub fn deeds_are_done_one_by_one()
         → AreDone st ds mid → (IsAllowed mid d → ⊥) → IsProper st (ds ++ d ∷ later) → ⊥ }
 {}
 
-/// Two proper lists of deeds, the second from where the first leads to, are one proper list, and lead to where the
-/// second does.
+/// Two proper lists of deeds, the second from where the first leads to, are one proper list, and
+/// lead to where the second does.
 pub fn lists_are_done_one_after_another()
     ensures { (st mid new : State) (ds es : List Deed)
         → IsState st → AreDone st ds mid → AreDone mid es new → AreDone st (ds ++ es) new }
@@ -57,8 +60,8 @@ pub fn kept_numbers_count_deeds()
         → IsState st → AreDone st ds new → kept_sum new ≡ kept_sum st + length ds }
 {}
 
-/// The reply to a deed after others: in the state that these led to it is the reply after them, and the book has it
-/// once the deed is done.
+/// The reply to a deed after others: in the state that these led to it is the reply after them, and
+/// the book has it once the deed is done.
 pub fn replies_look_back()
     ensures behind { (st mid : State) (ds : List Deed) (d : Deed)
         → IsState mid → IsAfter st ds mid → reply_of_deed mid [] d ≡ reply_of_deed st ds d }

@@ -1,11 +1,16 @@
-//! The state of a server, and the deeds that change it: all that a journal and a snapshot need to know.
+//! The state of a server, and the deeds that change it: all that a journal and a snapshot need to
+//! know.
 //!
-//! - A `State` is a bag of tuples, a book with the last reply to each client, and the next id: what a
+//! - A `State` is a bag of tuples, a book with the last reply to each client, and the next id: what
+//!   a
 //!   server keeps over a restart.
-//! - A `Deed` is one change of it. `State::put`, `State::take`, `State::pass` and `State::leave` do one each, and
+//! - A `Deed` is one change of it. `State::put`, `State::take`, `State::pass` and `State::leave` do
+//!   one each, and
 //!   `State::redo` does one again that was written down; the state after a list of deeds is what
-//!   `specs/After` says, whatever the code did to get there. It is `Spelled` in bytes by `specs/DeedFormat`.
-//! - `specs/Proper` says which lists of deeds a server can do. What follows for these lists is stated by
+//!   `specs/After` says, whatever the code did to get there. It is `Spelled` in bytes by
+//!   `specs/DeedFormat`.
+//! - `specs/Proper` says which lists of deeds a server can do. What follows for these lists is
+//!   stated by
 //!   the functions of `laws`.
 #![tactic(auto)]
 

@@ -1,4 +1,5 @@
-//! How deeds are spelled: the form of their values, the bytes of their parts, and the most that there may be.
+//! How deeds are spelled: the form of their values, the bytes of their parts, and the most that
+//! there may be.
 
 use linda_codec::{KIND_BYTES, MAX_TUPLE_BYTES, NUMBER_BYTES, SHORT_NUMBER_BYTES};
 use linda_tuple::Form;
@@ -6,7 +7,8 @@ use linda_tuple::Form;
 /// The form in which new banks spell values.
 pub const BANK_FORM: Form = Form::Two;
 
-/// The most deeds that are done at once: those of one record, and of the messages that one call takes.
+/// The most deeds that are done at once: those of one record, and of the messages that one call
+/// takes.
 pub const MAX_DEEDS: usize = 64;
 
 /// The bytes of a deed before its tuple or id: its kind, the client and the number.

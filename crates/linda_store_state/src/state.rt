@@ -1,5 +1,5 @@
-//! The state of a server: the tuples, what is kept for each client, and the next id; and the deeds that
-//! change it.
+//! The state of a server: the tuples, what is kept for each client, and the next id; and the deeds
+//! that change it.
 //!
 //! All that may fail comes before the first change.
 
@@ -20,8 +20,8 @@ use linda_wire::{MAX_CLIENTS, NUMBER_LIMIT};
 use std::alloc::{AllocError, Global};
 use std::marker::Model;
 
-/// All that a server keeps over a restart. The bag may be any that does what `Bag` says. A state may
-/// hold any values; a store keeps them in the ranges of `IsState`.
+/// All that a server keeps over a restart. The bag may be any that does what `Bag` says. A state
+/// may hold any values; a store keeps them in the ranges of `IsState`.
 pub struct State<B: Bag> {
     /// The tuples of the space, by their ids.
     pub bag: B,
@@ -53,8 +53,8 @@ impl<B: Bag> Model for State<B> {
 }
 
 impl<B: Bag> State<B> {
-    /// The state of a server that was never used: no tuples, no clients, and 1 is the next id. Takes
-    /// no memory.
+    /// The state of a server that was never used: no tuples, no clients, and 1 is the next id.
+    /// Takes no memory.
     pub fn new(alloc: Global) -> State<B>
         ensures { result ≡ empty_state }
     {
@@ -81,8 +81,8 @@ impl<B: Bag> State<B> {
         Ok(())
     }
 
-    /// The client takes the tuple of this id by its message `n`, and here it is, while the book keeps a
-    /// copy; none where it is not there, and then the state is as before.
+    /// The client takes the tuple of this id by its message `n`, and here it is, while the book
+    /// keeps a copy; none where it is not there, and then the state is as before.
     ///
     /// # Errors
     ///
@@ -111,7 +111,8 @@ impl<B: Bag> State<B> {
         }
     }
 
-    /// The client wanted a tuple by its message `n` and does not get it: the book keeps that it is gone.
+    /// The client wanted a tuple by its message `n` and does not get it: the book keeps that it is
+    /// gone.
     ///
     /// # Errors
     ///
@@ -138,14 +139,14 @@ impl<B: Bag> State<B> {
         self.book.keep(client, n, KeptReply::Left)
     }
 
-    /// Does the deed, where it is allowed in this state, and says whether it is. Where it is not, the
-    /// state is as before. So a list of deeds is done again by one call for each. A tuple that is put is
-    /// the deed's own.
+    /// Does the deed, where it is allowed in this state, and says whether it is. Where it is not,
+    /// the state is as before. So a list of deeds is done again by one call for each. A tuple that
+    /// is put is the deed's own.
     ///
     /// # Errors
     ///
-    /// `AllocError` where memory runs out, and then the state is as before. It comes only for a deed
-    /// that is allowed.
+    /// `AllocError` where memory runs out, and then the state is as before. It comes only for a
+    /// deed that is allowed.
     #[tactic(auto, using(crate::proofs::DoneLaws::one_state))]
     pub fn redo(&mut self, alloc: Global, deed: Deed) -> Result<bool, AllocError>
         requires { IsState self.old }
@@ -211,7 +212,8 @@ impl<B: Bag> State<B> {
     }
 }
 
-// Puts the tuple into the bag under a new id, and the reply to it into the book; or changes nothing.
+// Puts the tuple into the bag under a new id, and the reply to it into the book; or changes
+// nothing.
 fn keep_tuple<B: Bag>(
     bag: &mut B,
     book: &mut Book,
@@ -222,7 +224,8 @@ fn keep_tuple<B: Bag>(
 ) -> Result<(), AllocError>
     requires { maps.get (B.contents bag.old) id ≡ None }
     ensures bag { OnOk result (B.contents bag.new ≡ maps.insert (B.contents bag.old) id tuple) }
-    ensures book { OnOk result (book.new ≡ maps.insert book.old client (n, kept_replies.Stored id)) }
+    ensures book { OnOk result (book.new
+        ≡ maps.insert book.old client (n, kept_replies.Stored id)) }
     ensures bag_err { OnErr result (B.contents bag.new ≡ B.contents bag.old) }
     ensures book_err { OnErr result (book.new ≡ book.old) }
 {

@@ -1,4 +1,5 @@
--- What a server answers to one message: the deed, if it does one, what it sends, and what it holds and lets wait.
+-- What a server answers to one message: the deed, if it does one, what it sends, and what it holds
+-- and lets wait.
 use Rattle.std.specs.Prelude.{◌≡◌, ℕ, Bool, ◌==◌, true, false, nat_lt, not, ◌&&◌, if◌then◌else◌}
 use Rattle.std.specs.Prelude.{List, [], ◌∷◌, Option, Some, None, option_to_list}
 use Rattle.std.specs.FinMap as map
@@ -30,7 +31,8 @@ use Rattle.linda_store_step.specs.Soft.{Soft}
 use Rattle.linda_store_step.specs.Dispatch.{Sends, dispatch, on_close}
 use Rattle.linda_store_step.specs.Asking.{AnswersAsk, AnswersCancel, only_sent}
 
--- A deed or none; the replies with the clients that they go to, in order; and the holds and waits after it.
+-- A deed or none; the replies with the clients that they go to, in order; and the holds and waits
+-- after it.
 pub record Answer : Type 0 where
   pub deed : Option Deed
   pub sends : List (ℕ × Reply)
@@ -62,7 +64,12 @@ has_left st c = left_in (map.get st.book c)
 -- what a verdict on the client's message hangs on
 abbrev pub standing_of : State → ℕ → Standing
 standing_of st c =
-    record { last = last_number st c; left = has_left st c; clients = map.len st.book; next = st.next }
+    record {
+      last = last_number st c;
+      left = has_left st c;
+      clients = map.len st.book;
+      next = st.next;
+    }
 
 -- whether the client is new and no more clients are kept
 abbrev pub is_one_too_many : State → ℕ → Bool
@@ -104,8 +111,8 @@ accept_without_deed st c n = without_deed st c (to_take n)
 abbrev pub leave_without_deed : State → ℕ → ℕ → Option Reply
 leave_without_deed st c n = without_deed st c (to_leave n)
 
--- The answer to an Out, given the reply where it makes no deed. Where it does, the tuple is put under the next id,
--- and the client's reply comes before those to others.
+-- The answer to an Out, given the reply where it makes no deed. Where it does, the tuple is put
+-- under the next id, and the client's reply comes before those to others.
 abbrev pub on_out : State → ℕ → ℕ → Tuple → Option Reply → Soft → Answer
 on_out st c n tuple (Some reply) soft = only_reply c reply soft
 on_out st c n tuple None soft =
@@ -123,10 +130,11 @@ is_for request (Some other) = same_request other request
 
 -- the tuple under this id, where it is held for this request
 abbrev pub held_tuple : State → Request → ℕ → Soft → Option Tuple
-held_tuple st request id soft = if is_for request (map.get soft.holds id) then map.get st.bag id else None
+held_tuple st request id soft =
+    if is_for request (map.get soft.holds id) then map.get st.bag id else None
 
--- An accepted offer, given its tuple where it is held for the client: the tuple is taken and its hold is gone; or
--- the offer is gone, and nothing else changes.
+-- An accepted offer, given its tuple where it is held for the client: the tuple is taken and its
+-- hold is gone; or the offer is gone, and nothing else changes.
 abbrev pub take_or_pass : ℕ → ℕ → ℕ → Option Tuple → Soft → Answer
 take_or_pass c n id (Some row) soft =
     record {
@@ -140,21 +148,28 @@ take_or_pass c n id None soft =
 -- the answer to an Accept, given the reply where it makes no deed
 abbrev pub on_accept : State → ℕ → ℕ → ℕ → ℕ → Option Reply → Soft → Answer
 on_accept st c n ticket id (Some reply) soft = only_reply c reply soft
-on_accept st c n ticket id None soft = take_or_pass c n id (held_tuple st (request_of c ticket) id soft) soft
+on_accept st c n ticket id None soft =
+    take_or_pass c n id (held_tuple st (request_of c ticket) id soft) soft
 
--- The answer to a Leave, given the reply where it makes no deed. Where it does, the client's reply comes first, and
--- then all that it asked is given up, as where its connection ends.
+-- The answer to a Leave, given the reply where it makes no deed. Where it does, the client's reply
+-- comes first, and then all that it asked is given up, as where its connection ends.
 abbrev pub on_leave : State → ℕ → ℕ → Option Reply → Soft → Answer
 on_leave st c n (Some reply) soft = only_reply c reply soft
 on_leave st c n None soft =
     let told : Sends = on_close st.bag c soft in
-    record { deed = Some (deeds.Leave c n); sends = (c, replies.Left n) ∷ told.sends; soft = told.soft }
+    record {
+      deed = Some (deeds.Leave c n);
+      sends = (c, replies.Left n) ∷ told.sends;
+      soft = told.soft;
+    }
 
--- What is told for an Ask, given whether the client left: it is refused, before all else that an Ask may come to.
+-- What is told for an Ask, given whether the client left: it is refused, before all else that an
+-- Ask may come to.
 abbrev pub SaysAsk : Bool → State → ℕ → ℕ → Bool → Template → Soft → Sends → Type 0
 SaysAsk true st c ticket remove template soft told =
     told ≡ only_sent ((c, refused (refusals.Left (last_number st c))) ∷ []) soft
-SaysAsk false st c ticket remove template soft told = AnswersAsk st.bag (request_of c ticket) remove template soft told
+SaysAsk false st c ticket remove template soft told =
+    AnswersAsk st.bag (request_of c ticket) remove template soft told
 
 -- an answer without a deed that sends what this says
 abbrev pub Tells : (Sends → Type 0) → Answer → Type 0
@@ -172,9 +187,11 @@ IsAnswer st soft c (messages.Ask ticket remove template) answered =
     Tells (SaysAsk (has_left st c) st c ticket remove template soft) answered
 IsAnswer st soft c (messages.Cancel ticket) answered =
     Tells (AnswersCancel st.bag (request_of c ticket) soft) answered
-IsAnswer st soft c (messages.Leave n) answered = answered ≡ on_leave st c n (leave_without_deed st c n) soft
+IsAnswer st soft c (messages.Leave n) answered =
+    answered ≡ on_leave st c n (leave_without_deed st c n) soft
 
 -- One step of a server: this is the answer, and the new state is the old one after its deed.
-pub record IsStep (st : State) (soft : Soft) (c : ℕ) (m : Message) (answered : Answer) (new : State) : Type 0 where
+pub record IsStep (st : State) (soft : Soft) (c : ℕ) (m : Message) (answered : Answer) (new : State)
+    : Type 0 where
   pub answer : IsAnswer st soft c m answered
   pub state_is : IsAfter st (option_to_list answered.deed) new

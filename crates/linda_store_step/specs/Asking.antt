@@ -18,12 +18,14 @@ use Rattle.linda_store_step.specs.Dispatch.{Sends, no_sends, on_cancel}
 -- the tuple under this id, if the bag has it, offered for a request
 abbrev pub offer_of : Bagged → ℕ → Request → List (ℕ × Reply)
 offer_of bag id request =
-    map (λ row. (request.client, replies.Offer request.ticket id row)) (option_to_list (maps.get bag id))
+    map (λ row. (request.client, replies.Offer request.ticket id row))
+    (option_to_list (maps.get bag id))
 
 -- the tuple under this id, if the bag has it, as the answer to a read
 abbrev pub read_of : Bagged → ℕ → Request → List (ℕ × Reply)
 read_of bag id request =
-    map (λ row. (request.client, replies.Read request.ticket id row)) (option_to_list (maps.get bag id))
+    map (λ row. (request.client, replies.Read request.ticket id row))
+    (option_to_list (maps.get bag id))
 
 -- these replies are sent, and holds and waits stay
 abbrev pub only_sent : List (ℕ × Reply) → Soft → Sends
@@ -33,8 +35,8 @@ only_sent sends soft = record { sends = sends; soft = soft }
 abbrev pub wait_of : Request → Bool → Template → Wait
 wait_of request remove shape = (request, record { remove = remove; template = shape })
 
--- A new request, given the least tuple that it can have: an input is offered it and holds it, a read is answered
--- with it; with no such tuple the request waits, last in order.
+-- A new request, given the least tuple that it can have: an input is offered it and holds it, a
+-- read is answered with it; with no such tuple the request waits, last in order.
 abbrev pub serve : Bagged → Request → Bool → Template → Option ℕ → Soft → Sends
 serve bag request remove shape (Some id) soft =
     if remove
@@ -44,11 +46,14 @@ serve bag request remove shape (Some id) soft =
     }
     else only_sent (read_of bag id request) soft
 serve bag request remove shape None soft =
-    no_sends (record { holds = soft.holds; waits = soft.waits ++ wait_of request remove shape ∷ [] })
+    no_sends (record {
+      holds = soft.holds;
+      waits = soft.waits ++ wait_of request remove shape ∷ [];
+    })
 
--- An Ask, given the tuple that its request holds and the least one that it can have: the first case that holds. A
--- request that holds is offered its tuple again; one that waits is sent nothing; a client with as many open asks as
--- it may have is refused; and what is left is a new request.
+-- An Ask, given the tuple that its request holds and the least one that it can have: the first case
+-- that holds. A request that holds is offered its tuple again; one that waits is sent nothing; a
+-- client with as many open asks as it may have is refused; and what is left is a new request.
 abbrev pub on_ask : Bagged → Request → Bool → Template → Option ℕ → Option ℕ → Soft → Sends
 on_ask bag request remove shape (Some id) least soft = only_sent (offer_of bag id request) soft
 on_ask bag request remove shape None least soft =
@@ -58,7 +63,8 @@ on_ask bag request remove shape None least soft =
     else serve bag request remove shape least soft)
 
 -- What is told for an Ask.
-pub record AnswersAsk (bag : Bagged) (request : Request) (remove : Bool) (shape : Template) (soft : Soft)
+pub record AnswersAsk (bag : Bagged) (request : Request) (remove : Bool) (shape : Template)
+    (soft : Soft)
     (told : Sends) : Type 0 where
   pub held : Option ℕ
   pub is_held : IsHeldAt soft.holds request held
@@ -67,7 +73,8 @@ pub record AnswersAsk (bag : Bagged) (request : Request) (remove : Bool) (shape 
   pub told_is : told ≡ on_ask bag request remove shape held least soft
 
 -- What is told where a request is given up.
-pub record AnswersCancel (bag : Bagged) (request : Request) (soft : Soft) (told : Sends) : Type 0 where
+pub record AnswersCancel (bag : Bagged) (request : Request) (soft : Soft) (told : Sends)
+    : Type 0 where
   pub held : Option ℕ
   pub is_held : IsHeldAt soft.holds request held
   pub told_is : told ≡ on_cancel bag request held soft

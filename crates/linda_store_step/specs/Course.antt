@@ -1,4 +1,5 @@
--- What comes to a server that may be stopped: its deeds and sends over all stops, and where that leaves it.
+-- What comes to a server that may be stopped: its deeds and sends over all stops, and where that
+-- leaves it.
 use Rattle.std.specs.Prelude.{◌≡◌, List, [], ◌∷◌, ◌++◌}
 use Rattle.linda_store_state.specs.State.{State}
 use Rattle.linda_store_state.specs.After.{IsAfter}
@@ -14,8 +15,8 @@ pub data Turn : Type 0 where
 abbrev pub IsFront : {A : Type 0} → List A → List A → Type 0
 IsFront {A} front all = (rest : List A) × (front ++ rest ≡ all)
 
--- The server is stopped while these are in hand, and comes back: some first deeds of theirs are done, nothing is
--- sent, and nothing is held and nobody waits.
+-- The server is stopped while these are in hand, and comes back: some first deeds of theirs are
+-- done, nothing is sent, and nothing is held and nobody waits.
 pub record IsStop (st : State) (soft : Soft) (xs : List Coming) (all : History) : Type 0 where
   pub whole : History
   pub happens : Happens st soft xs whole
@@ -43,4 +44,5 @@ abbrev pub Endures : State → Soft → List Turn → History → Type 0
 Endures st soft [] all = all ≡ nothing_yet st soft
 Endures st soft (x ∷ xs) all =
     (first : History) × ((later : History)
-    × (Leads st soft x first × (Endures first.state first.soft xs later × (all ≡ joined first later))))
+    × (Leads st soft x first
+    × (Endures first.state first.soft xs later × (all ≡ joined first later))))

@@ -1,4 +1,5 @@
--- Replies that were sent, and what is known of them while more is done: they are kept until the client goes on.
+-- Replies that were sent, and what is known of them while more is done: they are kept until the
+-- client goes on.
 use Rattle.std.specs.Prelude.{◌≡◌, ℕ, ◌<◌, ◌⊎◌, true}
 use Rattle.linda_wire.specs.declared.reply.Reply.{Reply}
 use Rattle.linda_book.specs.Entries.{number_in}
@@ -10,8 +11,8 @@ use Rattle.linda_store_step.specs.Replies.{kept_in, reports_deed, KeepsReply}
 abbrev pub number_in_reply : Reply → ℕ
 number_in_reply r = number_in (kept_in r)
 
--- What is sent to a client is covered: where it reports a deed, the client's last number is a later one, or the book
--- has that very reply for it.
+-- What is sent to a client is covered: where it reports a deed, the client's last number is a later
+-- one, or the book has that very reply for it.
 abbrev pub IsCovered : State → ℕ × Reply → Type 0
 IsCovered st send =
     reports_deed send.1 ≡ true

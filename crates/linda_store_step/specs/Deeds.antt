@@ -17,11 +17,12 @@ last_in ds c = number_in (book_after empty_state ds c)
 pub record NumbersEachOnce (ds : List Deed) : Type 0 where
   pub low : (d : Deed) → Contains ds d → number_of d ≤ last_in ds (client_of d)
   pub one :
-      (d e : Deed) → Contains ds d → Contains ds e → client_of d ≡ client_of e → number_of d ≡ number_of e
+      (d e : Deed) → Contains ds d → Contains ds e → client_of d ≡ client_of e
+      → number_of d ≡ number_of e
       → d ≡ e
 
--- The tuple under this id went to the client: it was put, the client took it, no other deed did, and whatever is done
--- later, it is in no bag any more.
+-- The tuple under this id went to the client: it was put, the client took it, no other deed did,
+-- and whatever is done later, it is in no bag any more.
 pub record HandsOver (ds : List Deed) (c id : ℕ) (tuple : Tuple) : Type 0 where
   pub number : ℕ
   pub taken : Contains ds (Take c number id)

@@ -1,10 +1,12 @@
--- What happens to a tuple that is new or free again, to one whose request is given up, and to all that a client
--- asked.
-use Rattle.std.specs.Prelude.{ℕ, List, [], ◌∷◌, ◌++◌, map, Option, Some, None, option_to_list, if◌then◌else◌}
+-- What happens to a tuple that is new or free again, to one whose request is given up, and to all
+-- that a client asked.
+use Rattle.std.specs.Prelude.{ℕ, List, [], ◌∷◌, ◌++◌, map, Option, Some, None, option_to_list}
+use Rattle.std.specs.Prelude.{if◌then◌else◌}
 use Rattle.std.specs.FinMap as maps
 use Rattle.linda_tuple.specs.Tuple.{Tuple}
 use Rattle.linda_hold.specs.declared.request.Request.{Request}
-use Rattle.linda_hold.specs.Waits.{Wait, is_waiting, readers, without_readers, longest, without, without_client}
+use Rattle.linda_hold.specs.Waits.{Wait, is_waiting, readers, without_readers, longest, without}
+use Rattle.linda_hold.specs.Waits.{without_client}
 use Rattle.linda_hold.specs.Holds.{held_in}
 use Rattle.linda_wire.specs.declared.reply.Reply.{Reply}
 use Rattle.linda_wire.specs.declared.reply.Reply.TheVariants as replies
@@ -30,17 +32,20 @@ offer_to id row w = (w.0.client, replies.Offer w.0.ticket id row)
 -- the tuple is held for this wait, which ends it, or for nobody
 abbrev pub held_for : ℕ → Option Wait → Soft → Soft
 held_for id None soft = soft
-held_for id (Some w) soft = record { holds = maps.insert soft.holds id w.0; waits = without w.0 soft.waits }
+held_for id (Some w) soft =
+    record { holds = maps.insert soft.holds id w.0; waits = without w.0 soft.waits }
 
--- A tuple is new or free: each waiting read that it matches is answered, in order of arrival, and waits no
--- longer; then it is offered to the longest waiting input that it matches, and held for it.
+-- A tuple is new or free: each waiting read that it matches is answered, in order of arrival, and
+-- waits no longer; then it is offered to the longest waiting input that it matches, and held for
+-- it.
 abbrev pub dispatch : ℕ → Tuple → Soft → Sends
 dispatch id row soft = record {
   sends =
       map (read_to id row) (readers row soft.waits)
       ++ map (offer_to id row) (option_to_list (longest row soft.waits));
   soft =
-      held_for id (longest row soft.waits) (record { holds = soft.holds; waits = without_readers row soft.waits });
+      held_for id (longest row soft.waits)
+      (record { holds = soft.holds; waits = without_readers row soft.waits });
 }
 
 -- the tuple under this id, if the bag has it, is held no longer, and is free
@@ -58,7 +63,8 @@ abbrev pub release_if : Bagged → Option ℕ → Soft → Sends
 release_if bag None soft = no_sends soft
 release_if bag (Some id) soft = release bag id soft
 
--- A request is given up, given what is held for it: it waits no longer, or what was held for it is released.
+-- A request is given up, given what is held for it: it waits no longer, or what was held for it is
+-- released.
 abbrev pub on_cancel : Bagged → Request → Option ℕ → Soft → Sends
 on_cancel bag request held soft =
     if is_waiting request soft.waits
@@ -67,7 +73,8 @@ on_cancel bag request held soft =
 
 -- one after the other
 abbrev pub sends_then : Sends → (Soft → Sends) → Sends
-sends_then first next = record { sends = first.sends ++ (next first.soft).sends; soft = (next first.soft).soft }
+sends_then first next =
+    record { sends = first.sends ++ (next first.soft).sends; soft = (next first.soft).soft }
 
 -- Holds are released one after the other.
 abbrev pub release_all : Bagged → List ℕ → Soft → Sends

@@ -1,4 +1,5 @@
--- What comes to a server, one thing after another: all deeds and sends, in order, and where that leaves it.
+-- What comes to a server, one thing after another: all deeds and sends, in order, and where that
+-- leaves it.
 use Rattle.std.specs.Prelude.{◌≡◌, ℕ, List, [], ◌∷◌, ◌++◌, map, option_to_list}
 use Rattle.linda_wire.specs.declared.message.Message.{Message}
 use Rattle.linda_wire.specs.declared.reply.Reply.{Reply}
@@ -16,7 +17,8 @@ pub data Coming : Type 0 where
 -- What that leads to: a message is one step; a client that leaves is closed, which does no deed.
 abbrev pub Comes : State → Soft → Coming → Answer → State → Type 0
 Comes st soft (says c m) answered new = IsStep st soft c m answered new
-Comes st soft (hangs_up c) answered new = (answered ≡ only_sends (on_close st.bag c soft)) × (new ≡ st)
+Comes st soft (hangs_up c) answered new =
+    (answered ≡ only_sends (on_close st.bag c soft)) × (new ≡ st)
 
 -- All that was done and sent, and the server then.
 pub record History : Type 0 where
@@ -47,7 +49,8 @@ abbrev pub Happens : State → Soft → List Coming → History → Type 0
 Happens st soft [] all = all ≡ nothing_yet st soft
 Happens st soft (x ∷ xs) all =
     (first : Answer) × ((mid : State) × ((later : History)
-    × (Comes st soft x first mid × (Happens mid first.soft xs later × (all ≡ first_then first later)))))
+    × (Comes st soft x first mid
+    × (Happens mid first.soft xs later × (all ≡ first_then first later)))))
 
 -- messages with their clients, as they come
 abbrev pub comings : List (ℕ × Message) → List Coming
@@ -58,7 +61,8 @@ abbrev pub Answers : State → Soft → List (ℕ × Message) → History → Ty
 Answers st soft ms all = Happens st soft (comings ms) all
 
 -- One thing more came to a server, after these deeds and sends, and all is this then.
-pub record IsOneMore (st : State) (soft : Soft) (x : Coming) (deeds : List Deed) (sends : List (ℕ × Reply))
+pub record IsOneMore (st : State) (soft : Soft) (x : Coming) (deeds : List Deed)
+    (sends : List (ℕ × Reply))
     (all : History) : Type 0 where
   pub answer : Answer
   pub comes : Comes st soft x answer all.state

@@ -1,6 +1,7 @@
--- What is done about a numbered message. That hangs on numbers alone, and on whether its client left: its own number,
--- the last one of its client, how many clients are kept, and the next id.
-use Rattle.std.specs.Prelude.{ℕ, Bool, true, false, ◌==◌, nat_le, ◌&&◌, ◌||◌, if◌then◌else◌, Option, Some, None}
+-- What is done about a numbered message. That hangs on numbers alone, and on whether its client
+-- left: its own number, the last one of its client, how many clients are kept, and the next id.
+use Rattle.std.specs.Prelude.{ℕ, Bool, true, false, ◌==◌, nat_le, ◌&&◌, ◌||◌, if◌then◌else◌, Option}
+use Rattle.std.specs.Prelude.{Some, None}
 use Rattle.std.specs.Option.{option_map}
 use Rattle.linda_wire.specs.declared.limits.TheConstants.{MAX_CLIENTS, NUMBER_LIMIT}
 use Rattle.linda_wire.specs.declared.message.Message.{Message}

@@ -1,4 +1,5 @@
--- What a request looks up: the least id of a tuple that it can have. Those that wait have found none.
+-- What a request looks up: the least id of a tuple that it can have. Those that wait have found
+-- none.
 use Rattle.std.specs.Prelude.{ℕ, ◌<◌, Bool, ◌&&◌, All, Option, Some, None, is_some}
 use Rattle.std.specs.FinMap as map
 use Rattle.linda_tuple.specs.Template.{Template}
@@ -7,7 +8,8 @@ use Rattle.linda_hold.specs.Waits.{Wait}
 use Rattle.linda_hold.specs.Holds.{HeldFor}
 use Rattle.linda_store_step.specs.Soft.{Soft, Bagged}
 
--- The least id of a tuple that the template matches and that is not passed over; none where there is no such one.
+-- The least id of a tuple that the template matches and that is not passed over; none where there
+-- is no such one.
 abbrev pub IsLeast : Bagged → Template → (ℕ → Bool) → Option ℕ → Type 0
 IsLeast bag shape passed (Some id) =
     IsFreeMatch bag shape passed id × ((k : ℕ) → k < id → IsFreeMatch bag shape passed k → ⊥)

@@ -37,10 +37,12 @@ pub record MakesOffer (bag : Bagged) (soft : Soft) (x : Coming) (sends : List (�
 
 -- an offer that is made again: the tuple was held for this request before
 abbrev pub OffersAgain : Bagged → Soft → ℕ → Request → Tuple → Type 0
-OffersAgain bag old id request tuple = (map.get old.holds id ≡ Some request) × (map.get bag id ≡ Some tuple)
+OffersAgain bag old id request tuple =
+    (map.get old.holds id ≡ Some request) × (map.get bag id ≡ Some tuple)
 
--- From the old holds and waits to the new ones by what is sent: what is held was held so, or is offered now; what waits
--- waited, or asks now; and each offer is one that is made again, or has a taker.
+-- From the old holds and waits to the new ones by what is sent: what is held was held so, or is
+-- offered now; what waits waited, or asks now; and each offer is one that is made again, or has a
+-- taker.
 pub record OffersWhatIsSought (bag : Bagged) (x : Coming) (old : Soft) (sends : List (ℕ × Reply))
     (new : Soft) : Type 0 where
   pub holds :

@@ -29,15 +29,16 @@ pub record IsAnsweredAsKept (c : ℕ) (sends : List (ℕ × Reply)) (st : State)
   pub kept : map.get st.book c ≡ Some entry
   pub first : sends ≡ (c, reply_of_kept entry.0 entry.1) ∷ others
 
--- A history from a state: the deeds are a proper list, the server is in the state after them and in order, and no
--- tuple was taken by two of them.
+-- A history from a state: the deeds are a proper list, the server is in the state after them and in
+-- order, and no tuple was taken by two of them.
 pub record IsSafe (st : State) (all : History) : Type 0 where
   pub proper : IsProper st all.deeds
   pub after : IsAfter st all.deeds all.state
   pub orderly : IsOrderly all.state all.soft
   pub once : IsTakenOnce all.deeds
 
--- A message that is answered again: it gets the reply that it got first, and nothing else is done or told.
+-- A message that is answered again: it gets the reply that it got first, and nothing else is done
+-- or told.
 pub record IsAnsweredAgain (c : ℕ) (first again : Answer) (soft : Soft) : Type 0 where
   pub reply : Reply
   pub others : List (ℕ × Reply)
@@ -53,8 +54,8 @@ pub record IsClosed (client : ℕ) (told : Sends) : Type 0 where
   pub requests : (ticket : ℕ) → IsOver (request_of client ticket) told.soft
   pub silent : All (λ (send : ℕ × Reply). send.0 ≢ client) told.sends
 
--- What a client that left by this number is told: to its requests the reply to its Leave, that the number is an older
--- one, or that it left; to a Hello what any client with this last number gets.
+-- What a client that left by this number is told: to its requests the reply to its Leave, that the
+-- number is an older one, or that it left; to a Hello what any client with this last number gets.
 pub data LastWord (last : ℕ) : Reply → Type 0 where
   left_again : LastWord last (replies.Left last)
   is_older : LastWord last (refused (refusals.Old last))
@@ -63,8 +64,8 @@ pub data LastWord (last : ℕ) : Reply → Type 0 where
   is_known : LastWord last (refused (refusals.Known last))
   is_welcome : LastWord last (replies.Welcome last)
 
--- A client that had left in the first state, after whatever came: what is kept for it is the same, no deed is its own,
--- it holds nothing and does not wait, and it was told nothing but last words.
+-- A client that had left in the first state, after whatever came: what is kept for it is the same,
+-- no deed is its own, it holds nothing and does not wait, and it was told nothing but last words.
 pub record IsAway (st : State) (c : ℕ) (all : History) : Type 0 where
   pub kept : map.get all.state.book c ≡ map.get st.book c
   pub deeds : All (λ (d : Deed). client_of d ≢ c) all.deeds

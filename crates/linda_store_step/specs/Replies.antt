@@ -1,4 +1,5 @@
--- Replies that report a deed: Stored, Taken, Gone and Left; where they are kept, and which deed they report.
+-- Replies that report a deed: Stored, Taken, Gone and Left; where they are kept, and which deed
+-- they report.
 use Rattle.std.specs.Prelude.{◌≡◌, ℕ, Bool, true, List, ◌∷◌, ◌++◌, All, Option, Some, None, is_some}
 use Rattle.std.specs.FinMap as map
 use Rattle.linda_wire.specs.declared.reply.Reply.{Reply}
@@ -31,7 +32,8 @@ pub record KeepsReply (st : State) (c : ℕ) (r : Reply) : Type 0 where
 
 -- It has each of these that reports a deed.
 abbrev pub KeepsReports : State → List (ℕ × Reply) → Type 0
-KeepsReports st sends = All (λ (send : ℕ × Reply). reports_deed send.1 ≡ true → KeepsReply st send.0 send.1) sends
+KeepsReports st sends =
+    All (λ (send : ℕ × Reply). reports_deed send.1 ≡ true → KeepsReply st send.0 send.1) sends
 
 -- The reply reports one of these deeds, which is the client's, as the book had it when it was done.
 pub record ReportsOne (ds : List Deed) (c : ℕ) (r : Reply) : Type 0 where

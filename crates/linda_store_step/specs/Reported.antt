@@ -19,19 +19,21 @@ abbrev pub LetsGo : ℕ → Message → Soft → Type 0
 LetsGo c (messages.Accept n ticket id) soft = map.get soft.holds id ≢ Some (request_of c ticket)
 LetsGo c _ soft = Unit {0}
 
--- The deed does what the client's message asks: it is the client's, it bears the message's number, and an offer that
--- was accepted is let go.
+-- The deed does what the client's message asks: it is the client's, it bears the message's number,
+-- and an offer that was accepted is let go.
 pub record DoesAsAsked (c : ℕ) (m : Message) (soft : Soft) (d : Deed) : Type 0 where
   pub client : client_of d ≡ c
   pub number : number_of_message m ≡ Some (number_of d)
   pub let_go : LetsGo c m soft
 
--- The deed is one that the client's message asks for: the client's, by the message's number; an Out puts its tuple, an
--- Accept takes the tuple of its id or passes it, and a Leave leaves.
+-- The deed is one that the client's message asks for: the client's, by the message's number; an Out
+-- puts its tuple, an Accept takes the tuple of its id or passes it, and a Leave leaves.
 abbrev pub IsDeedOf : ℕ → Message → Deed → Type 0
 IsDeedOf c (messages.Out n tuple) (deeds.Out client m put) = (client ≡ c) × (m ≡ n) × (put ≡ tuple)
-IsDeedOf c (messages.Accept n ticket id) (deeds.Take client m taken) = (client ≡ c) × (m ≡ n) × (taken ≡ id)
-IsDeedOf c (messages.Accept n ticket id) (deeds.Pass client m passed) = (client ≡ c) × (m ≡ n) × (passed ≡ id)
+IsDeedOf c (messages.Accept n ticket id) (deeds.Take client m taken) =
+    (client ≡ c) × (m ≡ n) × (taken ≡ id)
+IsDeedOf c (messages.Accept n ticket id) (deeds.Pass client m passed) =
+    (client ≡ c) × (m ≡ n) × (passed ≡ id)
 IsDeedOf c (messages.Leave n) (deeds.Leave client m) = (client ≡ c) × (m ≡ n)
 IsDeedOf c _ _ = ⊥
 
@@ -41,9 +43,12 @@ HoldsWhatIsThere st soft = (id : ℕ) → IsSome (map.get soft.holds id) → IsS
 
 -- the deed that the first reply to a client's message reports
 abbrev pub deed_behind : ℕ → Message → List (ℕ × Reply) → Option Deed
-deed_behind c (messages.Out n tuple) ((to, replies.Stored m id) ∷ sends) = Some (deeds.Out c n tuple)
-deed_behind c (messages.Accept n ticket id) ((to, replies.Taken m other row) ∷ sends) = Some (deeds.Take c n id)
-deed_behind c (messages.Accept n ticket id) ((to, replies.Gone m) ∷ sends) = Some (deeds.Pass c n id)
+deed_behind c (messages.Out n tuple) ((to, replies.Stored m id) ∷ sends) =
+    Some (deeds.Out c n tuple)
+deed_behind c (messages.Accept n ticket id) ((to, replies.Taken m other row) ∷ sends) =
+    Some (deeds.Take c n id)
+deed_behind c (messages.Accept n ticket id) ((to, replies.Gone m) ∷ sends) =
+    Some (deeds.Pass c n id)
 deed_behind c (messages.Leave n) ((to, replies.Left m) ∷ sends) = Some (deeds.Leave c n)
 deed_behind c _ _ = None
 
@@ -52,7 +57,8 @@ abbrev pub comes_next : Option ℕ → ℕ → Bool
 comes_next None last = false
 comes_next (Some n) last = n == last + 1
 
--- The deed that was done for a client's message, known from the client's last number before it and from what was sent.
+-- The deed that was done for a client's message, known from the client's last number before it and
+-- from what was sent.
 abbrev pub reported_deed : ℕ → Message → ℕ → List (ℕ × Reply) → Option Deed
 reported_deed c m last sends =
     if comes_next (number_of_message m) last then deed_behind c m sends else None

@@ -1,5 +1,5 @@
--- Which messages do a deed, whether it has a spelling in a form, and how many bytes: that hangs on numbers, on tuples
--- and on who left alone, so it is known before anything is done.
+-- Which messages do a deed, whether it has a spelling in a form, and how many bytes: that hangs on
+-- numbers, on tuples and on who left alone, so it is known before anything is done.
 use Rattle.std.specs.Prelude.{ℕ, Bool, ◌+◌, ◌==◌, if◌then◌else◌}
 use Rattle.std.specs.Prelude.{List, [], ◌∷◌, length, Option, Some, None}
 use Rattle.std.specs.FinMap as map
@@ -80,10 +80,11 @@ bytes_of form m (Some d) = deed_bytes form m
 abbrev pub bytes_from : Form → Numbers → List (ℕ × Message) → ℕ
 bytes_from form ns [] = 0
 bytes_from form ns (m ∷ ms) =
-    bytes_of form m.1 (done_of ns m.0 m.1) + bytes_from form (numbers_after ns m.0 (done_of ns m.0 m.1)) ms
+    bytes_of form m.1 (done_of ns m.0 m.1)
+    + bytes_from form (numbers_after ns m.0 (done_of ns m.0 m.1)) ms
 
--- The tuple that a message brings, where it brings one, has a spelling in the form, and a Leave where the form has
--- them.
+-- The tuple that a message brings, where it brings one, has a spelling in the form, and a Leave
+-- where the form has them.
 abbrev pub Suits : Form → Message → Type 0
 Suits form (messages.Out n tuple) = FitsIn form tuple
 Suits form (messages.Leave n) = HasLeaves form
@@ -98,9 +99,11 @@ SuitsIfDone form m (Some d) = Suits form m
 abbrev pub AllSuit : Form → Numbers → List (ℕ × Message) → Type 0
 AllSuit form ns [] = Unit {0}
 AllSuit form ns (m ∷ ms) =
-    SuitsIfDone form m.1 (done_of ns m.0 m.1) × AllSuit form (numbers_after ns m.0 (done_of ns m.0 m.1)) ms
+    SuitsIfDone form m.1 (done_of ns m.0 m.1)
+    × AllSuit form (numbers_after ns m.0 (done_of ns m.0 m.1)) ms
 
--- what is last of a client after these, each a client with its number and whether it left; or else this one
+-- what is last of a client after these, each a client with its number and whether it left; or else
+-- this one
 abbrev pub last_behind : List (ℕ × Latest) → ℕ → Latest → Latest
 last_behind [] c last = last
 last_behind (e ∷ es) c last = last_behind es c (if e.0 == c then e.1 else last)

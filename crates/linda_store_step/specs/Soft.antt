@@ -1,4 +1,5 @@
--- What a server keeps in memory alone: which tuple is held for which request, and the requests that wait.
+-- What a server keeps in memory alone: which tuple is held for which request, and the requests that
+-- wait.
 use Rattle.std.specs.Prelude.{◌≡◌, ℕ, ◌+◌, ◌≤◌, List, [], length, Some, All, IfSome, IsSome}
 use Rattle.std.specs.Ordering.{nat_cmp}
 use Rattle.std.specs.FinMap as map
@@ -11,7 +12,8 @@ use Rattle.linda_hold.specs.Holds.{HeldFor, IsOneEach, held_in}
 abbrev pub Bagged : Type 0
 Bagged = map.FinMap nat_cmp Tuple
 
--- The tuples that are held, by id, each for a request; and the requests that wait, in order of arrival.
+-- The tuples that are held, by id, each for a request; and the requests that wait, in order of
+-- arrival.
 pub record Soft : Type 0 where
   pub holds : HeldFor
   pub waits : List Wait
@@ -22,7 +24,8 @@ no_asks = record { holds = map.empty; waits = [] }
 
 -- how many asks of a client are open: those that wait and those for which a tuple is held
 abbrev pub open_asks : ℕ → Soft → ℕ
-open_asks client soft = length (waits_of client soft.waits) + length (held_in client (map.entries soft.holds))
+open_asks client soft =
+    length (waits_of client soft.waits) + length (held_in client (map.entries soft.holds))
 
 -- P holds of the client of each request that waits or for which a tuple is held.
 pub record OfAsking (P : ℕ → Type 0) (soft : Soft) : Type 0 where
@@ -33,8 +36,8 @@ pub record OfAsking (P : ℕ → Type 0) (soft : Soft) : Type 0 where
 abbrev pub AreApart : Soft → Type 0
 AreApart soft = All (λ (w : Wait). (id : ℕ) → map.get soft.holds id ≡ Some w.0 → ⊥) soft.waits
 
--- The ranges that holds and waits keep beside a bag: no request stands twice in them, no client has more
--- open asks than the limit, and what is held is in the bag.
+-- The ranges that holds and waits keep beside a bag: no request stands twice in them, no client has
+-- more open asks than the limit, and what is held is in the bag.
 pub record IsSoft (bag : Bagged) (soft : Soft) : Type 0 where
   pub distinct : AreDistinct soft.waits
   pub one_each : IsOneEach soft.holds

@@ -12,16 +12,16 @@ use Rattle.linda_store_step.specs.Codes.{soft_code}
 abbrev pub IsHere : State → ℕ → Type 0
 IsHere st c = has_left st c ≡ false
 
--- What every store keeps: its state, its holds and its waits are in their ranges, nobody waits in vain, and no client
--- that left holds anything or waits.
+-- What every store keeps: its state, its holds and its waits are in their ranges, nobody waits in
+-- vain, and no client that left holds anything or waits.
 pub record IsOrderly (st : State) (soft : Soft) : Type 0 where
   pub state_is : IsState st
   pub soft_is : IsSoft st.bag soft
   pub rest : IsAtRest st.bag soft
   pub present : OfAsking (IsHere st) soft
 
--- The state of a server, what it holds and lets wait, and whether memory ran out in the store, after which it does
--- nothing more.
+-- The state of a server, what it holds and lets wait, and whether memory ran out in the store,
+-- after which it does nothing more.
 pub record Store : Type 0 where
   pub state : State
   pub soft : Soft
@@ -31,4 +31,5 @@ pub record Store : Type 0 where
 abbrev pub store_code : Coded Store
 store_code =
     code_by (State × (Soft × Bool)) (coded× state_code (coded× soft_code coded_bool))
-    (λ s. (s.state, (s.soft, s.is_spent))) (λ p. record { state = p.0; soft = p.1.0; is_spent = p.1.1 }) (λ _. refl)
+    (λ s. (s.state, (s.soft, s.is_spent)))
+    (λ p. record { state = p.0; soft = p.1.0; is_spent = p.1.1 }) (λ _. refl)

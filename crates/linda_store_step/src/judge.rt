@@ -1,4 +1,5 @@
-//! What is done about a numbered message: that hangs on numbers alone, and on whether its client left.
+//! What is done about a numbered message: that hangs on numbers alone, and on whether its client
+//! left.
 
 ghost use Rattle.std.specs.Prelude.{◌≡◌};
 ghost use Rattle.linda_store_step.specs.Answer.{standing_of};

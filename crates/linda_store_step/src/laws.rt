@@ -1,5 +1,5 @@
-//! What the definitions of states, deeds and steps come to, each stated in the contract of a function that does
-//! nothing.
+//! What the definitions of states, deeds and steps come to, each stated in the contract of a
+//! function that does nothing.
 
 ghost use Rattle.std.specs.Prelude.{◌≡◌, ℕ, ◌++◌, true, List, Option, Some, IsSome, option_to_list};
 ghost use Rattle.std.specs.FinMap as map;
@@ -16,11 +16,13 @@ ghost use Rattle.linda_store_step.specs.Answer.{Answer, IsAnswer, IsStep, has_le
 ghost use Rattle.linda_store_step.specs.History.{Coming, History, Happens, Answers};
 ghost use Rattle.linda_store_step.specs.Course.{Turn, Endures};
 ghost use Rattle.linda_store_step.specs.Store.{IsOrderly};
-ghost use Rattle.linda_store_step.specs.Promises.{IsAnsweredAsKept, IsAnsweredAgain, IsSafe, IsOver, IsClosed, IsAway};
+ghost use Rattle.linda_store_step.specs.Promises.{IsAnsweredAsKept, IsAnsweredAgain, IsSafe};
+ghost use Rattle.linda_store_step.specs.Promises.{IsOver, IsClosed, IsAway};
 
 /// The deeds of steps, one after another, are a proper list, and the state is the one after them.
 pub fn steps_do_proper_lists()
-    ensures { (st mid new : State) (soft : Soft) (ds : List Deed) (c : ℕ) (m : Message) (answered : Answer)
+    ensures { (st mid new : State) (soft : Soft) (ds : List Deed) (c : ℕ) (m : Message)
+        (answered : Answer)
         → IsState st → AreDone st ds mid → IsStep mid soft c m answered new
         → AreDone st (ds ++ option_to_list answered.deed) new }
 {}
@@ -38,8 +40,8 @@ pub fn one_answer()
         → IsOneEach soft.holds → IsAnswer st soft c m a → IsAnswer st soft c m b → a ≡ b }
 {}
 
-/// Whatever comes to a server in order has an outcome: a message an answer, and a list of messages and closings all
-/// that they lead to.
+/// Whatever comes to a server in order has an outcome: a message an answer, and a list of messages
+/// and closings all that they lead to.
 pub fn all_that_comes_has_an_outcome()
     ensures message { (st : State) (soft : Soft) (c : ℕ) (m : Message) → IsOrderly st soft
         → (answered : Answer) × ((new : State) × IsStep st soft c m answered new) }
@@ -53,16 +55,16 @@ pub fn steps_keep_order()
         → IsOrderly st soft → IsStep st soft c m answered new → IsOrderly new answered.soft }
 {}
 
-/// Whatever comes to a server, messages of whatever clients and ends of their connections, in whatever order
-/// and however often: the deeds are a proper list, so no tuple is taken twice, and the server is in order in
-/// the state after them.
+/// Whatever comes to a server, messages of whatever clients and ends of their connections, in
+/// whatever order and however often: the deeds are a proper list, so no tuple is taken twice, and
+/// the server is in order in the state after them.
 pub fn no_history_takes_a_tuple_twice()
     ensures { (st : State) (soft : Soft) (xs : List Coming) (all : History)
         → IsOrderly st soft → Happens st soft xs all → IsSafe st all }
 {}
 
-/// Several messages, one after another, have one outcome, and so has all else that comes: the deeds and sends,
-/// and the server then.
+/// Several messages, one after another, have one outcome, and so has all else that comes: the deeds
+/// and sends, and the server then.
 pub fn a_list_has_one_outcome()
     ensures messages { (st : State) (soft : Soft) (ms : List (ℕ × Message)) (a b : History)
         → IsOrderly st soft → Answers st soft ms a → Answers st soft ms b → a ≡ b }
@@ -70,15 +72,15 @@ pub fn a_list_has_one_outcome()
         → IsOrderly st soft → Happens st soft xs a → Happens st soft xs b → a ≡ b }
 {}
 
-/// No tuple is taken twice where the server is stopped, too, in whatever it does and however often: it comes back
-/// with some first deeds of what was in hand.
+/// No tuple is taken twice where the server is stopped, too, in whatever it does and however often:
+/// it comes back with some first deeds of what was in hand.
 pub fn no_history_with_stops_takes_a_tuple_twice()
     ensures { (st : State) (soft : Soft) (xs : List Turn) (all : History)
         → IsOrderly st soft → Endures st soft xs all → IsSafe st all }
 {}
 
-/// A message that did a deed, and comes again while the client's entry is as that left it, gets the same reply
-/// again, whatever else has happened; and nothing else is done or told.
+/// A message that did a deed, and comes again while the client's entry is as that left it, gets the
+/// same reply again, whatever else has happened; and nothing else is done or told.
 pub fn a_repeated_message_gets_the_same_reply()
     ensures { (st new later : State) (soft asks : Soft) (c : ℕ) (m : Message) (first again : Answer)
         → IsState st → IsStep st soft c m first new → IsSome first.deed
@@ -89,7 +91,8 @@ pub fn a_repeated_message_gets_the_same_reply()
 /// A request that is given up neither waits nor holds.
 pub fn a_cancelled_request_is_over()
     ensures { (bag : Bagged) (request : Request) (held : Option ℕ) (soft : Soft)
-        → IsSoft bag soft → IsHeldAt soft.holds request held → IsOver request (on_cancel bag request held soft).soft }
+        → IsSoft bag soft → IsHeldAt soft.holds request held
+        → IsOver request (on_cancel bag request held soft).soft }
 {}
 
 /// A client that is closed has no request that waits or holds, and nothing is sent to it.
@@ -98,9 +101,9 @@ pub fn a_closed_client_asks_nothing()
         → IsSoft bag soft → IsClosed client (on_close bag client soft) }
 {}
 
-/// Once a client's Leave is done it has left for good: whatever comes to the server, stops too, what is kept for it
-/// stays, no deed is its own, it holds nothing and does not wait, and it is told nothing but that it left, or that a
-/// number is older; and to a Hello what any client gets.
+/// Once a client's Leave is done it has left for good: whatever comes to the server, stops too,
+/// what is kept for it stays, no deed is its own, it holds nothing and does not wait, and it is
+/// told nothing but that it left, or that a number is older; and to a Hello what any client gets.
 pub fn a_client_that_left_stays_away()
     ensures leaves { (st new : State) (soft : Soft) (c d n : ℕ) (m : Message) (answered : Answer)
         → IsState st → IsStep st soft c m answered new → answered.deed ≡ Some (Leave d n)

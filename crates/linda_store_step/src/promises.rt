@@ -1,5 +1,5 @@
-//! What follows from the definitions of states, deeds and steps, each stated by the contract of a function that does
-//! nothing.
+//! What follows from the definitions of states, deeds and steps, each stated by the contract of a
+//! function that does nothing.
 
 ghost use Rattle.std.specs.Prelude.{◌≡◌, ℕ, List, ◌-◌, Some, Contains, All};
 ghost use Rattle.std.specs.List.{slice_get};
@@ -21,7 +21,8 @@ ghost use Rattle.linda_store_step.specs.Covered.{IsCovered};
 ghost use Rattle.linda_store_step.specs.Offers.{OffersWhatIsSought};
 ghost use Rattle.linda_store_step.specs.Deeds.{HandsOver, NumbersEachOnce, PassesOn};
 ghost use Rattle.linda_store_step.specs.Replies.{KeepsReports, ReportsOne};
-ghost use Rattle.linda_store_step.specs.Reported.{DoesAsAsked, HoldsWhatIsThere, IsDeedOf, reported_deed};
+ghost use Rattle.linda_store_step.specs.Reported.{DoesAsAsked, HoldsWhatIsThere, IsDeedOf};
+ghost use Rattle.linda_store_step.specs.Reported.{reported_deed};
 
 /// What a step sends of a deed is what the book has for that client once the step is over.
 pub fn what_is_reported_is_kept()
@@ -32,49 +33,57 @@ pub fn what_is_reported_is_kept()
 /// Where a client is closed, what it held is offered only to requests that wait for such a tuple.
 pub fn closings_offer_only_what_is_sought()
     ensures { (bag : Bagged) (x : Coming) (client : ℕ) (old : Soft)
-        → OffersWhatIsSought bag x old (on_close bag client old).sends (on_close bag client old).soft }
+        → OffersWhatIsSought bag x old (on_close bag client old).sends
+        (on_close bag client old).soft }
 {}
 
-/// A step offers a tuple only to a request that seeks such a one: one that waits, or the Ask that came.
+/// A step offers a tuple only to a request that seeks such a one: one that waits, or the Ask that
+/// came.
 pub fn steps_offer_only_what_is_sought()
     ensures { (st new : State) (old : Soft) (c : ℕ) (m : Message) (answered : Answer)
         → IsState st → IsStep st old c m answered new
         → OffersWhatIsSought new.bag (says c m) old answered.sends answered.soft }
 {}
 
-/// Of a proper list: the tuple that a Take names was put once and is taken once, by that deed's client, and no
-/// later bag has it.
+/// Of a proper list: the tuple that a Take names was put once and is taken once, by that deed's
+/// client, and no later bag has it.
 pub fn takes_hand_over_what_was_put()
     ensures { (ds : List Deed) (c n id : ℕ)
-        → IsProper empty_state ds → Contains ds (Take c n id) → (tuple : Tuple) × HandsOver ds c id tuple }
+        → IsProper empty_state ds → Contains ds (Take c n id)
+        → (tuple : Tuple) × HandsOver ds c id tuple }
 {}
 
 /// Where no tuple is taken twice, two Takes of one tuple are one deed.
 pub fn two_takes_of_a_tuple_are_one()
     ensures { (ds : List Deed) (c d n m id : ℕ)
-        → IsTakenOnce ds → Contains ds (Take c n id) → Contains ds (Take d m id) → Take c n id ≡ Take d m id }
+        → IsTakenOnce ds → Contains ds (Take c n id) → Contains ds (Take d m id)
+        → Take c n id ≡ Take d m id }
 {}
 
-/// Each number of a client belongs to one deed alone. Who is told Taken did that Take, and is told the tuple that
-/// was put under the id. Who is told Gone passed on, and took nothing by that number.
+/// Each number of a client belongs to one deed alone. Who is told Taken did that Take, and is told
+/// the tuple that was put under the id. Who is told Gone passed on, and took nothing by that
+/// number.
 pub fn replies_report_what_was_done()
     ensures once { (ds : List Deed) → IsProper empty_state ds → NumbersEachOnce ds }
     ensures taken { (ds : List Deed) (c n id : ℕ) (tuple : Tuple)
         → ReportsOne ds c (replies.Taken n id tuple) → Contains ds (Take c n id) }
     ensures tuple { (ds : List Deed) (c n id : ℕ) (tuple : Tuple)
-        → ReportsOne ds c (replies.Taken n id tuple) → slice_get (outs_of ds) (id - 1) ≡ Some tuple }
+        → ReportsOne ds c (replies.Taken n id tuple)
+        → slice_get (outs_of ds) (id - 1) ≡ Some tuple }
     ensures gone { (ds : List Deed) (c n : ℕ)
         → IsProper empty_state ds → ReportsOne ds c (replies.Gone n) → PassesOn ds c n }
 {}
 
-/// A step does no deed but the one that its message asks for, and an offer that was accepted is held no more.
+/// A step does no deed but the one that its message asks for, and an offer that was accepted is
+/// held no more.
 pub fn steps_do_as_they_are_asked()
     ensures { (st new : State) (c : ℕ) (old : Soft) (m : Message) (answered : Answer) (d : Deed)
         → HoldsWhatIsThere st old → IsStep st old c m answered new → answered.deed ≡ Some d
         → DoesAsAsked c m answered.soft d }
 {}
 
-/// The deed of a step can be known from its message, the client's last number before it, and what is sent.
+/// The deed of a step can be known from its message, the client's last number before it, and what
+/// is sent.
 pub fn replies_tell_the_deed()
     ensures { (st new : State) (c : ℕ) (old : Soft) (m : Message) (answered : Answer)
         → IsState st → IsStep st old c m answered new
@@ -87,8 +96,9 @@ pub fn deeds_are_those_asked_for()
         → IsStep st old c m answered new → answered.deed ≡ Some d → IsDeedOf c m d }
 {}
 
-/// Whatever comes to a server, what was covered before stays so, and all that is sent is covered then: of each deed
-/// that a reply reports, the book has this reply until its client has done a later one.
+/// Whatever comes to a server, what was covered before stays so, and all that is sent is covered
+/// then: of each deed that a reply reports, the book has this reply until its client has done a
+/// later one.
 pub fn what_is_covered_stays_so()
     ensures stays { (st : State) (soft : Soft) (xs : List Coming) (all : History) (send : ℕ × Reply)
         → IsState st → Happens st soft xs all → IsCovered st send → IsCovered all.state send }

@@ -1,8 +1,9 @@
-//! How many bytes the deeds of messages will spell in a form, and whether each has a spelling there, known without
-//! doing them.
+//! How many bytes the deeds of messages will spell in a form, and whether each has a spelling
+//! there, known without doing them.
 //!
-//! Whether a message does a deed hangs on numbers alone, and on whether its client left: the last number of its client,
-//! how many clients are kept, and the next id. So these are counted on from message to message.
+//! Whether a message does a deed hangs on numbers alone, and on whether its client left: the last
+//! number of its client, how many clients are kept, and the next id. So these are counted on from
+//! message to message.
 
 ghost use Rattle.std.specs.Prelude.{◌≡◌, ◌≤◌, ◌∷◌, [], length, IfSome, IfNone};
 ghost use Rattle.linda_store_state.specs.declared.limits.TheConstants.{MAX_DEED_BYTES};
@@ -20,8 +21,8 @@ use linda_wire::Message;
 /// How many messages one call takes at most: as many as there may be deeds of one record.
 pub const MAX_BATCH: usize = linda_store_state::MAX_DEEDS;
 
-/// How many bytes the deeds of the messages spell in the form, each of its client, one after another; None where one of
-/// them has no spelling there.
+/// How many bytes the deeds of the messages spell in the form, each of its client, one after
+/// another; None where one of them has no spelling there.
 pub(crate) fn bytes_of<B: Bag>(
     form: Form,
     state: &State<B>,
@@ -29,7 +30,8 @@ pub(crate) fn bytes_of<B: Bag>(
 ) -> Option<usize>
     requires ranges { IsState state.now }
     requires few { length messages.now ≤ MAX_BATCH }
-    ensures bytes { IfSome result (λ bytes. bytes ≡ bytes_from form (numbers_of state.now) messages.now) }
+    ensures bytes { IfSome result (λ bytes.
+        bytes ≡ bytes_from form (numbers_of state.now) messages.now) }
     ensures suit { IfSome result (λ bytes. AllSuit form (numbers_of state.now) messages.now) }
     ensures none { IfNone result (AllSuit form (numbers_of state.now) messages.now → ⊥) }
 {
@@ -59,8 +61,8 @@ pub(crate) fn bytes_of<B: Bag>(
     Some(bytes)
 }
 
-/// How many bytes the deed of the client's message spells in the form, and 0 where it does none; None where it has no
-/// spelling there.
+/// How many bytes the deed of the client's message spells in the form, and 0 where it does none;
+/// None where it has no spelling there.
 pub(crate) fn bytes_of_one<B: Bag>(
     form: Form,
     state: &State<B>,
@@ -69,8 +71,10 @@ pub(crate) fn bytes_of_one<B: Bag>(
 ) -> Option<usize>
     ensures bytes { IfSome result (λ bytes.
         bytes ≡ bytes_from form (numbers_of state.now) ((client, message.now) ∷ [])) }
-    ensures suit { IfSome result (λ bytes. AllSuit form (numbers_of state.now) ((client, message.now) ∷ [])) }
-    ensures none { IfNone result (AllSuit form (numbers_of state.now) ((client, message.now) ∷ []) → ⊥) }
+    ensures suit { IfSome result (λ bytes.
+        AllSuit form (numbers_of state.now) ((client, message.now) ∷ [])) }
+    ensures none { IfNone result (AllSuit form (numbers_of state.now) ((client, message.now) ∷ [])
+        → ⊥) }
 {
     match done_of(message, Standing::of(state, client)) {
         Some(_) => deed_bytes(form, message),
@@ -89,7 +93,8 @@ fn done_of(message: &Message, at: Standing) -> Option<Demand>
     }
 }
 
-// How many bytes the deed of the message spells in the form, where it does one; None where it has no spelling there.
+// How many bytes the deed of the message spells in the form, where it does one; None where it has
+// no spelling there.
 fn deed_bytes(form: Form, message: &Message) -> Option<usize>
     ensures exact { IfSome result (λ bytes. bytes ≡ spec.deed_bytes form message.now) }
     ensures short { IfSome result (λ bytes. bytes ≤ MAX_DEED_BYTES) }
@@ -113,7 +118,8 @@ fn deed_bytes(form: Form, message: &Message) -> Option<usize>
     }
 }
 
-// What is last of the client after these, each a client with its number and whether it left; or else this one.
+// What is last of the client after these, each a client with its number and whether it left; or
+// else this one.
 fn last_behind(lasts: &[(u32, (u64, bool))], client: u32, last: (u64, bool)) -> (u64, bool)
     ensures { result ≡ spec.last_behind lasts.now client last }
 {

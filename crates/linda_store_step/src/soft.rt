@@ -1,6 +1,8 @@
-//! What a server keeps in memory alone: which tuple is held for which request, and the requests that wait.
+//! What a server keeps in memory alone: which tuple is held for which request, and the requests
+//! that wait.
 //!
-//! After an error of a call here nothing is promised of the holds and waits: their owner starts with none.
+//! After an error of a call here nothing is promised of the holds and waits: their owner starts
+//! with none.
 
 mod ask;
 
@@ -57,8 +59,8 @@ impl Soft {
         self.waits.choose_keys(keys);
     }
 
-    /// The tuple is new or free: the reads that wait for it are answered and wait no more, then it is
-    /// offered to the input that has waited longest for it, and held for that.
+    /// The tuple is new or free: the reads that wait for it are answered and wait no more, then it
+    /// is offered to the input that has waited longest for it, and held for that.
     ///
     /// # Errors
     ///
@@ -71,7 +73,8 @@ impl Soft {
         sends: &mut Vec<(u32, Reply)>,
     ) -> Result<(), AllocError>
         requires { AreApart self.old }
-        ensures sends { OnOk result (sends.new.items ≡ sends.old.items ++ (dispatch id tuple.now self.old).sends) }
+        ensures sends { OnOk result (sends.new.items
+            ≡ sends.old.items ++ (dispatch id tuple.now self.old).sends) }
         ensures soft { OnOk result (self.new ≡ (dispatch id tuple.now self.old).soft) }
     {
         let Awaiting { readers, longest } = self.waits.take_awaiting(alloc, tuple)?;
@@ -86,7 +89,8 @@ impl Soft {
         Ok(())
     }
 
-    /// The hold of the tuple is released: the tuple, if the bag has it, is held no longer, and is free.
+    /// The hold of the tuple is released: the tuple, if the bag has it, is held no longer, and is
+    /// free.
     ///
     /// # Errors
     ///
@@ -104,7 +108,8 @@ impl Soft {
             ≡ sends.old.items ++ (release (B.contents bag.now) id self.old).sends) }
         ensures soft { OnOk result (self.new ≡ (release (B.contents bag.now) id self.old).soft) }
         ensures apart { OnOk result (AreApart self.new) }
-        ensures right { (next : ℕ) → AreRight (B.contents bag.now) (is_held self.old.holds) next starts.old
+        ensures right { (next : ℕ) → AreRight (B.contents bag.now) (is_held self.old.holds)
+            next starts.old
             → OnOk result (AreRight (B.contents bag.now) (is_held self.new.holds) next starts.new) }
     {
         match bag.get(id) {
@@ -122,7 +127,8 @@ impl Soft {
     fn note_free(&self, starts: &mut Starts, id: u64, tuple: &Tuple)
         ensures { (bag : Bagged) (before : ℕ → Bool) (next : ℕ) → maps.get bag id ≡ Some tuple.now
             → ((k : ℕ) → (k ≡ id → ⊥) → is_held self.now.holds k ≡ false → before k ≡ false)
-            → AreRight bag before next starts.old → AreRight bag (is_held self.now.holds) next starts.new }
+            → AreRight bag before next starts.old
+            → AreRight bag (is_held self.now.holds) next starts.new }
     {
         match self.holds.get(id) {
             Some(_) => {}
@@ -142,8 +148,10 @@ impl Soft {
         requires { AreApart self.old }
         ensures sends { OnOk result (sends.new.items
             ≡ sends.old.items ++ (release_all (B.contents bag.now) ids.items self.old).sends) }
-        ensures soft { OnOk result (self.new ≡ (release_all (B.contents bag.now) ids.items self.old).soft) }
-        ensures right { (next : ℕ) → AreRight (B.contents bag.now) (is_held self.old.holds) next starts.old
+        ensures soft { OnOk result (self.new
+            ≡ (release_all (B.contents bag.now) ids.items self.old).soft) }
+        ensures right { (next : ℕ) → AreRight (B.contents bag.now) (is_held self.old.holds)
+            next starts.old
             → OnOk result (AreRight (B.contents bag.now) (is_held self.new.holds) next starts.new) }
     {
         for id in ids {
@@ -152,8 +160,8 @@ impl Soft {
         Ok(())
     }
 
-    /// The request is given up: it waits no more, or what is held for it is released. One that neither
-    /// waits nor holds changes nothing. What is sent, each reply to a client, in order.
+    /// The request is given up: it waits no more, or what is held for it is released. One that
+    /// neither waits nor holds changes nothing. What is sent, each reply to a client, in order.
     ///
     /// # Errors
     ///
@@ -168,7 +176,8 @@ impl Soft {
         requires { AreApart self.old }
         ensures sends { IfOk result (λ sends. AnswersCancel (B.contents bag.now) request self.old
             (record { sends = sends.items; soft = self.new })) }
-        ensures right { (next : ℕ) → AreRight (B.contents bag.now) (is_held self.old.holds) next starts.old
+        ensures right { (next : ℕ) → AreRight (B.contents bag.now) (is_held self.old.holds)
+            next starts.old
             → OnOk result (AreRight (B.contents bag.now) (is_held self.new.holds) next starts.new) }
     {
         let mut sends = Vec::new(alloc);
@@ -186,8 +195,8 @@ impl Soft {
         }
     }
 
-    /// All that the client asked is given up: first its waits, then its holds, which are released by
-    /// rising id. What is sent, each reply to a client, in order.
+    /// All that the client asked is given up: first its waits, then its holds, which are released
+    /// by rising id. What is sent, each reply to a client, in order.
     ///
     /// # Errors
     ///
@@ -200,9 +209,11 @@ impl Soft {
         client: u32,
     ) -> Result<Vec<(u32, Reply)>, AllocError>
         requires { AreApart self.old }
-        ensures sends { IfOk result (λ sends. let t : Sends = record { sends = sends.items; soft = self.new }
+        ensures sends { IfOk result (λ sends.
+            let t : Sends = record { sends = sends.items; soft = self.new }
             in t ≡ on_close (B.contents bag.now) client self.old) }
-        ensures right { (next : ℕ) → AreRight (B.contents bag.now) (is_held self.old.holds) next starts.old
+        ensures right { (next : ℕ) → AreRight (B.contents bag.now) (is_held self.old.holds)
+            next starts.old
             → OnOk result (AreRight (B.contents bag.now) (is_held self.new.holds) next starts.new) }
     {
         let mut sends = Vec::new(alloc);
@@ -222,7 +233,8 @@ fn answer_reads(
     sends: &mut Vec<(u32, Reply)>,
 ) -> Result<(), AllocError>
     ensures { OnOk result (sends.new.items
-        ≡ sends.old.items ++ map (λ r. (r.client, replies.Read r.ticket id tuple.now)) readers.items) }
+        ≡ sends.old.items
+        ++ map (λ r. (r.client, replies.Read r.ticket id tuple.now)) readers.items) }
 {
     for Request { client, ticket } in readers {
         let tuple = tuple.try_clone(alloc)?;

@@ -38,8 +38,8 @@ pub struct Steps {
 ///
 /// # Errors
 ///
-/// `AllocError` where memory runs out, and then the state is as before; nothing is said of what is held
-/// and waits.
+/// `AllocError` where memory runs out, and then the state is as before; nothing is said of what is
+/// held and waits.
 pub(crate) fn answer_message<B: Bag>(
     state: &mut State<B>,
     soft: &mut Soft,
@@ -52,7 +52,8 @@ pub(crate) fn answer_message<B: Bag>(
     requires right { AreRight state.old.bag (is_held soft.old.holds) state.old.next starts.old }
     ensures ok { IfOk result (λ s. IsStep state.old soft.old client message.now
         (record { deed = s.deed; sends = s.sends.items; soft = soft.new }) state.new) }
-    ensures right { OnOk result (AreRight state.new.bag (is_held soft.new.holds) state.new.next starts.new) }
+    ensures right { OnOk result (AreRight state.new.bag (is_held soft.new.holds)
+        state.new.next starts.new) }
     ensures err { OnErr result (state.new ≡ state.old) }
 {
     match reply::to_numbered(state, alloc, client, message)? {
@@ -75,7 +76,8 @@ fn act<B: Bag>(
     requires none { reply_to_numbered state.old client message.now ≡ None }
     ensures ok { IfOk result (λ s. IsStep state.old soft.old client message.now
         (record { deed = s.deed; sends = s.sends.items; soft = soft.new }) state.new) }
-    ensures right { OnOk result (AreRight state.new.bag (is_held soft.new.holds) state.new.next starts.new) }
+    ensures right { OnOk result (AreRight state.new.bag (is_held soft.new.holds)
+        state.new.next starts.new) }
     ensures err { OnErr result (state.new ≡ state.old) }
 {
     match message {

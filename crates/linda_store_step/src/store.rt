@@ -26,10 +26,10 @@ use std::marker::Model;
 /// The state of a server, what it holds for requests and which requests wait.
 ///
 /// It keeps its ranges: ids below the next id, which is from 1 to 2^63; kept numbers from 1 to
-/// 2^63 - 1; at most 65,536 clients, those that left among them; at most 64 open asks a client, each under
-/// a ticket of its own; and what is held is in the bag. Nobody waits in vain: no tuple that is there matches
-/// a read that waits, and none that is not held an input. A client that left holds nothing and does not
-/// wait.
+/// 2^63 - 1; at most 65,536 clients, those that left among them; at most 64 open asks a client,
+/// each under a ticket of its own; and what is held is in the bag. Nobody waits in vain: no tuple
+/// that is there matches a read that waits, and none that is not held an input. A client that left
+/// holds nothing and does not wait.
 ///
 /// Once memory ran out the store is spent: it keeps its state, holds nothing, lets nobody wait, and
 /// answers each call with that error.
@@ -83,9 +83,9 @@ impl<B: Bag> Store<B> {
         }
     }
 
-    /// What waits is kept by random keys from now on, which no client knows, if nobody waits yet: so clients cannot
-    /// make look-ups slow by what they ask and give up. For a program that serves strangers, at its start. Nothing
-    /// changes that a call answers.
+    /// What waits is kept by random keys from now on, which no client knows, if nobody waits yet:
+    /// so clients cannot make look-ups slow by what they ask and give up. For a program that serves
+    /// strangers, at its start. Nothing changes that a call answers.
     pub fn choose_keys(&mut self, keys: RandomState)
         ensures { self.new ≡ self.old }
     {
@@ -96,8 +96,8 @@ impl<B: Bag> Store<B> {
     ///
     /// # Errors
     ///
-    /// `AllocError` where memory runs out, and then the state is as before and the store is spent; and
-    /// always where it is spent already.
+    /// `AllocError` where memory runs out, and then the state is as before and the store is spent;
+    /// and always where it is spent already.
     pub fn step(
         &mut self,
         alloc: Global,
@@ -105,9 +105,11 @@ impl<B: Bag> Store<B> {
         message: &Message,
     ) -> Result<Step, AllocError>
         ensures ok { IfOk result (λ s. IsStep self.old.state self.old.soft client message.now
-            (record { deed = s.deed; sends = s.sends.items; soft = self.new.soft }) self.new.state) }
+            (record { deed = s.deed; sends = s.sends.items; soft = self.new.soft })
+            self.new.state) }
         ensures unspent { OnOk result ((self.old.is_spent ≡ false) × (self.new.is_spent ≡ false)) }
-        ensures err { OnErr result ((self.new.state ≡ self.old.state) × (self.new.is_spent ≡ true)) }
+        ensures err { OnErr result ((self.new.state ≡ self.old.state)
+            × (self.new.is_spent ≡ true)) }
         ensures dropped { OnErr result (self.old.is_spent ≡ false → self.new.soft ≡ no_asks) }
         ensures spent { self.old.is_spent ≡ true → IsErr result × (self.new ≡ self.old) }
     {
@@ -134,8 +136,8 @@ impl<B: Bag> Store<B> {
     ///
     /// # Errors
     ///
-    /// `AllocError` where memory runs out: some first messages may be done, and the store is spent; and
-    /// always where it is spent already.
+    /// `AllocError` where memory runs out: some first messages may be done, and the store is spent;
+    /// and always where it is spent already.
     pub fn step_all(
         &mut self,
         alloc: Global,
@@ -167,8 +169,10 @@ impl<B: Bag> Store<B> {
         Ok(steps)
     }
 
-    /// How many bytes the deeds of the messages will spell in the form, each of its client, one after another, as
-    /// `step_all` does them; None where one of them will have no spelling there. Takes no memory, and changes nothing.
+    /// How many bytes the deeds of the messages will spell in the form, each of its client, one
+    /// after another, as
+    /// `step_all` does them; None where one of them will have no spelling there. Takes no memory,
+    /// and changes nothing.
     pub fn size_of(&self, form: Form, messages: &[(u32, Message)]) -> Option<u64>
         requires { length messages.now ≤ MAX_BATCH }
         ensures bytes { (all : History) → Answers self.now.state self.now.soft messages.now all
@@ -185,8 +189,9 @@ impl<B: Bag> Store<B> {
         }
     }
 
-    /// How many bytes the deed of the client's message will spell in the form, as `step` does it, and 0 where it will
-    /// do none; None where it will have no spelling there. Takes no memory, and changes nothing.
+    /// How many bytes the deed of the client's message will spell in the form, as `step` does it,
+    /// and 0 where it will do none; None where it will have no spelling there. Takes no memory, and
+    /// changes nothing.
     pub fn size_of_one(&self, form: Form, client: u32, message: &Message) -> Option<u64>
         ensures bytes { (all : History)
             → Answers self.now.state self.now.soft ((client, message.now) ∷ []) all
@@ -226,13 +231,13 @@ impl<B: Bag> Store<B> {
         Ok(())
     }
 
-    /// Gives up all that the client asked: its waits, and then its holds by rising id, each of which is
-    /// free at once for those that wait. The state is as before.
+    /// Gives up all that the client asked: its waits, and then its holds by rising id, each of
+    /// which is free at once for those that wait. The state is as before.
     ///
     /// # Errors
     ///
-    /// `AllocError` where memory runs out, and then the store is spent; and always where it is spent
-    /// already.
+    /// `AllocError` where memory runs out, and then the store is spent; and always where it is
+    /// spent already.
     pub fn close(&mut self, alloc: Global, client: u32) -> Result<Vec<(u32, Reply)>, AllocError>
         ensures ok { IfOk result (λ sends. record { sends = sends.items; soft = self.new.soft }
             ≡ on_close self.old.state.bag client self.old.soft) }
@@ -311,7 +316,8 @@ impl<B: Bag> Store<B> {
 // Memory ran out: nothing is held any more, and nobody waits.
 fn spend(alloc: Global, soft: &mut Soft, starts: &mut Starts, spent: &mut bool)
     ensures soft { soft.new ≡ no_asks }
-    ensures starts { (bag : Bagged) (passed : ℕ → Bool) (next : ℕ) → AreRight bag passed next starts.new }
+    ensures starts { (bag : Bagged) (passed : ℕ → Bool) (next : ℕ)
+        → AreRight bag passed next starts.new }
     ensures spent { spent.new ≡ true }
 {
     *soft = Soft::new(alloc);

@@ -125,7 +125,8 @@ fn goes_on_and_says_what_is_kept(rt: HostRuntime) -> io::Result<()> {
     ];
     let told = "server 0 client 7 none\n7 stored 0 1\nserver 0 client 7 1 stored 1\nend\n\
         server 0 client 7 1 stored 1\n\
-        7 took 0 1 (\"a\", 3) binds [3] labels [] raised []\nserver 0 client 7 2 taken 1 (\"a\", 3)\n\
+        7 took 0 1 (\"a\", 3) binds [3] labels [] raised []\n\
+        server 0 client 7 2 taken 1 (\"a\", 3)\n\
         7 left\nserver 0 client 7 3 left\n7 refused left\nend\n\
         server 0: refused 11 3\n";
     let row = Row {
@@ -157,7 +158,8 @@ fn call_alone<S: Net<Listener = TcpListener, Stream = TcpStream> + Threads + Wai
     call(rt, alloc, &mut lines, &mut printed, 7, &[port], false)
 }
 
-/// The calls of a row over one server in memory print this, and flush it; how a call ends comes after it.
+/// The calls of a row over one server in memory print this, and flush it; how a call ends comes
+/// after it.
 fn expect<
     S: Net<Listener = TcpListener, Stream = TcpStream> + Threads + Wait + Clock + Abort + Sync,
 >(rt: &S, alloc: Global, row: Row<'_>, want: &str) -> io::Result<()> {

@@ -1,4 +1,5 @@
-//! A disk that stops while a session's messages are written: they are done or not, all of them, and nobody is told so.
+//! A disk that stops while a session's messages are written: they are done or not, all of them, and
+//! nobody is told so.
 
 use super::script::Sessions;
 use super::steps::{Step, done_as_said};
@@ -58,8 +59,8 @@ impl<R: Wait + Abort> Scene<R> for Stopped {
     }
 }
 
-/// The device call of an append, how much a crash leaves, and what is kept then: the gate is opened by the third call,
-/// and synced by the fourth.
+/// The device call of an append, how much a crash leaves, and what is kept then: the gate is opened
+/// by the third call, and synced by the fourth.
 const STOPS: &[(u64, Torn, Kept)] = &[
     (0, Torn::Kept, BEFORE),
     (0, Torn::Lost, BEFORE),

@@ -1,5 +1,5 @@
-//! Messages of many sessions that one thread serves as a group: who is told what, in which order, and in how many
-//! records.
+//! Messages of many sessions that one thread serves as a group: who is told what, in which order,
+//! and in how many records.
 
 ghost use Rattle.std.specs.Prelude.{◌≡◌};
 ghost use Rattle.linda_shared_accounts.specs.declared.limits.TheConstants.{PARTS};
@@ -18,11 +18,14 @@ use std::sync::ledger::{Blank, Ledger};
 /// The clients.
 const CLIENTS: [u32; 3] = [7, 8, 9];
 
-/// A put of 7 and one of 8, what 9 asks for behind them, a wrong number of 7, and the put of 8 once more.
+/// A put of 7 and one of 8, what 9 asks for behind them, a wrong number of 7, and the put of 8 once
+/// more.
 const MIXED: &str =
-    "7 out 1 (\"a\", 3); 8 out 1 (\"b\", 4); 9 in 1 (\"b\", ?i); 7 out 3 (\"a\", 5); 8 out 1 (\"b\", 4)";
+    "7 out 1 (\"a\", 3); 8 out 1 (\"b\", 4); 9 in 1 (\"b\", ?i); 7 out 3 (\"a\", 5); \
+     8 out 1 (\"b\", 4)";
 
-/// What 9 does then: it accepts what it was offered; and 7 asks for what nobody put, and for what it put.
+/// What 9 does then: it accepts what it was offered; and 7 asks for what nobody put, and for what
+/// it put.
 const TAKEN: &str = "9 accept 1 1 2; 7 in 1 (\"c\", ?i); 7 in 2 (\"a\", ?i)";
 
 const TOLD: &str = "7 has 1\n8 has 1\n9 has 0\n7 has 1\n8 has 1\n\
@@ -64,7 +67,8 @@ impl Posted {
         }
     }
 
-    // Writes it, client by client: what goes to each is in order, and no order is promised between them.
+    // Writes it, client by client: what goes to each is in order, and no order is promised between
+    // them.
     fn tell(self, alloc: Global, told: &mut String) -> Result<(), AllocError> {
         let Posted { mut sent, is_lost } = self;
         sent.sort_by_key(|one| one.client())?;
@@ -128,8 +132,8 @@ fn put_in<L: Ledger>(
     Ok(())
 }
 
-// Serves what the words say as one group, and writes of each answer how many deeds its client was told of then, or the
-// fault; then what was posted.
+// Serves what the words say as one group, and writes of each answer how many deeds its client was
+// told of then, or the fault; then what was posted.
 fn play_group<L: Ledger, R: Wait>(
     rt: &R,
     alloc: Global,

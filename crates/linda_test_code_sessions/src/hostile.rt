@@ -1,5 +1,5 @@
-//! What sessions are told that leave with an offer, come again, and greet where they are known, and whose client leaves
-//! for good; and what all were told at the end.
+//! What sessions are told that leave with an offer, come again, and greet where they are known, and
+//! whose client leaves for good; and what all were told at the end.
 
 use super::steps::{AsFarAsMemoryGoes, Step, Strictly};
 use linda_test_server::{Kept, ROOMY, play};
@@ -13,8 +13,9 @@ const TAKEN: Kept = (2, 0, 2);
 
 const LEFT: Kept = (2, 1, 2);
 
-/// 7 is offered its tuple twice and its session leaves with the second offer; 8, which waits, is offered it then, and
-/// takes it. 7 comes again, and its Accept finds the tuple gone. The deeds are the put, that Accept and the take.
+/// 7 is offered its tuple twice and its session leaves with the second offer; 8, which waits, is
+/// offered it then, and takes it. 7 comes again, and its Accept finds the tuple gone. The deeds are
+/// the put, that Accept and the take.
 const COMES_AGAIN: &[Step] = &[
     ("greet hello 2 7 fresh", "> 7 welcome 0\n", NEW),
     ("mailboxes", "> mailboxes 1\n", NEW),
@@ -43,8 +44,9 @@ const COMES_AGAIN: &[Step] = &[
     ("greet hello 2 7 known", "> refused 3 0\n", TAKEN),
 ];
 
-/// 9 is offered the tuple of 8 and gives its number up for good: 8, which waits, is offered it then, and what 9 says is
-/// refused from then on, in its next session too. The Leave is a deed beside the put.
+/// 9 is offered the tuple of 8 and gives its number up for good: 8, which waits, is offered it
+/// then, and what 9 says is refused from then on, in its next session too. The Leave is a deed
+/// beside the put.
 const LEAVES: &[Step] = &[
     ("greet hello 1 8 fresh", "> refused 1 2\n", NEW),
     ("greet hello 2 8 fresh", "> 8 welcome 0\n", NEW),

@@ -1,5 +1,5 @@
-//! Tests of sessions over one server, in one thread: what a session and its neighbours are told, failed allocations,
-//! batches, and servers that go down.
+//! Tests of sessions over one server, in one thread: what a session and its neighbours are told,
+//! failed allocations, batches, and servers that go down.
 #![tactic(auto)]
 
 #[cfg(test)]

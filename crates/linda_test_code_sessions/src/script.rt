@@ -1,10 +1,11 @@
 //! Sessions in one thread, line by line.
 //!
 //! `greet hello 2 7 fresh` greets; `7 out 1 ("a", 3)` submits a message of client 7, and
-//! `all 7 out 1 ("a", 3); 7 cancel 2` several at once; `leave 7`, `pays`, `snapshot`, and `finish 7 8`, which gives
-//! both seats back; `wait 7` waits until client 7 has a reply, or none will come, and `mailboxes` counts. What comes of
-//! a line is written: `7 did 1` of a receipt for message 1, whether a snapshot pays, a fault in words, and then all
-//! replies that are there, session by session.
+//! `all 7 out 1 ("a", 3); 7 cancel 2` several at once; `leave 7`, `pays`, `snapshot`, and `finish 7
+//! 8`, which gives both seats back; `wait 7` waits until client 7 has a reply, or none will come,
+//! and `mailboxes` counts. What comes of a line is written: `7 did 1` of a receipt for message 1,
+//! whether a snapshot pays, a fault in words, and then all replies that are there, session by
+//! session.
 
 ghost use Rattle.std.specs.Prelude.{◌≡◌, ◌≤◌, ◌<◌, true, length, All, IfOk};
 ghost use Rattle.linda_store_step.specs.declared.size.TheConstants.{MAX_BATCH};
@@ -244,7 +245,8 @@ impl<S: Drop, O: Drop, H: Host<S, O>> Sessions<S, O, H> {
         written(writeln!(came, "> mailboxes {count}"))
     }
 
-    // Waits until the client whose number stands first has a reply, or none will come; writes what is there.
+    // Waits until the client whose number stands first has a reply, or none will come; writes what
+    // is there.
     fn wait<R: Wait>(
         &mut self,
         rt: &R,
@@ -352,9 +354,11 @@ fn tell_receipts(receipts: &[Option<Receipt>], came: &mut String) -> Result<(), 
     Ok(())
 }
 
-// The messages of a line, which are a client's, at least one and few enough for one call, and none a Hello.
+// The messages of a line, which are a client's, at least one and few enough for one call, and none
+// a Hello.
 fn requests_in(alloc: Global, words: &str) -> Result<(u32, Vec<Message>), WordsFault>
-    ensures { IfOk result (λ r. (0 < length r.1.items) × (length r.1.items ≤ MAX_BATCH) × All IsRequest r.1.items) }
+    ensures { IfOk result (λ r. (0 < length r.1.items) × (length r.1.items ≤ MAX_BATCH)
+        × All IsRequest r.1.items) }
 {
     let (client, _) = read_numbered(words)?;
     let mut messages = Vec::new(alloc);

@@ -1,5 +1,5 @@
-//! Snapshots that sessions' server takes: the new bank stands on the disk that was not in use, for the same state, and
-//! later deeds go there.
+//! Snapshots that sessions' server takes: the new bank stands on the disk that was not in use, for
+//! the same state, and later deeds go there.
 
 use super::script::Sessions;
 use super::steps::{Step, done_as_said};
@@ -51,8 +51,8 @@ impl<R: Wait + Abort> Scene<R> for Standing {
     }
 }
 
-/// The first bank, on the left disk, is of generation 1; each snapshot is a bank without a record, of the next
-/// generation, on the other disk.
+/// The first bank, on the left disk, is of generation 1; each snapshot is a bank without a record,
+/// of the next generation, on the other disk.
 const STANDING: &[Standing] = &[
     Standing {
         steps: 2,

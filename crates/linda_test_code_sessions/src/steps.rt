@@ -17,10 +17,11 @@ pub(super) struct Strictly {
     pub(super) steps: &'static [Step],
 }
 
-/// All comes as the steps say, until an allocation is refused. Then a call says that memory ran out, and
-/// done again it gives what it does else; or the server is down, and what it keeps on its disks is what it kept before
-/// the step, or after it. A batch that goes one by one may be cut short after its first message, which is kept: what
-/// it led to stands beside `down` then, and nothing else ever does.
+/// All comes as the steps say, until an allocation is refused. Then a call says that memory ran
+/// out, and done again it gives what it does else; or the server is down, and what it keeps on its
+/// disks is what it kept before the step, or after it. A batch that goes one by one may be cut
+/// short after its first message, which is kept: what it led to stands beside `down` then, and
+/// nothing else ever does.
 #[derive(Clone, Copy)]
 pub(super) struct AsFarAsMemoryGoes {
     pub(super) limit: usize,

@@ -4,7 +4,8 @@ use super::steps::{Step, Strictly};
 use linda_test_server::{Kept, Stand, play};
 use std::alloc::AllocError;
 
-/// The first snapshot goes to the right disk, and the second one back to the left, which stops then.
+/// The first snapshot goes to the right disk, and the second one back to the left, which stops
+/// then.
 const STOPS: Stand = Stand {
     limit: 1_000,
     stops_in: Some(0),

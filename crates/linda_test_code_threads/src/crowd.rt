@@ -15,7 +15,8 @@ const CLIENTS: usize = 64;
 
 const VISITS: u64 = 16;
 
-// Comes, puts and takes, and goes; whether all of it went as it should. The client was there so often before.
+// Comes, puts and takes, and goes; whether all of it went as it should. The client was there so
+// often before.
 fn visits<S: Drop, O: Drop, H: Host<S, O>, R: Wait>(
     rt: &R,
     alloc: Global,
@@ -117,7 +118,8 @@ fn visits_of<S: Drop, O: Drop, H: Host<S, O>, R: Wait>(
     well
 }
 
-/// Each client, in a thread of its own, comes as often, puts a tuple of its own, takes it, and goes.
+/// Each client, in a thread of its own, comes as often, puts a tuple of its own, takes it, and
+/// goes.
 pub(super) fn crowd_comes<
     S: Drop + Send,
     O: Drop + Send,

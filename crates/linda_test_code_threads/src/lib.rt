@@ -1,5 +1,5 @@
-//! Tests of sessions over one server in threads side by side, by public calls alone: outlets, and many that come
-//! and go.
+//! Tests of sessions over one server in threads side by side, by public calls alone: outlets, and
+//! many that come and go.
 #![tactic(auto)]
 
 #[cfg(test)]

@@ -23,8 +23,8 @@ fn done<S: Drop, O: Drop, H: Host<S, O>, R: Wait + Abort>(
     assert!(rt; told.is_ok());
 }
 
-// The ids under which something was stored, until no reply comes any more, as the digits of a number; none where
-// another reply came.
+// The ids under which something was stored, until no reply comes any more, as the digits of a
+// number; none where another reply came.
 fn ids_read<S: Drop, O: Drop, H: Host<S, O>, R: Wait>(
     rt: &R,
     host: &H,
@@ -104,8 +104,8 @@ fn puts_late<S: Drop, O: Drop, H: Host<S, O>, R: Wait + Clock + Abort>(
     Ok(())
 }
 
-/// Client 8 asked, and one of its threads waits for news, which come once client 7 puts. Its other outlet has what
-/// came, and ends once the client left.
+/// Client 8 asked, and one of its threads waits for news, which come once client 7 puts. Its other
+/// outlet has what came, and ends once the client left.
 pub(super) fn hears_of_others<
     S: Drop + Send,
     O: Drop + Send,
@@ -145,7 +145,8 @@ enum Part<S, O> {
     Waits(O),
 }
 
-// Plays a part: 0 for whoever leaves, the id of the one offer for whoever waits, and none where something else came.
+// Plays a part: 0 for whoever leaves, the id of the one offer for whoever waits, and none where
+// something else came.
 fn played<S: Drop, O: Drop, H: Host<S, O>, R: Wait + Clock>(
     rt: &R,
     host: &H,
@@ -174,8 +175,8 @@ fn played<S: Drop, O: Drop, H: Host<S, O>, R: Wait + Clock>(
     }
 }
 
-// Client 7 leaves for good by its message 5 and says one more: 0 where that is a deed and no more is, and it is told
-// that it left, and then that it is refused.
+// Client 7 leaves for good by its message 5 and says one more: 0 where that is a deed and no more
+// is, and it is told that it left, and then that it is refused.
 fn given_up<S: Drop, O: Drop, H: Host<S, O>, R: Wait>(
     rt: &R,
     host: &H,

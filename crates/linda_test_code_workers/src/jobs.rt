@@ -9,8 +9,8 @@ use std::sync::Wait;
 use std::sync::atomic::{AtomicU64, Ordering};
 use std::time::Clock;
 
-/// By id, what was put and what was taken: the job's number and one; 0 where nothing was. And how often an id came
-/// twice, or a tuple that is no job.
+/// By id, what was put and what was taken: the job's number and one; 0 where nothing was. And how
+/// often an id came twice, or a tuple that is no job.
 #[derive(Drop)]
 pub(super) struct Tally {
     put: Vec<AtomicU64>,
@@ -72,7 +72,8 @@ impl Tally {
     }
 }
 
-/// Puts so many jobs, numbered from 0 on, and then takes as many. Where a request of it came to nothing, neither a
+/// Puts so many jobs, numbered from 0 on, and then takes as many. Where a request of it came to
+/// nothing, neither a
 /// `Stored` nor a `Taken`, it ends and waits for nothing more.
 #[derive(Drop)]
 pub(super) struct Jobs<'t> {

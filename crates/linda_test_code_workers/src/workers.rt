@@ -28,8 +28,8 @@ enum Gates {
     Shut,
     /// Holds the first message of client 1 until that of client 2 was answered.
     Behind(AtomicU64),
-    /// Lets the first message of each of two clients through once it was asked for the other's too. After ten thousand
-    /// turns of a millisecond it says no for good.
+    /// Lets the first message of each of two clients through once it was asked for the other's too.
+    /// After ten thousand turns of a millisecond it says no for good.
     Together(Entered),
 }
 
@@ -85,7 +85,8 @@ impl Gate for Gates {
     }
 }
 
-/// Clients from 1 on, each with as many jobs to put and take; what all of them end with, and the gate before them.
+/// Clients from 1 on, each with as many jobs to put and take; what all of them end with, and the
+/// gate before them.
 #[derive(Drop)]
 struct Crew {
     clients: u32,
@@ -243,8 +244,8 @@ fn a_worker_at_a_shut_gate_is_stuck(rt: HostRuntime) -> Result<(), Fail> {
     crew_works(&rt, rt.alloc(), &crew)
 }
 
-// Four workers over a disk that stops inside this device call: all of them end, and what they were told of is kept,
-// with what was on its way to them or without.
+// Four workers over a disk that stops inside this device call: all of them end, and what they were
+// told of is kept, with what was on its way to them or without.
 fn play_cut<L: Ledger + Send + Sync, R: Threads + Wait + Clock + Abort + Sync>(
     rt: &R,
     alloc: Global,

@@ -1,6 +1,7 @@
-//! A client's run in which an allocation may be refused: a call that runs out of memory leaves the client as it was, so
-//! it is made again, and then gives what it gives else. It is made to be run with each allocation refused, one after
-//! another; where the allocation is one of the test's own, the test fails and says that memory ran out.
+//! A client's run in which an allocation may be refused: a call that runs out of memory leaves the
+//! client as it was, so it is made again, and then gives what it gives else. It is made to be run
+//! with each allocation refused, one after another; where the allocation is one of the test's own,
+//! the test fails and says that memory ran out.
 
 use linda_client::{Client, ClientFault, Outcome, Reaction};
 use linda_shell_text::{read_event, write_outcome};
@@ -215,7 +216,8 @@ fn a_client_that_had_no_memory_wakes_as_it_would_have(rt: HostRuntime) -> Result
     makes(&rt, rt.alloc(), &WAITS)
 }
 
-/// It leaves: one server answers, what the other has not answered is sent again, and an offer is cancelled.
+/// It leaves: one server answers, what the other has not answered is sent again, and an offer is
+/// cancelled.
 const LEAVES: [(Call, &str); 7] = [
     (Call::Leave, "0 leave 1; 1 leave 1; "),
     (Call::Resend, "0 leave 1; 1 leave 1; "),

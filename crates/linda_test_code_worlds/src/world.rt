@@ -1,4 +1,5 @@
-//! Worlds over servers in memory and over servers on disks: rows of what happens, where memory may run out.
+//! Worlds over servers in memory and over servers on disks: rows of what happens, where memory may
+//! run out.
 
 mod made;
 mod memory;

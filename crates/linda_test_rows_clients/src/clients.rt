@@ -1,9 +1,12 @@
 //! A client alone: what is done with it, and what comes of it.
 //!
-//! A row begins with client 7 over two servers. A line is a call: `out TUPLE`, `sync EVENT`, `tick NOW`, `resend`,
-//! `reconnected SERVER`, `abandon`, `leave`, or a reply after the server that it comes from, as `1 offer 1 4 ("a", 3)`.
-//! The lines after it say all that comes of the call: packets, after the servers that they go to; then the outcome, as
-//! `linda run` prints it, that of an event after its base; a server's fault; or why the call is refused. By
+//! A row begins with client 7 over two servers. A line is a call: `out TUPLE`, `sync EVENT`, `tick
+//! NOW`, `resend`,
+//! `reconnected SERVER`, `abandon`, `leave`, or a reply after the server that it comes from, as `1
+//! offer 1 4 ("a", 3)`. The lines after it say all that comes of the call: packets, after the
+//! servers that they go to; then the outcome, as
+//! `linda run` prints it, that of an event after its base; a server's fault; or why the call is
+//! refused. By
 //! `client C over S` a row goes on with a new client C over S servers, and gives how many it has.
 
 mod call;

@@ -1,8 +1,9 @@
 //! Texts of events: what is read, given by the one text that is written of it, or the fault.
 //!
-//! `read TEXT` reads the text, which stands as a string where it begins or ends with a blank or has a tab in it.
-//! `nested COUNT NODE END` reads so many nodes that begin as the first string says, and then the second one, and gives
-//! how many bases there are.
+//! `read TEXT` reads the text, which stands as a string where it begins or ends with a blank or has
+//! a tab in it.
+//! `nested COUNT NODE END` reads so many nodes that begin as the first string says, and then the
+//! second one, and gives how many bases there are.
 
 use crate::words::done;
 use linda_event::{Event, base_count};

@@ -102,7 +102,8 @@ fn inspect(files: &HostRuntime, alloc: Global, came: &mut String) -> Result<(), 
     done(tell_folder(files, alloc, came))
 }
 
-// Writes what is printed of the folder and flushed, with both lists, and how that ends if it does not end well.
+// Writes what is printed of the folder and flushed, with both lists, and how that ends if it does
+// not end well.
 fn tell_folder(files: &HostRuntime, alloc: Global, came: &mut String) -> Result<(), AllocError> {
     let lists = Lists {
         tuples: true,

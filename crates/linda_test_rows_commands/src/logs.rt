@@ -61,8 +61,8 @@ impl Logs {
         self.told = 0;
     }
 
-    /// Does what the words say: a time is given, or something happens. Then a new log is written of all that happened,
-    /// and its lines are given that were not given before.
+    /// Does what the words say: a time is given, or something happens. Then a new log is written of
+    /// all that happened, and its lines are given that were not given before.
     pub(crate) fn play<C: Clock>(
         &mut self,
         clock: &C,

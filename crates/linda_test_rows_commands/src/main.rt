@@ -1,5 +1,6 @@
-//! Rows of what the commands of the program do: texts through a pipe, a conversation and a script, over a reader and a
-//! writer that fail; words of the command line; what is printed of folders; lines of a log.
+//! Rows of what the commands of the program do: texts through a pipe, a conversation and a script,
+//! over a reader and a writer that fail; words of the command line; what is printed of folders;
+//! lines of a log.
 //!
 //! The README says what the lines of a row may be.
 #![tactic(auto)]

@@ -16,7 +16,8 @@ enum Subject {
     Log,
 }
 
-/// The players of all subjects, which of them plays the row at hand, and the runtime, for files and the clock.
+/// The players of all subjects, which of them plays the row at hand, and the runtime, for files and
+/// the clock.
 #[derive(Drop)]
 pub(crate) struct Players<'a> {
     rt: &'a HostRuntime,

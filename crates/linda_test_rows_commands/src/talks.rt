@@ -54,7 +54,8 @@ impl Talks {
         Ok(())
     }
 
-    // Serves the peer by this command, within the bounds that the words give, and tells what came of it.
+    // Serves the peer by this command, within the bounds that the words give, and tells what came
+    // of it.
     fn serve(
         &self,
         alloc: Global,
@@ -119,8 +120,8 @@ impl Talks {
     }
 }
 
-/// How many bytes the reader gives at once and whether it `ends` or `fails` after them, how many the writer takes at
-/// once, and for how many it has room.
+/// How many bytes the reader gives at once and whether it `ends` or `fails` after them, how many
+/// the writer takes at once, and for how many it has room.
 #[derive(Clone, Copy)]
 struct Bounds {
     size: usize,
@@ -181,7 +182,8 @@ fn ran(
     write!(came, "> {end:?}, wrote ")
 }
 
-// Writes how a conversation with a new server ends; at the end of the stream, how many bytes its whole messages have.
+// Writes how a conversation with a new server ends; at the end of the stream, how many bytes its
+// whole messages have.
 fn conversed(
     alloc: Global,
     reader: &mut Pieces,

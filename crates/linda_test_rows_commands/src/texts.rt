@@ -3,8 +3,8 @@
 use linda_test_script::{WordsFault, read_hex, string_at};
 use std::alloc::{AllocError, Global};
 
-/// Appends what the words say: a string between quotes, the bytes of hexadecimal digits after the word `bytes`, with
-/// blanks between them, or else a line as it stands, with its line feed.
+/// Appends what the words say: a string between quotes, the bytes of hexadecimal digits after the
+/// word `bytes`, with blanks between them, or else a line as it stands, with its line feed.
 pub(crate) fn push_bytes(
     alloc: Global,
     bytes: &mut Vec<u8>,

@@ -63,8 +63,9 @@ fn tell_fault(fault: ChoiceFault, came: &mut String) -> Result<(), WordsFault> {
     }
 }
 
-// Switches from the bank that is chosen to the other disk, whose power goes off inside a device call. The disks are
-// then the one that was in use, and the other; where none is chosen, they are gone.
+// Switches from the bank that is chosen to the other disk, whose power goes off inside a device
+// call. The disks are then the one that was in use, and the other; where none is chosen, they are
+// gone.
 fn switch_once(
     alloc: Global,
     disks: &mut Disks,
@@ -82,7 +83,8 @@ fn switch_once(
     }
 }
 
-// The limit of a bank, and how many calls of the other device the power lasts: all, where no number says it.
+// The limit of a bank, and how many calls of the other device the power lasts: all, where no number
+// says it.
 fn read_switch(words: &str) -> Result<(u16, u64), WordsFault> {
     let (limit, calls) = split_word(words);
     let Ok(limit) = limit.parse::<u16>() else {
@@ -94,8 +96,9 @@ fn read_switch(words: &str) -> Result<(u16, u64), WordsFault> {
     Ok((limit, read_number(calls)?))
 }
 
-// Chooses one of the banks on two disks and switches to the other disk, where the power goes off inside the device
-// call of this number. Gives the two disks: the one that was in use, and the other.
+// Chooses one of the banks on two disks and switches to the other disk, where the power goes off
+// inside the device call of this number. Gives the two disks: the one that was in use, and the
+// other.
 fn switched(
     alloc: Global,
     left: MemDisk,

@@ -5,8 +5,9 @@ use crate::torn::read_byte;
 use linda_test_script::{WordsFault, read_hex, read_size, split_word};
 use std::alloc::{AllocError, Global};
 
-/// Bytes that have a name, a line of each: the name, and the digits after it; the rows show what each is made of.
-/// Names of banks in the first form begin with `old`, and those of banks in which client 7 left with `away`.
+/// Bytes that have a name, a line of each: the name, and the digits after it; the rows show what
+/// each is made of. Names of banks in the first form begin with `old`, and those of banks in which
+/// client 7 left with `away`.
 const NAMED: &str = "\
     none \n\
     shut 00\n\
@@ -41,7 +42,8 @@ const NAMED: &str = "\
 /// As many equal bytes are given by their number.
 const MANY: usize = 16;
 
-/// The bytes that the words represent: those of this name; a text, `"abc"`; or pieces of hexadecimal digits, where
+/// The bytes that the words represent: those of this name; a text, `"abc"`; or pieces of
+/// hexadecimal digits, where
 /// `34*00` is a byte so many times.
 ///
 /// # Errors
@@ -160,7 +162,8 @@ fn name_of(digits: &str) -> &str {
     }
 }
 
-// The bytes in hexadecimal digits, where many equal ones one after another are a piece of their own.
+// The bytes in hexadecimal digits, where many equal ones one after another are a piece of their
+// own.
 fn pieces_of(alloc: Global, bytes: &[u8]) -> Result<String, AllocError> {
     let mut text = String::new(alloc);
     write_pieces(&mut text, bytes)?;

@@ -39,7 +39,8 @@ pub(crate) fn crash(disk: &mut MemDisk, torn: Torn) -> Result<(), WordsFault> {
     }
 }
 
-/// Lets the disk crash, and says whether all of its bytes were synced: those that were not are 0x55 then.
+/// Lets the disk crash, and says whether all of its bytes were synced: those that were not are 0x55
+/// then.
 pub(crate) fn was_synced(alloc: Global, disk: &mut MemDisk) -> Result<bool, WordsFault> {
     let before = Vec::from_slice(alloc, disk.bytes())?;
     crash(disk, Torn::Filled(0x55))?;
@@ -122,8 +123,8 @@ fn tell_done(done: Result<(), DiskFault>, came: &mut String) -> Result<(), Words
     }
 }
 
-// Shows what the disk holds, how often it failed, or whether it holds an open gate and what stands after it; or lets it
-// hold other bytes.
+// Shows what the disk holds, how often it failed, or whether it holds an open gate and what stands
+// after it; or lets it hold other bytes.
 fn show_or_hold(
     alloc: Global,
     disk: &mut MemDisk,
@@ -201,7 +202,8 @@ fn set_byte(bytes: &mut Vec<u8>, words: &str) -> Result<(), WordsFault> {
     Ok(())
 }
 
-// Of each client from the first on, below the second, a snapshot would say that its message 1 got a Gone.
+// Of each client from the first on, below the second, a snapshot would say that its message 1 got a
+// Gone.
 fn push_clients(bytes: &mut Vec<u8>, words: &str) -> Result<(), WordsFault> {
     let (first, end) = read_numbered(words)?;
     let (end, _rest) = read_numbered(end)?;

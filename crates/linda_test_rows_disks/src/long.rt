@@ -17,8 +17,9 @@ use std::alloc::{AllocError, Global};
 /// The letters of a tag.
 const LETTERS: usize = 255;
 
-/// `long puts FIRST COUNT`: client 7 puts so many long tuples at once, by its messages from that number on; says how
-/// many replies there are. `long kept`: how many of the tuples that are kept are long.
+/// `long puts FIRST COUNT`: client 7 puts so many long tuples at once, by its messages from that
+/// number on; says how many replies there are. `long kept`: how many of the tuples that are kept
+/// are long.
 pub(crate) fn play_long(
     alloc: Global,
     server: &mut Durable<MemDisk>,

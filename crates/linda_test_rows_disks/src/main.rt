@@ -1,5 +1,6 @@
-//! Rows of disks and of what stands on them: disks in memory, banks with their journals, two banks of which one is
-//! chosen, and a server on two disks that is stopped inside each device call, fails there, or finds a damage.
+//! Rows of disks and of what stands on them: disks in memory, banks with their journals, two banks
+//! of which one is chosen, and a server on two disks that is stopped inside each device call, fails
+//! there, or finds a damage.
 //!
 //! The README says what the lines of a row may be.
 #![tactic(auto)]

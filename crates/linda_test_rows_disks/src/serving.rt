@@ -132,8 +132,8 @@ fn tell_done(done: Result<(), NodeFault>, came: &mut String) -> Result<(), Words
     }
 }
 
-// Stops the server inside this device call, and opens it again: `stop 3 kept snapshot`, or in the place of `snapshot`
-// messages, or nothing. Writes how many deeds were added.
+// Stops the server inside this device call, and opens it again: `stop 3 kept snapshot`, or in the
+// place of `snapshot` messages, or nothing. Writes how many deeds were added.
 fn stop(
     alloc: Global,
     server: &mut Durable<MemDisk>,

@@ -3,7 +3,8 @@
 use linda_disk::Torn;
 use linda_test_script::{WordsFault, split_word};
 
-/// The way to crash that begins the text, as `kept`, `lost` or `filled ff`, and what stands after it.
+/// The way to crash that begins the text, as `kept`, `lost` or `filled ff`, and what stands after
+/// it.
 pub(crate) fn split_torn(text: &str) -> Result<(Torn, &str), WordsFault> {
     let (word, rest) = split_word(text);
     match word {

@@ -61,8 +61,8 @@ impl Bags {
         Ok((plain, index))
     }
 
-    // Takes what many templates ask for, in turn, from both bags: so often in all, `(n % tags, n % keys)`, and at each
-    // tenth turn `(n % tags, ?i)` too. Writes where the two differ.
+    // Takes what many templates ask for, in turn, from both bags: so often in all, `(n % tags, n %
+    // keys)`, and at each tenth turn `(n % tags, ?i)` too. Writes where the two differ.
     fn take_all(
         &mut self,
         alloc: Global,
@@ -80,7 +80,8 @@ impl Bags {
         Ok(())
     }
 
-    // Takes what the template of this tag and key asks for from both bags, and says what came where they differ.
+    // Takes what the template of this tag and key asks for from both bags, and says what came where
+    // they differ.
     fn take_alike<K: Display + Drop>(
         &mut self,
         alloc: Global,
@@ -94,7 +95,8 @@ impl Bags {
     }
 }
 
-// Writes what came of both, or of each where they differ; nothing comes of what has nothing to give.
+// Writes what came of both, or of each where they differ; nothing comes of what has nothing to
+// give.
 fn tell_both(came: &mut String, plain: &str, index: &str) -> Result<(), WordsFault> {
     if plain != index {
         done(writeln!(came, "> plain {plain}, index {index}"))
@@ -145,7 +147,8 @@ fn play_bag<B: Bag>(
     }
 }
 
-// Appends what the word asks of an id: the tuple, which is taken out or not, or the first id from this one on.
+// Appends what the word asks of an id: the tuple, which is taken out or not, or the first id from
+// this one on.
 fn play_id<B: Bag>(
     alloc: Global,
     bag: &mut B,
@@ -189,7 +192,8 @@ fn least<B: Bag>(
     done(push_id(bag.least_match(&template, passed), came))
 }
 
-// Takes the tuple of the least id that the template matches; appends the id, the tuple, and which id comes next.
+// Takes the tuple of the least id that the template matches; appends the id, the tuple, and which
+// id comes next.
 fn take<B: Bag>(
     alloc: Global,
     bag: &mut B,

@@ -99,8 +99,8 @@ fn tell_class(class: Class, came: &mut String) -> Result<(), WordsFault> {
     }
 }
 
-// Shows what the words ask of a client: what is kept for it, its last number, whether it left by that, and which client
-// comes from this one on or above it.
+// Shows what the words ask of a client: what is kept for it, its last number, whether it left by
+// that, and which client comes from this one on or above it.
 fn show(
     alloc: Global,
     book: &Book,

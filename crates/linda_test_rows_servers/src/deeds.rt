@@ -12,8 +12,8 @@ use linda_test_script::{
 use linda_wire::Reply;
 use std::alloc::Global;
 
-/// Does what the words say of the deeds: another deed, as `take 7 1 3`; the last number of a client; who takes a tuple;
-/// or which deed is reported of a message.
+/// Does what the words say of the deeds: another deed, as `take 7 1 3`; the last number of a
+/// client; who takes a tuple; or which deed is reported of a message.
 pub(crate) fn play_deeds(
     alloc: Global,
     deeds: &mut Vec<Deed>,
@@ -67,7 +67,8 @@ fn read_deed(alloc: Global, word: &str, words: &str) -> Result<Deed, WordsFault>
     }
 }
 
-// Writes the deed that is reported of a message of client 7, after its last number, and of the reply, as
+// Writes the deed that is reported of a message of client 7, after its last number, and of the
+// reply, as
 // `1: accept 2 1 4; gone 2`.
 fn report(alloc: Global, words: &str, came: &mut String) -> Result<(), WordsFault> {
     let (last, message, reply) = split_report(words)?;

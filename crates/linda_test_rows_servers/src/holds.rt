@@ -24,7 +24,8 @@ pub(crate) fn play_holds(
     }
 }
 
-// Lets the tuple be held for the request, as `1 2 3`; where that holds one already, its id is given.
+// Lets the tuple be held for the request, as `1 2 3`; where that holds one already, its id is
+// given.
 fn hold(holds: &mut Holds, words: &str, came: &mut String) -> Result<(), WordsFault> {
     let (id, rest) = split_number(words)?;
     let request = read_request(rest)?;
@@ -34,8 +35,8 @@ fn hold(holds: &mut Holds, words: &str, came: &mut String) -> Result<(), WordsFa
     }
 }
 
-// Shows what the words ask: for which request a tuple is held, which one a request holds, which a client holds and how
-// many, and which are held at all.
+// Shows what the words ask: for which request a tuple is held, which one a request holds, which a
+// client holds and how many, and which are held at all.
 fn show(
     alloc: Global,
     holds: &Holds,

@@ -1,5 +1,5 @@
-//! Rows of what a server in memory is made of: the bag, what is held and who waits, the book, the step, reports of
-//! deeds, nodes, sessions and conversations.
+//! Rows of what a server in memory is made of: the bag, what is held and who waits, the book, the
+//! step, reports of deeds, nodes, sessions and conversations.
 //!
 //! The README says what the lines of a row may be.
 #![tactic(auto)]

@@ -1,4 +1,5 @@
-//! Two stores, one over each bag: what clients say to them, and what comes of it, which has to be the same.
+//! Two stores, one over each bag: what clients say to them, and what comes of it, which has to be
+//! the same.
 
 use crate::node::batch;
 use crate::told::{done, tell, tell_alike, tell_two};
@@ -131,7 +132,8 @@ fn puts<B: Bag>(alloc: Global, store: &mut Store<B>, fields: &str) -> Result<(),
     Ok(())
 }
 
-// Client 8 asks by the tickets from 1 on, below this one, for the tuple 5: to take it by an odd one, else to read it.
+// Client 8 asks by the tickets from 1 on, below this one, for the tuple 5: to take it by an odd
+// one, else to read it.
 fn asks<B: Bag>(alloc: Global, store: &mut Store<B>, end: &str) -> Result<(), WordsFault> {
     let end = read_number(end)?;
     for ticket in 1..end {
@@ -187,7 +189,8 @@ fn split_form(words: &str) -> (Form, &str) {
     }
 }
 
-// Writes how many bytes the deeds of these messages will spell, or that one has no spelling in the form.
+// Writes how many bytes the deeds of these messages will spell, or that one has no spelling in the
+// form.
 fn tell_size<B: Bag>(
     alloc: Global,
     store: &Store<B>,
@@ -202,7 +205,8 @@ fn tell_size<B: Bag>(
     }
 }
 
-/// Appends a line for a deed, as `> put 7 1 ("a", 3)`, `> take 7 1 1`, `> pass 7 1 1` or `> leave 7 1`.
+/// Appends a line for a deed, as `> put 7 1 ("a", 3)`, `> take 7 1 1`, `> pass 7 1 1` or `> leave 7
+/// 1`.
 pub(crate) fn tell_deed(alloc: Global, came: &mut String, deed: &Deed) -> Result<(), AllocError> {
     match deed {
         Deed::Out { client, n, tuple } => {

@@ -56,8 +56,9 @@ impl Talks {
         tell_taken(alloc, &taken, came)
     }
 
-    // The conversation over the stream, which comes in pieces of this size; the reader fails at its end where the
-    // word `fails` stands there, and the writer after so many bytes. Gives what was written, and the end.
+    // The conversation over the stream, which comes in pieces of this size; the reader fails at its
+    // end where the word `fails` stands there, and the writer after so many bytes. Gives what was
+    // written, and the end.
     fn talk(&mut self, alloc: Global, words: &str, came: &mut String) -> Result<(), WordsFault> {
         let (size, rest) = split_word(words);
         let (word, room) = split_word(rest);

@@ -92,8 +92,8 @@ fn take_readers(
     Ok(())
 }
 
-// Shows what the words ask: whether a request waits, how many requests do, in all or of a client, or who waits for a
-// tuple.
+// Shows what the words ask: whether a request waits, how many requests do, in all or of a client,
+// or who waits for a tuple.
 fn show(
     alloc: Global,
     waits: &Waits,

@@ -1,12 +1,14 @@
 //! Values as bytes.
 //!
-//! `spell tuple TUPLE` gives the bytes; `put BYTES ATOM ..` gives these bytes with the atoms' after them; where the
-//! form has no spelling, they say so. `get tuple AT BYTES`, and so `template` and `atom`, reads from an offset on, and
-//! gives the value and the offset after it. `read tuple BYTES`, and so `template`, `atom`, `u8`, `u32`, `u64` and
-//! `bool`, gives the value and the bytes after it. `skip tuple BYTES` and `skip template BYTES` give the bytes after it
-//! alone. Each gives the fault where nothing is read. Values are in the first form; with `two` after the verb, as in
-//! `spell two tuple TUPLE`, they are in the second one. A template is spelled in the second one alone, where each has a
-//! spelling: `spell two template TEMPLATE`.
+//! `spell tuple TUPLE` gives the bytes; `put BYTES ATOM ..` gives these bytes with the atoms' after
+//! them; where the form has no spelling, they say so. `get tuple AT BYTES`, and so `template` and
+//! `atom`, reads from an offset on, and gives the value and the offset after it. `read tuple
+//! BYTES`, and so `template`, `atom`, `u8`, `u32`, `u64` and
+//! `bool`, gives the value and the bytes after it. `skip tuple BYTES` and `skip template BYTES`
+//! give the bytes after it alone. Each gives the fault where nothing is read. Values are in the
+//! first form; with `two` after the verb, as in
+//! `spell two tuple TUPLE`, they are in the second one. A template is spelled in the second one
+//! alone, where each has a spelling: `spell two template TEMPLATE`.
 
 use crate::hexadecimal::{bytes_of, tell_bytes};
 use crate::texts::{atoms_in, split_offset};
@@ -78,7 +80,8 @@ fn spell_tuple(
     tell_bytes(alloc, came, &bytes)
 }
 
-// Templates are put in the second form alone, in which each has a spelling: its patterns are within the limits.
+// Templates are put in the second form alone, in which each has a spelling: its patterns are within
+// the limits.
 fn spell_template(
     alloc: Global,
     form: Form,

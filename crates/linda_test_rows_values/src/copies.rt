@@ -1,7 +1,8 @@
 //! Copies of values.
 //!
-//! `tuple TUPLE` and `template TEMPLATE` give a copy. `text LETTERS` gives the text's count of bytes, whether it
-//! is empty, its letters, whether a copy is equal to it, and the letters that the copy gives back.
+//! `tuple TUPLE` and `template TEMPLATE` give a copy. `text LETTERS` gives the text's count of
+//! bytes, whether it is empty, its letters, whether a copy is equal to it, and the letters that the
+//! copy gives back.
 
 use crate::told::{done, tell_value};
 use crate::typed::Typed;
@@ -39,7 +40,8 @@ fn copy_text(alloc: Global, came: &mut String, letters: &str) -> Result<(), Allo
     tell_text(came, &text, text.try_clone(alloc)?)
 }
 
-// Appends what the text says of itself, whether the copy is equal to it, and what the copy gives back.
+// Appends what the text says of itself, whether the copy is equal to it, and what the copy gives
+// back.
 fn tell_text(came: &mut String, text: &Text, copy: Text) -> Result<(), AllocError> {
     let count = text.len();
     let is_empty = if text.is_empty() {

@@ -1,7 +1,7 @@
 //! Rows in rows.
 //!
-//! `rows TEXT` plays the text as rows, by a player that knows the subject `echo` and the line `say WORDS`, and gives
-//! how many rows there are, what came, and what came otherwise.
+//! `rows TEXT` plays the text as rows, by a player that knows the subject `echo` and the line `say
+//! WORDS`, and gives how many rows there are, what came, and what came otherwise.
 
 use crate::notation::tell;
 use crate::told::done;

@@ -1,7 +1,7 @@
 //! Tuples and templates that are made of parts, which may be too many or too long.
 //!
-//! `tuple TAG FIELD ..` and `template TAG PATTERN ..` give what is made. A part is a number, `true`, `_`, or else
-//! the text that it is.
+//! `tuple TAG FIELD ..` and `template TAG PATTERN ..` give what is made. A part is a number,
+//! `true`, `_`, or else the text that it is.
 
 use crate::told::{done, tell_alone};
 use linda_test_script::{WordsFault, split_word};

@@ -1,7 +1,7 @@
 //! What a template matches, and what it binds.
 //!
-//! `match TEMPLATE | TUPLE` gives what the template binds in the tuple. `fits TEMPLATE | TUPLE` gives of each field
-//! of the tuple whether the template's first pattern fits it.
+//! `match TEMPLATE | TUPLE` gives what the template binds in the tuple. `fits TEMPLATE | TUPLE`
+//! gives of each field of the tuple whether the template's first pattern fits it.
 
 use crate::told::done;
 use crate::typed::Typed;

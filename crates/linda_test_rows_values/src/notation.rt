@@ -1,7 +1,7 @@
 //! How texts are written in rows, where they would be long or could not be seen.
 //!
-//! In braces stands what bytes are there in hexadecimal digits, as `{0a}` for a line feed; or how often what stands
-//! after a blank is there, as `{255 a}`.
+//! In braces stands what bytes are there in hexadecimal digits, as `{0a}` for a line feed; or how
+//! often what stands after a blank is there, as `{255 a}`.
 
 use crate::hexadecimal::bytes_of;
 use crate::told::done;

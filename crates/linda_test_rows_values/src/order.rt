@@ -1,7 +1,8 @@
 //! The order of atoms and of texts, and when tuples and templates are equal.
 //!
-//! `atoms ATOM ..` gives a line for each of them, how it stands to each: `<`, `=` or `>`. `texts ATOM ..` compares
-//! what the strings say. `tuples TUPLE | TUPLE` and `templates TEMPLATE | TEMPLATE` give whether they are equal.
+//! `atoms ATOM ..` gives a line for each of them, how it stands to each: `<`, `=` or `>`. `texts
+//! ATOM ..` compares what the strings say. `tuples TUPLE | TUPLE` and `templates TEMPLATE |
+//! TEMPLATE` give whether they are equal.
 
 use crate::texts::atoms_in;
 use crate::told::done;

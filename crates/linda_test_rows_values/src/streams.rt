@@ -1,11 +1,14 @@
 //! Streams of frames, of messages or of replies.
 //!
-//! `frame WORDS` gives the frame of a message or a reply. `feed BYTES` is a piece of the row's stream; `next` gives
-//! what stands at its front, `nothing` where that is not whole, or the fault; `left` how many bytes are not read.
-//! `bytewise BYTES` feeds them one by one, and gives how often there was nothing before a byte came.
+//! `frame WORDS` gives the frame of a message or a reply. `feed BYTES` is a piece of the row's
+//! stream; `next` gives what stands at its front, `nothing` where that is not whole, or the fault;
+//! `left` how many bytes are not read.
+//! `bytewise BYTES` feeds them one by one, and gives how often there was nothing before a byte
+//! came.
 //!
-//! `behind BYTES` says what `fault` lets come after. `fault BYTES` gives a new stream all of them but the last one,
-//! the last one, and what comes after, and gives what is next after each, and how many bytes are left.
+//! `behind BYTES` says what `fault` lets come after. `fault BYTES` gives a new stream all of them
+//! but the last one, the last one, and what comes after, and gives what is next after each, and how
+//! many bytes are left.
 
 use crate::frames::{Spoken, frame_of, push_words_of_copy};
 use crate::hexadecimal::{bytes_of, tell_made};

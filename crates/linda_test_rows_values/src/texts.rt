@@ -1,9 +1,11 @@
 //! Tuples, templates and atoms as people type them.
 //!
-//! `tuple TEXT` and `template TEXT` give what is read, as it is written, or why nothing is. `template-at AT TEXT`
-//! and `atom-at AT TEXT` read from an offset on, and give the offset after it too. `split BYTES` gives the template
-//! at the front of bytes, which need be no UTF-8, and the bytes after it; `skip BYTES` gives these alone.
-//! `triples ATOM ..` gives how many of all tuples of three of these atoms are written, read again and the same.
+//! `tuple TEXT` and `template TEXT` give what is read, as it is written, or why nothing is.
+//! `template-at AT TEXT` and `atom-at AT TEXT` read from an offset on, and give the offset after it
+//! too. `split BYTES` gives the template at the front of bytes, which need be no UTF-8, and the
+//! bytes after it; `skip BYTES` gives these alone.
+//! `triples ATOM ..` gives how many of all tuples of three of these atoms are written, read again
+//! and the same.
 
 use crate::hexadecimal::bytes_of;
 use crate::told::{done, tell_alone, tell_front, tell_placed, tell_rest};

@@ -1,7 +1,8 @@
 //! The words of messages and replies.
 //!
-//! `message WORDS` and `reply WORDS` give what is read, in words. `said LINE` and `told LINE` give the frames
-//! of a script's line. `numbered WORDS` gives the number at the front, and what stands after it.
+//! `message WORDS` and `reply WORDS` give what is read, in words. `said LINE` and `told LINE` give
+//! the frames of a script's line. `numbered WORDS` gives the number at the front, and what stands
+//! after it.
 
 use crate::hexadecimal::tell_made;
 use crate::told::{done, tell_alone, tell_fault};

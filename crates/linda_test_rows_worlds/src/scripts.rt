@@ -1,14 +1,15 @@
 //! Scripts of `linda run`, and what they print, or their traces.
 //!
-//! A line is a line of the script, and what it prints comes after it: each time the script is run from its
-//! beginning, and what it printed before has to come again. Its fault, if it has one, comes after that. `servers N`
-//! begins a script over that many servers; where a row does not say so, it is over one. `script TEXT` runs a script
-//! that stands there as a string, since its blanks and line ends matter, and gives all that it prints. `times N LINE`
-//! is a line that stands there N times: how many lines that prints is written, and the last of them. A tilde in a line
-//! represents a string of 255 letters. `skip N` is N lines that are passed over.
+//! A line is a line of the script, and what it prints comes after it: each time the script is run
+//! from its beginning, and what it printed before has to come again. Its fault, if it has one,
+//! comes after that. `servers N` begins a script over that many servers; where a row does not say
+//! so, it is over one. `script TEXT` runs a script that stands there as a string, since its blanks
+//! and line ends matter, and gives all that it prints. `times N LINE` is a line that stands there N
+//! times: how many lines that prints is written, and the last of them. A tilde in a line represents
+//! a string of 255 letters. `skip N` is N lines that are passed over.
 //!
-//! In a row of traces each line gives the lines of the trace in place of what is printed, which has to be what is
-//! printed without a trace.
+//! In a row of traces each line gives the lines of the trace in place of what is printed, which has
+//! to be what is printed without a trace.
 
 mod lines;
 
@@ -104,8 +105,8 @@ impl Scripts {
         self.run(alloc, came, false)
     }
 
-    // Runs the script, and gives what it printed that it had not printed before: all of it, or only the last line where
-    // there are many.
+    // Runs the script, and gives what it printed that it had not printed before: all of it, or only
+    // the last line where there are many.
     fn run(&mut self, alloc: Global, came: &mut String, are_many: bool) -> Result<(), WordsFault> {
         let (printed, end) = if self.are_traced {
             traced_by(alloc, &self.script, self.servers)?
@@ -171,7 +172,8 @@ fn printed_by(
     Ok((text_of(alloc, &printed)?, end))
 }
 
-// The trace of the script over so many servers, and how it ends. What it prints has to be what it prints without one.
+// The trace of the script over so many servers, and how it ends. What it prints has to be what it
+// prints without one.
 fn traced_by(
     alloc: Global,
     script: &str,

@@ -38,7 +38,8 @@ pub fn told_frames(alloc: Global, script: &str) -> Result<Vec<u8>, WordsFault> {
     Ok(frames)
 }
 
-// Appends the frame of the message that is said, or the bytes whose digits stand after the word `bytes`.
+// Appends the frame of the message that is said, or the bytes whose digits stand after the word
+// `bytes`.
 fn push_said(alloc: Global, frames: &mut Vec<u8>, words: &str) -> Result<(), WordsFault> {
     match words.strip_prefix("bytes ") {
         Some(digits) => Ok(frames.extend_from_slice(&read_hex(alloc, digits)?)?),

@@ -23,7 +23,8 @@ pub fn tell_replies(
     Ok(())
 }
 
-/// Appends the line of what is kept under an id, and for which request it is held, as `> tuple 1 ("a", 3) free`, or
+/// Appends the line of what is kept under an id, and for which request it is held, as `> tuple 1
+/// ("a", 3) free`, or
 /// `> tuple 1 ("a", 3) held 8 2`; `none` is written for a tuple that is not there.
 ///
 /// # Errors

@@ -2,8 +2,8 @@
 
 use std::alloc::{AllocError, Global};
 
-/// What a line says that goes in: the line without the blanks around it, if anything stands there and it is not told
-/// after `>`.
+/// What a line says that goes in: the line without the blanks around it, if anything stands there
+/// and it is not told after `>`.
 pub fn said(line: &str) -> Option<&str> {
     let line = line.trim();
     if line.is_empty() || line.starts_with('>') {
@@ -18,7 +18,8 @@ pub fn told(line: &str) -> Option<&str> {
     line.trim().strip_prefix("> ")
 }
 
-/// The lines of a script that say or tell something, without blanks around them, each with a line feed.
+/// The lines of a script that say or tell something, without blanks around them, each with a line
+/// feed.
 ///
 /// # Errors
 ///

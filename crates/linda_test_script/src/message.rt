@@ -44,7 +44,8 @@ pub fn read_messages(alloc: Global, script: &str) -> Result<Vec<(u32, Message)>,
     Ok(messages)
 }
 
-/// The messages that the words say, with `; ` between them, each after the number of its client; of no words none.
+/// The messages that the words say, with `; ` between them, each after the number of its client; of
+/// no words none.
 ///
 /// # Errors
 ///

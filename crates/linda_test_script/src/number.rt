@@ -2,7 +2,8 @@
 
 use crate::fault::WordsFault;
 
-/// The first word of a text and what stands after the blank after it, which is nothing where no blank stands there.
+/// The first word of a text and what stands after the blank after it, which is nothing where no
+/// blank stands there.
 pub fn split_word(text: &str) -> (&str, &str) {
     match text.split_once(' ') {
         Some((word, rest)) => (word, rest),
@@ -46,7 +47,8 @@ pub fn read_size(text: &str) -> Result<usize, WordsFault> {
     }
 }
 
-/// The number of 64 bits that is the first word of a text, and what stands after the blank after it.
+/// The number of 64 bits that is the first word of a text, and what stands after the blank after
+/// it.
 ///
 /// # Errors
 ///
@@ -56,7 +58,8 @@ pub fn split_number(text: &str) -> Result<(u64, &str), WordsFault> {
     Ok((read_number(word)?, rest))
 }
 
-/// The number of 32 bits that is the first word, of a client or a server, and what stands after the blank after it.
+/// The number of 32 bits that is the first word, of a client or a server, and what stands after the
+/// blank after it.
 ///
 /// # Errors
 ///

@@ -9,10 +9,10 @@
 //! > 8 offer 1 1 ("a", 4)
 //! ```
 //!
-//! A row begins with a line `== SUBJECT: what is to be seen`, and the player begins anew there. A line that begins
-//! with `>` is wanted of the line before it; a line that begins with `#`, and an empty one, says nothing; each other
-//! line is played. The rows come as they say where their text, with what came in place of what is wanted, is the text
-//! that it was.
+//! A row begins with a line `== SUBJECT: what is to be seen`, and the player begins anew there. A
+//! line that begins with `>` is wanted of the line before it; a line that begins with `#`, and an
+//! empty one, says nothing; each other line is played. The rows come as they say where their text,
+//! with what came in place of what is wanted, is the text that it was.
 
 mod running;
 mod runs;
@@ -32,7 +32,8 @@ pub trait Player {
     ///
     /// # Errors
     ///
-    /// `Unknown` for a subject that is not known: no line of the row is played then. `Memory` where memory runs out.
+    /// `Unknown` for a subject that is not known: no line of the row is played then. `Memory` where
+    /// memory runs out.
     fn begin(&mut self, alloc: Global, subject: &str) -> Result<(), WordsFault>;
 
     /// Does what a line says, and appends what came of it, line by line, each after `> `.
@@ -48,8 +49,8 @@ pub trait Player {
 pub struct Played {
     /// How many rows there are.
     pub rows: u64,
-    /// Their text, line by line, with what came of a line in place of what is wanted of it. After a line that says
-    /// nothing to do stands `> ? not understood`.
+    /// Their text, line by line, with what came of a line in place of what is wanted of it. After a
+    /// line that says nothing to do stands `> ? not understood`.
     pub came: String,
     /// Of each row that came otherwise its number, its heading, and the first line that did.
     pub others: String,

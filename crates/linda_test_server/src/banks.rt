@@ -20,7 +20,8 @@ pub struct Banks {
     pub other: Option<Banked>,
 }
 
-/// The banks on these disks, as a server that is opened on them finds them; none where it finds none.
+/// The banks on these disks, as a server that is opened on them finds them; none where it finds
+/// none.
 pub fn banks_on(alloc: Global, disks: (MemDisk, MemDisk), limit: usize) -> Option<Banks> {
     let (left, right) = disks;
     let (is_right, in_use, other) = chosen(alloc, left, right, limit)?;

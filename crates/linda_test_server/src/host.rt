@@ -1,7 +1,7 @@
 //! What tests ask of the server that sessions share.
 //!
-//! A test speaks to a host, whatever that is made of; here alone it is a `Shared` over disks in memory, so that the
-//! prover goes through its parts in few places.
+//! A test speaks to a host, whatever that is made of; here alone it is a `Shared` over disks in
+//! memory, so that the prover goes through its parts in few places.
 
 ghost use Rattle.std.specs.Prelude.{◌≤◌, ◌<◌, length, All};
 ghost use Rattle.linda_store_step.specs.declared.size.TheConstants.{MAX_BATCH};
@@ -24,8 +24,8 @@ pub enum Welcome<S, O> {
     Refused(u8, u64),
 }
 
-/// A server that sessions share, whose clients speak at such a seat, and whose replies come out at such an outlet. Each
-/// call does what that of `Shared` of the same name does.
+/// A server that sessions share, whose clients speak at such a seat, and whose replies come out at
+/// such an outlet. Each call does what that of `Shared` of the same name does.
 pub trait Host<S, O>: Drop {
     /// The client that has the seat.
     fn client(seat: &S) -> u32;
@@ -61,13 +61,15 @@ pub trait Host<S, O>: Drop {
     /// A second outlet of the same session.
     fn another(outlet: &O) -> Result<O, AllocError>;
 
-    /// Waits until there is a reply that others' messages led to, or none will come: whether one may come.
+    /// Waits until there is a reply that others' messages led to, or none will come: whether one
+    /// may come.
     fn wait_news<R: Wait>(&self, rt: &R, outlet: &O) -> bool;
 
     /// How many clients have a mailbox.
     fn mailboxes<R: Wait>(&self, rt: &R) -> usize;
 
-    /// No reply comes out at the outlet of this seat any more, once those that are there were taken.
+    /// No reply comes out at the outlet of this seat any more, once those that are there were
+    /// taken.
     fn hang_up<R: Wait>(&self, rt: &R, seat: &mut S);
 
     /// The session ends.

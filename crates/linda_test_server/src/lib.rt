@@ -1,7 +1,9 @@
-//! A durable server in memory that a test's sessions share, and what tests ask of it. Only tests use it.
+//! A durable server in memory that a test's sessions share, and what tests ask of it. Only tests
+//! use it.
 //!
-//! `play` plays a test's `Scene` over a new server, as a `Stand` says, that it speaks to as a `Host`; `shared_on` makes
-//! that server. `words` has the messages that tests send; `kept_after_crash` says what is there after a stop, and
+//! `play` plays a test's `Scene` over a new server, as a `Stand` says, that it speaks to as a
+//! `Host`; `shared_on` makes that server. `words` has the messages that tests send;
+//! `kept_after_crash` says what is there after a stop, and
 //! `banks_on` which bank stands on which disk.
 #![tactic(auto)]
 

@@ -12,7 +12,8 @@ use std::alloc::{AllocError, Global};
 use std::marker::Brand;
 use std::sync::ledger::{Blank, Ledger};
 
-/// What is played with such a runtime, in one thread: what a method sends to another may not rest on its own bounds.
+/// What is played with such a runtime, in one thread: what a method sends to another may not rest
+/// on its own bounds.
 pub trait Scene<R> {
     /// Plays it. The server is new, and nobody has a seat.
     ///

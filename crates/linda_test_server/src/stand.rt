@@ -18,8 +18,8 @@ const CALLS_TO_CREATE: u64 = 6;
 /// What a server keeps: its next id, how many tuples there are, and how many clients it knows.
 pub type Kept = (u64, usize, usize);
 
-/// The server that a test is over: its limit, and the device call after its making, from 0, inside which its
-/// left disk stops, if it does.
+/// The server that a test is over: its limit, and the device call after its making, from 0, inside
+/// which its left disk stops, if it does.
 #[derive(Clone, Copy)]
 pub struct Stand {
     /// The most bytes that a bank may have.
@@ -76,8 +76,8 @@ pub(crate) fn kept_in(state: &State<IndexBag>) -> Kept {
     (state.next, state.bag.len(), state.book.len())
 }
 
-/// What the server keeps that stands on these disks after a crash that leaves so much of the left one; `None` where it
-/// cannot crash so, or none opens there.
+/// What the server keeps that stands on these disks after a crash that leaves so much of the left
+/// one; `None` where it cannot crash so, or none opens there.
 pub fn kept_after_crash(
     alloc: Global,
     disks: (MemDisk, MemDisk),

@@ -62,7 +62,8 @@ EndsNumeral (b ∷ rest) = is_ascii_digit b ≡ false
 -- The fields that follow the tag: before each a comma, after the last one the closing parenthesis,
 -- and blanks before each token.
 abbrev pub AreFields : {A : Type 0} → (A → List ℕ → Type 0) → List A → List ℕ → Type 0
-AreFields IsText [] text = (blanks : List ℕ) × AreBlanks blanks × (text ≡ blanks ++ mark.CLOSING ∷ [])
+AreFields IsText [] text =
+    (blanks : List ℕ) × AreBlanks blanks × (text ≡ blanks ++ mark.CLOSING ∷ [])
 AreFields IsText (a ∷ others) text =
     (before between field rest : List ℕ) × AreBlanks before × AreBlanks between
     × IsText a field × AreFields IsText others rest

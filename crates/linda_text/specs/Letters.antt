@@ -10,7 +10,8 @@ is_blank b = b == mark.SPACE || b == mark.TAB
 
 -- What may not stand as itself in a string: a quote, a backslash, a line feed, a carriage return.
 abbrev pub is_special : ℕ → Bool
-is_special b = b == mark.QUOTE || b == mark.BACKSLASH || b == mark.LINE_FEED || b == mark.CARRIAGE_RETURN
+is_special b =
+    b == mark.QUOTE || b == mark.BACKSLASH || b == mark.LINE_FEED || b == mark.CARRIAGE_RETURN
 
 -- What a letter after a backslash represents: \" \\ \n \t \r.
 abbrev pub escaped : ℕ → Option ℕ

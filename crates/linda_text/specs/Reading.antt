@@ -1,5 +1,6 @@
 -- What the readers give: the value, or the first fault from the left.
-use Rattle.std.specs.Prelude.{ℕ, zero, suc, ◌^◌, ◌==◌, ◌&&◌, ℤ, pos, neg_ℤ, Bool, true, false, not, nat_lt}
+use Rattle.std.specs.Prelude.{ℕ, zero, suc, ◌^◌, ◌==◌, ◌&&◌, ℤ, pos, neg_ℤ, Bool, true, false, not}
+use Rattle.std.specs.Prelude.{nat_lt}
 use Rattle.std.specs.Prelude.{List, [], ◌∷◌, length, take, drop, if◌then◌else◌}
 use Rattle.std.specs.Prelude.{Option, Some, None, Result, Ok, Err}
 use Rattle.std.specs.Char.{is_ascii_digit}
@@ -183,7 +184,8 @@ pattern_at (b ∷ rest) =
 unfoldable pub more_at : Reader Bool
 more_at [] = wrong []
 more_at (b ∷ rest) =
-    if b == mark.COMMA then Ok (true, rest) else (if b == mark.CLOSING then Ok (false, rest) else wrong (b ∷ rest))
+    if b == mark.COMMA then Ok (true, rest)
+    else (if b == mark.CLOSING then Ok (false, rest) else wrong (b ∷ rest))
 
 -- The closing parenthesis, where no more fields may follow.
 unfoldable pub no_more_at : List ℕ → Result (List ℕ) TextFault

@@ -49,7 +49,8 @@ written_field written field = mark.COMMA ∷ mark.SPACE ∷ written field
 -- The opening parenthesis, the tag, the fields after it, and the closing parenthesis.
 abbrev pub written_row : {A : Type 0} → (A → List ℕ) → Atom → List A → List ℕ
 written_row written tag fields =
-    mark.OPENING ∷ (written_atom tag ++ (flat_map (written_field written) fields ++ mark.CLOSING ∷ []))
+    mark.OPENING ∷ (written_atom tag
+    ++ (flat_map (written_field written) fields ++ mark.CLOSING ∷ []))
 
 abbrev pub written_tuple : Tuple → List ℕ
 written_tuple tuple = written_row written_atom tuple.tag tuple.fields

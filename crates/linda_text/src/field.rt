@@ -50,7 +50,8 @@ pub(crate) fn read_fields<F: Field>(
 
 /// The bytes after the closing parenthesis after the fields.
 pub(crate) fn skip_fields<F: Field>(bytes: &[u8]) -> Result<&[u8], TextFault>
-    ensures { GivesAlways (λ rest. rest.now) result (left_by (fields_at F.reading MAX_FIELDS bytes.now)) }
+    ensures { GivesAlways (λ rest. rest.now) result
+        (left_by (fields_at F.reading MAX_FIELDS bytes.now)) }
 {
     let mut rest = bytes;
     for _ in 0..MAX_FIELDS {

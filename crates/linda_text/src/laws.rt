@@ -13,7 +13,8 @@ ghost use Rattle.linda_text.specs.Written.{written_atom, written_tuple, written_
 pub fn what_is_written_stands_for_its_value()
     ensures atoms { (atom : atoms.Atom) → IsAlone IsAtomText atom (written_atom atom) }
     ensures tuples { (tuple : Tuple) → IsAlone IsTupleText tuple (written_tuple tuple) }
-    ensures templates { (template : Template) → IsAlone IsTemplateText template (written_template template) }
+    ensures templates { (template : Template)
+        → IsAlone IsTemplateText template (written_template template) }
 {}
 
 /// A text represents one tuple and one template, if any.

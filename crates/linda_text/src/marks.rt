@@ -1,4 +1,5 @@
-//! The bytes that have a meaning in texts: blanks, marks, the first letters of words, and the letters of escapes.
+//! The bytes that have a meaning in texts: blanks, marks, the first letters of words, and the
+//! letters of escapes.
 
 /// A blank.
 pub const SPACE: u8 = b' ';

@@ -59,7 +59,8 @@ pub fn read_atom_at(alloc: Global, text: &str, at: usize) -> Result<(Atom, usize
     ensures found { IfOk result (λ x. IsAtomAt text.now at x.0 (drop x.1 text.now)) }
     ensures within { IfOk result (λ x. x.1 ≤ length text.now) }
     // What stands there, with no digit after it, is read, unless memory runs out.
-    ensures only { (atom : atoms.Atom) (rest : List ℕ) → IsAtomAt text.now at atom rest → EndsNumeral rest
+    ensures only { (atom : atoms.Atom) (rest : List ℕ) → IsAtomAt text.now at atom rest
+        → EndsNumeral rest
         → Gives (λ x. x) result (Ok (atom, length text.now - length rest)) }
     // Which fault it is, and where.
     ensures exact { Gives (λ x. x) result (read_at spaced_atom_at text.now at) }

@@ -86,7 +86,8 @@ pub fn skip_spaced_atom(bytes: &[u8]) -> Result<&[u8], TextFault>
 // The bytes after the row after the blanks.
 #[tactic(auto, unfolding(crate::specs::Reading::row_at, crate::specs::Reading::tag_at))]
 fn skip_row<F: Field>(bytes: &[u8]) -> Result<&[u8], TextFault>
-    ensures { GivesAlways (λ rest. rest.now) result (left_by (row_at F.reading (after_blanks bytes.now))) }
+    ensures { GivesAlways (λ rest. rest.now) result
+        (left_by (row_at F.reading (after_blanks bytes.now))) }
 {
     let rest = skip_word(skip_blanks(bytes), b"(")?;
     let rest = skip_atom(skip_blanks(rest))?;

@@ -26,11 +26,13 @@ pub fn read_tuple(alloc: Global, text: &str) -> Result<Tuple, TextFault>
     // What is read stands there.
     ensures found { IfOk result (IsTupleAlone text.now) }
     // What stands there is read, unless memory runs out: so a text is refused only where none does.
-    ensures only { (tuple : Tuple) → IsTupleAlone text.now tuple → Gives (λ t. t) result (Ok tuple) }
+    ensures only { (tuple : Tuple) → IsTupleAlone text.now tuple
+        → Gives (λ t. t) result (Ok tuple) }
     // Which fault it is, and where.
     ensures exact { Gives (λ t. t) result (told (length text.now) (only_of (tuple_at text.now))) }
     // Memory runs out only where a tuple stands there.
-    ensures memory { IsErrOf result TextFault.Memory → (tuple : Tuple) × IsTupleAlone text.now tuple }
+    ensures memory { IsErrOf result TextFault.Memory
+        → (tuple : Tuple) × IsTupleAlone text.now tuple }
 {
     match only_tuple(alloc, text) {
         Ok(tuple) => Ok(tuple),
@@ -47,11 +49,14 @@ pub fn read_template(alloc: Global, text: &str) -> Result<Template, TextFault>
     // What is read stands there.
     ensures found { IfOk result (IsTemplateAlone text.now) }
     // What stands there is read, unless memory runs out: so a text is refused only where none does.
-    ensures only { (template : Template) → IsTemplateAlone text.now template → Gives (λ t. t) result (Ok template) }
+    ensures only { (template : Template) → IsTemplateAlone text.now template
+        → Gives (λ t. t) result (Ok template) }
     // Which fault it is, and where.
-    ensures exact { Gives (λ t. t) result (told (length text.now) (only_of (template_at text.now))) }
+    ensures exact { Gives (λ t. t) result
+        (told (length text.now) (only_of (template_at text.now))) }
     // Memory runs out only where a template stands there.
-    ensures memory { IsErrOf result TextFault.Memory → (template : Template) × IsTemplateAlone text.now template }
+    ensures memory { IsErrOf result TextFault.Memory
+        → (template : Template) × IsTemplateAlone text.now template }
 {
     match only_template(alloc, text) {
         Ok(template) => Ok(template),

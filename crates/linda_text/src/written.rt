@@ -65,7 +65,8 @@ pub fn push_atom(out: &mut String, atom: &Atom) -> Result<(), AllocError>
 }
 
 fn push_row<F: Written>(out: &mut String, tag: &Atom, fields: &[F]) -> Result<(), AllocError>
-    ensures { OnOk result (IsWrittenBehind out.old out.new (written_row F.written tag.now fields.now)) }
+    ensures { OnOk result (IsWrittenBehind out.old out.new
+        (written_row F.written tag.now fields.now)) }
 {
     out.push_str("(")?;
     push_atom(out, tag)?;
@@ -74,7 +75,8 @@ fn push_row<F: Written>(out: &mut String, tag: &Atom, fields: &[F]) -> Result<()
 }
 
 fn push_fields<F: Written>(out: &mut String, fields: &[F]) -> Result<(), AllocError>
-    ensures { OnOk result (IsWrittenBehind out.old out.new (flat_map (written_field F.written) fields.now)) }
+    ensures { OnOk result (IsWrittenBehind out.old out.new
+        (flat_map (written_field F.written) fields.now)) }
 {
     for field in fields {
         out.push_str(", ")?;
@@ -136,7 +138,8 @@ fn push_content(out: &mut String, text: &str) -> Result<(), AllocError>
 
 // A character of a string, as itself or as an escape.
 fn push_char(out: &mut String, c: char) -> Result<(), AllocError>
-    ensures { OnOk result (IsWrittenBehind out.old out.new (flat_map written_byte (encode_utf8 c))) }
+    ensures { OnOk result (IsWrittenBehind out.old out.new
+        (flat_map written_byte (encode_utf8 c))) }
 {
     match c {
         '"' => out.push_str("\\\""),

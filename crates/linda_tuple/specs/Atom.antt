@@ -8,8 +8,8 @@ use Rattle.linda_tuple.specs.declared.form.Form.{Form}
 use Rattle.linda_tuple.specs.declared.form.Form.TheVariants.{Two}
 use Rattle.linda_tuple.specs.Form.{longest_text}
 
--- An atom that has a spelling in the form: an integer of 64 bits, or UTF-8 that is no longer than a text may be, or a
--- truth value.
+-- An atom that has a spelling in the form: an integer of 64 bits, or UTF-8 that is no longer than a
+-- text may be, or a truth value.
 abbrev pub IsSoundIn : Form → Atom → Type 0
 IsSoundIn form (atoms.Int n) = FitsSigned w64 n
 IsSoundIn form (atoms.Text t) = (length t ≤ longest_text form) × (is_utf8 t ≡ true)

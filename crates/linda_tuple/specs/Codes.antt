@@ -1,6 +1,7 @@
 -- How an atom, a row, a pattern and a shape are stored where a model's value holds one.
 use Rattle.std.specs.Prelude.{◌≡◌, ℕ, ℤ, ◌⊎◌, Bool, true, false, List, refl}
-use Rattle.std.specs.Coded.{Coded, code_by, coded×, coded⊎, coded_ℕ, coded_ℤ, coded_bool, coded_list}
+use Rattle.std.specs.Coded.{Coded, code_by, coded×, coded⊎, coded_ℕ, coded_ℤ, coded_bool}
+use Rattle.std.specs.Coded.{coded_list}
 use Rattle.std.proofs.Common.{inl, inr}
 use Rattle.linda_tuple.specs.declared.atom.Atom.{Atom}
 use Rattle.linda_tuple.specs.declared.atom.Atom.TheVariants as atoms

@@ -2,7 +2,8 @@
 use Rattle.std.specs.Prelude.{ℕ}
 use Rattle.linda_tuple.specs.declared.form.Form.{Form}
 use Rattle.linda_tuple.specs.declared.form.Form.TheVariants.{One, Two}
-use Rattle.linda_tuple.specs.declared.limits.TheConstants.{MAX_TEXT, MAX_FIELDS, ONE_MAX_TEXT, ONE_MAX_FIELDS}
+use Rattle.linda_tuple.specs.declared.limits.TheConstants.{MAX_TEXT, MAX_FIELDS, ONE_MAX_TEXT}
+use Rattle.linda_tuple.specs.declared.limits.TheConstants.{ONE_MAX_FIELDS}
 
 -- the longest text that has a spelling, in bytes
 abbrev pub longest_text : Form → ℕ

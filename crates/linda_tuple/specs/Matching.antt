@@ -23,8 +23,8 @@ are_fit [] (atom ∷ atoms) = false
 are_fit (pattern ∷ patterns) [] = false
 are_fit (pattern ∷ patterns) (atom ∷ atoms) = is_fit pattern atom && are_fit patterns atoms
 
--- Whether a template matches a tuple, as a test, which filters and searches of lists take: the tags are equal, there
--- are as many fields as patterns, and at each place the pattern fits the field.
+-- Whether a template matches a tuple, as a test, which filters and searches of lists take: the tags
+-- are equal, there are as many fields as patterns, and at each place the pattern fits the field.
 unfoldable pub is_match : Template → Tuple → Bool
 is_match template tuple = same_atom template.tag tuple.tag && are_fit template.fields tuple.fields
 
@@ -42,8 +42,10 @@ is_formal patterns.Any = false
 
 -- The atoms at the places of formals, in order.
 abbrev pub bound_at : List Pattern → List Atom → List Atom
-bound_at patterns atoms = map (λ place. place.1) (filter (λ place. is_formal place.0) (zip patterns atoms))
+bound_at patterns atoms =
+    map (λ place. place.1) (filter (λ place. is_formal place.0) (zip patterns atoms))
 
--- What a template binds at a tuple that it matches: the fields at the places of its formals, in order.
+-- What a template binds at a tuple that it matches: the fields at the places of its formals, in
+-- order.
 abbrev pub bindings_of : Template → Tuple → List Atom
 bindings_of template tuple = bound_at template.fields tuple.fields

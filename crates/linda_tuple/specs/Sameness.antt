@@ -71,15 +71,18 @@ never : {P : Type 0} → (P → ⊥) → Decides false P
 never none = ((λ e. absurd (false≢true e)), (λ p. absurd (none p)))
 
 pub same_atom-decides : (a b : Atom) → Decides (same_atom a b) (a ≡ b)
-same_atom-decides (atoms.Int m) (atoms.Int n) = Decides-like _ (λ e. ap atoms.Int e) (λ e. cc) (Decides-int_eq m n)
+same_atom-decides (atoms.Int m) (atoms.Int n) =
+    Decides-like _ (λ e. ap atoms.Int e) (λ e. cc) (Decides-int_eq m n)
 same_atom-decides (atoms.Int m) (atoms.Text t) = never (λ e. cc)
 same_atom-decides (atoms.Int m) (atoms.Bool b) = never (λ e. cc)
 same_atom-decides (atoms.Text s) (atoms.Int n) = never (λ e. cc)
-same_atom-decides (atoms.Text s) (atoms.Text t) = Decides-like _ (λ e. ap atoms.Text e) (λ e. cc) (bytes_eq-Decides s t)
+same_atom-decides (atoms.Text s) (atoms.Text t) =
+    Decides-like _ (λ e. ap atoms.Text e) (λ e. cc) (bytes_eq-Decides s t)
 same_atom-decides (atoms.Text s) (atoms.Bool b) = never (λ e. cc)
 same_atom-decides (atoms.Bool a) (atoms.Int n) = never (λ e. cc)
 same_atom-decides (atoms.Bool a) (atoms.Text t) = never (λ e. cc)
-same_atom-decides (atoms.Bool a) (atoms.Bool b) = Decides-like _ (λ e. ap atoms.Bool e) (λ e. cc) (booleans_Decides a b)
+same_atom-decides (atoms.Bool a) (atoms.Bool b) =
+    Decides-like _ (λ e. ap atoms.Bool e) (λ e. cc) (booleans_Decides a b)
 
 pub same_pattern-decides : (p q : Pattern) → Decides (same_pattern p q) (p ≡ q)
 same_pattern-decides (patterns.Value a) (patterns.Value b) =

@@ -25,8 +25,8 @@ IsSoundPatternIn form patterns.Any = Unit {0}
 abbrev pub IsSoundPattern : Pattern → Type 0
 IsSoundPattern pattern = IsSoundPatternIn Two pattern
 
--- A template that has a spelling in the form: no more patterns than there may be, and a spelling for its tag and for
--- each pattern.
+-- A template that has a spelling in the form: no more patterns than there may be, and a spelling
+-- for its tag and for each pattern.
 pub record FitsTemplateIn (form : Form) (template : Template) : Type 0 where
   pub count : length template.fields ≤ most_fields form
   pub tag : IsSoundIn form template.tag

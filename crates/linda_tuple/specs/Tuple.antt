@@ -11,8 +11,8 @@ pub record Tuple : Type 0 where
   pub tag : Atom
   pub fields : List Atom
 
--- A tuple that has a spelling in the form: no more fields than there may be, and a spelling for its tag and for each
--- field.
+-- A tuple that has a spelling in the form: no more fields than there may be, and a spelling for its
+-- tag and for each field.
 pub record FitsIn (form : Form) (tuple : Tuple) : Type 0 where
   pub count : length tuple.fields ≤ most_fields form
   pub tag : IsSoundIn form tuple.tag

@@ -2,7 +2,8 @@
 
 use thiserror::Error;
 
-/// Why a tuple or a template was refused. The count of fields is judged first, then the texts from the left.
+/// Why a tuple or a template was refused. The count of fields is judged first, then the texts from
+/// the left.
 #[derive(Clone, Copy, Debug, PartialEq, Eq, Error)]
 pub enum ValueFault {
     /// More than 32 fields follow the tag.

@@ -78,8 +78,8 @@ impl Held {
         }
     }
 
-    /// The same parts, in memory to be shared if they are large; as they were if they are not, or if there is no memory
-    /// for it.
+    /// The same parts, in memory to be shared if they are large; as they were if they are not, or
+    /// if there is no memory for it.
     pub(crate) fn shared(self, alloc: Global) -> Held
         ensures { held_tuple result ≡ held_tuple self }
     {

@@ -9,8 +9,8 @@ use crate::template::Template;
 use crate::tuple::Tuple;
 use std::alloc::{AllocError, Global};
 
-/// Whether the template matches the tuple: the tags are equal, there are as many fields as patterns,
-/// and each pattern fits the field at its place.
+/// Whether the template matches the tuple: the tags are equal, there are as many fields as
+/// patterns, and each pattern fits the field at its place.
 #[tactic(auto, unfolding(crate::specs::Matching::is_match))]
 pub fn matches(template: &Template, tuple: &Tuple) -> bool
     ensures { result ≡ is_match template.now tuple.now }

@@ -45,8 +45,10 @@ impl Template {
     /// or a value among the patterns is a text of more than 4,095 bytes.
     pub fn new(tag: Atom, fields: Vec<Pattern>) -> Result<Template, ValueFault>
         ensures made { IfOk result (λ t. t ≡ record { tag = tag; fields = fields.items }) }
-        ensures within { IsOk result ↔ IsWithinTemplate (record { tag = tag; fields = fields.items }) }
-        ensures many { IsErrOf result ValueFault.TooManyFields ↔ (MAX_FIELDS < length fields.items) }
+        ensures within { IsOk result ↔ IsWithinTemplate
+            (record { tag = tag; fields = fields.items }) }
+        ensures many { IsErrOf result ValueFault.TooManyFields
+            ↔ (MAX_FIELDS < length fields.items) }
     {
         if fields.len() > MAX_FIELDS {
             return Err(ValueFault::TooManyFields);
@@ -57,8 +59,8 @@ impl Template {
         Ok(Template { tag, fields })
     }
 
-    /// The template of a tag and patterns that are within the limits, which it keeps: no memory is taken. It is for
-    /// callers that have tested the limits already; others call `new`.
+    /// The template of a tag and patterns that are within the limits, which it keeps: no memory is
+    /// taken. It is for callers that have tested the limits already; others call `new`.
     pub fn from_parts(tag: Atom, fields: Vec<Pattern>) -> Template
         requires { IsWithinTemplate (record { tag = tag; fields = fields.items }) }
         ensures { result ≡ record { tag = tag; fields = fields.items } }

@@ -40,12 +40,13 @@ impl Tuple {
     ///
     /// # Errors
     ///
-    /// `TooManyFields` where more than 32 fields follow the tag, else `TextTooLong` where the tag or
-    /// a field is a text of more than 4,095 bytes.
+    /// `TooManyFields` where more than 32 fields follow the tag, else `TextTooLong` where the tag
+    /// or a field is a text of more than 4,095 bytes.
     pub fn new(tag: Atom, fields: Vec<Atom>) -> Result<Tuple, ValueFault>
         ensures made { IfOk result (λ t. t ≡ record { tag = tag; fields = fields.items }) }
         ensures within { IsOk result ↔ IsWithin (record { tag = tag; fields = fields.items }) }
-        ensures many { IsErrOf result ValueFault.TooManyFields ↔ (MAX_FIELDS < length fields.items) }
+        ensures many { IsErrOf result ValueFault.TooManyFields
+            ↔ (MAX_FIELDS < length fields.items) }
     {
         if fields.len() > MAX_FIELDS {
             return Err(ValueFault::TooManyFields);
@@ -58,8 +59,8 @@ impl Tuple {
         })
     }
 
-    /// The tuple of a tag and fields that are within the limits, which it keeps: no memory is taken. It is for
-    /// callers that have tested the limits already; others call `new`.
+    /// The tuple of a tag and fields that are within the limits, which it keeps: no memory is
+    /// taken. It is for callers that have tested the limits already; others call `new`.
     pub fn from_parts(tag: Atom, fields: Vec<Atom>) -> Tuple
         requires { IsWithin (record { tag = tag; fields = fields.items }) }
         ensures { result ≡ record { tag = tag; fields = fields.items } }
@@ -69,8 +70,9 @@ impl Tuple {
         }
     }
 
-    /// The same tuple, made so that its copies share its memory if it is large, that is, if its texts have 1,024 bytes
-    /// or more together. A small tuple is as it was, and so is a large one for which there is no memory.
+    /// The same tuple, made so that its copies share its memory if it is large, that is, if its
+    /// texts have 1,024 bytes or more together. A small tuple is as it was, and so is a large one
+    /// for which there is no memory.
     pub fn shared(self, alloc: Global) -> Tuple
         ensures { result ≡ self }
     {
@@ -96,8 +98,8 @@ impl Tuple {
         self.held.fields()
     }
 
-    /// A copy. It shares the memory of a tuple that `shared` gave, and takes none then, if that one is large; else it
-    /// has memory of its own.
+    /// A copy. It shares the memory of a tuple that `shared` gave, and takes none then, if that one
+    /// is large; else it has memory of its own.
     pub fn try_clone(&self, alloc: Global) -> Result<Tuple, AllocError>
         ensures { IfOk result (λ t. t ≡ self.now) }
     {

@@ -1,5 +1,6 @@
 -- The formats of messages and replies are lawful, and their spellings fit into frames.
-use Rattle.std.specs.Prelude.{◌≡◌, ℕ, ◌+◌, ◌*◌, ◌<◌, ◌≤◌, List, [], ◌∷◌, ◌++◌, All, length, Ok, refl}
+use Rattle.std.specs.Prelude.{◌≡◌, ℕ, ◌+◌, ◌*◌, ◌<◌, ◌≤◌, List, [], ◌∷◌, ◌++◌, All, length, Ok}
+use Rattle.std.specs.Prelude.{refl}
 use Rattle.std.specs.List.{flat_map, AllByRecursion}
 use Rattle.std.proofs.Common.{arith}
 use Rattle.std.proofs.lemmas.List.{length-append}
@@ -15,14 +16,17 @@ use Rattle.linda_codec.specs.Formats.{Format, no_kind, made_at}
 use Rattle.linda_codec.specs.Lawful.{IsFormat}
 use Rattle.linda_codec.specs.Values as value
 use Rattle.linda_codec.proofs.FormatLaws.{byte_is, short_number_is, number_is, truth_is, both_is}
-use Rattle.linda_codec.proofs.FormatLaws.{IsReader, body_is, made_again, no_kind_is, AreBodies, choice_is}
+use Rattle.linda_codec.proofs.FormatLaws.{IsReader, body_is, made_again, no_kind_is, AreBodies}
+use Rattle.linda_codec.proofs.FormatLaws.{choice_is}
 use Rattle.linda_codec.proofs.ValueLaws.{tuple_is, template_is}
 use Rattle.linda_wire.specs.declared.kinds.TheConstants as kind
 use Rattle.linda_wire.specs.declared.limits.TheConstants.{MAX_PAYLOAD}
 use Rattle.linda_wire.specs.declared.message.Message.{Message}
-use Rattle.linda_wire.specs.declared.message.Message.TheVariants.{Hello, Out, Ask, Accept, Cancel, Leave}
+use Rattle.linda_wire.specs.declared.message.Message.TheVariants.{Hello, Out, Ask, Accept, Cancel}
+use Rattle.linda_wire.specs.declared.message.Message.TheVariants.{Leave}
 use Rattle.linda_wire.specs.declared.reply.Reply.{Reply}
-use Rattle.linda_wire.specs.declared.reply.Reply.TheVariants.{Welcome, Stored, Offer, Read, Taken, Gone, Refused, Left}
+use Rattle.linda_wire.specs.declared.reply.Reply.TheVariants.{Welcome, Stored, Offer, Read, Taken}
+use Rattle.linda_wire.specs.declared.reply.Reply.TheVariants.{Gone, Refused, Left}
 use Rattle.linda_wire.specs.Frames as format
 use Rattle.linda_wire.specs.Frames.{spoken}
 
@@ -73,7 +77,8 @@ message_again (Hello version client fresh) rest fits =
 message_again (Out n tuple) rest fits = made_again out_is format.out_of (n, tuple) rest fits
 message_again (Ask ticket remove template) rest fits =
     made_again ask_is format.ask_of (ticket, (remove, template)) rest fits
-message_again (Accept n ticket id) rest fits = made_again accept_is format.accept_of (n, (ticket, id)) rest fits
+message_again (Accept n ticket id) rest fits =
+    made_again accept_is format.accept_of (n, (ticket, id)) rest fits
 message_again (Cancel ticket) rest fits = made_again number_is format.cancel_of ticket rest fits
 message_again (Leave n) rest fits = made_again number_is format.leave_of n rest fits
 
@@ -129,11 +134,15 @@ reply_again : (r : Reply) (rest : List ℕ) → format.FitsReply r
     → format.reply.read (format.spell_reply r ++ rest) ≡ Ok (r, rest)
 reply_again (Welcome last) rest fits = made_again number_is format.welcome_of last rest fits
 reply_again (Stored n id) rest fits = made_again stored_is format.stored_of (n, id) rest fits
-reply_again (Offer ticket id tuple) rest fits = made_again entry_is format.offer_of (ticket, (id, tuple)) rest fits
-reply_again (Read ticket id tuple) rest fits = made_again entry_is format.read_of (ticket, (id, tuple)) rest fits
-reply_again (Taken n id tuple) rest fits = made_again entry_is format.taken_of (n, (id, tuple)) rest fits
+reply_again (Offer ticket id tuple) rest fits =
+    made_again entry_is format.offer_of (ticket, (id, tuple)) rest fits
+reply_again (Read ticket id tuple) rest fits =
+    made_again entry_is format.read_of (ticket, (id, tuple)) rest fits
+reply_again (Taken n id tuple) rest fits =
+    made_again entry_is format.taken_of (n, (id, tuple)) rest fits
 reply_again (Gone n) rest fits = made_again number_is format.gone_of n rest fits
-reply_again (Refused code detail) rest fits = made_again refusal_is format.refused_of (code, detail) rest fits
+reply_again (Refused code detail) rest fits =
+    made_again refusal_is format.refused_of (code, detail) rest fits
 reply_again (Left n) rest fits = made_again number_is format.left_of n rest fits
 
 pub reply_is : IsFormat format.reply
@@ -180,7 +189,8 @@ abbrev VALUE_BYTES : ℕ
 VALUE_BYTES = ATOM_BYTES + 1 + ATOM_BYTES * most_fields spoken
 
 tagged_short : {A : Type 0} (spell : A → List ℕ) (Fits : A → Type 0) → AreShort spell Fits
-    → (tag : Atom) (many : List A) → IsSoundIn spoken tag → length many ≤ most_fields spoken → All Fits many
+    → (tag : Atom) (many : List A) → IsSoundIn spoken tag → length many ≤ most_fields spoken
+    → All Fits many
     → length ((value.atom spoken).spell tag ++ length many ∷ flat_map spell many) ≤ VALUE_BYTES
 tagged_short spell Fits one tag many sound count fits =
     omega (
@@ -191,12 +201,14 @@ tagged_short spell Fits one tag many sound count fits =
       length-append ((value.atom spoken).spell tag) (length many ∷ flat_map spell many),
     )
 
-pub tuple_short : (t : Tuple) → FitsIn spoken t → length ((value.tuple spoken).spell t) ≤ VALUE_BYTES
+pub tuple_short : (t : Tuple) → FitsIn spoken t
+    → length ((value.tuple spoken).spell t) ≤ VALUE_BYTES
 tuple_short t within =
     tagged_short (value.atom spoken).spell (IsSoundIn spoken) atom_short t.tag t.fields
     within.tag within.count within.fields
 
-pub template_short : (t : Template) → FitsTemplateIn spoken t → length ((value.template spoken).spell t) ≤ VALUE_BYTES
+pub template_short : (t : Template) → FitsTemplateIn spoken t
+    → length ((value.template spoken).spell t) ≤ VALUE_BYTES
 template_short t within =
     tagged_short (value.pattern spoken).spell (IsSoundPatternIn spoken) pattern_short t.tag t.fields
     within.tag within.count within.fields
@@ -208,7 +220,8 @@ pub record IsPayload (payload : List ℕ) : Type 0 where
 
 pub message_size : (m : Message) → format.FitsMessage m → IsPayload (format.spell_message m)
 message_size (Hello version client fresh) fits = record { some = omega arith; short = omega arith }
-message_size (Out n tuple) fits = record { some = omega arith; short = omega (arith, tuple_short tuple fits.1) }
+message_size (Out n tuple) fits =
+    record { some = omega arith; short = omega (arith, tuple_short tuple fits.1) }
 message_size (Ask ticket remove template) fits =
     record { some = omega arith; short = omega (arith, template_short template fits.1.1) }
 message_size (Accept n ticket id) fits = record { some = omega arith; short = omega arith }

@@ -12,9 +12,11 @@ use Rattle.linda_codec.specs.Values as value
 use Rattle.linda_wire.specs.declared.kinds.TheConstants as kind
 use Rattle.linda_wire.specs.declared.limits.TheConstants.{LENGTH_BYTES}
 use Rattle.linda_wire.specs.declared.message.Message.{Message}
-use Rattle.linda_wire.specs.declared.message.Message.TheVariants.{Hello, Out, Ask, Accept, Cancel, Leave}
+use Rattle.linda_wire.specs.declared.message.Message.TheVariants.{Hello, Out, Ask, Accept, Cancel}
+use Rattle.linda_wire.specs.declared.message.Message.TheVariants.{Leave}
 use Rattle.linda_wire.specs.declared.reply.Reply.{Reply}
-use Rattle.linda_wire.specs.declared.reply.Reply.TheVariants.{Welcome, Stored, Offer, Read, Taken, Gone, Refused, Left}
+use Rattle.linda_wire.specs.declared.reply.Reply.TheVariants.{Welcome, Stored, Offer, Read, Taken}
+use Rattle.linda_wire.specs.declared.reply.Reply.TheVariants.{Gone, Refused, Left}
 
 -- ---- values
 
@@ -82,7 +84,8 @@ spell_message (Accept n ticket id) = kind.ACCEPT ∷ accept.spell (n, (ticket, i
 spell_message (Cancel ticket) = kind.CANCEL ∷ number.spell ticket
 spell_message (Leave n) = kind.LEAVE ∷ number.spell n
 
--- What has a spelling among messages: numbers of their widths, and a tuple or template within its limits.
+-- What has a spelling among messages: numbers of their widths, and a tuple or template within its
+-- limits.
 abbrev pub FitsMessage : Message → Type 0
 FitsMessage (Hello version client fresh) = hello.Fits (version, (client, fresh))
 FitsMessage (Out n tuple) = out.Fits (n, tuple)
@@ -103,7 +106,8 @@ abbrev pub message_body_at : ℕ → Reader Message
 message_body_at = body_at message_kinds no_kind
 
 abbrev pub message : Format Message
-message = record { spell = spell_message; Fits = FitsMessage; read = choice_at message_kinds no_kind }
+message =
+    record { spell = spell_message; Fits = FitsMessage; read = choice_at message_kinds no_kind }
 
 -- A message's frame.
 abbrev pub message_frame : Message → List ℕ

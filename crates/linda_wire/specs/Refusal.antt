@@ -3,13 +3,15 @@ use Rattle.std.specs.Prelude.{ℕ}
 use Rattle.linda_wire.specs.declared.codes.TheConstants.{WRONG_VERSION, KNOWN_CLIENT, BUSY}
 use Rattle.linda_wire.specs.declared.codes.TheConstants.{OLD_NUMBER, NUMBER_GAP, NO_ROOM}
 use Rattle.linda_wire.specs.declared.codes.TheConstants.{TOO_MANY_CLIENTS, SERVER_DOWN, MALFORMED}
-use Rattle.linda_wire.specs.declared.codes.TheConstants.{TOO_MANY_ASKS, CLIENT_LEFT, NO_HELLO, STORE_FULL}
+use Rattle.linda_wire.specs.declared.codes.TheConstants.{TOO_MANY_ASKS, CLIENT_LEFT, NO_HELLO}
+use Rattle.linda_wire.specs.declared.codes.TheConstants.{STORE_FULL}
 use Rattle.linda_wire.specs.declared.codes.TheConstants.{NUMBERS_SPENT}
 use Rattle.linda_wire.specs.declared.limits.TheConstants.{MAX_CLIENTS, VERSION}
 use Rattle.linda_wire.specs.declared.refusal.Refusal.{Refusal}
 use Rattle.linda_wire.specs.declared.refusal.Refusal.TheVariants.{Version, Known, Busy, Old, Gap}
 use Rattle.linda_wire.specs.declared.refusal.Refusal.TheVariants.{Full, Spent, TooManyClients, Down}
-use Rattle.linda_wire.specs.declared.refusal.Refusal.TheVariants.{Malformed, TooManyAsks, Left, NoHello}
+use Rattle.linda_wire.specs.declared.refusal.Refusal.TheVariants.{Malformed, TooManyAsks, Left}
+use Rattle.linda_wire.specs.declared.refusal.Refusal.TheVariants.{NoHello}
 use Rattle.linda_wire.specs.declared.reply.Reply.{Reply}
 use Rattle.linda_wire.specs.declared.reply.Reply.TheVariants.{Refused}
 

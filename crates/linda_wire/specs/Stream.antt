@@ -9,7 +9,8 @@ use Rattle.linda_codec.specs.Steps.{Read}
 use Rattle.linda_codec.specs.Formats.{Format}
 use Rattle.linda_codec.specs.Lawful.{IsFormat}
 use Rattle.linda_wire.specs.declared.fault.FrameFault.{FrameFault}
-use Rattle.linda_wire.specs.declared.fault.FrameFault.TheVariants.{Memory, EmptyFrame, FrameTooLong, Malformed}
+use Rattle.linda_wire.specs.declared.fault.FrameFault.TheVariants.{Memory, EmptyFrame, FrameTooLong}
+use Rattle.linda_wire.specs.declared.fault.FrameFault.TheVariants.{Malformed}
 use Rattle.linda_wire.specs.declared.limits.TheConstants.{LENGTH_BYTES, MAX_PAYLOAD}
 use Rattle.linda_wire.specs.declared.message.Message.{Message}
 use Rattle.linda_wire.specs.declared.reply.Reply.{Reply}
@@ -18,7 +19,8 @@ use Rattle.linda_wire.specs.FrameLaws.{IsPayload}
 
 -- ---- payloads
 
--- A fault in a payload of so many bytes, given by how many of them are left from it on: its offset in the frame.
+-- A fault in a payload of so many bytes, given by how many of them are left from it on: its offset
+-- in the frame.
 abbrev pub malformed_with : ℕ → ℕ → FrameFault
 malformed_with len left = Malformed (LENGTH_BYTES + len - left)
 
@@ -74,7 +76,8 @@ payload_len bytes =
     else if nat_lt (length bytes) (LENGTH_BYTES + told_length bytes) then Ok None
     else Ok (Some (told_length bytes))
 
--- What stands at the front of a stream: less than a whole frame, a value and the bytes after its frame, or a fault.
+-- What stands at the front of a stream: less than a whole frame, a value and the bytes after its
+-- frame, or a fault.
 pub data Front (A : Type 0) : Type 0 where
   Partial : Front A
   Whole : (value : A) → (rest : List ℕ) → Front A
@@ -118,7 +121,8 @@ HasNoValue (Broken fault) = Unit {0}
 
 -- The answer to a call for the next value: what stands at the front, which is taken off where it is
 -- a value. A fault changes nothing, nor does `Memory`.
-abbrev pub Answers : {A : Type 0} → (List ℕ → Front A) → List ℕ → Result (Option A) FrameFault → List ℕ → Type 0
+abbrev pub Answers : {A : Type 0} → (List ℕ → Front A) → List ℕ → Result (Option A) FrameFault
+    → List ℕ → Type 0
 Answers at_front old (Ok (Some value)) new = at_front old ≡ Whole value new
 Answers at_front old (Ok None) new = (at_front old ≡ Partial) × (new ≡ old)
 Answers at_front old (Err fault) new = (fault ≢ Memory → at_front old ≡ Broken fault) × (new ≡ old)
@@ -130,13 +134,15 @@ HasFrame bytes =
     × (LENGTH_BYTES + told_length bytes ≤ length bytes)
 
 -- What a fault says of the frame at the front: of its length, once that is there, that it is 0 or
--- too great; else, once all of the frame is there, that memory runs out for it, or an offset from its
--- kind to its end.
+-- too great; else, once all of the frame is there, that memory runs out for it, or an offset from
+-- its kind to its end.
 abbrev pub IsFaultOf : List ℕ → FrameFault → Type 0
 IsFaultOf bytes Memory = HasFrame bytes
 IsFaultOf bytes EmptyFrame = (LENGTH_BYTES ≤ length bytes) × (told_length bytes ≡ 0)
-IsFaultOf bytes (FrameTooLong len) = (LENGTH_BYTES ≤ length bytes) × (told_length bytes ≡ len) × (MAX_PAYLOAD < len)
-IsFaultOf bytes (Malformed at) = HasFrame bytes × (LENGTH_BYTES ≤ at) × (at ≤ LENGTH_BYTES + told_length bytes)
+IsFaultOf bytes (FrameTooLong len) =
+    (LENGTH_BYTES ≤ length bytes) × (told_length bytes ≡ len) × (MAX_PAYLOAD < len)
+IsFaultOf bytes (Malformed at) =
+    HasFrame bytes × (LENGTH_BYTES ≤ at) × (at ≤ LENGTH_BYTES + told_length bytes)
 
 -- ---- whole streams
 

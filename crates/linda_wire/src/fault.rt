@@ -18,8 +18,9 @@ pub enum FrameFault {
     /// The frame's length, in bytes, is above 262,144.
     #[error("a frame of {0} bytes")]
     FrameTooLong(u32),
-    /// The frame spells nothing: the offset of the first byte at fault, counted from the frame's first
-    /// byte (the length is at 0 to 3, the kind at 4), or the frame's end where a value is cut short.
+    /// The frame spells nothing: the offset of the first byte at fault, counted from the frame's
+    /// first byte (the length is at 0 to 3, the kind at 4), or the frame's end where a value is cut
+    /// short.
     #[error("malformed at {0}")]
     Malformed(u32),
 }

@@ -1,6 +1,7 @@
 //! A stream of frames, whose bytes come in pieces.
 
-ghost use Rattle.std.specs.Prelude.{◌≡◌, ◌↔◌, ◌++◌, [], length, IfOk, IfErr, IfSome, IsErrOf, OnOk, OnErr};
+ghost use Rattle.std.specs.Prelude.{◌≡◌, ◌↔◌, ◌++◌, [], length, IfOk, IfErr, IfSome, IsErrOf, OnOk};
+ghost use Rattle.std.specs.Prelude.{OnErr};
 ghost use Rattle.linda_wire.specs.Frames.{frame};
 ghost use Rattle.linda_wire.specs.Stream.{Partial, Answers, IsWhole, IsFaultOf, front};
 
@@ -73,8 +74,8 @@ impl<T: Framed> FrameFeed<T> {
     /// # Errors
     ///
     /// The fault of the frame at the front, once it can be known: of its length with its first four
-    /// bytes, else with its last byte. It stays at the front, so the same fault is answered from then
-    /// on. `Memory` where the value at the front finds none. An error changes nothing.
+    /// bytes, else with its last byte. It stays at the front, so the same fault is answered from
+    /// then on. `Memory` where the value at the front finds none. An error changes nothing.
     pub fn next(&mut self, alloc: Global) -> Result<Option<T>, FrameFault>
         ensures found { IfOk result (λ o.
             IfSome o (λ v. (self.old ≡ frame (T.format.spell v) ++ self.new) × T.format.Fits v)) }

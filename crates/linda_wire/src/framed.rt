@@ -23,7 +23,8 @@ pub trait Framed: Drop {
     ///
     /// # Errors
     ///
-    /// The first fault from the left, given by the count of bytes left. `Memory` may be returned before it.
+    /// The first fault from the left, given by the count of bytes left. `Memory` may be returned
+    /// before it.
     fn read(alloc: Global, payload: &[u8]) -> Result<(Self, &[u8]), ReadFault>
         ensures { Gives (λ x. (x.0, x.1.now)) result (format.read payload.now) };
 
@@ -60,7 +61,8 @@ pub(crate) fn rest_of<T: Drop>(read: Result<(T, &[u8]), ReadFault>) -> Result<&[
     }
 }
 
-/// Appends a kind byte and a number; where memory runs out, a part of them may stand after the old bytes.
+/// Appends a kind byte and a number; where memory runs out, a part of them may stand after the old
+/// bytes.
 pub(crate) fn push_numbered(out: &mut Vec<u8>, kind: u8, n: u64) -> Result<(), AllocError>
     ensures ok { OnOk result (out.new.items ≡ out.old.items ++ (kind ∷ number.spell n)) }
     ensures front { take (length out.old.items) out.new.items ≡ out.old.items }
@@ -71,17 +73,19 @@ pub(crate) fn push_numbered(out: &mut Vec<u8>, kind: u8, n: u64) -> Result<(), A
 
 /// Appends two numbers; where memory runs out, a part of them may stand after the old bytes.
 pub(crate) fn push_pair(out: &mut Vec<u8>, first: u64, second: u64) -> Result<(), AllocError>
-    ensures ok { OnOk result (out.new.items ≡ out.old.items ++ (number.spell first ++ number.spell second)) }
+    ensures ok { OnOk result (out.new.items
+        ≡ out.old.items ++ (number.spell first ++ number.spell second)) }
     ensures front { take (length out.old.items) out.new.items ≡ out.old.items }
 {
     out.extend_from_slice(&first.to_be_bytes())?;
     out.extend_from_slice(&second.to_be_bytes())
 }
 
-/// Appends the tuple in the form of frames, in which every tuple has a spelling; where memory runs out, `out` is
-/// left as it was.
+/// Appends the tuple in the form of frames, in which every tuple has a spelling; where memory runs
+/// out, `out` is left as it was.
 pub(crate) fn push_tuple(out: &mut Vec<u8>, tuple: &Tuple) -> Result<(), AllocError>
-    ensures ok { OnOk result (out.new.items ≡ out.old.items ++ (value.tuple spoken).spell tuple.now) }
+    ensures ok { OnOk result (out.new.items
+        ≡ out.old.items ++ (value.tuple spoken).spell tuple.now) }
     ensures err { OnErr result (out.new.items ≡ out.old.items) }
     ensures within { FitsIn spoken tuple.now }
 {
@@ -91,7 +95,8 @@ pub(crate) fn push_tuple(out: &mut Vec<u8>, tuple: &Tuple) -> Result<(), AllocEr
 
 /// Appends the template in the form of frames; likewise.
 pub(crate) fn push_template(out: &mut Vec<u8>, template: &Template) -> Result<(), AllocError>
-    ensures ok { OnOk result (out.new.items ≡ out.old.items ++ (value.template spoken).spell template.now) }
+    ensures ok { OnOk result (out.new.items
+        ≡ out.old.items ++ (value.template spoken).spell template.now) }
     ensures err { OnErr result (out.new.items ≡ out.old.items) }
     ensures within { FitsTemplateIn spoken template.now }
 {

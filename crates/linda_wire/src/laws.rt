@@ -1,4 +1,5 @@
-//! Laws of streams of messages and of replies, each stated by the contract of a function that does nothing.
+//! Laws of streams of messages and of replies, each stated by the contract of a function that does
+//! nothing.
 
 ghost use Rattle.linda_wire.specs.Frames as format;
 ghost use Rattle.linda_wire.specs.Stream.{FaultsStay, HasOneReading};
@@ -19,7 +20,8 @@ pub fn reply_faults_stay()
     ensures { FaultsStay format.reply }
 {}
 
-/// A stream is these replies and no others, up to a rest with no whole reply at its front; likewise.
+/// A stream is these replies and no others, up to a rest with no whole reply at its front;
+/// likewise.
 pub fn one_reply_reading()
     ensures { HasOneReading format.reply }
 {}

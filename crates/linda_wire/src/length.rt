@@ -13,7 +13,8 @@ use crate::limits::{LENGTH_BYTES, MAX_PAYLOAD};
 #[tactic(auto, unfolding(crate::specs::Stream::payload_len))]
 pub(crate) fn len_of_payload(bytes: &[u8]) -> Result<Option<usize>, FrameFault>
     ensures value { result ≡ payload_len bytes.now }
-    ensures within { IfOk result (λ told. IfSome told (λ len. (len ≡ told_length bytes.now) × HasFrame bytes.now)) }
+    ensures within { IfOk result (λ told.
+        IfSome told (λ len. (len ≡ told_length bytes.now) × HasFrame bytes.now)) }
     ensures always { result ≢ Err FrameFault.Memory }
     ensures bytes { IsBytes bytes.now }
 {

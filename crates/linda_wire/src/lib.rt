@@ -2,10 +2,11 @@
 //!
 //! A frame is a length of four bytes, 1 to 262,144, then a kind byte and a body, which the length
 //! counts; numbers are big-endian. Each message and each reply has one spelling. A `Feed` takes the
-//! bytes of a stream in any pieces and gives its messages: these and no others, whatever the pieces,
-//! up to the first frame that spells nothing, whose fault it returns from then on. A `ReplyFeed` does so
-//! for the replies of the other side. A `Refusal` is why a server says no, with its code and detail. `specs/Frames`
-//! says what the bytes are, `specs/Stream` what stands at the front of a stream.
+//! bytes of a stream in any pieces and gives its messages: these and no others, whatever the
+//! pieces, up to the first frame that spells nothing, whose fault it returns from then on. A
+//! `ReplyFeed` does so for the replies of the other side. A `Refusal` is why a server says no, with
+//! its code and detail. `specs/Frames` says what the bytes are, `specs/Stream` what stands at the
+//! front of a stream.
 //!
 //! A call that may take memory has a fault for that; no other call takes any.
 #![tactic(auto)]

@@ -24,15 +24,16 @@ pub enum Message {
         n: u64,
         tuple: Tuple,
     },
-    /// Is there a tuple that the template matches? With `remove` the client wants to take it, and it is to
-    /// be offered and held; else a copy is to be read. The client tells its asks apart by the ticket.
+    /// Is there a tuple that the template matches? With `remove` the client wants to take it, and
+    /// it is to be offered and held; else a copy is to be read. The client tells its asks apart by
+    /// the ticket.
     Ask {
         ticket: u64,
         remove: bool,
         template: Template,
     },
-    /// Take the tuple of this id, which was offered for the ticket. It is one of the client's numbered
-    /// messages.
+    /// Take the tuple of this id, which was offered for the ticket. It is one of the client's
+    /// numbered messages.
     Accept {
         n: u64,
         ticket: u64,
@@ -42,8 +43,8 @@ pub enum Message {
     Cancel {
         ticket: u64,
     },
-    /// The client gives up its number for good: from here on it holds nothing, waits for nothing and puts nothing. It
-    /// is the last of the client's numbered messages.
+    /// The client gives up its number for good: from here on it holds nothing, waits for nothing
+    /// and puts nothing. It is the last of the client's numbered messages.
     Leave {
         n: u64,
     },

@@ -1,8 +1,10 @@
-//! Payloads: a kind byte and a body, which is to be all of what stands between a frame's length and its end.
+//! Payloads: a kind byte and a body, which is to be all of what stands between a frame's length and
+//! its end.
 
 ghost use Rattle.std.specs.Prelude.{◌≡◌, ◌≤◌, length, IsOk, IsErrOf};
 ghost use Rattle.linda_wire.specs.declared.limits.TheConstants.{MAX_PAYLOAD};
-ghost use Rattle.linda_wire.specs.Stream.{malformed_with, frame_fault, with_no_rest, whole_of, GivesWhole, Judges};
+ghost use Rattle.linda_wire.specs.Stream.{malformed_with, frame_fault, with_no_rest, whole_of};
+ghost use Rattle.linda_wire.specs.Stream.{GivesWhole, Judges};
 
 use crate::fault::FrameFault;
 use crate::framed::Framed;
@@ -10,7 +12,8 @@ use crate::limits::LENGTH_BYTES;
 use linda_codec::ReadFault;
 use std::alloc::Global;
 
-/// The value that a payload spells, all of it. `Memory` is returned last: only of a payload that spells one.
+/// The value that a payload spells, all of it. `Memory` is returned last: only of a payload that
+/// spells one.
 pub(crate) fn read_whole<T: Framed>(alloc: Global, payload: &[u8]) -> Result<T, FrameFault>
     requires { length payload.now ≤ MAX_PAYLOAD }
     ensures value { GivesWhole result (whole_of T.format payload.now) }

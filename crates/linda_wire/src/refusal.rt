@@ -10,12 +10,14 @@ use crate::codes::{
 use crate::limits::{MAX_CLIENTS, VERSION};
 use crate::reply::Reply;
 
-/// Why a message was refused, which changed nothing. Over a connection it is reported by a code and a detail.
+/// Why a message was refused, which changed nothing. Over a connection it is reported by a code and
+/// a detail.
 #[derive(Clone, Copy, Debug, PartialEq, Eq)]
 pub enum Refusal {
     /// The version of the protocol is not the one spoken here, which is reported.
     Version,
-    /// The client says that it is fresh, and a reply is kept for it: the number of the last is reported.
+    /// The client says that it is fresh, and a reply is kept for it: the number of the last is
+    /// reported.
     Known(u64),
     /// The connection has greeted already, or the client has another connection.
     Busy,
@@ -31,7 +33,8 @@ pub enum Refusal {
     TooManyClients,
     /// The server is down.
     Down,
-    /// The frame spells nothing: the offset in it of the first byte at fault, 0 where its length is at fault.
+    /// The frame spells nothing: the offset in it of the first byte at fault, 0 where its length is
+    /// at fault.
     Malformed(u32),
     /// The client has as many open asks as it may have: the ticket of this one is reported.
     TooManyAsks(u64),

@@ -17,11 +17,11 @@ pub enum Reply {
     Welcome { last: u64 },
     /// The tuple of the client's message `n` is stored under this id.
     Stored { n: u64, id: u64 },
-    /// The tuple of this id matches what the client asked for by the ticket. It is held for the client
-    /// until that accepts it or cancels the ticket.
+    /// The tuple of this id matches what the client asked for by the ticket. It is held for the
+    /// client until that accepts it or cancels the ticket.
     Offer { ticket: u64, id: u64, tuple: Tuple },
-    /// A copy of the tuple of this id, which matches what the client asked for by the ticket. The tuple
-    /// itself stays stored, and the ask is over.
+    /// A copy of the tuple of this id, which matches what the client asked for by the ticket. The
+    /// tuple itself stays stored, and the ask is over.
     Read { ticket: u64, id: u64, tuple: Tuple },
     /// The tuple of this id is taken, for the client's message `n`.
     Taken { n: u64, id: u64, tuple: Tuple },

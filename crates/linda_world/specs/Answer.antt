@@ -10,8 +10,10 @@ use Rattle.linda_world_laws.specs.Steps.{Told, Task, Does, sends_of, served}
 use Rattle.linda_world.specs.declared.fault.WorldFault.{WorldFault}
 use Rattle.linda_world.specs.declared.fault.WorldFault.TheVariants as faults
 
--- By cases of the answer: it is done, a server that is down included; it is refused so; or memory ran out.
-abbrev pub Tells : (Told → Type 0) → (WorldFault → Type 0) → Type 0 → Result Seen WorldFault → Type 0
+-- By cases of the answer: it is done, a server that is down included; it is refused so; or memory
+-- ran out.
+abbrev pub Tells : (Told → Type 0) → (WorldFault → Type 0) → Type 0 → Result Seen WorldFault
+    → Type 0
 Tells IsDone IsRefused IsShort (Ok seen) = IsDone (Ok seen)
 Tells IsDone IsRefused IsShort (Err (faults.Down s)) = IsDone (Err s)
 Tells IsDone IsRefused IsShort (Err faults.Memory) = IsShort
@@ -34,6 +36,7 @@ pub record Serves (task : Task) (s : ℕ) (old : Server) (ps : List Packet) (tol
   pub told_is : told ≡ served s answer
 
 -- A server did that; or memory ran out, and its deeds and the packets are as before.
-abbrev pub ServesOrNot : {E : Type 0} → Task → ℕ → Server → List Packet → Result Told E → Server → List Packet → Type 0
+abbrev pub ServesOrNot : {E : Type 0} → Task → ℕ → Server → List Packet → Result Told E → Server
+    → List Packet → Type 0
 ServesOrNot task s old ps (Ok told) new later = Serves task s old ps told new later
 ServesOrNot task s old ps (Err short) new later = (new.deeds ≡ old.deeds) × (later ≡ ps)

@@ -28,9 +28,16 @@ member_code = code_by (Client × List (ℕ × ℕ)) (coded× client_code (coded_
 -- the code of a node
 abbrev pub node_code : Coded Node
 node_code = code_by (State × (Soft × (Bool × (Bool × List Deed))))
-    (coded× state_code (coded× soft_code (coded× coded_bool (coded× coded_bool (coded_list deed_code)))))
+    (coded× state_code
+    (coded× soft_code (coded× coded_bool (coded× coded_bool (coded_list deed_code)))))
     (λ n. (n.state, (n.soft, (n.is_down, (n.may_fill, n.lost)))))
-    (λ p. record { state = p.0; soft = p.1.0; is_down = p.1.1.0; may_fill = p.1.1.1.0; lost = p.1.1.1.1 }) (λ _. refl)
+    (λ p. record {
+      state = p.0;
+      soft = p.1.0;
+      is_down = p.1.1.0;
+      may_fill = p.1.1.1.0;
+      lost = p.1.1.1.1;
+    }) (λ _. refl)
 
 -- the code of a server
 abbrev pub server_code : Coded Server
@@ -54,12 +61,18 @@ abbrev pub packet_code : Coded Packet
 packet_code = code_by (ℕ × (ℕ × ((Message ⊎ Reply) × Bool)))
     (coded× coded_ℕ (coded× coded_ℕ (coded× (coded⊎ message_code reply_code) coded_bool)))
     (λ p. (p.server, (p.client, (body_parts p.body, p.delivered))))
-    (λ q. record { server = q.0; client = q.1.0; body = body_of_parts q.1.1.0; delivered = q.1.1.1 })
+    (λ q. record {
+      server = q.0;
+      client = q.1.0;
+      body = body_of_parts q.1.1.0;
+      delivered = q.1.1.1;
+    })
     (λ p. ap (λ (b : Body). record p { body = b }) (body_again p.body))
 
 -- the code of a world
 abbrev pub world_code : Coded World
 world_code = code_by (List Server × (Members × List Packet))
-    (coded× (coded_list server_code) (coded× (map.code coded_ℕ member_code) (coded_list packet_code)))
+    (coded× (coded_list server_code)
+    (coded× (map.code coded_ℕ member_code) (coded_list packet_code)))
     (λ w. (w.servers, (w.members, w.packets)))
     (λ p. record { servers = p.0; members = p.1.0; packets = p.1.1 }) (λ _. refl)

@@ -28,7 +28,8 @@ pub record Reacts (call : Call) (c : ℕ) (old : Member) (ps : List Packet) (tol
 
 -- A client made this call; or it is refused, and nothing changed; or memory ran out, and what it
 -- was given is as before.
-abbrev pub ReactsOrNot : Call → ℕ → Member → List Packet → Result Seen WorldFault → Member → List Packet → Type 0
+abbrev pub ReactsOrNot : Call → ℕ → Member → List Packet → Result Seen WorldFault → Member
+    → List Packet → Type 0
 ReactsOrNot call c old ps result new later =
     Tells (λ told. Reacts call c old ps told new later)
     (λ fault. (refusal_of (react old.client call) ≡ Some fault) × ((new ≡ old) × (later ≡ ps)))
@@ -53,7 +54,8 @@ abbrev pub SameGot : Members → Members → Type 0
 SameGot old new = (d : ℕ) → option_map (λ (m : Member). m.got) (maps.get new d)
     ≡ option_map (λ (m : Member). m.got) (maps.get old d)
 
-abbrev pub ReactsInOrNot : Call → ℕ → Members → List Packet → Result Seen WorldFault → Members → List Packet → Type 0
+abbrev pub ReactsInOrNot : Call → ℕ → Members → List Packet → Result Seen WorldFault → Members
+    → List Packet → Type 0
 ReactsInOrNot call c old ps result new later =
     Tells (λ told. ReactsIn call c old ps told new later)
     (λ fault. (refusal_to (maps.get old c) call ≡ Some fault) × ((new ≡ old) × (later ≡ ps)))

@@ -18,7 +18,8 @@ abbrev pub row_code : Coded (ℕ × Tuple)
 row_code = coded× coded_ℕ tuple_code
 
 abbrev pub MessageParts : Type 0
-MessageParts = (ℕ × (ℕ × Bool)) ⊎ ((ℕ × Tuple) ⊎ ((ℕ × (Bool × Template)) ⊎ ((ℕ × (ℕ × ℕ)) ⊎ (ℕ ⊎ ℕ))))
+MessageParts =
+    (ℕ × (ℕ × Bool)) ⊎ ((ℕ × Tuple) ⊎ ((ℕ × (Bool × Template)) ⊎ ((ℕ × (ℕ × ℕ)) ⊎ (ℕ ⊎ ℕ))))
 
 abbrev pub message_parts : Message → MessageParts
 message_parts (messages.Hello version client fresh) = inl (version, (client, fresh))
@@ -54,7 +55,8 @@ message_code = code_by MessageParts
 
 abbrev pub ReplyParts : Type 0
 ReplyParts =
-    ℕ ⊎ ((ℕ × ℕ) ⊎ ((ℕ × (ℕ × Tuple)) ⊎ ((ℕ × (ℕ × Tuple)) ⊎ ((ℕ × (ℕ × Tuple)) ⊎ (ℕ ⊎ ((ℕ × ℕ) ⊎ ℕ))))))
+    ℕ ⊎ ((ℕ × ℕ) ⊎ ((ℕ × (ℕ × Tuple))
+    ⊎ ((ℕ × (ℕ × Tuple)) ⊎ ((ℕ × (ℕ × Tuple)) ⊎ (ℕ ⊎ ((ℕ × ℕ) ⊎ ℕ))))))
 
 abbrev pub reply_parts : Reply → ReplyParts
 reply_parts (replies.Welcome last) = inl last

@@ -1,5 +1,6 @@
 -- Why an event is refused, if it is. A refused event changes nothing.
-use Rattle.std.specs.Prelude.{ℕ, ◌==◌, nat_lt, Bool, true, false, ◌&&◌, if◌then◌else◌, List, length, Option, Some, None}
+use Rattle.std.specs.Prelude.{ℕ, ◌==◌, nat_lt, Bool, true, false, ◌&&◌, if◌then◌else◌, List, length}
+use Rattle.std.specs.Prelude.{Option, Some, None}
 use Rattle.std.specs.List.{slice_get, list_all}
 use Rattle.std.specs.FinMap as map
 use Rattle.linda_event.specs.Trees.{tree_of}
@@ -68,7 +69,8 @@ refusal w (events.Snapshot s) = refusal_at w s
 refusal w (events.Stop s packets at torn) = refusal_of_stop w s packets.items
 refusal w (events.StopSnapshot s at torn) = refusal_at w s
 
--- why a packet is refused before it is copied, if it is: there is no such server; of a reply nothing is asked before
+-- why a packet is refused before it is copied, if it is: there is no such server; of a reply
+-- nothing is asked before
 abbrev pub early_refusal_by : World → Packet → Body → Option WorldFault
 early_refusal_by w p (bodies.Message m) = refusal_at w p.server
 early_refusal_by w p (bodies.Reply r) = None
@@ -77,8 +79,8 @@ abbrev pub early_refusal_of_packet : World → Option Packet → Option WorldFau
 early_refusal_of_packet w None = Some faults.NoPacket
 early_refusal_of_packet w (Some p) = early_refusal_by w p p.body
 
--- Why the event is refused before memory may run out, if it is: that is why it is refused, but a reply that is
--- delivered is copied before its client is asked.
+-- Why the event is refused before memory may run out, if it is: that is why it is refused, but a
+-- reply that is delivered is copied before its client is asked.
 abbrev pub early_refusal : World → WorldEvent → Option WorldFault
 early_refusal w (events.Deliver k) = early_refusal_of_packet w (slice_get w.packets k)
 early_refusal w event = refusal w event

@@ -27,12 +27,14 @@ abbrev pub seen_of : {E : Type 0} → Result Told E → Result Seen WorldFault
 seen_of (Ok told) = answer_of told
 seen_of (Err short) = Err faults.Memory
 
--- It is not refused, and this came of it; or it is refused so, and nothing changed; or memory ran out, where it was not
--- refused early, and what is shown is as before.
-abbrev pub TriesOrNot : (World → Told → World → Type 0) → Option WorldFault → Option WorldFault → World
+-- It is not refused, and this came of it; or it is refused so, and nothing changed; or memory ran
+-- out, where it was not refused early, and what is shown is as before.
+abbrev pub TriesOrNot : (World → Told → World → Type 0) → Option WorldFault → Option WorldFault
+    → World
     → Result Seen WorldFault → World → Type 0
 TriesOrNot Comes refused early old result new =
-    Tells (λ told. (refused ≡ None) × Comes old told new) (λ fault. (refused ≡ Some fault) × (new ≡ old))
+    Tells (λ told. (refused ≡ None) × Comes old told new)
+    (λ fault. (refused ≡ Some fault) × (new ≡ old))
     ((early ≡ None) × IsShownAs old new) result
 
 -- As `TriesOrNot`, where memory runs out only if it is not refused.
@@ -43,7 +45,8 @@ AsksOrNot Comes refused old result new = TriesOrNot Comes refused refused old re
 -- What an event comes to.
 abbrev pub Answers : World → WorldEvent → Result Seen WorldFault → World → Type 0
 Answers old event result new =
-    TriesOrNot (λ w told then. Steps w event told then) (refusal old event) (early_refusal old event) old result new
+    TriesOrNot (λ w told then. Steps w event told then) (refusal old event)
+    (early_refusal old event) old result new
 
 -- a server that has done nothing
 abbrev pub new_server : Node → Server

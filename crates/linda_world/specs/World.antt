@@ -27,8 +27,8 @@ pub record IsRun (w : World) : Type 0 where
   pub shown : IsShownAs now w.world
   pub whole : w.is_spent ≡ false → w.world ≡ now
 
--- Memory ran out, before, or now where nothing was refused: it is spent, and shows what it showed; and where it was
--- spent before, nothing changed.
+-- Memory ran out, before, or now where nothing was refused: it is spent, and shows what it showed;
+-- and where it was spent before, nothing changed.
 pub record IsShort (refused : Option WorldFault) (old new : World) : Type 0 where
   pub allowed : old.is_spent ≡ false → refused ≡ None
   pub spent : new.is_spent ≡ true
@@ -43,20 +43,25 @@ pub record IsStep (old : World) (event : WorldEvent) (new : World) (told : Told)
   pub step : steps.Steps old.world event told new.world
 
 -- It was not spent, and refuses the event; nothing changed.
-pub record Refuses (refused : Option WorldFault) (old new : World) (fault : WorldFault) : Type 0 where
+pub record Refuses (refused : Option WorldFault) (old new : World) (fault : WorldFault)
+    : Type 0 where
   pub was : old.is_spent ≡ false
   pub why : refused ≡ Some fault
   pub same : new ≡ old
 
--- What an event comes to: a step, where a server that is down is reported as a fault; a refusal; or `Memory`.
+-- What an event comes to: a step, where a server that is down is reported as a fault; a refusal; or
+-- `Memory`.
 abbrev pub Steps : World → WorldEvent → Result Seen WorldFault → World → Type 0
 Steps old event result new = Tells (IsStep old event new)
-    (Refuses (refusal old.world event) old new) (IsShort (early_refusal old.world event) old new) result
+    (Refuses (refusal old.world event) old new) (IsShort (early_refusal old.world event) old new)
+    result
 
--- These events, one after another, none of them refused and no server down, lead from one to the other.
+-- These events, one after another, none of them refused and no server down, lead from one to the
+-- other.
 abbrev pub Runs : World → List WorldEvent → World → Type 0
 Runs old [] new = new ≡ old
-Runs old (event ∷ events) new = (seen : Seen) × ((mid : World) × (Steps old event (Ok seen) mid × Runs mid events new))
+Runs old (event ∷ events) new =
+    (seen : Seen) × ((mid : World) × (Steps old event (Ok seen) mid × Runs mid events new))
 
 -- What an event comes to, where nothing is reported of what is seen.
 abbrev pub Passes : World → WorldEvent → Result (Unit {0}) WorldFault → World → Type 0
@@ -64,7 +69,8 @@ Passes old event (Ok done) new = (seen : Seen) × Steps old event (Ok seen) new
 Passes old event (Err fault) new = Steps old event (Err fault) new
 
 -- These events were done before the one that was answered by the fault, and none after it.
-pub record StopsAt (old : World) (events : List WorldEvent) (fault : WorldFault) (new : World) : Type 0 where
+pub record StopsAt (old : World) (events : List WorldEvent) (fault : WorldFault) (new : World)
+    : Type 0 where
   pub before : List WorldEvent
   pub event : WorldEvent
   pub later : List WorldEvent

@@ -74,8 +74,8 @@ fn note_all(all: &[Deed], noted: &mut usize, lasts: &mut Lasts) -> Result<(), Al
     Ok(())
 }
 
-/// All deeds of a server, in order. The last number of each client is noted, so that each deed is looked at once,
-/// however many messages come.
+/// All deeds of a server, in order. The last number of each client is noted, so that each deed is
+/// looked at once, however many messages come.
 #[derive(Drop)]
 pub(crate) struct Deeds {
     all: Vec<Deed>,
@@ -128,7 +128,8 @@ impl Deeds {
         Ok(self.lasts.of(client))
     }
 
-    /// Appends what was done by a step, and what it sends to the packets: both, or neither where memory runs out.
+    /// Appends what was done by a step, and what it sends to the packets: both, or neither where
+    /// memory runs out.
     pub(crate) fn append_with(
         &mut self,
         deed: Option<Deed>,

@@ -5,7 +5,8 @@ ghost use Rattle.linda_world_laws.specs.World as spec;
 
 use linda_client::{Got, Outcome};
 
-/// The server and the id of the tuple that an outcome gives, if it gives one: an input that took a tuple does.
+/// The server and the id of the tuple that an outcome gives, if it gives one: an input that took a
+/// tuple does.
 pub(crate) fn given_by(outcome: &Option<Outcome>) -> Option<(u32, u64)>
     ensures { option_to_list result ≡ spec.given_by outcome.now }
 {

@@ -1,9 +1,9 @@
-//! Servers and clients with a network between them that loses, repeats and delays as it likes, as one machine
-//! that is driven event by event.
+//! Servers and clients with a network between them that loses, repeats and delays as it likes, as
+//! one machine that is driven event by event.
 //!
-//! A `World` is made of nodes, of whatever kind. `step` does one event, exactly as `linda_world_laws/specs/Steps`
-//! says of it; so what linda_world_laws proves of every run holds of the machine: no tuple is taken twice, and whatever
-//! is held is held for a reason.
+//! A `World` is made of nodes, of whatever kind. `step` does one event, exactly as
+//! `linda_world_laws/specs/Steps` says of it; so what linda_world_laws proves of every run holds of
+//! the machine: no tuple is taken twice, and whatever is held is held for a reason.
 //!
 //! A call that may take memory has a fault for that; no other call takes any.
 #![tactic(auto)]

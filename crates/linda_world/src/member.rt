@@ -42,8 +42,8 @@ impl Member {
         &self.got
     }
 
-    /// Makes a call of the client of this number. What it sends comes after the packets, and what it is given is
-    /// noted.
+    /// Makes a call of the client of this number. What it sends comes after the packets, and what
+    /// it is given is noted.
     pub(crate) fn react(
         &mut self,
         alloc: Global,
@@ -51,7 +51,8 @@ impl Member {
         call: Call,
         packets: &mut Vec<Packet>,
     ) -> Result<Seen, WorldFault>
-        ensures { ReactsOrNot (call_of call) number self.old packets.old.items result self.new packets.new.items }
+        ensures { ReactsOrNot (call_of call)
+            number self.old packets.old.items result self.new packets.new.items }
     {
         let reaction = match self.client.call(alloc, call) {
             Ok(reaction) => reaction,
@@ -116,7 +117,8 @@ impl Members {
         number: u32,
         client: Client,
     ) -> Result<(), AllocError>
-        ensures ok { OnOk result (self.new ≡ map.insert self.old number (record { client = client; got = [] })) }
+        ensures ok { OnOk result (self.new
+            ≡ map.insert self.old number (record { client = client; got = [] })) }
         ensures err { OnErr result (self.new ≡ self.old) }
     {
         let member = Member {
@@ -147,7 +149,8 @@ impl Members {
         call: Call,
         packets: &mut Vec<Packet>,
     ) -> Result<Seen, WorldFault>
-        ensures { ReactsInOrNot (call_of call) number self.old packets.old.items result self.new packets.new.items }
+        ensures { ReactsInOrNot (call_of call)
+            number self.old packets.old.items result self.new packets.new.items }
     {
         let Some(member) = self.by_number.get_mut(&number) else {
             return Err(WorldFault::NoClient);

@@ -5,14 +5,16 @@ ghost use Rattle.std.specs.Prelude.{map as map_list};
 ghost use Rattle.std.specs.Option.{option_map};
 ghost use Rattle.std.specs.List.{slice_get};
 ghost use Rattle.std.specs.FinMap as map;
-ghost use Rattle.linda_world_laws.specs.Steps.{HasReacted, HasServed, IsStopped, Halts, HangsUp, Saves, Takes};
+ghost use Rattle.linda_world_laws.specs.Steps.{HasReacted, HasServed, IsStopped, Halts, HangsUp};
+ghost use Rattle.linda_world_laws.specs.Steps.{Saves, Takes};
 ghost use Rattle.linda_world_laws.specs.declared.event.WorldEvent.TheVariants as events;
 ghost use Rattle.linda_client.specs.React.{Receive};
 ghost use Rattle.linda_world_laws.specs.Reached.{IsReached};
 ghost use Rattle.linda_client.specs.Call.{call_of};
 ghost use Rattle.linda_world.specs.Member.{refusal_to};
 ghost use Rattle.linda_world.specs.Refusal.{refusal_at, refusal_of_stop};
-ghost use Rattle.linda_world.specs.Scene.{AddsOrNot, Answers, AsksOrNot, new_server, seen_of, world_of};
+ghost use Rattle.linda_world.specs.Scene.{AddsOrNot, Answers, AsksOrNot, new_server, seen_of};
+ghost use Rattle.linda_world.specs.Scene.{world_of};
 
 use crate::fault::WorldFault;
 use crate::mark::{mark_all_delivered, mark_delivered};
@@ -43,12 +45,17 @@ impl<N: Node> Model for Scene<N> {
 
     ghost coded = { world_code };
 
-    ghost view = { λ s. record { servers = s.servers.items; members = s.members; packets = s.packets.items } };
+    ghost view = { λ s. record {
+      servers = s.servers.items;
+      members = s.members;
+      packets = s.packets.items;
+    } };
 }
 
 /// Servers of these nodes, which have done nothing.
 fn servers_of<N: Node>(alloc: Global, nodes: Vec<N>) -> Result<Vec<Server<N>>, AllocError>
-    ensures { IfOk result (λ v. v.items ≡ map_list new_server (map_list (λ n. N.shown n) nodes.items)) }
+    ensures { IfOk result (λ v.
+        v.items ≡ map_list new_server (map_list (λ n. N.shown n) nodes.items)) }
 {
     let mut servers = Vec::new(alloc);
     for node in nodes {
@@ -140,7 +147,8 @@ impl<N: Node> Scene<N> {
 
     // A server writes a snapshot.
     fn snapshot(&mut self, alloc: Global, server: u32) -> Result<Seen, WorldFault>
-        ensures { AsksOrNot (HasServed Saves server []) (refusal_at self.old server) self.old result self.new }
+        ensures { AsksOrNot (HasServed Saves server []) (refusal_at self.old server)
+            self.old result self.new }
     {
         if server as usize >= self.servers.len() {
             return Err(WorldFault::NoServer);
@@ -156,7 +164,8 @@ impl<N: Node> Scene<N> {
         at: u64,
         torn: Torn,
     ) -> Result<Seen, WorldFault>
-        ensures { AsksOrNot (HasServed (Halts []) server []) (refusal_at self.old server) self.old result self.new }
+        ensures { AsksOrNot (HasServed (Halts []) server []) (refusal_at self.old server)
+            self.old result self.new }
     {
         if server as usize >= self.servers.len() {
             return Err(WorldFault::NoServer);
@@ -238,7 +247,8 @@ impl<N: Node> Scene<N> {
     ) -> Result<Seen, WorldFault>
         requires { k < length self.old.packets }
         ensures { AsksOrNot (HasReacted (Receive server reply) client (k ∷ []))
-            (refusal_to (map.get self.old.members client) (Receive server reply)) self.old result self.new }
+            (refusal_to (map.get self.old.members client) (Receive server reply))
+            self.old result self.new }
     {
         let call = Call::Receive(server, reply);
         match self.members.react(alloc, client, call, &mut self.packets) {
@@ -275,8 +285,8 @@ impl<N: Node> Scene<N> {
         }
     }
 
-    /// Does one event: a step, or a refusal that changes nothing; or memory runs out, and what is shown is as
-    /// before.
+    /// Does one event: a step, or a refusal that changes nothing; or memory runs out, and what is
+    /// shown is as before.
     pub(crate) fn step(&mut self, alloc: Global, event: WorldEvent) -> Result<Seen, WorldFault>
         requires { IsReached self.old }
         ensures { Answers self.old event result self.new }

@@ -124,7 +124,8 @@ impl<N: Node> Server<N> {
         client: u32,
         packets: &mut Vec<Packet>,
     ) -> Result<Told, AllocError>
-        ensures { ServesOrNot (HangsUp client) server self.old packets.old.items result self.new packets.new.items }
+        ensures { ServesOrNot (HangsUp client)
+            server self.old packets.old.items result self.new packets.new.items }
     {
         match self.node.close(alloc, client) {
             Ok(sends) => {

@@ -18,8 +18,8 @@ use linda_world_laws::{Packet, Seen, WorldEvent};
 use std::alloc::{AllocError, Global};
 use std::marker::Model;
 
-/// Servers, numbered from 0, and clients with a network between them. Packets are numbered from 0, in the
-/// order of sending, and are never removed.
+/// Servers, numbered from 0, and clients with a network between them. Packets are numbered from 0,
+/// in the order of sending, and are never removed.
 pub struct World<N: Node> {
     scene: Scene<N>,
     // Whether memory ran out; then the world does nothing more.
@@ -57,7 +57,10 @@ impl<N: Node> World<N> {
         requires few { length nodes.items ≤ MAX_SERVERS }
         requires unused { All IsUnused (map_list (λ n. N.shown n) nodes.items) }
         ensures { IfOk result (λ w. w
-            ≡ record { world = world_of (map_list (λ n. N.shown n) nodes.items); is_spent = false }) }
+            ≡ record {
+              world = world_of (map_list (λ n. N.shown n) nodes.items);
+              is_spent = false;
+            }) }
     {
         let scene = Scene::new(alloc, nodes)?;
         Ok(World {
@@ -70,7 +73,8 @@ impl<N: Node> World<N> {
     ///
     /// # Errors
     ///
-    /// `ClientKnown` where there is one; nothing changes. `Memory` where there is none and memory ran out, as in
+    /// `ClientKnown` where there is one; nothing changes. `Memory` where there is none and memory
+    /// ran out, as in
     /// `step`.
     pub fn add_client(&mut self, alloc: Global, number: u32) -> Result<(), WorldFault>
         ensures { Joins self.old number result self.new }
@@ -88,8 +92,8 @@ impl<N: Node> World<N> {
         }
     }
 
-    /// What the client was given: the server and the id of each tuple that it took, in order. Nothing if there
-    /// is no such client.
+    /// What the client was given: the server and the id of each tuple that it took, in order.
+    /// Nothing if there is no such client.
     pub fn got(&self, client: u32) -> &[(u32, u64)]
         ensures got { result.now ≡ got_by (map.get self.now.world.members client) }
         ensures run { IsRun self.now }
@@ -161,11 +165,11 @@ impl<N: Node> World<N> {
     ///
     /// # Errors
     ///
-    /// A refusal changes nothing: `NoClient`, `NoServer`, `NoPacket` or `TooManyPackets` where the event names
-    /// what is not there, or too much; `Client` where the client refuses. `Down` where the event took place and
-    /// the server is down. `Memory` where memory ran out for an event that is not refused (only a reply that is
-    /// delivered is copied before its client is asked): what the world shows is as before the event, and it
-    /// answers `Memory` from then on.
+    /// A refusal changes nothing: `NoClient`, `NoServer`, `NoPacket` or `TooManyPackets` where the
+    /// event names what is not there, or too much; `Client` where the client refuses. `Down` where
+    /// the event took place and the server is down. `Memory` where memory ran out for an event that
+    /// is not refused (only a reply that is delivered is copied before its client is asked): what
+    /// the world shows is as before the event, and it answers `Memory` from then on.
     pub fn step(&mut self, alloc: Global, event: WorldEvent) -> Result<Seen, WorldFault>
         ensures { Steps self.old event result self.new }
     {

@@ -36,7 +36,8 @@ use Rattle.linda_client.specs.React.{AtEachCall, new_client}
 pub record OfSound : Type 0 where
   pub works : (ds es : List Deed) (old new : Node) (xs : List Coming) (answer : NodeAnswer)
       → IsSound ds old → Works old xs answer es new → IsSound (ds ++ es) new
-  pub works_backed : (ds es : List Deed) (old new : Node) (xs : List Coming) (sends : List (ℕ × Reply))
+  pub works_backed : (ds es : List Deed) (old new : Node) (xs : List Coming)
+      (sends : List (ℕ × Reply))
       → IsSound ds old → Works old xs (Sent sends) es new → AreBacked (ds ++ es) sends
   pub closes : (ds : List Deed) (old new : Node) (c : ℕ) (answer : NodeAnswer) → IsSound ds old
       → Closes old c answer new → IsSound ds new
@@ -44,7 +45,8 @@ pub record OfSound : Type 0 where
       → IsSound ds old → Closes old c (Sent sends) new → AreBacked ds sends
   pub snaps : (ds : List Deed) (old new : Node) (answer : Result (Unit {0}) NodeFault)
       → IsSound ds old → Snaps old answer new → IsSound ds new
-  pub stops : (ds : List Deed) (old new : Node) (xs : List Coming) (answer : Result (Vec Deed) NodeFault)
+  pub stops : (ds : List Deed) (old new : Node) (xs : List Coming)
+      (answer : Result (Vec Deed) NodeFault)
       → IsSound ds old → Stops old xs answer new → IsSound (ds ++ added answer) new
 
 -- What deeds and replies come to.
@@ -53,7 +55,8 @@ pub record OfDeeds : Type 0 where
   pub handed : (ds : List Deed) (c n id : ℕ) → IsProper empty_state ds → Contains ds (Take c n id)
       → (row : Tuple) × HandsOver ds c id row
   pub one_take : (ds : List Deed) (c d n m id : ℕ)
-      → IsTakenOnce ds → Contains ds (Take c n id) → Contains ds (Take d m id) → Take c n id ≡ Take d m id
+      → IsTakenOnce ds → Contains ds (Take c n id) → Contains ds (Take d m id)
+      → Take c n id ≡ Take d m id
   pub numbered : (ds : List Deed) → IsProper empty_state ds → NumbersEachOnce ds
   pub told_take : (ds : List Deed) (c n id : ℕ) (row : Tuple)
       → ReportsOne ds c (replies.Taken n id row) → Contains ds (Take c n id)
@@ -75,7 +78,8 @@ pub record OfSteps : Type 0 where
 
 -- What holds of a client at each call.
 pub record OfCalls : Type 0 where
-  pub new : (number count : ℕ) → 1 ≤ count → count ≤ MAX_SERVERS → IsClient (new_client number count)
+  pub new : (number count : ℕ) → 1 ≤ count → count ≤ MAX_SERVERS
+      → IsClient (new_client number count)
   pub kept : AtEachCall (λ c call r. IsClient r.client)
   pub rises : AtEachCall (λ c call r. Rises c r.client)
   pub numbers : AtEachCall NumbersGoOn

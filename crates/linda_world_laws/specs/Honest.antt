@@ -10,7 +10,8 @@ use Rattle.linda_client.specs.Numbers.{number_of, IsUnanswered}
 use Rattle.linda_world_laws.specs.World.{Server, World}
 use Rattle.linda_world_laws.specs.Promises.{OfEach, IsOnce, OfPackets, IsBacked}
 
--- What a client was given at a server was taken there by a number that the client used, and awaits no more.
+-- What a client was given at a server was taken there by a number that the client used, and awaits
+-- no more.
 pub record IsEarned (servers : List Server) (c : ℕ) (client : Client) (pair : ℕ × ℕ) : Type 0 where
   pub server : Server
   pub there : slice_get servers pair.0 ≡ Some server
@@ -31,5 +32,6 @@ pub record IsHonest (w : World) : Type 0 where
   pub sound : OfServers w (λ s server. IsSound server.deeds server.node)
   pub backed : OfPackets (IsBacked w.servers) w.packets
   pub clients : OfEach w (λ c m. IsClient m.client)
-  pub earned : OfEach w (λ c m. (pair : ℕ × ℕ) → Contains m.got pair → IsEarned w.servers c m.client pair)
+  pub earned : OfEach w
+      (λ c m. (pair : ℕ × ℕ) → Contains m.got pair → IsEarned w.servers c m.client pair)
   pub once : OfEach w (λ c m. IsOnce m.got)

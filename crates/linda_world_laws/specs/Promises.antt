@@ -28,7 +28,8 @@ IsOnce {X} xs = (i k : ℕ) (x : X) → slice_get xs i ≡ Some x → slice_get 
 -- No pair of a server and an id was given twice, be it to one client or to two.
 pub record IsGivenOnce (w : World) : Type 0 where
   pub one_client : (c d : ℕ) (m n : Member) (pair : ℕ × ℕ)
-      → map.get w.members c ≡ Some m → map.get w.members d ≡ Some n → Contains m.got pair → Contains n.got pair → c ≡ d
+      → map.get w.members c ≡ Some m → map.get w.members d ≡ Some n → Contains m.got pair
+      → Contains n.got pair → c ≡ d
   pub one_place : OfEach w (λ c m. IsOnce m.got)
 
 -- P holds of the deeds of this server, which is there.
@@ -48,7 +49,8 @@ IsRightful w c pair = OfServer w.servers pair.0 (λ ds. (row : Tuple) × HandsOv
 -- A reply that reports a deed is the book's for a deed of its server, which stays.
 abbrev pub IsBacked : List Server → ℕ → ℕ → Body → Type 0
 IsBacked servers s c (bodies.Message m) = Unit {0}
-IsBacked servers s c (bodies.Reply r) = reports_deed r ≡ true → OfServer servers s (λ ds. ReportsOne ds c r)
+IsBacked servers s c (bodies.Reply r) =
+    reports_deed r ≡ true → OfServer servers s (λ ds. ReportsOne ds c r)
 
 -- A Gone reports an Accept that passed: nothing was taken by its number, and nothing ever will be.
 abbrev pub IsGone : List Server → ℕ → ℕ → Body → Type 0
@@ -69,20 +71,24 @@ pub record IsSafe (w : World) : Type 0 where
 
 -- A tuple that a client is given now is the one that was put under its id.
 abbrev pub IsHanded : World → ℕ → Option Handed → Type 0
-IsHanded w c handed = IfSome handed (λ h. OfServer w.servers h.server (λ ds. HandsOver ds c h.id h.tuple))
+IsHanded w c handed =
+    IfSome handed (λ h. OfServer w.servers h.server (λ ds. HandsOver ds c h.id h.tuple))
 
 -- A Cancel of this request was sent to this server, be it delivered or not.
 abbrev pub HasCancel : List Packet → ℕ → Request → Type 0
 HasCancel ps s request = (is_delivered : Bool)
-    × Contains ps (record (sent_by request.client (s, messages.Cancel request.ticket)) { delivered = is_delivered })
+    × Contains ps (record (sent_by request.client
+    (s, messages.Cancel request.ticket)) { delivered = is_delivered })
 
 -- These deeds put the tuple under this id.
 pub record IsPut (ds : List Deed) (id : ℕ) (tuple : Tuple) : Type 0 where
   pub counted : 1 ≤ id
   pub put : slice_get (outs_of ds) (id - 1) ≡ Some tuple
 
--- An Offer of the tuple that was put under this id, for this request, was sent, and never delivered.
-pub record HasOffer (ps : List Packet) (s : ℕ) (ds : List Deed) (request : Request) (id : ℕ) : Type 0 where
+-- An Offer of the tuple that was put under this id, for this request, was sent, and never
+-- delivered.
+pub record HasOffer (ps : List Packet) (s : ℕ) (ds : List Deed) (request : Request) (id : ℕ)
+    : Type 0 where
   pub tuple : Tuple
   pub put : IsPut ds id tuple
   pub sent : Contains ps (sent_from s (request.client, replies.Offer request.ticket id tuple))
@@ -99,4 +105,5 @@ abbrev pub AreHeldRightly : World → Type 0
 AreHeldRightly w = (s : ℕ) (server : Server) (id : ℕ) (request : Request)
     → slice_get w.servers s ≡ Some server → server.node.is_down ≡ false
     → map.get server.node.soft.holds id ≡ Some request
-    → IsOpenAt w.members request ⊎ (HasCancel w.packets s request ⊎ HasOffer w.packets s server.deeds request id)
+    → IsOpenAt w.members request
+    ⊎ (HasCancel w.packets s request ⊎ HasOffer w.packets s server.deeds request id)

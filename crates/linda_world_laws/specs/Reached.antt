@@ -32,9 +32,11 @@ pub record IsStart (w : World) : Type 0 where
 pub data IsReached : World → Type 0 where
   begins : (w : World) → IsStart w → IsReached w
   joins : (w new : World) (c : ℕ) → IsReached w → HasJoined c w new → IsReached new
-  goes : (w new : World) (event : WorldEvent) (told : Told) → IsReached w → Steps w event told new → IsReached new
+  goes : (w new : World) (event : WorldEvent) (told : Told) → IsReached w → Steps w event told new
+      → IsReached new
 
 -- These events, one after another, lead from one world to the other.
 abbrev pub Runs : World → List WorldEvent → World → Type 0
 Runs w [] new = new ≡ w
-Runs w (event ∷ events) new = (told : Told) × ((mid : World) × (Steps w event told mid × Runs mid events new))
+Runs w (event ∷ events) new =
+    (told : Told) × ((mid : World) × (Steps w event told mid × Runs mid events new))

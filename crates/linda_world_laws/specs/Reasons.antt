@@ -31,7 +31,8 @@ pub record OfMember (ms : Members) (c : ℕ) (P : Client → Type 0) : Type 0 wh
   pub known : map.get ms c ≡ Some member
   pub holds : P member.client
 
--- P holds of what the client asks under this ticket, which it has used, if the ticket is still open.
+-- P holds of what the client asks under this ticket, which it has used, if the ticket is still
+-- open.
 pub record OfTicket (k : ℕ) (P : Ask → Type 0) (c : Client) : Type 0 where
   pub below : k < c.ticket
   pub asked : (ask : Ask) → asked_in (pending_in c.task) k ≡ Some ask → P ask
@@ -44,14 +45,14 @@ Asks remove template ask = (ask.remove ≡ remove) × (ask.template ≡ template
 abbrev pub Suits : Tuple → Ask → Type 0
 Suits row ask = is_fit ask true row ≡ true
 
--- The client sent this to the server as its message of this number: the number is used, and if a message of this
--- number to this server is unanswered, it is this one.
+-- The client sent this to the server as its message of this number: the number is used, and if a
+-- message of this number to this server is unanswered, it is this one.
 pub record HasSent (s n : ℕ) (m : Message) (c : Client) : Type 0 where
   pub used : n < next_at c s
   pub own : (k : Message) → IsUnanswered c s k → number_of k ≡ Some n → k ≡ m
 
--- What a client's message says of the client: an Ask is of a ticket of its, and asks what that asks; a numbered message
--- is the one of its number.
+-- What a client's message says of the client: an Ask is of a ticket of its, and asks what that
+-- asks; a numbered message is the one of its number.
 abbrev pub IsSaid : ℕ → Message → Client → Type 0
 IsSaid s (messages.Hello version client fresh) c = Unit {0}
 IsSaid s (messages.Out n row) c = HasSent s n (messages.Out n row) c
@@ -88,21 +89,26 @@ pub record HasInHand (s : ℕ) (last k id : ℕ) (c : Client) : Type 0 where
   pub is_open : ask_at pending k ≡ Some ask
   pub hand : InHand (λ a. last < a.n) pending s k id
 
--- Why a tuple is held: its Offer was never delivered, its ticket is cancelled, or the client has it in hand.
+-- Why a tuple is held: its Offer was never delivered, its ticket is cancelled, or the client has it
+-- in hand.
 abbrev pub HasReason : Members → List Packet → ℕ → List Deed → ℕ → Request → Type 0
 HasReason ms ps s ds id request = HasOffer ps s ds request id
     ⊎ (HasCancel ps s request
     ⊎ OfMember ms request.client (HasInHand s (last_number ds request.client) request.ticket id))
 
--- What is kept of a server that is up: who waits did ask, and what is held fits its ticket and has a reason.
+-- What is kept of a server that is up: who waits did ask, and what is held fits its ticket and has
+-- a reason.
 pub record IsWaitedFor (ms : Members) (ps : List Packet) (s : ℕ) (server : Server) : Type 0 where
   pub waits : All (IsWaitOf ms) server.node.soft.waits
-  pub fits : (id : ℕ) (request : Request) (row : Tuple) → map.get server.node.soft.holds id ≡ Some request
-      → map.get server.node.state.bag id ≡ Some row → OfMember ms request.client (OfTicket request.ticket (Suits row))
+  pub fits : (id : ℕ) (request : Request) (row : Tuple)
+      → map.get server.node.soft.holds id ≡ Some request
+      → map.get server.node.state.bag id ≡ Some row
+      → OfMember ms request.client (OfTicket request.ticket (Suits row))
   pub held : (id : ℕ) (request : Request) → map.get server.node.soft.holds id ≡ Some request
       → HasReason ms ps s server.deeds id request
 
--- What is kept of a server: its deeds, and those that it may have done where it went down, have numbers that were used.
+-- What is kept of a server: its deeds, and those that it may have done where it went down, have
+-- numbers that were used.
 pub record IsReasoned (ms : Members) (ps : List Packet) (s : ℕ) (server : Server) : Type 0 where
   pub deeds : All (IsUsedBy ms s) server.deeds
   pub lost : server.node.is_down ≡ true → All (IsUsedBy ms s) server.node.lost

@@ -13,7 +13,8 @@ use Rattle.linda_store_state.specs.declared.deed.Deed.{Deed}
 use Rattle.linda_store_step.specs.History.{Coming, says, comings}
 use Rattle.linda_store.specs.declared.node.NodeFault.{NodeFault}
 use Rattle.linda_store.specs.declared.node.NodeFault.TheVariants as faults
-use Rattle.linda_store.specs.Node.{Node, NodeAnswer, Sent, IsFull, IsDown, Works, Closes, Snaps, Stops}
+use Rattle.linda_store.specs.Node.{Node, NodeAnswer, Sent, IsFull, IsDown, Works, Closes, Snaps}
+use Rattle.linda_store.specs.Node.{Stops}
 use Rattle.linda_store.specs.Sound.{added}
 use Rattle.linda_client.specs.Reaction.{Reaction}
 use Rattle.linda_client.specs.React as calls
@@ -24,7 +25,8 @@ use Rattle.linda_world_laws.specs.declared.packet.Body.{Body}
 use Rattle.linda_world_laws.specs.declared.packet.Body.TheVariants as bodies
 use Rattle.linda_world_laws.specs.declared.packet.Packet.{Packet}
 use Rattle.linda_world_laws.specs.declared.seen.Seen.{Seen}
-use Rattle.linda_world_laws.specs.World.{Server, Member, World, member_then, sent_by, sent_from, delivered}
+use Rattle.linda_world_laws.specs.World.{Server, Member, World, member_then, sent_by, sent_from}
+use Rattle.linda_world_laws.specs.World.{delivered}
 
 -- What is reported of a step: what is seen of it, or which server is down.
 abbrev pub Told : Type 0
@@ -32,7 +34,13 @@ Told = Result Seen ℕ
 
 -- a client reacted
 abbrev pub reacted : ℕ → Reaction → Told
-reacted c reaction = Ok (record { client = Some c; outcome = reaction.outcome; fault = reaction.fault; full = false })
+reacted c reaction =
+    Ok (record {
+      client = Some c;
+      outcome = reaction.outcome;
+      fault = reaction.fault;
+      full = false;
+    })
 
 -- a server did what it was asked, had no room, or is down
 abbrev pub served : ℕ → NodeAnswer → Told
@@ -41,7 +49,8 @@ served s IsFull = Ok (record { client = None; outcome = None; fault = None; full
 served s IsDown = Err s
 
 -- A client was called, and reacted so; of the packets, these count as delivered.
-pub record HasReacted (call : Call) (c : ℕ) (ks : List ℕ) (w : World) (told : Told) (new : World) : Type 0 where
+pub record HasReacted (call : Call) (c : ℕ) (ks : List ℕ) (w : World) (told : Told) (new : World)
+    : Type 0 where
   pub member : Member
   pub known : maps.get w.members c ≡ Some member
   pub reaction : Reaction
@@ -51,8 +60,8 @@ pub record HasReacted (call : Call) (c : ℕ) (ks : List ℕ) (w : World) (told 
   pub packets : new.packets ≡ delivered ks w.packets ++ map (sent_by c) reaction.packets
   pub told_is : told ≡ reacted c reaction
 
--- What a server may be asked to do: to take a message of a client, to close a client, to write a snapshot, or to be
--- stopped with this in hand.
+-- What a server may be asked to do: to take a message of a client, to close a client, to write a
+-- snapshot, or to be stopped with this in hand.
 pub data Task : Type 0 where
   Takes : ℕ → Message → Task
   HangsUp : ℕ → Task
@@ -70,7 +79,8 @@ abbrev pub Does : Task → Node → NodeAnswer → List Deed → Node → Type 0
 Does (Takes c m) old answer ds new = Works old (says c m ∷ []) answer ds new
 Does (HangsUp c) old answer ds new = Closes old c answer new × (ds ≡ [])
 Does Saves old answer ds new =
-    (result : Result (Unit {0}) NodeFault) × (Snaps old result new × ((answer ≡ silent result) × (ds ≡ [])))
+    (result : Result (Unit {0}) NodeFault)
+    × (Snaps old result new × ((answer ≡ silent result) × (ds ≡ [])))
 Does (Halts xs) old answer ds new =
     (result : Result (Vec Deed) NodeFault)
     × (Stops old xs result new × ((answer ≡ silent result) × (ds ≡ added result)))
@@ -87,14 +97,16 @@ sends_of task IsFull = without_room task
 sends_of task IsDown = []
 
 -- A server was asked to do this; of the packets, these count as delivered.
-pub record HasServed (task : Task) (s : ℕ) (ks : List ℕ) (w : World) (told : Told) (new : World) : Type 0 where
+pub record HasServed (task : Task) (s : ℕ) (ks : List ℕ) (w : World) (told : Told) (new : World)
+    : Type 0 where
   pub server : Server
   pub there : slice_get w.servers s ≡ Some server
   pub answer : NodeAnswer
   pub deeds : List Deed
   pub node : Node
   pub done : Does task server.node answer deeds node
-  pub servers : new.servers ≡ slice_set w.servers s (record { deeds = server.deeds ++ deeds; node = node })
+  pub servers : new.servers
+      ≡ slice_set w.servers s (record { deeds = server.deeds ++ deeds; node = node })
   pub members : new.members ≡ w.members
   pub packets : new.packets ≡ delivered ks w.packets ++ map (sent_from s) (sends_of task answer)
   pub told_is : told ≡ served s answer

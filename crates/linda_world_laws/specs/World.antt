@@ -1,5 +1,6 @@
 -- A world as contracts see it: its servers, its clients, and all packets that were ever sent.
-use Rattle.std.specs.Prelude.{ℕ, zero, suc, true, false, List, [], ◌∷◌, ◌++◌, Option, Some, None, option_to_list}
+use Rattle.std.specs.Prelude.{ℕ, zero, suc, true, false, List, [], ◌∷◌, ◌++◌, Option, Some, None}
+use Rattle.std.specs.Prelude.{option_to_list}
 use Rattle.std.specs.Option.{option_map}
 use Rattle.std.specs.Ordering.{nat_cmp}
 use Rattle.std.specs.FinMap as map
@@ -67,7 +68,8 @@ given_by outcome = option_to_list (option_map place_of (handed_by outcome))
 
 -- A client after a call: it is as the call leaves it, and was given what the outcome gives.
 abbrev pub member_then : Member → Reaction → Member
-member_then member reaction = record { client = reaction.client; got = member.got ++ given_by reaction.outcome }
+member_then member reaction =
+    record { client = reaction.client; got = member.got ++ given_by reaction.outcome }
 
 -- a message of a client on its way to a server
 abbrev pub sent_by : ℕ → ℕ × Message → Packet

@@ -1,5 +1,5 @@
-//! What holds of every world that a run leads to, and of every step: each stated in the contract of a function that
-//! does nothing but call the laws of the layers below.
+//! What holds of every world that a run leads to, and of every step: each stated in the contract of
+//! a function that does nothing but call the laws of the layers below.
 
 ghost use Rattle.std.specs.Prelude.{◌≡◌, ◌≤◌, ℕ, List, [], ◌∷◌, length, Ok, IfSome, option_to_list};
 ghost use Rattle.linda_client.specs.declared.limits.TheConstants.{MAX_SERVERS};
@@ -48,9 +48,11 @@ pub fn holds_have_reasons()
     laws_below();
 }
 
-/// The tuple that a client is given by a step is the one that was put under its id, and that this client took.
+/// The tuple that a client is given by a step is the one that was put under its id, and that this
+/// client took.
 pub fn what_is_handed_over_was_put()
-    ensures { (w new : World) (event : WorldEvent) (seen : Seen) → IsReached w → Steps w event (Ok seen) new
+    ensures { (w new : World) (event : WorldEvent) (seen : Seen) → IsReached w
+        → Steps w event (Ok seen) new
         → IfSome seen.client (λ c. IsHanded new c (handed_by seen.outcome)) }
 {
     laws_below();
@@ -58,12 +60,14 @@ pub fn what_is_handed_over_was_put()
 
 /// What servers did stays, at each step, and more comes after it.
 pub fn deeds_stay()
-    ensures { (w new : World) (event : WorldEvent) (told : Told) → Steps w event told new → DeedsStay w new }
+    ensures { (w new : World) (event : WorldEvent) (told : Told) → Steps w event told new
+        → DeedsStay w new }
 {}
 
 /// The deeds of each server are a proper list, and the state of its node is the one after them.
 pub fn servers_stay_sound()
-    ensures { (w : World) → IsReached w → OfServers w (λ s server. IsSound server.deeds server.node) }
+    ensures { (w : World) → IsReached w
+        → OfServers w (λ s server. IsSound server.deeds server.node) }
 {
     laws_below();
 }

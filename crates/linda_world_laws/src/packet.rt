@@ -11,8 +11,8 @@ pub enum Body {
     Reply(Reply),
 }
 
-/// A packet between a client and a server. It is never removed: it is lost if it is never delivered, and
-/// repeated if it is delivered again.
+/// A packet between a client and a server. It is never removed: it is lost if it is never
+/// delivered, and repeated if it is delivered again.
 #[derive(Debug, Drop)]
 pub struct Packet {
     /// The server, from 0, that sent it or that it goes to.

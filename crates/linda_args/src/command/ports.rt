@@ -9,7 +9,8 @@ use linda_client::MAX_SERVERS;
 use std::alloc::{AllocError, Global};
 use std::marker::Model;
 
-/// The ports of the servers of a client, in order: 1 to `MAX_SERVERS` of them, and each is 1 at least.
+/// The ports of the servers of a client, in order: 1 to `MAX_SERVERS` of them, and each is 1 at
+/// least.
 #[derive(Debug, Drop)]
 pub struct Ports {
     items: Vec<u16>,

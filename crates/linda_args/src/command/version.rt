@@ -4,10 +4,12 @@ ghost use Rattle.std.specs.Prelude.{◌≡◌, true, map};
 ghost use Rattle.std.specs.String.{string_bytes};
 ghost use Rattle.linda_args.specs.Commands.{AsksForVersion};
 
-/// What is printed of the program: its version, and the forms of banks and frames that it reads and writes.
+/// What is printed of the program: its version, and the forms of banks and frames that it reads and
+/// writes.
 pub const VERSION_LINES: &str = "linda 0.8.0\nbank LND2\nframe 2\n";
 
-/// Whether the words of the command line, of which the first names the program, ask for the version.
+/// Whether the words of the command line, of which the first names the program, ask for the
+/// version.
 pub fn asks_for_version(words: &[String]) -> bool
     ensures yes { result ≡ true → AsksForVersion (map string_bytes words.now) }
     ensures exact { AsksForVersion (map string_bytes words.now) → result ≡ true }

@@ -70,7 +70,8 @@ fn read_body(
     body: &[u8],
 ) -> Result<(KeptReply, &[u8]), ReadFault>
     ensures value { Gives (λ x. (x.0, x.1.now)) result (format.reply_body_at form kind body.now) }
-    ensures memory { IsErrOf result ReadFault.Memory → IsOk (format.reply_body_at form kind body.now) }
+    ensures memory { IsErrOf result ReadFault.Memory
+        → IsOk (format.reply_body_at form kind body.now) }
 {
     match kind {
         STORED => read_stored(body),
@@ -90,7 +91,8 @@ fn read_stored(body: &[u8]) -> Result<(KeptReply, &[u8]), ReadFault>
 
 // Reads a Taken.
 fn read_taken(alloc: Global, form: Form, body: &[u8]) -> Result<(KeptReply, &[u8]), ReadFault>
-    ensures value { Gives (λ x. (x.0, x.1.now)) result (made_at (λ p. Taken p.0 p.1) (format.placed form) body.now) }
+    ensures value { Gives (λ x. (x.0, x.1.now)) result
+        (made_at (λ p. Taken p.0 p.1) (format.placed form) body.now) }
     ensures memory { IsErrOf result ReadFault.Memory
         → IsOk (made_at (λ p. Taken p.0 p.1) (format.placed form) body.now) }
 {
@@ -99,9 +101,11 @@ fn read_taken(alloc: Global, form: Form, body: &[u8]) -> Result<(KeptReply, &[u8
     Ok((KeptReply::Taken(id, tuple), rest))
 }
 
-// Reads a Left, of which the kind is read, where the form has Leaves; of another kind that is the fault.
+// Reads a Left, of which the kind is read, where the form has Leaves; of another kind that is the
+// fault.
 fn read_left(form: Form, kind: u8, rest: &[u8]) -> Result<(KeptReply, &[u8]), ReadFault>
-    ensures { GivesAlways (λ x. (x.0, x.1.now)) result (body_at (format.left_kinds form) no_kind kind rest.now) }
+    ensures { GivesAlways (λ x. (x.0, x.1.now)) result
+        (body_at (format.left_kinds form) no_kind kind rest.now) }
 {
     if kind == LEFT && has_leaves(form) {
         return Ok((KeptReply::Left, rest));
@@ -109,9 +113,11 @@ fn read_left(form: Form, kind: u8, rest: &[u8]) -> Result<(KeptReply, &[u8]), Re
     Err(ReadFault::BadKind(KIND_BYTES + rest.len()))
 }
 
-// The bytes after a kept reply of that kind, of which the kind is read and the body is at the front.
+// The bytes after a kept reply of that kind, of which the kind is read and the body is at the
+// front.
 fn skip_body(form: Form, kind: u8, body: &[u8]) -> Result<&[u8], ReadFault>
-    ensures { GivesAlways (λ rest. rest.now) result (left_by (format.reply_body_at form kind body.now)) }
+    ensures { GivesAlways (λ rest. rest.now) result
+        (left_by (format.reply_body_at form kind body.now)) }
 {
     match kind {
         STORED => skip_stored(body),
@@ -123,7 +129,8 @@ fn skip_body(form: Form, kind: u8, body: &[u8]) -> Result<&[u8], ReadFault>
 
 // The bytes after a Stored.
 fn skip_stored(body: &[u8]) -> Result<&[u8], ReadFault>
-    ensures { GivesAlways (λ rest. rest.now) result (left_by (made_at (λ id. Stored id) number body.now)) }
+    ensures { GivesAlways (λ rest. rest.now) result
+        (left_by (made_at (λ id. Stored id) number body.now)) }
 {
     let (_id, rest) = read_u64(body)?;
     Ok(rest)
@@ -178,14 +185,15 @@ fn push_kind(out: &mut Vec<u8>, byte: u8) -> Result<(), AllocError>
 }
 
 impl KeptReply {
-    /// Whether the reply has a spelling in the form: the tuple that it gives has one, where it gives one, and that to a
-    /// Leave has one where the form has them. In the second form each reply has one.
+    /// Whether the reply has a spelling in the form: the tuple that it gives has one, where it
+    /// gives one, and that to a Leave has one where the form has them. In the second form each
+    /// reply has one.
     pub fn fits(&self, form: Form) -> bool
         ensures exact { IsTrue result ↔ format.FitsReply form self.now }
         ensures second { format.FitsReply Two self.now }
     {
-        // The ids are read because their ranges are known then, and the fields because the tuple is known to keep its
-        // limits then.
+        // The ids are read because their ranges are known then, and the fields because the tuple is
+        // known to keep its limits then.
         match self {
             KeptReply::Stored(id) => {
                 let _id = *id;

@@ -6,7 +6,8 @@ ghost use Rattle.linda_call.specs.Asking as spec;
 use super::numbers::number_of;
 use linda_wire::{Message, Reply};
 
-/// Asks for the reply that is kept to this number: a repeated number gets it, whatever else the message says.
+/// Asks for the reply that is kept to this number: a repeated number gets it, whatever else the
+/// message says.
 pub(super) fn kept_ask(number: u64) -> Message
     ensures { result ≡ spec.kept_ask number }
 {

@@ -1,4 +1,5 @@
-//! A client at work over its links: what comes is told to it, and what it answers is sent and written.
+//! A client at work over its links: what comes is told to it, and what it answers is sent and
+//! written.
 
 ghost use Rattle.std.specs.Prelude.{◌≤◌, length};
 ghost use Rattle.linda_client.specs.declared.limits.TheConstants.{MAX_SERVERS};
@@ -28,7 +29,8 @@ pub(super) struct Caller<'a> {
 }
 
 impl<'a> Caller<'a> {
-    /// A client of this number that has done nothing yet, or that goes on after what servers keep for it.
+    /// A client of this number that has done nothing yet, or that goes on after what servers keep
+    /// for it.
     ///
     /// # Errors
     ///
@@ -62,7 +64,8 @@ impl Caller<'_> {
     ///
     /// # Errors
     ///
-    /// What the first server is given up for, `NoConnection` after ten seconds too; `Memory`; `Write`; `Clock`.
+    /// What the first server is given up for, `NoConnection` after ten seconds too; `Memory`;
+    /// `Write`; `Clock`.
     pub(super) fn meet_all<S: Wait + Clock, W: Write>(
         &mut self,
         rt: &S,
@@ -82,7 +85,8 @@ impl Caller<'_> {
         Ok(())
     }
 
-    /// Does what a line asks for, waits for the outcome, and writes it. Whether the line is one of a client.
+    /// Does what a line asks for, waits for the outcome, and writes it. Whether the line is one of
+    /// a client.
     ///
     /// # Errors
     ///
@@ -109,7 +113,8 @@ impl Caller<'_> {
         }
     }
 
-    // Hears what came while nothing was pending. A server that was given up meanwhile is tried again.
+    // Hears what came while nothing was pending. A server that was given up meanwhile is tried
+    // again.
     fn catch_up<S: Wait + Clock, W: Write>(
         &mut self,
         rt: &S,
@@ -151,7 +156,8 @@ impl Caller<'_> {
         Ok(())
     }
 
-    // The line of the reply that a server keeps to the client. It is asked for by the number that is kept.
+    // The line of the reply that a server keeps to the client. It is asked for by the number that
+    // is kept.
     fn kept_line<S: Wait + Clock, W: Write>(
         &mut self,
         rt: &S,

@@ -36,8 +36,8 @@ impl Count {
         CallFault::Line(self.number, LineFault::Memory)
     }
 
-    /// What ends the call at the line, of which it is said whether it is one of a client. Memory that runs out is
-    /// reported as a fault of the line.
+    /// What ends the call at the line, of which it is said whether it is one of a client. Memory
+    /// that runs out is reported as a fault of the line.
     pub(super) fn end(self, done: Result<bool, CallFault>) -> Option<CallFault>
         ensures { result ≡ spec.end_at self.number done }
     {

@@ -20,8 +20,8 @@ pub enum CallFault {
     /// The server of this number refused, with this code and this detail.
     #[error("server {0}: refused {1} {2}")]
     Refused(u32, u8, u64),
-    /// The server of this number welcomed the client again with a lower number than it had answered: its folder was
-    /// restored from a copy.
+    /// The server of this number welcomed the client again with a lower number than it had
+    /// answered: its folder was restored from a copy.
     #[error("server {0}: restored")]
     Restored(u32),
     /// Memory, or a thread, could not be had.

@@ -4,8 +4,8 @@ use linda_text::write_tuple;
 use linda_wire::Reply;
 use std::alloc::{AllocError, Global};
 
-/// The line of a server that keeps this reply to the client's number, in the words of a state's lines, with its line
-/// feed; `None` for a reply to anything else.
+/// The line of a server that keeps this reply to the client's number, in the words of a state's
+/// lines, with its line feed; `None` for a reply to anything else.
 ///
 /// # Errors
 ///

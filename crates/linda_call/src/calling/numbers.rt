@@ -1,5 +1,5 @@
-//! The numbers of a client that goes on after others of its number: what it counts from 1 on, servers count after the
-//! last number that they kept before it.
+//! The numbers of a client that goes on after others of its number: what it counts from 1 on,
+//! servers count after the last number that they kept before it.
 
 ghost use Rattle.std.specs.Prelude.{◌≡◌, ◌-◌, nat_le, true, false, None, Some};
 ghost use Rattle.linda_call.specs.Numbers.{onward_of, homeward_of, answered_in};
@@ -18,8 +18,8 @@ pub(super) fn onward(message: &mut Message, base: u64)
     }
 }
 
-/// Makes the reply what the client is to see, from a server that kept `base` numbers before. Whether there is anything
-/// for it to see: not if it answers one of those.
+/// Makes the reply what the client is to see, from a server that kept `base` numbers before.
+/// Whether there is anything for it to see: not if it answers one of those.
 pub(super) fn homeward(reply: &mut Reply, base: u64) -> bool
     ensures seen { result ≡ true → homeward_of base reply.old ≡ Some reply.new }
     ensures none { result ≡ false → homeward_of base reply.old ≡ None }

@@ -1,5 +1,5 @@
-//! The client of a call and how it stands with its servers: what it does with lines, with time and with what comes,
-//! over no connection.
+//! The client of a call and how it stands with its servers: what it does with lines, with time and
+//! with what comes, over no connection.
 
 ghost use Rattle.std.specs.Prelude.{◌≡◌, ◌↔◌, ◌≤◌, [], None, Some, Ok, Err, true, false, map};
 ghost use Rattle.std.specs.Prelude.{IfOk, IfErr, OnErr, OnOk, option_copied};
@@ -10,7 +10,8 @@ ghost use Rattle.linda_client.specs.React.{react, new_client};
 ghost use Rattle.linda_client.specs.Reaction.{Does, shown};
 ghost use Rattle.linda_call.specs.Numbers.{onward_of, homeward_of, answered_in};
 ghost use Rattle.linda_call.specs.Standings as standing;
-ghost use Rattle.linda_call.specs.Standings.{with_standing, answered, welcomed, is_restored, settled, all_unmet};
+ghost use Rattle.linda_call.specs.Standings.{with_standing, answered, welcomed, is_restored};
+ghost use Rattle.linda_call.specs.Standings.{settled, all_unmet};
 ghost use Rattle.linda_call.specs.Party as spec;
 ghost use Rattle.linda_call.specs.Party.{Hears, accepted_after, call_for, cancelled_at};
 ghost use Rattle.linda_call.specs.Taking.{IsTaken, standings_after};
@@ -37,7 +38,8 @@ pub(super) struct Party {
 }
 
 impl Party {
-    /// A client of this number that has done nothing yet, or that goes on after what servers keep for it.
+    /// A client of this number that has done nothing yet, or that goes on after what servers keep
+    /// for it.
     ///
     /// # Errors
     ///
@@ -96,9 +98,11 @@ impl Party {
     ///
     /// Why the client refuses it; then nothing has changed.
     pub(super) fn ask(&mut self, alloc: Global, request: Request) -> Result<Reaction, ClientFault>
-        ensures does { Does self.old.client result self.new.client (react self.old.client (call_for request)) }
+        ensures does { Does self.old.client result self.new.client
+            (react self.old.client (call_for request)) }
         ensures standings { self.new.standings.items ≡ self.old.standings.items }
-        ensures rest { (self.new.goes_on ≡ self.old.goes_on) × (self.new.accepted ≡ self.old.accepted) }
+        ensures rest { (self.new.goes_on ≡ self.old.goes_on)
+            × (self.new.accepted ≡ self.old.accepted) }
     {
         match request {
             Request::Out(tuple) => self.client.out(alloc, tuple),
@@ -113,11 +117,13 @@ impl Party {
     ///
     /// `Memory`; then nothing has changed.
     pub(super) fn tick(&mut self, alloc: Global, now: u64) -> Result<Reaction, CallFault>
-        ensures does { IfOk result (λ told. react self.old.client (calls.Tick now) ≡ Ok (shown told self.new.client)) }
+        ensures does { IfOk result (λ told.
+            react self.old.client (calls.Tick now) ≡ Ok (shown told self.new.client)) }
         ensures fault { IfErr result (λ f. f ≡ faults.Memory) }
         ensures client { OnErr result (self.new.client ≡ self.old.client) }
         ensures standings { self.new.standings.items ≡ self.old.standings.items }
-        ensures rest { (self.new.goes_on ≡ self.old.goes_on) × (self.new.accepted ≡ self.old.accepted) }
+        ensures rest { (self.new.goes_on ≡ self.old.goes_on)
+            × (self.new.accepted ≡ self.old.accepted) }
     {
         match self.client.tick(alloc, now) {
             Ok(reaction) => Ok(reaction),
@@ -125,11 +131,13 @@ impl Party {
         }
     }
 
-    /// Takes what came from a server: a reply, or a welcome, after which what is pending there is sent again.
+    /// Takes what came from a server: a reply, or a welcome, after which what is pending there is
+    /// sent again.
     ///
     /// # Errors
     ///
-    /// `Refused` and `NoConnection` of a server that is given up; `Restored`; `Memory`. The client is as before.
+    /// `Refused` and `NoConnection` of a server that is given up; `Restored`; `Memory`. The client
+    /// is as before.
     pub(super) fn take(
         &mut self,
         alloc: Global,
@@ -140,7 +148,8 @@ impl Party {
         ensures client { OnErr result (self.new.client ≡ self.old.client) }
         ensures standings { IfOk result (λ told. self.new.standings.items
             ≡ standings_after self.old server arrival told) }
-        ensures rest { (self.new.goes_on ≡ self.old.goes_on) × (self.new.accepted ≡ self.old.accepted) }
+        ensures rest { (self.new.goes_on ≡ self.old.goes_on)
+            × (self.new.accepted ≡ self.old.accepted) }
     {
         match arrival {
             Arrival::Came(reply) => self.hear(alloc, server, reply),
@@ -151,16 +160,18 @@ impl Party {
         }
     }
 
-    // Hears a reply of a server, which keeps it if it answers a numbered message. After an error the client is as
-    // before.
+    // Hears a reply of a server, which keeps it if it answers a numbered message. After an error
+    // the client is as before.
     fn hear(&mut self, alloc: Global, server: u32, reply: Reply) -> Result<Reaction, CallFault>
         ensures heard { IfOk result (λ told. Hears self.old.client server
-            (homeward_of (standing.standing_at self.old.standings.items server).base reply) told self.new.client) }
+            (homeward_of (standing.standing_at self.old.standings.items server).base reply)
+            told self.new.client) }
         ensures standings { self.new.standings.items ≡ with_standing self.old.standings.items server
             (answered (standing.standing_at self.old.standings.items server) (answered_in reply)) }
         ensures fault { IfErr result (λ f. f ≡ faults.Memory) }
         ensures client { OnErr result (self.new.client ≡ self.old.client) }
-        ensures rest { (self.new.goes_on ≡ self.old.goes_on) × (self.new.accepted ≡ self.old.accepted) }
+        ensures rest { (self.new.goes_on ≡ self.old.goes_on)
+            × (self.new.accepted ≡ self.old.accepted) }
     {
         let mut standing = standing_at(&self.standings, server);
         let base = standing.base;
@@ -176,19 +187,24 @@ impl Party {
         }
     }
 
-    // A server welcomes the client with this number: what is pending there is sent again. It is `Restored`, if it keeps
-    // less than it answered.
+    // A server welcomes the client with this number: what is pending there is sent again. It is
+    // `Restored`, if it keeps less than it answered.
     fn welcome(&mut self, alloc: Global, server: u32, last: u64) -> Result<Reaction, CallFault>
         ensures again { IfOk result (λ told. react self.old.client (calls.Reconnected server)
             ≡ Ok (shown told self.old.client)) }
         ensures client { self.new.client ≡ self.old.client }
-        ensures kept { OnOk result (is_restored last (standing.standing_at self.old.standings.items server) ≡ false) }
-        ensures restored { is_restored last (standing.standing_at self.old.standings.items server) ≡ true
+        ensures kept { OnOk result (is_restored last
+            (standing.standing_at self.old.standings.items server) ≡ false) }
+        ensures restored { is_restored last (standing.standing_at self.old.standings.items server)
+            ≡ true
             → result ≡ Err (faults.Restored server) }
         ensures standings { IfOk result (λ told. self.new.standings.items
-            ≡ with_standing self.old.standings.items server (spec.asked (list_any (λ p. spec.is_ask p.1) told.packets.items)
-            (welcomed self.old.goes_on last (standing.standing_at self.old.standings.items server)))) }
-        ensures rest { (self.new.goes_on ≡ self.old.goes_on) × (self.new.accepted ≡ self.old.accepted) }
+            ≡ with_standing self.old.standings.items server
+            (spec.asked (list_any (λ p. spec.is_ask p.1) told.packets.items)
+            (welcomed self.old.goes_on last
+            (standing.standing_at self.old.standings.items server)))) }
+        ensures rest { (self.new.goes_on ≡ self.old.goes_on)
+            × (self.new.accepted ≡ self.old.accepted) }
     {
         let mut standing = standing_at(&self.standings, server);
         if !standing.welcomes(last, self.goes_on) {
@@ -206,7 +222,8 @@ impl Party {
 
     /// Makes a message to a server what that is to see, and remembers the offer that it accepts.
     pub(super) fn send(&mut self, server: u32, message: &mut Message)
-        ensures message { message.new ≡ onward_of (standing.standing_at self.old.standings.items server).base message.old }
+        ensures message { message.new ≡ onward_of
+            (standing.standing_at self.old.standings.items server).base message.old }
         ensures accepted { self.new.accepted ≡ accepted_after self.old.accepted server message.old }
         ensures client { self.new.client ≡ self.old.client }
         ensures standings { self.new.standings.items ≡ self.old.standings.items }
@@ -218,9 +235,9 @@ impl Party {
         onward(message, standing_at(&self.standings, server).base);
     }
 
-    /// What was pending has ended. If its Asks were sent again to the server whose offer was accepted, that one's
-    /// ticket may be open there once more, and the client cancels only the others: so it is to be cancelled, and is
-    /// answered.
+    /// What was pending has ended. If its Asks were sent again to the server whose offer was
+    /// accepted, that one's ticket may be open there once more, and the client cancels only the
+    /// others: so it is to be cancelled, and is answered.
     pub(super) fn settle(&mut self) -> Option<(u32, u64)>
         ensures cancelled { result ≡ cancelled_at self.old.standings.items self.old.accepted }
         ensures accepted { self.new.accepted ≡ None }

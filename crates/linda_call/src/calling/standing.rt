@@ -51,7 +51,8 @@ pub(super) fn first_unmet(standings: &[Standing]) -> Option<u32>
     None
 }
 
-/// How the client stands with the server of this number, and as with one that was not met if there is none.
+/// How the client stands with the server of this number, and as with one that was not met if there
+/// is none.
 pub(super) fn standing_at(standings: &[Standing], server: u32) -> Standing
     ensures { result ≡ spec.standing_at standings.now server }
 {
@@ -83,7 +84,8 @@ pub(super) fn settle(standings: &mut Vec<Standing>)
 }
 
 impl Standing {
-    /// The server welcomes the client with this number, for the first time or again. Whether it keeps what it answered.
+    /// The server welcomes the client with this number, for the first time or again. Whether it
+    /// keeps what it answered.
     pub(super) fn welcomes(&mut self, last: u64, goes_on: bool) -> bool
         ensures after { self.new ≡ spec.welcomed goes_on last self.old }
         ensures kept { result ≡ not (spec.is_restored last self.old) }

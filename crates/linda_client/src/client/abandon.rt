@@ -11,13 +11,14 @@ use crate::reaction::Reaction;
 use std::alloc::Global;
 
 impl Client {
-    /// Abandons the synchronization that is pending: every ticket is cancelled at every server, and all
-    /// nack numbers are raised.
+    /// Abandons the synchronization that is pending: every ticket is cancelled at every server, and
+    /// all nack numbers are raised.
     ///
     /// # Errors
     ///
     /// `Left` where the client has left; else `Busy` where an Accept is unanswered; `Idle` where no
-    /// synchronization is pending; else `Memory` where memory runs out. In each case the client is as before.
+    /// synchronization is pending; else `Memory` where memory runs out. In each case the client is
+    /// as before.
     pub fn abandon(&mut self, alloc: Global) -> Result<Reaction, ClientFault>
         ensures { Does self.old result self.new (react self.old Abandon) }
     {

@@ -11,15 +11,15 @@ use crate::reaction::Reaction;
 use std::alloc::Global;
 
 impl Client {
-    /// Gives the number of the client up for good: a Leave goes to every server, under its next number. It is
-    /// pending until all have answered. Then the client has left: it sends nothing more but Cancels of offers
-    /// that come late.
+    /// Gives the number of the client up for good: a Leave goes to every server, under its next
+    /// number. It is pending until all have answered. Then the client has left: it sends nothing
+    /// more but Cancels of offers that come late.
     ///
     /// # Errors
     ///
-    /// `Left` where the client has left; else `Busy` where an out, a synchronization or a leave is pending;
-    /// else `Spent` where the next number of some server is 2^63; else `Memory` where memory runs out. In each
-    /// case the client is as before.
+    /// `Left` where the client has left; else `Busy` where an out, a synchronization or a leave is
+    /// pending; else `Spent` where the next number of some server is 2^63; else `Memory` where
+    /// memory runs out. In each case the client is as before.
     pub fn leave(&mut self, alloc: Global) -> Result<Reaction, ClientFault>
         ensures { Does self.old result self.new (react self.old Leave) }
     {

@@ -14,14 +14,17 @@ use linda_wire::{Message, NUMBER_LIMIT};
 use std::alloc::Global;
 
 impl Client {
-    /// Puts a tuple: the j-th out of the client, from 0, goes to the server that its number plus j leaves
-    /// by the count of servers, under the next number there. It is pending until that server answers.
+    /// Puts a tuple: the j-th out of the client, from 0, goes to the server that its number plus j
+    /// leaves by the count of servers, under the next number there. It is pending until that server
+    /// answers.
     ///
     /// # Errors
     ///
-    /// `Left` where the client has left; else `Busy` where an out, a synchronization or a leave is pending; else
-    /// `Spent` where the next number of that server, or the count of outs, would reach 2^63; else `Memory` where
-    /// memory runs out. In each case the client is as before, and the tuple is dropped.
+    /// `Left` where the client has left; else `Busy` where an out, a synchronization or a leave is
+    /// pending; else
+    /// `Spent` where the next number of that server, or the count of outs, would reach 2^63; else
+    /// `Memory` where memory runs out. In each case the client is as before, and the tuple is
+    /// dropped.
     pub fn out(&mut self, alloc: Global, tuple: Tuple) -> Result<Reaction, ClientFault>
         ensures { Does self.old result self.new (react self.old (Out tuple)) }
     {

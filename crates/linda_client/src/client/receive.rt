@@ -27,24 +27,28 @@ impl Client {
     /// Takes a reply of a server. Which replies change something depends on what is pending:
     ///
     /// - Stored ends the out that is pending, if server and number are its own.
-    /// - An offer for an open ticket whose template matches it is accepted, and a copy commits to its base,
-    ///   unless an Accept is unanswered: then both are saved, each once. An offer for any other ticket is
-    ///   answered by a Cancel.
-    /// - Taken, for the Accept that is unanswered, commits to its base. Gone, for that Accept, lets the
+    /// - An offer for an open ticket whose template matches it is accepted, and a copy commits to
+    ///   its base,
+    ///   unless an Accept is unanswered: then both are saved, each once. An offer for any other
+    ///   ticket is answered by a Cancel.
+    /// - Taken, for the Accept that is unanswered, commits to its base. Gone, for that Accept, lets
+    ///   the
     ///   client
-    ///   go on with the oldest arrival that it saved, else with the first alarm that is ready, else wait.
-    /// - Left, for a Leave that is not answered yet, answers it, and after the last the client has left.
+    ///   go on with the oldest arrival that it saved, else with the first alarm that is ready, else
+    ///   wait.
+    /// - Left, for a Leave that is not answered yet, answers it, and after the last the client has
+    ///   left.
     /// - Refused is handed on as a fault, whatever is pending.
     ///
-    /// All else is ignored, and so is all but offers and refusals by a client that has left. At a commitment
-    /// every ticket is cancelled at every server, but where the accepted offer was, unless an offer of it is
-    /// saved.
+    /// All else is ignored, and so is all but offers and refusals by a client that has left. At a
+    /// commitment every ticket is cancelled at every server, but where the accepted offer was,
+    /// unless an offer of it is saved.
     ///
     /// # Errors
     ///
-    /// `NoServer` where there is no such server; else `Spent` where an offer would be accepted and the next
-    /// number of its server is 2^63; else `Memory` where memory runs out. In each case the client is as
-    /// before.
+    /// `NoServer` where there is no such server; else `Spent` where an offer would be accepted and
+    /// the next number of its server is 2^63; else `Memory` where memory runs out. In each case the
+    /// client is as before.
     pub fn receive(
         &mut self,
         alloc: Global,
@@ -83,7 +87,8 @@ impl Client {
     ) -> Result<Reaction, ClientFault>
         requires { arriving.server < servers self.old }
         ensures { Does self.old result self.new
-            (spec.on_arrival self.old (pending_in self.old.task) remove (arrival_of arriving.entry)) }
+            (spec.on_arrival self.old (pending_in self.old.task) remove
+            (arrival_of arriving.entry)) }
     {
         let Some(pending) = self.pending() else {
             return stray(alloc, remove, arriving);
@@ -186,7 +191,8 @@ impl Client {
 
     // The offer that the client's message `n` accepted is gone.
     fn gone(&mut self, alloc: Global, server: u32, n: u64) -> Result<Reaction, ClientFault>
-        ensures { Does self.old result self.new (spec.on_gone self.old (pending_in self.old.task) server n) }
+        ensures { Does self.old result self.new
+            (spec.on_gone self.old (pending_in self.old.task) server n) }
     {
         let Some(pending) = self.pending() else {
             return Ok(Reaction::quiet(alloc));
@@ -208,12 +214,13 @@ impl Client {
         Ok(reaction)
     }
 
-    // Without the offer that was accepted, and with nothing saved, the first alarm that is ready commits;
-    // else the synchronization waits.
+    // Without the offer that was accepted, and with nothing saved, the first alarm that is ready
+    // commits; else the synchronization waits.
     fn go_on(&mut self, alloc: Global) -> Result<Reaction, ClientFault>
         requires pending { IsSome (pending_in self.old.task) }
         requires saved { OfPending self.old (λ p. p.saved ≡ []) }
-        ensures { OfPending self.old (λ p. Does self.old result self.new (spec.go_on self.old p [])) }
+        ensures { OfPending self.old
+            (λ p. Does self.old result self.new (spec.go_on self.old p [])) }
     {
         if let Some(pending) = self.pending()
             && let Some(alarm) = pending.first_due(self.clock())
@@ -229,7 +236,8 @@ impl Client {
 
 // An arrival for a ticket that is not open: an offer is cancelled, and a copy ignored.
 fn stray(alloc: Global, remove: bool, arriving: Arriving) -> Result<Reaction, ClientFault>
-    ensures { (c : seen.Client) → Does c result c (Ok (spec.on_stray c remove (arrival_of arriving.entry))) }
+    ensures { (c : seen.Client)
+        → Does c result c (Ok (spec.on_stray c remove (arrival_of arriving.entry))) }
 {
     if !remove {
         return Ok(Reaction::quiet(alloc));
@@ -251,7 +259,8 @@ fn copied(
     requires { Matches ask.now.template arriving.tuple.now }
     ensures packets { IfOk result (λ r. r.packets.items ≡ cancels_but servers None pending.now) }
     ensures outcome { IfOk result (λ r. r.outcome
-        ≡ Some (commitment pending.now.event ask.now.base (got_by_read ask.now (arrival_of arriving.entry)))) }
+        ≡ Some (commitment pending.now.event ask.now.base
+        (got_by_read ask.now (arrival_of arriving.entry)))) }
     ensures fault { IfOk result (λ r. r.fault ≡ None) }
 {
     let (tuple, bindings) = bound(alloc, ask, arriving.tuple)?;

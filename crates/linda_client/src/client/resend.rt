@@ -14,9 +14,9 @@ use linda_wire::Message;
 use std::alloc::{AllocError, Global};
 
 impl Client {
-    /// Sends again what no server has answered: the Out or the Accept that is pending, then the Asks of all
-    /// open tickets, in the order in which they were sent; or the Leaves, by rising server; or nothing, where the
-    /// client has left. The client stays as it is.
+    /// Sends again what no server has answered: the Out or the Accept that is pending, then the
+    /// Asks of all open tickets, in the order in which they were sent; or the Leaves, by rising
+    /// server; or nothing, where the client has left. The client stays as it is.
     ///
     /// # Errors
     ///
@@ -27,8 +27,8 @@ impl Client {
         Ok(Reaction::sending(self.sent_again(alloc)?))
     }
 
-    /// Sends again what this server has not answered: those of `resend` that go to it. The client stays as
-    /// it is.
+    /// Sends again what this server has not answered: those of `resend` that go to it. The client
+    /// stays as it is.
     ///
     /// # Errors
     ///

@@ -12,8 +12,8 @@ use std::alloc::Global;
 
 impl Client {
     /// Tells the client the time. Its clock never falls: a time that is past changes nothing. If a
-    /// synchronization is pending, and no Accept of it is unanswered, the first alarm in tree order that is
-    /// ready commits.
+    /// synchronization is pending, and no Accept of it is unanswered, the first alarm in tree order
+    /// that is ready commits.
     ///
     /// # Errors
     ///

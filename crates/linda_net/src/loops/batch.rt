@@ -14,8 +14,8 @@ pub(super) enum Call<L: Ledger> {
     Leave(Account<L>),
 }
 
-/// The messages of which no deed comes, and all others. The first group is served before the second: so a message is in
-/// it only if none of its connection is in the second.
+/// The messages of which no deed comes, and all others. The first group is served before the
+/// second: so a message is in it only if none of its connection is in the second.
 #[derive(Drop)]
 pub(super) struct Batch<L: Ledger> {
     pub(super) asking: Group<L>,

@@ -153,8 +153,8 @@ impl<L: Ledger> Connection<L> {
         Next::Later
     }
 
-    // Reads what is there. A short read leaves nothing to read, unless the peer is known to send no more: then its end
-    // is still to be read, of which no second event comes.
+    // Reads what is there. A short read leaves nothing to read, unless the peer is known to send no
+    // more: then its end is still to be read, of which no second event comes.
     fn read(&mut self, buffer: &mut [u8]) {
         match self.stream.read(buffer) {
             Ok(0) => {
@@ -191,7 +191,8 @@ impl<L: Ledger> Connection<L> {
         }
     }
 
-    /// Nothing more is taken from it. It ends once what is on its way came back, with this word, if there is one.
+    /// Nothing more is taken from it. It ends once what is on its way came back, with this word, if
+    /// there is one.
     pub(super) fn end_with(&mut self, word: Option<Refusal>) {
         self.is_ending = true;
         if self.last.is_none() {

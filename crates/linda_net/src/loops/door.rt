@@ -51,7 +51,8 @@ impl Door {
         self.may_accept = true;
     }
 
-    /// Whether more may wait at the listener, and none was missed: then nobody waits before looking.
+    /// Whether more may wait at the listener, and none was missed: then nobody waits before
+    /// looking.
     pub(super) fn has_more(&self) -> bool {
         self.may_accept && !self.has_missed
     }
@@ -66,8 +67,8 @@ impl Door {
         self.left == Some(0) || self.is_refused
     }
 
-    /// Lets in those that wait, each to a loop. Those that come when the server is down are closed, and none comes any
-    /// more.
+    /// Lets in those that wait, each to a loop. Those that come when the server is down are closed,
+    /// and none comes any more.
     pub(super) fn accept<R: Wait>(&mut self, rt: &R, relays: &Relays, is_down: bool) {
         self.has_missed = false;
         if self.may_accept {

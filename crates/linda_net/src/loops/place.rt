@@ -8,8 +8,8 @@ use linda_wire::{Message, Refusal};
 use std::collections::VecDeque;
 use std::sync::ledger::Ledger;
 
-/// Puts a message of the connection of this key where it goes. Says whether that was possible now; else the connection
-/// keeps it, and gives it next.
+/// Puts a message of the connection of this key where it goes. Says whether that was possible now;
+/// else the connection keeps it, and gives it next.
 pub(super) fn place<L: Ledger>(
     connection: &mut Connection<L>,
     key: usize,

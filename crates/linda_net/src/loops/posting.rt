@@ -6,9 +6,9 @@ use linda_shared::{Post, Sent};
 use std::sync::Wait;
 use std::sync::ledger::Ledger;
 
-/// A loop that serves a group. What is for its own clients is written to their connections, after what other loops
-/// handed to it before; all else is handed to the loop that serves the client. That is done under the server's lock, so
-/// what is sent to a client stays in order.
+/// A loop that serves a group. What is for its own clients is written to their connections, after
+/// what other loops handed to it before; all else is handed to the loop that serves the client.
+/// That is done under the server's lock, so what is sent to a client stays in order.
 #[derive(Drop)]
 pub(super) struct Posting<'s, 'r, L: Ledger> {
     pub(super) sessions: &'s mut Sessions<L>,

@@ -8,13 +8,13 @@ use std::alloc::{AllocError, Global};
 use std::collections::BTreeMap;
 use std::sync::{Mutex, Wait};
 
-/// Up to so many connections all are served by the first loop: few clients gain more from going in one group than from
-/// a second thread.
+/// Up to so many connections all are served by the first loop: few clients gain more from going in
+/// one group than from a second thread.
 const FEW: u64 = 32;
 
-/// What all loops have in common: the relay of each loop, the loop of each client that was greeted, and what they count.
-/// A client has an entry from its greeting to its leaving, so what is sent to it meanwhile goes to the loop that has its
-/// connection.
+/// What all loops have in common: the relay of each loop, the loop of each client that was greeted,
+/// and what they count. A client has an entry from its greeting to its leaving, so what is sent to
+/// it meanwhile goes to the loop that has its connection.
 #[derive(Drop)]
 pub(crate) struct Relays {
     /// What they count, for the thread that watches.
@@ -93,7 +93,8 @@ impl Relays {
         }
     }
 
-    /// Hands a connection that came to the loop that has the fewest. Says whether that was possible.
+    /// Hands a connection that came to the loop that has the fewest. Says whether that was
+    /// possible.
     pub(super) fn hand<R: Wait>(&self, rt: &R, stream: TcpStream) -> bool {
         let Some(relay) = self.relays.get(self.least()) else {
             return false;

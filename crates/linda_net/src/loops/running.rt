@@ -13,7 +13,8 @@ use std::thread::{Scope, Threads};
 use std::time::Clock;
 use std::{io, thread};
 
-/// How many loops there are. More gain nothing on a machine of four processors, where clients work too.
+/// How many loops there are. More gain nothing on a machine of four processors, where clients work
+/// too.
 const LOOPS: usize = 2;
 
 /// The loops of a listener, of which the first lets connections in.
@@ -53,8 +54,8 @@ impl<L: Ledger> Loops<L> {
         self.first.open(Door::new(listener, sessions))
     }
 
-    /// Runs the loops until all connections are over, the first one in this thread. A loop for which no thread can be
-    /// had gets no connection.
+    /// Runs the loops until all connections are over, the first one in this thread. A loop for
+    /// which no thread can be had gets no connection.
     pub(crate) fn run<D: Disk + Send, R: Threads + Wait + Clock + Sync>(
         self,
         rt: &R,

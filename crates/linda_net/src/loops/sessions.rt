@@ -22,7 +22,8 @@ pub(super) const FIRST: usize = 2;
 /// How many bytes are read at once.
 const PIECE: usize = 16_384;
 
-/// What a greeting came to: an account with the number of the last request that is kept, or a code and a detail.
+/// What a greeting came to: an account with the number of the last request that is kept, or a code
+/// and a detail.
 type Greeting<L> = Result<Result<(Account<L>, u64), (u8, u64)>, SharedFault>;
 
 /// The connections of one loop, by keys.
@@ -34,8 +35,8 @@ pub(super) struct Sessions<L: Ledger> {
     connections: Slab<Connection<L>>,
     // The connection of each client that was greeted here.
     clients: BTreeMap<u32, usize>,
-    // Connections that may have something, and those that may have to be written to: each at most once, so there is
-    // always room.
+    // Connections that may have something, and those that may have to be written to: each at most
+    // once, so there is always room.
     ready: VecDeque<usize>,
     touched: Vec<usize>,
     /// Clients that come and go: at most one for each connection.
@@ -153,8 +154,8 @@ impl<L: Ledger> Sessions<L> {
         }
     }
 
-    /// Takes what ready connections have, as far as there is room in the batch. One that has more stays ready, behind
-    /// the others.
+    /// Takes what ready connections have, as far as there is room in the batch. One that has more
+    /// stays ready, behind the others.
     pub(super) fn gather(&mut self, batch: &mut Batch<L>, marks: &Marks) {
         for _ in 0..self.ready.len() {
             if !batch.doing.has_room() || !batch.asking.has_room() {
@@ -250,7 +251,8 @@ impl<L: Ledger> Sessions<L> {
         }
     }
 
-    /// Sessions hear the answers of a group that was served. Of a group of deeds it is noted that they are done.
+    /// Sessions hear the answers of a group that was served. Of a group of deeds it is noted that
+    /// they are done.
     pub(super) fn hear_all(&mut self, group: &mut Group<L>, are_deeds: bool) {
         for _ in 0..group.len() {
             let Some((message, answered)) = group.next() else {
@@ -295,7 +297,8 @@ impl<L: Ledger> Sessions<L> {
         self.handed = handed;
     }
 
-    /// These go to their client, after all that went to it before; nowhere if it has no connection here.
+    /// These go to their client, after all that went to it before; nowhere if it has no connection
+    /// here.
     pub(super) fn tell(&mut self, marks: &Marks, sent: Sent) {
         let Some(key) = self.clients.get(&sent.client()).copied() else {
             return;

@@ -23,7 +23,8 @@ const BELL: usize = 1;
 /// How many events are taken at once.
 const EVENTS: usize = 1_024;
 
-/// How long is waited at most if nothing happens, in milliseconds: then it is looked whether the server is down.
+/// How long is waited at most if nothing happens, in milliseconds: then it is looked whether the
+/// server is down.
 const QUIET: u64 = 1_000;
 
 /// How long is waited at most after a connection could not be had, in milliseconds.
@@ -32,7 +33,8 @@ const REST: u64 = 10;
 /// How often messages of which no deed comes are served before the others.
 const MOST_ROUNDS: u32 = 16;
 
-/// How often a loop goes round at most once the server is down, before connections are closed that take nothing.
+/// How often a loop goes round at most once the server is down, before connections are closed that
+/// take nothing.
 const MOST_ENDING: u32 = 1_024;
 
 /// How often it is looked at most for more that is ready before a group is written to the disks.
@@ -181,8 +183,8 @@ impl<L: Ledger> Loop<L> {
         }
     }
 
-    // Once the server is down: nobody waits longer for connections that take nothing, after a while in which nothing
-    // happened, or after many turns.
+    // Once the server is down: nobody waits longer for connections that take nothing, after a while
+    // in which nothing happened, or after many turns.
     fn end_soon(&mut self, is_quiet: bool) {
         if !self.is_ending {
             return;
@@ -193,8 +195,8 @@ impl<L: Ledger> Loop<L> {
         }
     }
 
-    // Takes what is ready and serves it: first what makes no deed, and then the rest, as one group with what is ready by
-    // then. Says whether the server is up.
+    // Takes what is ready and serves it: first what makes no deed, and then the rest, as one group
+    // with what is ready by then. Says whether the server is up.
     fn pass<D: Disk, R: Wait>(&mut self, rt: &R, shared: &Shared<D, L>, relays: &Relays) -> bool {
         let mut is_up = self.serve_asks(rt, shared, relays);
         for _ in 0..MOST_LOOKS {
@@ -211,7 +213,8 @@ impl<L: Ledger> Loop<L> {
         self.serve_deeds(rt, shared, relays) && is_up
     }
 
-    // Takes what is ready, and serves what makes no deed, and clients that come and go. Says whether the server is up.
+    // Takes what is ready, and serves what makes no deed, and clients that come and go. Says
+    // whether the server is up.
     fn serve_asks<D: Disk, R: Wait>(
         &mut self,
         rt: &R,

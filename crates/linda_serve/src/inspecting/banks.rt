@@ -1,7 +1,7 @@
 //! The bytes of the two banks of a folder, of one moment, though a server may be at work on them.
 //!
-//! A file is read from the front to its end: a record is there before its gate opens, and stands after it. Where both
-//! files begin afterwards as they did, no bank was begun anew meanwhile.
+//! A file is read from the front to its end: a record is there before its gate opens, and stands
+//! after it. Where both files begin afterwards as they did, no bank was begun anew meanwhile.
 
 ghost use Rattle.std.specs.Prelude.{◌≡◌, ◌↔◌, take, IsTrue};
 ghost use Rattle.linda_serve.specs.declared.inspecting.banks.TheConstants.{FRONT};
@@ -31,8 +31,8 @@ pub(super) struct Banks {
 ///
 /// # Errors
 ///
-/// `Disk` where the folder or a file cannot be read, a bank is no regular file, or both are one file; `InUse` where a
-/// bank was begun anew at each reading; `Memory`.
+/// `Disk` where the folder or a file cannot be read, a bank is no regular file, or both are one
+/// file; `InUse` where a bank was begun anew at each reading; `Memory`.
 pub(super) fn read_banks<F: Files<File = File>>(
     files: &F,
     alloc: Global,

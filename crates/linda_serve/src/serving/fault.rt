@@ -1,7 +1,8 @@
 //! Why a server on a folder does not serve.
 
 ghost use Rattle.std.specs.Prelude.{◌≡◌};
-ghost use Rattle.linda_serve.specs.Faults.{fault_of_disk, fault_of_open, fault_of_report, served_as};
+ghost use Rattle.linda_serve.specs.Faults.{fault_of_disk, fault_of_open, fault_of_report};
+ghost use Rattle.linda_serve.specs.Faults.{served_as};
 ghost use Rattle.linda_serve.specs.declared.serving.fault.ServingFault.TheVariants.{Memory as MemoryFault};
 
 use linda_disk::DiskFault;

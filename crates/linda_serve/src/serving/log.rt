@@ -23,7 +23,8 @@ pub enum Cause {
     Memory,
 }
 
-/// A log, and what was counted when its last line of a minute was written. One without a sink goes nowhere.
+/// A log, and what was counted when its last line of a minute was written. One without a sink goes
+/// nowhere.
 #[derive(Drop)]
 pub struct Log<'a, W: Write> {
     sink: Option<&'a mut W>,

@@ -5,8 +5,8 @@ ghost use Rattle.linda_serve.specs.Minutes.{counted, more_counted, none_counted}
 
 use linda_net::{Refused, Tally};
 
-/// Deeds, puts and takes that were refused since the bank is full, connections that were not served, and clients that
-/// were refused.
+/// Deeds, puts and takes that were refused since the bank is full, connections that were not
+/// served, and clients that were refused.
 #[derive(Clone, Copy)]
 pub(super) struct Counted {
     pub(super) deeds: u64,
@@ -52,8 +52,8 @@ impl Counted {
         }
     }
 
-    /// A minute ends, until whose end so many deeds were done. Returns what came in it; all until now is kept for the
-    /// next one.
+    /// A minute ends, until whose end so many deeds were done. Returns what came in it; all until
+    /// now is kept for the next one.
     pub(super) fn end_minute(&mut self, deeds: u64, tally: &Tally) -> Counted
         ensures more { result ≡ more_counted (counted deeds tally.now) self.old }
         ensures kept { self.new ≡ counted deeds tally.now }

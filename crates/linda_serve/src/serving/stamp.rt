@@ -13,7 +13,8 @@ pub(crate) fn stamp_now<C: Clock>(clock: &C) -> Option<[u8; STAMP]> {
     stamp_of(since.as_secs())
 }
 
-/// The time so many seconds after 1970 began, until 9999 ends: that of a date of HTTP, its parts in another order.
+/// The time so many seconds after 1970 began, until 9999 ends: that of a date of HTTP, its parts in
+/// another order.
 pub fn stamp_of(seconds: u64) -> Option<[u8; STAMP]> {
     let date = HttpDate::from_unix_secs(seconds).ok()?;
     let at = date.to_bytes();

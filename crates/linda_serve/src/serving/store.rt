@@ -18,12 +18,13 @@ pub(crate) const LEFT: &str = "left.bank";
 /// The file of the right bank.
 pub(crate) const RIGHT: &str = "right.bank";
 
-/// Opens the store in a folder, which nobody else has open. Where both of its files are missing or empty a new one is
-/// created. What it created is there after a power cut.
+/// Opens the store in a folder, which nobody else has open. Where both of its files are missing or
+/// empty a new one is created. What it created is there after a power cut.
 ///
 /// # Errors
 ///
-/// `InUse`; `NoStore`, `Damaged`, `Disk` as the banks are, `Disk` also if one is no regular file or both are one file;
+/// `InUse`; `NoStore`, `Damaged`, `Disk` as the banks are, `Disk` also if one is no regular file or
+/// both are one file;
 /// `Memory`. Files that were missing may be there.
 pub fn open_store<R: Files<File = File>>(
     rt: &R,
@@ -37,8 +38,8 @@ pub fn open_store<R: Files<File = File>>(
     Ok(server)
 }
 
-/// Opens the store in a folder as `open_store` does, and says whether a snapshot was cut off in it: then the bank that is
-/// not in use is none, and its file is longer than a closed gate.
+/// Opens the store in a folder as `open_store` does, and says whether a snapshot was cut off in it:
+/// then the bank that is not in use is none, and its file is longer than a closed gate.
 ///
 /// # Errors
 ///
@@ -104,7 +105,8 @@ pub(super) fn give_back(server: &mut Durable<FileDisk>) -> Result<(), ServingFau
     Ok(())
 }
 
-// The file of a bank as a disk. All of it is kept until it is read if the bank is in use, else no more than its front.
+// The file of a bank as a disk. All of it is kept until it is read if the bank is in use, else no
+// more than its front.
 fn as_disk(alloc: Global, file: File, is_in_use: bool) -> Result<FileDisk, DiskFault> {
     if is_in_use {
         FileDisk::new(alloc, file)

@@ -26,9 +26,9 @@ impl<D: Disk> Durable<D> {
     ///
     /// # Errors
     ///
-    /// `NotEmpty`, and `LimitRange` only where both disks are empty: nothing was written. `Disk` where
-    /// a device failed, `Memory`: the left disk holds the whole new bank or none. Each hands the disks
-    /// back, left and right.
+    /// `NotEmpty`, and `LimitRange` only where both disks are empty: nothing was written. `Disk`
+    /// where a device failed, `Memory`: the left disk holds the whole new bank or none. Each hands
+    /// the disks back, left and right.
     pub fn create(
         alloc: Global,
         left: D,

@@ -45,10 +45,10 @@ impl<D: Disk> Durable<D> {
         }
     }
 
-    /// Counts as down from now on. It is for a caller that has no memory to pass on what a call returned, and so
-    /// may not go on. A server that was up goes down in the state that it has, and none of its deeds is in doubt:
-    /// opened again on its disks it has that state. One that was down is as before. Makes no device call, and
-    /// takes no memory.
+    /// Counts as down from now on. It is for a caller that has no memory to pass on what a call
+    /// returned, and so may not go on. A server that was up goes down in the state that it has, and
+    /// none of its deeds is in doubt: opened again on its disks it has that state. One that was
+    /// down is as before. Makes no device call, and takes no memory.
     pub fn give_up(&mut self)
         ensures down { self.new.down ≡ true }
         ensures up { self.old.down ≡ false

@@ -1,11 +1,13 @@
 //! Serving messages: judged, done, and put onto the bank in use before anything is answered.
 
 ghost use Rattle.std.specs.Prelude.{◌≡◌, ◌∷◌, [], ◌<◌, ◌≤◌, ◌+◌, ◌↔◌};
-ghost use Rattle.std.specs.Prelude.{true, false, length, All, IfOk, IfErr, IfSome, IfNone, OnOk, OnErr};
+ghost use Rattle.std.specs.Prelude.{true, false, length, All, IfOk, IfErr, IfSome, IfNone, OnOk};
+ghost use Rattle.std.specs.Prelude.{OnErr};
 ghost use Rattle.std.specs.Prelude.{IsErrOf, is_some};
 ghost use Rattle.linda_disk.specs.Disk.{TellsFailures};
 ghost use Rattle.linda_server.specs.declared.limits.TheConstants.{RECORD_BYTES};
-ghost use Rattle.linda_server.specs.Server.{is_usable, form_in_use, end_in_use, limit_in_use, BothHonest};
+ghost use Rattle.linda_server.specs.Server.{is_usable, form_in_use, end_in_use, limit_in_use};
+ghost use Rattle.linda_server.specs.Server.{BothHonest};
 ghost use Rattle.linda_server.specs.Server.{failures_of, IsKeptFor, IsPutOn, AlwaysLeave};
 
 use super::Durable;
@@ -78,15 +80,19 @@ impl<D: Disk> Durable<D> {
         self.settle(alloc, served)
     }
 
-    // How many bytes the deeds of the messages will spell in the form of the bank in use; None where one of them will
-    // have no spelling there.
+    // How many bytes the deeds of the messages will spell in the form of the bank in use; None
+    // where one of them will have no spelling there.
     fn size_of(&self, batch: Batch<'_>) -> Option<u64>
         requires { length (messages_of batch) ≤ MAX_BATCH }
-        ensures bytes { (all : History) → Answers self.now.store.state self.now.store.soft (messages_of batch.entry) all
-            → IfSome result (λ size. size ≡ length (payload (form_in_use self.now.disks) all.deeds)) }
-        ensures suit { (all : History) → Answers self.now.store.state self.now.store.soft (messages_of batch.entry) all
+        ensures bytes { (all : History)
+            → Answers self.now.store.state self.now.store.soft (messages_of batch.entry) all
+            → IfSome result (λ size.
+            size ≡ length (payload (form_in_use self.now.disks) all.deeds)) }
+        ensures suit { (all : History)
+            → Answers self.now.store.state self.now.store.soft (messages_of batch.entry) all
             → IfSome result (λ size. All (SuitsForm (form_in_use self.now.disks)) all.deeds) }
-        ensures none { (all : History) → Answers self.now.store.state self.now.store.soft (messages_of batch.entry) all
+        ensures none { (all : History)
+            → Answers self.now.store.state self.now.store.soft (messages_of batch.entry) all
             → IfNone result (IsUnspelled (form_in_use self.now.disks) all.deeds) }
         ensures orderly { IsOrderly self.now.store.state self.now.store.soft }
     {
@@ -97,8 +103,8 @@ impl<D: Disk> Durable<D> {
         }
     }
 
-    // Whether it may do deeds of this size, which is None where one of them has no spelling in the form of the bank in
-    // use.
+    // Whether it may do deeds of this size, which is None where one of them has no spelling in the
+    // form of the bank in use.
     fn admit(&self, size: Option<u64>) -> Result<(), ServeFault>
         ensures was_down { IsErrOf result ServeFault.Down ↔ (self.now.down ≡ true) }
         ensures full { IsErrOf result ServeFault.Full → IfSome size (λ bytes. (0 < bytes)

@@ -21,16 +21,16 @@ impl<D: Disk> Durable<D> {
     ///
     /// # Errors
     ///
-    /// `Down`, then `Full` where the new bank would pass the limit or no generation is left: nothing
-    /// changed. `Disk` where the device failed, and `Memory`: the server is down.
+    /// `Down`, then `Full` where the new bank would pass the limit or no generation is left:
+    /// nothing changed. `Disk` where the device failed, and `Memory`: the server is down.
     pub fn renew(&mut self, alloc: Global) -> Result<(), ServeFault>
         // It goes on for the same state, and it fails as said.
         ensures rewrites { Rewrites self.old result self.new }
         ensures fails { Fails self.old result self.new }
         // At Ok the other disk holds the bank in use, of the next generation and without a record.
         ensures switched { OnOk result (IsSwitched self.old.disks self.new.disks) }
-        // It is five device calls, and one for each piece in which the new bank is written; two fewer
-        // where the disk's first gate was closed already.
+        // It is five device calls, and one for each piece in which the new bank is written; two
+        // fewer where the disk's first gate was closed already.
         ensures clock { OnOk result (IsRenewedBy (snapshot_calls self.old.store.state)
             self.old.disks self.new.disks) }
         // It is Full exactly where there is no next bank for the state; nothing changed then.

@@ -1,4 +1,5 @@
-//! A server on disks in memory as a node: it may be stopped inside any device call, and comes back on what is left.
+//! A server on disks in memory as a node: it may be stopped inside any device call, and comes back
+//! on what is left.
 
 ghost use Rattle.std.specs.Prelude.{◌≡◌, true, false, IfOk, OnOk, OnErr, IsErrOf};
 ghost use Rattle.linda_disk.specs.MemDisk as disk;

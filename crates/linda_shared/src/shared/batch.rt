@@ -6,7 +6,8 @@ ghost use Rattle.std.specs.Arc.{arc_value};
 ghost use Rattle.linda_store_step.specs.declared.size.TheConstants.{MAX_BATCH};
 ghost use Rattle.linda_shared_accounts.specs.Account.{account_of};
 ghost use Rattle.linda_shared_accounts.specs.declared.limits.TheConstants.{MOST_ASKED};
-ghost use Rattle.linda_shared_queue.specs.Seat.{with_all, with_asked, AreToldOf, IsLeftBy, IsRequest};
+ghost use Rattle.linda_shared_queue.specs.Seat.{with_all, with_asked, AreToldOf, IsLeftBy};
+ghost use Rattle.linda_shared_queue.specs.Seat.{IsRequest};
 
 use super::Shared;
 use crate::addressed::address_all;
@@ -20,13 +21,13 @@ use std::sync::ledger::Ledger;
 use std::sync::{Arc, Wait};
 
 impl<D: Disk, L: Ledger> Shared<D, L> {
-    /// Submits some messages, which are served in one group, one after the other. Gives for each the receipt of its
-    /// deed, if it made one. Their replies come out of the outlet.
+    /// Submits some messages, which are served in one group, one after the other. Gives for each
+    /// the receipt of its deed, if it made one. Their replies come out of the outlet.
     ///
     /// # Errors
     ///
-    /// `Down`: the server is down; `Receipt`: the seat was told of a deed that its message does not ask for; `Memory`:
-    /// nothing changed.
+    /// `Down`: the server is down; `Receipt`: the seat was told of a deed that its message does not
+    /// ask for; `Memory`: nothing changed.
     pub fn submit_all<R: Wait>(
         &self,
         rt: &R,
@@ -41,8 +42,8 @@ impl<D: Disk, L: Ledger> Shared<D, L> {
         // there is an answer for each message, and a deed is one that its own message asks for.
         ensures deeds { IfOk result (λ told. AreToldOf seat.old.client messages.now told.items) }
         ensures each { IfOk result (λ told. vec_len told ≡ length messages.now) }
-        // Else the seat is as before, but for `Receipt`, and for `Down` where answers were lost: each deed of those has
-        // its receipt in the ring.
+        // Else the seat is as before, but for `Receipt`, and for `Down` where answers were lost:
+        // each deed of those has its receipt in the ring.
         ensures err { IfErr result (λ fault. IsLeftBy messages.now seat.old fault seat.new) }
     {
         let Ok(told) = Vec::with_capacity(self.alloc, messages.len()) else {
@@ -89,10 +90,12 @@ impl<D: Disk, L: Ledger> Shared<D, L> {
         requires room { length messages.now ≤ vec_capacity told }
         ensures client { account.new.client ≡ account.old.client }
         ensures asked { account.new.asked ≡ 0 }
-        ensures ok { IfOk result (λ told. account.new ≡ with_all (with_asked account.old 0) told.items) }
+        ensures ok { IfOk result (λ told.
+            account.new ≡ with_all (with_asked account.old 0) told.items) }
         ensures deeds { IfOk result (λ told. AreToldOf account.old.client messages.now told.items) }
         ensures each { IfOk result (λ told. vec_len told ≡ length messages.now) }
-        ensures err { IfErr result (λ fault. IsLeftBy messages.now (with_asked account.old 0) fault account.new) }
+        ensures err { IfErr result (λ fault.
+            IsLeftBy messages.now (with_asked account.old 0) fault account.new) }
     {
         let mut heard = Heard::new(told);
         let mut leads = leads;

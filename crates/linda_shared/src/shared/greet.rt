@@ -19,8 +19,8 @@ use std::sync::ledger::Ledger;
 use std::sync::{Arc, Wait};
 
 impl<D: Disk, L: Ledger> Shared<D, L> {
-    /// Gives the client of a Hello its seat and its outlet, with the number of its last request that is kept; or
-    /// refuses it with a code and a detail.
+    /// Gives the client of a Hello its seat and its outlet, with the number of its last request
+    /// that is kept; or refuses it with a code and a detail.
     ///
     /// # Errors
     ///
@@ -41,8 +41,8 @@ impl<D: Disk, L: Ledger> Shared<D, L> {
         greeted
     }
 
-    // Greets whoever comes. A mailbox for it is made first, and its place in the router: so the server is asked only
-    // where there is memory for them.
+    // Greets whoever comes. A mailbox for it is made first, and its place in the router: so the
+    // server is asked only where there is memory for them.
     fn welcome<R: Wait>(
         &self,
         rt: &R,
@@ -54,7 +54,8 @@ impl<D: Disk, L: Ledger> Shared<D, L> {
         // Without memory all is as before, so a second greeting is answered as this one was to be.
         ensures memory { IsErrOf result SharedFault.Memory → (held.new.server.down ≡ false)
             × (held.new.server.store.state ≡ held.old.server.store.state)
-            × (held.new.server.store.soft ≡ held.old.server.store.soft) × (held.new.accounts ≡ held.old.accounts)
+            × (held.new.server.store.soft ≡ held.old.server.store.soft)
+            × (held.new.accounts ≡ held.old.accounts)
             × ((c : ℕ) → waits_for held.new.boxes c ≡ waits_for held.old.boxes c) }
     {
         if held.is_down() {
@@ -116,7 +117,8 @@ fn admit<D: Disk, L: Ledger>(
     ensures outlet { IfOk result HasOwnOutlet }
     ensures memory { IsErrOf result SharedFault.Memory → (held.new.server.down ≡ false)
         × (held.new.server.store.state ≡ held.old.server.store.state)
-        × (held.new.server.store.soft ≡ held.old.server.store.soft) × (held.new.accounts ≡ held.old.accounts)
+        × (held.new.server.store.soft ≡ held.old.server.store.soft)
+        × (held.new.accounts ≡ held.old.accounts)
         × ((c : ℕ) → waits_for held.new.boxes c ≡ waits_for held.old.boxes c) }
 {
     match held.greet(alloc, message)? {
@@ -145,7 +147,8 @@ fn owners<L: Ledger>(
     ),
     AllocError,
 >
-    ensures { IfOk result (λ o. ((arc_value o.0).client ≡ client) × ((arc_value o.1).client ≡ client)
+    ensures { IfOk result (λ o. ((arc_value o.0).client ≡ client)
+        × ((arc_value o.1).client ≡ client)
         × ((arc_value o.2).client ≡ client)) }
 {
     let first = Arc::new(alloc, Mailbox::new(alloc, client))?;

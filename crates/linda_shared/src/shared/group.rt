@@ -19,8 +19,9 @@ pub trait Post {
 }
 
 impl<D: Disk, L: Ledger> Shared<D, L> {
-    /// Gives the client of a Hello its account, with the number of its last request that is kept; or refuses it with a
-    /// code and a detail. It has no seat and no outlet: its messages go by groups, and what is sent to it is posted by
+    /// Gives the client of a Hello its account, with the number of its last request that is kept;
+    /// or refuses it with a code and a detail. It has no seat and no outlet: its messages go by
+    /// groups, and what is sent to it is posted by
     /// `serve_group` and `depart`.
     ///
     /// # Errors
@@ -44,8 +45,8 @@ impl<D: Disk, L: Ledger> Shared<D, L> {
         answer
     }
 
-    /// Serves the messages of a group, one after the other in one call of the server, and posts what is sent, once it
-    /// is on the disks. Says whether the server is up.
+    /// Serves the messages of a group, one after the other in one call of the server, and posts
+    /// what is sent, once it is on the disks. Says whether the server is up.
     pub fn serve_group<R: Wait, P: Post>(&self, rt: &R, group: &mut Group<L>, posts: &mut P) -> bool
         ensures { group.new.asked + group.new.answered ≡ group.old.asked + group.old.answered }
     {
@@ -59,8 +60,8 @@ impl<D: Disk, L: Ledger> Shared<D, L> {
         !is_down
     }
 
-    /// The client leaves: what it asked is given up, and its account is parked for its next connection. What its leaving
-    /// sends to others is posted. Says whether the server is up.
+    /// The client leaves: what it asked is given up, and its account is parked for its next
+    /// connection. What its leaving sends to others is posted. Says whether the server is up.
     pub fn depart<R: Wait, P: Post>(&self, rt: &R, account: Account<L>, posts: &mut P) -> bool {
         let mut guard = self.locked.lock(rt);
         let locked = &mut *guard;

@@ -29,7 +29,8 @@ impl<D: Disk, L: Ledger> Shared<D, L> {
         unreachable!()
     }
 
-    // Serves a group, lets the server go to the next leader, and then gives out what the group came to.
+    // Serves a group, lets the server go to the next leader, and then gives out what the group came
+    // to.
     fn lead<R: Wait>(&self, rt: &R) {
         let mut locked = self.locked.lock(rt);
         locked.batch.fill(&mut self.queue.lock(rt));

@@ -20,8 +20,8 @@ impl<D: Disk, L: Ledger> Shared<D, L> {
         seat.mailbox.end(rt);
     }
 
-    /// The session ends: what its client asked is given up, and its seat is parked for its next connection, whatever is
-    /// answered. What its leaving sends to others is given out.
+    /// The session ends: what its client asked is given up, and its seat is parked for its next
+    /// connection, whatever is answered. What its leaving sends to others is given out.
     ///
     /// # Errors
     ///
@@ -49,13 +49,13 @@ impl<D: Disk, L: Ledger> Shared<D, L> {
         answer
     }
 
-    /// Parks the given seats for good and reports, once all seats are back, what they were told, where that is what was
-    /// stored.
+    /// Parks the given seats for good and reports, once all seats are back, what they were told,
+    /// where that is what was stored.
     ///
     /// # Errors
     ///
-    /// `Down`, then `SeatMissing` where a seat is out, then `Receipt` where what a client was told of that number
-    /// differs from what was stored. The given seats stay parked.
+    /// `Down`, then `SeatMissing` where a seat is out, then `Receipt` where what a client was told
+    /// of that number differs from what was stored. The given seats stay parked.
     pub fn finish<R: Wait>(&self, rt: &R, seats: Vec<Seat<L>>) -> Result<Report, SharedFault>
         // All that the given seats were told is counted.
         ensures { IfOk result (λ r. deeds_told seats.items ≤ r.deeds) }
@@ -70,7 +70,8 @@ impl<D: Disk, L: Ledger> Shared<D, L> {
     }
 }
 
-// Parks the seats for good. Reports of how many deeds they were told in all, as far as that can be counted.
+// Parks the seats for good. Reports of how many deeds they were told in all, as far as that can be
+// counted.
 fn park_all<D: Disk, L: Ledger>(held: &mut Held<D, L>, seats: Vec<Seat<L>>) -> Option<u64>
     ensures { IfSome result (λ told. told ≡ deeds_told seats.items) }
 {

@@ -21,26 +21,28 @@ use std::sync::ledger::Ledger;
 use std::sync::{Arc, Wait};
 
 impl<D: Disk, L: Ledger> Shared<D, L> {
-    /// Submits one message, which is served with all that wait beside it. Gives the receipt of its deed, if it made
-    /// one. Its replies come out of the outlet. A Hello is refused there, as its client has a seat.
+    /// Submits one message, which is served with all that wait beside it. Gives the receipt of its
+    /// deed, if it made one. Its replies come out of the outlet. A Hello is refused there, as its
+    /// client has a seat.
     ///
     /// # Errors
     ///
-    /// `Down`: the server is down; `Receipt`: the seat was told of a deed that the message does not ask for; `Memory`:
-    /// nothing changed.
+    /// `Down`: the server is down; `Receipt`: the seat was told of a deed that the message does not
+    /// ask for; `Memory`: nothing changed.
     pub fn submit<R: Wait>(
         &self,
         rt: &R,
         seat: &mut Seat<L>,
         message: &Message,
     ) -> Result<Option<Receipt>, SharedFault>
-        // There is a receipt exactly where the seat was told of one deed more, and it joins the ring after the others;
+        // There is a receipt exactly where the seat was told of one deed more, and it joins the
+        // ring after the others;
         ensures seat { IfOk result (λ r. seat.new ≡ with_told seat.old r) }
         ensures next { IfOk result (λ o. IfSome o (IsNext seat.old.client seat.old.ring)) }
         // its deed is one that the message asks for.
         ensures deed { IfOk result (IsToldOf seat.old.client message.now) }
-        // Else the seat is as before, but for `Receipt`, and for `Down` where the answer was lost: a deed of that has
-        // its receipt in the ring.
+        // Else the seat is as before, but for `Receipt`, and for `Down` where the answer was lost:
+        // a deed of that has its receipt in the ring.
         ensures err { IfErr result (λ fault. IsLeft message.now seat.old fault seat.new) }
     {
         if let Message::Hello { .. } = message {
@@ -56,7 +58,8 @@ impl<D: Disk, L: Ledger> Shared<D, L> {
 
     // Puts the refusal of a Hello into the seat's mailbox.
     fn refuse_hello<R: Wait>(&self, rt: &R, seat: &Seat<L>) -> Result<(), SharedFault>
-        ensures { IfErr result (λ fault. (fault ≡ SharedFault.Down) ⊎ (fault ≡ SharedFault.Memory)) }
+        ensures { IfErr result (λ fault. (fault ≡ SharedFault.Down)
+            ⊎ (fault ≡ SharedFault.Memory)) }
     {
         if self.is_down(rt) {
             return Err(SharedFault::Down);

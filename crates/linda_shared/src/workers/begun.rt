@@ -60,8 +60,8 @@ impl<L: Ledger> Begun<L> {
     }
 }
 
-/// Starts a thread for the worker, which has this number among all. Where none can be started the worker is told so by
-/// its number in `refused`, and gives its seat back at once.
+/// Starts a thread for the worker, which has this number among all. Where none can be started the
+/// worker is told so by its number in `refused`, and gives its seat back at once.
 pub(crate) fn begin<
     's,
     E,

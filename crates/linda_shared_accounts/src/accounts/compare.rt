@@ -18,23 +18,25 @@ use linda_store_state::State;
 use std::sync::ledger::Ledger;
 
 impl<L: Ledger> Accounts<L> {
-    /// Compares what the parked seats were told with what was stored: each of these receipts with the one that its
-    /// client was told by that number, if it still has that; then the last that each client was told with what the
-    /// book keeps for it.
+    /// Compares what the parked seats were told with what was stored: each of these receipts with
+    /// the one that its client was told by that number, if it still has that; then the last that
+    /// each client was told with what the book keeps for it.
     ///
     /// # Errors
     ///
     /// `Receipt` alone: that one differs.
     pub fn compare(&self, state: &State<IndexBag>, receipts: &[Receipt]) -> Result<(), SharedFault>
         ensures told { OnOk result (All (IsToldSo self.now.places) receipts.now) }
-        ensures kept { OnOk result ((c : ℕ) → LastIsKept state.now (receipts_at (map.get self.now.places c))) }
+        ensures kept { OnOk result ((c : ℕ)
+            → LastIsKept state.now (receipts_at (map.get self.now.places c))) }
         ensures fault { IfErr result (Names self.now.places state.now receipts.now) }
     {
         self.compare_all(receipts)?;
         self.places.compare_last(state)
     }
 
-    // Compares each receipt with the one that its client was told by that number, if it still has that.
+    // Compares each receipt with the one that its client was told by that number, if it still has
+    // that.
     fn compare_all(&self, receipts: &[Receipt]) -> Result<(), SharedFault>
         ensures told { OnOk result (All (IsToldSo self.now.places) receipts.now) }
         ensures fault { IfErr result (NamesAnother self.now.places receipts.now) }
@@ -50,8 +52,10 @@ impl<L: Ledger> Accounts<L> {
     // Whether its client was told it so, if it still has a receipt of that number.
     fn agrees(&self, receipt: &Receipt) -> bool
         ensures agrees { result ≡ true → IsToldSo self.now.places receipt.now }
-        ensures differs { result ≡ false → HasRival (ring_for self.now.places receipt.now) receipt.now }
-        ensures own { All (λ mine. client_in mine ≡ client_in receipt.now) (ring_for self.now.places receipt.now) }
+        ensures differs { result ≡ false → HasRival (ring_for self.now.places receipt.now)
+            receipt.now }
+        ensures own { All (λ mine. client_in mine ≡ client_in receipt.now)
+            (ring_for self.now.places receipt.now) }
     {
         match self.places.get(receipt.client()) {
             Some(Place::Parked { ring, .. }) => ring.agrees(receipt),
@@ -64,7 +68,8 @@ impl Places {
     // Compares the last that each client was told with what the book keeps for it.
     fn compare_last(&self, state: &State<IndexBag>) -> Result<(), SharedFault>
         requires { (c : ℕ) → IfSome (map.get self.now c) (IsPlaceOf c) }
-        ensures kept { OnOk result ((c : ℕ) → LastIsKept state.now (receipts_at (map.get self.now c))) }
+        ensures kept { OnOk result ((c : ℕ)
+            → LastIsKept state.now (receipts_at (map.get self.now c))) }
         ensures fault { IfErr result (NamesNotKept self.now state.now) }
     {
         for (_client, place) in &self.entries {

@@ -18,8 +18,10 @@ impl<L: Ledger> Accounts<L> {
     /// The ring that is parked for this client, if not for good, keeps its last receipt alone.
     pub fn shorten(&mut self, client: u32)
         ensures total { self.new.total ≡ self.old.total }
-        ensures at { map.get self.new.places client ≡ shortened_at (map.get self.old.places client) }
-        ensures others { (c : ℕ) → c ≢ client → map.get self.new.places c ≡ map.get self.old.places c }
+        ensures at { map.get self.new.places client
+            ≡ shortened_at (map.get self.old.places client) }
+        ensures others { (c : ℕ) → c ≢ client
+            → map.get self.new.places c ≡ map.get self.old.places c }
     {
         self.places.shorten(client);
     }

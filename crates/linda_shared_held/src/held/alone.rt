@@ -1,7 +1,8 @@
-//! Messages one by one, where they do not go in one step: what finds no room is refused, and so is what the count of
-//! deeds has no room for.
+//! Messages one by one, where they do not go in one step: what finds no room is refused, and so is
+//! what the count of deeds has no room for.
 
-ghost use Rattle.std.specs.Prelude.{◌≡◌, ◌+◌, ◌<◌, ◌^◌, ◌++◌, ◌∷◌, [], false, true, ℕ, length, vec_len};
+ghost use Rattle.std.specs.Prelude.{◌≡◌, ◌+◌, ◌<◌, ◌^◌, ◌++◌, ◌∷◌, [], false, true, ℕ, length};
+ghost use Rattle.std.specs.Prelude.{vec_len};
 ghost use Rattle.std.specs.Prelude.{◌⊎◌, IfOk, IfErr, OnOk, OnErr, IsErrOf};
 ghost use Rattle.linda_wire.specs.Refusal.{refused};
 ghost use Rattle.linda_store_state.specs.State as states;
@@ -30,7 +31,8 @@ use std::slice;
 ///
 /// # Errors
 ///
-/// `Memory`: nothing changed. `Down`: the server is down, and nobody is told anything; what those before it sent stays.
+/// `Memory`: nothing changed. `Down`: the server is down, and nobody is told anything; what those
+/// before it sent stays.
 pub(super) fn serve_each<D: Disk>(
     server: &mut Durable<D>,
     receipts: &mut Vec<Receipt>,
@@ -41,13 +43,16 @@ pub(super) fn serve_each<D: Disk>(
 ) -> Result<Vec<Option<Receipt>>, SharedFault>
     ensures done { IfOk result (λ told. WentAlone server.old count (waits_for boxes.old)
         messages.now told.items (waits_for boxes.new) server.new) }
-    ensures receipts { IfOk result (λ told. receipts.new.items ≡ receipts.old.items ++ receipts_in told.items) }
+    ensures receipts { IfOk result (λ told.
+        receipts.new.items ≡ receipts.old.items ++ receipts_in told.items) }
     ensures one_each { IfOk result (λ told. vec_len told ≡ length messages.now) }
     ensures countable { IfOk result (λ told. count + length (receipts_in told.items) < 2 ^ 64) }
     ensures err { OnErr result (receipts.new.items ≡ receipts.old.items) }
     ensures down { IsErrOf result SharedFault.Down → server.new.down ≡ true }
-    ensures memory { IsErrOf result SharedFault.Memory → (server.new ≡ server.old) × (boxes.new ≡ boxes.old) }
-    ensures fault { IfErr result (λ fault. (fault ≡ SharedFault.Down) ⊎ (fault ≡ SharedFault.Memory)) }
+    ensures memory { IsErrOf result SharedFault.Memory
+        → (server.new ≡ server.old) × (boxes.new ≡ boxes.old) }
+    ensures fault { IfErr result (λ fault. (fault ≡ SharedFault.Down)
+        ⊎ (fault ≡ SharedFault.Memory)) }
     ensures still { OnOk result (server.new.down ≡ server.old.down) }
     ensures some { OnErr result (WentSome server.old count messages.now
         (waits_for boxes.old) (waits_for boxes.new)) }
@@ -65,8 +70,10 @@ pub(super) fn serve_each<D: Disk>(
     ensures covered { (opening base : states.State) (count : ℕ)
         → IsInOrder opening base receipts.old.items count server.old.down
         (known server.old.before.value server.old.store server.old.down)
-        → BoxesCovered (known server.old.before.value server.old.store server.old.down) (waits_for boxes.old)
-        → BoxesCovered (known server.new.before.value server.new.store server.new.down) (waits_for boxes.new) }
+        → BoxesCovered (known server.old.before.value server.old.store server.old.down)
+        (waits_for boxes.old)
+        → BoxesCovered (known server.new.before.value server.new.store server.new.down)
+        (waits_for boxes.new) }
 {
     let Ok(mut told) = Vec::with_capacity(alloc, messages.len()) else {
         return Err(SharedFault::Memory);
@@ -99,7 +106,8 @@ fn take_one<D: Disk>(
 ) -> Result<Option<Receipt>, SharedFault>
     ensures done { IfOk result (λ one. GoesAlone server.old count message.now
         (waits_for boxes.old) one (waits_for boxes.new) server.new) }
-    ensures receipts { IfOk result (λ one. receipts.new.items ≡ receipts.old.items ++ receipts_in (one ∷ [])) }
+    ensures receipts { IfOk result (λ one.
+        receipts.new.items ≡ receipts.old.items ++ receipts_in (one ∷ [])) }
     ensures countable { IfOk result (λ one. count + length (receipts_in (one ∷ [])) < 2 ^ 64) }
     ensures still { OnOk result (server.new.down ≡ server.old.down) }
     ensures err { OnErr result ((receipts.new.items ≡ receipts.old.items) × (server.new.down ≡ true)
@@ -118,8 +126,10 @@ fn take_one<D: Disk>(
     ensures covered { (opening base : states.State) (count : ℕ)
         → IsInOrder opening base receipts.old.items count server.old.down
         (known server.old.before.value server.old.store server.old.down)
-        → BoxesCovered (known server.old.before.value server.old.store server.old.down) (waits_for boxes.old)
-        → BoxesCovered (known server.new.before.value server.new.store server.new.down) (waits_for boxes.new) }
+        → BoxesCovered (known server.old.before.value server.old.store server.old.down)
+        (waits_for boxes.old)
+        → BoxesCovered (known server.new.before.value server.new.store server.new.down)
+        (waits_for boxes.new) }
 {
     if count == u64::MAX && comes_next(server.state(), message.0, &message.1) {
         if server.is_down() {
@@ -165,7 +175,8 @@ fn first_of(told: Vec<Option<Receipt>>) -> Option<Receipt>
 
 // Whether the message bears the number after its client's last.
 fn comes_next(state: &State<IndexBag>, client: u32, message: &Message) -> bool
-    ensures { result ≡ steps.comes_next (number_of_message message.now) (last_number state.now client) }
+    ensures { result ≡ steps.comes_next (number_of_message message.now)
+        (last_number state.now client) }
 {
     match message {
         Message::Out { n, .. } => state.book.last(client).checked_add(1) == Some(*n),
@@ -175,7 +186,8 @@ fn comes_next(state: &State<IndexBag>, client: u32, message: &Message) -> bool
     }
 }
 
-// Tells the client that its message is refused. Where there is no memory for that, the server is given up.
+// Tells the client that its message is refused. Where there is no memory for that, the server is
+// given up.
 fn turn_away<D: Disk>(
     server: &mut Durable<D>,
     boxes: &mut Outboxes,

@@ -1,12 +1,14 @@
 //! What is always so, and the base, which a snapshot moves.
 
-ghost use Rattle.std.specs.Prelude.{◌≡◌, ◌+◌, ◌||◌, ◌⊎◌, nat_le, [], false, true, OnOk, IfErr, OnErr, IsErrOf};
+ghost use Rattle.std.specs.Prelude.{◌≡◌, ◌+◌, ◌||◌, ◌⊎◌, nat_le, [], false, true, OnOk, IfErr};
+ghost use Rattle.std.specs.Prelude.{OnErr, IsErrOf};
 ghost use Rattle.linda_store_step.specs.Store.{IsOrderly};
 ghost use Rattle.linda_server.specs.declared.limits.TheConstants.{SNAPSHOT_RECORDS};
 ghost use Rattle.linda_server.specs.Disks.{is_old};
 ghost use Rattle.linda_server.specs.Handled.{HasNoNextBank};
 ghost use Rattle.linda_server.specs.Pairs.{PairsNow};
-ghost use Rattle.linda_server.specs.Server.{both_of, form_in_use, end_in_use, records_in_use, BothHonest, StandNow};
+ghost use Rattle.linda_server.specs.Server.{both_of, form_in_use, end_in_use, records_in_use};
+ghost use Rattle.linda_server.specs.Server.{BothHonest, StandNow};
 ghost use Rattle.linda_server.specs.Switch.{IsSwitched};
 ghost use Rattle.linda_shared_held.specs.Order.{known, IsReplayed, CountsDeeds, StandsBehind};
 ghost use Rattle.linda_shared_outbox.specs.Waiting.{waits_for};
@@ -30,13 +32,17 @@ impl<D: Disk, L: Ledger> Held<D, L> {
     /// Whether the server is down. Here stands what is always so.
     pub fn is_down(&self) -> bool
         ensures is { result ≡ self.now.server.down }
-        // Up: the receipts lead from the base to the state, on which the disks stand and in which nobody waits in vain.
+        // Up: the receipts lead from the base to the state, on which the disks stand and in which
+        // nobody waits in vain.
         ensures replayed { result ≡ false
-            → ∥ IsReplayed self.now.base.value self.now.receipts.items self.now.server.store.state ∥₁ }
+            → ∥ IsReplayed self.now.base.value self.now.receipts.items
+            self.now.server.store.state ∥₁ }
         ensures orderly { IsOrderly self.now.server.store.state self.now.server.store.soft }
-        ensures stands { result ≡ false → StandNow self.now.server.disks self.now.server.store.state }
-        // Down: all that crashes leave represents the state after the receipts' deeds, and maybe others after them; and
-        // in that state what is posted is kept, until the client's next number is.
+        ensures stands { result ≡ false
+            → StandNow self.now.server.disks self.now.server.store.state }
+        // Down: all that crashes leave represents the state after the receipts' deeds, and maybe
+        // others after them; and in that state what is posted is kept, until the client's next
+        // number is.
         ensures down { result ≡ true → BothHonest self.now.server.disks
             → PairsNow (both_of self.now.server.disks)
             (λ left right. ∥ StandsBehind self.now.base.value self.now.receipts.items
@@ -48,14 +54,15 @@ impl<D: Disk, L: Ledger> Held<D, L> {
             ≡ kept_sum self.now.opening.value + self.now.count ∥₁ }
         ensures total { self.now.accounts.total ≡ self.now.count }
         // What is posted is kept, until the client's next number is.
-        ensures covered { ∥ BoxesCovered (known self.now.server.before.value self.now.server.store self.now.server.down)
+        ensures covered { ∥ BoxesCovered
+            (known self.now.server.before.value self.now.server.store self.now.server.down)
             (waits_for self.now.boxes) ∥₁ }
     {
         self.server.is_down()
     }
 
-    /// Whether a snapshot is due: there are so many records since the last one, or the bank in use is not in the form
-    /// of new banks.
+    /// Whether a snapshot is due: there are so many records since the last one, or the bank in use
+    /// is not in the form of new banks.
     pub fn needs_snapshot(&self) -> bool
         ensures { result ≡ (is_old (form_in_use self.now.server.disks)
             || nat_le SNAPSHOT_RECORDS (records_in_use self.now.server.disks)) }
@@ -63,15 +70,18 @@ impl<D: Disk, L: Ledger> Held<D, L> {
         self.server.needs_snapshot()
     }
 
-    /// Whether a snapshot pays for itself: there are 1,024 records since the last one or they have 32 MiB, and they
-    /// have at least as many bytes as that one left in the bank, or half of the limit is taken; or the bank in use is
-    /// not in the form of new banks. After one that was refused, once there are 1,024 records more. Or a deed was
-    /// refused for room since the last one or since one was last tried, and there is a record that this one did not
-    /// find. A server that was opened counts records from an empty bank on, and bytes from what the bank has.
+    /// Whether a snapshot pays for itself: there are 1,024 records since the last one or they have
+    /// 32 MiB, and they have at least as many bytes as that one left in the bank, or half of the
+    /// limit is taken; or the bank in use is not in the form of new banks. After one that was
+    /// refused, once there are 1,024 records more. Or a deed was refused for room since the last
+    /// one or since one was last tried, and there is a record that this one did not find. A server
+    /// that was opened counts records from an empty bank on, and bytes from what the bank has.
     pub fn pays(&self) -> bool
         ensures is { result ≡ is_due (is_old (form_in_use self.now.server.disks)) self.now.pace.base
-            self.now.pace.start self.now.pace.not_before self.now.pace.tried self.now.pace.lacks_room
-            (records_in_use self.now.server.disks) (end_in_use self.now.server.disks) self.now.server.limit }
+            self.now.pace.start self.now.pace.not_before self.now.pace.tried
+            self.now.pace.lacks_room
+            (records_in_use self.now.server.disks) (end_in_use self.now.server.disks)
+            self.now.server.limit }
     {
         let server = &self.server;
         self.pace.is_due(
@@ -82,25 +92,30 @@ impl<D: Disk, L: Ledger> Held<D, L> {
         )
     }
 
-    /// No snapshot that pays is tried before there are 1,024 records more; one that a refused deed asks for is. Nothing
-    /// else changes.
+    /// No snapshot that pays is tried before there are 1,024 records more; one that a refused deed
+    /// asks for is. Nothing else changes.
     pub fn put_off(&mut self)
-        ensures pace { self.new.pace ≡ put_off_at (records_in_use self.old.server.disks) self.old.pace }
-        ensures same { (self.new.opening.value ≡ self.old.opening.value) × (self.new.base.value ≡ self.old.base.value)
-            × (self.new.receipts.items ≡ self.old.receipts.items) × (self.new.count ≡ self.old.count)
-            × (self.new.accounts ≡ self.old.accounts) × (self.new.server ≡ self.old.server) × (self.new.boxes ≡ self.old.boxes)
+        ensures pace { self.new.pace ≡ put_off_at (records_in_use self.old.server.disks)
+            self.old.pace }
+        ensures same { (self.new.opening.value ≡ self.old.opening.value)
+            × (self.new.base.value ≡ self.old.base.value)
+            × (self.new.receipts.items ≡ self.old.receipts.items)
+            × (self.new.count ≡ self.old.count)
+            × (self.new.accounts ≡ self.old.accounts) × (self.new.server ≡ self.old.server)
+            × (self.new.boxes ≡ self.old.boxes)
             × (self.new.recall ≡ self.old.recall) }
     {
         self.pace.puts_off(self.server.records());
     }
 
-    /// Takes a snapshot, from which on the receipts begin anew. It alone moves the base. No receipt of a seat is
-    /// younger then: seats that came back for a next session keep their last one alone.
+    /// Takes a snapshot, from which on the receipts begin anew. It alone moves the base. No receipt
+    /// of a seat is younger then: seats that came back for a next session keep their last one
+    /// alone.
     ///
     /// # Errors
     ///
-    /// `Down` before all, and exactly where the server is down. `Full`, exactly where there is no next bank for its
-    /// state: nothing changed, but that one was tried.
+    /// `Down` before all, and exactly where the server is down. `Full`, exactly where there is no
+    /// next bank for its state: nothing changed, but that one was tried.
     pub fn snapshot(&mut self, alloc: Global) -> Result<(), SharedFault>
         ensures base { OnOk result ((self.new.base.value ≡ self.new.server.store.state)
             × (self.new.receipts.items ≡ [])) }
@@ -109,8 +124,8 @@ impl<D: Disk, L: Ledger> Held<D, L> {
         ensures store { self.new.server.store ≡ self.old.server.store }
         // At Ok the other disk holds the bank in use, of the next generation and without a record.
         ensures switched { OnOk result (IsSwitched self.old.server.disks self.new.server.disks) }
-        // It is Full exactly where there is no next bank for the state, and Down exactly where the server is, and that
-        // before all else.
+        // It is Full exactly where there is no next bank for the state, and Down exactly where the
+        // server is, and that before all else.
         ensures full { IsErrOf result SharedFault.Full
             → (self.new.server ≡ self.old.server) × HasNoNextBank self.old.server }
         ensures room { OnOk result (HasNoNextBank self.old.server → ⊥) }
@@ -118,17 +133,22 @@ impl<D: Disk, L: Ledger> Held<D, L> {
         ensures down { IsErrOf result SharedFault.Down → self.new.server.down ≡ true }
         ensures first { self.old.server.down ≡ true
             → IsErrOf result SharedFault.Down × (self.new.server ≡ self.old.server) }
-        ensures fault { IfErr result (λ fault. (fault ≡ SharedFault.Full) ⊎ (fault ≡ SharedFault.Down)) }
-        ensures same { (self.new.opening.value ≡ self.old.opening.value) × (self.new.count ≡ self.old.count)
+        ensures fault { IfErr result (λ fault. (fault ≡ SharedFault.Full)
+            ⊎ (fault ≡ SharedFault.Down)) }
+        ensures same { (self.new.opening.value ≡ self.old.opening.value)
+            × (self.new.count ≡ self.old.count)
             × (self.new.boxes ≡ self.old.boxes) × (self.new.server.limit ≡ self.old.server.limit) }
-        // In all as much was told as before, and each place is as before, but that it may keep its last receipt alone.
+        // In all as much was told as before, and each place is as before, but that it may keep its
+        // last receipt alone.
         ensures total { self.new.accounts.total ≡ self.old.accounts.total }
-        ensures shortened { OnOk result (AreShortened self.old.accounts.places self.new.accounts.places) }
+        ensures shortened { OnOk result
+            (AreShortened self.old.accounts.places self.new.accounts.places) }
         ensures accounts { OnErr result (self.new.accounts ≡ self.old.accounts) }
         // At Ok the pace is that of a new bank, else a snapshot was tried in vain.
         ensures pace { OnOk result (self.new.pace ≡ pace_from (end_in_use self.new.server.disks)
             (end_in_use self.new.server.disks)) }
-        ensures tried { OnErr result (self.new.pace ≡ tried_at (records_in_use self.old.server.disks) self.old.pace) }
+        ensures tried { OnErr result (self.new.pace
+            ≡ tried_at (records_in_use self.old.server.disks) self.old.pace) }
     {
         self.pace.tries(self.server.records());
         take_snapshot(&mut self.server, alloc)?;
@@ -151,10 +171,13 @@ fn take_snapshot<D: Disk>(server: &mut Durable<D>, alloc: Global) -> Result<(), 
     ensures up { OnOk result ((server.old.down ≡ false) × (server.new.down ≡ false)) }
     ensures store { server.new.store ≡ server.old.store }
     ensures switched { OnOk result (IsSwitched server.old.disks server.new.disks) }
-    ensures full { IsErrOf result SharedFault.Full → (server.new ≡ server.old) × HasNoNextBank server.old }
+    ensures full { IsErrOf result SharedFault.Full
+        → (server.new ≡ server.old) × HasNoNextBank server.old }
     ensures room { OnOk result (HasNoNextBank server.old → ⊥) }
-    ensures first { server.old.down ≡ true → IsErrOf result SharedFault.Down × (server.new ≡ server.old) }
-    ensures fault { IfErr result (λ fault. (fault ≡ SharedFault.Full) ⊎ (fault ≡ SharedFault.Down)) }
+    ensures first { server.old.down ≡ true
+        → IsErrOf result SharedFault.Down × (server.new ≡ server.old) }
+    ensures fault { IfErr result (λ fault. (fault ≡ SharedFault.Full)
+        ⊎ (fault ≡ SharedFault.Down)) }
     ensures limit { server.new.limit ≡ server.old.limit }
     ensures down { IsErrOf result SharedFault.Down → server.new.down ≡ true }
     ensures known { OnErr result

@@ -17,27 +17,36 @@ impl<D: Disk, L: Ledger> Held<D, L> {
     /// What waits for the client, in order. Its outbox is empty then, and nothing else changes.
     pub fn drain(&mut self, alloc: Global, client: u32) -> Vec<Reply>
         ensures out { result.items ≡ handed_out (waits_for self.old.boxes client) }
-        ensures empty { waits_for self.new.boxes client ≡ emptied (waits_for self.old.boxes client) }
-        ensures others { (c : ℕ) → c ≢ client → waits_for self.new.boxes c ≡ waits_for self.old.boxes c }
-        ensures same { (self.new.opening.value ≡ self.old.opening.value) × (self.new.base.value ≡ self.old.base.value)
-            × (self.new.receipts.items ≡ self.old.receipts.items) × (self.new.count ≡ self.old.count)
+        ensures empty { waits_for self.new.boxes client
+            ≡ emptied (waits_for self.old.boxes client) }
+        ensures others { (c : ℕ) → c ≢ client
+            → waits_for self.new.boxes c ≡ waits_for self.old.boxes c }
+        ensures same { (self.new.opening.value ≡ self.old.opening.value)
+            × (self.new.base.value ≡ self.old.base.value)
+            × (self.new.receipts.items ≡ self.old.receipts.items)
+            × (self.new.count ≡ self.old.count)
             × (self.new.accounts ≡ self.old.accounts) × (self.new.server ≡ self.old.server) }
     {
         self.boxes.drain(alloc, client)
     }
 
-    /// What waits for some client, which is more than nothing; none where nothing waits for anybody. Its outbox is
-    /// empty then, and nothing else changes. Looks at those alone that something was posted to.
+    /// What waits for some client, which is more than nothing; none where nothing waits for
+    /// anybody. Its outbox is empty then, and nothing else changes. Looks at those alone that
+    /// something was posted to.
     pub fn drain_next(&mut self, alloc: Global) -> Option<Sent>
-        ensures out { IfSome result (λ next. waits_for self.old.boxes next.client ≡ Some next.replies.items) }
+        ensures out { IfSome result (λ next.
+            waits_for self.old.boxes next.client ≡ Some next.replies.items) }
         ensures some { IfSome result (λ next. next.replies.items ≢ []) }
         ensures empty { IfSome result (λ next. waits_for self.new.boxes next.client ≡ Some []) }
         ensures others { IfSome result (λ next. (c : ℕ) → c ≢ next.client
             → waits_for self.new.boxes c ≡ waits_for self.old.boxes c) }
         ensures none { IfNone result ((c : ℕ) → handed_out (waits_for self.old.boxes c) ≡ []) }
-        ensures none_changes { IfNone result ((c : ℕ) → waits_for self.new.boxes c ≡ waits_for self.old.boxes c) }
-        ensures same { (self.new.opening.value ≡ self.old.opening.value) × (self.new.base.value ≡ self.old.base.value)
-            × (self.new.receipts.items ≡ self.old.receipts.items) × (self.new.count ≡ self.old.count)
+        ensures none_changes { IfNone result ((c : ℕ)
+            → waits_for self.new.boxes c ≡ waits_for self.old.boxes c) }
+        ensures same { (self.new.opening.value ≡ self.old.opening.value)
+            × (self.new.base.value ≡ self.old.base.value)
+            × (self.new.receipts.items ≡ self.old.receipts.items)
+            × (self.new.count ≡ self.old.count)
             × (self.new.accounts ≡ self.old.accounts) × (self.new.server ≡ self.old.server) }
     {
         drain_some(&mut self.boxes, alloc)
@@ -46,13 +55,16 @@ impl<D: Disk, L: Ledger> Held<D, L> {
 
 // What waits for some client. What is left is covered as before.
 fn drain_some(boxes: &mut Outboxes, alloc: Global) -> Option<Sent>
-    ensures out { IfSome result (λ next. waits_for boxes.old next.client ≡ Some next.replies.items) }
+    ensures out { IfSome result (λ next.
+        waits_for boxes.old next.client ≡ Some next.replies.items) }
     ensures some { IfSome result (λ next. next.replies.items ≢ []) }
     ensures empty { IfSome result (λ next. waits_for boxes.new next.client ≡ Some []) }
-    ensures others { IfSome result (λ next. (c : ℕ) → c ≢ next.client → waits_for boxes.new c ≡ waits_for boxes.old c) }
+    ensures others { IfSome result (λ next. (c : ℕ) → c ≢ next.client
+        → waits_for boxes.new c ≡ waits_for boxes.old c) }
     ensures none { IfNone result ((c : ℕ) → handed_out (waits_for boxes.old c) ≡ []) }
     ensures none_changes { IfNone result ((c : ℕ) → waits_for boxes.new c ≡ waits_for boxes.old c) }
-    ensures covered { (st : State) → BoxesCovered st (waits_for boxes.old) → BoxesCovered st (waits_for boxes.new) }
+    ensures covered { (st : State) → BoxesCovered st (waits_for boxes.old)
+        → BoxesCovered st (waits_for boxes.new) }
 {
     match boxes.drain_next(alloc) {
         Some(next) => Some(next),

@@ -1,6 +1,7 @@
 //! The end: all seats are back, and what they were told is what was stored.
 
-ghost use Rattle.std.specs.Prelude.{◌≡◌, ◌+◌, ◌<◌, ◌⊎◌, ℕ, true, false, All, OnOk, IfOk, IfErr, IsErrOf};
+ghost use Rattle.std.specs.Prelude.{◌≡◌, ◌+◌, ◌<◌, ◌⊎◌, ℕ, true, false, All, OnOk, IfOk, IfErr};
+ghost use Rattle.std.specs.Prelude.{IsErrOf};
 ghost use Rattle.std.specs.FinMap as map;
 ghost use Rattle.linda_shared_accounts.specs.Accounts.{deeds_back, seats_out, receipts_at};
 ghost use Rattle.linda_shared_accounts.specs.Compare.{IsToldSo, LastIsKept, Names};
@@ -22,35 +23,44 @@ pub struct Report {
 }
 
 impl<D: Disk, L: Ledger> Held<D, L> {
-    /// Parks the given seats for good and reports, once all seats are back, what they were told. That is compared
-    /// with what was stored: each receipt that the lock has with the one that its client was told by that number,
-    /// if it still has that, and the last that each client was told with the reply that is kept for it.
+    /// Parks the given seats for good and reports, once all seats are back, what they were told.
+    /// That is compared with what was stored: each receipt that the lock has with the one that its
+    /// client was told by that number, if it still has that, and the last that each client was told
+    /// with the reply that is kept for it.
     ///
     /// # Errors
     ///
-    /// `Down` exactly where the server is down, then `SeatMissing` exactly where a seat is out, then `Receipt` where
-    /// that one differs. The given seats stay parked.
+    /// `Down` exactly where the server is down, then `SeatMissing` exactly where a seat is out,
+    /// then `Receipt` where that one differs. The given seats stay parked.
     pub fn finish(&mut self, given: Vec<Account<L>>) -> Result<Report, SharedFault>
-        ensures deeds { IfOk result (λ r. (r.deeds ≡ deeds_back self.new.accounts.places) × (r.deeds ≡ self.old.count)) }
+        ensures deeds { IfOk result (λ r. (r.deeds ≡ deeds_back self.new.accounts.places)
+            × (r.deeds ≡ self.old.count)) }
         ensures back { OnOk result (seats_out self.new.accounts.places ≡ 0) }
         ensures ids { IfOk result (λ r. r.ids + 1 ≡ self.old.server.store.state.next) }
-        ensures told { OnOk result (All (IsToldSo self.new.accounts.places) self.old.receipts.items) }
+        ensures told { OnOk result (All (IsToldSo self.new.accounts.places)
+            self.old.receipts.items) }
         ensures kept { OnOk result ((c : ℕ)
-            → LastIsKept self.old.server.store.state (receipts_at (map.get self.new.accounts.places c))) }
+            → LastIsKept self.old.server.store.state
+            (receipts_at (map.get self.new.accounts.places c))) }
         // Whatever it reports, the given seats are back for good.
         ensures parked { AreBack self.old.accounts given.items self.new.accounts }
-        // It is down exactly where the server is, and that before all else; then a seat is missing exactly where one
-        // is out.
+        // It is down exactly where the server is, and that before all else; then a seat is missing
+        // exactly where one is out.
         ensures up { OnOk result (self.old.server.down ≡ false) }
         ensures down { IsErrOf result SharedFault.Down → self.old.server.down ≡ true }
         ensures first { self.old.server.down ≡ true → IsErrOf result SharedFault.Down }
-        ensures missing { IsErrOf result SharedFault.SeatMissing → 0 < seats_out self.new.accounts.places }
+        ensures missing { IsErrOf result SharedFault.SeatMissing
+            → 0 < seats_out self.new.accounts.places }
         ensures out { self.old.server.down ≡ false → 0 < seats_out self.new.accounts.places
             → IsErrOf result SharedFault.SeatMissing }
-        ensures fault { IfErr result (λ fault. (fault ≡ SharedFault.Down) ⊎ ((fault ≡ SharedFault.SeatMissing)
-            ⊎ Names self.new.accounts.places self.old.server.store.state self.old.receipts.items fault)) }
-        ensures same { (self.new.opening.value ≡ self.old.opening.value) × (self.new.base.value ≡ self.old.base.value)
-            × (self.new.receipts.items ≡ self.old.receipts.items) × (self.new.count ≡ self.old.count)
+        ensures fault { IfErr result (λ fault. (fault ≡ SharedFault.Down)
+            ⊎ ((fault ≡ SharedFault.SeatMissing)
+            ⊎ Names self.new.accounts.places self.old.server.store.state
+            self.old.receipts.items fault)) }
+        ensures same { (self.new.opening.value ≡ self.old.opening.value)
+            × (self.new.base.value ≡ self.old.base.value)
+            × (self.new.receipts.items ≡ self.old.receipts.items)
+            × (self.new.count ≡ self.old.count)
             × (self.new.server ≡ self.old.server) × (self.new.boxes ≡ self.old.boxes)
             × (self.new.pace ≡ self.old.pace) × (self.new.recall ≡ self.old.recall) }
     {
@@ -72,8 +82,10 @@ impl<D: Disk, L: Ledger> Held<D, L> {
     // These seats come back for good.
     fn park_all(&mut self, given: Vec<Account<L>>)
         ensures parked { AreBack self.old.accounts given.items self.new.accounts }
-        ensures same { (self.new.opening.value ≡ self.old.opening.value) × (self.new.base.value ≡ self.old.base.value)
-            × (self.new.receipts.items ≡ self.old.receipts.items) × (self.new.count ≡ self.old.count)
+        ensures same { (self.new.opening.value ≡ self.old.opening.value)
+            × (self.new.base.value ≡ self.old.base.value)
+            × (self.new.receipts.items ≡ self.old.receipts.items)
+            × (self.new.count ≡ self.old.count)
             × (self.new.server ≡ self.old.server) × (self.new.boxes ≡ self.old.boxes)
             × (self.new.pace ≡ self.old.pace) × (self.new.recall ≡ self.old.recall) }
     {

@@ -9,13 +9,15 @@ use linda_server::Durable;
 use std::sync::ledger::Ledger;
 
 impl<D: Disk, L: Ledger> Held<D, L> {
-    /// The server counts as down from now on. It is for a caller that has no memory to pass on what it was told, and so
-    /// may not go on.
+    /// The server counts as down from now on. It is for a caller that has no memory to pass on what
+    /// it was told, and so may not go on.
     pub fn give_up(&mut self)
         ensures down { self.new.server.down ≡ true }
         ensures store { self.new.server.store ≡ self.old.server.store }
-        ensures same { (self.new.opening.value ≡ self.old.opening.value) × (self.new.base.value ≡ self.old.base.value)
-            × (self.new.receipts.items ≡ self.old.receipts.items) × (self.new.count ≡ self.old.count)
+        ensures same { (self.new.opening.value ≡ self.old.opening.value)
+            × (self.new.base.value ≡ self.old.base.value)
+            × (self.new.receipts.items ≡ self.old.receipts.items)
+            × (self.new.count ≡ self.old.count)
             × (self.new.accounts ≡ self.old.accounts) × (self.new.boxes ≡ self.old.boxes)
             × (self.new.pace ≡ self.old.pace) × (self.new.recall ≡ self.old.recall) }
         ensures disks { (self.new.server.disks ≡ self.old.server.disks)

@@ -1,6 +1,7 @@
 //! Greeting: who may have a seat.
 
-ghost use Rattle.std.specs.Prelude.{◌≡◌, ◌≢◌, ◌⊎◌, ◌∷◌, ◌+◌, ◌*◌, ◌<◌, [], ℕ, true, false, None, vec_len};
+ghost use Rattle.std.specs.Prelude.{◌≡◌, ◌≢◌, ◌⊎◌, ◌∷◌, ◌+◌, ◌*◌, ◌<◌, [], ℕ, true, false, None};
+ghost use Rattle.std.specs.Prelude.{vec_len};
 ghost use Rattle.std.specs.Prelude.{IfOk, IfErr, OnOk, OnErr, IsErrOf, IfSome, IfNone};
 ghost use Rattle.std.specs.FinMap as map;
 ghost use Rattle.linda_wire.specs.declared.reply.Reply as wire;
@@ -13,7 +14,8 @@ ghost use Rattle.linda_shared_accounts.specs.declared.place.Place.TheVariants as
 ghost use Rattle.linda_shared_accounts.specs.Accounts.{is_away, account_at, seats_out, accounts_of};
 ghost use Rattle.linda_shared_held.specs.Order.{known};
 ghost use Rattle.linda_shared_held.specs.Greeting as spec;
-ghost use Rattle.linda_shared_held.specs.Greeting.{IsGreeted, IsAdmitted, IsGreetingReply, OnNoSeat};
+ghost use Rattle.linda_shared_held.specs.Greeting.{IsGreeted, IsAdmitted, IsGreetingReply};
+ghost use Rattle.linda_shared_held.specs.Greeting.{OnNoSeat};
 ghost use Rattle.linda_shared_held.specs.Covered.{BoxesCovered};
 
 use super::Held;
@@ -33,27 +35,30 @@ impl<D: Disk, L: Ledger> Held<D, L> {
         self.accounts.is_out(client)
     }
 
-    /// Gives the client of a Hello its seat, with the number of its last request that is kept; or refuses it with
-    /// a code and a detail. Nothing is posted. The server is asked first: a Hello changes nothing there, so where
-    /// there is no memory for the seat nothing has changed.
+    /// Gives the client of a Hello its seat, with the number of its last request that is kept; or
+    /// refuses it with a code and a detail. Nothing is posted. The server is asked first: a Hello
+    /// changes nothing there, so where there is no memory for the seat nothing has changed.
     ///
     /// # Errors
     ///
-    /// `Down` before all, and exactly where the server is down: one that was down is as before. `Memory`: nothing
-    /// changed.
+    /// `Down` before all, and exactly where the server is down: one that was down is as before.
+    /// `Memory`: nothing changed.
     pub fn greet(
         &mut self,
         alloc: Global,
         message: &Message,
     ) -> Result<Result<(Account<L>, u64), (u8, u64)>, SharedFault>
-        ensures greeted { IfOk result (IsGreeted self.old.server.store.state self.old.accounts.places message.now) }
+        ensures greeted { IfOk result
+            (IsGreeted self.old.server.store.state self.old.accounts.places message.now) }
         ensures server { OnOk result ((self.new.server.store.state ≡ self.old.server.store.state)
             × (self.new.server.store.soft ≡ self.old.server.store.soft)
             × (self.new.server.disks ≡ self.old.server.disks)) }
         // Whoever is welcome has its seat, which is out, and an outbox;
         ensures out { IfOk result (λ answer. IfOk answer (λ got. self.new.accounts
-            ≡ accounts_of self.old.accounts.total (map.insert self.old.accounts.places got.0.client places.Out))) }
-        ensures opened { IfOk result (λ answer. IfOk answer (λ got. waits_for self.new.boxes got.0.client
+            ≡ accounts_of self.old.accounts.total
+            (map.insert self.old.accounts.places got.0.client places.Out))) }
+        ensures opened { IfOk result (λ answer.
+            IfOk answer (λ got. waits_for self.new.boxes got.0.client
             ≡ opened (waits_for self.old.boxes got.0.client))) }
         ensures others { IfOk result (λ answer. IfOk answer (λ got. (c : ℕ) → c ≢ got.0.client
             → waits_for self.new.boxes c ≡ waits_for self.old.boxes c)) }
@@ -62,17 +67,21 @@ impl<D: Disk, L: Ledger> Held<D, L> {
         ensures down { IsErrOf result SharedFault.Down → self.new.server.down ≡ true }
         ensures first { self.old.server.down ≡ true
             → IsErrOf result SharedFault.Down × (self.new.server ≡ self.old.server) }
-        ensures fault { IfErr result (λ fault. (fault ≡ SharedFault.Down) ⊎ (fault ≡ SharedFault.Memory)) }
+        ensures fault { IfErr result (λ fault. (fault ≡ SharedFault.Down)
+            ⊎ (fault ≡ SharedFault.Memory)) }
         // Where it gives no seat none is out but those of before, and what waits is as it was;
         ensures none { OnNoSeat result ((self.new.accounts ≡ self.old.accounts)
             × ((c : ℕ) → waits_for self.new.boxes c ≡ waits_for self.old.boxes c)) }
-        // where memory ran out the server did not change, so a second greeting is answered as this one was to be.
+        // where memory ran out the server did not change, so a second greeting is answered as this
+        // one was to be.
         ensures memory { IsErrOf result SharedFault.Memory → (self.new.server.down ≡ false)
             × (self.new.server.store.state ≡ self.old.server.store.state)
             × (self.new.server.store.soft ≡ self.old.server.store.soft)
             × (self.new.server.disks ≡ self.old.server.disks) }
-        ensures same { (self.new.opening.value ≡ self.old.opening.value) × (self.new.base.value ≡ self.old.base.value)
-            × (self.new.receipts.items ≡ self.old.receipts.items) × (self.new.count ≡ self.old.count)
+        ensures same { (self.new.opening.value ≡ self.old.opening.value)
+            × (self.new.base.value ≡ self.old.base.value)
+            × (self.new.receipts.items ≡ self.old.receipts.items)
+            × (self.new.count ≡ self.old.count)
             × (self.new.pace ≡ self.old.pace) × (self.new.recall ≡ self.old.recall)
             × (self.new.server.limit ≡ self.old.server.limit) }
     {
@@ -121,16 +130,19 @@ fn admit<D: Disk, L: Ledger>(
     fresh: bool,
 ) -> Result<Result<(Account<L>, u64), (u8, u64)>, SharedFault>
     requires { is_away (map.get accounts.old.places client) ≡ false }
-    ensures admitted { IfOk result (IsAdmitted server.old.store.state accounts.old.places client fresh) }
+    ensures admitted { IfOk result
+        (IsAdmitted server.old.store.state accounts.old.places client fresh) }
     ensures out { IfOk result (λ answer. IfOk answer (λ got. accounts.new
-        ≡ accounts_of accounts.old.total (map.insert accounts.old.places got.0.client places.Out))) }
+        ≡ accounts_of accounts.old.total
+        (map.insert accounts.old.places got.0.client places.Out))) }
     ensures opened { IfOk result (λ answer. IfOk answer (λ got. waits_for boxes.new got.0.client
         ≡ opened (waits_for boxes.old got.0.client))) }
     ensures others { IfOk result (λ answer. IfOk answer (λ got. (c : ℕ) → c ≢ got.0.client
         → waits_for boxes.new c ≡ waits_for boxes.old c)) }
     ensures up { OnOk result (server.new.down ≡ false) }
     ensures down { IsErrOf result SharedFault.Down → server.new.down ≡ true }
-    ensures fault { IfErr result (λ fault. (fault ≡ SharedFault.Down) ⊎ (fault ≡ SharedFault.Memory)) }
+    ensures fault { IfErr result (λ fault. (fault ≡ SharedFault.Down)
+        ⊎ (fault ≡ SharedFault.Memory)) }
     ensures total { accounts.new.total ≡ accounts.old.total }
     ensures server { OnOk result ((server.new.store.state ≡ server.old.store.state)
         × (server.new.store.soft ≡ server.old.store.soft) × (server.new.disks ≡ server.old.disks)) }
@@ -138,7 +150,8 @@ fn admit<D: Disk, L: Ledger>(
     ensures none { OnNoSeat result ((accounts.new ≡ accounts.old)
         × ((c : ℕ) → waits_for boxes.new c ≡ waits_for boxes.old c)) }
     ensures memory { IsErrOf result SharedFault.Memory → (server.new.down ≡ false)
-        × (server.new.store.state ≡ server.old.store.state) × (server.new.store.soft ≡ server.old.store.soft)
+        × (server.new.store.state ≡ server.old.store.state)
+        × (server.new.store.soft ≡ server.old.store.soft)
         × (server.new.disks ≡ server.old.disks) }
     ensures known { (known server.new.before.value server.new.store server.new.down
         ≡ known server.old.before.value server.old.store server.old.down)
@@ -155,7 +168,8 @@ fn admit<D: Disk, L: Ledger>(
     }
 }
 
-// The seat of a client goes out, and it has an outbox. Where there is no seat for it all is as before.
+// The seat of a client goes out, and it has an outbox. Where there is no seat for it all is as
+// before.
 fn seat<L: Ledger>(
     boxes: &mut Outboxes,
     accounts: &mut Accounts<L>,
@@ -172,10 +186,12 @@ fn seat<L: Ledger>(
     ensures others { IfOk result (λ found. IfSome found (λ a. (c : ℕ) → c ≢ a.client
         → waits_for boxes.new c ≡ waits_for boxes.old c)) }
     ensures only_memory { IfErr result (λ fault. fault ≡ SharedFault.Memory) }
-    ensures none { IfOk result (λ found. IfNone found (PARTS < ACCOUNT_PARTS * (seats_out accounts.old.places + 1))) }
+    ensures none { IfOk result (λ found.
+        IfNone found (PARTS < ACCOUNT_PARTS * (seats_out accounts.old.places + 1))) }
     ensures no_seat { IfOk result (λ found. IfNone found ((accounts.new ≡ accounts.old)
         × ((c : ℕ) → waits_for boxes.new c ≡ waits_for boxes.old c))) }
-    ensures err { OnErr result ((accounts.new ≡ accounts.old) × ((c : ℕ) → waits_for boxes.new c ≡ waits_for boxes.old c)) }
+    ensures err { OnErr result ((accounts.new ≡ accounts.old)
+        × ((c : ℕ) → waits_for boxes.new c ≡ waits_for boxes.old c)) }
     ensures total { accounts.new.total ≡ accounts.old.total }
     ensures covered { (st : states.State) → BoxesCovered st (waits_for boxes.old)
         → BoxesCovered st (waits_for boxes.new) }
@@ -224,7 +240,8 @@ fn take_back(boxes: &mut Outboxes, client: u32, had_one: bool)
     }
 }
 
-// What the server answers to a Hello: the number of the last request that is kept, or a code and a detail.
+// What the server answers to a Hello: the number of the last request that is kept, or a code and a
+// detail.
 fn hello<D: Disk>(
     server: &mut Durable<D>,
     alloc: Global,
@@ -236,7 +253,8 @@ fn hello<D: Disk>(
     ensures refused { IfOk result (λ answer. IfErr answer (λ why.
         greeting server.old.store.state client VERSION fresh ≡ Reply.Refused why.0 why.1)) }
     ensures server { OnOk result ((server.new.down ≡ false)
-        × (server.new.store.state ≡ server.old.store.state) × (server.new.store.soft ≡ server.old.store.soft)
+        × (server.new.store.state ≡ server.old.store.state)
+        × (server.new.store.soft ≡ server.old.store.soft)
         × (server.new.disks ≡ server.old.disks)) }
     ensures limit { server.new.limit ≡ server.old.limit }
     ensures only_down { IfErr result (λ fault. fault ≡ SharedFault.Down) }
@@ -267,7 +285,8 @@ fn ask<D: Disk>(
     ensures reply { IfOk result (λ r. r ≡ greeting server.old.store.state client VERSION fresh) }
     ensures kind { IfOk result IsGreetingReply }
     ensures server { OnOk result ((server.new.down ≡ false)
-        × (server.new.store.state ≡ server.old.store.state) × (server.new.store.soft ≡ server.old.store.soft)
+        × (server.new.store.state ≡ server.old.store.state)
+        × (server.new.store.soft ≡ server.old.store.soft)
         × (server.new.disks ≡ server.old.disks)) }
     ensures limit { server.new.limit ≡ server.old.limit }
     ensures only_down { IfErr result (λ fault. fault ≡ SharedFault.Down) }

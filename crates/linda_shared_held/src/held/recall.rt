@@ -1,8 +1,10 @@
-//! What is remembered of seats from one snapshot to the next, so that those that are back keep no more than they need.
+//! What is remembered of seats from one snapshot to the next, so that those that are back keep no
+//! more than they need.
 //!
-//! A seat that comes back for its client's next session keeps the receipts that are younger than the base, and its last
-//! one. What was kept for its client at the last snapshot says which are older. A snapshot moves the base, and then no
-//! receipt is younger: those that came back since the one before keep their last receipt alone.
+//! A seat that comes back for its client's next session keeps the receipts that are younger than
+//! the base, and its last one. What was kept for its client at the last snapshot says which are
+//! older. A snapshot moves the base, and then no receipt is younger: those that came back since the
+//! one before keep their last receipt alone.
 
 ghost use Rattle.std.specs.Prelude.{◌≡◌};
 ghost use Rattle.linda_shared_accounts.specs.Accounts.{AreShortened, ComesBack};
@@ -15,8 +17,8 @@ use std::alloc::Global;
 use std::collections::{BTreeMap, BTreeSet};
 use std::sync::ledger::Ledger;
 
-/// For clients whose seat was out at the last snapshot the number that was kept for them then; and the clients whose
-/// seat came back since, with more than one receipt.
+/// For clients whose seat was out at the last snapshot the number that was kept for them then; and
+/// the clients whose seat came back since, with more than one receipt.
 #[derive(Drop)]
 pub(super) struct Recall {
     floors: BTreeMap<u32, u64>,
@@ -32,8 +34,8 @@ impl Recall {
         }
     }
 
-    // The number that was kept for the client at the last snapshot, if its seat was out then and did not come back
-    // since, else 0. It is remembered no more.
+    // The number that was kept for the client at the last snapshot, if its seat was out then and
+    // did not come back since, else 0. It is remembered no more.
     fn take_floor(&mut self, client: u32) -> u64 {
         match self.floors.remove(&client) {
             Some(number) => number,
@@ -41,8 +43,8 @@ impl Recall {
         }
     }
 
-    // The client's seat comes back with so many receipts. Where there is no memory to remember it, its ring is cut when
-    // it comes back the next time.
+    // The client's seat comes back with so many receipts. Where there is no memory to remember it,
+    // its ring is cut when it comes back the next time.
     fn note(&mut self, client: u32, receipts: usize) {
         if receipts > 1 {
             let _ = self.long.insert(client);
@@ -50,14 +52,15 @@ impl Recall {
     }
 }
 
-/// The account comes back to its place, for its client's next session, without what is older than the base but for its
-/// last receipt. In all as much was told as before.
+/// The account comes back to its place, for its client's next session, without what is older than
+/// the base but for its last receipt. In all as much was told as before.
 pub(super) fn put_back<L: Ledger>(
     accounts: &mut Accounts<L>,
     recall: &mut Recall,
     account: Account<L>,
 )
-    ensures parked { ComesBack accounts.old.places account → IsParked accounts.old account accounts.new }
+    ensures parked { ComesBack accounts.old.places account
+        → IsParked accounts.old account accounts.new }
     ensures lost { (ComesBack accounts.old.places account → ⊥) → accounts.new ≡ accounts.old }
     ensures total { accounts.new.total ≡ accounts.old.total }
 {
@@ -68,8 +71,8 @@ pub(super) fn put_back<L: Ledger>(
     accounts.park(account, false);
 }
 
-/// The base is this state now: no receipt is younger. Where there is no memory for the numbers that are kept, seats
-/// that are out come back with what they have.
+/// The base is this state now: no receipt is younger. Where there is no memory for the numbers that
+/// are kept, seats that are out come back with what they have.
 pub(super) fn begin_anew<L: Ledger>(
     accounts: &mut Accounts<L>,
     recall: &mut Recall,

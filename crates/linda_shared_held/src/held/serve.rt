@@ -1,4 +1,5 @@
-//! Several messages in one step of the server: its deeds get their receipts, and what it sends is posted.
+//! Several messages in one step of the server: its deeds get their receipts, and what it sends is
+//! posted.
 
 ghost use Rattle.std.specs.Prelude.{◌≡◌, ◌⊎◌, ◌+◌, ◌<◌, ◌≤◌, ◌++◌, [], false, true, ℕ, length};
 ghost use Rattle.std.specs.Prelude.{vec_len, vec_capacity, IfOk, IfErr, OnOk, OnErr, IsErrOf};
@@ -20,7 +21,8 @@ use linda_shared_outbox::Outboxes;
 use linda_wire::Message;
 use std::alloc::Global;
 
-/// Serves the messages, keeps the receipts of their deeds, and gives what each is told and what is sent.
+/// Serves the messages, keeps the receipts of their deeds, and gives what each is told and what is
+/// sent.
 ///
 /// # Errors
 ///
@@ -34,13 +36,16 @@ pub(super) fn serve<D: Disk>(
 ) -> Result<Vec<Option<Receipt>>, SharedFault>
     requires few { length messages.now ≤ MAX_BATCH }
     // At Ok each is told what its answer says, and what is sent is posted;
-    ensures done { IfOk result (λ told. HasPosted server.old.store.state server.old.store.soft messages.now
-        told.items (waits_for boxes.old) (waits_for boxes.new) server.new.store.state server.new.store.soft) }
-    ensures receipts { IfOk result (λ told. receipts.new.items ≡ receipts.old.items ++ receipts_in told.items) }
+    ensures done { IfOk result (λ told.
+        HasPosted server.old.store.state server.old.store.soft messages.now
+        told.items (waits_for boxes.old) (waits_for boxes.new)
+        server.new.store.state server.new.store.soft) }
+    ensures receipts { IfOk result (λ told.
+        receipts.new.items ≡ receipts.old.items ++ receipts_in told.items) }
     ensures one_each { IfOk result (λ told. vec_len told ≡ length messages.now) }
     ensures up { OnOk result ((server.old.down ≡ false) × (server.new.down ≡ false)) }
-    // for all deeds together four device calls were made on the bank in use, and where there are none no disk was
-    // touched;
+    // for all deeds together four device calls were made on the bank in use, and where there are
+    // none no disk was touched;
     ensures idle { IfOk result (λ told. receipts_in told.items ≡ []
         → server.new.disks ≡ server.old.disks) }
     ensures clock { IfOk result (λ told. 0 < length (receipts_in told.items)
@@ -48,11 +53,13 @@ pub(super) fn serve<D: Disk>(
     // else nobody is told anything, and nothing is posted; where it is Full nothing changed.
     ensures err { OnErr result ((receipts.new.items ≡ receipts.old.items)
         × ((c : ℕ) → waits_for boxes.new c ≡ waits_for boxes.old c)) }
-    ensures full { IsErrOf result SharedFault.Full → (server.new ≡ server.old) × (boxes.new ≡ boxes.old)
+    ensures full { IsErrOf result SharedFault.Full
+        → (server.new ≡ server.old) × (boxes.new ≡ boxes.old)
         × HasNoRoomFor server.old messages.now }
     ensures room { OnOk result (HasNoRoomFor server.old messages.now → ⊥) }
     ensures down { IsErrOf result SharedFault.Down → server.new.down ≡ true }
-    ensures memory { IsErrOf result SharedFault.Memory → (server.new ≡ server.old) × (boxes.new ≡ boxes.old) }
+    ensures memory { IsErrOf result SharedFault.Memory
+        → (server.new ≡ server.old) × (boxes.new ≡ boxes.old) }
     ensures fault { IfErr result (λ fault. (fault ≡ SharedFault.Full)
         ⊎ ((fault ≡ SharedFault.Down) ⊎ (fault ≡ SharedFault.Memory))) }
     ensures ok_order { (opening base : states.State) (count : ℕ)
@@ -70,14 +77,17 @@ pub(super) fn serve<D: Disk>(
     ensures ok_covered { (opening base : states.State) (count : ℕ)
         → IsInOrder opening base receipts.old.items count server.old.down
         (known server.old.before.value server.old.store server.old.down)
-        → BoxesCovered (known server.old.before.value server.old.store server.old.down) (waits_for boxes.old)
+        → BoxesCovered (known server.old.before.value server.old.store server.old.down)
+        (waits_for boxes.old)
         → OnOk result (BoxesCovered (known server.new.before.value server.new.store server.new.down)
         (waits_for boxes.new)) }
     ensures err_covered { (opening base : states.State) (count : ℕ)
         → IsInOrder opening base receipts.old.items count server.old.down
         (known server.old.before.value server.old.store server.old.down)
-        → BoxesCovered (known server.old.before.value server.old.store server.old.down) (waits_for boxes.old)
-        → OnErr result (BoxesCovered (known server.new.before.value server.new.store server.new.down)
+        → BoxesCovered (known server.old.before.value server.old.store server.old.down)
+        (waits_for boxes.old)
+        → OnErr result (BoxesCovered
+        (known server.new.before.value server.new.store server.new.down)
         (waits_for boxes.new)) }
 {
     let _ = server.is_down();
@@ -126,7 +136,8 @@ fn take_all<D: Disk>(
         → server.new.disks ≡ server.old.disks) }
     ensures clock { IfOk result (λ served. 0 < length served.deeds.items
         → IsPutOn server.old.disks server.new.disks) }
-    ensures fault { IfErr result (λ fault. (fault ≡ SharedFault.Full) ⊎ (fault ≡ SharedFault.Down)) }
+    ensures fault { IfErr result (λ fault. (fault ≡ SharedFault.Full)
+        ⊎ (fault ≡ SharedFault.Down)) }
     ensures full { IsErrOf result SharedFault.Full → (server.new ≡ server.old)
         × HasNoRoomFor server.old messages.now }
     ensures room { OnOk result (HasNoRoomFor server.old messages.now → ⊥) }

@@ -1,6 +1,7 @@
 //! Messages of several clients: in one step where that may be, else one by one.
 
-ghost use Rattle.std.specs.Prelude.{◌≡◌, ◌⊎◌, true, false, ◌+◌, ◌≤◌, ◌<◌, ◌^◌, ◌++◌, ℕ, length, vec_len};
+ghost use Rattle.std.specs.Prelude.{◌≡◌, ◌⊎◌, true, false, ◌+◌, ◌≤◌, ◌<◌, ◌^◌, ◌++◌, ℕ, length};
+ghost use Rattle.std.specs.Prelude.{vec_len};
 ghost use Rattle.std.specs.Prelude.{IfOk, IfErr, OnOk, OnErr, IsErrOf};
 ghost use Rattle.linda_store_state.specs.State as states;
 ghost use Rattle.linda_store_step.specs.declared.size.TheConstants.{MAX_BATCH};
@@ -22,14 +23,14 @@ use linda_shared_outbox::Outboxes;
 use linda_wire::Message;
 use std::alloc::Global;
 
-/// Takes the messages: all in one step of the server, or one by one where it is full or the count of deeds could pass
-/// its last value. Where it has no room for all of them, it has none for one of them at least, once those before it
-/// were taken: that asks for a snapshot.
+/// Takes the messages: all in one step of the server, or one by one where it is full or the count
+/// of deeds could pass its last value. Where it has no room for all of them, it has none for one of
+/// them at least, once those before it were taken: that asks for a snapshot.
 ///
 /// # Errors
 ///
-/// `Down` before all, and exactly where the server is down: nobody is told anything, and one that was down is as
-/// before. `Memory`: nothing changed, but that a snapshot may be asked for.
+/// `Down` before all, and exactly where the server is down: nobody is told anything, and one that
+/// was down is as before. `Memory`: nothing changed, but that a snapshot may be asked for.
 pub(super) fn take<D: Disk>(
     server: &mut Durable<D>,
     receipts: &mut Vec<Receipt>,
@@ -42,16 +43,20 @@ pub(super) fn take<D: Disk>(
     requires few { length messages.now ≤ MAX_BATCH }
     ensures done { IfOk result (λ told. WereTaken server.old count messages.now
         told.items (waits_for boxes.old) (waits_for boxes.new) server.new) }
-    ensures receipts { IfOk result (λ told. receipts.new.items ≡ receipts.old.items ++ receipts_in told.items) }
+    ensures receipts { IfOk result (λ told.
+        receipts.new.items ≡ receipts.old.items ++ receipts_in told.items) }
     ensures one_each { IfOk result (λ told. vec_len told ≡ length messages.now) }
     ensures countable { IfOk result (λ told. count + length (receipts_in told.items) < 2 ^ 64) }
     ensures err { OnErr result (receipts.new.items ≡ receipts.old.items) }
     ensures up { OnOk result ((server.old.down ≡ false) × (server.new.down ≡ false)) }
     ensures down { IsErrOf result SharedFault.Down → server.new.down ≡ true }
-    ensures memory { IsErrOf result SharedFault.Memory → (server.new ≡ server.old) × (boxes.new ≡ boxes.old)
+    ensures memory { IsErrOf result SharedFault.Memory
+        → (server.new ≡ server.old) × (boxes.new ≡ boxes.old)
         × (server.old.down ≡ false) }
-    ensures fault { IfErr result (λ fault. (fault ≡ SharedFault.Down) ⊎ (fault ≡ SharedFault.Memory)) }
-    ensures first { server.old.down ≡ true → IsErrOf result SharedFault.Down × (server.new ≡ server.old)
+    ensures fault { IfErr result (λ fault. (fault ≡ SharedFault.Down)
+        ⊎ (fault ≡ SharedFault.Memory)) }
+    ensures first { server.old.down ≡ true
+        → IsErrOf result SharedFault.Down × (server.new ≡ server.old)
         × (boxes.new ≡ boxes.old) × (pace.new ≡ pace.old) }
     ensures some { OnErr result (WentSome server.old count messages.now
         (waits_for boxes.old) (waits_for boxes.new)) }
@@ -69,10 +74,14 @@ pub(super) fn take<D: Disk>(
     ensures covered { (opening base : states.State) (count : ℕ)
         → IsInOrder opening base receipts.old.items count server.old.down
         (known server.old.before.value server.old.store server.old.down)
-        → BoxesCovered (known server.old.before.value server.old.store server.old.down) (waits_for boxes.old)
-        → BoxesCovered (known server.new.before.value server.new.store server.new.down) (waits_for boxes.new) }
-    // Where the server has no room for all of them a snapshot is asked for; nothing else of the pace changes.
-    ensures lacks { OnOk result (count + length messages.now < 2 ^ 64 → HasNoRoomFor server.old messages.now
+        → BoxesCovered (known server.old.before.value server.old.store server.old.down)
+        (waits_for boxes.old)
+        → BoxesCovered (known server.new.before.value server.new.store server.new.down)
+        (waits_for boxes.new) }
+    // Where the server has no room for all of them a snapshot is asked for; nothing else of the
+    // pace changes.
+    ensures lacks { OnOk result (count + length messages.now < 2 ^ 64
+        → HasNoRoomFor server.old messages.now
         → pace.new.lacks_room ≡ true) }
     ensures pace { (pace.new ≡ pace.old) ⊎ (pace.new ≡ refused_for_room pace.old) }
     ensures unasked { (HasNoRoomFor server.old messages.now → ⊥) → pace.new ≡ pace.old }

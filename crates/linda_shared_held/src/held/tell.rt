@@ -17,7 +17,8 @@ fn tell<A: Drop, L: Ledger>(
     receipt: Option<Receipt>,
 ) -> Answered<A, L>
     requires { (count.old + weight (told_of receipt) < 2 ^ 64) × (accounts.old.total ≡ count.old) }
-    ensures accounts { accounts.new ≡ accounts_of (accounts.old.total + weight (told_of receipt)) accounts.old.places }
+    ensures accounts { accounts.new ≡ accounts_of (accounts.old.total + weight (told_of receipt))
+        accounts.old.places }
     ensures count { count.new ≡ count.old + weight (told_of receipt) }
     ensures told { (result.told ≡ told_of receipt) × (result.address ≡ asked.address) }
 {
@@ -39,7 +40,8 @@ pub(super) fn settle_all<A: Drop, L: Ledger>(
     requires countable { count.old + length (receipts_in told.old.items) < 2 ^ 64 }
     requires one_each { vec_len told.old ≡ vec_len asked.old }
     requires total { accounts.old.total ≡ count.old }
-    ensures accounts { accounts.new ≡ accounts_of (accounts.old.total + length (receipts_in told.old.items)) accounts.old.places }
+    ensures accounts { accounts.new ≡ accounts_of
+        (accounts.old.total + length (receipts_in told.old.items)) accounts.old.places }
     ensures count { count.new ≡ count.old + length (receipts_in told.old.items) }
     ensures asked { (vec_len asked.new ≡ 0) × (vec_capacity asked.new ≡ vec_capacity asked.old) }
     ensures answered { (vec_len answered.new ≡ vec_len answered.old + vec_len asked.old)
@@ -48,7 +50,8 @@ pub(super) fn settle_all<A: Drop, L: Ledger>(
     ensures told { map (λ a. a.told) answered.new.items
         ≡ map (λ a. a.told) answered.old.items ++ reverse (map told_of told.old.items) }
     ensures addresses { map (λ a. a.address) answered.new.items
-        ≡ map (λ a. a.address) answered.old.items ++ reverse (map (λ a. a.address) asked.old.items) }
+        ≡ map (λ a. a.address) answered.old.items
+        ++ reverse (map (λ a. a.address) asked.old.items) }
 {
     while let Some(job) = asked.pop() {
         let Some(receipt) = told.pop() else {
@@ -72,9 +75,11 @@ pub(super) fn fail_all<A: Drop, L: Ledger>(
     ensures answered { (vec_len answered.new ≡ vec_len answered.old + vec_len asked.old)
         × (vec_capacity answered.new ≡ vec_capacity answered.old) }
     ensures told { map (λ a. a.told) answered.new.items
-        ≡ map (λ a. a.told) answered.old.items ++ replicate (vec_len asked.old) (Effect.Failed fault) }
+        ≡ map (λ a. a.told) answered.old.items
+        ++ replicate (vec_len asked.old) (Effect.Failed fault) }
     ensures addresses { map (λ a. a.address) answered.new.items
-        ≡ map (λ a. a.address) answered.old.items ++ reverse (map (λ a. a.address) asked.old.items) }
+        ≡ map (λ a. a.address) answered.old.items
+        ++ reverse (map (λ a. a.address) asked.old.items) }
 {
     while let Some(job) = asked.pop() {
         let _ = accounts.total();

@@ -6,8 +6,8 @@ use linda_text::skip_blanks;
 use linda_tuple::Tuple;
 use std::alloc::{AllocError, Global};
 
-/// What a line of a script asks for. Servers are named by any number: whether there is such a server is judged
-/// later.
+/// What a line of a script asks for. Servers are named by any number: whether there is such a
+/// server is judged later.
 #[derive(Drop)]
 pub(crate) enum Command {
     /// A client puts a tuple.
@@ -24,8 +24,8 @@ pub(crate) enum Command {
     Snapshot(u64),
     /// A server is stopped with nothing in hand, and opened.
     Stop(u64),
-    /// A server is stopped inside the device call of this number of a snapshot, and opened; each byte that was not
-    /// synced is this one.
+    /// A server is stopped inside the device call of this number of a snapshot, and opened; each
+    /// byte that was not synced is this one.
     StopSnapshot { server: u64, call: u64, byte: u8 },
     /// Every packet that was sent is delivered again.
     Repeat,
@@ -33,7 +33,8 @@ pub(crate) enum Command {
     State(u64),
 }
 
-/// What a line asks for: nothing, where it is empty or begins with `#`; `None` inside where it is no command.
+/// What a line asks for: nothing, where it is empty or begins with `#`; `None` inside where it is
+/// no command.
 ///
 /// # Errors
 ///

@@ -8,8 +8,8 @@ use linda_text::write_tuple;
 use linda_tuple::Tuple;
 use std::alloc::{AllocError, Global};
 
-/// The lines of a server: its next id and how much it keeps; its tuples by rising id, each free or held; its clients by
-/// rising number, each with its kept reply.
+/// The lines of a server: its next id and how much it keeps; its tuples by rising id, each free or
+/// held; its clients by rising number, each with its kept reply.
 ///
 /// # Errors
 ///

@@ -1,4 +1,5 @@
-//! A script from a reader, what it prints to a writer, and its trace to another one where that is wanted.
+//! A script from a reader, what it prints to a writer, and its trace to another one where that is
+//! wanted.
 
 ghost use Rattle.std.specs.Prelude.{◌≤◌};
 ghost use Rattle.linda_client.specs.declared.limits.TheConstants.{MAX_SERVERS};
@@ -13,14 +14,16 @@ use std::io::{Read, Write, sink};
 // The most bytes of one read.
 const BUFFER: usize = 4096;
 
-/// Runs a script over so many new servers in memory, 1 to 16: a command a line, and a carriage return at a line's end
-/// is dropped. What a command prints is written and flushed before the next line is looked at. The last line may lack
-/// its line feed.
+/// Runs a script over so many new servers in memory, 1 to 16: a command a line, and a carriage
+/// return at a line's end is dropped. What a command prints is written and flushed before the next
+/// line is looked at. The last line may lack its line feed.
 ///
 /// # Errors
 ///
-/// `Line` with the number of the first line that was not done, from 1: what was printed so far is written. `Read` and
-/// `Turns` where the script fails, or has not ended after 4,294,967,295 reads: all lines that were whole are done.
+/// `Line` with the number of the first line that was not done, from 1: what was printed so far is
+/// written. `Read` and
+/// `Turns` where the script fails, or has not ended after 4,294,967,295 reads: all lines that were
+/// whole are done.
 /// `Write` where the output fails. `Memory` where it runs out before the first line.
 pub fn run_script<R: Read, W: Write>(
     alloc: Global,
@@ -38,12 +41,13 @@ pub fn run_script<R: Read, W: Write>(
     play(alloc, reader, writer, &mut sink(), &mut lines)
 }
 
-/// Runs a script as `run_script` does, and writes its trace too: of each line, after what the line printed.
+/// Runs a script as `run_script` does, and writes its trace too: of each line, after what the line
+/// printed.
 ///
 /// # Errors
 ///
-/// As `run_script`; `Write` also where the trace cannot be written. What happened up to the fault is written as far as
-/// it can be.
+/// As `run_script`; `Write` also where the trace cannot be written. What happened up to the fault
+/// is written as far as it can be.
 pub fn trace_script<R: Read, W: Write, T: Write>(
     alloc: Global,
     reader: &mut R,

@@ -1,7 +1,8 @@
 //! The trace of a script, a line an event, as docs/COMMANDS.md has it.
 //!
-//! What was written before is kept: how many packets, and of each server how many deeds, and what it holds. So after
-//! an event only what is new is written, and only the server that the event reached is looked at.
+//! What was written before is kept: how many packets, and of each server how many deeds, and what
+//! it holds. So after an event only what is new is written, and only the server that the event
+//! reached is looked at.
 
 mod held;
 mod words;
@@ -95,7 +96,8 @@ impl Trace {
         writeln!(self.lines, "snapshot {server}")
     }
 
-    /// A server was stopped with nothing in hand, or inside the device call of this number, and was opened again.
+    /// A server was stopped with nothing in hand, or inside the device call of this number, and was
+    /// opened again.
     pub(crate) fn stop(
         &mut self,
         alloc: Global,

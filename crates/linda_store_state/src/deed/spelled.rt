@@ -1,4 +1,5 @@
-//! A deed as bytes: a kind byte, the client, the number, and a tuple in a form, or its id, or nothing more.
+//! A deed as bytes: a kind byte, the client, the number, and a tuple in a form, or its id, or
+//! nothing more.
 
 ghost use Rattle.std.specs.Prelude.{◌≡◌, ◌∷◌, ◌++◌, ◌↔◌, length, take, IsOk, IsErrOf, IsTrue, OnOk};
 ghost use Rattle.linda_codec.specs.Steps.{Gives, GivesAlways, left_by};
@@ -152,15 +153,16 @@ fn other_from(form: Form, kind: u8, body: &[u8]) -> Result<(Deed, &[u8]), ReadFa
 }
 
 fn leave_from(body: &[u8]) -> Result<(Deed, &[u8]), ReadFault>
-    ensures { GivesAlways (λ x. (x.0, x.1.now)) result (made_at format.leave_of format.leave body.now) }
+    ensures { GivesAlways (λ x. (x.0, x.1.now)) result
+        (made_at format.leave_of format.leave body.now) }
 {
     let (client, rest) = read_u32(body)?;
     let (n, rest) = read_u64(rest)?;
     Ok((Deed::Leave { client, n }, rest))
 }
 
-// Appends a kind byte, the client, the number and the id of a tuple; where memory runs out, a part of them may stand
-// after the old bytes.
+// Appends a kind byte, the client, the number and the id of a tuple; where memory runs out, a part
+// of them may stand after the old bytes.
 fn push_reference(
     out: &mut Vec<u8>,
     kind: u8,
@@ -188,8 +190,8 @@ fn push_head(out: &mut Vec<u8>, kind: u8, client: u32, n: u64) -> Result<(), All
 }
 
 impl Deed {
-    /// Whether the deed has a spelling in the form: the tuple that it puts has one, where it puts one, and a Leave has
-    /// one where the form has them. Takes no memory.
+    /// Whether the deed has a spelling in the form: the tuple that it puts has one, where it puts
+    /// one, and a Leave has one where the form has them. Takes no memory.
     pub fn fits(&self, form: Form) -> bool
         ensures exact { IsTrue result ↔ format.SuitsForm form self.now }
         // The numbers of a deed in memory have their widths.

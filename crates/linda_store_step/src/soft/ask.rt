@@ -1,6 +1,7 @@
 //! What a server does for a request for a tuple.
 
-ghost use Rattle.std.specs.Prelude.{◌≡◌, if◌then◌else◌, ℕ, nat_le, false, None, Option, List, IfOk, OnOk};
+ghost use Rattle.std.specs.Prelude.{◌≡◌, if◌then◌else◌, ℕ, nat_le, false, None, Option, List, IfOk};
+ghost use Rattle.std.specs.Prelude.{OnOk};
 ghost use Rattle.linda_bag.specs.Starts.{AreRight};
 ghost use Rattle.linda_wire.specs.declared.limits.TheConstants.{MAX_ASKS};
 ghost use Rattle.linda_hold.specs.Holds.{IsHeldAt};
@@ -20,11 +21,11 @@ use std::alloc::{AllocError, Global};
 use std::collections::BTreeSet;
 
 impl Soft {
-    /// The request asks for a tuple that the template matches, to take it away or to copy it. One for
-    /// which a tuple is held is offered that again, one that waits is sent nothing, and one of a client
-    /// with 64 open asks is refused; nothing changes then. Else the least tuple that it can have is
-    /// offered to an input, which holds it, or answers a read; and where there is none it waits. What
-    /// is sent, each reply to a client, in order.
+    /// The request asks for a tuple that the template matches, to take it away or to copy it. One
+    /// for which a tuple is held is offered that again, one that waits is sent nothing, and one of
+    /// a client with 64 open asks is refused; nothing changes then. Else the least tuple that it
+    /// can have is offered to an input, which holds it, or answers a read; and where there is none
+    /// it waits. What is sent, each reply to a client, in order.
     ///
     /// # Errors
     ///
@@ -40,9 +41,11 @@ impl Soft {
         template: &Template,
     ) -> Result<Vec<(u32, Reply)>, AllocError>
         requires right { AreRight (B.contents bag.now) (is_held self.old.holds) next starts.old }
-        ensures sends { IfOk result (λ sends. AnswersAsk (B.contents bag.now) request remove template.now
+        ensures sends { IfOk result (λ sends.
+            AnswersAsk (B.contents bag.now) request remove template.now
             self.old (record { sends = sends.items; soft = self.new })) }
-        ensures right { OnOk result (AreRight (B.contents bag.now) (is_held self.new.holds) next starts.new) }
+        ensures right { OnOk result (AreRight (B.contents bag.now) (is_held self.new.holds)
+            next starts.new) }
     {
         if let Some(id) = self.holds.find(request) {
             with_tuple(alloc, bag, id, request, true)
@@ -86,7 +89,8 @@ impl Soft {
             × IsLeast (B.contents bag.now) template.now (passed_over remove self.old.holds) least
             × (let t : Sends = record { sends = sends.items; soft = self.new }
             in t ≡ serve (B.contents bag.now) request remove template.now least self.old)) }
-        ensures right { OnOk result (AreRight (B.contents bag.now) (is_held self.new.holds) next starts.new) }
+        ensures right { OnOk result (AreRight (B.contents bag.now) (is_held self.new.holds)
+            next starts.new) }
     {
         match self.least_match(alloc, bag, starts, next, remove, template) {
             Some(id) if remove => {
@@ -115,7 +119,8 @@ impl Soft {
         template: &Template,
     ) -> Option<u64>
         requires { AreRight (B.contents bag.now) (is_held self.now.holds) next starts.old }
-        ensures least { IsLeast (B.contents bag.now) template.now (passed_over remove self.now.holds) result }
+        ensures least { IsLeast (B.contents bag.now) template.now
+            (passed_over remove self.now.holds) result }
         ensures right { AreRight (B.contents bag.now) (is_held self.now.holds) next starts.new }
     {
         if remove {
@@ -126,7 +131,8 @@ impl Soft {
     }
 }
 
-// The tuple under the id, if the bag has it: offered for a request that takes it away, or else the answer to a read.
+// The tuple under the id, if the bag has it: offered for a request that takes it away, or else the
+// answer to a read.
 fn with_tuple<B: Bag>(
     alloc: Global,
     bag: &B,
@@ -135,7 +141,8 @@ fn with_tuple<B: Bag>(
     remove: bool,
 ) -> Result<Vec<(u32, Reply)>, AllocError>
     ensures { IfOk result (λ sends. sends.items
-        ≡ (if remove then offer_of (B.contents bag.now) id request else read_of (B.contents bag.now) id request)) }
+        ≡ (if remove then offer_of (B.contents bag.now) id request
+        else read_of (B.contents bag.now) id request)) }
 {
     let Request { client, ticket } = request;
     let Some(tuple) = bag.get(id) else {

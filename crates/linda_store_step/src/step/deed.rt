@@ -1,5 +1,5 @@
-//! The messages that do a deed: an Out puts its tuple, an Accept takes one that is held, or finds it gone, and a Leave
-//! gives up the client's number with all that it asked.
+//! The messages that do a deed: an Out puts its tuple, an Accept takes one that is held, or finds
+//! it gone, and a Leave gives up the client's number with all that it asked.
 //!
 //! All that may fail comes before the first change of the state.
 
@@ -80,7 +80,8 @@ pub(crate) fn accept<B: Bag>(
     requires { IsState state.old }
     ensures answer { IfOk result (λ s.
         record { deed = s.deed; sends = s.sends.items; soft = soft.new }
-        ≡ take_or_pass client n id (held_tuple state.old (request_of client ticket) id soft.old) soft.old) }
+        ≡ take_or_pass client n id (held_tuple state.old (request_of client ticket) id soft.old)
+        soft.old) }
     ensures after { IfOk result (λ s. IsAfter state.old (option_to_list s.deed) state.new) }
     ensures err { OnErr result (state.new ≡ state.old) }
 {
@@ -123,7 +124,8 @@ fn pass<B: Bag>(
     })
 }
 
-/// Gives up the client's number for good: what it asked is given up, and the book keeps that it left.
+/// Gives up the client's number for good: what it asked is given up, and the book keeps that it
+/// left.
 ///
 /// # Errors
 ///

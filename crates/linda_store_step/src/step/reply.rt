@@ -30,8 +30,8 @@ pub(crate) fn greeting<B: Bag>(state: &State<B>, client: u32, version: u8, fresh
     }
 }
 
-/// The reply to a message that its number alone decides, which changes nothing; none where it bears none, or its deed
-/// is to be done.
+/// The reply to a message that its number alone decides, which changes nothing; none where it bears
+/// none, or its deed is to be done.
 pub(crate) fn to_numbered<B: Bag>(
     state: &State<B>,
     alloc: Global,

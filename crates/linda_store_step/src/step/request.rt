@@ -34,9 +34,11 @@ pub(crate) fn ask<B: Bag>(
 ) -> Result<Step, AllocError>
     requires state { IsState state.now }
     requires right { AreRight state.now.bag (is_held soft.old.holds) state.now.next starts.old }
-    ensures ok { IfOk result (λ s. IsStep state.now soft.old client (messages.Ask ticket remove template.now)
+    ensures ok { IfOk result (λ s.
+        IsStep state.now soft.old client (messages.Ask ticket remove template.now)
         (record { deed = s.deed; sends = s.sends.items; soft = soft.new }) state.now) }
-    ensures right { OnOk result (AreRight state.now.bag (is_held soft.new.holds) state.now.next starts.new) }
+    ensures right { OnOk result (AreRight state.now.bag (is_held soft.new.holds)
+        state.now.next starts.new) }
 {
     let (last, left) = state.book.standing(client);
     if left {
@@ -66,7 +68,8 @@ pub(crate) fn cancel<B: Bag>(
     requires right { AreRight state.now.bag (is_held soft.old.holds) state.now.next starts.old }
     ensures ok { IfOk result (λ s. IsStep state.now soft.old client (messages.Cancel ticket)
         (record { deed = s.deed; sends = s.sends.items; soft = soft.new }) state.now) }
-    ensures right { OnOk result (AreRight state.now.bag (is_held soft.new.holds) state.now.next starts.new) }
+    ensures right { OnOk result (AreRight state.now.bag (is_held soft.new.holds)
+        state.now.next starts.new) }
 {
     let request = Request { client, ticket };
     Ok(only_sends(soft.cancel(alloc, &state.bag, starts, request)?))

@@ -1,5 +1,5 @@
-//! Real files: what was synced is there when the file is opened again, what is kept of it answers a read, and what the
-//! system refuses is a failure.
+//! Real files: what was synced is there when the file is opened again, what is kept of it answers a
+//! read, and what the system refuses is a failure.
 
 ghost use Rattle.std.specs.Prelude.{length, ◌≡◌};
 
@@ -31,7 +31,8 @@ fn has<D: Disk>(
     Ok(())
 }
 
-/// Reads from any disk, if it has so many bytes from this place on; else that is `Memory`, which no test wants.
+/// Reads from any disk, if it has so many bytes from this place on; else that is `Memory`, which no
+/// test wants.
 fn read_within<D: Disk>(disk: &mut D, at: usize, buffer: &mut [u8]) -> Result<(), DiskFault> {
     let len = disk.len()?;
     if len < at || len - at < buffer.len() {
@@ -242,7 +243,8 @@ fn has_a_long_file(rt: &impl Abort, alloc: Global, disk: &mut FileDisk) -> Resul
     has_a_front(rt, alloc, disk)
 }
 
-/// There are 4,096 bytes of the front of the file, and no more: to read one more is its first failure.
+/// There are 4,096 bytes of the front of the file, and no more: to read one more is its first
+/// failure.
 fn has_a_front(rt: &impl Abort, alloc: Global, disk: &mut FileDisk) -> Result<(), DiskFault> {
     is_long(rt, disk, LEN);
     let bytes = counted(alloc, 4096)?;

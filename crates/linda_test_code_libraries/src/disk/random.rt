@@ -1,5 +1,5 @@
-//! Random lists of calls, played on a disk in memory and on the second model, which agree after each call
-//! and crash.
+//! Random lists of calls, played on a disk in memory and on the second model, which agree after
+//! each call and crash.
 
 ghost use Rattle.std.specs.Prelude.{◌<◌};
 

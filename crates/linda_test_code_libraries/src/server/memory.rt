@@ -1,7 +1,8 @@
-//! A server for which memory is short: it is down, and opened again it has the state of before the call or after it.
+//! A server for which memory is short: it is down, and opened again it has the state of before the
+//! call or after it.
 //!
-//! The tests are made to be run with each allocation refused, one after another, and pass whichever it is. Where
-//! the allocation is one of the script's own, the step is done again.
+//! The tests are made to be run with each allocation refused, one after another, and pass whichever
+//! it is. Where the allocation is one of the script's own, the step is done again.
 
 use super::script::{Do, Stand, Told, empty_stand, right_bytes, step};
 use super::words::{EMPTY, WITH_ONE};
@@ -18,7 +19,8 @@ fn surely(alloc: Global, stand: &mut Stand, what: Do) -> Result<Told, AllocError
     }
 }
 
-/// Makes the server; where there is no memory for that, what is opened on the disks is new, or nothing is.
+/// Makes the server; where there is no memory for that, what is opened on the disks is new, or
+/// nothing is.
 fn made(rt: &impl Abort, alloc: Global, stand: &mut Stand) -> Result<bool, AllocError> {
     let told = surely(alloc, stand, Do::Create(200))?;
     if told == EMPTY {
@@ -82,8 +84,8 @@ fn expect(
     Ok(())
 }
 
-/// Does a step. Where there is no memory for it, the server is down, and opened again it keeps what it kept before, or
-/// what it keeps after the step; done again, the step gives what it does else.
+/// Does a step. Where there is no memory for it, the server is down, and opened again it keeps what
+/// it kept before, or what it keeps after the step; done again, the step gives what it does else.
 fn borne(
     rt: &impl Abort,
     alloc: Global,
@@ -135,8 +137,9 @@ const SNAPSHOT_ROWS: &[Row] = &[
     (Do::Snapshot, Told::Done, WITH_ONE),
 ];
 
-/// What the right disk holds after that snapshot: an open gate, the letters, generation 2, the length of what stands
-/// behind it; the next id, and under id 1 the tuple; client 7, its number and its reply; and a closed gate.
+/// What the right disk holds after that snapshot: an open gate, the letters, generation 2, the
+/// length of what stands behind it; the next id, and under id 1 the tuple; client 7, its number and
+/// its reply; and a closed gate.
 const SNAPSHOT_BANK: [u8; 77] = [
     1, b'L', b'N', b'D', b'2', 0, 0, 0, 0, 0, 0, 0, 2, 0, 0, 0, 0x3b, // the heading
     0, 0, 0, 0, 0, 0, 0, 2, 0, 0, 0, 1, 0, 0, 0, 0, 0, 0, 0, 1, // the next id, one tuple, its id
@@ -157,7 +160,8 @@ fn played(rt: &impl Abort, alloc: Global, stand: &mut Stand) -> Result<(), Alloc
     Ok(())
 }
 
-/// Writes a snapshot after a put: the right disk ends as it does else, and a server opens with the tuple.
+/// Writes a snapshot after a put: the right disk ends as it does else, and a server opens with the
+/// tuple.
 fn rewritten(rt: &impl Abort, alloc: Global, stand: &mut Stand) -> Result<(), AllocError> {
     if !made(rt, alloc, stand)? {
         return Ok(());

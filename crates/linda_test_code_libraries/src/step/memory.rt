@@ -1,9 +1,9 @@
-//! A store for which memory may be short: what it answers is what it answers else, up to a call that runs out of
-//! memory. That call changes nothing of the state; from then on the store holds nothing, lets nobody wait, and
-//! answers nothing.
+//! A store for which memory may be short: what it answers is what it answers else, up to a call
+//! that runs out of memory. That call changes nothing of the state; from then on the store holds
+//! nothing, lets nobody wait, and answers nothing.
 //!
-//! The tests are made to be run with each allocation refused, one after another; where the allocation is one of the
-//! test's own, the test fails and says that memory ran out.
+//! The tests are made to be run with each allocation refused, one after another; where the
+//! allocation is one of the test's own, the test fails and says that memory ran out.
 
 use crate::messages::{ask, number_in, put};
 use linda_bag::{Bag, IndexBag, ListBag};
@@ -55,8 +55,8 @@ enum Sent {
 /// A client, what it says, the deed, and all that is sent, each after its client.
 type Row = (u32, Say, Did, &'static [(u32, Sent)]);
 
-/// What 7 gives up is offered to 8, and 7 finds it gone, also when it asks again for that answer; offered it anew, 7
-/// takes it.
+/// What 7 gives up is offered to 8, and 7 finds it gone, also when it asks again for that answer;
+/// offered it anew, 7 takes it.
 const GIVEN_UP: &[Row] = &[
     (
         7,
@@ -176,7 +176,8 @@ fn is_as_said(rt: &impl Abort, step: &Step, row: Row) {
     }
 }
 
-/// The store is spent: it holds nothing, nobody waits, and it answers nothing any more; what it keeps is this.
+/// The store is spent: it holds nothing, nobody waits, and it answers nothing any more; what it
+/// keeps is this.
 fn is_spent_with<B: Bag>(
     rt: &impl Abort,
     alloc: Global,

@@ -1,7 +1,7 @@
-//! A run in which an allocation may be refused: with ample memory it goes to its end, and else what the world
-//! shows is as before, and it does nothing more, but for a server on disks that may be opened again. It is made to be
-//! run with each allocation refused, one after another; where the allocation is one of the test's own, the test fails
-//! and says that memory ran out.
+//! A run in which an allocation may be refused: with ample memory it goes to its end, and else what
+//! the world shows is as before, and it does nothing more, but for a server on disks that may be
+//! opened again. It is made to be run with each allocation refused, one after another; where the
+//! allocation is one of the test's own, the test fails and says that memory ran out.
 
 use super::made::{in_memory, on_disks};
 use super::step::{Do, event_of};
@@ -27,7 +27,8 @@ const TAKES: [Do; 12] = [
     Do::Tick(9, 3),
 ];
 
-/// How many packets there are, how many deeds the server did, and how many tuples client 8 was given.
+/// How many packets there are, how many deeds the server did, and how many tuples client 8 was
+/// given.
 fn counts<N: Node>(world: &World<N>) -> (usize, usize, usize) {
     (
         world.packets().len(),
@@ -103,7 +104,8 @@ fn fault_of_a_snapshot<N: Node>(alloc: Global, world: &mut World<N>) -> Option<W
     world.step(alloc, WorldEvent::Snapshot(0)).err()
 }
 
-/// A stop opens the server, which has at most one deed more then, that of the call in which it went down.
+/// A stop opens the server, which has at most one deed more then, that of the call in which it went
+/// down.
 fn is_opened<N: Node>(rt: &impl Abort, alloc: Global, world: &mut World<N>) -> Result<(), Fail> {
     let (packets, deeds, given) = counts(world);
     let fault = fault_of(alloc, world, Do::Stop(0, &[]))?;

@@ -7,7 +7,8 @@ use linda_world::WorldEvent;
 use std::alloc::Global;
 use std::test::Fail;
 
-/// What happens: clients, servers and packets by their numbers. Each tuple is `("a", 3)`, and each template
+/// What happens: clients, servers and packets by their numbers. Each tuple is `("a", 3)`, and each
+/// template
 /// `("a", ?i)`.
 #[derive(Clone, Copy)]
 pub(super) enum Do {
@@ -18,7 +19,8 @@ pub(super) enum Do {
     /// The server, and the client.
     Close(u32, u32),
     Snapshot(u32),
-    /// The server, and the packets in hand: at the first device call, and what was not synced is lost.
+    /// The server, and the packets in hand: at the first device call, and what was not synced is
+    /// lost.
     Stop(u32, &'static [usize]),
 }
 

@@ -5,8 +5,8 @@ use linda_event::Event;
 use linda_test_script::{WordsFault, read_size, split_word};
 use std::alloc::Global;
 
-/// The event that the words say: typed; a choice of so many bases alike, as `40 inputs, 24 reads, 192 alarms`; or one
-/// of these under so many labels, as `64 labels over never`.
+/// The event that the words say: typed; a choice of so many bases alike, as `40 inputs, 24 reads,
+/// 192 alarms`; or one of these under so many labels, as `64 labels over never`.
 pub fn event_of(alloc: Global, words: &str) -> Result<Event, WordsFault> {
     match words.split_once(" labels over ") {
         Some((count, below)) => labelled(alloc, read_size(count)?, unlabelled(alloc, below)?),

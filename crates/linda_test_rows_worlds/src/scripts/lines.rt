@@ -6,7 +6,8 @@ use std::alloc::{AllocError, Global};
 /// How long the string is that a tilde represents.
 const LONG: usize = 255;
 
-/// Appends a line of a script. A tilde in it represents a string of 255 letters, in its quotation marks.
+/// Appends a line of a script. A tilde in it represents a string of 255 letters, in its quotation
+/// marks.
 pub fn push_line(script: &mut String, words: &str) -> Result<(), AllocError> {
     for (place, piece) in words.split('~').enumerate() {
         if place > 0 {

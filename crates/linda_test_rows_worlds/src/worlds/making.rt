@@ -113,7 +113,8 @@ fn in_memory(alloc: Global, two: bool) -> Result<World<Volatile>, WordsFault> {
 fn volatile_nodes(alloc: Global, two: bool) -> Result<Vec<Volatile>, AllocError>
     ensures some { IfOk result (λ v. 1 ≤ length v.items) }
     ensures few { IfOk result (λ v. length v.items ≤ MAX_SERVERS) }
-    ensures unused { IfOk result (λ v. All IsUnused (map (λ n. ⟦<Volatile as linda_store::Node>⟧.shown n) v.items)) }
+    ensures unused { IfOk result (λ v.
+        All IsUnused (map (λ n. ⟦<Volatile as linda_store::Node>⟧.shown n) v.items)) }
 {
     let mut nodes = Vec::new(alloc);
     nodes.push(Volatile::new(alloc))?;
@@ -123,7 +124,8 @@ fn volatile_nodes(alloc: Global, two: bool) -> Result<Vec<Volatile>, AllocError>
     Ok(nodes)
 }
 
-/// A world over one server on such disks, or two, of which the second is on disks that have room and do not fail.
+/// A world over one server on such disks, or two, of which the second is on disks that have room
+/// and do not fail.
 fn on_disks(alloc: Global, disks: Disks, two: bool) -> Result<World<Durable<MemDisk>>, WordsFault> {
     with_clients(alloc, durable_nodes(alloc, disks, two)?)
 }

@@ -44,7 +44,8 @@ fn stop_with(alloc: Global, words: &str, at: u64, torn: Torn) -> Result<WorldEve
     })
 }
 
-// The moment of the stop in the world that has this place: the one moment for all of them, or that of its place.
+// The moment of the stop in the world that has this place: the one moment for all of them, or that
+// of its place.
 fn moment_of(alloc: Global, words: &str, seat: Seat) -> Result<(u64, Torn), WordsFault> {
     let mut moments = Vec::new(alloc);
     for part in words.split(',') {

@@ -39,7 +39,8 @@ fn push_got(out: &mut String, got: &Got) -> Result<(), AllocError> {
     }
 }
 
-/// The packets from this number on, each with its number, from where to where it goes, and what it says.
+/// The packets from this number on, each with its number, from where to where it goes, and what it
+/// says.
 pub fn push_packets(out: &mut String, packets: &[Packet], first: usize) -> Result<(), AllocError> {
     for (k, packet) in packets.iter().enumerate() {
         if k >= first {
@@ -88,7 +89,8 @@ fn push_reply(out: &mut String, reply: &Reply) -> Result<(), AllocError> {
     }
 }
 
-/// What servers 0 and 1 did, what clients 7 and 8 were given, and the numbers of the packets that were never delivered.
+/// What servers 0 and 1 did, what clients 7 and 8 were given, and the numbers of the packets that
+/// were never delivered.
 pub fn push_end<N: Node>(out: &mut String, world: &World<N>) -> Result<(), AllocError> {
     push_deeds(out, 0, world.deeds(0))?;
     out.push_str("; ")?;

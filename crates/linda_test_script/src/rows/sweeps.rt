@@ -5,13 +5,14 @@ use crate::rows::Player;
 use crate::rows::runs::Runs;
 use std::alloc::{AllocError, Global};
 
-/// A player whose rows may sweep: their lines that begin with `| ` are kept, and `sweep 0-3 by kept, lost` plays all of
-/// them for each word of the first list and each of the second, from the beginning, with these words in the places of
+/// A player whose rows may sweep: their lines that begin with `| ` are kept, and `sweep 0-3 by
+/// kept, lost` plays all of them for each word of the first list and each of the second, from the
+/// beginning, with these words in the places of
 /// `$1` and `$2`. `A-B` means all numbers from A to B, and without ` by ` there is one list.
 ///
-/// For each word of the first list a line says which outcome each of the second had, by numbers; words one after
-/// another of which the same is said share a line, `0 to 3`. After that stands what came of each outcome, line by
-/// line.
+/// For each word of the first list a line says which outcome each of the second had, by numbers;
+/// words one after another of which the same is said share a line, `0 to 3`. After that stands what
+/// came of each outcome, line by line.
 #[derive(Drop)]
 pub struct Sweeps<P: Drop> {
     player: P,
@@ -47,7 +48,8 @@ impl<P: Player + Drop> Sweeps<P> {
         tell_outcomes(came, &outcomes)
     }
 
-    // Plays what is kept with this word and each of the second list, and gives which outcome each has.
+    // Plays what is kept with this word and each of the second list, and gives which outcome each
+    // has.
     fn sweep_seconds(
         &mut self,
         alloc: Global,

@@ -7,7 +7,8 @@ ghost use Rattle.linda_codec.specs.Steps.{Gives, GivesAlways, left_by};
 ghost use Rattle.linda_codec.specs.Formats.{made_at, number};
 ghost use Rattle.linda_wire.specs.Frames as format;
 ghost use Rattle.linda_wire.specs.Frames.{spoken};
-ghost use Rattle.linda_wire.specs.declared.message.Message.TheVariants.{Hello, Out, Ask, Accept, Cancel, Leave};
+ghost use Rattle.linda_wire.specs.declared.message.Message.TheVariants.{Hello, Out, Ask, Accept};
+ghost use Rattle.linda_wire.specs.declared.message.Message.TheVariants.{Cancel, Leave};
 
 use crate::framed::{Framed, push_numbered, push_pair, push_template, push_tuple, rest_of};
 use crate::kinds::{ACCEPT, ASK, CANCEL, HELLO, LEAVE, OUT};
@@ -79,7 +80,8 @@ fn read_body(alloc: Global, kind: u8, body: &[u8]) -> Result<(Message, &[u8]), R
 
 // The bytes after a message of that kind, of which the kind is read and the body is at the front.
 fn skip_body(kind: u8, body: &[u8]) -> Result<&[u8], ReadFault>
-    ensures { GivesAlways (λ rest. rest.now) result (left_by (format.message_body_at kind body.now)) }
+    ensures { GivesAlways (λ rest. rest.now) result
+        (left_by (format.message_body_at kind body.now)) }
 {
     match kind {
         HELLO => rest_of(hello_from(body)),
@@ -93,7 +95,8 @@ fn skip_body(kind: u8, body: &[u8]) -> Result<&[u8], ReadFault>
 }
 
 fn push_hello(out: &mut Vec<u8>, version: u8, client: u32, fresh: bool) -> Result<(), AllocError>
-    ensures ok { OnOk result (out.new.items ≡ out.old.items ++ format.spell_message (Hello version client fresh)) }
+    ensures ok { OnOk result (out.new.items
+        ≡ out.old.items ++ format.spell_message (Hello version client fresh)) }
     ensures front { take (length out.old.items) out.new.items ≡ out.old.items }
 {
     out.push(HELLO)?;
@@ -103,7 +106,8 @@ fn push_hello(out: &mut Vec<u8>, version: u8, client: u32, fresh: bool) -> Resul
 }
 
 fn push_out(out: &mut Vec<u8>, n: u64, tuple: &Tuple) -> Result<(), AllocError>
-    ensures ok { OnOk result (out.new.items ≡ out.old.items ++ format.spell_message (Out n tuple.now)) }
+    ensures ok { OnOk result (out.new.items
+        ≡ out.old.items ++ format.spell_message (Out n tuple.now)) }
     ensures front { take (length out.old.items) out.new.items ≡ out.old.items }
     ensures within { OnOk result (FitsIn spoken tuple.now) }
 {
@@ -117,7 +121,8 @@ fn push_ask(
     remove: bool,
     template: &Template,
 ) -> Result<(), AllocError>
-    ensures ok { OnOk result (out.new.items ≡ out.old.items ++ format.spell_message (Ask ticket remove template.now)) }
+    ensures ok { OnOk result (out.new.items
+        ≡ out.old.items ++ format.spell_message (Ask ticket remove template.now)) }
     ensures front { take (length out.old.items) out.new.items ≡ out.old.items }
     ensures within { OnOk result (FitsTemplateIn spoken template.now) }
 {
@@ -127,7 +132,8 @@ fn push_ask(
 }
 
 fn push_accept(out: &mut Vec<u8>, n: u64, ticket: u64, id: u64) -> Result<(), AllocError>
-    ensures ok { OnOk result (out.new.items ≡ out.old.items ++ format.spell_message (Accept n ticket id)) }
+    ensures ok { OnOk result (out.new.items
+        ≡ out.old.items ++ format.spell_message (Accept n ticket id)) }
     ensures front { take (length out.old.items) out.new.items ≡ out.old.items }
 {
     push_numbered(out, ACCEPT, n)?;
@@ -135,7 +141,8 @@ fn push_accept(out: &mut Vec<u8>, n: u64, ticket: u64, id: u64) -> Result<(), Al
 }
 
 fn hello_from(body: &[u8]) -> Result<(Message, &[u8]), ReadFault>
-    ensures { GivesAlways (λ x. (x.0, x.1.now)) result (made_at format.hello_of format.hello body.now) }
+    ensures { GivesAlways (λ x. (x.0, x.1.now)) result
+        (made_at format.hello_of format.hello body.now) }
 {
     let (version, rest) = read_u8(body)?;
     let (client, rest) = read_u32(rest)?;
@@ -157,7 +164,8 @@ fn out_from(alloc: Global, body: &[u8]) -> Result<(Message, &[u8]), ReadFault>
 }
 
 fn skip_out(body: &[u8]) -> Result<&[u8], ReadFault>
-    ensures { GivesAlways (λ rest. rest.now) result (left_by (made_at format.out_of format.out body.now)) }
+    ensures { GivesAlways (λ rest. rest.now) result
+        (left_by (made_at format.out_of format.out body.now)) }
 {
     let (_n, rest) = read_u64(body)?;
     skip_tuple(FORM, rest)
@@ -178,7 +186,8 @@ fn ask_from(alloc: Global, body: &[u8]) -> Result<(Message, &[u8]), ReadFault>
 }
 
 fn skip_ask(body: &[u8]) -> Result<&[u8], ReadFault>
-    ensures { GivesAlways (λ rest. rest.now) result (left_by (made_at format.ask_of format.ask body.now)) }
+    ensures { GivesAlways (λ rest. rest.now) result
+        (left_by (made_at format.ask_of format.ask body.now)) }
 {
     let (_ticket, rest) = read_u64(body)?;
     let (_remove, rest) = read_bool(rest)?;
@@ -186,7 +195,8 @@ fn skip_ask(body: &[u8]) -> Result<&[u8], ReadFault>
 }
 
 fn accept_from(body: &[u8]) -> Result<(Message, &[u8]), ReadFault>
-    ensures { GivesAlways (λ x. (x.0, x.1.now)) result (made_at format.accept_of format.accept body.now) }
+    ensures { GivesAlways (λ x. (x.0, x.1.now)) result
+        (made_at format.accept_of format.accept body.now) }
 {
     let (n, rest) = read_u64(body)?;
     let (ticket, rest) = read_u64(rest)?;

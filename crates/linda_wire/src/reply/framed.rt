@@ -94,7 +94,8 @@ fn welcome_from(body: &[u8]) -> Result<(Reply, &[u8]), ReadFault>
 }
 
 fn stored_from(body: &[u8]) -> Result<(Reply, &[u8]), ReadFault>
-    ensures { GivesAlways (λ x. (x.0, x.1.now)) result (made_at format.stored_of format.stored body.now) }
+    ensures { GivesAlways (λ x. (x.0, x.1.now)) result
+        (made_at format.stored_of format.stored body.now) }
 {
     let (n, rest) = read_u64(body)?;
     let (id, rest) = read_u64(rest)?;
@@ -109,7 +110,8 @@ fn gone_from(body: &[u8]) -> Result<(Reply, &[u8]), ReadFault>
 }
 
 fn refused_from(body: &[u8]) -> Result<(Reply, &[u8]), ReadFault>
-    ensures { GivesAlways (λ x. (x.0, x.1.now)) result (made_at format.refused_of format.refusal body.now) }
+    ensures { GivesAlways (λ x. (x.0, x.1.now)) result
+        (made_at format.refused_of format.refusal body.now) }
 {
     let (code, rest) = read_u8(body)?;
     let (detail, rest) = read_u64(rest)?;
@@ -155,9 +157,12 @@ fn read_entry(alloc: Global, body: &[u8]) -> Result<(u64, u64, Tuple, &[u8]), Re
 }
 
 fn skip_entry(body: &[u8]) -> Result<&[u8], ReadFault>
-    ensures offer { GivesAlways (λ rest. rest.now) result (left_by (made_at format.offer_of format.entry body.now)) }
-    ensures read { GivesAlways (λ rest. rest.now) result (left_by (made_at format.read_of format.entry body.now)) }
-    ensures taken { GivesAlways (λ rest. rest.now) result (left_by (made_at format.taken_of format.entry body.now)) }
+    ensures offer { GivesAlways (λ rest. rest.now) result
+        (left_by (made_at format.offer_of format.entry body.now)) }
+    ensures read { GivesAlways (λ rest. rest.now) result
+        (left_by (made_at format.read_of format.entry body.now)) }
+    ensures taken { GivesAlways (λ rest. rest.now) result
+        (left_by (made_at format.taken_of format.entry body.now)) }
 {
     let (_number, rest) = read_u64(body)?;
     let (_id, rest) = read_u64(rest)?;
@@ -165,7 +170,8 @@ fn skip_entry(body: &[u8]) -> Result<&[u8], ReadFault>
 }
 
 fn push_refused(out: &mut Vec<u8>, code: u8, detail: u64) -> Result<(), AllocError>
-    ensures ok { OnOk result (out.new.items ≡ out.old.items ++ format.spell_reply (replies.Refused code detail)) }
+    ensures ok { OnOk result (out.new.items
+        ≡ out.old.items ++ format.spell_reply (replies.Refused code detail)) }
     ensures front { take (length out.old.items) out.new.items ≡ out.old.items }
 {
     out.push(REFUSED)?;
@@ -175,7 +181,8 @@ fn push_refused(out: &mut Vec<u8>, code: u8, detail: u64) -> Result<(), AllocErr
 
 // Appends a kind byte and two numbers.
 fn push_placed(out: &mut Vec<u8>, kind: u8, number: u64, id: u64) -> Result<(), AllocError>
-    ensures ok { OnOk result (out.new.items ≡ out.old.items ++ (kind ∷ format.stored.spell (number, id))) }
+    ensures ok { OnOk result (out.new.items
+        ≡ out.old.items ++ (kind ∷ format.stored.spell (number, id))) }
     ensures front { take (length out.old.items) out.new.items ≡ out.old.items }
 {
     out.push(kind)?;
@@ -190,7 +197,8 @@ fn push_entry(
     id: u64,
     tuple: &Tuple,
 ) -> Result<(), AllocError>
-    ensures ok { OnOk result (out.new.items ≡ out.old.items ++ (kind ∷ format.entry.spell (number, (id, tuple.now)))) }
+    ensures ok { OnOk result (out.new.items
+        ≡ out.old.items ++ (kind ∷ format.entry.spell (number, (id, tuple.now)))) }
     ensures front { take (length out.old.items) out.new.items ≡ out.old.items }
     ensures within { OnOk result (FitsIn spoken tuple.now) }
 {

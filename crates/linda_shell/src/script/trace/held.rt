@@ -18,8 +18,8 @@ impl Held {
         }
     }
 
-    /// The server holds these now: the lines of those that it holds no more, and of those that are new, each by rising
-    /// id.
+    /// The server holds these now: the lines of those that it holds no more, and of those that are
+    /// new, each by rising id.
     ///
     /// # Errors
     ///
