@@ -1,4 +1,4 @@
-# Completions of linda for bash.
+# Completions of linda for bash, made by tools/pages.py.
 
 _linda() {
     local word=${COMP_WORDS[COMP_CWORD]} before=${COMP_WORDS[COMP_CWORD - 1]} options
@@ -15,23 +15,27 @@ _linda() {
         mapfile -t COMPREPLY < <(compgen -f -- "$word")
         return
         ;;
-    --port | --sessions | --client | --servers)
+    --port | --sessions | --lease | --status | --client | --servers)
         COMPREPLY=()
         return
         ;;
     esac
     case ${COMP_WORDS[1]} in
-    serve) options="--port --dir --sessions --log --threads --help" ;;
+    serve) options="--port --dir --sessions --log --lease --threads --status --help" ;;
     call) options="--client --again --help" ;;
-    inspect) options="--tuples --clients --help" ;;
+    inspect) options="--tuples --clients --json --help" ;;
     run) options="--servers --trace --help" ;;
     pipe) options="--help" ;;
     *) options= ;;
     esac
-    if [ "${COMP_WORDS[1]}" = inspect ] && [ "${word#-}" = "$word" ]; then
-        mapfile -t COMPREPLY < <(compgen -d -- "$word")
-        return
-    fi
+    case ${COMP_WORDS[1]} in
+    inspect)
+        if [ "${word#-}" = "$word" ]; then
+            mapfile -t COMPREPLY < <(compgen -d -- "$word")
+            return
+        fi
+        ;;
+    esac
     mapfile -t COMPREPLY < <(compgen -W "$options" -- "$word")
 }
 

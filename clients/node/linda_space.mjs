@@ -592,6 +592,16 @@ export class Offer {
         return this.isTaken ? this.tuple : this.#calls.accept(this, limits);
     }
 
+    /**
+     * Says that this client is still at work: a server with a lease (`linda serve --lease S`) holds the tuple for S
+     * seconds more. It waits for nothing.
+     *
+     * Throws Gone if it is known that the tuple is not held any more; if that is not known yet, `accept` throws it.
+     */
+    renew() {
+        if (!this.isTaken) this.#calls.renew(this);
+    }
+
     /** Gives the tuple free again, if it is held and was not accepted. It waits for nothing. */
     release() {
         if (!this.isTaken) this.#calls.release(this);
@@ -746,7 +756,8 @@ export const frames = Object.freeze({
  * `hasLimit`: the last base is the alarm of the call's own time. `isPoll`, `isHold`: see Sync.
  * @typedef {{ hasLimit?: boolean, isPoll?: boolean, isHold?: boolean }} Ways
  *
- * @typedef {{ accept: (offer: Offer, limits: Limits) => Promise<Tuple>, release: (offer: Offer) => void }} OfferCalls
+ * @typedef {{ accept: (offer: Offer, limits: Limits) => Promise<Tuple>, renew: (offer: Offer) => void,
+ *     release: (offer: Offer) => void }} OfferCalls
  */
 
 /** An offer that was held was taken. */
@@ -898,6 +909,12 @@ class Machine {
         this.beIdle();
         if (!this.isHeld(offer)) throw new Gone(offer.server);
         this.begin({ kind: 'accept', server: offer.server, number: this.nextNumber(offer.server), offer });
+    }
+
+    /** Sends what changes nothing: a Cancel of a ticket that is never open. @param {Offer} offer */
+    renew(offer) {
+        if (!this.isHeld(offer)) throw new Gone(offer.server);
+        this.sent.push([offer.server, frames.cancel(NUMBER_LIMIT - 1n)]);
     }
 
     /** Gives what is held free again, if it is held and no Accept of it is unanswered. @param {Offer} offer */
@@ -1517,6 +1534,7 @@ export class Space {
     #newMachine(client) {
         return new Machine(client, this.#ports.length, {
             accept: (offer, limits) => this.#accept(offer, limits),
+            renew: (offer) => this.#renew(offer),
             release: (offer) => this.#release(offer),
         });
     }
@@ -1793,6 +1811,13 @@ export class Space {
     async #accept(offer, limits) {
         await this.#call((machine) => machine.takeHeld(offer), checkedLimits(limits));
         return offer.tuple;
+    }
+
+    /** @param {Offer} offer */
+    #renew(offer) {
+        if (this.#isClosed) throw new Closed('the space was closed');
+        this.#machine.renew(offer);
+        this.#send();
     }
 
     /** @param {Offer} offer */

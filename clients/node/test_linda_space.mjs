@@ -39,10 +39,10 @@ const MOST_CLIENTS = 65_536;
 
 /** A server of the program on a folder. */
 class Server {
-    static async start(folder, port = 0) {
+    static async start(folder, port = 0, ...words) {
         const server = new Server();
         server.folder = folder;
-        server.child = spawn(PROGRAM, ['serve', '--port', `${port}`, '--dir', folder], PIPED);
+        server.child = spawn(PROGRAM, ['serve', '--port', `${port}`, '--dir', folder, ...words], PIPED);
         server.ended = once(server.child, 'exit');
         let told = '';
         for await (const piece of server.child.stdout) {
@@ -88,10 +88,10 @@ class Scene {
         });
     }
 
-    async serve(name = 'one', port = 0) {
+    async serve(name = 'one', port = 0, ...words) {
         const folder = path.join(this.folder, name);
         mkdirSync(folder, { recursive: true });
-        const server = await Server.start(folder, port);
+        const server = await Server.start(folder, port, ...words);
         this.servers.push(server);
         return server;
     }
@@ -1357,6 +1357,28 @@ describe('waits', { concurrency: 4 }, () => {
         assert.deepEqual(await other.take(['job', INT], { timeout: LONG }), ['job', 1]);
         for (let times = 0; times < 2; times += 1) await fails(held.accept(), Gone, { server: 0, pending: null });
         assert.equal((await one.out(['b'])).id, 2);
+    });
+
+    play('a hold is renewed', async (scene) => {
+        const server = await scene.serve('one', 0, '--lease', '1');
+        const one = await scene.space(server), other = await scene.space(server, 8);
+        await one.out(['job', 1]);
+        const held = await one.hold(['job', INT]);
+        for (let times = 0; times < 12; times += 1) {           // at most 3 seconds pass before a lease of 1 second has run out
+            await sleep(400);
+            held.renew();
+        }
+        assert.equal(await other.take(['job', INT], { timeout: 0 }), null);
+        assert.deepEqual(await other.take(['job', INT], { timeout: LONG }), ['job', 1]);
+        await fails(held.accept(), Gone, { server: 0, pending: null });
+        assert.throws(() => held.renew(), Gone);
+        await one.out(['job', 2]);
+        const released = await one.hold(['job', INT]);
+        released.release();
+        assert.throws(() => released.renew(), Gone);
+        const taken = await one.hold(['job', INT]);
+        await taken.accept();
+        taken.renew();
     });
 
     play('an accept that is not answered', async (scene) => {

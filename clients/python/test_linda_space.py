@@ -50,10 +50,10 @@ def setUpModule() -> None:
 class Server:
     """A server of the program on a folder, which is ready once this is made."""
 
-    def __init__(self, folder: Path, port: int = 0) -> None:
+    def __init__(self, folder: Path, port: int = 0, *words: str) -> None:
         self.folder = folder
-        self.process = subprocess.Popen([str(PROGRAM), "serve", "--port", str(port), "--dir", str(folder)], stdin=subprocess.DEVNULL, stdout=subprocess.PIPE,
-                                        stderr=subprocess.PIPE, universal_newlines=True)
+        self.process = subprocess.Popen([str(PROGRAM), "serve", "--port", str(port), "--dir", str(folder), *words], stdin=subprocess.DEVNULL,
+                                        stdout=subprocess.PIPE, stderr=subprocess.PIPE, universal_newlines=True)
         assert self.process.stdout and self.process.stderr
         line = self.process.stdout.readline()
         if not line.startswith("ready "):
@@ -154,9 +154,9 @@ class WithServers(unittest.TestCase):
         self.folder = Path(tempfile.mkdtemp())
         self.addCleanup(shutil.rmtree, self.folder)
 
-    def serve(self, name: str = "one", port: int = 0) -> Server:
+    def serve(self, name: str = "one", port: int = 0, *words: str) -> Server:
         (self.folder / name).mkdir(exist_ok=True)
-        server = Server(self.folder / name, port)
+        server = Server(self.folder / name, port, *words)
         self.addCleanup(server.kill)
         return server
 
@@ -1386,6 +1386,40 @@ class Waits(WithServers):
             with self.assertRaises(Gone):
                 offer.accept()
         self.assertEqual(space.take("b"), ("b",))
+
+    def test_a_hold_is_renewed(self) -> None:
+        server = self.serve("one", 0, "--lease", "1")
+        space, other = self.space(server), self.space(server, client=8)
+        space.out("job", 1)
+        with space.hold("job", INT) as offer:
+            assert offer is not None
+            for _ in range(12):                                 # at most 3 seconds pass before a lease of 1 second has run out
+                time.sleep(0.4)
+                offer.renew()
+            self.assertIsNone(other.take("job", INT, timeout=0))
+            self.assertEqual(other.take("job", INT, timeout=PATIENCE), ("job", 1))
+            with self.assertRaises(Gone):
+                offer.accept()
+            for call in (offer.renew, offer.accept):
+                with self.assertRaises(Gone):
+                    call()
+        space.out("job", 2)
+        with space.hold("job", INT) as offer:
+            assert offer is not None
+            offer.release()
+            with self.assertRaises(Gone):
+                offer.renew()
+        with space.hold("job", INT) as offer:
+            assert offer is not None
+            offer.accept()
+            offer.renew()                                       # what was taken needs no lease
+        with self.assertRaises(Closed), space.hold("job", INT, timeout=0.01) as none:
+            self.assertIsNone(none)
+            space.out("job", 3)
+            with space.hold("job", INT) as offer:
+                assert offer is not None
+                space.close()
+                offer.renew()
 
     def test_an_accept_that_is_not_answered(self) -> None:
         server = self.serve()

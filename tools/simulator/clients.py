@@ -11,6 +11,7 @@ import random
 import threading
 import time
 import traceback
+from collections import Counter
 from typing import Protocol
 
 from served import frames
@@ -35,6 +36,7 @@ class Around(Protocol):
     is_pausing: threading.Event
     pauses: list[float]
     plenty: tuple[int, float]
+    counts: Counter[str]
 
     def new_number(self) -> int: ...
     def fail(self, words: str) -> None: ...

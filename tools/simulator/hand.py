@@ -56,6 +56,8 @@ class HandClient(Client):
             self.hold()
         elif what < 0.205:
             self.leave()
+        elif what < 0.212:
+            self.hang()
         elif self.puts_next():
             self.put()
         else:
@@ -246,6 +248,21 @@ class HandClient(Client):
         else:
             for server in servers:
                 self.hang_up(server)
+
+    def hang(self) -> None:
+        """Has a tuple held, and says nothing, like a process that was stopped: until its connection ends if the server has
+        a lease, else for a moment."""
+        found = self.first_offer(True, self.asked(), 0.1)
+        has_lease = found is not None and self.around.models[found[0]].lease is not None
+        until = time.monotonic() + (SECONDS if has_lease else 0.5)
+        try:
+            while found is not None and time.monotonic() < until:
+                if self.readable([found[0]], 0.1):
+                    self.hear(found[0])
+        except Lost:
+            self.around.counts["hung clients that were ended"] += has_lease
+        for server in range(len(self.ports)):
+            self.hang_up(server)
 
     def probe(self, server: int) -> None:
         """Asks for the kept reply, and for what is refused: an old number, one too high, a second greeting."""

@@ -19,6 +19,8 @@ REPLIES = ("Stored", "Taken", "Gone", "Left")
 KNOWN, BUSY, OLD, GAP, FULL, DOWN, LEFT, NO_HELLO = 2, 3, 4, 5, 6, 8, 11, 12
 REFUSED = {"old": OLD, "gap": GAP, "left": LEFT, "no hello": NO_HELLO}
 MOST_EVENTS = 4_000
+# So many seconds after its lease has run out a connection has ended, beside all other work.
+LATE = 8.0
 
 
 class Model:
@@ -36,6 +38,8 @@ class Model:
         self.greeted: dict[int, Wire] = {}
         # Whether a call of its disk may fail in this life, and whether its bank may be of the first form.
         self.may_fail = self.is_old = False
+        # For how many seconds a client that holds a tuple may say nothing.
+        self.lease: float | None = None
         # The other servers of the same clients.
         self.others: list[Model] = []
         self.began = time.monotonic()
@@ -92,6 +96,7 @@ class Model:
     def sent(self, wire: Wire, frame: Frame, now: float) -> None:
         """A message that is about to reach the server."""
         name, parts = frame
+        wire.heard = now
         self.note(wire.name, "client", wire.client, "sends", short(frames.words_of(name, parts)))
         if name == "Hello":
             wire.greeting.append(parts["client"])
@@ -166,7 +171,9 @@ class Model:
         self.note(wire.name, "client", wire.client, "hears", short(frames.words_of(name, parts)))
         self.counts[name] += 1
         if name in ("Offer", "Read"):
-            self.offered(wire, name, parts)
+            # (what was sent to one that is late before its connection ended may be read after that)
+            if not wire.is_late:
+                self.offered(wire, name, parts)
             return
         if name == "Refused" and parts["code"] == DOWN and self.may_fail:
             wire.owed.clear()
@@ -241,8 +248,28 @@ class Model:
             if taken:
                 self.fail(f"tuple {place} was taken by client {taken[0]}, and is offered to client {wire.client}")
             holder, ticket = self.holds.setdefault(place, (wire, parts["ticket"]))
+            if holder is not wire and self.ends_late(holder):
+                self.holds[place] = holder, ticket = wire, parts["ticket"]
             if (holder, ticket) != (wire, parts["ticket"]):
                 self.fail(f"tuple {place} is held for client {holder.client}, and is offered to client {wire.client}")
+
+    # ---- leases
+
+    def ends_late(self, wire: Wire) -> bool:
+        """Whether the lease of a connection may have run out. If so it ends, of which nothing is seen yet, and its holds
+        are free."""
+        if self.lease is None or time.monotonic() - wire.heard < self.lease:
+            return False
+        wire.is_late = True
+        self.release(wire)
+        return True
+
+    def check_leases(self) -> None:
+        """No connection is there whose lease ran out some seconds ago."""
+        if self.lease is not None:
+            for wire, _ in self.holds.values():
+                if time.monotonic() - wire.heard > self.lease + LATE:
+                    self.fail(f"client {wire.client} holds a tuple, and has said nothing for {LATE} s more than it may")
 
     # ---- what they come to
 

@@ -130,6 +130,8 @@ class Network(threading.Thread):
 
     def look_for_silence(self, now: float) -> None:
         for gate in self.gates:
+            if gate.behind:
+                gate.model.check_leases()
             since = gate.model.oldest()
             if since is not None and gate.behind and now - since > PATIENCE and not gate.model.may_fail:
                 raise Fault(f"server {gate.number}: a reply is due for {now - since:.0f} s")

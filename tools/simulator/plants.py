@@ -27,6 +27,7 @@ NAMES = {
     "skipped": "a put is answered and not done",
     "held": "a Cancel is lost, so that a tuple stays held",
     "silent": "a reply is left out",
+    "lease": "a server keeps no lease",
     "order": "a read is answered as if it were of another tuple",
     "line": "`linda call` prints another tuple than it took",
     "server": "the Python library returns another server than it put at",

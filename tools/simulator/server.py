@@ -33,6 +33,8 @@ HARD, CHANGES_A_RECORD = 1_024, 4
 SLOW = [0, 0, 300, 2_000, 5_000, 20_000]
 # So many changes the first start in a new folder makes.
 FIRST_CHANGES = 9
+# Seconds for which a client that holds a tuple may say nothing, if that is limited.
+LEASE = 1
 
 
 def is_death(fired: list[str]) -> bool:
@@ -90,7 +92,7 @@ class Simulated:
             tries += 1
             self.draw_plan(may_end=tries < 5)
             began = time.monotonic()
-            words = [PROGRAM, "serve", "--port", "0", "--dir", str(self.disk.folder)]
+            words = [PROGRAM, "serve", "--port", "0", "--dir", str(self.disk.folder), *self.limits()]
             self.process = subprocess.Popen(words, env=self.disk.environment(), stdin=subprocess.DEVNULL,
                                             stdout=subprocess.PIPE, stderr=subprocess.PIPE, text=True)
             line = self.first_line()
@@ -106,6 +108,14 @@ class Simulated:
             with self.network.lock:
                 self.kept.go_back(self.model)
             self.leave_disk()
+
+    def limits(self) -> list[str]:
+        """For how long clients may hold a tuple and say nothing, in this life."""
+        with self.network.lock:
+            self.model.lease = LEASE if self.dice.random() < 0.5 else None
+        if self.model.lease is None or self.plant.is_due("lease", 1.0):
+            return []
+        return ["--lease", str(LEASE)]
 
     def first_line(self) -> str:
         """What it writes first, nothing if it has ended."""

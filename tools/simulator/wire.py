@@ -82,6 +82,9 @@ class Wire:
     owed: deque[Owed] = field(default_factory=deque)
     asks: dict[int, Ask] = field(default_factory=dict)
     is_closed: bool = False
+    # When it said something last, and whether its lease has run out, as others' offers show.
+    heard: float = 0.0
+    is_late: bool = False
 
 
 class Mark(NamedTuple):

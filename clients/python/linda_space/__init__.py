@@ -342,6 +342,16 @@ class Offer:
             raise Gone(self.server)
         return self._space._accept(self, timeout)
 
+    def renew(self) -> None:
+        """Says that this client is still at work: a server with a lease (`linda serve --lease S`) holds the tuple for S seconds more. It waits for nothing.
+
+        Raises Gone if it is known that the tuple is not held any more; if that is not known yet, `accept` raises it.
+        """
+        if not self.is_taken:
+            if self._space is None:
+                raise Gone(self.server)
+            self._space._renew(self)
+
     def release(self) -> None:
         """Gives the tuple free again, if it is held and was not accepted. It waits for nothing."""
         if self._space is not None and not self.is_taken:
@@ -775,6 +785,12 @@ class _Machine:
         if number >= NUMBER_LIMIT:
             raise Spent("no number is left")
         self.begin(_Taking(offer.server, number, offer))
+
+    def renew(self, offer: Offer) -> None:
+        """Sends what changes nothing to the server that holds it: a Cancel of a ticket that is never open."""
+        if self.held.get((offer.server, offer.ticket)) is not offer:
+            raise Gone(offer.server)
+        self.sent.append((offer.server, _cancel(NUMBER_LIMIT - 1)))
 
     def release(self, offer: Offer) -> None:
         """Gives what is held free again, if it is held and no Accept of it is unanswered."""
@@ -1501,6 +1517,12 @@ class Space:
         if isinstance(ended, Gone):
             raise ended
         return offer.tuple
+
+    def _renew(self, offer: Offer) -> None:
+        if self._is_closed:
+            raise Closed("the space was closed")
+        self._machine.renew(offer)
+        self._send()
 
     def _release(self, offer: Offer) -> None:
         if not self._is_closed:

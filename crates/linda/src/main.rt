@@ -12,12 +12,14 @@
 //! servers that listen on these ports of this machine; with `--again` it goes on as a client that
 //! was used before.
 //!
-//! `linda serve --port P --dir D [--sessions K] [--log] [--threads]` serves the store in a folder
-//! to clients that connect to a port of this machine; with `--log` it writes what it does to
-//! standard error, and with `--threads` each connection has two threads.
+//! `linda serve --port P --dir D [--sessions K] [--log] [--lease S] [--threads] [--status Q]`
+//! serves the store in a folder to clients that connect to a port of this machine; with `--log` it
+//! writes what it does to standard error, with `--lease S` it ends connections of clients that hold
+//! a tuple and send nothing for S seconds, with `--threads` each connection has two threads, and
+//! with `--status Q` it says on another port, over HTTP, how it does.
 //!
-//! `linda inspect DIR [--tuples] [--clients]` says what the store in a folder holds, and whether it
-//! would be served.
+//! `linda inspect DIR [--tuples] [--clients] [--json]` says what the store in a folder holds, and
+//! whether it would be served.
 //!
 //! `linda --version` prints the version of the program, and the forms of banks and frames.
 //!
@@ -46,7 +48,7 @@ use linda_args::{Ports, Task, VERSION_LINES, asks_for_version, read_task};
 use linda_call::{CallFault, call};
 use linda_inspect::Lists;
 use linda_pipe::{PipeFault, REFUSED, pipe};
-use linda_serve::{Plan, inspect_folder, serve_folder};
+use linda_serve::{Plan, inspect_folder, inspect_folder_as_json, serve_folder};
 use linda_shell::{ScriptFault, run_script, trace_script};
 use status::status_of_script;
 use std::fmt::Display;
@@ -120,17 +122,21 @@ fn perform<
             dir,
             sessions,
             log,
+            lease,
             threads: by_threads,
+            status,
         } => {
             let plan = Plan {
                 port: *port,
                 folder: dir,
                 sessions: *sessions,
+                lease: *lease,
                 by_threads: *by_threads,
+                status: *status,
             };
             run_serve(rt, threads, &plan, *log)
         }
-        Task::Inspect { dir, lists } => run_inspect(rt, dir, *lists),
+        Task::Inspect { dir, lists, json } => run_inspect(rt, dir, *lists, *json),
     }
 }
 
@@ -279,10 +285,15 @@ fn run_serve<
 }
 
 // Says what the store in a folder comes to.
-fn run_inspect(rt: &HostRuntime, dir: &str, lists: Lists) -> ExitCode
+fn run_inspect(rt: &HostRuntime, dir: &str, lists: Lists, json: bool) -> ExitCode
     ensures { (exit_status result ≡ 0) ⊎ (exit_status result ≡ 3) }
 {
-    match inspect_folder(rt, rt.alloc(), &mut rt.stdout(), dir, lists) {
+    let told = if json {
+        inspect_folder_as_json(rt, rt.alloc(), &mut rt.stdout(), dir, lists)
+    } else {
+        inspect_folder(rt, rt.alloc(), &mut rt.stdout(), dir, lists)
+    };
+    match told {
         Ok(()) => ExitCode::SUCCESS,
         Err(cause) => end(rt, cause, REFUSED),
     }

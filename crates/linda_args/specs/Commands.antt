@@ -94,9 +94,21 @@ sessions_rule = record (option_rule (codes "sessions")) {
 abbrev pub log_rule : Rule
 log_rule = flag_rule (codes "log")
 
+-- the option `--lease`, which may be there, with a number of 32 bits that is not 0
+abbrev pub lease_rule : Rule
+lease_rule = record (option_rule (codes "lease")) {
+  parser = Some (parsers.Signed (pos 1) (pos 4294967295));
+}
+
 -- the option `--threads`, which may be there, and stands alone
 abbrev pub threads_rule : Rule
 threads_rule = flag_rule (codes "threads")
+
+-- the option `--status`, which may be there, with a number of 16 bits that is not 0
+abbrev pub status_rule : Rule
+status_rule = record (option_rule (codes "status")) {
+  parser = Some (parsers.Signed (pos 1) (pos 65535));
+}
 
 -- the word that names the folder of a store, which must be there
 abbrev pub folder_rule : Rule
@@ -109,6 +121,10 @@ tuples_rule = flag_rule (codes "tuples")
 -- the option `--clients`, which may be there, and stands alone
 abbrev pub clients_rule : Rule
 clients_rule = flag_rule (codes "clients")
+
+-- the option `--json`, which may be there, and stands alone
+abbrev pub json_rule : Rule
+json_rule = flag_rule (codes "json")
 
 -- The commands below the program's own, as the parser has them.
 abbrev pub pipe_command : App
@@ -123,15 +139,16 @@ call_command =
 
 abbrev pub serve_command : App
 serve_command =
-    with_rule (with_rule
+    with_rule (with_rule (with_rule (with_rule
     (with_rule (with_rule (with_rule (new_app (codes "serve")) port_rule) dir_rule)
     sessions_rule)
-    log_rule) threads_rule
+    log_rule) lease_rule) threads_rule) status_rule
 
 abbrev pub inspect_command : App
 inspect_command =
-    with_rule (with_rule (with_rule (new_app (codes "inspect")) folder_rule) tuples_rule)
-    clients_rule
+    with_rule (with_rule
+    (with_rule (with_rule (new_app (codes "inspect")) folder_rule) tuples_rule)
+    clients_rule) json_rule
 
 -- the program's command with none below it: it wants one
 abbrev pub bare_linda : App
@@ -232,8 +249,9 @@ AsksFor words tasks.Pipe = AsksForPipe words
 AsksFor words (tasks.Run n) = AsksForRun words n
 AsksFor words (tasks.TracedRun n file) = AsksForTracedRun words n
 AsksFor words (tasks.Call client ports again) = AsksForCall words client ports again
-AsksFor words (tasks.Serve port dir sessions log threads) = AsksForServe words port sessions
-AsksFor words (tasks.Inspect dir lists) = AsksForInspect words
+AsksFor words (tasks.Serve port dir sessions log lease threads status) =
+    AsksForServe words port sessions
+AsksFor words (tasks.Inspect dir lists json) = AsksForInspect words
 
 -- it is a run with a trace, by such a number
 abbrev pub IsTracedRun : Task → Type 0
@@ -241,8 +259,8 @@ IsTracedRun tasks.Pipe = ⊥
 IsTracedRun (tasks.Run n) = ⊥
 IsTracedRun (tasks.TracedRun n file) = (1 ≤ n) × (n ≤ MAX_SERVERS)
 IsTracedRun (tasks.Call client ports again) = ⊥
-IsTracedRun (tasks.Serve port dir sessions log threads) = ⊥
-IsTracedRun (tasks.Inspect dir lists) = ⊥
+IsTracedRun (tasks.Serve port dir sessions log lease threads status) = ⊥
+IsTracedRun (tasks.Inspect dir lists json) = ⊥
 
 -- the flag is as the parser has its text
 pub record IsFlag (text : Option (List ℕ)) (flag : Bool) : Type 0 where
@@ -256,8 +274,8 @@ IsCall text (tasks.Run n) = ⊥
 IsCall text (tasks.TracedRun n file) = ⊥
 IsCall text (tasks.Call client ports again) =
     (client < 2 ^ 32) × (ArePorts ports × IsFlag text again)
-IsCall text (tasks.Serve port dir sessions log threads) = ⊥
-IsCall text (tasks.Inspect dir lists) = ⊥
+IsCall text (tasks.Serve port dir sessions log lease threads status) = ⊥
+IsCall text (tasks.Inspect dir lists json) = ⊥
 
 -- it serves, by such numbers
 abbrev pub IsServe : Task → Type 0
@@ -265,9 +283,11 @@ IsServe tasks.Pipe = ⊥
 IsServe (tasks.Run n) = ⊥
 IsServe (tasks.TracedRun n file) = ⊥
 IsServe (tasks.Call client ports again) = ⊥
-IsServe (tasks.Serve port dir sessions log threads) =
+IsServe (tasks.Serve port dir sessions log lease threads status) =
     (port < 2 ^ 16) × IfSome sessions (λ k. k < 2 ^ 32)
-IsServe (tasks.Inspect dir lists) = ⊥
+    × IfSome lease (λ s. (1 ≤ s) × (s < 2 ^ 32))
+    × IfSome status (λ s. (1 ≤ s) × (s < 2 ^ 16))
+IsServe (tasks.Inspect dir lists json) = ⊥
 
 -- it inspects
 abbrev pub IsInspect : Task → Type 0
@@ -275,8 +295,8 @@ IsInspect tasks.Pipe = ⊥
 IsInspect (tasks.Run n) = ⊥
 IsInspect (tasks.TracedRun n file) = ⊥
 IsInspect (tasks.Call client ports again) = ⊥
-IsInspect (tasks.Serve port dir sessions log threads) = ⊥
-IsInspect (tasks.Inspect dir lists) = ⊤
+IsInspect (tasks.Serve port dir sessions log lease threads status) = ⊥
+IsInspect (tasks.Inspect dir lists json) = ⊤
 
 -- what words ask for that are written out above to the letter: the pipe, or a run
 abbrev pub AsksExactlyFor : List (List ℕ) → Task → Type 0
@@ -284,8 +304,8 @@ AsksExactlyFor words tasks.Pipe = AsksForPipe words
 AsksExactlyFor words (tasks.Run n) = AsksForRun words n
 AsksExactlyFor words (tasks.TracedRun n file) = ⊥
 AsksExactlyFor words (tasks.Call client ports again) = ⊥
-AsksExactlyFor words (tasks.Serve port dir sessions log threads) = ⊥
-AsksExactlyFor words (tasks.Inspect dir lists) = ⊥
+AsksExactlyFor words (tasks.Serve port dir sessions log lease threads status) = ⊥
+AsksExactlyFor words (tasks.Inspect dir lists json) = ⊥
 
 -- a run and a call have at least one server, and not more than there may be
 abbrev pub HasServers : Task → Type 0
@@ -293,8 +313,8 @@ HasServers tasks.Pipe = ⊤
 HasServers (tasks.Run n) = (1 ≤ n) × (n ≤ MAX_SERVERS)
 HasServers (tasks.TracedRun n file) = (1 ≤ n) × (n ≤ MAX_SERVERS)
 HasServers (tasks.Call client ports again) = (1 ≤ length ports) × (length ports ≤ MAX_SERVERS)
-HasServers (tasks.Serve port dir sessions log threads) = ⊤
-HasServers (tasks.Inspect dir lists) = ⊤
+HasServers (tasks.Serve port dir sessions log lease threads status) = ⊤
+HasServers (tasks.Inspect dir lists json) = ⊤
 
 -- whether a word begins with a hyphen
 abbrev pub has_hyphen : List ℕ → Bool

@@ -17,9 +17,11 @@ ghost use Rattle.linda_args.specs.Commands.{AsksExactlyFor, AsksFor, AsksForPipe
 ghost use Rattle.linda_args.specs.Commands.{HasServers, Spells};
 ghost use Rattle.linda_args.specs.Commands.{IsCall, IsCommand, IsInspect, IsRefusedAs, IsServe};
 ghost use Rattle.linda_args.specs.Commands.{IsTracedRun};
-ghost use Rattle.linda_args.specs.Commands.{Refuses, client_rule, dir_rule, flag_rule, linda};
+ghost use Rattle.linda_args.specs.Commands.{Refuses, client_rule, dir_rule, flag_rule, lease_rule};
+ghost use Rattle.linda_args.specs.Commands.{linda};
 ghost use Rattle.linda_args.specs.Commands.{option_rule};
 ghost use Rattle.linda_args.specs.Commands.{port_rule, ports_rule, servers_rule, sessions_rule};
+ghost use Rattle.linda_args.specs.Commands.{status_rule};
 ghost use Rattle.linda_args.specs.Commands.{word_rule};
 ghost use Rattle.linda_args.specs.declared.command.Task.TheVariants as tasks;
 
@@ -61,12 +63,17 @@ pub enum Task {
         dir: String,
         sessions: Option<u32>,
         log: bool,
+        /// For how many seconds a client may hold a tuple and say nothing, if that is limited.
+        lease: Option<u32>,
         threads: bool,
+        /// On which port it is asked how the server does, if it is.
+        status: Option<u16>,
     },
-    /// What the store in this folder comes to, with these lists.
+    /// What the store in this folder comes to, with these lists; as lines, or as one JSON object.
     Inspect {
         dir: String,
         lists: Lists,
+        json: bool,
     },
 }
 
@@ -101,8 +108,28 @@ fn task_by<'a>(alloc: Global, linda: &mut Command<'a>, words: &'a [String]) -> R
         → Refuses kinds result }
 {
     match found_by(alloc, linda, words)? {
-        Some(task) => Ok(task),
+        Some(task) => {
+            if is_unkept(&task) {
+                return Err(linda.error(ErrorKind::ArgumentConflict, UNKEPT)?);
+            }
+            Ok(task)
+        }
         None => Err(linda.error(ErrorKind::MissingSubcommand, "a command is required")?),
+    }
+}
+
+// Whether it asks for what cannot be kept: each connection has two threads, and clients that hold
+// a tuple and say nothing are to be ended.
+fn is_unkept(task: &Task) -> bool
+    ensures { (words : List (List ℕ)) → AsksExactlyFor words task.now → result ≡ false }
+{
+    match task {
+        Task::Serve { lease, threads, .. } => *threads && lease.is_some(),
+        Task::Pipe => false,
+        Task::Run { .. } => false,
+        Task::TracedRun { .. } => false,
+        Task::Call { .. } => false,
+        Task::Inspect { .. } => false,
     }
 }
 
@@ -211,7 +238,7 @@ fn call_of(alloc: Global, below: &ArgMatches) -> Result<Option<Task>, AllocError
     }))
 }
 
-// What is found below `serve`.
+// What is found below `serve`; the parser has judged the numbers.
 fn serve_of(alloc: Global, below: &ArgMatches) -> Result<Option<Task>, AllocError>
     ensures { IfOk result (λ found. IfSome found IsServe) }
 {
@@ -224,13 +251,23 @@ fn serve_of(alloc: Global, below: &ArgMatches) -> Result<Option<Task>, AllocErro
     let dir = String::from_str(alloc, text)?;
     let sessions = below.get_one::<u32>(SESSIONS);
     let log = below.get_flag(LOG);
+    let lease = below.get_one::<u32>(LEASE);
+    if lease == Some(0) {
+        return Ok(None);
+    }
     let threads = below.get_flag(THREADS);
+    let status = below.get_one::<u16>(STATUS);
+    if status == Some(0) {
+        return Ok(None);
+    }
     Ok(Some(Task::Serve {
         port,
         dir,
         sessions,
         log,
+        lease,
         threads,
+        status,
     }))
 }
 
@@ -245,14 +282,15 @@ fn inspect_of(alloc: Global, below: &ArgMatches) -> Result<Option<Task>, AllocEr
     let tuples = below.get_flag(TUPLES);
     let clients = below.get_flag(CLIENTS);
     let lists = Lists { tuples, clients };
-    Ok(Some(Task::Inspect { dir, lists }))
+    let json = below.get_flag(JSON);
+    Ok(Some(Task::Inspect { dir, lists, json }))
 }
 
 // The program's command.
 fn command<'a>(alloc: Global) -> Result<Command<'a>, AllocError>
     ensures { IfOk result (λ c. app_of c ≡ linda) }
 {
-    let bare = bare_command(alloc, "linda", "A tuple space", VERSION).subcommand_required(true);
+    let bare = bare_command(alloc, "linda", "A tuple space", STARTING).subcommand_required(true);
     let piping = bare.subcommand(pipe_command(alloc));
     let running = with_command(piping, run_command(alloc));
     let calling = with_command(running, call_command(alloc));
@@ -295,7 +333,8 @@ fn bare_command<'a>(alloc: Global, name: &'a str, about: &'a str, after: &'a str
 fn pipe_command<'a>(alloc: Global) -> Command<'a>
     ensures { IsCommand spec.pipe_command result }
 {
-    Command::new(alloc, PIPE).about("Serve one connection over lines of hexadecimal digits")
+    let about = "Serve one connection over lines of hexadecimal digits";
+    bare_command(alloc, PIPE, about, PIPING)
 }
 
 // The command that plays a script.
@@ -336,8 +375,10 @@ fn serve_command<'a>(alloc: Global) -> Result<Command<'a>, AllocError>
     let third = with_arg(second, sessions_option(alloc));
     let help = "Write a log to standard error: a line a minute, and one at each event";
     let fourth = with_arg(third, flag(alloc, LOG, help));
+    let fifth = with_arg(fourth, lease_option(alloc));
     let help = "Give each connection two threads, as before there were loops";
-    with_arg(fourth, flag(alloc, THREADS, help))
+    let sixth = with_arg(fifth, flag(alloc, THREADS, help));
+    with_arg(sixth, status_option(alloc))
 }
 
 // The command that says what a folder holds.
@@ -349,14 +390,10 @@ fn inspect_command<'a>(alloc: Global) -> Result<Command<'a>, AllocError>
     let folder = word(alloc, DIR, "DIR", "The folder of the store");
     let first = bare_command(alloc, INSPECT, about, INSPECTING).arg(folder);
     let second = with_arg(first, flag(alloc, TUPLES, "A line for each tuple"));
-    with_arg(
-        second,
-        flag(
-            alloc,
-            CLIENTS,
-            "A line for each client, with its kept reply",
-        ),
-    )
+    let help = "A line for each client, with its kept reply";
+    let third = with_arg(second, flag(alloc, CLIENTS, help));
+    let help = "One JSON object in place of the lines";
+    with_arg(third, flag(alloc, JSON, help))
 }
 
 // The option that says how many servers there are.
@@ -431,6 +468,26 @@ fn sessions_option<'a>(alloc: Global) -> Arg<'a>
     )
 }
 
+// The option that says how long a client may hold a tuple and say nothing.
+fn lease_option<'a>(alloc: Global) -> Arg<'a>
+    ensures rule { rule_of result ≡ lease_rule }
+    ensures own { result.global ≡ false }
+{
+    let help = "End connections of clients that hold a tuple and send nothing for S seconds";
+    let parser = value_parser!(u32).range(1..);
+    number_option(alloc, LEASE, "S", help, parser)
+}
+
+// The option that says where it is asked how the server does.
+fn status_option<'a>(alloc: Global) -> Arg<'a>
+    ensures rule { rule_of result ≡ status_rule }
+    ensures own { result.global ≡ false }
+{
+    let help = "Answer on this port, over HTTP, how the server does";
+    let parser = value_parser!(u16).range(1..);
+    number_option(alloc, STATUS, "Q", help, parser)
+}
+
 // An option of this name, with a number that the parser takes.
 fn number_option<'a>(
     alloc: Global,
@@ -501,7 +558,14 @@ const SESSIONS: &str = "sessions";
 
 const LOG: &str = "log";
 
+const LEASE: &str = "lease";
+
 const THREADS: &str = "threads";
+
+const STATUS: &str = "status";
+
+/// Why a lease is refused beside threads.
+const UNKEPT: &str = "the argument '--lease <S>' cannot be used with '--threads'";
 
 const INSPECT: &str = "inspect";
 
@@ -515,21 +579,35 @@ const PORTS: &str = "ports";
 
 const AGAIN: &str = "again";
 
-const SCRIPT: &str = "Example of a script:\n  \
+const JSON: &str = "json";
+
+const STARTING: &str = "Examples:\n  \
+    mkdir store\n  \
+    linda serve --port 7707 --dir store &\n  \
+    echo 'out (\"job\", 1)' | linda call --client 1 7707\n\n\
+    linda --version prints the version, and the forms of banks and frames.";
+
+const PIPING: &str = "Example, a greeting of client 7:\n  \
+    echo 0000000701020000000701 | linda pipe";
+
+const SCRIPT: &str = "Examples, of which the second keeps the trace:\n  \
+    linda run --servers 2 < script\n  \
+    linda run --servers 2 --trace trace < script\n\n\
+    A script:\n  \
     7 out (\"a\", 3)\n  \
     8 sync in (\"a\", ?i)\n  \
     state 1";
 
-const LINES: &str = "Example, beside a server on port 7707:\n  \
+const LINES: &str = "Examples, beside a server on port 7707:\n  \
     echo 'out (\"job\", 1)' | linda call --client 1 7707\n  \
     echo 'sync in (\"job\", ?i)' | linda call --client 2 7707";
 
-const SERVING: &str = "Example:\n  \
+const SERVING: &str = "Examples:\n  \
     mkdir store\n  \
-    linda serve --port 7707 --dir store";
+    linda serve --port 7707 --dir store\n  \
+    linda serve --port 7707 --dir store --log 2> log";
 
-const INSPECTING: &str = "Example:\n  \
+const INSPECTING: &str = "Examples:\n  \
     mkdir store\n  \
-    linda inspect store --tuples --clients";
-
-const VERSION: &str = "linda --version tells the version, and the forms of banks and frames.";
+    linda inspect store --tuples --clients\n  \
+    linda inspect store --tuples --json > store.json";

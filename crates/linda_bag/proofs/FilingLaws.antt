@@ -3,7 +3,7 @@ use Rattle.std.proofs.Common.{◌≡◌, ℕ, true, false, cond, Option, Some, N
 use Rattle.std.specs.declared.cmp.Ordering.{Ordering}
 use Rattle.std.specs.declared.cmp.Ordering.TheVariants.{Less, Equal, Greater}
 use Rattle.std.specs.Ordering.{is_eq, ordering_reverse}
-use Rattle.std.specs.Cmp.{IsTotalOrder, unsigned_tied, unsigned_Decides}
+use Rattle.std.specs.Cmp.{IsTotalOrder, nat_cmp_total, unsigned_tied, unsigned_Decides}
 use Rattle.std.specs.Bool.{Decides}
 use Rattle.std.proofs.lemmas.Bool.Decides.{Decides-at}
 use Rattle.std.specs.BTreeMap.{BTreeMap, UpdatesBy, get, get_by}
@@ -83,11 +83,25 @@ module _ {S T : Type 0} (Has : S → Rows T → Type 0) where
   pub kept_shelf : (shelf new : S) (id : ℕ) (row : Option T) → Refiles (Has shelf) (Has new) id row row → Refiles (IsShelved Has (Some shelf)) (IsShelved Has (Some new)) id row row
   kept_shelf shelf new id row kept rows there known = (kept rows there known.0, still_some rows id row there known.1)
 
+  -- A shelf that the id was filed on has rows.
+  pub set_shelf : (shelf new : S) (id : ℕ) (before : Option T) (row : T) → Refiles (Has shelf) (Has new) id before (Some row) → Refiles (IsShelved Has (Some shelf)) (IsShelved Has (Some new)) id before (Some row)
+  set_shelf shelf new id before row put rows there known = (put rows there known.0, λ bare. some_here (sym (ap (λ b. cond b (Some row) (rows id)) (itself (nat_cmp id id) (nat_cmp_total.antisymm id id))) ∙ bare id))
+    where
+      some_here : Some row ≡ None → ⊥
+      some_here e = cc
+
   -- A shelf was written through what a map lent of it.
   pub written : {K : Type 0} (cmp : K → K → Ordering) (old new : BTreeMap K S) (k : K) (shelf shelf' : S) (id : ℕ) (b a : Option T) → Some shelf ≡ get cmp old k → UpdatesBy cmp (cmp k) old new (Some shelf') → Refiles (IsShelved Has (Some shelf)) (IsShelved Has (Some shelf')) id b a → RefilesAt cmp Has old new k id b a
   written cmp old new k shelf shelf' id b a was updates refiles = record {
     here = subst (λ s. Refiles (IsShelved Has s) (IsShelved Has (get cmp new k)) id b a) was (subst (λ s. Refiles (IsShelved Has (Some shelf)) (IsShelved Has s) id b a) (sym updates.1) refiles);
     apart = updates.2;
+  }
+
+  -- No shelf changed.
+  pub kept_at : {K : Type 0} (cmp : K → K → Ordering) (m : BTreeMap K S) (k : K) (id : ℕ) (b : Option T) → RefilesAt cmp Has m m k id b b
+  kept_at cmp m k id b = record {
+    here = λ rows there known. again (get cmp m k) rows id b there known;
+    apart = λ q off. refl;
   }
 
   -- No shelf changed, and the id was filed here by nothing.

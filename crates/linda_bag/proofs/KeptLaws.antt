@@ -1,5 +1,5 @@
 -- What an index has, beside the tree that keeps the tuples, once both were changed or neither.
-use Rattle.std.proofs.Common.{◌≡◌, ℕ, ◌==◌, Bool, true, false, cond, Option, Some, None, refl, sym, ap, subst, ◌∙◌, nat_cmp, BTreeMap}
+use Rattle.std.proofs.Common.{◌≡◌, ℕ, ◌==◌, Bool, true, false, cond, Option, Some, None, Result, Ok, Err, OnOk, OnErr, refl, sym, ap, subst, ◌∙◌, nat_cmp, BTreeMap}
 use Rattle.std.specs.Ordering.{is_eq}
 use Rattle.std.specs.Cmp.{nat_cmp_total, eq_by_cmp_equiv, unsigned_ties}
 use Rattle.std.specs.Map.{lookup}
@@ -32,6 +32,11 @@ module _ {T : Type 0} (Old New : Rows T → Type 0) (rows : Rows T) (id : ℕ) w
 
       back : (q : ℕ) → with_row (with_row rows id (Some row)) id None q ≡ rows q
       back q = twice q (is_eq (nat_cmp id q)) ∙ same_row rows id None none q
+
+-- What follows of each way that a call ends follows of the call.
+pub either_way : {A E P P' Q Q' X : Type 0} (r : Result A E) → OnOk r P → OnOk r P' → OnErr r Q → OnErr r Q' → (P → P' → X) → (Q → Q' → X) → X
+either_way (Ok a) p p' q q' done kept = done p p'
+either_way (Err e) p p' q q' done kept = kept q q'
 
 -- The test of the keys, either way round.
 told : (k q : ℕ) → (q == k) ≡ is_eq (nat_cmp k q)

@@ -10,7 +10,7 @@ use Rattle.std.specs.BTreeMap as tree
 use Rattle.std.specs.FinMap.{FinMap, get, insert, remove, len, from_entries, get-from_entries}
 use Rattle.linda_tuple.specs.Tuple.{Tuple}
 use Rattle.linda_bag.specs.Tuples.{unboxed}
-use Rattle.linda_maps.proofs.MapLaws.{same_map, get_inserted, get_removed, find_is_lookup, get_is_lookup, len_sorted}
+use Rattle.linda_maps.proofs.MapLaws.{same_map, same_map_by_key, get_inserted, get_removed, get_same, get_other, undone, find_is_lookup, get_is_lookup, len_sorted}
 
 -- what stands behind the box
 abbrev pub behind : Option (Box Tuple Global) → Option Tuple
@@ -71,9 +71,27 @@ module _ (t : BTreeMap ℕ (Box Tuple Global)) (m : FinMap nat_cmp Tuple) (same 
   pub none_behind : get (from_entries {R = nat_cmp} t.entries) k ≡ None → get m k ≡ None
   none_behind none = sym seen_behind ∙ ap behind (sym (get_is_lookup t k) ∙ none)
 
+  pub got_behind : (v : Box Tuple Global) → get (from_entries {R = nat_cmp} t.entries) k ≡ Some v → get m k ≡ Some v.value
+  got_behind v there = sym seen_behind ∙ ap behind (sym (get_is_lookup t k) ∙ there)
+
   pub some_behind : IsSome (get (from_entries {R = nat_cmp} t.entries) k) → IsSome (get m k)
   some_behind some = ap is_some (sym seen_behind) ∙ is_there (tree.get nat_cmp t k) ∙ ap is_some (sym (get_is_lookup t k)) ∙ some
     where
       is_there : (o : Option (Box Tuple Global)) → is_some (behind o) ≡ is_some o
       is_there None = refl
       is_there (Some b) = refl
+
+  pub put_behind : (new : BTreeMap ℕ (Box Tuple Global)) (v : Box Tuple Global) → tree.Updates nat_cmp t new k (Some v) → from_entries {R = nat_cmp} (unboxed new.entries) ≡ insert m k v.value
+  put_behind new v updates = one_set_behind t new k v updates ∙ ap (λ x. insert x k v.value) same
+
+  -- What was put under a new key was taken out again.
+  pub undone_behind : (mid new : BTreeMap ℕ (Box Tuple Global)) (v : Box Tuple Global) → tree.Updates nat_cmp t mid k (Some v) → tree.Updates nat_cmp mid new k None → get m k ≡ None → from_entries {R = nat_cmp} (unboxed new.entries) ≡ m
+  undone_behind mid new v put gone none = one_gone_behind mid new k gone ∙ ap (λ x. remove x k) (put_behind mid v put) ∙ undone m k v.value none
+
+  -- What was there was written again.
+  pub again_behind : (new : BTreeMap ℕ (Box Tuple Global)) (v w : Box Tuple Global) → tree.Updates nat_cmp t new k (Some v) → tree.get nat_cmp t k ≡ Some w → v.value ≡ w.value → from_entries {R = nat_cmp} (unboxed new.entries) ≡ m
+  again_behind new v w updates there equal =
+      put_behind new v updates
+      ∙ same_map_by_key (insert m k v.value) m k
+      (get_same m k v.value ∙ ap Some equal ∙ ap behind (sym there) ∙ seen_behind)
+      (λ q apart. get_other m k v.value q apart)

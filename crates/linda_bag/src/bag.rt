@@ -1,6 +1,7 @@
 //! What a bag promises, however it keeps its tuples.
 
-ghost use Rattle.std.specs.Prelude.{◌≡◌, ◌≤◌, ◌<◌, ℕ, None, IfNone, IfSome, IsSome, OnOk, OnErr};
+ghost use Rattle.std.specs.Prelude.{◌≡◌, ◌≤◌, ◌<◌, ℕ, None, Some, IfNone, IfSome, IsSome};
+ghost use Rattle.std.specs.Prelude.{OnOk, OnErr};
 ghost use Rattle.std.specs.Prelude.{option_copied};
 ghost use Rattle.std.specs.Ordering.{nat_cmp};
 ghost use Rattle.std.specs.BTreeSet.{contains};
@@ -79,6 +80,15 @@ pub trait Bag: Drop {
         ensures found { IfSome result (λ next. IsSome (map.get (contents self.now) next)) }
         ensures above { IfSome result (λ next. id ≤ next) }
         ensures least { IfSome result (λ next. (k : ℕ) → id ≤ k → k < next
+            → map.get (contents self.now) k ≡ None) }
+        ensures none { IfNone result ((k : ℕ) → id ≤ k → map.get (contents self.now) k ≡ None) };
+
+    /// The tuple of the least id that is not below `id`, with that id; nothing only if there is
+    /// none.
+    fn entry_from(&self, id: u64) -> Option<(u64, &Tuple)>
+        ensures found { IfSome result (λ e. map.get (contents self.now) e.0 ≡ Some e.1.now) }
+        ensures above { IfSome result (λ e. id ≤ e.0) }
+        ensures least { IfSome result (λ e. (k : ℕ) → id ≤ k → k < e.0
             → map.get (contents self.now) k ≡ None) }
         ensures none { IfNone result ((k : ℕ) → id ≤ k → map.get (contents self.now) k ≡ None) };
 }

@@ -1,6 +1,6 @@
 //! What every bag looks up in the tree that has its tuples by their ids.
 
-ghost use Rattle.std.specs.Prelude.{◌≡◌, ◌≤◌, ◌<◌, ◌↔◌, ℕ, false, None};
+ghost use Rattle.std.specs.Prelude.{◌≡◌, ◌≤◌, ◌<◌, ◌↔◌, ℕ, false, None, Some};
 ghost use Rattle.std.specs.Prelude.{IfNone, IfSome, IsSome, IsTrue};
 ghost use Rattle.std.specs.FinMap as map;
 ghost use Rattle.linda_tuple.specs.Matching.{Matches};
@@ -23,8 +23,20 @@ pub(crate) fn is_free_match<P: IdSet>(
     matches(template, tuple) && !passed.has(id)
 }
 
-/// The least id of the tree that is not below `id`.
+/// The least id of the tree that is not below `id`, with what stands under it.
 #[tactic(auto, using(crate::proofs::TreeLaws::get_is_lookup))]
+pub(crate) fn next_entry<T>(rows: &BTreeMap<u64, T>, id: u64) -> Option<(u64, &T)>
+    ensures found { IfSome result (λ e. map.get (rows_of rows.now) e.0 ≡ Some e.1.now) }
+    ensures above { IfSome result (λ e. id ≤ e.0) }
+    ensures least { IfSome result (λ e. (k : ℕ) → id ≤ k → k < e.0
+        → map.get (rows_of rows.now) k ≡ None) }
+    ensures none { IfNone result ((k : ℕ) → id ≤ k → map.get (rows_of rows.now) k ≡ None) }
+{
+    let (next, row) = rows.range(id..).next()?;
+    Some((*next, row))
+}
+
+/// The least id of the tree that is not below `id`.
 pub(crate) fn next_id<T>(rows: &BTreeMap<u64, T>, id: u64) -> Option<u64>
     ensures found { IfSome result (λ next. IsSome (map.get (rows_of rows.now) next)) }
     ensures above { IfSome result (λ next. id ≤ next) }
@@ -32,6 +44,6 @@ pub(crate) fn next_id<T>(rows: &BTreeMap<u64, T>, id: u64) -> Option<u64>
         → map.get (rows_of rows.now) k ≡ None) }
     ensures none { IfNone result ((k : ℕ) → id ≤ k → map.get (rows_of rows.now) k ≡ None) }
 {
-    let (next, _) = rows.range(id..).next()?;
-    Some(*next)
+    let (next, _) = next_entry(rows, id)?;
+    Some(next)
 }

@@ -75,16 +75,7 @@ impl Bag for IndexBag {
 
     fn insert(&mut self, id: u64, tuple: Tuple) -> Result<(), AllocError> {
         let tuple = Box::new(self.alloc, tuple)?;
-        self.index
-            .put(self.alloc, id, self.tuples.get(id), &*tuple)?;
-        match self.tuples.insert(id, tuple) {
-            Ok(()) => Ok(()),
-            Err(refused) => {
-                // Only a new id can be refused: it was in the index under no other tuple.
-                self.index.remove(id, &*refused);
-                Err(AllocError)
-            }
-        }
+        self.tuples.insert(self.alloc, &mut self.index, id, tuple)
     }
 
     fn remove(&mut self, id: u64) -> Option<Tuple> {
@@ -127,6 +118,10 @@ impl Bag for IndexBag {
 
     fn next_from(&self, id: u64) -> Option<u64> {
         self.tuples.next_from(id)
+    }
+
+    fn entry_from(&self, id: u64) -> Option<(u64, &Tuple)> {
+        self.tuples.entry_from(id)
     }
 }
 

@@ -5,7 +5,7 @@ ghost use Rattle.std.specs.Ordering.{nat_cmp};
 ghost use Rattle.std.specs.FinMap as map;
 
 use crate::bag::{Bag, Found};
-use crate::free_match::{is_free_match, next_id};
+use crate::free_match::{is_free_match, next_entry, next_id};
 use crate::id_set::IdSet;
 use linda_tuple::{Template, Tuple};
 use std::alloc::{AllocError, Global};
@@ -86,5 +86,9 @@ impl Bag for ListBag {
 
     fn next_from(&self, id: u64) -> Option<u64> {
         next_id(&self.tuples, id)
+    }
+
+    fn entry_from(&self, id: u64) -> Option<(u64, &Tuple)> {
+        next_entry(&self.tuples, id)
     }
 }

@@ -1,15 +1,18 @@
 //! Tuples by their ids, each behind a box: so the map's nodes are small, and a removal moves
 //! little.
 
-ghost use Rattle.std.specs.Prelude.{◌≡◌, ◌≤◌, ◌<◌, ℕ, None, IfErr, IfNone, IfSome, IsSome, OnOk};
+ghost use Rattle.std.specs.Prelude.{◌≡◌, ◌≤◌, ◌<◌, ℕ, None, Some, IfNone, IfSome, IsSome, OnOk};
 ghost use Rattle.std.specs.Prelude.{OnErr};
 ghost use Rattle.std.specs.Option.{option_copied};
 ghost use Rattle.std.specs.FinMap as map;
+ghost use Rattle.linda_bag.specs.Filing.{Refiles};
 
-use crate::free_match::next_id;
+use crate::free_match::{next_entry, next_id};
+use crate::shelf::Shelf;
 use linda_tuple::Tuple;
-use std::alloc::Global;
+use std::alloc::{AllocError, Global};
 use std::collections::BTreeMap;
+use std::collections::btree_map::Entry;
 use std::marker::Model;
 
 /// The tuples of a bag. Contracts see the finite map from their ids.
@@ -43,20 +46,39 @@ impl Tuples {
         }
     }
 
-    /// Puts the tuple under the id, in place of one that was there, which is dropped.
+    /// Puts the tuple under the id, in place of one that was there, which is dropped, and files the
+    /// id on the shelf by it, where it was filed by that one.
     ///
     /// # Errors
     ///
-    /// The tuple where memory runs out, and then all is as before. It comes only for a new id.
-    pub(crate) fn insert(&mut self, id: u64, tuple: Box<Tuple>) -> Result<(), Box<Tuple>>
+    /// `AllocError` if memory runs out, and then all is as before, and the tuple is dropped.
+    pub(crate) fn insert<S: Shelf<Tuple>>(
+        &mut self,
+        alloc: Global,
+        shelf: &mut S,
+        id: u64,
+        tuple: Box<Tuple>,
+    ) -> Result<(), AllocError>
         ensures ok { OnOk result (self.new ≡ map.insert self.old id tuple.value) }
+        ensures filed { OnOk result (Refiles (S.has shelf.old) (S.has shelf.new)
+            id (map.get self.old id) (Some tuple.value)) }
         ensures err { OnErr result (self.new ≡ self.old) }
-        ensures refused { IfErr result (λ refused. refused.value ≡ tuple.value) }
-        ensures absent { OnErr result (map.get self.old id ≡ None) }
+        ensures unfiled { OnErr result (Refiles (S.has shelf.old) (S.has shelf.new)
+            id (map.get self.old id) (map.get self.old id)) }
     {
-        match self.by_id.insert(id, tuple) {
-            Ok(_) => Ok(()),
-            Err(refused) => Err(refused.value.1),
+        match self.by_id.entry(id) {
+            Ok(Entry::Vacant(place)) => {
+                let kept = place.insert(tuple);
+                match shelf.put(alloc, id, None, &**kept) {
+                    Ok(()) => Ok(()),
+                    Err(error) => {
+                        self.by_id.remove(&id);
+                        Err(error)
+                    }
+                }
+            }
+            Ok(Entry::Occupied(place)) => replace(place.into_mut(), shelf, alloc, id, tuple),
+            Err(_) => Err(AllocError),
         }
     }
 
@@ -94,4 +116,38 @@ impl Tuples {
     {
         next_id(&self.by_id, id)
     }
+
+    /// The tuple of the least id that is not below `id`, with that id; nothing only if there is
+    /// none.
+    pub(crate) fn entry_from(&self, id: u64) -> Option<(u64, &Tuple)>
+        ensures found { IfSome result (λ e. map.get self.now e.0 ≡ Some e.1.now) }
+        ensures above { IfSome result (λ e. id ≤ e.0) }
+        ensures least { IfSome result (λ e. (k : ℕ) → id ≤ k → k < e.0
+            → map.get self.now k ≡ None) }
+        ensures none { IfNone result ((k : ℕ) → id ≤ k → map.get self.now k ≡ None) }
+    {
+        let (next, tuple) = next_entry(&self.by_id, id)?;
+        Some((next, &**tuple))
+    }
+}
+
+// Puts the tuple in the place of the one that is kept, and files the id by it; where memory runs
+// out all stays as it is.
+fn replace<S: Shelf<Tuple>>(
+    kept: &mut Box<Tuple>,
+    shelf: &mut S,
+    alloc: Global,
+    id: u64,
+    tuple: Box<Tuple>,
+) -> Result<(), AllocError>
+    ensures ok { OnOk result (kept.new.value ≡ tuple.value) }
+    ensures filed { OnOk result (Refiles (S.has shelf.old) (S.has shelf.new)
+        id (Some kept.old.value) (Some tuple.value)) }
+    ensures err { OnErr result (kept.new.value ≡ kept.old.value) }
+    ensures unfiled { OnErr result (Refiles (S.has shelf.old) (S.has shelf.new)
+        id (Some kept.old.value) (Some kept.old.value)) }
+{
+    shelf.put(alloc, id, Some(&**kept), &*tuple)?;
+    *kept = tuple;
+    Ok(())
 }

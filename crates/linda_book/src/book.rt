@@ -1,6 +1,7 @@
 //! The book of a server: for each client the number of its last numbered message, and the reply.
 
-ghost use Rattle.std.specs.Prelude.{◌≡◌, ◌≤◌, ◌<◌, ℕ, None, IfNone, IfSome, IsSome, OnOk, OnErr};
+ghost use Rattle.std.specs.Prelude.{◌≡◌, ◌≤◌, ◌<◌, ℕ, None, Some, IfNone, IfSome, IsSome};
+ghost use Rattle.std.specs.Prelude.{OnOk, OnErr};
 ghost use Rattle.std.specs.Option.{option_map};
 ghost use Rattle.std.specs.FinMap as map;
 ghost use Rattle.linda_book.specs.Entries.{left_in, number_in};
@@ -122,8 +123,8 @@ impl Book {
             → map.get self.now c ≡ None) }
         ensures none { IfNone result ((c : ℕ) → client ≤ c → map.get self.now c ≡ None) }
     {
-        let (next, _) = self.entries.range(client..).next()?;
-        Some(*next)
+        let (next, _) = self.entry_from(client)?;
+        Some(next)
     }
 
     /// The least client of the book that is above `client`; nothing only where there is none.
@@ -134,8 +135,34 @@ impl Book {
             → map.get self.now c ≡ None) }
         ensures none { IfNone result ((c : ℕ) → client < c → map.get self.now c ≡ None) }
     {
+        let (next, _) = self.entry_after(client)?;
+        Some(next)
+    }
+
+    /// The least client of the book that is not below `client`, with the number and the reply that
+    /// are kept for it; nothing only if there is none.
+    pub fn entry_from(&self, client: u32) -> Option<(u32, (u64, &KeptReply))>
+        ensures found { IfSome result (λ e. map.get self.now e.0 ≡ Some (e.1.0, e.1.1.now)) }
+        ensures above { IfSome result (λ e. client ≤ e.0) }
+        ensures least { IfSome result (λ e. (c : ℕ) → client ≤ c → c < e.0
+            → map.get self.now c ≡ None) }
+        ensures none { IfNone result ((c : ℕ) → client ≤ c → map.get self.now c ≡ None) }
+    {
+        let (next, entry) = self.entries.range(client..).next()?;
+        Some((*next, (entry.0, &entry.1)))
+    }
+
+    /// The least client of the book that is above `client`, with the number and the reply that are
+    /// kept for it; nothing only if there is none.
+    pub fn entry_after(&self, client: u32) -> Option<(u32, (u64, &KeptReply))>
+        ensures found { IfSome result (λ e. map.get self.now e.0 ≡ Some (e.1.0, e.1.1.now)) }
+        ensures above { IfSome result (λ e. client < e.0) }
+        ensures least { IfSome result (λ e. (c : ℕ) → client < c → c < e.0
+            → map.get self.now c ≡ None) }
+        ensures none { IfNone result ((c : ℕ) → client < c → map.get self.now c ≡ None) }
+    {
         let above = (Bound::Excluded(client), Bound::Unbounded);
-        let (next, _) = self.entries.range(above).next()?;
-        Some(*next)
+        let (next, entry) = self.entries.range(above).next()?;
+        Some((*next, (entry.0, &entry.1)))
     }
 }

@@ -1,2 +1,4 @@
 mod ReportLaws
 mod WholeLaws
+mod JsonLaws
+mod ObjectLaws

@@ -1,2 +1,4 @@
 pub mod Faults
 pub mod Whole
+pub mod Json
+pub mod Object

@@ -2,12 +2,13 @@
 //! stands and why, its form, how much it keeps and takes, its tuples and clients; or what is
 //! damaged, and what is whole before that.
 //!
-//! `write_report` ends well exactly where a server would open such banks, unless memory runs out or
-//! the output fails: where a state stands on them, or both are empty. Else it returns the fault
-//! that the server would return.
+//! `write_report` writes lines, and `write_json` one JSON object. Each ends well exactly where a
+//! server would open such banks, unless memory runs out or the output fails: where a state stands
+//! on them, or both are empty. Else it returns the fault that the server would return.
 #![tactic(auto)]
 
 mod fault;
+mod json;
 mod listing;
 mod output;
 mod report;
@@ -15,5 +16,6 @@ mod side;
 mod whole;
 
 pub use fault::{InspectFault, OutputFault};
+pub use json::write_json;
 pub use listing::Lists;
 pub use report::write_report;

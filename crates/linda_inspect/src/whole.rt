@@ -1,6 +1,7 @@
 //! What is whole before a damage.
 
 ghost use Rattle.std.specs.Prelude.{◌≡◌, ◌∷◌, ◌++◌, [], IfOk, IfSome};
+ghost use Rattle.linda_store_state.specs.State.{IsState};
 ghost use Rattle.linda_snap.specs.Stands.{StandsOn};
 ghost use Rattle.linda_journal.specs.declared.kinds.TheConstants.{CLOSED};
 ghost use Rattle.linda_inspect.specs.Whole.{IsOnFront};
@@ -29,8 +30,9 @@ pub(crate) fn whole_before(
     offset: usize,
     limit: usize,
 ) -> Result<Option<Chosen<IndexBag, MemDisk>>, OutputFault>
-    ensures { IfOk result (λ found. IfSome found (λ c.
+    ensures front { IfOk result (λ found. IfSome found (λ c.
         IsOnFront bytes.now offset c.bank.generation c.state)) }
+    ensures ranges { IfOk result (λ found. IfSome found (λ c. IsState c.state)) }
 {
     let mut end = offset;
     for _ in 0..CUTS {
@@ -54,7 +56,9 @@ fn open_front(
     front: &[u8],
     limit: usize,
 ) -> Result<Chosen<IndexBag, MemDisk>, ChoiceFault>
-    ensures { IfOk result (λ c. StandsOn (front.now ++ CLOSED ∷ []) c.bank.generation c.state) }
+    ensures front { IfOk result (λ c.
+        StandsOn (front.now ++ CLOSED ∷ []) c.bank.generation c.state) }
+    ensures ranges { IfOk result (λ c. IsState c.state) }
 {
     match closed(alloc, front) {
         Ok(bytes) => open_alone(alloc, bytes, limit),
@@ -77,7 +81,8 @@ fn open_alone(
     bytes: Vec<u8>,
     limit: usize,
 ) -> Result<Chosen<IndexBag, MemDisk>, ChoiceFault>
-    ensures { IfOk result (λ c. StandsOn bytes.items c.bank.generation c.state) }
+    ensures stands { IfOk result (λ c. StandsOn bytes.items c.bank.generation c.state) }
+    ensures ranges { IfOk result (λ c. IsState c.state) }
 {
     let disk = MemDisk::from_bytes(alloc, bytes)?;
     match choose_bank(alloc, disk, MemDisk::new(alloc), limit) {

@@ -51,4 +51,14 @@ one_less (Some left) = Some (left - 1)
 
 -- Nothing happened yet.
 abbrev pub no_tally : Tally
-no_tally = record { came = 0; over = 0; refused = 0; closed = 0; missed = 0; turned = none_refused }
+no_tally = record {
+  came = 0;
+  over = 0;
+  refused = 0;
+  closed = 0;
+  missed = 0;
+  turned = none_refused;
+  late = 0;
+  groups = 0;
+  messages = 0;
+}

@@ -72,6 +72,7 @@ with_told t (notices.Turned whys.Greeting) = record t { greeting = true }
 with_told t (notices.Turned whys.Malformed) = record t { malformed = true }
 with_told t notices.Unwatched = t
 with_told t notices.NoThread = t
+with_told t notices.NoStatus = t
 with_told t notices.Down = record t { down = true }
 
 -- those that were told, once what there is to tell is told

@@ -2,23 +2,27 @@
 //!
 //! - `serve` gives each connection of a listener its threads, over a server that they share;
 //!   `serve_watched` also tells a
-//!   `Watcher` what happens.
+//!   `Watcher` what happens, and answers what is asked over HTTP by the pages of a `Teller`.
 //! - The reading loop is that of linda_net_pump, and a client's connections are those of
 //!   linda_net_proxy: both are
 //!   named here too.
 #![tactic(auto)]
 
+mod coming;
 mod frames;
+mod limits;
 mod loops;
 mod marks;
 mod reader;
 mod refusals;
 mod seen;
 mod serving;
+mod status;
 mod troubles;
 mod watching;
 mod writer;
 
+pub use limits::Limits;
 pub use linda_net_proxy::{
     Arrival, FIRST_TRIES, Inbox, Link, MAX_TRIES, Proxy, ProxyFault, end, send,
 };
@@ -27,4 +31,5 @@ pub use linda_shared::{Gauge, Shared, SharedFault};
 pub use marks::Tally;
 pub use refusals::{Refused, Why};
 pub use serving::{serve, serve_loop, serve_watched};
+pub use status::{Status, Teller};
 pub use watching::{Notice, Watcher};

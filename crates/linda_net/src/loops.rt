@@ -6,6 +6,7 @@
 //! - A `Loop` has some of the connections (`Sessions`), and what of theirs goes to the server next
 //!   (`Batch`).
 //! - A `Connection` is read and written without waiting for it.
+//! - A `Lease` says when a client is late that holds a tuple and says nothing.
 //! - A `Relay` is what others hand to a loop: connections that came, and replies to its clients.
 //!   `Relays` has them all,
 //!   which loop serves which client, and what is counted.
@@ -13,6 +14,7 @@
 mod batch;
 mod connection;
 mod door;
+mod lease;
 mod place;
 mod posting;
 mod relay;
@@ -21,5 +23,6 @@ mod running;
 mod sessions;
 mod turns;
 
+pub(crate) use lease::Lease;
 pub(crate) use relays::Relays;
 pub(crate) use running::Loops;

@@ -26,6 +26,12 @@ pub struct Tally {
     pub missed: u64,
     /// How often clients were refused for what an operator may mend.
     pub turned: Refused,
+    /// How many connections were ended since their clients held a tuple and said nothing.
+    pub late: u64,
+    /// How many groups the loops served.
+    pub groups: u64,
+    /// How many messages those had.
+    pub messages: u64,
 }
 
 impl Tally {
@@ -40,6 +46,9 @@ impl Tally {
             closed: 0,
             missed: 0,
             turned: Refused::none(),
+            late: 0,
+            groups: 0,
+            messages: 0,
         }
     }
 }
@@ -53,6 +62,9 @@ pub(crate) struct Marks {
     closed: AtomicU64,
     missed: AtomicU64,
     turned: Counts,
+    late: AtomicU64,
+    groups: AtomicU64,
+    messages: AtomicU64,
     // What came of the last snapshot, until it is reported.
     snapshot: Mutex<Option<Notice>>,
 }
@@ -67,6 +79,9 @@ impl Marks {
             closed: AtomicU64::new(0),
             missed: AtomicU64::new(0),
             turned: Counts::new(),
+            late: AtomicU64::new(0),
+            groups: AtomicU64::new(0),
+            messages: AtomicU64::new(0),
             snapshot: Mutex::new(None),
         }
     }
@@ -81,6 +96,11 @@ impl Marks {
         let _ = self.over.fetch_add(1, Ordering::SeqCst);
     }
 
+    /// A connection is ended since its client holds a tuple and said nothing for too long.
+    pub(crate) fn lapses(&self) {
+        let _ = self.late.fetch_add(1, Ordering::SeqCst);
+    }
+
     /// A connection is closed since no thread can be had.
     pub(crate) fn closes(&self) {
         let _ = self.closed.fetch_add(1, Ordering::SeqCst);
@@ -89,6 +109,12 @@ impl Marks {
     /// A connection cannot be had.
     pub(crate) fn misses(&self) {
         let _ = self.missed.fetch_add(1, Ordering::SeqCst);
+    }
+
+    /// A group of so many messages is served.
+    pub(crate) fn serves(&self, count: usize) {
+        let _ = self.groups.fetch_add(1, Ordering::SeqCst);
+        let _ = self.messages.fetch_add(count as u64, Ordering::SeqCst);
     }
 
     /// This reply goes out: if it says that the bank is full, or refuses its client for what an
@@ -121,6 +147,9 @@ impl Marks {
             closed: self.closed.load(Ordering::SeqCst),
             missed: self.missed.load(Ordering::SeqCst),
             turned: self.turned.now(),
+            late: self.late.load(Ordering::SeqCst),
+            groups: self.groups.load(Ordering::SeqCst),
+            messages: self.messages.load(Ordering::SeqCst),
         }
     }
 }

@@ -3,11 +3,13 @@
 ghost use Rattle.std.specs.Prelude.{◌≡◌, ◌*◌, ◌-◌, ◌<◌, ◌≤◌, ◌^◌, min, true, false, Some, None};
 ghost use Rattle.std.specs.Prelude.{IsOk, IsErrOf};
 ghost use Rattle.std.specs.Duration.{as_nanos};
-ghost use Rattle.linda_net.specs.Counting.{one_less};
 
-use crate::loops::Loops;
+use crate::coming::{REST, one_less};
+use crate::limits::Limits;
+use crate::loops::{Loops, Relays};
 use crate::marks::{Marks, Tally};
 use crate::reader::read_messages;
+use crate::status::{Station, Status, Teller, Unasked};
 use crate::watching::{Notice, Silent, Watcher, take_snapshot, tell, watch};
 use crate::writer::{Writer, write_news};
 use linda_disk::Disk;
@@ -27,10 +29,6 @@ const LOOK: u64 = 100;
 /// however full the bank is, messages are served most of the time.
 const PAUSES: u64 = 3;
 
-/// How long nobody is let in where a connection could not be had, as where no file is left for it,
-/// in milliseconds.
-const REST: u64 = 10;
-
 /// Serves the connections that come, each in two threads of its own: one reads, submits what came,
 /// 64 messages at most at once, and writes what that led to; the other writes what others' messages
 /// send. If a number is given, so many connections are served, and it ends when the last of them
@@ -49,18 +47,22 @@ pub fn serve<D: Disk + Send, L: Ledger + Send + Sync, R: Threads + Wait + Clock 
     shared: &Shared<D, L>,
     sessions: Option<u32>,
 ) -> Result<(), SharedFault> {
-    let (ended, _) = serve_watched(rt, alloc, listener, shared, sessions, &Mutex::new(Silent));
+    let station: Option<io::Result<Station<Unasked>>> = None;
+    let watcher = Mutex::new(Silent);
+    let (ended, _) = serve_beside(rt, alloc, listener, shared, sessions, &watcher, station);
     ended
 }
 
 /// Serves as `serve` does, and a thread of its own reports to a watcher what happens, until all
-/// connections are over: nobody else waits for it. Returns how it ended, as `serve` does, and how
-/// often what happened.
+/// connections are over: nobody else waits for it. If there is a status another thread answers what
+/// is asked there, which takes the server for no longer than its numbers are read. Returns how it
+/// ended, as `serve` does, and how often what happened.
 pub fn serve_watched<
     D: Disk + Send,
     L: Ledger + Send + Sync,
-    R: Threads + Wait + Clock + Sync,
+    R: Net + Threads + Wait + Clock + Sync,
     T: Watcher + Send,
+    A: Teller + Send + Drop,
 >(
     rt: &R,
     alloc: Global,
@@ -68,6 +70,27 @@ pub fn serve_watched<
     shared: &Shared<D, L>,
     sessions: Option<u32>,
     watcher: &Mutex<T>,
+    status: Option<Status<A>>,
+) -> (Result<(), SharedFault>, Tally) {
+    let station = opened(rt, alloc, status);
+    serve_beside(rt, alloc, listener, shared, sessions, watcher, station)
+}
+
+// Serves with two threads for each connection, beside a station if one is asked for.
+fn serve_beside<
+    D: Disk + Send,
+    L: Ledger + Send + Sync,
+    R: Threads + Wait + Clock + Sync,
+    T: Watcher + Send,
+    A: Teller + Send + Drop,
+>(
+    rt: &R,
+    alloc: Global,
+    listener: &TcpListener,
+    shared: &Shared<D, L>,
+    sessions: Option<u32>,
+    watcher: &Mutex<T>,
+    station: Option<io::Result<Station<A>>>,
 ) -> (Result<(), SharedFault>, Tally) {
     let is_over = Mutex::new(false);
     let over = &is_over;
@@ -75,6 +98,7 @@ pub fn serve_watched<
     let marks = &counts;
     thread::scope(thread::scope_env(), rt, |scope| {
         begin_beside(scope, rt, shared, over, marks, watcher);
+        begin_station(scope, rt, shared, over, marks, watcher, station);
         accept_all(rt, alloc, listener, shared, marks, sessions);
         *over.lock(rt) = true;
     });
@@ -84,39 +108,94 @@ pub fn serve_watched<
 /// Serves as `serve_watched` does, but not with two threads for each connection: a few loops, each
 /// in a thread of its own, read what came and write what is sent. A loop takes what its connections
 /// have to the server as one group, those messages first of which no deed comes. An idle connection
-/// costs no thread. If the system has no room for a loop, it serves as `serve_watched` does.
+/// costs no thread. A client that holds a tuple and says nothing for longer than the limits allow
+/// has its connection ended. If the system has no room for a loop, and there is no such limit, it
+/// serves as `serve_watched` does.
+///
+/// # Errors
+///
+/// As `serve` returns them. `NoThread`: there is no room for the loops, and nobody was served.
 pub fn serve_loop<
     D: Disk + Send,
     L: Ledger + Send + Sync,
     R: Net + Threads + Wait + Clock + Sync,
     T: Watcher + Send,
+    A: Teller + Send + Drop,
 >(
     rt: &R,
     alloc: Global,
     listener: TcpListener,
     shared: &Shared<D, L>,
-    sessions: Option<u32>,
+    limits: Limits,
     watcher: &Mutex<T>,
+    status: Option<Status<A>>,
 ) -> (Result<(), SharedFault>, Tally) {
     let Ok((loops, relays)) = Loops::begin(rt, alloc) else {
-        return serve_watched(rt, alloc, &listener, shared, sessions, watcher);
+        return serve_plainly(rt, alloc, &listener, shared, limits, watcher, status);
     };
     if listener.set_nonblocking(true).is_err() {
-        return serve_watched(rt, alloc, &listener, shared, sessions, watcher);
+        return serve_plainly(rt, alloc, &listener, shared, limits, watcher, status);
     }
     let mut loops = loops;
-    if loops.open(listener, sessions).is_err() {
+    if loops.open(listener, limits).is_err() {
         return (Err(SharedFault::NoThread), Tally::none());
     }
+    let station = opened(rt, alloc, status);
+    let held = Mutex::new(Some(loops));
+    let all = &held;
     let is_over = Mutex::new(false);
     let over = &is_over;
     let lent = &relays;
     thread::scope(thread::scope_env(), rt, |scope| {
         begin_beside(scope, rt, shared, over, &lent.marks, watcher);
-        loops.run(rt, shared, lent);
+        begin_station(scope, rt, shared, over, &lent.marks, watcher, station);
+        run_loops(rt, shared, lent, all);
         *over.lock(rt) = true;
     });
     (ended(shared.is_down(rt)), relays.marks.tally())
+}
+
+// Runs the loops to their end; once.
+fn run_loops<D: Disk + Send, L: Ledger + Send + Sync, R: Threads + Wait + Clock + Sync>(
+    rt: &R,
+    shared: &Shared<D, L>,
+    relays: &Relays,
+    held: &Mutex<Option<Loops<L>>>,
+) {
+    let taken = held.lock(rt).take();
+    if let Some(loops) = taken {
+        loops.run(rt, shared, relays);
+    }
+}
+
+// Serves by threads if there is no room for loops: unless a limit is set that threads do not keep.
+fn serve_plainly<
+    D: Disk + Send,
+    L: Ledger + Send + Sync,
+    R: Net + Threads + Wait + Clock + Sync,
+    T: Watcher + Send,
+    A: Teller + Send + Drop,
+>(
+    rt: &R,
+    alloc: Global,
+    listener: &TcpListener,
+    shared: &Shared<D, L>,
+    limits: Limits,
+    watcher: &Mutex<T>,
+    status: Option<Status<A>>,
+) -> (Result<(), SharedFault>, Tally) {
+    if limits.lease.is_some() {
+        return (Err(SharedFault::NoThread), Tally::none());
+    }
+    serve_watched(
+        rt,
+        alloc,
+        listener,
+        shared,
+        limits.sessions,
+        watcher,
+        status,
+    )
 }
 
 // Begins the threads beside those of connections: one tells the watcher, one takes snapshots, until
@@ -143,6 +222,47 @@ fn begin_beside<
     let renews = scope.spawn(move || take_snapshots(rt, shared, marks, over));
     if renews.is_err() {
         tell(rt, shared, marks, watcher, Notice::NoThread);
+    }
+}
+
+// The station of a status, if there is one; or why it cannot be had.
+fn opened<R: Net, A: Teller + Drop>(
+    rt: &R,
+    alloc: Global,
+    status: Option<Status<A>>,
+) -> Option<io::Result<Station<A>>> {
+    let status = status?;
+    Some(Station::open(rt, alloc, status))
+}
+
+// Begins the thread that answers what is asked, until it is over, if there is a station.
+fn begin_station<
+    's,
+    E,
+    D: Disk + Send,
+    L: Ledger + Send + Sync,
+    R: Threads + Wait + Clock + Sync,
+    T: Watcher,
+    A: Teller + Send + Drop + 's,
+>(
+    scope: &'s Scope<'s, E>,
+    rt: &'s R,
+    shared: &'s Shared<D, L>,
+    over: &'s Mutex<bool>,
+    marks: &'s Marks,
+    watcher: &'s Mutex<T>,
+    station: Option<io::Result<Station<A>>>,
+) {
+    let Some(station) = station else {
+        return;
+    };
+    let Ok(station) = station else {
+        tell(rt, shared, marks, watcher, Notice::NoStatus);
+        return;
+    };
+    let begun = scope.spawn(move || station.run(rt, shared, marks, over));
+    if begun.is_err() {
+        tell(rt, shared, marks, watcher, Notice::NoStatus);
     }
 }
 
@@ -219,16 +339,6 @@ fn begin<'s, E, D: Disk + Send, L: Ledger + Send + Sync, R: Threads + Wait + Clo
     if begun.is_err() {
         marks.closes();
         marks.ends();
-    }
-}
-
-// One connection fewer, where they are counted.
-fn one_less(left: Option<u32>) -> Option<u32>
-    ensures { result ≡ one_less left }
-{
-    match left {
-        Some(left) => Some(left.saturating_sub(1)),
-        None => None,
     }
 }
 

@@ -107,6 +107,7 @@ impl Troubles {
             Notice::Turned(Why::Malformed) => self.malformed = true,
             Notice::Unwatched => {}
             Notice::NoThread => {}
+            Notice::NoStatus => {}
             Notice::Down => self.down = true,
         }
     }

@@ -43,6 +43,8 @@ pub enum Notice {
     Unwatched,
     /// No thread could be had for snapshots: none is taken.
     NoThread,
+    /// The system has no thread or no room for who answers what is asked: nothing is answered.
+    NoStatus,
     /// The server went down.
     Down,
 }

@@ -1,3 +1,4 @@
 pub mod Faults
 pub mod Address
 pub mod Minutes
+pub mod Status

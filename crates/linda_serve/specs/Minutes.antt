@@ -6,7 +6,7 @@ use Rattle.linda_serve.specs.declared.serving.minutes.Counted.{Counted}
 
 -- nothing was counted
 abbrev pub none_counted : Counted
-none_counted = record { deeds = 0; refused = 0; unserved = 0; turned = none_refused }
+none_counted = record { deeds = 0; refused = 0; unserved = 0; turned = none_refused; late = 0 }
 
 -- how many connections were not served: those for which no thread could be had, and those that
 -- could not be had
@@ -20,6 +20,7 @@ counted deeds tally = record {
   refused = tally.refused;
   unserved = unserved tally;
   turned = tally.turned;
+  late = tally.late;
 }
 
 -- how much more there is than before
@@ -29,4 +30,5 @@ more_counted now before = record {
   refused = now.refused - before.refused;
   unserved = now.unserved - before.unserved;
   turned = more_than now.turned before.turned;
+  late = now.late - before.late;
 }

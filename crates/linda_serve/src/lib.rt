@@ -6,7 +6,8 @@
 //!   there is a sink, a `Log`
 //!   of what happens goes there: a line for each `Notice` of linda_net, one at the begin and one at
 //!   the end, with its `Cause`.
-//! - `inspect_folder` says what it comes to, and opens its files for reading alone.
+//! - `inspect_folder` says what it comes to, and opens its files only for reading;
+//!   `inspect_folder_as_json` does so as one JSON object.
 //!
 //! Where one of them ends otherwise a `ServingFault` says why.
 #![tactic(auto)]
@@ -15,7 +16,7 @@ mod bank_file;
 mod inspecting;
 mod serving;
 
-pub use inspecting::inspect_folder;
+pub use inspecting::{inspect_folder, inspect_folder_as_json};
 pub use linda_disk::{FileCall, FileTrouble};
 pub use linda_net::{Gauge, Notice, Refused, Tally, Watcher, Why};
 pub use serving::{Cause, InUse, Log, Plan, ServingFault, open_store, serve_folder, stamp_of};

@@ -6,6 +6,7 @@ mod heap;
 mod log;
 mod minutes;
 mod stamp;
+mod status;
 mod store;
 
 ghost use Rattle.std.specs.Prelude.{◌≡◌, ◌<◌, false, IfOk, OnErr, OnOk};
@@ -16,12 +17,13 @@ pub use fault::ServingFault;
 use fault::served;
 use heap::keep_heap;
 use linda_disk::FileDisk;
-use linda_net::{Shared, SharedFault, Tally, serve_loop, serve_watched};
+use linda_net::{Limits, Shared, SharedFault, Status, Tally, serve_loop, serve_watched};
 use linda_server::Durable;
 pub use linda_server::InUse;
 use linda_shared_accounts::PARTS;
 pub use log::{Cause, Log};
 pub use stamp::stamp_of;
+use status::Numbers;
 use std::alloc::Global;
 use std::fs::{File, Files};
 use std::hash::RandomState;
@@ -46,13 +48,19 @@ pub struct Plan<'a> {
     pub folder: &'a str,
     /// After how many connections it ends, if it does.
     pub sessions: Option<u32>,
+    /// For how many seconds a client may hold a tuple and say nothing, if that is limited; only
+    /// loops keep it.
+    pub lease: Option<u32>,
     /// Whether each connection has two threads; else a few loops serve all of them.
     pub by_threads: bool,
+    /// On which port of this machine the server says over HTTP how it does, if it does.
+    pub status: Option<u16>,
 }
 
 /// Serves the store in a folder to clients that connect to a port of this machine, and writes
 /// `ready PORT` once it listens. If there is a sink, it gets a log, as docs/OPERATING.md has it; a
-/// line that cannot be written there is lost.
+/// line that cannot be written there is lost. If there is a port for it, the server says there how
+/// it does, as docs/OPERATING.md has it too.
 ///
 /// If the last snapshot was cut off, its room is given back. The next one is put off until there
 /// are as many records more as make one due, unless the bank in use is in the old form or a deed is
@@ -60,7 +68,7 @@ pub struct Plan<'a> {
 ///
 /// # Errors
 ///
-/// As `open_store` returns them, and then `Io` if the port cannot be listened on, or the output
+/// As `open_store` returns them, and then `Io` if a port cannot be listened on, or the output
 /// fails. `Down` if the server went down, at the next connection or at the end. `Memory`.
 pub fn serve_folder<
     F: Files<File = File>,
@@ -164,13 +172,26 @@ fn listen_and_serve<
     let shared: Shared<FileDisk, L> = share(rt, alloc, server, blank)?;
     keep_heap(alloc);
     let listener = listen(rt, plan.port)?;
+    let status = listen_for_status(rt, plan.status)?;
     log.tell_opened(rt, port_of(&listener)?, bank, &shared.gauge(rt));
     tell_ready(alloc, writer, &listener)?;
     let watcher = Mutex::new(log);
     let (ended, tally) = if plan.by_threads {
-        serve_watched(rt, alloc, &listener, &shared, plan.sessions, &watcher)
+        serve_watched(
+            rt,
+            alloc,
+            &listener,
+            &shared,
+            plan.sessions,
+            &watcher,
+            status,
+        )
     } else {
-        serve_loop(rt, alloc, listener, &shared, plan.sessions, &watcher)
+        let limits = Limits {
+            sessions: plan.sessions,
+            lease: plan.lease,
+        };
+        serve_loop(rt, alloc, listener, &shared, limits, &watcher, status)
     };
     tell_end(rt, watcher.into_inner(), shared, ended, &tally)
 }
@@ -226,6 +247,19 @@ fn listen<S: Net<Listener = TcpListener, Stream = TcpStream>>(
         Ok(listener) => Ok(listener),
         Err(_) => Err(ServingFault::Io),
     }
+}
+
+// Listens where it is asked how the server does, if there is a port for that.
+fn listen_for_status<S: Net<Listener = TcpListener, Stream = TcpStream>>(
+    rt: &S,
+    port: Option<u16>,
+) -> Result<Option<Status<Numbers>>, ServingFault> {
+    let Some(port) = port else {
+        return Ok(None);
+    };
+    let listener = listen(rt, port)?;
+    let teller = Numbers;
+    Ok(Some(Status { listener, teller }))
 }
 
 // On which port it listens.

@@ -1,6 +1,7 @@
 //! Messages of several sessions that are served together.
 
-ghost use Rattle.std.specs.Prelude.{◌≡◌, ◌+◌, ◌<◌, vec_len, true, IfOk, IfSome};
+ghost use Rattle.std.specs.Prelude.{◌≡◌, ◌+◌, ◌<◌, ◌==◌, ◌&&◌, ◌⊎◌, nat_lt, vec_len, true};
+ghost use Rattle.std.specs.Prelude.{IfOk, IfSome, IfNone};
 ghost use Rattle.linda_shared_accounts.specs.Account.{account_of};
 ghost use Rattle.linda_shared_accounts.specs.declared.limits.TheConstants.{MOST_ASKED};
 ghost use Rattle.linda_store_step.specs.declared.size.TheConstants.{MAX_BATCH};
@@ -73,6 +74,7 @@ impl<L: Ledger> Group<L> {
 
     /// Whether there is room for one message more, and no answer waits to be heard.
     pub fn has_room(&self) -> bool
+        ensures is { result ≡ ((self.now.answered == 0) && nat_lt self.now.asked MAX_BATCH) }
         ensures room { result ≡ true → self.now.asked < MAX_BATCH }
         ensures none { result ≡ true → self.now.answered ≡ 0 }
     {
@@ -109,15 +111,19 @@ impl<L: Ledger> Group<L> {
     }
 
     /// The next message that was answered, in order, with its answer; nothing before the group was
-    /// served.
+    /// served, and once all answers are taken.
     pub fn next(&mut self) -> Option<(Message, Answered<Sender, L>)>
         ensures fewer { IfSome result (λ _. (self.new.answered + 1 ≡ self.old.answered)
             × (self.new.asked ≡ self.old.asked)) }
+        ensures none { IfNone result ((0 < self.old.asked) ⊎ (self.old.answered ≡ 0)) }
+        ensures same { IfNone result (self.new ≡ self.old) }
     {
         if !self.asked.is_empty() {
             return None;
         }
-        let answered = self.answered.pop()?;
+        let Some(answered) = self.answered.pop() else {
+            return None;
+        };
         let message = self.messages.pop()?;
         Some((message.1, answered))
     }

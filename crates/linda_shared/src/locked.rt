@@ -1,6 +1,6 @@
 //! The server, and the batch in hand.
 
-ghost use Rattle.std.specs.Prelude.{◌≡◌, ◌++◌, ℕ, [], true, false, All, IsTrue};
+ghost use Rattle.std.specs.Prelude.{◌≡◌, ◌++◌, ℕ, [], true, false, None, All, IsTrue, IfNone};
 ghost use Rattle.linda_shared_outbox.specs.Waiting.{waits_for};
 ghost use Rattle.linda_shared_outbox.specs.Replies.{handed_out};
 
@@ -8,6 +8,7 @@ use crate::batch::Batch;
 use crate::shared::Post;
 use linda_disk::Disk;
 use linda_shared_held::Held;
+use linda_shared_outbox::Sent;
 use linda_shared_queue::Router;
 use std::alloc::Global;
 use std::sync::Wait;
@@ -47,11 +48,8 @@ impl<D: Disk, L: Ledger> Locked<D, L> {
         ensures deliveries { router.new.deliveries ≡ router.old.deliveries }
         ensures same { self.new.is_given_up ≡ self.old.is_given_up }
     {
-        if self.is_given_up {
-            return;
-        }
         for _ in rt.forever() {
-            let Some(sent) = self.held.drain_next(alloc) else {
+            let Some(sent) = self.next_posted(alloc) else {
                 return;
             };
             router.take_replies(rt, sent);
@@ -66,14 +64,25 @@ impl<D: Disk, L: Ledger> Locked<D, L> {
         ensures none { self.old.is_given_up ≡ true → posts.new ≡ posts.old }
         ensures same { self.new.is_given_up ≡ self.old.is_given_up }
     {
-        if self.is_given_up {
-            return;
-        }
         for _ in rt.forever() {
-            let Some(sent) = self.held.drain_next(alloc) else {
+            let Some(sent) = self.next_posted(alloc) else {
                 return;
             };
             posts.post(rt, sent);
         }
+    }
+
+    // The next replies that are posted, and whose.
+    fn next_posted(&mut self, alloc: Global) -> Option<Sent>
+        // Nothing only if nothing is left, or if the server was given up: then nothing goes out.
+        ensures all { self.old.is_given_up ≡ false → IfNone result ((c : ℕ)
+            → handed_out (waits_for self.new.held.boxes c) ≡ []) }
+        ensures none { self.old.is_given_up ≡ true → result ≡ None }
+        ensures same { self.new.is_given_up ≡ self.old.is_given_up }
+    {
+        if self.is_given_up {
+            return None;
+        }
+        self.held.drain_next(alloc)
     }
 }

@@ -99,6 +99,11 @@ impl<D: Disk, L: Ledger> Shared<D, L> {
         self.locked.lock(rt).held.gauge()
     }
 
+    /// How many tuples are held for the client now.
+    pub fn holds_of<R: Wait>(&self, rt: &R, client: u32) -> usize {
+        self.locked.lock(rt).held.holds_of(client)
+    }
+
     /// How many clients have a mailbox here: as many as have a seat.
     pub fn mailboxes<R: Wait>(&self, rt: &R) -> usize {
         self.router.lock(rt).len()

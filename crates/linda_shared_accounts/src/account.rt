@@ -11,8 +11,8 @@ ghost use Rattle.linda_shared_accounts.specs.Effect.{weight};
 use crate::effect::Effect;
 use crate::job::{Answered, Asked};
 use crate::limits::{ACCOUNT_PARTS, MOST_ASKED};
-use crate::receipt::Receipt;
 use crate::ring::Ring;
+use crate::shared_receipt::SharedReceipt;
 use std::marker::Model;
 use std::sync::ledger::{Ledger, Share};
 
@@ -122,7 +122,7 @@ impl<L: Ledger> Account<L> {
 
     /// Notes a receipt, where it is of this client and its number is above all others; else nothing
     /// changes.
-    pub fn note(&mut self, receipt: Receipt) -> bool
+    pub fn note(&mut self, receipt: SharedReceipt) -> bool
         ensures noted { result ≡ true → IsNext self.old.client self.old.ring receipt × (self.new
             ≡ account_of self.old.client self.old.deeds self.old.asked
             (with_receipt self.old.ring receipt)) }

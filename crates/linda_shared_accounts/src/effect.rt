@@ -4,13 +4,13 @@ ghost use Rattle.std.specs.Prelude.{◌≡◌, ◌≤◌};
 ghost use Rattle.linda_shared_accounts.specs.Effect as spec;
 
 use crate::fault::SharedFault;
-use crate::receipt::Receipt;
+use crate::shared_receipt::SharedReceipt;
 
 /// What one message led to.
 #[derive(Debug, Drop)]
 pub enum Effect {
     /// A deed.
-    Deed(Receipt),
+    Deed(SharedReceipt),
     /// No deed.
     NoDeed,
     /// Nothing was done.
@@ -19,7 +19,7 @@ pub enum Effect {
 
 impl Effect {
     /// What is told of a message, given the receipt of its deed, if it made one.
-    pub fn of(receipt: Option<Receipt>) -> Effect
+    pub fn of(receipt: Option<SharedReceipt>) -> Effect
         ensures { result ≡ spec.told_of receipt }
     {
         match receipt {

@@ -23,6 +23,7 @@ mod places;
 mod receipt;
 mod ring;
 mod send;
+mod shared_receipt;
 mod telling;
 mod tokens;
 
@@ -41,4 +42,5 @@ pub use place::Place;
 pub use receipt::Receipt;
 pub use ring::Ring;
 pub use send::{account_crosses, accounts_cross, jobs_cross};
+pub use shared_receipt::SharedReceipt;
 pub use telling::receipts_of;

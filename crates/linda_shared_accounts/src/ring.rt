@@ -11,7 +11,7 @@ ghost use Rattle.linda_shared_accounts.specs.Ring.{with_receipt};
 ghost use Rattle.linda_shared_accounts.specs.Agreement.{AgreesWith, HasRival};
 
 use crate::limits::RING_SIZE;
-use crate::receipt::Receipt;
+use crate::shared_receipt::SharedReceipt;
 use circular_buffer::HeapCircularBuffer;
 use std::alloc::{AllocError, Global};
 use std::marker::Model;
@@ -20,7 +20,7 @@ use std::marker::Model;
 #[derive(Drop)]
 pub struct Ring {
     client: u32,
-    receipts: HeapCircularBuffer<Receipt>,
+    receipts: HeapCircularBuffer<SharedReceipt>,
 }
 
 impl Model for Ring {
@@ -61,7 +61,7 @@ impl Ring {
     }
 
     /// The last one.
-    pub fn last(&self) -> Option<&Receipt>
+    pub fn last(&self) -> Option<&SharedReceipt>
         ensures is { option_copied result ≡ last_item self.now.receipts }
         ensures ring { IsRing self.now.client self.now.receipts }
     {
@@ -80,7 +80,7 @@ impl Ring {
 
     /// Notes one more, where it is of this client and its number is above all others; the oldest
     /// goes where there is no room. Else nothing changes.
-    pub fn note(&mut self, receipt: Receipt) -> bool
+    pub fn note(&mut self, receipt: SharedReceipt) -> bool
         ensures noted { result ≡ true → IsNext self.old.client self.old.receipts receipt
             × (self.new ≡ ring_of self.old.client (with_receipt self.old.receipts receipt)) }
         ensures refused { result ≡ false
@@ -118,7 +118,7 @@ impl Ring {
     }
 
     /// Whether each receipt here of that one's number is that one.
-    pub fn agrees(&self, other: &Receipt) -> bool
+    pub fn agrees(&self, other: &SharedReceipt) -> bool
         ensures agrees { result ≡ true → AgreesWith self.now.receipts other.now }
         ensures differs { result ≡ false → HasRival self.now.receipts other.now }
     {
@@ -134,7 +134,7 @@ impl Ring {
     }
 
     // Whether all receipts here have numbers above that one's. Then none has its number.
-    fn is_newer(&self, other: &Receipt) -> bool
+    fn is_newer(&self, other: &SharedReceipt) -> bool
         ensures { result ≡ true → AgreesWith self.now.receipts other.now }
     {
         match self.receipts.front() {
@@ -145,7 +145,7 @@ impl Ring {
 }
 
 // Drops those with numbers up to this one, but never the last.
-fn drop_up_to(receipts: &mut HeapCircularBuffer<Receipt>, floor: u64)
+fn drop_up_to(receipts: &mut HeapCircularBuffer<SharedReceipt>, floor: u64)
     ensures capacity { receipts.new.capacity ≡ receipts.old.capacity }
     ensures cut { IsCut receipts.old.items receipts.new.items }
     ensures kept { KeepsAbove floor receipts.old.items receipts.new.items }
@@ -158,7 +158,7 @@ fn drop_up_to(receipts: &mut HeapCircularBuffer<Receipt>, floor: u64)
 }
 
 // Whether there are several, and the first one has a number up to this one.
-fn has_old(receipts: &HeapCircularBuffer<Receipt>, floor: u64) -> bool
+fn has_old(receipts: &HeapCircularBuffer<SharedReceipt>, floor: u64) -> bool
     ensures old { result ≡ true → (1 < length receipts.now.items)
         × (number_at (slice_get receipts.now.items 0) ≤ floor) }
     ensures above { result ≡ false → IsAbove floor receipts.now.items }

@@ -2,6 +2,7 @@
 
 ghost use Rattle.std.specs.Prelude.{◌≡◌, ℕ, List, drop, IfOk, length};
 ghost use Rattle.std.specs.List.{slice_get};
+ghost use Rattle.std.specs.Vec.Iter.{into_iter_items};
 ghost use Rattle.linda_wire.specs.declared.message.Message.{Message};
 ghost use Rattle.linda_store_state.specs.State as states;
 ghost use Rattle.linda_store_state.specs.State.{IsState};
@@ -11,38 +12,72 @@ ghost use Rattle.linda_shared_accounts.specs.Telling as spec;
 ghost use Rattle.linda_shared_accounts.specs.Telling.{HasTold, kept_of, told_by};
 
 use crate::receipt::Receipt;
-use linda_server::Served;
+use crate::shared_receipt::SharedReceipt;
+use linda_server::{Portion, Served};
 use linda_store_state::{Deed, KeptReply};
 use linda_wire::Reply;
 use std::alloc::{AllocError, Global};
+use std::vec::IntoIter;
 
-/// For each message the receipt of its deed, if it did one: what the messages' answers say.
+/// For each message the receipt of its deed, if it did one: what the messages' answers say. The
+/// receipts have the deeds; what is sent comes out beside them.
 ///
 /// # Errors
 ///
 /// `AllocError` where memory runs out.
-pub fn receipts_of(alloc: Global, served: &Served) -> Result<Vec<Option<Receipt>>, AllocError>
-    ensures told { IfOk result (λ told. told.items
-        ≡ told_by served.now.portions.items served.now.deeds.items served.now.sends.items) }
-    ensures each { IfOk result (λ told. length told.items ≡ length served.now.portions.items) }
-    ensures answers { IfOk result (λ told. (st new : states.State) (soft behind : Soft)
+pub fn receipts_of(
+    alloc: Global,
+    served: Served,
+) -> Result<(Vec<Option<SharedReceipt>>, Vec<(u32, Reply)>), AllocError>
+    ensures told { IfOk result (λ r. r.0.items
+        ≡ told_by served.portions.items served.deeds.items served.sends.items) }
+    ensures each { IfOk result (λ r. length r.0.items ≡ length served.portions.items) }
+    ensures answers { IfOk result (λ r. (st new : states.State) (soft behind : Soft)
         (ms : List (ℕ × Message))
-        → IsState st → IsServed st soft ms served.now new behind
-        → HasTold st soft ms told.items served.now.sends.items new behind) }
+        → IsState st → IsServed st soft ms served new behind
+        → HasTold st soft ms r.0.items served.sends.items new behind) }
+    ensures sends { IfOk result (λ r. r.1 ≡ served.sends) }
 {
-    let mut told = Vec::with_capacity(alloc, served.portions.len())?;
-    let mut deeds: &[Deed] = &served.deeds;
-    let mut sends: &[(u32, Reply)] = &served.sends;
-    for portion in &served.portions {
+    let Served {
+        deeds,
+        sends,
+        portions,
+    } = served;
+    let mut deeds = deeds.into_iter();
+    let told = tell_all(alloc, &mut deeds, &sends, &portions)?;
+    Ok((told, sends))
+}
+
+// For each portion the receipt of its deed, if it has one.
+fn tell_all(
+    alloc: Global,
+    deeds: &mut IntoIter<Deed>,
+    sends: &[(u32, Reply)],
+    portions: &[Portion],
+) -> Result<Vec<Option<SharedReceipt>>, AllocError>
+    ensures { IfOk result (λ told.
+        told.items ≡ told_by portions.now (into_iter_items deeds.old) sends.now) }
+{
+    let mut told = Vec::with_capacity(alloc, portions.len())?;
+    let mut rest = sends;
+    for portion in portions {
         if portion.has_deed {
-            told.push(receipt_at(alloc, deeds, sends)?)?;
-            deeds = behind(deeds, 1);
+            let deed = next_of(deeds);
+            told.push(receipt_for(alloc, deed, rest)?)?;
         } else {
             told.push(None)?;
         }
-        sends = behind(sends, portion.sends);
+        rest = behind(rest, portion.sends);
     }
     Ok(told)
+}
+
+// The next deed.
+fn next_of(deeds: &mut IntoIter<Deed>) -> Option<Deed>
+    ensures first { result ≡ slice_get (into_iter_items deeds.old) 0 }
+    ensures rest { into_iter_items deeds.new ≡ drop 1 (into_iter_items deeds.old) }
+{
+    deeds.next()
 }
 
 // What stands after so many.
@@ -56,23 +91,27 @@ fn behind<T>(xs: &[T], n: usize) -> &[T]
     }
 }
 
-// The receipt of the first deed, given what was sent of it first.
-fn receipt_at(
+// The receipt of a deed, given what was sent of it first.
+fn receipt_for(
     alloc: Global,
-    deeds: &[Deed],
+    deed: Option<Deed>,
     sends: &[(u32, Reply)],
-) -> Result<Option<Receipt>, AllocError>
-    ensures { IfOk result (λ r. r ≡ spec.receipt_for (slice_get deeds.now 0) sends.now) }
+) -> Result<Option<SharedReceipt>, AllocError>
+    ensures { IfOk result (λ r. r ≡ spec.receipt_for deed sends.now) }
 {
-    match (deeds, sends) {
-        ([deed, ..], [send, ..]) => receipt_with(alloc, deed, &send.1),
+    match (deed, sends) {
+        (Some(deed), [send, ..]) => receipt_with(alloc, deed, &send.1),
         _ => Ok(None),
     }
 }
 
 // The receipt of a deed that was answered so.
-fn receipt_with(alloc: Global, deed: &Deed, reply: &Reply) -> Result<Option<Receipt>, AllocError>
-    ensures { IfOk result (λ r. r ≡ spec.receipt_with deed.now (kept_of reply.now)) }
+fn receipt_with(
+    alloc: Global,
+    deed: Deed,
+    reply: &Reply,
+) -> Result<Option<SharedReceipt>, AllocError>
+    ensures { IfOk result (λ r. r ≡ spec.receipt_with deed (kept_of reply.now)) }
 {
     let reply = match reply {
         Reply::Stored { id, .. } => KeptReply::Stored(*id),
@@ -81,6 +120,6 @@ fn receipt_with(alloc: Global, deed: &Deed, reply: &Reply) -> Result<Option<Rece
         Reply::Left { .. } => KeptReply::Left,
         _ => return Ok(None),
     };
-    let deed = deed.try_clone(alloc)?;
-    Ok(Some(Receipt { deed, reply }))
+    let receipt = SharedReceipt::new(alloc, Receipt { deed, reply })?;
+    Ok(Some(receipt))
 }

@@ -3,7 +3,6 @@ use Rattle.std.proofs.Common.{◌≡◌, ℕ, ◌+◌, Bool, true, false, true�
 use Rattle.std.proofs.lemmas.List.{map-append}
 use Rattle.linda_wire.specs.declared.message.Message.{Message}
 use Rattle.linda_wire.specs.declared.reply.Reply.{Reply}
-use Rattle.linda_store_state.specs.declared.deed.Deed.{Deed}
 use Rattle.linda_store_state.specs.State.{State, IsState}
 use Rattle.linda_store_state.specs.Proper.{AreDone}
 use Rattle.linda_store_state.proofs.ProperLaws.{none_done, proper_state}
@@ -111,17 +110,17 @@ deeds_told st soft ms served new then told is has told_is =
 -- ---- the laws above, for a server that is given by its fields
 
 -- Those who asked are told.
-pub goes_on : (opening base : State) (rs0 rs1 rs2 : List Receipt) (count : ℕ) (was_down is_down : Bool) (before0 before1 : State) (store0 store1 : Store) (ms : List (ℕ × Message)) (served : Served) (told mine : List (Option Receipt))
-    → rs1 ≡ rs0 → rs2 ≡ rs1 ++ receipts_in mine → was_down ≡ false → is_down ≡ false
-    → told ≡ told_by served.portions.items served.deeds.items served.sends.items → mine ≡ told_by served.portions.items served.deeds.items served.sends.items
+pub goes_on : (opening base : State) (rs0 rs1 rs2 : List Receipt) (count : ℕ) (was_down is_down : Bool) (before0 before1 : State) (store0 store1 : Store) (ms : List (ℕ × Message)) (served : Served) (told : List (Option Receipt))
+    → rs1 ≡ rs0 → rs2 ≡ rs1 ++ receipts_in told → was_down ≡ false → is_down ≡ false
+    → told ≡ told_by served.portions.items served.deeds.items served.sends.items
     → IsServed store0.state store0.soft ms served store1.state store1.soft → IsInOrder opening base rs0 count was_down (known before0 store0 was_down)
     → IsInOrder opening base rs2 (count + length (receipts_in told)) is_down (known before1 store1 is_down)
-goes_on opening base rs0 rs1 rs2 count true is_down before0 before1 store0 store1 ms served told mine rs1_is rs2_is was is told_is mine_is done so = absurd (true≢false was)
-goes_on opening base rs0 rs1 rs2 count false true before0 before1 store0 store1 ms served told mine rs1_is rs2_is was is told_is mine_is done so = absurd (true≢false is)
-goes_on opening base rs0 rs1 rs2 count false false before0 before1 store0 store1 ms served told mine rs1_is rs2_is was is told_is mine_is done so =
+goes_on opening base rs0 rs1 rs2 count true is_down before0 before1 store0 store1 ms served told rs1_is rs2_is was is told_is done so = absurd (true≢false was)
+goes_on opening base rs0 rs1 rs2 count false true before0 before1 store0 store1 ms served told rs1_is rs2_is was is told_is done so = absurd (true≢false is)
+goes_on opening base rs0 rs1 rs2 count false false before0 before1 store0 store1 ms served told rs1_is rs2_is was is told_is done so =
     let st_is : IsState store0.state = state_is opening base rs0 count store0.state so in
     let has = has_told store0.state store1.state store0.soft store1.soft ms served told told_is st_is done in
-    let all : rs2 ≡ rs0 ++ receipts_in told = rs2_is ∙ (ap (λ l. l ++ receipts_in mine) rs1_is ∙ ap (λ l. rs0 ++ receipts_in l) (mine_is ∙ sym told_is)) in
+    let all : rs2 ≡ rs0 ++ receipts_in told = rs2_is ∙ ap (λ l. l ++ receipts_in told) rs1_is in
     subst (λ l. IsInOrder opening base l (count + length (receipts_in told)) false store1.state) (sym all)
     (told_more opening base rs0 count store0.state store0.soft ms told served.sends.items store1.state store1.soft so has)
 

@@ -1,5 +1,5 @@
 -- Seats that come back: for their clients' next sessions, or for good.
-use Rattle.std.specs.Prelude.{◌≡◌, ℕ, List, [], ◌∷◌, ◌++◌, true, false}
+use Rattle.std.specs.Prelude.{◌≡◌, List, [], ◌∷◌, ◌++◌, true, false}
 use Rattle.linda_shared_accounts.specs.declared.receipt.Receipt.{Receipt}
 use Rattle.linda_shared_accounts.specs.Account.{Account, account_of}
 use Rattle.linda_shared_accounts.specs.Ring.{IsCut}

@@ -5,6 +5,10 @@
 pub struct Gauge {
     /// How many tuples it keeps.
     pub tuples: usize,
+    /// How many of them are held for a client.
+    pub holds: usize,
+    /// How many asks wait for a tuple.
+    pub waits: usize,
     /// For how many clients it keeps a reply.
     pub clients: usize,
     /// The id that the next tuple gets.

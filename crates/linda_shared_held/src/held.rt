@@ -36,7 +36,7 @@ use linda_bag::IndexBag;
 use linda_disk::Disk;
 use linda_moment::Moment;
 use linda_server::Durable;
-use linda_shared_accounts::{Accounts, Answered, Asked, Effect, Receipt, SharedFault};
+use linda_shared_accounts::{Accounts, Answered, Asked, Effect, SharedFault, SharedReceipt};
 use linda_shared_outbox::Outboxes;
 use linda_store_state::State;
 use linda_wire::Message;
@@ -55,7 +55,7 @@ pub struct Held<D: Disk, L: Ledger> {
     opening: Moment<State<IndexBag>>,
     // The state at the last snapshot, or when it was made.
     base: Moment<State<IndexBag>>,
-    receipts: Vec<Receipt>,
+    receipts: Vec<SharedReceipt>,
     count: u64,
     accounts: Accounts<L>,
     ghost in_order: { ∥ IsInOrder opening.value base.value receipts.items count server.down

@@ -1,5 +1,5 @@
 -- What an account hears of an answer that is not copied.
-use Rattle.std.proofs.Common.{◌≡◌, ℕ, ◌+◌, ◌-◌, Some, ap, subst, ◌∙◌, Result, Ok, Err, OnOk}
+use Rattle.std.proofs.Common.{◌≡◌, ◌+◌, ◌-◌, Some, ap, subst, ◌∙◌, Result, Ok, Err, OnOk}
 use Rattle.linda_wire.specs.declared.message.Message.{Message}
 use Rattle.linda_store_step.specs.Reported.{IsDeedOf}
 use Rattle.linda_shared_accounts.specs.declared.receipt.Receipt.{Receipt}

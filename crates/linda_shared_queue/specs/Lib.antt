@@ -1,5 +1,6 @@
 pub mod Seat
 pub mod Heard
+pub mod Copied
 pub mod Hearing
 pub mod Router
 pub mod Queue

@@ -2,8 +2,10 @@
 
 ghost use Rattle.std.specs.Prelude.{◌≡◌, None, is_none, IfSome};
 ghost use Rattle.std.specs.Option.{ForSome};
+ghost use Rattle.linda_shared_queue.specs.Copied.{effect_of};
 
-use linda_shared_accounts::{Answered, Effect};
+use crate::copied::Copied;
+use linda_shared_accounts::Answered;
 use std::alloc::Global;
 use std::sync::ledger::Ledger;
 
@@ -15,8 +17,8 @@ pub struct Answer<L: Ledger> {
     client: u32,
     place: usize,
     answered: Answered<(), L>,
-    copy: Option<Effect>,
-    ghost same: { ForSome copy (λ told. told ≡ answered.told) },
+    copy: Option<Copied>,
+    ghost same: { ForSome copy (λ told. effect_of told ≡ answered.told) },
 }
 
 impl<L: Ledger> Answer<L> {
@@ -30,7 +32,7 @@ impl<L: Ledger> Answer<L> {
         ensures to { (result.client ≡ client) × (result.place ≡ place) }
         ensures told { result.answered.told ≡ answered.told }
     {
-        let copy = copy_of(alloc, answered.told());
+        let copy = Copied::of(alloc, answered.told());
         Answer {
             client,
             place,
@@ -70,25 +72,11 @@ impl<L: Ledger> Answer<L> {
     }
 
     /// The answer and its copy.
-    pub fn into_parts(self) -> (Answered<(), L>, Option<Effect>)
-        ensures same { IfSome result.1 (λ told. told ≡ result.0.told) }
+    pub fn into_parts(self) -> (Answered<(), L>, Option<Copied>)
+        ensures same { IfSome result.1 (λ told. effect_of told ≡ result.0.told) }
         ensures parts { (result.0.told ≡ self.answered.told) × (result.1 ≡ self.copy) }
     {
         let Answer { answered, copy, .. } = self;
         (answered, copy)
-    }
-}
-
-// A copy, where there is memory for one.
-fn copy_of(alloc: Global, told: &Effect) -> Option<Effect>
-    ensures { IfSome result (λ copy. copy ≡ told.now) }
-{
-    match told {
-        Effect::Deed(receipt) => match receipt.try_clone(alloc) {
-            Ok(copy) => Some(Effect::Deed(copy)),
-            Err(_) => None,
-        },
-        Effect::NoDeed => Some(Effect::NoDeed),
-        Effect::Failed(fault) => Some(Effect::Failed(*fault)),
     }
 }

@@ -10,7 +10,10 @@ ghost use Rattle.linda_shared_queue.specs.Hearing.{IsHeard, IsAnswered};
 ghost use Rattle.linda_shared_queue.specs.Seat.{with_told, back, IsLeft, IsLost, IsToldOf};
 
 use crate::answer::Answer;
-use linda_shared_accounts::{Account, Answered, Effect, Receipt, SharedFault, is_deed_of};
+use crate::copied::Copied;
+use linda_shared_accounts::{
+    Account, Answered, Effect, Receipt, SharedFault, SharedReceipt, is_deed_of,
+};
 use linda_wire::Message;
 use std::sync::ledger::Ledger;
 
@@ -40,9 +43,9 @@ pub fn hear<L: Ledger>(
         Effect::Deed(receipt) => {
             note(account, message, receipt)?;
             match copy {
-                Some(Effect::Deed(copy)) => Ok(Some(copy)),
-                Some(Effect::NoDeed) => unreachable!(),
-                Some(Effect::Failed(_)) => unreachable!(),
+                Some(Copied::Deed(copy)) => Ok(Some(copy)),
+                Some(Copied::NoDeed) => unreachable!(),
+                Some(Copied::Failed(_)) => unreachable!(),
                 None => Err(SharedFault::Down),
             }
         }
@@ -87,7 +90,7 @@ pub fn hear_answer<A: Drop, L: Ledger>(
 fn note<L: Ledger>(
     account: &mut Account<L>,
     message: &Message,
-    receipt: Receipt,
+    receipt: SharedReceipt,
 ) -> Result<(), SharedFault>
     ensures ok { OnOk result (account.new
         ≡ account_of account.old.client account.old.deeds account.old.asked
@@ -99,7 +102,7 @@ fn note<L: Ledger>(
 {
     let client = account.client();
     let number = receipt.number();
-    if !is_deed_of(client, message, &receipt.deed) {
+    if !is_deed_of(client, message, &receipt.get().deed) {
         return Err(SharedFault::Receipt { client, number });
     }
     if !account.note(receipt) {

@@ -20,6 +20,7 @@
 
 mod address;
 mod answer;
+mod copied;
 mod delivery;
 mod heard;
 mod hearing;
@@ -33,6 +34,7 @@ mod send;
 
 pub use address::Address;
 pub use answer::Answer;
+pub use copied::Copied;
 pub use delivery::Delivery;
 pub use heard::Heard;
 pub use hearing::{hear, hear_answer};

@@ -1,8 +1,8 @@
 //! The tuples of a state and the clients of its book, one after the other in the order of their
 //! numbers.
 
-ghost use Rattle.std.specs.Prelude.{◌≡◌, ◌∷◌, [], ◌<◌, ◌≤◌, ◌+◌, ℕ, suc, None, IfSome, IfNone};
-ghost use Rattle.std.specs.Prelude.{IsSome};
+ghost use Rattle.std.specs.Prelude.{◌≡◌, ◌∷◌, [], ◌<◌, ◌≤◌, ◌+◌, ℕ, suc, None, Some};
+ghost use Rattle.std.specs.Prelude.{IfSome, IfNone};
 ghost use Rattle.std.specs.FinMap as maps;
 ghost use Rattle.linda_wire.specs.declared.limits.TheConstants.{NUMBER_LIMIT};
 ghost use Rattle.linda_store_state.specs.State.{IsState};
@@ -21,10 +21,7 @@ pub(crate) fn tuple_from<B: Bag>(state: &State<B>, from: u64) -> Option<(u64, &T
     ensures low { IfSome result (λ e. e.0 < NUMBER_LIMIT) }
     ensures none { IfNone result (entries_from from state.now.bag ≡ []) }
 {
-    let Some(id) = state.bag.next_from(from) else {
-        return None;
-    };
-    let Some(tuple) = state.bag.get(id) else {
+    let Some((id, tuple)) = state.bag.entry_from(from) else {
         return None;
     };
     Some((id, tuple))
@@ -37,24 +34,21 @@ pub(crate) fn kept_after(book: &Book, last: Option<u32>) -> Option<(u32, (u64, &
         ≡ (e.0, (e.1.0, e.1.1.now)) ∷ entries_from (suc e.0) book.now) }
     ensures none { IfNone result (entries_from (first_after last) book.now ≡ []) }
 {
-    let Some(client) = next_client(book, last) else {
-        return None;
-    };
-    let Some(entry) = book.kept(client) else {
+    let Some((client, entry)) = next_entry(book, last) else {
         return None;
     };
     Some((client, entry))
 }
 
-fn next_client(book: &Book, last: Option<u32>) -> Option<u32>
-    ensures found { IfSome result (λ next. IsSome (maps.get book.now next)) }
-    ensures above { IfSome result (λ next. first_after last ≤ next) }
-    ensures least { IfSome result (λ next. (c : ℕ) → first_after last ≤ c → c < next
+fn next_entry(book: &Book, last: Option<u32>) -> Option<(u32, (u64, &KeptReply))>
+    ensures found { IfSome result (λ e. maps.get book.now e.0 ≡ Some (e.1.0, e.1.1.now)) }
+    ensures above { IfSome result (λ e. first_after last ≤ e.0) }
+    ensures least { IfSome result (λ e. (c : ℕ) → first_after last ≤ c → c < e.0
         → maps.get book.now c ≡ None) }
     ensures none { IfNone result ((c : ℕ) → first_after last ≤ c → maps.get book.now c ≡ None) }
 {
     match last {
-        None => book.next_from(0),
-        Some(client) => book.next_after(client),
+        None => book.entry_from(0),
+        Some(client) => book.entry_after(client),
     }
 }

@@ -124,6 +124,8 @@ fn serve_and_call<
             port,
             folder: FOLDER,
             sessions: Some(1),
+            lease: None,
+            status: None,
             by_threads,
         };
         let nowhere: Option<&mut Vec<u8>> = None;

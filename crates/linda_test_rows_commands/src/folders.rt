@@ -3,7 +3,7 @@
 use crate::peers::Buffered;
 use crate::texts::{done, push_bytes, tell_text};
 use linda_inspect::Lists;
-use linda_serve::inspect_folder;
+use linda_serve::{inspect_folder, inspect_folder_as_json};
 use linda_test_script::{WordsFault, split_word};
 use std::alloc::{AllocError, Global};
 use std::{fs, io};
@@ -49,8 +49,9 @@ impl Folders {
         match word {
             "left" => push_bytes(alloc, &mut self.left, rest),
             "right" => push_bytes(alloc, &mut self.right, rest),
-            "missing" => inspect(files, alloc, came),
-            "inspect" => self.inspect_made(files, alloc, came),
+            "missing" => inspect(files, alloc, false, came),
+            "inspect" => self.inspect_made(files, alloc, false, came),
+            "json" => self.inspect_made(files, alloc, true, came),
             _ => Err(WordsFault::Unknown),
         }
     }
@@ -60,10 +61,11 @@ impl Folders {
         &self,
         files: &HostRuntime,
         alloc: Global,
+        json: bool,
         came: &mut String,
     ) -> Result<(), WordsFault> {
         known(fs::create_dir(files, FOLDER))?;
-        let told = self.inspect_both(files, alloc, came);
+        let told = self.inspect_both(files, alloc, json, came);
         known(fs::remove_dir_all(files, FOLDER))?;
         told
     }
@@ -73,11 +75,12 @@ impl Folders {
         &self,
         files: &HostRuntime,
         alloc: Global,
+        json: bool,
         came: &mut String,
     ) -> Result<(), WordsFault> {
         put_bank(files, LEFT, &self.left)?;
         put_bank(files, RIGHT, &self.right)?;
-        inspect(files, alloc, came)
+        inspect(files, alloc, json, came)
     }
 }
 
@@ -97,20 +100,34 @@ fn known(ended: io::Result<()>) -> Result<(), WordsFault> {
     }
 }
 
-// Writes what is printed of the folder.
-fn inspect(files: &HostRuntime, alloc: Global, came: &mut String) -> Result<(), WordsFault> {
-    done(tell_folder(files, alloc, came))
+// Writes what is printed of the folder, as lines or as JSON.
+fn inspect(
+    files: &HostRuntime,
+    alloc: Global,
+    json: bool,
+    came: &mut String,
+) -> Result<(), WordsFault> {
+    done(tell_folder(files, alloc, json, came))
 }
 
 // Writes what is printed of the folder and flushed, with both lists, and how that ends if it does
 // not end well.
-fn tell_folder(files: &HostRuntime, alloc: Global, came: &mut String) -> Result<(), AllocError> {
+fn tell_folder(
+    files: &HostRuntime,
+    alloc: Global,
+    json: bool,
+    came: &mut String,
+) -> Result<(), AllocError> {
     let lists = Lists {
         tuples: true,
         clients: true,
     };
     let mut out = Buffered::new(alloc);
-    let ended = inspect_folder(files, alloc, &mut out, FOLDER, lists);
+    let ended = if json {
+        inspect_folder_as_json(files, alloc, &mut out, FOLDER, lists)
+    } else {
+        inspect_folder(files, alloc, &mut out, FOLDER, lists)
+    };
     tell_text(out.flushed(), came)?;
     match ended {
         Ok(()) => Ok(()),

@@ -12,6 +12,8 @@ use std::time::Clock;
 /// What the server comes to at each line.
 const GAUGE: Gauge = Gauge {
     tuples: 3,
+    holds: 0,
+    waits: 0,
     clients: 2,
     next: 9,
     deeds: 13,
@@ -34,6 +36,9 @@ const TALLY: Tally = Tally {
         greetings: 2,
         malformed: 1,
     },
+    late: 5,
+    groups: 0,
+    messages: 0,
 };
 
 /// What the system says where a device is full.
@@ -231,6 +236,7 @@ fn notice_of(name: &str, millis: &str) -> Result<Notice, WordsFault> {
         "refused" => Ok(Notice::Turned(why_of(millis)?)),
         "unwatched" => Ok(Notice::Unwatched),
         "threadless" => Ok(Notice::NoThread),
+        "unasked" => Ok(Notice::NoStatus),
         "down" => Ok(Notice::Down),
         _ => Err(WordsFault::Unknown),
     }

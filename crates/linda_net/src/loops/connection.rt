@@ -1,14 +1,22 @@
 //! One connection of a loop: what it sent, and what is to be written to it, without waiting for it.
 
-ghost use Rattle.std.specs.Prelude.{◌≤◌, vec_len};
+ghost use Rattle.std.specs.Prelude.{◌≡◌, ◌≢◌, ◌≤◌, vec_len, Err, IfSome, IfNone};
+ghost use Rattle.std.specs.Option.{option_map};
+ghost use Rattle.linda_wire.specs.declared.fault.FrameFault.TheVariants.{Memory};
+ghost use Rattle.linda_wire.specs.declared.refusal.Refusal.TheVariants as refusals;
+ghost use Rattle.linda_wire.specs.Refusal.{refused};
+ghost use Rattle.linda_store.specs.Conversation.{detail_of};
+ghost use Rattle.linda_net.specs.Talk.{ended_by, last_word};
 
 use crate::marks::Marks;
-use linda_shared::{Account, SharedFault};
-use linda_wire::{Feed, FrameFault, LENGTH_BYTES, Message, Refusal, Reply, encode_reply};
+use linda_disk::Disk;
+use linda_shared::{Account, Shared, SharedFault};
+use linda_wire::{Feed, FrameFault, Message, Refusal, Reply, encode_reply};
 use mio::net::TcpStream;
 use std::alloc::Global;
 use std::io::{ErrorKind, Read, Write};
 use std::net::Shutdown;
+use std::sync::Wait;
 use std::sync::ledger::Ledger;
 
 /// How many bytes may wait to be written to a connection while more is taken from it.
@@ -16,6 +24,9 @@ const MOST_UNSENT: usize = 262_144;
 
 /// How many bytes of room an idle connection keeps for what is written to it.
 const MOST_SPARE: usize = 1_024;
+
+/// How many bytes of room are made first for what is written to a connection.
+const FIRST_ROOM: usize = 64;
 
 /// How often a connection is read at most before others are looked at.
 const MOST_READS: u32 = 16;
@@ -51,6 +62,10 @@ pub(super) struct Connection<L: Ledger> {
     sent: usize,
     // The socket may have more to read.
     may_read: bool,
+    // What was read may have a whole message at its front.
+    may_have: bool,
+    // How many times it grew silent since its last message.
+    silent: u32,
     // The peer sends no more: what is there is read to its end.
     is_shut: bool,
     // Nothing more is read from it, and it ends once all is answered and written.
@@ -78,6 +93,8 @@ impl<L: Ledger> Connection<L> {
             out: Vec::new(alloc),
             sent: 0,
             may_read: true,
+            may_have: false,
+            silent: 0,
             is_shut: false,
             is_ending: false,
             last: None,
@@ -109,15 +126,32 @@ impl<L: Ledger> Connection<L> {
         self.is_greeting || self.asked() > 0
     }
 
+    /// Whether its client holds a tuple.
+    pub(super) fn holds_any<D: Disk, R: Wait>(&self, rt: &R, shared: &Shared<D, L>) -> bool {
+        match &self.account {
+            Some(account) => shared.holds_of(rt, account.client()) > 0,
+            None => false,
+        }
+    }
+
     /// Whether something is still to be written.
     pub(super) fn has_unsent(&self) -> bool {
         self.sent < self.out.len()
     }
 
-    /// Whether there may be something to take from it now.
+    /// Whether there may be something to take from it now. Of a frame whose end is still to come
+    /// there is nothing.
     pub(super) fn has_more(&self) -> bool {
-        self.may_give()
-            && (self.held.is_some() || self.may_read || self.feed.rest() >= LENGTH_BYTES)
+        self.may_give() && (self.held.is_some() || self.may_read || self.may_have)
+    }
+
+    /// A second went by. How many there were since its last message, of those in which nothing of
+    /// it was on its way or may be there to be read.
+    pub(super) fn grow_silent(&mut self) -> u32 {
+        if !self.is_ending && !self.is_waiting() && !self.has_more() {
+            self.silent = self.silent.saturating_add(1);
+        }
+        self.silent
     }
 
     // Whether anything is taken from it now.
@@ -135,10 +169,13 @@ impl<L: Ledger> Connection<L> {
         }
         for _ in 0..MOST_READS {
             match self.feed.next(self.alloc) {
-                Ok(Some(message)) => return Next::Message(message),
-                Ok(None) => {}
+                Ok(Some(message)) => {
+                    self.silent = 0;
+                    return Next::Message(message);
+                }
+                Ok(None) => self.may_have = false,
                 Err(fault) => {
-                    self.end_with(last_word(fault));
+                    self.end_with(word_of_frame(fault));
                     return Next::None;
                 }
             }
@@ -163,6 +200,7 @@ impl<L: Ledger> Connection<L> {
             }
             Ok(len) => {
                 self.may_read = self.is_shut || len == buffer.len();
+                self.may_have = true;
                 if self.feed.feed(&buffer[..len]).is_err() {
                     self.end_with(None);
                 }
@@ -186,6 +224,10 @@ impl<L: Ledger> Connection<L> {
             return;
         }
         marks.sends(reply);
+        if self.out.capacity() == 0 {
+            // If there is no memory for so much, the reply may still find some.
+            let _ = self.out.reserve(FIRST_ROOM);
+        }
         if encode_reply(&mut self.out, reply).is_err() {
             self.fail();
         }
@@ -282,8 +324,11 @@ impl<L: Ledger> Connection<L> {
     }
 }
 
-// What is said of a server's fault; nothing if memory ran out.
-fn word_of(fault: SharedFault) -> Option<Refusal> {
+// What is said of a server's fault, as by a connection with threads of its own; nothing if memory
+// ran out.
+fn word_of(fault: SharedFault) -> Option<Refusal>
+    ensures { option_map refused result ≡ last_word (Err (ended_by fault)) }
+{
     match fault {
         SharedFault::Memory => None,
         SharedFault::Down => Some(Refusal::Down),
@@ -296,7 +341,11 @@ fn word_of(fault: SharedFault) -> Option<Refusal> {
 }
 
 // What is said of a fault of a frame; nothing if memory ran out.
-fn last_word(fault: FrameFault) -> Option<Refusal> {
+fn word_of_frame(fault: FrameFault) -> Option<Refusal>
+    ensures word { IfSome result (λ word. (fault ≢ Memory)
+        × (word ≡ refusals.Malformed (detail_of fault))) }
+    ensures none { IfNone result (fault ≡ Memory) }
+{
     match fault {
         FrameFault::Memory => None,
         FrameFault::EmptyFrame => Some(Refusal::Malformed(0)),

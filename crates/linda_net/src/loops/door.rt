@@ -1,6 +1,7 @@
 //! Where connections come in.
 
 use super::relays::Relays;
+use crate::coming::one_less;
 use mio::net::TcpListener;
 use mio::{Interest, Registry, Token};
 use std::io;
@@ -110,13 +111,5 @@ impl Door {
                 }
             }
         }
-    }
-}
-
-// One connection fewer, where they are counted.
-fn one_less(left: Option<u32>) -> Option<u32> {
-    match left {
-        Some(left) => Some(left.saturating_sub(1)),
-        None => None,
     }
 }

@@ -1,5 +1,8 @@
 //! Where a message goes that a connection sent.
 
+ghost use Rattle.std.specs.Prelude.{◌≡◌};
+ghost use Rattle.linda_net.specs.Placing.{makes_no_deed};
+
 use super::batch::{Batch, Call};
 use super::connection::Connection;
 use crate::marks::Marks;
@@ -52,7 +55,9 @@ pub(super) fn place<L: Ledger>(
     true
 }
 
-// Whether no deed comes of the message.
-fn makes_no_deed(message: &Message) -> bool {
+// Whether no deed comes of the message, which is no Hello: it bears no number.
+fn makes_no_deed(message: &Message) -> bool
+    ensures { result ≡ makes_no_deed message.now }
+{
     matches!(message, Message::Ask { .. } | Message::Cancel { .. })
 }

@@ -1,5 +1,8 @@
 //! What loops hand to each other, and which loop serves which client.
 
+ghost use Rattle.std.specs.Prelude.{◌≡◌};
+ghost use Rattle.linda_net.specs.Placing.{lighter};
+
 use super::relay::Relay;
 use crate::marks::Marks;
 use linda_shared::Sent;
@@ -109,18 +112,33 @@ impl Relays {
 
     // The loop that the next connection goes to.
     fn least(&self) -> usize {
-        let mut least: usize = 0;
-        let mut load: u64 = u64::MAX;
+        let mut least = Load {
+            index: 0,
+            count: u64::MAX,
+        };
         for (index, relay) in self.relays.iter().enumerate() {
-            let here = relay.load();
-            if index == 0 && here < FEW {
-                return 0;
-            }
-            if here < load {
-                load = here;
-                least = index;
-            }
+            let count = relay.load();
+            least = lighter(least, Load { index, count });
         }
+        least.index
+    }
+}
+
+/// A loop, and how many connections it has.
+#[derive(Clone, Copy)]
+struct Load {
+    index: usize,
+    count: u64,
+}
+
+// Which of two loops the next connection goes to: the first loop as long as it has few, else the
+// one that has fewer, and of two that have as many the one that comes first.
+fn lighter(least: Load, next: Load) -> Load
+    ensures { result ≡ lighter least next }
+{
+    if least.index == 0 && least.count < FEW || least.count <= next.count {
         least
+    } else {
+        next
     }
 }

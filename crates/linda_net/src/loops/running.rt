@@ -3,6 +3,7 @@
 use super::door::Door;
 use super::relays::Relays;
 use super::turns::{Loop, begin_loop, turn};
+use crate::limits::Limits;
 use linda_disk::Disk;
 use linda_shared::Shared;
 use std::alloc::Global;
@@ -44,14 +45,20 @@ impl<L: Ledger> Loops<L> {
         Ok((loops, Relays::new(alloc, relays)))
     }
 
-    /// Connections come from this listener, which does not wait: so many, if a number is given.
+    /// Connections come from this listener, which does not wait, as far as they are limited.
     ///
     /// # Errors
     ///
     /// The system does not look at the listener.
-    pub(crate) fn open(&mut self, listener: TcpListener, sessions: Option<u32>) -> io::Result<()> {
+    pub(crate) fn open(&mut self, listener: TcpListener, limits: Limits) -> io::Result<()> {
+        if let Some(seconds) = limits.lease {
+            self.first.limit(seconds);
+            for one in self.rest.iter_mut() {
+                one.limit(seconds);
+            }
+        }
         let listener = mio::net::TcpListener::from_std(listener);
-        self.first.open(Door::new(listener, sessions))
+        self.first.open(Door::new(listener, limits.sessions))
     }
 
     /// Runs the loops until all connections are over, the first one in this thread. A loop for
@@ -104,7 +111,7 @@ fn begin_one<'s, E, D: Disk + Send, L: Ledger + Send + Sync, R: Threads + Wait +
 }
 
 // Runs a loop to its end.
-fn run_one<D: Disk, L: Ledger, R: Wait>(
+fn run_one<D: Disk, L: Ledger, R: Wait + Clock>(
     rt: &R,
     shared: &Shared<D, L>,
     relays: &Relays,

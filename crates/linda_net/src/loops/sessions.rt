@@ -2,10 +2,14 @@
 
 use super::batch::{Batch, Call};
 use super::connection::{Connection, Next};
+use super::lease::Lease;
 use super::place::place;
 use super::relays::Relays;
 use crate::marks::Marks;
-use linda_shared::{Account, Answered, Group, MOST_ASKED, Sender, Sent, SharedFault, hear_answer};
+use linda_disk::Disk;
+use linda_shared::{
+    Account, Answered, Group, MOST_ASKED, Sender, Sent, Shared, SharedFault, hear_answer,
+};
 use linda_wire::{Message, Reply};
 use mio::event::Event;
 use mio::net::TcpStream;
@@ -346,6 +350,25 @@ impl<L: Ledger> Sessions<L> {
             return;
         }
         self.make_ready(key);
+    }
+
+    /// A second went by. The connection of each client ends that holds a tuple and is late.
+    pub(super) fn end_late<D: Disk, R: Wait>(
+        &mut self,
+        rt: &R,
+        shared: &Shared<D, L>,
+        marks: &Marks,
+        lease: &Lease,
+    ) {
+        for key in 0..self.connections.capacity() {
+            if let Some(connection) = self.connections.get_mut(key) {
+                if lease.has_run_out(connection.grow_silent()) && connection.holds_any(rt, shared) {
+                    connection.end_with(None);
+                    marks.lapses();
+                    self.touch(key);
+                }
+            }
+        }
     }
 
     /// All connections end: the server is down, or a reply was lost.

@@ -2,10 +2,12 @@
 
 use super::batch::{Batch, Call};
 use super::door::{DOOR, Door};
+use super::lease::Lease;
 use super::posting::Posting;
 use super::relay::Relay;
 use super::relays::Relays;
 use super::sessions::Sessions;
+use crate::coming::REST;
 use linda_disk::Disk;
 use linda_shared::{Group, Shared, SharedFault};
 use mio::net::TcpStream;
@@ -15,7 +17,7 @@ use std::io;
 use std::net::Net;
 use std::sync::Wait;
 use std::sync::ledger::Ledger;
-use std::time::Duration;
+use std::time::{Clock, Duration};
 
 /// The token of the bell.
 const BELL: usize = 1;
@@ -26,9 +28,6 @@ const EVENTS: usize = 1_024;
 /// How long is waited at most if nothing happens, in milliseconds: then it is looked whether the
 /// server is down.
 const QUIET: u64 = 1_000;
-
-/// How long is waited at most after a connection could not be had, in milliseconds.
-const REST: u64 = 10;
 
 /// How often messages of which no deed comes are served before the others.
 const MOST_ROUNDS: u32 = 16;
@@ -57,6 +56,8 @@ pub(super) struct Loop<L: Ledger> {
     is_ending: bool,
     // How often it goes round before connections are closed that take nothing.
     patience: u32,
+    // For how long clients may hold a tuple and say nothing, if that is limited.
+    lease: Option<Lease>,
 }
 
 /// The loop of this number, and its relay.
@@ -84,6 +85,7 @@ pub(super) fn begin_loop<L: Ledger, R: Net>(
         is_closed: false,
         is_ending: false,
         patience: MOST_ENDING,
+        lease: None,
     };
     Ok((made, Relay::new(alloc, bell)))
 }
@@ -99,6 +101,25 @@ impl<L: Ledger> Loop<L> {
         door.register(self.poll.registry())?;
         self.door = Some(door);
         Ok(())
+    }
+
+    /// For so many seconds clients may hold a tuple and say nothing.
+    pub(super) fn limit(&mut self, seconds: u32) {
+        self.lease = Some(Lease::new(seconds));
+    }
+
+    // Once a second: ends connections whose clients hold a tuple and are late.
+    fn end_late<D: Disk, R: Wait + Clock>(
+        &mut self,
+        rt: &R,
+        shared: &Shared<D, L>,
+        relays: &Relays,
+    ) {
+        if let Some(lease) = &mut self.lease {
+            if lease.is_due(rt) {
+                self.sessions.end_late(rt, shared, &relays.marks, lease);
+            }
+        }
     }
 
     // Whether it is over: it has no connection, and none comes any more.
@@ -301,6 +322,7 @@ fn serve<D: Disk, L: Ledger, R: Wait>(
     are_deeds: bool,
 ) -> bool {
     let mut posting = posting(sessions, relays);
+    relays.marks.serves(group.len());
     let is_up = shared.serve_group(rt, group, &mut posting);
     ring(rt, &posting);
     sessions.hear_all(group, are_deeds);
@@ -333,7 +355,7 @@ fn ring<L: Ledger, R: Wait>(rt: &R, posting: &Posting<'_, '_, L>) {
 }
 
 /// Goes round until all connections are over.
-pub(super) fn turn<D: Disk, L: Ledger, R: Wait>(
+pub(super) fn turn<D: Disk, L: Ledger, R: Wait + Clock>(
     rt: &R,
     shared: &Shared<D, L>,
     relays: &Relays,
@@ -352,6 +374,7 @@ pub(super) fn turn<D: Disk, L: Ledger, R: Wait>(
             it.end_all();
             relays.end_all(rt);
         }
+        it.end_late(rt, shared, relays);
         it.sessions.flush(rt, relays);
         if it.is_over() {
             return;

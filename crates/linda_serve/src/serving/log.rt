@@ -142,6 +142,7 @@ impl<'a, W: Write> Log<'a, W> {
             Notice::Turned(why) => self.spell_refused(clock, why, tally),
             Notice::Unwatched => self.spell_limit(clock, "watch", tally),
             Notice::NoThread => self.spell_limit(clock, "snapshots", tally),
+            Notice::NoStatus => self.spell_limit(clock, "status", tally),
             Notice::Down => {
                 self.begin(clock, "down")?;
                 self.number("deeds", gauge.deeds)?;
@@ -164,7 +165,8 @@ impl<'a, W: Write> Log<'a, W> {
         self.number("unserved", more.unserved)?;
         self.state(gauge)?;
         self.bank(gauge)?;
-        self.turned(&more.turned)
+        self.turned(&more.turned)?;
+        self.number("late", more.late)
     }
 
     // How many clients were refused, by the reason.

@@ -6,13 +6,14 @@ ghost use Rattle.linda_serve.specs.Minutes.{counted, more_counted, none_counted}
 use linda_net::{Refused, Tally};
 
 /// Deeds, puts and takes that were refused since the bank is full, connections that were not
-/// served, and clients that were refused.
+/// served, clients that were refused, and connections of clients that were late.
 #[derive(Clone, Copy)]
 pub(super) struct Counted {
     pub(super) deeds: u64,
     pub(super) refused: u64,
     pub(super) unserved: u64,
     pub(super) turned: Refused,
+    pub(super) late: u64,
 }
 
 impl Counted {
@@ -25,6 +26,7 @@ impl Counted {
             refused: 0,
             unserved: 0,
             turned: Refused::none(),
+            late: 0,
         }
     }
 
@@ -37,6 +39,7 @@ impl Counted {
             refused: tally.refused,
             unserved: tally.closed.saturating_add(tally.missed),
             turned: tally.turned,
+            late: tally.late,
         }
     }
 
@@ -49,6 +52,7 @@ impl Counted {
             refused: self.refused.saturating_sub(before.refused),
             unserved: self.unserved.saturating_sub(before.unserved),
             turned: self.turned.since(&before.turned),
+            late: self.late.saturating_sub(before.late),
         }
     }
 

@@ -46,9 +46,13 @@ impl<D: Disk, L: Ledger> Shared<D, L> {
     }
 
     /// Serves the messages of a group, one after the other in one call of the server, and posts
-    /// what is sent, once it is on the disks. Says whether the server is up.
+    /// what is sent, once it is on the disks. Says whether the server is up. If answers of before
+    /// wait to be heard nothing of the group is served.
     pub fn serve_group<R: Wait, P: Post>(&self, rt: &R, group: &mut Group<L>, posts: &mut P) -> bool
-        ensures { group.new.asked + group.new.answered ≡ group.old.asked + group.old.answered }
+        ensures each { group.new.asked + group.new.answered
+            ≡ group.old.asked + group.old.answered }
+        // So each message that was asked has its answer, also if the server is down.
+        ensures all { group.old.answered ≡ 0 → group.new.asked ≡ 0 }
     {
         let mut guard = self.locked.lock(rt);
         let locked = &mut *guard;

@@ -12,7 +12,7 @@ use super::Accounts;
 use crate::fault::SharedFault;
 use crate::place::Place;
 use crate::places::Places;
-use crate::receipt::Receipt;
+use crate::shared_receipt::SharedReceipt;
 use linda_bag::IndexBag;
 use linda_store_state::State;
 use std::sync::ledger::Ledger;
@@ -25,7 +25,11 @@ impl<L: Ledger> Accounts<L> {
     /// # Errors
     ///
     /// `Receipt` alone: that one differs.
-    pub fn compare(&self, state: &State<IndexBag>, receipts: &[Receipt]) -> Result<(), SharedFault>
+    pub fn compare(
+        &self,
+        state: &State<IndexBag>,
+        receipts: &[SharedReceipt],
+    ) -> Result<(), SharedFault>
         ensures told { OnOk result (All (IsToldSo self.now.places) receipts.now) }
         ensures kept { OnOk result ((c : ℕ)
             → LastIsKept state.now (receipts_at (map.get self.now.places c))) }
@@ -37,7 +41,7 @@ impl<L: Ledger> Accounts<L> {
 
     // Compares each receipt with the one that its client was told by that number, if it still has
     // that.
-    fn compare_all(&self, receipts: &[Receipt]) -> Result<(), SharedFault>
+    fn compare_all(&self, receipts: &[SharedReceipt]) -> Result<(), SharedFault>
         ensures told { OnOk result (All (IsToldSo self.now.places) receipts.now) }
         ensures fault { IfErr result (NamesAnother self.now.places receipts.now) }
     {
@@ -50,7 +54,7 @@ impl<L: Ledger> Accounts<L> {
     }
 
     // Whether its client was told it so, if it still has a receipt of that number.
-    fn agrees(&self, receipt: &Receipt) -> bool
+    fn agrees(&self, receipt: &SharedReceipt) -> bool
         ensures agrees { result ≡ true → IsToldSo self.now.places receipt.now }
         ensures differs { result ≡ false → HasRival (ring_for self.now.places receipt.now)
             receipt.now }
@@ -98,17 +102,17 @@ fn compare_place(state: &State<IndexBag>, place: &Place) -> Result<(), SharedFau
 }
 
 // Whether it is what the book keeps for its client.
-fn is_kept(state: &State<IndexBag>, mine: &Receipt) -> bool
+fn is_kept(state: &State<IndexBag>, mine: &SharedReceipt) -> bool
     ensures { (result ≡ true) ↔ IsKept state.now mine.now }
 {
     match state.book.kept(mine.client()) {
-        Some((n, reply)) => n == mine.number() && *reply == mine.reply,
+        Some((n, reply)) => n == mine.number() && *reply == mine.get().reply,
         None => false,
     }
 }
 
 // The fault that names a receipt.
-fn fault_of(receipt: &Receipt) -> SharedFault
+fn fault_of(receipt: &SharedReceipt) -> SharedFault
     ensures { result ≡ SharedFault.Receipt (client_in receipt.now) (number_in receipt.now) }
 {
     SharedFault::Receipt {

@@ -20,7 +20,7 @@ use super::serve::serve;
 use linda_bag::IndexBag;
 use linda_disk::Disk;
 use linda_server::Durable;
-use linda_shared_accounts::{Receipt, SharedFault};
+use linda_shared_accounts::{SharedFault, SharedReceipt};
 use linda_shared_outbox::Outboxes;
 use linda_store_state::State;
 use linda_wire::{Message, Refusal, Reply};
@@ -35,12 +35,12 @@ use std::slice;
 /// before it sent stays.
 pub(super) fn serve_each<D: Disk>(
     server: &mut Durable<D>,
-    receipts: &mut Vec<Receipt>,
+    receipts: &mut Vec<SharedReceipt>,
     boxes: &mut Outboxes,
     alloc: Global,
     count: u64,
     messages: &[(u32, Message)],
-) -> Result<Vec<Option<Receipt>>, SharedFault>
+) -> Result<Vec<Option<SharedReceipt>>, SharedFault>
     ensures done { IfOk result (λ told. WentAlone server.old count (waits_for boxes.old)
         messages.now told.items (waits_for boxes.new) server.new) }
     ensures receipts { IfOk result (λ told.
@@ -98,12 +98,12 @@ pub(super) fn serve_each<D: Disk>(
 // Takes one message by itself.
 fn take_one<D: Disk>(
     server: &mut Durable<D>,
-    receipts: &mut Vec<Receipt>,
+    receipts: &mut Vec<SharedReceipt>,
     boxes: &mut Outboxes,
     alloc: Global,
     count: u64,
     message: &(u32, Message),
-) -> Result<Option<Receipt>, SharedFault>
+) -> Result<Option<SharedReceipt>, SharedFault>
     ensures done { IfOk result (λ one. GoesAlone server.old count message.now
         (waits_for boxes.old) one (waits_for boxes.new) server.new) }
     ensures receipts { IfOk result (λ one.
@@ -152,7 +152,7 @@ fn take_one<D: Disk>(
 }
 
 // One where there is a receipt, else 0.
-fn weigh(receipt: &Option<Receipt>) -> u64
+fn weigh(receipt: &Option<SharedReceipt>) -> u64
     ensures { result ≡ length (receipts_in (receipt.now ∷ [])) }
 {
     match receipt {
@@ -162,7 +162,7 @@ fn weigh(receipt: &Option<Receipt>) -> u64
 }
 
 // The first of one.
-fn first_of(told: Vec<Option<Receipt>>) -> Option<Receipt>
+fn first_of(told: Vec<Option<SharedReceipt>>) -> Option<SharedReceipt>
     requires { vec_len told ≡ 1 }
     ensures { told.items ≡ result ∷ [] }
 {

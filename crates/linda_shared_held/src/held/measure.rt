@@ -1,7 +1,8 @@
 //! What the server comes to, in numbers.
 
-ghost use Rattle.std.specs.Prelude.{◌≡◌};
+ghost use Rattle.std.specs.Prelude.{◌≡◌, length};
 ghost use Rattle.std.specs.FinMap as map;
+ghost use Rattle.linda_hold.specs.Holds.{held_in};
 ghost use Rattle.linda_server.specs.Server.{end_in_use, records_in_use};
 
 use super::Held;
@@ -17,6 +18,8 @@ impl<D: Disk, L: Ledger> Held<D, L> {
         ensures state { (result.tuples ≡ map.len self.now.server.store.state.bag)
             × (result.clients ≡ map.len self.now.server.store.state.book)
             × (result.next ≡ self.now.server.store.state.next) }
+        ensures soft { (result.holds ≡ map.len self.now.server.store.soft.holds)
+            × (result.waits ≡ length self.now.server.store.soft.waits) }
         ensures deeds { result.deeds ≡ self.now.count }
         ensures bank { (result.records ≡ records_in_use self.now.server.disks)
             × (result.used ≡ end_in_use self.now.server.disks)
@@ -27,6 +30,8 @@ impl<D: Disk, L: Ledger> Held<D, L> {
         let state = server.state();
         Gauge {
             tuples: state.bag.len(),
+            holds: server.holds().len(),
+            waits: server.waits().len(),
             clients: state.book.len(),
             next: state.next,
             deeds: self.count,
@@ -35,5 +40,12 @@ impl<D: Disk, L: Ledger> Held<D, L> {
             limit: server.limit(),
             is_down: server.is_down(),
         }
+    }
+
+    /// How many tuples are held for the client. It walks over none of them.
+    pub fn holds_of(&self, client: u32) -> usize
+        ensures { result ≡ length (held_in client (map.entries self.now.server.store.soft.holds)) }
+    {
+        self.server.holds().count_of(client)
     }
 }

@@ -16,10 +16,10 @@ ghost use Rattle.linda_shared_outbox.specs.Waiting.{waits_for};
 
 use linda_disk::Disk;
 use linda_server::{Durable, ServeFault, Served};
-use linda_shared_accounts::{Receipt, SharedFault, receipts_of};
+use linda_shared_accounts::{SharedFault, SharedReceipt, receipts_of};
 use linda_shared_outbox::Outboxes;
 use linda_wire::Message;
-use std::alloc::Global;
+use std::alloc::{AllocError, Global};
 
 /// Serves the messages, keeps the receipts of their deeds, and gives what each is told and what is
 /// sent.
@@ -29,11 +29,11 @@ use std::alloc::Global;
 /// `Full`, `Memory`: nothing changed. `Down`: the server is down, and nobody is told anything.
 pub(super) fn serve<D: Disk>(
     server: &mut Durable<D>,
-    receipts: &mut Vec<Receipt>,
+    receipts: &mut Vec<SharedReceipt>,
     boxes: &mut Outboxes,
     alloc: Global,
     messages: &[(u32, Message)],
-) -> Result<Vec<Option<Receipt>>, SharedFault>
+) -> Result<Vec<Option<SharedReceipt>>, SharedFault>
     requires few { length messages.now ≤ MAX_BATCH }
     // At Ok each is told what its answer says, and what is sent is posted;
     ensures done { IfOk result (λ told.
@@ -93,25 +93,24 @@ pub(super) fn serve<D: Disk>(
     let _ = server.is_down();
     make_room(receipts, messages.len())?;
     let served = take_all(server, alloc, messages)?;
-    let Ok(told) = receipts_of(alloc, &served) else {
+    let Ok((told, sends)) = receipts_of(alloc, served) else {
         server.give_up();
         return Err(SharedFault::Down);
     };
-    let Ok(mine) = receipts_of(alloc, &served) else {
+    let Ok(()) = boxes.make_places(&sends) else {
         server.give_up();
         return Err(SharedFault::Down);
     };
-    let Ok(()) = boxes.make_places(&served.sends) else {
+    let Ok(()) = keep_all(receipts, &told) else {
         server.give_up();
         return Err(SharedFault::Down);
     };
-    keep_all(receipts, mine);
-    boxes.post_all(served.into_sends());
+    boxes.post_all(sends);
     Ok(told)
 }
 
 // Makes room for so many more.
-fn make_room(receipts: &mut Vec<Receipt>, more: usize) -> Result<(), SharedFault>
+fn make_room(receipts: &mut Vec<SharedReceipt>, more: usize) -> Result<(), SharedFault>
     ensures room { OnOk result (vec_len receipts.new + more ≤ vec_capacity receipts.new) }
     ensures items { receipts.new.items ≡ receipts.old.items }
     ensures only_memory { IfErr result (λ fault. fault ≡ SharedFault.Memory) }
@@ -164,14 +163,24 @@ pub(super) fn fault_of(fault: ServeFault) -> SharedFault
     }
 }
 
-// Keeps those that are there.
-fn keep_all(receipts: &mut Vec<Receipt>, told: Vec<Option<Receipt>>)
-    requires { vec_len receipts.old + vec_len told ≤ vec_capacity receipts.old }
-    ensures { receipts.new.items ≡ receipts.old.items ++ receipts_in told.items }
+// Keeps those that are there, in the memory that they have. Where one cannot be kept, none is.
+fn keep_all(
+    receipts: &mut Vec<SharedReceipt>,
+    told: &[Option<SharedReceipt>],
+) -> Result<(), AllocError>
+    requires { vec_len receipts.old + length told.now ≤ vec_capacity receipts.old }
+    ensures kept { OnOk result (receipts.new.items ≡ receipts.old.items ++ receipts_in told.now) }
+    ensures err { OnErr result (receipts.new.items ≡ receipts.old.items) }
 {
+    let before = receipts.len();
     for one in told {
         if let Some(receipt) = one {
-            receipts.push_reserved(receipt);
+            let Ok(copy) = receipt.try_clone() else {
+                receipts.truncate(before);
+                return Err(AllocError);
+            };
+            receipts.push_reserved(copy);
         }
     }
+    Ok(())
 }

@@ -18,7 +18,7 @@ use super::serve::serve;
 use crate::pace::Pace;
 use linda_disk::Disk;
 use linda_server::Durable;
-use linda_shared_accounts::{Receipt, SharedFault};
+use linda_shared_accounts::{SharedFault, SharedReceipt};
 use linda_shared_outbox::Outboxes;
 use linda_wire::Message;
 use std::alloc::Global;
@@ -33,13 +33,13 @@ use std::alloc::Global;
 /// was down is as before. `Memory`: nothing changed, but that a snapshot may be asked for.
 pub(super) fn take<D: Disk>(
     server: &mut Durable<D>,
-    receipts: &mut Vec<Receipt>,
+    receipts: &mut Vec<SharedReceipt>,
     boxes: &mut Outboxes,
     pace: &mut Pace,
     alloc: Global,
     count: u64,
     messages: &[(u32, Message)],
-) -> Result<Vec<Option<Receipt>>, SharedFault>
+) -> Result<Vec<Option<SharedReceipt>>, SharedFault>
     requires few { length messages.now ≤ MAX_BATCH }
     ensures done { IfOk result (λ told. WereTaken server.old count messages.now
         told.items (waits_for boxes.old) (waits_for boxes.new) server.new) }

@@ -6,7 +6,7 @@ ghost use Rattle.linda_shared_accounts.specs.Telling.{receipts_in};
 ghost use Rattle.linda_shared_accounts.specs.Accounts.{accounts_of};
 ghost use Rattle.linda_shared_accounts.specs.Effect.{weight, told_of};
 
-use linda_shared_accounts::{Accounts, Answered, Asked, Effect, Receipt, SharedFault};
+use linda_shared_accounts::{Accounts, Answered, Asked, Effect, SharedFault, SharedReceipt};
 use std::sync::ledger::Ledger;
 
 // Tells one, and counts.
@@ -14,7 +14,7 @@ fn tell<A: Drop, L: Ledger>(
     accounts: &mut Accounts<L>,
     count: &mut u64,
     asked: Asked<A, L>,
-    receipt: Option<Receipt>,
+    receipt: Option<SharedReceipt>,
 ) -> Answered<A, L>
     requires { (count.old + weight (told_of receipt) < 2 ^ 64) × (accounts.old.total ≡ count.old) }
     ensures accounts { accounts.new ≡ accounts_of (accounts.old.total + weight (told_of receipt))
@@ -34,7 +34,7 @@ pub(super) fn settle_all<A: Drop, L: Ledger>(
     count: &mut u64,
     asked: &mut Vec<Asked<A, L>>,
     answered: &mut Vec<Answered<A, L>>,
-    told: &mut Vec<Option<Receipt>>,
+    told: &mut Vec<Option<SharedReceipt>>,
 )
     requires room { vec_len answered.old + vec_len asked.old ≤ vec_capacity answered.old }
     requires countable { count.old + length (receipts_in told.old.items) < 2 ^ 64 }

@@ -7,4 +7,6 @@ returns c =
     let second = c.with_arg-second.ensures _ _ first c.dir_option.ensures.rule c.dir_option.ensures.own in
     let third = c.with_arg-third.ensures _ _ second c.sessions_option.ensures.rule c.sessions_option.ensures.own in
     let fourth = c.with_arg-fourth.ensures _ _ third c.flag.ensures.rule c.flag.ensures.own in
-    c.with_arg.ensures _ _ fourth c.flag-2.ensures.rule c.flag-2.ensures.own
+    let fifth = c.with_arg-fifth.ensures _ _ fourth c.lease_option.ensures.rule c.lease_option.ensures.own in
+    let sixth = c.with_arg-sixth.ensures _ _ fifth c.flag-2.ensures.rule c.flag-2.ensures.own in
+    c.with_arg.ensures _ _ sixth c.status_option.ensures.rule c.status_option.ensures.own

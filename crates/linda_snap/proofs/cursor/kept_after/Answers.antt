@@ -1,4 +1,3 @@
-use Rattle.std.proofs.Common.{sym}
 use Rattle.linda_snap.specs.Rising.{first_after}
 use Rattle.linda_snap.proofs.RisingLaws.{first_is, none_is}
 use Rattle.linda_snap.proofs.cursor.kept_after.Goals as goal
@@ -8,4 +7,4 @@ returns-in_default-clause-none c = none_is c.args.book.now (first_after c.args.l
 
 pub returns-clause-found : goal.returns-clause-found
 returns-clause-found c =
-    first_is c.args.book.now (first_after c.args.last) c.in-Some.client (c.in-Some-kept.entry.0, c.in-Some-kept.entry.1.now) (sym c.in-Some-kept.ensures) c.in-Some.ensures.above c.in-Some.ensures.least
+    first_is c.args.book.now (first_after c.args.last) c.in-Some.client (c.in-Some.entry.0, c.in-Some.entry.1.now) c.in-Some.ensures.found c.in-Some.ensures.above c.in-Some.ensures.least

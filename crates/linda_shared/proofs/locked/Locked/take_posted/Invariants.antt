@@ -1,9 +1,9 @@
-use Rattle.std.proofs.Common.{◌≡◌, false}
+use Rattle.std.proofs.Common.{◌≡◌, true}
 use Rattle.linda_shared.proofs.locked.Locked.take_posted.Given as goal
 
 abbrev pub invariant-loop : goal.invariant-loop
 invariant-loop g l =
     (goal.iterator-loop g).can_next l.iterator' × (goal.iterator-loop g).is_finite l.iterator'
     × (l.self.is_given_up ≡ l.fn.self.is_given_up)
-    × (l.self.is_given_up ≡ false)
+    × (l.fn.self.is_given_up ≡ true → l.router ≡ l.fn.router)
     × (l.router.deliveries ≡ l.fn.router.deliveries)

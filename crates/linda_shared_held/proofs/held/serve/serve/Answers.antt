@@ -1,5 +1,5 @@
 -- What was served is told, kept and posted; or nobody is told.
-use Rattle.std.proofs.Common.{◌≡◌, ◌<◌, ℕ, List, length, refl, sym, ap, ◌∙◌, subst, arith}
+use Rattle.std.proofs.Common.{◌≡◌, ◌++◌, ℕ, List, length, refl, sym, ap, ◌∙◌, subst, arith}
 use Rattle.linda_wire.specs.declared.reply.Reply.{Reply}
 use Rattle.linda_shared_outbox.specs.Waiting.{waits_for, HasPlaces}
 use Rattle.linda_shared_outbox.specs.Replies.{with_more, replies_to}
@@ -28,22 +28,6 @@ returns-in_default-clause-err_covered g c opening base count so covered =
     posts_nothing opening base c.args.receipts.now.items count old.down new.down old.before.value new.before.value old.store mid.store new.store
     (c.args.messages.now) c.in_ok-served.served (λ q. waits_for c.args.boxes.now q) (λ q. waits_for c.args.boxes.now q) c.in_ok-served.ensures.up.0 c.give_up.ensures.down (c.give_up.ensures.up c.in_ok-served.ensures.up.1).0 c.in_ok-served.ensures.done (λ q. refl) so covered
 
-pub returns-in_default-receipts_of-clause-err_order : goal.returns-in_default-receipts_of-clause-err_order
-returns-in_default-receipts_of-clause-err_order g c opening base count so =
-    let old = c.args.server.now in
-    let mid = c.take_all.new.server in
-    let new = c.give_up-in_default-receipts_of.new.self in
-    gives_up opening base c.args.receipts.now.items c.make_room.new.receipts.items count old.down new.down old.before.value new.before.value old.store mid.store new.store
-    (c.args.messages.now) c.in_ok-served.served c.make_room.ensures.items c.in_ok-served.ensures.up.0 c.give_up-in_default-receipts_of.ensures.down (c.give_up-in_default-receipts_of.ensures.up c.in_ok-served.ensures.up.1).0 c.in_ok-served.ensures.done so
-
-pub returns-in_default-receipts_of-clause-err_covered : goal.returns-in_default-receipts_of-clause-err_covered
-returns-in_default-receipts_of-clause-err_covered g c opening base count so covered =
-    let old = c.args.server.now in
-    let mid = c.take_all.new.server in
-    let new = c.give_up-in_default-receipts_of.new.self in
-    posts_nothing opening base c.args.receipts.now.items count old.down new.down old.before.value new.before.value old.store mid.store new.store
-    (c.args.messages.now) c.in_ok-served.served (λ q. waits_for c.args.boxes.now q) (λ q. waits_for c.args.boxes.now q) c.in_ok-served.ensures.up.0 c.give_up-in_default-receipts_of.ensures.down (c.give_up-in_default-receipts_of.ensures.up c.in_ok-served.ensures.up.1).0 c.in_ok-served.ensures.done (λ q. refl) so covered
-
 pub returns-in_default-make_places-clause-err_order : goal.returns-in_default-make_places-clause-err_order
 returns-in_default-make_places-clause-err_order g c opening base count so =
     let old = c.args.server.now in
@@ -60,25 +44,41 @@ returns-in_default-make_places-clause-err_covered g c opening base count so cove
     posts_nothing opening base c.args.receipts.now.items count old.down new.down old.before.value new.before.value old.store mid.store new.store
     (c.args.messages.now) c.in_ok-served.served (λ q. waits_for c.args.boxes.now q) (λ q. waits_for c.make_places.new.self q) c.in_ok-served.ensures.up.0 c.give_up-in_default-make_places.ensures.down (c.give_up-in_default-make_places.ensures.up c.in_ok-served.ensures.up.1).0 c.in_ok-served.ensures.done c.make_places.ensures.same so covered
 
+pub returns-in_default-keep_all-clause-err_order : goal.returns-in_default-keep_all-clause-err_order
+returns-in_default-keep_all-clause-err_order g c opening base count so =
+    let old = c.args.server.now in
+    let mid = c.take_all.new.server in
+    let new = c.give_up-in_default-keep_all.new.self in
+    gives_up opening base c.args.receipts.now.items c.keep_all.new.receipts.items count old.down new.down old.before.value new.before.value old.store mid.store new.store
+    (c.args.messages.now) c.in_ok-served.served (c.in_default-keep_all.ensures.err ∙ c.make_room.ensures.items) c.in_ok-served.ensures.up.0 c.give_up-in_default-keep_all.ensures.down (c.give_up-in_default-keep_all.ensures.up c.in_ok-served.ensures.up.1).0 c.in_ok-served.ensures.done so
+
+pub returns-in_default-keep_all-clause-err_covered : goal.returns-in_default-keep_all-clause-err_covered
+returns-in_default-keep_all-clause-err_covered g c opening base count so covered =
+    let old = c.args.server.now in
+    let mid = c.take_all.new.server in
+    let new = c.give_up-in_default-keep_all.new.self in
+    posts_nothing opening base c.args.receipts.now.items count old.down new.down old.before.value new.before.value old.store mid.store new.store
+    (c.args.messages.now) c.in_ok-served.served (λ q. waits_for c.args.boxes.now q) (λ q. waits_for c.make_places.new.self q) c.in_ok-served.ensures.up.0 c.give_up-in_default-keep_all.ensures.down (c.give_up-in_default-keep_all.ensures.up c.in_ok-served.ensures.up.1).0 c.in_ok-served.ensures.done c.make_places.ensures.same so covered
+
 pub keep_all-requires : goal.keep_all-requires
 keep_all-requires g c =
     let old = c.args.server.now.store in
     let new = c.take_all.new.server.store in
-    let long = told_once old.state new.state old.soft new.soft (c.args.messages.now) c.in-Ok-receipts_of.mine.items c.in_ok-served.served.sends.items
-    (c.in-Ok-receipts_of.ensures.answers old.state new.state old.soft new.soft (c.args.messages.now) c.is_down.ensures.orderly.state_is c.in_ok-served.ensures.done) in
-    let counted = c.in-Ok-receipts_of.mine.ok.0 in
+    let long = told_once old.state new.state old.soft new.soft (c.args.messages.now) c.in-Ok.told.items c.in_ok-served.served.sends.items
+    (c.in-Ok.ensures.answers old.state new.state old.soft new.soft (c.args.messages.now) c.is_down.ensures.orderly.state_is c.in_ok-served.ensures.done) in
+    let seen : length c.deref-2.result.now ≡ length c.in-Ok.told.items = ap length c.deref-2.ensures.value in
     let room = c.in_ok-make_room.ensures.room in
-    omega (arith, long, counted, room)
+    omega (arith, long, seen, room)
 
 pub returns-clause-done : goal.returns-clause-done
 returns-clause-done g c =
     let old = c.args.server.now.store in
     let new = c.take_all.new.server.store in
     record {
-      sends = c.into_sends.result.items;
-      has_told = subst (λ (l : List (ℕ × Reply)). HasTold old.state old.soft (c.args.messages.now) c.in-Ok.told.items l new.state new.soft) (sym (ap (λ v. v.items) c.into_sends.ensures))
+      sends = c.in-Ok.sends.items;
+      has_told = subst (λ (l : List (ℕ × Reply)). HasTold old.state old.soft (c.args.messages.now) c.in-Ok.told.items l new.state new.soft) (sym (ap (λ v. v.items) c.in-Ok.ensures.sends))
           (c.in-Ok.ensures.answers old.state new.state old.soft new.soft (c.args.messages.now) c.is_down.ensures.orderly.state_is c.in_ok-served.ensures.done);
-      posted_is = λ q. c.post_all.ensures q ∙ ap (with_more (replies_to q c.into_sends.result.items)) (c.make_places.ensures.same q);
+      posted_is = λ q. c.post_all.ensures q ∙ ap (with_more (replies_to q c.in-Ok.sends.items)) (c.make_places.ensures.same q);
     }
 
 pub returns-clause-one_each : goal.returns-clause-one_each
@@ -95,21 +95,22 @@ returns-clause-ok_order g c opening base count so =
     let old = c.args.server.now in
     let new = c.take_all.new.server in
     goes_on opening base c.args.receipts.now.items c.make_room.new.receipts.items c.keep_all.new.receipts.items count old.down new.down old.before.value new.before.value old.store new.store
-    (c.args.messages.now) c.in_ok-served.served c.in-Ok.told.items c.in-Ok-receipts_of.mine.items c.make_room.ensures.items c.keep_all.ensures c.in_ok-served.ensures.up.0 c.in_ok-served.ensures.up.1
-    c.in-Ok.ensures.told c.in-Ok-receipts_of.ensures.told c.in_ok-served.ensures.done so
+    (c.args.messages.now) c.in_ok-served.served c.in-Ok.told.items c.make_room.ensures.items
+    (c.in-Ok-keep_all.ensures.kept ∙ ap (λ l. c.make_room.new.receipts.items ++ receipts_in l) c.deref-2.ensures.value) c.in_ok-served.ensures.up.0 c.in_ok-served.ensures.up.1
+    c.in-Ok.ensures.told c.in_ok-served.ensures.done so
 
 pub returns-clause-ok_covered : goal.returns-clause-ok_covered
 returns-clause-ok_covered g c opening base count so covered =
     let old = c.args.server.now in
     let new = c.take_all.new.server in
     posts opening base c.args.receipts.now.items count old.down new.down old.before.value new.before.value old.store new.store
-    (c.args.messages.now) c.in_ok-served.served (λ q. waits_for c.args.boxes.now q) (λ q. waits_for c.post_all.new.self q) c.into_sends.result.items c.in_ok-served.ensures.up.0 c.in_ok-served.ensures.up.1 c.in_ok-served.ensures.done
-    (ap (λ v. v.items) c.into_sends.ensures) (λ q. c.post_all.ensures q ∙ ap (with_more (replies_to q c.into_sends.result.items)) (c.make_places.ensures.same q)) so covered
+    (c.args.messages.now) c.in_ok-served.served (λ q. waits_for c.args.boxes.now q) (λ q. waits_for c.post_all.new.self q) c.in-Ok.sends.items c.in_ok-served.ensures.up.0 c.in_ok-served.ensures.up.1 c.in_ok-served.ensures.done
+    (ap (λ v. v.items) c.in-Ok.ensures.sends) (λ q. c.post_all.ensures q ∙ ap (with_more (replies_to q c.in-Ok.sends.items)) (c.make_places.ensures.same q)) so covered
 
 pub post_all-requires : goal.post_all-requires
 post_all-requires g c =
     let P : List (ℕ × Reply) → Type 0 = λ l. HasPlaces c.make_places.new.self l in
-    subst P (sym (ap (λ v. v.items) c.into_sends.ensures)) (subst P c.deref.ensures.value c.in-Ok-make_places.ensures.room)
+    subst P c.deref.ensures.value c.in-Ok-make_places.ensures.room
 
 pub returns-clause-idle : goal.returns-clause-idle
 returns-clause-idle g c none =

@@ -1,7 +1,7 @@
 -- A client is in the book where it is in the tree.
 use Rattle.std.proofs.Common.{rules}
 use Rattle.linda_book.proofs.BookLaws.{viewed}
-use Rattle.linda_book.proofs.book.Book.next_after.Goals as goal
+use Rattle.linda_book.proofs.book.Book.entry_after.Goals as goal
 
 pub returns-clause-found : goal.returns-clause-found
 returns-clause-found c = let at = viewed c.self.inside.entries c.args.self.now c.self.view_is in search rules

@@ -1,0 +1,11 @@
+use Rattle.std.proofs.Common.{sym}
+use Rattle.linda_snap.specs.Rising.{first_after}
+use Rattle.linda_snap.proofs.RisingLaws.{first_is, none_is}
+use Rattle.linda_inspect.proofs.json.cursor.kept_after.Goals as goal
+
+pub returns-in_default-clause-none : goal.returns-in_default-clause-none
+returns-in_default-clause-none c = none_is c.args.book.now (first_after c.args.last) c.in_default.ensures.none
+
+pub returns-clause-found : goal.returns-clause-found
+returns-clause-found c =
+    first_is c.args.book.now (first_after c.args.last) c.in-Some.client (c.in-Some-kept.entry.0, c.in-Some-kept.entry.1.now) (sym c.in-Some-kept.ensures) c.in-Some.ensures.above c.in-Some.ensures.least

@@ -1,0 +1,12 @@
+//! What is limited while connections are served.
+
+/// How many connections are served, and for how long a client may hold a tuple and say nothing.
+#[derive(Clone, Copy, Debug, PartialEq, Eq)]
+pub struct Limits {
+    /// So many connections are let in; any number if there is none.
+    pub sessions: Option<u32>,
+    /// For so many seconds, and one or two more, a client that holds a tuple may send no message:
+    /// then its connection is ended, so what it holds is free again. If there is none it may wait
+    /// for ever.
+    pub lease: Option<u32>,
+}

@@ -1,0 +1,61 @@
+-- What a server says of itself over HTTP.
+use Rattle.std.specs.Prelude.{◌++◌, ◌-◌, ℕ, List, [], ◌∷◌, codes, if◌then◌else◌, Bool, true, false}
+use Rattle.std.specs.Prelude.{Option, Some, None}
+use Rattle.std.specs.Fmt.{decimal}
+use Rattle.std.specs.Str.{bytes_eq}
+use Rattle.linda_shared_held.specs.declared.gauge.Gauge.{Gauge}
+use Rattle.linda_net.specs.declared.marks.Tally.{Tally}
+use Rattle.linda_serve.specs.Minutes.{unserved}
+use Rattle.linda_serve.specs.declared.serving.status.Form.{Form}
+use Rattle.linda_serve.specs.declared.serving.status.Form.TheVariants as forms
+use Rattle.linda_serve.specs.declared.serving.status.figure.Figure.{Figure}
+use Rattle.linda_serve.specs.declared.serving.status.figure.Figure.TheVariants as figures
+
+-- What is at a path, if anything is.
+abbrev pub form_at : List ℕ → Option Form
+form_at path =
+    if bytes_eq path (codes "/") then Some forms.Page
+    else (if bytes_eq path (codes "/metrics") then Some forms.Metrics
+    else (if bytes_eq path (codes "/status.json") then Some forms.Json
+    else None))
+
+-- 1 if the server is up, 0 if it is down
+abbrev pub is_up : Bool → ℕ
+is_up true = 0
+is_up false = 1
+
+-- What a number of a server comes to.
+abbrev pub value_of : Figure → Gauge → Tally → ℕ
+value_of figures.Up gauge tally = is_up gauge.is_down
+value_of figures.Tuples gauge tally = gauge.tuples
+value_of figures.Waits gauge tally = gauge.waits
+value_of figures.Holds gauge tally = gauge.holds
+value_of figures.Clients gauge tally = gauge.clients
+value_of figures.Connections gauge tally = tally.came - tally.over
+value_of figures.Came gauge tally = tally.came
+value_of figures.Deeds gauge tally = gauge.deeds
+value_of figures.Used gauge tally = gauge.used
+value_of figures.Limit gauge tally = gauge.limit
+value_of figures.Records gauge tally = gauge.records
+value_of figures.Next gauge tally = gauge.next
+value_of figures.Full gauge tally = tally.refused
+value_of figures.Busy gauge tally = tally.turned.busy
+value_of figures.TooMany gauge tally = tally.turned.clients
+value_of figures.Greetings gauge tally = tally.turned.greetings
+value_of figures.Malformed gauge tally = tally.turned.malformed
+value_of figures.Unserved gauge tally = unserved tally
+value_of figures.Late gauge tally = tally.late
+value_of figures.Groups gauge tally = tally.groups
+value_of figures.Messages gauge tally = tally.messages
+
+-- A number of a metric, as a line: its name with its label, a blank, and its digits.
+abbrev pub sample : List ℕ → List ℕ → ℕ → List ℕ
+sample metric label value = metric ++ label ++ codes " " ++ decimal value ++ 10 ∷ []
+
+-- the mark before and after a name in JSON, `"`
+abbrev pub quote : ℕ
+quote = 34
+
+-- A member of an object of JSON: its name in quotes, a colon, and its digits.
+abbrev pub member : List ℕ → ℕ → List ℕ
+member key value = quote ∷ key ++ quote ∷ codes ":" ++ decimal value

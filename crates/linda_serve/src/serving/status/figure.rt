@@ -1,0 +1,66 @@
+//! The numbers of a server.
+
+ghost use Rattle.std.specs.Prelude.{◌≡◌};
+ghost use Rattle.linda_serve.specs.Status.{value_of};
+
+use crate::serving::minutes::connected;
+use linda_net::{Gauge, Tally};
+
+/// A number of a server.
+#[derive(Clone, Copy)]
+pub(super) enum Figure {
+    /// Whether the server is up.
+    Up,
+    Tuples,
+    Waits,
+    Holds,
+    Clients,
+    Connections,
+    /// How many connections came.
+    Came,
+    Deeds,
+    Used,
+    Limit,
+    Records,
+    Next,
+    Full,
+    Busy,
+    TooMany,
+    Greetings,
+    Malformed,
+    Unserved,
+    Late,
+    Groups,
+    Messages,
+}
+
+impl Figure {
+    /// What it comes to.
+    pub(super) fn value(self, gauge: &Gauge, tally: &Tally) -> u64
+        ensures { result ≡ value_of self gauge.now tally.now }
+    {
+        match self {
+            Figure::Up => u64::from(!gauge.is_down),
+            Figure::Tuples => gauge.tuples as u64,
+            Figure::Waits => gauge.waits as u64,
+            Figure::Holds => gauge.holds as u64,
+            Figure::Clients => gauge.clients as u64,
+            Figure::Connections => connected(tally),
+            Figure::Came => tally.came,
+            Figure::Deeds => gauge.deeds,
+            Figure::Used => gauge.used as u64,
+            Figure::Limit => gauge.limit as u64,
+            Figure::Records => gauge.records as u64,
+            Figure::Next => gauge.next,
+            Figure::Full => tally.refused,
+            Figure::Busy => tally.turned.busy,
+            Figure::TooMany => tally.turned.clients,
+            Figure::Greetings => tally.turned.greetings,
+            Figure::Malformed => tally.turned.malformed,
+            Figure::Unserved => tally.closed.saturating_add(tally.missed),
+            Figure::Late => tally.late,
+            Figure::Groups => tally.groups,
+            Figure::Messages => tally.messages,
+        }
+    }
+}

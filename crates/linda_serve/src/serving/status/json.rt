@@ -1,0 +1,31 @@
+//! The numbers of a server as one object of JSON.
+
+ghost use Rattle.std.specs.Prelude.{◌≡◌, ◌++◌, IfOk};
+ghost use Rattle.std.specs.String.{string_bytes};
+ghost use Rattle.linda_serve.specs.Status.{member};
+
+use super::row::ROWS;
+use linda_net::{Gauge, Tally};
+use std::alloc::AllocError;
+
+/// Writes all numbers behind what is there.
+pub(super) fn spell_json(
+    page: &mut String,
+    gauge: &Gauge,
+    tally: &Tally,
+) -> Result<(), AllocError> {
+    let mut before = "{";
+    for row in ROWS {
+        spell_member(page, before, row.key, row.figure.value(gauge, tally))?;
+        before = ",";
+    }
+    page.push_str("}\n")
+}
+
+// Writes a number with its name, behind what is before it.
+fn spell_member(page: &mut String, before: &str, key: &str, value: u64) -> Result<(), AllocError>
+    ensures { IfOk result (λ _. string_bytes page.new
+        ≡ string_bytes page.old ++ before.now ++ member key.now value) }
+{
+    write!(page, "{before}\"{key}\":{value}")
+}

@@ -1,0 +1,156 @@
+//! The page that people read.
+
+/// It asks for the numbers once a second, shows them, and draws the last minutes of some. Nothing
+/// of it comes from elsewhere.
+pub(super) const PAGE: &str = r##"<!DOCTYPE html>
+<html lang="en">
+<head>
+<meta charset="utf-8">
+<meta name="viewport" content="width=device-width, initial-scale=1">
+<title>linda serve</title>
+<link rel="icon" href="data:,">
+<style>
+:root { color-scheme: light dark; --back: #f6f6f4; --card: #fff; --text: #1c1c1a; --soft: #66665f;
+  --rule: #e2e2dc; --good: #17753a; --bad: #b3261e; --line: #2f6fb5; --fill: #2f6fb522; }
+@media (prefers-color-scheme: dark) {
+  :root { --back: #161615; --card: #20201e; --text: #ecece6; --soft: #a3a39a; --rule: #34342f;
+    --good: #5fc487; --bad: #ff8a7f; --line: #7db3ee; --fill: #7db3ee22; } }
+* { box-sizing: border-box; }
+body { margin: 0; background: var(--back); color: var(--text);
+  font: 15px/1.45 system-ui, sans-serif; }
+main { max-width: 68rem; margin: 0 auto; padding: 1.25rem 1rem 2rem; }
+header { display: flex; flex-wrap: wrap; align-items: baseline; gap: .25rem .75rem;
+  margin-bottom: 1rem; }
+h1 { font-size: 1.3rem; margin: 0; }
+h2 { font-size: .85rem; font-weight: 600; margin: 0; color: var(--soft); }
+#state { font-weight: 600; color: var(--soft); }
+#state.up { color: var(--good); }
+#state.down { color: var(--bad); }
+.grid { display: grid; gap: .75rem; grid-template-columns: repeat(auto-fit, minmax(15rem, 1fr)); }
+.card { background: var(--card); border: 1px solid var(--rule); border-radius: .5rem;
+  padding: .75rem .9rem; min-width: 0; }
+.top { display: flex; justify-content: space-between; align-items: baseline; }
+.top b { font-size: 1.35rem; }
+.top b, dd { font-variant-numeric: tabular-nums; }
+svg { display: block; width: 100%; height: 4rem; margin: .4rem 0 .2rem; overflow: visible; }
+svg path { stroke: var(--line); stroke-width: 1.5; fill: none; vector-effect: non-scaling-stroke; }
+svg path + path { stroke: none; fill: var(--fill); }
+.foot { display: flex; justify-content: space-between; color: var(--soft); font-size: .8rem; }
+dl { display: grid; grid-template-columns: 1fr auto; gap: .25rem 1rem; margin: .5rem 0 0; }
+dt { color: var(--soft); }
+dd { margin: 0; text-align: right; }
+section { margin-top: .75rem; }
+</style>
+</head>
+<body>
+<main>
+<header><h1>linda serve</h1><span id="state" role="status">asking</span></header>
+<section class="grid" id="charts"></section>
+<section class="grid" id="lists"></section>
+</main>
+<script>
+"use strict";
+const MOST = 300;
+const CHARTS = [["rate", "Deeds a second"], ["tuples", "Tuples"], ["waits", "Asks that wait"],
+  ["holds", "Tuples held"]];
+const LISTS = [
+  ["Clients", { clients: "Clients known", connections: "Connections open",
+    connections_total: "Connections that came", unserved_total: "Connections not served",
+    late_total: "Leases run out" }],
+  ["Store", { deeds_total: "Deeds", records: "Records", next_id: "Next id",
+    bank_bytes: "Bytes used", bank_limit_bytes: "Bytes at most" }],
+  ["Refused", { refusals_full: "Bank full", refusals_busy: "Number in use",
+    refusals_toomany: "Too many clients", refusals_greetings: "Wrong greeting",
+    refusals_malformed: "No message" }],
+  ["Loops", { groups_total: "Groups", group_messages_total: "Messages in groups",
+    size: "Messages a group" }],
+];
+const SVG = "http://www.w3.org/2000/svg";
+const byId = (id) => document.getElementById(id);
+const text = (number) => number.toLocaleString("en", { maximumFractionDigits: 1 });
+const values = {}, charts = [];
+
+function add(parent, name, content) {
+  const made = parent.appendChild(document.createElement(name));
+  if (content !== undefined) made.textContent = content;
+  return made;
+}
+
+for (const [key, title] of CHARTS) {
+  const card = add(byId("charts"), "div");
+  card.className = "card";
+  const top = add(card, "div");
+  top.className = "top";
+  add(top, "h2", title);
+  const now = add(top, "b", "–");
+  const svg = card.appendChild(document.createElementNS(SVG, "svg"));
+  svg.setAttribute("viewBox", "0 0 100 100");
+  svg.setAttribute("preserveAspectRatio", "none");
+  svg.setAttribute("role", "img");
+  const paths = [0, 1].map(() => svg.appendChild(document.createElementNS(SVG, "path")));
+  const foot = add(card, "div");
+  foot.className = "foot";
+  charts.push({ key, title, now, svg, paths, past: [], span: add(foot, "span"),
+    most: add(foot, "span") });
+}
+for (const [title, rows] of LISTS) {
+  const card = add(byId("lists"), "div");
+  card.className = "card";
+  add(card, "h2", title);
+  const list = add(card, "dl");
+  for (const [key, label] of Object.entries(rows)) {
+    add(list, "dt", label);
+    values[key] = add(list, "dd", "–");
+  }
+}
+
+function draw(chart, value) {
+  const past = chart.past;
+  past.push(value);
+  if (past.length > MOST) past.shift();
+  const most = Math.max(...past), top = most || 1, last = Math.max(past.length - 1, 1);
+  const height = (v) => (98 - 96 * v / top).toFixed(2);
+  const points = past.map((v, i) => (100 * i / last).toFixed(2) + "," + height(v));
+  const line = "M" + points.join("L");
+  chart.paths[0].setAttribute("d", line);
+  chart.paths[1].setAttribute("d", line + "L100,100L0,100Z");
+  chart.now.textContent = text(value);
+  chart.span.textContent = "last " + past.length + " s";
+  chart.most.textContent = "most " + text(most);
+  chart.svg.setAttribute("aria-label", chart.title + ": " + text(value) + " now");
+}
+
+let before = null;
+function show(now) {
+  const at = performance.now();
+  now.rate = before ? Math.max(now.deeds_total - before.deeds, 0) * 1000 / (at - before.at) : 0;
+  now.size = now.groups_total ? now.group_messages_total / now.groups_total : 0;
+  before = { at, deeds: now.deeds_total };
+  for (const chart of charts) draw(chart, now[chart.key]);
+  for (const key in values) values[key].textContent = text(now[key]);
+}
+
+function say(word, kind) {
+  byId("state").textContent = word;
+  byId("state").className = kind;
+}
+
+async function ask() {
+  try {
+    const got = await fetch("/status.json", { cache: "no-store" });
+    if (!got.ok) throw new Error(got.statusText);
+    const now = await got.json();
+    show(now);
+    if (now.up) say("up", "up");
+    else say("down", "down");
+  } catch {
+    before = null;
+    say("no answer", "down");
+  }
+  setTimeout(ask, 1000);
+}
+ask();
+</script>
+</body>
+</html>
+"##;

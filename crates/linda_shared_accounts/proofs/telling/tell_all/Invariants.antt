@@ -1,0 +1,10 @@
+use Rattle.std.proofs.Common.{◌≡◌, ◌++◌, drop}
+use Rattle.std.specs.Vec.Iter.{into_iter_items}
+use Rattle.linda_shared_accounts.specs.Telling.{told_by}
+use Rattle.linda_shared_accounts.proofs.telling.tell_all.Given as goal
+
+-- What is told, and what is still to be told, is all.
+abbrev pub invariant-loop-portion : goal.invariant-loop-portion
+invariant-loop-portion l =
+    l.told.items ++ told_by (drop l.portion-index l.portions) (into_iter_items l.deeds) l.rest
+    ≡ told_by l.portions (into_iter_items l.fn.deeds) l.sends

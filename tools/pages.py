@@ -1,0 +1,283 @@
+#!/usr/bin/env python3
+"""Makes the man page and the completions of packaging/ from what `linda --help` and `linda CMD --help` print.
+
+    tools/pages.py [FILE]             writes those of the program FILE (crates/linda/out/linda, if none is given) into packaging/
+    tools/pages.py --check [FILE]     writes nothing, says which of them are others, and ends with 1 if there are any
+
+The man page is packaging/linda.1.in, where these are put in place of lines of their own: `@SYNOPSIS@`, of all commands; `@ABOUT CMD@`, the first line
+of a command's help; `@OPTIONS CMD@`, its arguments and options, and without CMD those of the program; `@EXAMPLES@`, what comes after the options of
+each. `@VERSION@` and `@DATE@` stay: tools/release puts those in.
+"""
+
+import argparse
+import re
+import subprocess
+import sys
+from pathlib import Path
+from typing import NamedTuple
+
+TOP = Path(__file__).resolve().parent.parent
+FOLDER = TOP / "packaging"
+PROVED = TOP / "crates/linda/out/linda"
+# Most used first, as the manual has them.
+COMMANDS = ("serve", "call", "inspect", "run", "pipe")
+ROW = re.compile(r" +(?P<names>\S.*?)(?:  +(?P<help>\S.*))?")
+# The program's own, which its parser does not know as an option: a sentence of its help names it.
+VERSION = ("--version", "Print the version")
+
+
+class Row(NamedTuple):
+    """An option, `--port <P>`, or an argument, `<DIR>` or `<PORT>...`, with its help."""
+
+    long: str
+    short: str
+    value: str
+    help: str
+
+    def is_folder(self) -> bool:
+        return self.value in ("D", "DIR")
+
+    def is_file(self) -> bool:
+        return self.value == "FILE"
+
+
+class Help(NamedTuple):
+    """What a command's help has."""
+
+    about: str
+    usage: str
+    arguments: tuple[Row, ...]
+    options: tuple[Row, ...]
+    examples: tuple[str, ...]
+
+
+def row_of(line: str) -> Row:
+    found = ROW.fullmatch(line)
+    if not found:
+        sys.exit(f"tools/pages.py: a line of the help is not understood: {line!r}")
+    names, value = found["names"], re.search(r"<([A-Z]+)>", found["names"])
+    long, short = re.search(r"--[a-z]+", names), re.search(r"(?<!-)-[a-z]\b", names)
+    return Row(long.group() if long else "", short.group() if short else "", value.group(1) if value else "", found["help"] or "")
+
+
+def help_of(program: Path, command: str) -> Help:
+    words = [program, *([command] if command else []), "--help"]
+    text = subprocess.run(words, capture_output=True, text=True, check=True).stdout
+    about, _, rest = text.partition("\n\nUsage: ")
+    usage, *parts = re.split(r"\n\n(?=[A-Z])", rest.strip("\n"))
+    found: dict[str, tuple[str, ...]] = {}
+    for at, part in enumerate(parts):
+        head, *lines = part.splitlines()
+        if head in ("Commands:", "Arguments:", "Options:"):
+            found[head] = tuple(lines)
+        else:
+            found["after"] = tuple("\n\n".join(parts[at:]).splitlines())
+            break
+    rows = {head: tuple(map(row_of, found.get(head, ()))) for head in ("Arguments:", "Options:")}
+    if not command and {line.split()[0] for line in found["Commands:"]} != {*COMMANDS, "help"}:
+        sys.exit(f"tools/pages.py: the help has other commands than {', '.join(COMMANDS)}")
+    return Help(about.strip(), usage.strip(), rows["Arguments:"], rows["Options:"], found.get("after", ()))
+
+
+# ---- the man page
+
+def escaped(text: str) -> str:
+    """The text as it is to be printed, in a line of the man page."""
+    text = text.replace("\\", "\\e").replace("-", "\\-")
+    return "\\&" + text if text.startswith((".", "'")) else text
+
+
+def synopsis_of(name: str, it: Help) -> list[str]:
+    words = [word for word in it.usage.split() if word not in ("linda", name, "[OPTIONS]")]
+    shown, at = [], 0
+    while at < len(words):
+        if words[at].startswith("--"):
+            shown.append(f".BI {escaped(words[at])}\\~ {words[at + 1].strip('<>')}")
+            at += 1
+        else:
+            shown.append(f".IR {words[at].replace('<', '').replace('>', '')}")
+        at += 1
+    needed = {word for word in words if word.startswith("--")}
+    for row in it.options:
+        if row.long not in needed | {"--help"}:
+            value = f"\\~\\fI{row.value}\\fP" if row.value else ""
+            shown.append(f".RB [ {escaped(row.long)}{value} ]")
+    return [f".B linda {name}", *shown, ".br"]
+
+
+def rows_in_man(it: Help) -> list[str]:
+    lines = []
+    for row in (*it.arguments, *it.options):
+        if not row.long:
+            named = f".I {row.value}"
+        elif row.short:
+            named = f".BR {escaped(row.short)} ,\\~ {escaped(row.long)}"
+        else:
+            named = f".BI {escaped(row.long)}\\~ {row.value}" if row.value else f".B {escaped(row.long)}"
+        lines += [".TP", named, escaped(row.help) + "."]
+        if row.long and f" {row.long} " in it.usage:
+            lines.append("Required.")
+    return lines
+
+
+def man_page(helps: dict[str, Help]) -> str:
+    lines = []
+    for line in (FOLDER / "linda.1.in").read_text().splitlines():
+        found = re.fullmatch(r"@([A-Z]+)(?: ([a-z]+))?@", line)
+        if not found:
+            lines.append(line)
+            continue
+        kind, name = found[1], found[2] or ""
+        if kind == "SYNOPSIS":
+            lines += [part for command in COMMANDS for part in synopsis_of(command, helps[command])]
+        elif kind == "ABOUT":
+            lines.append(escaped(helps[name].about) + ".")
+        elif kind == "OPTIONS":
+            lines += rows_in_man(helps[name])
+        elif kind == "EXAMPLES":
+            for command in ("", *COMMANDS):
+                lines += [f".SS linda {command}".rstrip(), ".nf", *map(escaped, helps[command].examples), ".fi"]
+    return "\n".join(lines) + "\n"
+
+
+# ---- completions
+
+def first_lower(text: str) -> str:
+    return text[:1].lower() + text[1:]
+
+
+def quoted(text: str, marks: str) -> str:
+    """Between single quotes, with a backslash before each of these marks."""
+    for mark in marks:
+        text = text.replace(mark, "\\" + mark)
+    return "'" + text.replace("'", "'\\''") + "'"
+
+
+def bash_page(helps: dict[str, Help]) -> str:
+    rows = [row for it in helps.values() for row in it.options if row.value]
+    folders, files, others = [], [], []
+    for row in rows:
+        (folders if row.is_folder() else files if row.is_file() else others).append(row.long)
+    cases = "".join(f"    {name}) options=\"{' '.join(row.long for row in helps[name].options)}\" ;;\n" for name in COMMANDS)
+    top = " ".join((*COMMANDS, *(row.long for row in helps[""].options), VERSION[0]))
+    of_folder = [name for name in COMMANDS if any(row.is_folder() for row in helps[name].arguments)]
+    return f"""# Completions of linda for bash, made by tools/pages.py.
+
+_linda() {{
+    local word=${{COMP_WORDS[COMP_CWORD]}} before=${{COMP_WORDS[COMP_CWORD - 1]}} options
+    if [ "$COMP_CWORD" -eq 1 ]; then
+        mapfile -t COMPREPLY < <(compgen -W "{top}" -- "$word")
+        return
+    fi
+    case $before in
+    {" | ".join(folders)})
+        mapfile -t COMPREPLY < <(compgen -d -- "$word")
+        return
+        ;;
+    {" | ".join(files)})
+        mapfile -t COMPREPLY < <(compgen -f -- "$word")
+        return
+        ;;
+    {" | ".join(others)})
+        COMPREPLY=()
+        return
+        ;;
+    esac
+    case ${{COMP_WORDS[1]}} in
+{cases}    *) options= ;;
+    esac
+    case ${{COMP_WORDS[1]}} in
+    {" | ".join(of_folder)})
+        if [ "${{word#-}}" = "$word" ]; then
+            mapfile -t COMPREPLY < <(compgen -d -- "$word")
+            return
+        fi
+        ;;
+    esac
+    mapfile -t COMPREPLY < <(compgen -W "$options" -- "$word")
+}}
+
+complete -o filenames -F _linda linda
+"""
+
+
+def zsh_page(helps: dict[str, Help]) -> str:
+    def row_in_zsh(row: Row, is_many: bool) -> str:
+        kind = "_files -/" if row.is_folder() else "_files" if row.is_file() else ""
+        if not row.long:
+            return quoted(f"{'*' if is_many else ''}:{row.value}:{kind}", "")
+        told = quoted(f"{first_lower(row.help)}", ":[]")[1:-1]
+        return f"'{row.long}[{told}]{f':{row.value}:{kind}' if row.value else ''}'"
+
+    def rows_of(it: Help) -> str:
+        words = [*(row_in_zsh(row, False) for row in it.options), *(row_in_zsh(row, f"<{row.value}>..." in it.usage) for row in it.arguments)]
+        return " \\\n        ".join(["    _arguments", *words])
+
+    commands = "".join(f"    {quoted(name + ':' + first_lower(helps[name].about).replace(':', chr(92) + ':'), '')}\n" for name in COMMANDS)
+    cases = "".join(f"{name})\n{rows_of(helps[name])}\n    ;;\n" for name in COMMANDS)
+    top = " ".join([*(row_in_zsh(row, False) for row in helps[""].options), f"'{VERSION[0]}[{first_lower(VERSION[1])}]'"])
+    return f"""#compdef linda
+# Completions of linda for zsh, made by tools/pages.py.
+
+local -a commands
+commands=(
+{commands})
+
+if (( CURRENT == 2 )); then
+    _describe command commands
+    _arguments {top}
+    return
+fi
+
+local name=$words[2]
+shift words
+(( CURRENT-- ))
+
+case $name in
+{cases}esac
+"""
+
+
+def fish_page(helps: dict[str, Help]) -> str:
+    lines = ["# Completions of linda for fish, made by tools/pages.py.", "", "complete -c linda -f"]
+    lines += [f"complete -c linda -n __fish_use_subcommand -a {name} -d {quoted(helps[name].about, chr(92))}" for name in COMMANDS]
+    top = [*((row.long, row.help) for row in helps[""].options), VERSION]
+    lines += [f"complete -c linda -n __fish_use_subcommand -l {long[2:]} -d {quoted(told, chr(92))}" for long, told in top]
+    for name in COMMANDS:
+        lines.append("")
+        seen = f"complete -c linda -n '__fish_seen_subcommand_from {name}'"
+        for row in helps[name].options:
+            kind = " -x -a '(__fish_complete_directories)'" if row.is_folder() else " -r -F" if row.is_file() else " -x" if row.value else ""
+            lines.append(f"{seen} -l {row.long[2:]}{kind} -d {quoted(row.help, chr(92))}")
+        lines += [f"{seen} -a '(__fish_complete_directories)'" for row in helps[name].arguments if row.is_folder()]
+    return "\n".join(lines) + "\n"
+
+
+def made(program: Path) -> dict[str, str]:
+    """The pages of packaging/ that are made from the help, by their names."""
+    helps = {name: help_of(program, name) for name in ("", *COMMANDS)}
+    return {"linda.1": man_page(helps), "linda.bash": bash_page(helps), "_linda": zsh_page(helps), "linda.fish": fish_page(helps)}
+
+
+def differing(program: Path) -> list[str]:
+    """What packaging/ has otherwise."""
+    return [f"packaging/{name}: not what tools/pages.py makes" for name, text in made(program).items() if (FOLDER / name).read_text() != text]
+
+
+def main() -> None:
+    options = argparse.ArgumentParser(description=__doc__, formatter_class=argparse.RawDescriptionHelpFormatter)
+    options.add_argument("--check", action="store_true")
+    options.add_argument("file", nargs="?", default=PROVED, type=lambda it: Path(it).resolve())
+    given = options.parse_args()
+    if not given.file.is_file():
+        sys.exit(f"tools/pages.py: there is no {given.file}")
+    if given.check:
+        wrong = differing(given.file)
+        print("\n".join([*wrong, f"{len(wrong)} pages are others"]))
+        sys.exit(1 if wrong else 0)
+    for name, text in made(given.file).items():
+        (FOLDER / name).write_text(text)
+
+
+if __name__ == "__main__":
+    main()
