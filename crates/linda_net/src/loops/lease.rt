@@ -23,20 +23,28 @@ impl Lease {
         }
     }
 
-    /// Whether a second went by since it was last looked; if so it is looked now. Where the clock
-    /// fails none goes by.
+    /// Whether a second went by since the last one that was counted; if so it is counted. What is
+    /// looked late for is made up for, unless two seconds or more went by: then the loop did not
+    /// run, and only one is counted. Where the clock fails none goes by.
     pub(crate) fn is_due<R: Clock>(&mut self, rt: &R) -> bool {
         let Ok(now) = Instant::now(rt) else {
             return false;
         };
-        let is_due = match self.last {
-            Some(last) => now.duration_since(last) >= Duration::from_millis(BEAT),
-            None => true,
-        };
-        if is_due {
+        let Some(last) = self.last else {
             self.last = Some(now);
+            return true;
+        };
+        let gone = now.duration_since(last);
+        let beat = Duration::from_millis(BEAT);
+        if gone < beat {
+            return false;
         }
-        is_due
+        self.last = if gone < Duration::from_millis(2 * BEAT) {
+            last.checked_add(beat)
+        } else {
+            Some(now)
+        };
+        true
     }
 
     /// Whether a client is late of which there was nothing for so many seconds.
