@@ -11,18 +11,18 @@ _linda() {
         mapfile -t COMPREPLY < <(compgen -d -- "$word")
         return
         ;;
-    --trace)
+    --socket | --trace)
         mapfile -t COMPREPLY < <(compgen -f -- "$word")
         return
         ;;
-    --port | --sessions | --lease | --status | --client | --servers)
+    --port | --sessions | --lease | --status | --mode | --client | --servers)
         COMPREPLY=()
         return
         ;;
     esac
     case ${COMP_WORDS[1]} in
-    serve) options="--port --dir --sessions --log --lease --threads --status --help" ;;
-    call) options="--client --again --help" ;;
+    serve) options="--port --dir --sessions --log --lease --threads --status --socket --mode --help" ;;
+    call) options="--socket --client --again --help" ;;
     inspect) options="--tuples --clients --json --help" ;;
     run) options="--servers --trace --help" ;;
     pipe) options="--help" ;;

@@ -16,8 +16,11 @@ complete -c linda -n '__fish_seen_subcommand_from serve' -l log -d 'Write a log 
 complete -c linda -n '__fish_seen_subcommand_from serve' -l lease -x -d 'End connections of clients that hold a tuple and send nothing for S seconds'
 complete -c linda -n '__fish_seen_subcommand_from serve' -l threads -d 'Give each connection two threads, as before there were loops'
 complete -c linda -n '__fish_seen_subcommand_from serve' -l status -x -d 'Answer on this port, over HTTP, how the server does'
+complete -c linda -n '__fish_seen_subcommand_from serve' -l socket -r -F -d 'Listen on a unix socket at this path, beside a port or in place of it'
+complete -c linda -n '__fish_seen_subcommand_from serve' -l mode -x -d 'Who may connect to the socket, in octal; 600 if it is not given'
 complete -c linda -n '__fish_seen_subcommand_from serve' -l help -d 'Print help'
 
+complete -c linda -n '__fish_seen_subcommand_from call' -l socket -r -F -d 'Where a server listens; once for each of servers 0, 1, .., 16 at most'
 complete -c linda -n '__fish_seen_subcommand_from call' -l client -x -d 'Which client it is, a number that no other client has'
 complete -c linda -n '__fish_seen_subcommand_from call' -l again -d 'Go on as a client that was used before'
 complete -c linda -n '__fish_seen_subcommand_from call' -l help -d 'Print help'

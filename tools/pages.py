@@ -38,7 +38,7 @@ class Row(NamedTuple):
         return self.value in ("D", "DIR")
 
     def is_file(self) -> bool:
-        return self.value == "FILE"
+        return self.value in ("FILE", "PATH")
 
 
 class Help(NamedTuple):
@@ -60,8 +60,8 @@ def row_of(line: str) -> Row:
     return Row(long.group() if long else "", short.group() if short else "", value.group(1) if value else "", found["help"] or "")
 
 
-def help_of(program: Path, command: str) -> Help:
-    words = [program, *([command] if command else []), "--help"]
+def help_of(program: Path, command: str, *more: str) -> Help:
+    words = [program, *([command] if command else []), *more, "--help"]
     text = subprocess.run(words, capture_output=True, text=True, check=True).stdout
     about, _, rest = text.partition("\n\nUsage: ")
     usage, *parts = re.split(r"\n\n(?=[A-Z])", rest.strip("\n"))
@@ -154,7 +154,7 @@ def quoted(text: str, marks: str) -> str:
 
 
 def bash_page(helps: dict[str, Help]) -> str:
-    rows = [row for it in helps.values() for row in it.options if row.value]
+    rows = list({row.long: row for it in helps.values() for row in it.options if row.value}.values())
     folders, files, others = [], [], []
     for row in rows:
         (folders if row.is_folder() else files if row.is_file() else others).append(row.long)
@@ -253,9 +253,17 @@ def fish_page(helps: dict[str, Help]) -> str:
     return "\n".join(lines) + "\n"
 
 
+def with_options_of(it: Help, other: Help) -> Help:
+    """The help with the options that only the other one has."""
+    known = {row.long for row in it.options}
+    return it._replace(options=(*(row for row in other.options if row.long not in known), *it.options))
+
+
 def made(program: Path) -> dict[str, str]:
     """The pages of packaging/ that are made from the help, by their names."""
     helps = {name: help_of(program, name) for name in ("", *COMMANDS)}
+    # A call over sockets has a help of its own, since it takes no port.
+    helps["call"] = with_options_of(helps["call"], help_of(program, "call", "--socket", "s"))
     return {"linda.1": man_page(helps), "linda.bash": bash_page(helps), "_linda": zsh_page(helps), "linda.fish": fish_page(helps)}
 
 

@@ -1358,9 +1358,18 @@ function placeOf(pair) {
 
 // ---- connections
 
-/** A connection to this port of this machine, perhaps not made yet. @param {number} port */
+/**
+ * A connection to this port of this machine, or to the unix socket at this path, perhaps not made yet.
+ * @param {number | string} port
+ */
 function connectTo(port) {
+    if (typeof port === 'string') return net.connect({ path: port });
     return net.connect({ port, host: '127.0.0.1', noDelay: true });
+}
+
+/** Whether it is the path of a unix socket. @param {unknown} port @returns {port is string} */
+function isPath(port) {
+    return typeof port === 'string' && port.includes('/') && !port.includes('\0');
 }
 
 /**
@@ -1384,7 +1393,7 @@ class Link {
     /** @type {number | null} */
     busyUntil = null;
 
-    /** @param {number} server @param {number} port @param {boolean} fresh @param {number} until */
+    /** @param {number} server @param {number | string} port @param {boolean} fresh @param {number} until */
     constructor(server, port, fresh, until) {
         this.server = server;
         this.port = port;
@@ -1461,8 +1470,8 @@ export class Space {
     /**
      * Greets each server.
      *
-     * - `ports`: 1 to 16 ports of this machine, from 1 to 65,535. An earlier life of this client gave the same ones in
-     *   the same order.
+     * - `ports`: 1 to 16 ports of this machine, from 1 to 65,535, or paths of unix sockets, each a text with a slash in
+     *   it. An earlier life of this client gave the same servers in the same order.
      * - `client`: the number of this client, from 0 to 2^32 - 1. No two programs use one number at the same time. Or
      *   several numbers, as `range(100, 200)`: the first of them that no other connection has, and that was not given
      *   up by `leave`; with `fresh` the first that was never used. An earlier program under it may have had something
@@ -1470,21 +1479,21 @@ export class Space {
      * - `fresh`: this number was never used, and a server that knows it refuses it. If it is not set numbers go on
      *   after those of an earlier life of this client, if there was one: see `lastReply`.
      * - `patience`: milliseconds, 10,000 if nothing else is said.
-     * - `connect`: makes a stream to a port, or throws. `clock`: milliseconds, which never fall; those since the
+     * - `connect`: makes a stream to a port or path, or throws. `clock`: milliseconds, which never fall; those since the
      *   beginning, if it is not given.
      *
      * A server keeps 65,536 client numbers at most, for good, those that left among them; `leave` does not free a
      * place. Programs that come and go share a range.
      *
-     * Throws NoConnection if nobody listens at a port, or no Hello is answered in `patience`, Refused if a server
-     * refuses (Busy: another connection has this number; Known, TooManyClients, Version), NoNumber if none of several
+     * Throws NoConnection if nobody listens at a port or path, or this user may not connect, or no Hello is answered in
+     * `patience`, Refused if a server refuses (Busy: another connection has this number; Known, TooManyClients, Version), NoNumber if none of several
      * numbers is to be had. A server may need some milliseconds to see that an earlier connection ended: Busy is tried
      * again for two seconds, or `patience` if that is less, but not with `fresh`, nor with several numbers, of which
      * the next one is tried. After an error nothing is connected.
      *
-     * @param {readonly number[]} ports
+     * @param {readonly (number | string)[]} ports
      * @param {{ client: number | readonly number[], fresh?: boolean, patience?: number,
-     *     connect?: (port: number) => import('node:stream').Duplex, clock?: () => number }} options
+     *     connect?: (port: any) => import('node:stream').Duplex, clock?: () => number }} options
      * @returns {Promise<Space>}
      */
     static async connect(ports, options) {
@@ -1500,7 +1509,7 @@ export class Space {
 
     /**
      * Not to be called: `Space.connect` makes a space.
-     * @param {symbol} by @param {readonly number[]} ports @param {object} options
+     * @param {symbol} by @param {readonly (number | string)[]} ports @param {object} options
      */
     constructor(by, ports, options) {
         if (by !== MADE_BY_CONNECT) throw new TypeError('a space is made by Space.connect');
@@ -1509,7 +1518,7 @@ export class Space {
         }
         const given = checkedOptions(options, ['client', 'fresh', 'patience', 'connect', 'clock']);
         const begin = performance.now();
-        this.#ports = ports.map((port) => Number(within('a port', port, 1, 65_535)));
+        this.#ports = ports.map((port) => (isPath(port) ? port : Number(within('a port', port, 1, 65_535))));
         this.#patience = milliseconds('the patience', given.patience ?? PATIENCE, SHORTEST_PAUSE);
         this.#connect = given.connect ?? connectTo;
         this.#now = given.clock ?? (() => Math.floor(performance.now() - begin));

@@ -467,6 +467,25 @@ describe('over servers', { concurrency: 4 }, () => {
         assert.throws(() => one.abandon(), Closed);
     });
 
+    play('a unix socket', async (scene) => {
+        const place = path.join(scene.folder, 's');
+        await fails(Space.connect([place], { client: 7 }), NoConnection);
+        const server = await scene.serve('one', 0, '--socket', place);
+        const over = await scene.space({ port: place }, 7, { fresh: true });
+        const beside = await scene.space(server, 8, { fresh: true });
+        assert.equal((await over.out(['a', 3])).id, 1);
+        assert.deepEqual(await beside.take(['a', INT]), ['a', 3]);
+        assert.equal((await beside.out(['b'])).id, 2);
+        assert.deepEqual(await over.take(['b']), ['b']);
+        // Nobody listens there for a while, and then a server does again.
+        await server.kill();
+        await scene.serve('one', 0, '--socket', place);
+        assert.equal((await over.out(['c'])).id, 3);
+        for (const wrong of [scene.folder, path.join(scene.folder, 'one', 'left.bank'), `${place}/none`]) {
+            await fails(Space.connect([wrong], { client: 9 }), NoConnection);
+        }
+    });
+
     play('the README', async (scene) => {
         const left = await scene.serve('left'), right = await scene.serve('right');
         const page = readFileSync(path.join(HERE, 'README.md'), 'utf8');
@@ -802,7 +821,7 @@ describe('over servers', { concurrency: 4 }, () => {
         const wrong = [2n ** 63n, -(2n ** 63n) - 1n, 2 ** 53, 1.5, NaN, 'x'.repeat(4_096), 'é'.repeat(2_048), '\ud800',
             null, undefined, {}, ['a'], Symbol('a')];
         const names = ['out', 'take', 'read', 'look', 'hold'];
-        const ports = [[], range(1, 18), [0], [65_536], ['7000'], '7000', 7000];
+        const ports = [[], range(1, 18), [0], [65_536], ['7000'], [''], ['a/\0'], 'a/b', '7000', 7000];
         const clients = [-1, 2 ** 32, true, '7', [], [1, -1], null, undefined];
         const calls = [
             ...[...wrong, INT, ANY].map((tag) => () => one.out([tag])),

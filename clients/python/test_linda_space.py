@@ -186,6 +186,25 @@ class OverServers(WithServers):
         with self.assertRaises(Closed):
             space.out("a")
 
+    def test_a_unix_socket(self) -> None:
+        path = str(self.folder / "s")
+        with self.assertRaises(NoConnection):
+            Space([path], 7)
+        server = self.serve("one", 0, "--socket", path)
+        with Space([path], 7, fresh=True) as over, Space([server.port], 8, fresh=True) as beside:
+            self.assertEqual(over.out("a", 3), (0, 1))
+            self.assertEqual(beside.take("a", INT), ("a", 3))
+            self.assertEqual(beside.out("b"), (0, 2))
+            self.assertEqual(over.take("b"), ("b",))
+            server.kill()
+            # Nobody listens there now, and then a server does again.
+            self.serve("one", 0, "--socket", path)
+            self.assertEqual(over.out("c"), (0, 3))
+        (self.folder / "none").write_bytes(b"")
+        for wrong in (str(self.folder / "none"), str(self.folder), str(self.folder / ("s" * 200))):
+            with self.assertRaises(NoConnection):
+                Space([wrong], 9)
+
     def test_the_readme(self) -> None:
         left, right = self.serve("left"), self.serve("right")
         text = (HERE / "README.md").read_text()
@@ -542,7 +561,7 @@ class OverServers(WithServers):
         calls += [lambda seconds=seconds: space.take("a", timeout=seconds) for seconds in (-1, float("nan"), float("inf"), 1e30, "1")]
         calls += [lambda: space.take(INT), lambda: space.choose("a"), lambda: space.sync(("in", "a")), lambda: Wrap(1, "a"), lambda: Nack(1, None)]
         calls += [lambda: Alarm(-1), lambda: Alarm(1 << 64), lambda: Wrap(-1, Never()), lambda: Nack(1 << 64, Never()), lambda: Always(1 << 63)]
-        calls += [lambda ports=ports: Space(ports, 1) for ports in ([], [7000] * 17, [0], [65_536], ["7000"], "7000", 7000)]
+        calls += [lambda ports=ports: Space(ports, 1) for ports in ([], [7000] * 17, [0], [65_536], ["7000"], [""], ["a/\0"], "7000", "a/b", 7000)]
         calls += [lambda client=client: Space([7000], client) for client in (-1, 1 << 32, True, "7", [], range(0), [1, -1], ["7"], None)]
         calls += [lambda patience=patience: Space([7000], 7, patience=patience) for patience in (0, -1, "1", float("nan"), True)]
         calls += [lambda seconds=seconds, call=call: call(timeout=seconds) for seconds in (-1, "1", float("nan")) for call in (

@@ -1,4 +1,4 @@
-"""A client of a tuple space: of 1 to 16 servers (`linda serve`) that listen on ports of this machine. It needs nothing but Python 3.8 and its own library.
+"""A client of a tuple space: of 1 to 16 servers (`linda serve`) that listen on ports of this machine, or on unix sockets. It needs nothing but Python 3.8 and its own library.
 
     from linda_space import ANY, INT, TEXT, In, Rd, Space
 
@@ -1150,11 +1150,14 @@ _LONGEST_SLEEP = 3600.0                 # seconds
 _PIECE = 65_536                         # bytes of one read
 
 
-def _connect(port: int) -> socket.socket:
-    """A connection to this port of this machine, perhaps not made yet. OSError if there is none."""
-    stream = socket.socket(socket.AF_INET, socket.SOCK_STREAM)
+def _connect(port: Union[int, str]) -> socket.socket:
+    """A connection to this port of this machine, perhaps not made yet, or to the unix socket at this path. OSError if there is none."""
+    stream = socket.socket(socket.AF_UNIX if isinstance(port, str) else socket.AF_INET, socket.SOCK_STREAM)
     try:
         stream.setblocking(False)
+        if isinstance(port, str):
+            stream.connect(port)
+            return stream
         stream.setsockopt(socket.IPPROTO_TCP, socket.TCP_NODELAY, 1)
         fault = stream.connect_ex(("127.0.0.1", port))
         if fault not in (0, errno.EINPROGRESS, errno.EWOULDBLOCK):
@@ -1165,6 +1168,11 @@ def _connect(port: int) -> socket.socket:
     return stream
 
 
+def _is_path(port: Any) -> bool:
+    """Whether it is the path of a unix socket."""
+    return isinstance(port, str) and "/" in port and "\0" not in port
+
+
 class _Link:
     """The connection to a server: there is none, or it is being made, or the Hello is not answered, or it is up.
 
@@ -1172,7 +1180,7 @@ class _Link:
     - `until`: when it has been away for too long; `busy_until`: when Busy has been answered for too long, once it was answered.
     """
 
-    def __init__(self, server: int, port: int, fresh: bool, until: float) -> None:
+    def __init__(self, server: int, port: Union[int, str], fresh: bool, until: float) -> None:
         self.server, self.port, self.fresh, self.until = server, port, fresh, until
         self.stream: Optional[socket.socket] = None
         self.is_made = self.is_up = self.was_up = self.was_tried = False
@@ -1234,23 +1242,24 @@ class Space:
     `close` raise Left.
     """
 
-    def __init__(self, ports: Sequence[int], client: Union[int, Sequence[int]], *, fresh: bool = False, patience: float = PATIENCE,
-                 connect: Callable[[int], socket.socket] = _connect, clock: Optional[Callable[[], int]] = None) -> None:
+    def __init__(self, ports: Sequence[Union[int, str]], client: Union[int, Sequence[int]], *, fresh: bool = False, patience: float = PATIENCE,
+                 connect: Callable[[Any], socket.socket] = _connect, clock: Optional[Callable[[], int]] = None) -> None:
         """Greets each server.
 
-        - `ports`: 1 to 16 ports of this machine, from 1 to 65,535. An earlier life of this client gave the same ones in the same order.
+        - `ports`: 1 to 16 ports of this machine, from 1 to 65,535, or paths of unix sockets, each a text with a slash in it. An earlier life of this client
+          gave the same servers in the same order.
         - `client`: the number of this client, from 0 to 2^32 - 1. No two programs use one number at the same time. Or several numbers, as range(100, 200):
           the first of them that no other connection has, and that was not given up by `leave`; with `fresh` the first that was never used. An earlier program
           under it may have had something in hand: see `last_reply`.
         - `fresh`: this number was never used, and a server that knows it refuses it. If it is not set numbers go on after those of an earlier life of this
           client, if there was one: see `last_reply`.
         - `patience`: seconds, above 0.
-        - `connect`: makes a connection to a port, or raises OSError. `clock`: milliseconds, which never fall; those since the beginning, if it is not given.
+        - `connect`: makes a connection to a port or path, or raises OSError. `clock`: milliseconds, which never fall; those since the beginning, if it is not given.
 
         A server keeps 65,536 client numbers at most, for good, those that left among them; `leave` does not free a place. Programs that come and go share a
         range.
 
-        Raises NoConnection if nobody listens at a port, or no Hello is answered in `patience` seconds, Refused if a server refuses (Busy: another connection
+        Raises NoConnection if nobody listens at a port or path, or this user may not connect, or no Hello is answered in `patience` seconds, Refused if a server refuses (Busy: another connection
         has this number; Known, TooManyClients, Version), NoNumber if none of several numbers is to be had. A server may need some milliseconds to see that an
         earlier connection ended: Busy is tried again for two seconds, or `patience` if that is less, but not with `fresh`, nor with several numbers, of which
         the next one is tried. After an error nothing is connected.
@@ -1259,7 +1268,7 @@ class Space:
             raise OutOfRange(f"the servers are a list of ports: {ports!r}")
         if not 1 <= len(ports) <= MOST_SERVERS:
             raise OutOfRange(f"there are {len(ports)} servers, and 1 to {MOST_SERVERS} are allowed")
-        self._ports = [_within("a port", port, 1, 65_535) for port in ports]
+        self._ports = [port if _is_path(port) else _within("a port", port, 1, 65_535) for port in ports]
         self._patience = _seconds("the patience", patience, SHORTEST_PAUSE)
         self._connect = connect
         self._start = time.monotonic()

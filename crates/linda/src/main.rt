@@ -10,13 +10,14 @@
 //!
 //! `linda call --client C [--again] PORT..` plays lines from standard input as client C, over the
 //! servers that listen on these ports of this machine; with `--again` it goes on as a client that
-//! was used before.
+//! was used before. `--socket PATH`, once for each server, names unix sockets in place of ports.
 //!
-//! `linda serve --port P --dir D [--sessions K] [--log] [--lease S] [--threads] [--status Q]`
-//! serves the store in a folder to clients that connect to a port of this machine; with `--log` it
-//! writes what it does to standard error, with `--lease S` it ends connections of clients that hold
-//! a tuple and send nothing for S seconds, with `--threads` each connection has two threads, and
-//! with `--status Q` it says on another port, over HTTP, how it does.
+//! `linda serve --port P --dir D [--sessions K] [--log] [--lease S] [--threads] [--status Q]
+//! [--socket PATH [--mode MODE]]` serves the store in a folder to clients that connect to a port of
+//! this machine; with `--log` it writes what it does to standard error, with `--lease S` it ends
+//! connections of clients that hold a tuple and send nothing for S seconds, with `--threads` each
+//! connection has two threads, with `--status Q` it says on another port, over HTTP, how it does,
+//! and with `--socket PATH` it listens on a unix socket too, or without `--port` only there.
 //!
 //! `linda inspect DIR [--tuples] [--clients] [--json]` says what the store in a folder holds, and
 //! whether it would be served.
@@ -44,11 +45,11 @@ ghost use Rattle.clap.specs.declared.error.kind.ErrorKind.TheVariants as kinds;
 mod status;
 mod streams;
 
-use linda_args::{Ports, Task, VERSION_LINES, asks_for_version, read_task};
-use linda_call::{CallFault, call};
+use linda_args::{Paths, Ports, Socket, Task, VERSION_LINES, asks_for_version, read_task};
+use linda_call::{CallFault, call, call_at};
 use linda_inspect::Lists;
 use linda_pipe::{PipeFault, REFUSED, pipe};
-use linda_serve::{Plan, inspect_folder, inspect_folder_as_json, serve_folder};
+use linda_serve::{Place, Plan, inspect_folder, inspect_folder_as_json, serve_folder};
 use linda_shell::{ScriptFault, run_script, trace_script};
 use status::status_of_script;
 use std::fmt::Display;
@@ -117,6 +118,11 @@ fn perform<
             ports,
             again,
         } => run_call(rt, threads, *client, ports, *again),
+        Task::CallAt {
+            client,
+            paths,
+            again,
+        } => run_call_at(rt, threads, *client, paths, *again),
         Task::Serve {
             port,
             dir,
@@ -125,9 +131,11 @@ fn perform<
             lease,
             threads: by_threads,
             status,
+            socket,
         } => {
             let plan = Plan {
                 port: *port,
+                socket: socket.as_ref().map(place_of),
                 folder: dir,
                 sessions: *sessions,
                 lease: *lease,
@@ -137,6 +145,14 @@ fn perform<
             run_serve(rt, threads, &plan, *log)
         }
         Task::Inspect { dir, lists, json } => run_inspect(rt, dir, *lists, *json),
+    }
+}
+
+// Where a server is to listen that the command line gives a socket.
+fn place_of(socket: &Socket) -> Place<'_> {
+    Place {
+        path: &socket.path,
+        mode: socket.mode,
     }
 }
 
@@ -248,6 +264,30 @@ fn run_call<S: Net<Listener = TcpListener, Stream = TcpStream> + Threads + Wait 
             &mut rt.stdout(),
             client,
             ports.as_slice(),
+            again,
+        ),
+    )
+}
+
+// Plays the lines on standard input as `run_call` does, over the servers at these unix sockets.
+fn run_call_at<S: Net<Listener = TcpListener, Stream = TcpStream> + Threads + Wait + Clock + Sync>(
+    rt: &HostRuntime,
+    threads: &S,
+    client: u32,
+    paths: &Paths,
+    again: bool,
+) -> ExitCode
+    ensures { (exit_status result ≡ 0) ⊎ ((exit_status result ≡ 3) ⊎ (exit_status result ≡ 4)) }
+{
+    end_of_call(
+        rt,
+        call_at(
+            threads,
+            rt.alloc(),
+            &mut rt.stdin(),
+            &mut rt.stdout(),
+            client,
+            paths.as_slice(),
             again,
         ),
     )

@@ -146,7 +146,8 @@ exactly_pipe m words tasks.Pipe asks rows is = refl
 exactly_pipe m words (tasks.Run n) asks rows is = absurd (no_run_pipe (subcommand_name_of m) (run_found m words n asks rows) is)
 exactly_pipe m words (tasks.TracedRun n file) asks rows is = absurd asks
 exactly_pipe m words (tasks.Call client ports again) asks rows is = absurd asks
-exactly_pipe m words (tasks.Serve port dir sessions log lease threads status) asks rows is = absurd asks
+exactly_pipe m words (tasks.CallAt client paths again) asks rows is = absurd asks
+exactly_pipe m words (tasks.Serve port dir sessions log lease threads status socket) asks rows is = absurd asks
 exactly_pipe m words (tasks.Inspect dir lists json) asks rows is = absurd asks
 
 -- what is found below `run`: the number off this text where there is no file, and else a run with a trace
@@ -165,7 +166,8 @@ exactly_run m f words (tasks.Run n) result asks rows is below reads =
     reads asks.number n (no_file_found m f words n asks rows below) (text_found m f words n asks rows below) asks.spells
 exactly_run m f words (tasks.TracedRun n file) result asks rows is below reads = absurd asks
 exactly_run m f words (tasks.Call client ports again) result asks rows is below reads = absurd asks
-exactly_run m f words (tasks.Serve port dir sessions log lease threads status) result asks rows is below reads = absurd asks
+exactly_run m f words (tasks.CallAt client paths again) result asks rows is below reads = absurd asks
+exactly_run m f words (tasks.Serve port dir sessions log lease threads status socket) result asks rows is below reads = absurd asks
 exactly_run m f words (tasks.Inspect dir lists json) result asks rows is below reads = absurd asks
 
 pub never_other : (m : ArgMatches) (words : List Text) (task : Task) → AsksExactlyFor words task → subcommand_rows_of m ≡ subcommand_of linda words
@@ -174,7 +176,8 @@ never_other m words tasks.Pipe asks rows no_pipe no_run = no_pipe (pipe_found m 
 never_other m words (tasks.Run n) asks rows no_pipe no_run = no_run (run_found m words n asks rows)
 never_other m words (tasks.TracedRun n file) asks rows no_pipe no_run = asks
 never_other m words (tasks.Call client ports again) asks rows no_pipe no_run = asks
-never_other m words (tasks.Serve port dir sessions log lease threads status) asks rows no_pipe no_run = asks
+never_other m words (tasks.CallAt client paths again) asks rows no_pipe no_run = asks
+never_other m words (tasks.Serve port dir sessions log lease threads status socket) asks rows no_pipe no_run = asks
 never_other m words (tasks.Inspect dir lists json) asks rows no_pipe no_run = asks
 
 pub pipe_asked : (m : ArgMatches) (words : List Text) → fault_of linda words ≡ [] → subcommand_rows_of m ≡ subcommand_of linda words
@@ -194,7 +197,8 @@ traced_asks words tasks.Pipe a h = absurd h
 traced_asks words (tasks.Run n) a h = absurd h
 traced_asks words (tasks.TracedRun n file) a h = record { name = a.name; later = a.later; spelled = a.spelled; some = h.0; most = h.1 }
 traced_asks words (tasks.Call client ports again) a h = absurd h
-traced_asks words (tasks.Serve port dir sessions log lease threads status) a h = absurd h
+traced_asks words (tasks.CallAt client paths again) a h = absurd h
+traced_asks words (tasks.Serve port dir sessions log lease threads status socket) a h = absurd h
 traced_asks words (tasks.Inspect dir lists json) a h = absurd h
 
 traced_is_asked : {E : Type 0} (words : List Text) (result : Result (Option Task) E) → TracesRun words → IfOk result (λ found. IfSome found IsTracedRun)
@@ -246,7 +250,8 @@ call_asks words text (tasks.Call client ports again) a is h = record {
   are_ports = h.1.0;
   is_again = the_flag text again (has_flag (codes "--again") a.later) h.1.1 is;
 }
-call_asks words text (tasks.Serve port dir sessions log lease threads status) a is h = absurd h
+call_asks words text (tasks.CallAt client paths again) a is h = absurd h
+call_asks words text (tasks.Serve port dir sessions log lease threads status socket) a is h = absurd h
 call_asks words text (tasks.Inspect dir lists json) a is h = absurd h
 
 serve_asks : (words : List Text) (task : Task) → AsksToServe words → IsServe task → AsksFor words task
@@ -254,7 +259,16 @@ serve_asks words tasks.Pipe a h = absurd h
 serve_asks words (tasks.Run n) a h = absurd h
 serve_asks words (tasks.TracedRun n file) a h = absurd h
 serve_asks words (tasks.Call client ports again) a h = absurd h
-serve_asks words (tasks.Serve port dir sessions log lease threads status) a h = record { name = a.name; later = a.later; spelled = a.spelled; is_port = h.0; are_sessions = h.1 }
+serve_asks words (tasks.CallAt client paths again) a h = absurd h
+serve_asks words (tasks.Serve port dir sessions log lease threads status socket) a h = record {
+  name = a.name;
+  later = a.later;
+  spelled = a.spelled;
+  is_port = h.0;
+  are_sessions = h.1;
+  is_mode = h.4;
+  is_somewhere = h.5;
+}
 serve_asks words (tasks.Inspect dir lists json) a h = absurd h
 
 inspect_asks : (words : List Text) (task : Task) → AsksToInspect words → IsInspect task → AsksFor words task
@@ -262,7 +276,8 @@ inspect_asks words tasks.Pipe a h = absurd h
 inspect_asks words (tasks.Run n) a h = absurd h
 inspect_asks words (tasks.TracedRun n file) a h = absurd h
 inspect_asks words (tasks.Call client ports again) a h = absurd h
-inspect_asks words (tasks.Serve port dir sessions log lease threads status) a h = absurd h
+inspect_asks words (tasks.CallAt client paths again) a h = absurd h
+inspect_asks words (tasks.Serve port dir sessions log lease threads status socket) a h = absurd h
 inspect_asks words (tasks.Inspect dir lists json) a h = record { name = a.name; later = a.later; spelled = a.spelled }
 
 inspect_is_asked : (words : List Text) (found : Option Task) → AsksToInspect words → IfSome found IsInspect → IfSome found (AsksFor words)
@@ -338,7 +353,8 @@ task_is_free words tasks.Pipe (name, inr h) = ap (fault_of linda) h ∙ pipe_end
 task_is_free words (tasks.Run n) asks = run_is_free words n asks
 task_is_free words (tasks.TracedRun n file) asks = absurd asks
 task_is_free words (tasks.Call client ports again) asks = absurd asks
-task_is_free words (tasks.Serve port dir sessions log lease threads status) asks = absurd asks
+task_is_free words (tasks.CallAt client paths again) asks = absurd asks
+task_is_free words (tasks.Serve port dir sessions log lease threads status socket) asks = absurd asks
 task_is_free words (tasks.Inspect dir lists json) asks = absurd asks
 
 pub has_servers : (words : List Text) (task : Task) → AsksFor words task → HasServers task
@@ -346,7 +362,8 @@ has_servers words tasks.Pipe asks = tt
 has_servers words (tasks.Run n) asks = (asks.spells.some, asks.spells.most)
 has_servers words (tasks.TracedRun n file) asks = (asks.some, asks.most)
 has_servers words (tasks.Call client ports again) asks = (asks.are_ports.0, asks.are_ports.1.0)
-has_servers words (tasks.Serve port dir sessions log lease threads status) asks = tt
+has_servers words (tasks.CallAt client paths again) asks = tt
+has_servers words (tasks.Serve port dir sessions log lease threads status socket) asks = tt
 has_servers words (tasks.Inspect dir lists json) asks = tt
 
 abbrev second : List Text → ℕ

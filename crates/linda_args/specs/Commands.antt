@@ -1,7 +1,7 @@
 -- What the command line asks for, and how words that ask for nothing are refused.
 use Rattle.std.specs.Prelude.{◌≡◌, ◌≢◌, ◌<◌, ◌≤◌, ◌⊎◌, ◌==◌, ◌&&◌, ◌||◌, ◌^◌, ⊤, ℕ, Bool, true}
 use Rattle.std.specs.Prelude.{false, not}
-use Rattle.std.specs.Prelude.{List, [], ◌∷◌, ◌++◌, length, Option, Some, IfSome, pos}
+use Rattle.std.specs.Prelude.{List, [], ◌∷◌, ◌++◌, length, Option, Some, IfSome, IsSome, pos}
 use Rattle.std.specs.Prelude.{codes, Result, IsErrAnd}
 use Rattle.std.specs.Str.{bytes_eq}
 use Rattle.std.specs.Str.Parse.{IsNumeral, digits_value, without_leading_plus}
@@ -17,6 +17,7 @@ use Rattle.clap.specs.declared.error.kind.ErrorKind.TheVariants as kinds
 use Rattle.linda_args.specs.Marks.{hyphen}
 use Rattle.linda_args.specs.Ports.{ArePorts}
 use Rattle.linda_args.specs.declared.command.Task.{Task}
+use Rattle.linda_args.specs.declared.command.socket.Socket.{Socket}
 use Rattle.linda_args.specs.declared.command.Task.TheVariants as tasks
 use Rattle.linda_client.specs.declared.limits.TheConstants.{MAX_SERVERS}
 
@@ -110,6 +111,14 @@ status_rule = record (option_rule (codes "status")) {
   parser = Some (parsers.Signed (pos 1) (pos 65535));
 }
 
+-- the option `--socket`, which may be there, with a text
+abbrev pub socket_rule : Rule
+socket_rule = option_rule (codes "socket")
+
+-- the option `--mode`, which may be there, with a text
+abbrev pub mode_rule : Rule
+mode_rule = option_rule (codes "mode")
+
 -- the word that names the folder of a store, which must be there
 abbrev pub folder_rule : Rule
 folder_rule = word_rule (codes "dir")
@@ -139,10 +148,10 @@ call_command =
 
 abbrev pub serve_command : App
 serve_command =
-    with_rule (with_rule (with_rule (with_rule
+    with_rule (with_rule (with_rule (with_rule (with_rule (with_rule
     (with_rule (with_rule (with_rule (new_app (codes "serve")) port_rule) dir_rule)
     sessions_rule)
-    log_rule) lease_rule) threads_rule) status_rule
+    log_rule) lease_rule) threads_rule) status_rule) socket_rule) mode_rule
 
 abbrev pub inspect_command : App
 inspect_command =
@@ -225,13 +234,36 @@ pub record AsksForCall (words : List (List ℕ)) (client : ℕ) (ports : List �
   pub are_ports : ArePorts ports
   pub is_again : again ≡ has_flag (codes "--again") later
 
--- The words are a program's name and `serve`, and the numbers are such as may stand after it.
-pub record AsksForServe (words : List (List ℕ)) (port : ℕ) (sessions : Option ℕ) : Type 0 where
+-- The words are a program's name and `call`, and more.
+pub record IsAfterCall (words : List (List ℕ)) : Type 0 where
+  pub name : List ℕ
+  pub later : List (List ℕ)
+  pub spelled : words ≡ name ∷ codes "call" ∷ later
+
+-- The words are a program's name and `call`, and the number is such as may stand after it.
+pub record AsksForCallAt (words : List (List ℕ)) (client : ℕ) : Type 0 where
+  pub name : List ℕ
+  pub later : List (List ℕ)
+  pub spelled : words ≡ name ∷ codes "call" ∷ later
+  pub is_client : client < 2 ^ 32
+
+-- The words are a program's name and `serve`, and more.
+pub record IsAfterServe (words : List (List ℕ)) : Type 0 where
   pub name : List ℕ
   pub later : List (List ℕ)
   pub spelled : words ≡ name ∷ codes "serve" ∷ later
-  pub is_port : port < 2 ^ 16
+
+-- The words are a program's name and `serve`, and the numbers are such as may stand after it: with
+-- a port, or a socket, or both.
+pub record AsksForServe (words : List (List ℕ)) (port sessions : Option ℕ) (socket : Option Socket)
+    : Type 0 where
+  pub name : List ℕ
+  pub later : List (List ℕ)
+  pub spelled : words ≡ name ∷ codes "serve" ∷ later
+  pub is_port : IfSome port (λ p. p < 2 ^ 16)
   pub are_sessions : IfSome sessions (λ k. k < 2 ^ 32)
+  pub is_mode : IfSome socket (λ s. s.mode < 2 ^ 9)
+  pub is_somewhere : IsSome port ⊎ IsSome socket
 
 -- The words are a program's name and `inspect`.
 pub record AsksForInspect (words : List (List ℕ)) : Type 0 where
@@ -249,8 +281,9 @@ AsksFor words tasks.Pipe = AsksForPipe words
 AsksFor words (tasks.Run n) = AsksForRun words n
 AsksFor words (tasks.TracedRun n file) = AsksForTracedRun words n
 AsksFor words (tasks.Call client ports again) = AsksForCall words client ports again
-AsksFor words (tasks.Serve port dir sessions log lease threads status) =
-    AsksForServe words port sessions
+AsksFor words (tasks.CallAt client paths again) = AsksForCallAt words client
+AsksFor words (tasks.Serve port dir sessions log lease threads status socket) =
+    AsksForServe words port sessions socket
 AsksFor words (tasks.Inspect dir lists json) = AsksForInspect words
 
 -- it is a run with a trace, by such a number
@@ -259,7 +292,8 @@ IsTracedRun tasks.Pipe = ⊥
 IsTracedRun (tasks.Run n) = ⊥
 IsTracedRun (tasks.TracedRun n file) = (1 ≤ n) × (n ≤ MAX_SERVERS)
 IsTracedRun (tasks.Call client ports again) = ⊥
-IsTracedRun (tasks.Serve port dir sessions log lease threads status) = ⊥
+IsTracedRun (tasks.CallAt client paths again) = ⊥
+IsTracedRun (tasks.Serve port dir sessions log lease threads status socket) = ⊥
 IsTracedRun (tasks.Inspect dir lists json) = ⊥
 
 -- the flag is as the parser has its text
@@ -274,8 +308,19 @@ IsCall text (tasks.Run n) = ⊥
 IsCall text (tasks.TracedRun n file) = ⊥
 IsCall text (tasks.Call client ports again) =
     (client < 2 ^ 32) × (ArePorts ports × IsFlag text again)
-IsCall text (tasks.Serve port dir sessions log lease threads status) = ⊥
+IsCall text (tasks.CallAt client paths again) = ⊥
+IsCall text (tasks.Serve port dir sessions log lease threads status socket) = ⊥
 IsCall text (tasks.Inspect dir lists json) = ⊥
+
+-- it is a call over sockets, by such a number
+abbrev pub IsCallAt : Task → Type 0
+IsCallAt tasks.Pipe = ⊥
+IsCallAt (tasks.Run n) = ⊥
+IsCallAt (tasks.TracedRun n file) = ⊥
+IsCallAt (tasks.Call client ports again) = ⊥
+IsCallAt (tasks.CallAt client paths again) = client < 2 ^ 32
+IsCallAt (tasks.Serve port dir sessions log lease threads status socket) = ⊥
+IsCallAt (tasks.Inspect dir lists json) = ⊥
 
 -- it serves, by such numbers
 abbrev pub IsServe : Task → Type 0
@@ -283,10 +328,13 @@ IsServe tasks.Pipe = ⊥
 IsServe (tasks.Run n) = ⊥
 IsServe (tasks.TracedRun n file) = ⊥
 IsServe (tasks.Call client ports again) = ⊥
-IsServe (tasks.Serve port dir sessions log lease threads status) =
-    (port < 2 ^ 16) × IfSome sessions (λ k. k < 2 ^ 32)
+IsServe (tasks.CallAt client paths again) = ⊥
+IsServe (tasks.Serve port dir sessions log lease threads status socket) =
+    IfSome port (λ p. p < 2 ^ 16) × IfSome sessions (λ k. k < 2 ^ 32)
     × IfSome lease (λ s. (1 ≤ s) × (s < 2 ^ 32))
     × IfSome status (λ s. (1 ≤ s) × (s < 2 ^ 16))
+    × IfSome socket (λ s. s.mode < 2 ^ 9)
+    × (IsSome port ⊎ IsSome socket)
 IsServe (tasks.Inspect dir lists json) = ⊥
 
 -- it inspects
@@ -295,7 +343,8 @@ IsInspect tasks.Pipe = ⊥
 IsInspect (tasks.Run n) = ⊥
 IsInspect (tasks.TracedRun n file) = ⊥
 IsInspect (tasks.Call client ports again) = ⊥
-IsInspect (tasks.Serve port dir sessions log lease threads status) = ⊥
+IsInspect (tasks.CallAt client paths again) = ⊥
+IsInspect (tasks.Serve port dir sessions log lease threads status socket) = ⊥
 IsInspect (tasks.Inspect dir lists json) = ⊤
 
 -- what words ask for that are written out above to the letter: the pipe, or a run
@@ -304,7 +353,8 @@ AsksExactlyFor words tasks.Pipe = AsksForPipe words
 AsksExactlyFor words (tasks.Run n) = AsksForRun words n
 AsksExactlyFor words (tasks.TracedRun n file) = ⊥
 AsksExactlyFor words (tasks.Call client ports again) = ⊥
-AsksExactlyFor words (tasks.Serve port dir sessions log lease threads status) = ⊥
+AsksExactlyFor words (tasks.CallAt client paths again) = ⊥
+AsksExactlyFor words (tasks.Serve port dir sessions log lease threads status socket) = ⊥
 AsksExactlyFor words (tasks.Inspect dir lists json) = ⊥
 
 -- a run and a call have at least one server, and not more than there may be
@@ -313,7 +363,8 @@ HasServers tasks.Pipe = ⊤
 HasServers (tasks.Run n) = (1 ≤ n) × (n ≤ MAX_SERVERS)
 HasServers (tasks.TracedRun n file) = (1 ≤ n) × (n ≤ MAX_SERVERS)
 HasServers (tasks.Call client ports again) = (1 ≤ length ports) × (length ports ≤ MAX_SERVERS)
-HasServers (tasks.Serve port dir sessions log lease threads status) = ⊤
+HasServers (tasks.CallAt client paths again) = ⊤
+HasServers (tasks.Serve port dir sessions log lease threads status socket) = ⊤
 HasServers (tasks.Inspect dir lists json) = ⊤
 
 -- whether a word begins with a hyphen

@@ -1,6 +1,8 @@
 //! The command line.
 
+mod paths;
 mod ports;
+mod socket;
 mod version;
 
 ghost use Rattle.std.specs.Prelude.{◌≡◌, ℕ, List, [], Some, None, false, map, codes, IfOk, IfSome};
@@ -16,7 +18,7 @@ ghost use Rattle.linda_args.specs.Commands as spec;
 ghost use Rattle.linda_args.specs.Commands.{AsksExactlyFor, AsksFor, AsksForPipe, AsksForRun};
 ghost use Rattle.linda_args.specs.Commands.{HasServers, Spells};
 ghost use Rattle.linda_args.specs.Commands.{IsCall, IsCommand, IsInspect, IsRefusedAs, IsServe};
-ghost use Rattle.linda_args.specs.Commands.{IsTracedRun};
+ghost use Rattle.linda_args.specs.Commands.{IsCallAt, IsTracedRun};
 ghost use Rattle.linda_args.specs.Commands.{Refuses, client_rule, dir_rule, flag_rule, lease_rule};
 ghost use Rattle.linda_args.specs.Commands.{linda};
 ghost use Rattle.linda_args.specs.Commands.{option_rule};
@@ -30,7 +32,10 @@ use clap::error::ErrorKind;
 use clap::{Arg, ArgAction, ArgMatches, Command, Error, value_parser};
 use linda_client::MAX_SERVERS;
 use linda_inspect::Lists;
+pub use paths::Paths;
 pub use ports::Ports;
+pub use socket::Socket;
+use socket::{MODE, SOCKET, calls_at_sockets, mode_found, serves_at_socket};
 use std::alloc::{AllocError, Global};
 pub use version::{VERSION_LINES, asks_for_version};
 
@@ -55,11 +60,18 @@ pub enum Task {
         ports: Ports,
         again: bool,
     },
-    /// The store in this folder, for clients that connect to this port, or to any if it is 0; so
-    /// many connections if a number is given, with a log or without one, and in two threads for
-    /// each connection or in a few loops.
+    /// Lines as those of `Call`, over servers that listen on unix sockets.
+    CallAt {
+        client: u32,
+        paths: Paths,
+        again: bool,
+    },
+    /// The store in this folder, for clients that connect to this port, or to any if it is 0, or to
+    /// a unix socket; so many connections if a number is given, with a log or without one, and in
+    /// two threads for each connection or in a few loops.
     Serve {
-        port: u16,
+        /// There is a port, or a socket, or both.
+        port: Option<u16>,
         dir: String,
         sessions: Option<u32>,
         log: bool,
@@ -68,6 +80,7 @@ pub enum Task {
         threads: bool,
         /// On which port it is asked how the server does, if it is.
         status: Option<u16>,
+        socket: Option<Socket>,
     },
     /// What the store in this folder comes to, with these lists; as lines, or as one JSON object.
     Inspect {
@@ -94,8 +107,45 @@ pub fn read_task(alloc: Global, words: &[String]) -> Result<Task, Error>
     ensures refused { (kinds : Kinds) → IsRefusedAs (map string_bytes words.now) kinds
         → Refuses kinds result }
 {
+    if serves_at_socket(words) {
+        return task_of_socket(alloc, words);
+    }
+    if calls_at_sockets(words) {
+        return task_of_sockets(alloc, words);
+    }
     let mut linda = command(alloc)?;
     task_by(alloc, &mut linda, words)
+}
+
+// The task that the words ask for, which are to serve with a socket: then no port has to be there.
+fn task_of_socket(alloc: Global, words: &[String]) -> Result<Task, Error>
+    ensures { IfOk result IsServe }
+{
+    let mut linda = command_of_socket(alloc)?;
+    let matches = linda.try_get_matches_from_mut(words)?;
+    if let Some(below) = matches.subcommand_matches(SERVE) {
+        if mode_found(below).is_none() {
+            return Err(linda.error(ErrorKind::ValueValidation, BAD_MODE)?);
+        }
+        if let Some(task) = serve_of(alloc, below)? {
+            return Ok(task);
+        }
+    }
+    Err(linda.error(ErrorKind::MissingSubcommand, "a command is required")?)
+}
+
+// The task that the words ask for, which are a call with sockets: then no port may be there.
+fn task_of_sockets(alloc: Global, words: &[String]) -> Result<Task, Error>
+    ensures { IfOk result IsCallAt }
+{
+    let mut linda = command_of_sockets(alloc)?;
+    let matches = linda.try_get_matches_from_mut(words)?;
+    if let Some(below) = matches.subcommand_matches(CALL) {
+        if let Some(task) = call_at_of(alloc, below)? {
+            return Ok(task);
+        }
+    }
+    Err(linda.error(ErrorKind::TooManyValues, TOO_MANY)?)
 }
 
 // The task that the words ask for, by the program's command.
@@ -129,6 +179,7 @@ fn is_unkept(task: &Task) -> bool
         Task::Run { .. } => false,
         Task::TracedRun { .. } => false,
         Task::Call { .. } => false,
+        Task::CallAt { .. } => false,
         Task::Inspect { .. } => false,
     }
 }
@@ -238,13 +289,32 @@ fn call_of(alloc: Global, below: &ArgMatches) -> Result<Option<Task>, AllocError
     }))
 }
 
+// What is found below `call` with sockets.
+fn call_at_of(alloc: Global, below: &ArgMatches) -> Result<Option<Task>, AllocError>
+    ensures { IfOk result (λ found. IfSome found IsCallAt) }
+{
+    let Some(client) = below.get_one::<u32>(CLIENT) else {
+        return Ok(None);
+    };
+    let Some(paths) = Paths::found(alloc, below)? else {
+        return Ok(None);
+    };
+    Ok(Some(Task::CallAt {
+        client,
+        paths,
+        again: below.get_flag(AGAIN),
+    }))
+}
+
 // What is found below `serve`; the parser has judged the numbers.
 fn serve_of(alloc: Global, below: &ArgMatches) -> Result<Option<Task>, AllocError>
     ensures { IfOk result (λ found. IfSome found IsServe) }
 {
-    let Some(port) = below.get_one::<u16>(PORT) else {
+    let port = below.get_one::<u16>(PORT);
+    let socket = Socket::found(alloc, below)?;
+    if port.is_none() && socket.is_none() {
         return Ok(None);
-    };
+    }
     let Some(text) = below.get_str(DIR) else {
         return Ok(None);
     };
@@ -268,6 +338,7 @@ fn serve_of(alloc: Global, below: &ArgMatches) -> Result<Option<Task>, AllocErro
         lease,
         threads,
         status,
+        socket,
     }))
 }
 
@@ -361,24 +432,65 @@ fn call_command<'a>(alloc: Global) -> Result<Command<'a>, AllocError>
     let about = "Put and take tuples at servers that listen on ports of this machine";
     let first = bare_command(alloc, CALL, about, LINES).arg(client(alloc));
     let second = with_arg(first, port_words(alloc));
-    let help = "Go on as a client that was used before";
-    with_arg(second, flag(alloc, AGAIN, help))
+    with_arg(second, flag(alloc, AGAIN, AGAIN_HELP))
+}
+
+// The program's command where it calls servers at sockets.
+fn command_of_sockets<'a>(alloc: Global) -> Result<Command<'a>, AllocError> {
+    let bare = bare_command(alloc, "linda", "A tuple space", STARTING).subcommand_required(true);
+    bare.subcommand(call_command_of_sockets(alloc)?)
+}
+
+// The command of a client of servers at sockets.
+fn call_command_of_sockets<'a>(alloc: Global) -> Result<Command<'a>, AllocError> {
+    let about = "Put and take tuples at servers that listen on unix sockets";
+    let help = "Where a server listens; once for each of servers 0, 1, .., 16 at most";
+    let sockets = option(alloc, SOCKET, "PATH", help)
+        .required(true)
+        .action(ArgAction::Append)
+        .value_parser(ValueParser::NonEmptyString);
+    let first = bare_command(alloc, CALL, about, LINES).arg(client(alloc));
+    let second = with_arg(first, sockets);
+    with_arg(second, flag(alloc, AGAIN, AGAIN_HELP))
 }
 
 // The command that serves a folder.
 fn serve_command<'a>(alloc: Global) -> Result<Command<'a>, AllocError>
     ensures { IfOk result (IsCommand spec.serve_command) }
 {
-    let about = "Serve the store in a folder on a port of this machine";
-    let first = bare_command(alloc, SERVE, about, SERVING).arg(port_option(alloc));
+    let first = bare_command(alloc, SERVE, SERVE_ABOUT, SERVING).arg(port_option(alloc));
     let second = with_arg(first, dir_option(alloc));
     let third = with_arg(second, sessions_option(alloc));
-    let help = "Write a log to standard error: a line a minute, and one at each event";
-    let fourth = with_arg(third, flag(alloc, LOG, help));
+    let fourth = with_arg(third, flag(alloc, LOG, LOG_HELP));
     let fifth = with_arg(fourth, lease_option(alloc));
-    let help = "Give each connection two threads, as before there were loops";
-    let sixth = with_arg(fifth, flag(alloc, THREADS, help));
-    with_arg(sixth, status_option(alloc))
+    let sixth = with_arg(fifth, flag(alloc, THREADS, THREADS_HELP));
+    let seventh = with_arg(sixth, status_option(alloc));
+    let eighth = with_arg(seventh, option(alloc, SOCKET, "PATH", SOCKET_HELP));
+    with_arg(eighth, option(alloc, MODE, "MODE", MODE_HELP))
+}
+
+// The program's command where it serves with a socket: a socket has to be there, and no port.
+fn command_of_socket<'a>(alloc: Global) -> Result<Command<'a>, AllocError> {
+    let bare = bare_command(alloc, "linda", "A tuple space", STARTING).subcommand_required(true);
+    bare.subcommand(serve_command_of_socket(alloc)?)
+}
+
+// The command that serves a folder with a socket.
+fn serve_command_of_socket<'a>(alloc: Global) -> Result<Command<'a>, AllocError> {
+    let socket = option(alloc, SOCKET, "PATH", SOCKET_HELP)
+        .required(true)
+        .value_parser(ValueParser::NonEmptyString);
+    let port = port_option(alloc).required(false);
+    let first = bare_command(alloc, SERVE, SERVE_ABOUT, SERVING).arg(port);
+    let second = with_arg(first, dir_option(alloc));
+    let third = with_arg(second, sessions_option(alloc));
+    let fourth = with_arg(third, flag(alloc, LOG, LOG_HELP));
+    let fifth = with_arg(fourth, lease_option(alloc));
+    let threads = flag(alloc, THREADS, THREADS_HELP).conflicts_with(SOCKET)?;
+    let sixth = with_arg(fifth, threads);
+    let seventh = with_arg(sixth, status_option(alloc));
+    let eighth = with_arg(seventh, socket);
+    with_arg(eighth, option(alloc, MODE, "MODE", MODE_HELP))
 }
 
 // The command that says what a folder holds.
@@ -564,6 +676,19 @@ const THREADS: &str = "threads";
 
 const STATUS: &str = "status";
 
+const SERVE_ABOUT: &str = "Serve the store in a folder on a port of this machine";
+
+const LOG_HELP: &str = "Write a log to standard error: a line a minute, and one at each event";
+
+const THREADS_HELP: &str = "Give each connection two threads, as before there were loops";
+
+const SOCKET_HELP: &str = "Listen on a unix socket at this path, beside a port or in place of it";
+
+const MODE_HELP: &str = "Who may connect to the socket, in octal; 600 if it is not given";
+
+/// Why a mode is refused.
+const BAD_MODE: &str = "the value of '--mode <MODE>' is not three octal digits";
+
 /// Why a lease is refused beside threads.
 const UNKEPT: &str = "the argument '--lease <S>' cannot be used with '--threads'";
 
@@ -578,6 +703,11 @@ const CLIENT: &str = "client";
 const PORTS: &str = "ports";
 
 const AGAIN: &str = "again";
+
+const AGAIN_HELP: &str = "Go on as a client that was used before";
+
+/// Why a call with so many sockets is refused.
+const TOO_MANY: &str = "there are more than 16 servers";
 
 const JSON: &str = "json";
 
@@ -600,7 +730,9 @@ const SCRIPT: &str = "Examples, of which the second keeps the trace:\n  \
 
 const LINES: &str = "Examples, beside a server on port 7707:\n  \
     echo 'out (\"job\", 1)' | linda call --client 1 7707\n  \
-    echo 'sync in (\"job\", ?i)' | linda call --client 2 7707";
+    echo 'sync in (\"job\", ?i)' | linda call --client 2 7707\n\n\
+    --socket PATH, once for each server, names unix sockets in place of ports:\n  \
+    echo 'out (\"job\", 1)' | linda call --client 3 --socket store/socket";
 
 const SERVING: &str = "Examples:\n  \
     mkdir store\n  \

@@ -3,6 +3,7 @@
 //! `read_task` reads them: they ask for the pipe, or for a run over so many servers, exactly where
 //! they say so to the letter. Where they ask for another `Task` they begin with its command, and
 //! its numbers are such as may stand after it: 1 to 16 servers, 1 to 16 `Ports` of 1 to 65,535. A
+//! server has a port, a `Socket`, or both. A
 //! call has `again` exactly where `--again` is one of its words. Of words that ask for nothing the
 //! kind of fault is that of `specs/Commands`. `asks_for_version` says exactly whether they ask for
 //! the version, which `VERSION_LINES` gives.
@@ -12,4 +13,4 @@
 
 mod command;
 
-pub use command::{Ports, Task, VERSION_LINES, asks_for_version, read_task};
+pub use command::{Paths, Ports, Socket, Task, VERSION_LINES, asks_for_version, read_task};

@@ -1,4 +1,4 @@
-//! `linda call`: a client of servers that listen on ports of this machine.
+//! `linda call`: a client of servers that listen on ports of this machine, or on unix sockets.
 
 mod asking;
 mod caller;
@@ -10,8 +10,9 @@ mod numbers;
 mod party;
 mod standing;
 
-ghost use Rattle.std.specs.Prelude.{◌≡◌, ◌≤◌, length, IfOk, vec_len};
-ghost use Rattle.linda_call.specs.Links.{IsLinked};
+ghost use Rattle.std.specs.Prelude.{◌≡◌, ◌≤◌, length, map, IfOk, vec_len};
+ghost use Rattle.std.specs.String.{string_bytes};
+ghost use Rattle.linda_call.specs.Links.{IsLinked, IsLinkedAt};
 ghost use Rattle.linda_client.specs.declared.limits.TheConstants.{MAX_SERVERS};
 
 use caller::Caller;
@@ -67,8 +68,54 @@ pub fn call<
     requires few { length ports.now ≤ MAX_SERVERS }
 {
     let links = links_to(alloc, client, ports, !goes_on)?;
+    call_over(rt, alloc, reader, writer, client, &links, goes_on)
+}
+
+/// Plays lines as `call` does, over the servers that listen on the unix sockets at these paths,
+/// which are numbered from 0.
+///
+/// # Errors
+///
+/// As those of `call`. A server that this user may not connect to is one without a connection.
+pub fn call_at<
+    S: Net<Listener = TcpListener, Stream = TcpStream> + Threads + Wait + Clock + Sync,
+    R: Read,
+    W: Write,
+>(
+    rt: &S,
+    alloc: Global,
+    reader: &mut R,
+    writer: &mut W,
+    client: u32,
+    paths: &[String],
+    goes_on: bool,
+) -> Result<(), CallFault>
+    requires some { 1 ≤ length paths.now }
+    requires few { length paths.now ≤ MAX_SERVERS }
+{
+    let links = links_at(alloc, client, paths, !goes_on)?;
+    call_over(rt, alloc, reader, writer, client, &links, goes_on)
+}
+
+// Plays the lines over these links.
+fn call_over<
+    S: Net<Listener = TcpListener, Stream = TcpStream> + Threads + Wait + Clock + Sync,
+    R: Read,
+    W: Write,
+>(
+    rt: &S,
+    alloc: Global,
+    reader: &mut R,
+    writer: &mut W,
+    client: u32,
+    all: &[Link],
+    goes_on: bool,
+) -> Result<(), CallFault>
+    requires some { 1 ≤ length all.now }
+    requires few { length all.now ≤ MAX_SERVERS }
+{
     let inbox = Inbox::new(alloc);
-    let (arrivals, all) = (&inbox, links.as_slice());
+    let arrivals = &inbox;
     let caller = Caller::new(rt, alloc, arrivals, all, client, goes_on)?;
     thread::scope(thread::scope_env(), rt, |scope| {
         let mut is_kept = true;
@@ -97,6 +144,26 @@ fn links_to(alloc: Global, client: u32, ports: &[u16], fresh: bool) -> Result<Ve
     let mut links = Vec::new(alloc);
     for (server, port) in ports.iter().enumerate() {
         links.push(Link::new(server as u32, *port, client, fresh))?;
+    }
+    Ok(links)
+}
+
+// A link to the socket at each path, numbered from 0.
+fn links_at(
+    alloc: Global,
+    client: u32,
+    paths: &[String],
+    fresh: bool,
+) -> Result<Vec<Link>, AllocError>
+    requires { length paths.now ≤ MAX_SERVERS }
+    ensures each { IfOk result (λ links. IsLinkedAt client fresh (map string_bytes paths.now)
+        links.items) }
+    ensures len { IfOk result (λ links. vec_len links ≡ length paths.now) }
+{
+    let mut links = Vec::new(alloc);
+    for (server, path) in paths.iter().enumerate() {
+        let path = String::from_str(alloc, path.as_str())?;
+        links.push(Link::at(server as u32, path, client, fresh))?;
     }
     Ok(links)
 }

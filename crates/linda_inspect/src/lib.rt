@@ -2,7 +2,8 @@
 //! stands and why, its form, how much it keeps and takes, its tuples and clients; or what is
 //! damaged, and what is whole before that.
 //!
-//! `write_report` writes lines, and `write_json` one JSON object. Each ends well exactly where a
+//! `write_report` writes lines, and `write_json` one JSON object; `push_json_..` is for others that
+//! write values as it does. Each ends well exactly where a
 //! server would open such banks, unless memory runs out or the output fails: where a state stands
 //! on them, or both are empty. Else it returns the fault that the server would return.
 #![tactic(auto)]
@@ -16,6 +17,6 @@ mod side;
 mod whole;
 
 pub use fault::{InspectFault, OutputFault};
-pub use json::write_json;
+pub use json::{push_json_member, push_json_string, push_json_tuple, write_json};
 pub use listing::Lists;
 pub use report::write_report;

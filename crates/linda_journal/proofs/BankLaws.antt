@@ -2,8 +2,7 @@
 use Rattle.std.proofs.Common.{◌≡◌, ℕ, suc, ◌+◌, ◌^◌, ◌<◌, ◌≤◌, inl, inr, List, [], ◌∷◌, ◌++◌, All, length, refl, sym, ap, subst, ◌∙◌, append_assoc, length-append, arith}
 use Rattle.std.specs.Prelude.{Result}
 use Rattle.std.proofs.lemmas.Grind.{flat_map-append}
-use Rattle.std.proofs.lemmas.List.{append-nil}
-use Rattle.std.proofs.lemmas.List.Elements.{All-nil}
+use Rattle.std.proofs.lemmas.List.Elements.{All-nil, All-append}
 use Rattle.linda_tuple.specs.declared.form.Form.{Form}
 use Rattle.linda_store_state.specs.declared.deed.Deed.{Deed}
 use Rattle.linda_disk.specs.declared.fault.DiskFault.{DiskFault}
@@ -13,22 +12,21 @@ use Rattle.linda_disk.specs.Run.{LeavesOnly}
 use Rattle.linda_disk.proofs.RunLaws.{started, goes_on, weaker, joined}
 use Rattle.linda_journal.specs.declared.kinds.TheConstants.{OPEN}
 use Rattle.linda_journal.specs.declared.limits.TheConstants.{MIN_BYTES}
-use Rattle.linda_journal.specs.Records.{IsRecord, record_body, spell_record, spell_records}
+use Rattle.linda_journal.specs.Records.{IsRecord, spell_record, spell_records, AreIn}
 use Rattle.linda_journal.specs.Gate.{ClosesAfter, IsShut, IsClosedOrOpened, IsLaid}
-use Rattle.linda_journal.specs.Bank.{IsCandidate, behind_gate, head, IsBank, IsSettled, IsOldOrMore, IsNoneOrNew}
-use Rattle.linda_journal.proofs.PayloadLaws.{all_with}
+use Rattle.linda_journal.specs.Bank.{IsCandidate, behind_gate, head, IsBank, IsSettled, IsSettledWithAll, IsOldOrAll, IsNoneOrNew}
 
 -- What stands before the closed gate at the end.
 abbrev pub whole : Form → ℕ → List ℕ → List (List Deed) → List ℕ
 whole form generation body records = head form generation body ++ spell_records form records
 
 module _ (form : Form) (generation : ℕ) (body : List ℕ) (records : List (List Deed)) where
-  -- With one record more.
-  pub whole_with : (ds : List Deed) → whole form generation body records ++ OPEN ∷ record_body form ds ≡ whole form generation body (records ++ ds ∷ [])
-  whole_with ds =
-      append_assoc (head form generation body) (spell_records form records) (OPEN ∷ record_body form ds)
-      ∙ ap (λ l. head form generation body ++ (spell_records form records ++ l)) (sym (append-nil (spell_record form ds)))
-      ∙ ap (λ l. head form generation body ++ l) (sym (flat_map-append (spell_record form) records (ds ∷ [])))
+  -- With records more, an open gate first.
+  pub whole_with : (more : List (List Deed)) (behind : List ℕ) → spell_records form more ≡ OPEN ∷ behind → whole form generation body records ++ OPEN ∷ behind ≡ whole form generation body (records ++ more)
+  whole_with more behind starts =
+      append_assoc (head form generation body) (spell_records form records) (OPEN ∷ behind)
+      ∙ ap (λ l. head form generation body ++ (spell_records form records ++ l)) (sym starts)
+      ∙ ap (λ l. head form generation body ++ l) (sym (flat_map-append (spell_record form) records more))
 
   -- A bank's file closes behind its records,
   pub shut_of : (end : ℕ) (v : View) → IsSettled form generation body records end v → IsShut (whole form generation body records) end v
@@ -56,39 +54,45 @@ module _ (form : Form) (generation : ℕ) (body : List ℕ) (records : List (Lis
     journal = record { gate = closes.gate; rest = closes.rest; parts = refl; closed = closes.closed; good = good };
   }
 
--- One record more on a settled bank.
-module _ (form : Form) (generation : ℕ) (body : List ℕ) (records : List (List Deed)) (ds : List Deed) (end : ℕ) (old : View) (settled : IsSettled form generation body records end old) (one : IsRecord form ds) where
+-- Records of these deeds, the first behind an open gate, on a settled bank.
+module _ (form : Form) (generation : ℕ) (body : List ℕ) (records : List (List Deed)) (ds : List Deed) (more : List (List Deed)) (are : AreIn ds more) (behind : List ℕ) (starts : spell_records form more ≡ OPEN ∷ behind)
+    (end : ℕ) (old : View) (settled : IsSettled form generation body records end old) (are_good : All (IsRecord form) more) where
   good : All (IsRecord form) records
   good = settled.file.journal.good
 
-  old_one : (file : List ℕ) → ClosesAfter (whole form generation body records) file → IsOldOrMore form generation body records ds file
+  old_one : (file : List ℕ) → ClosesAfter (whole form generation body records) file → IsOldOrAll form generation body records ds file
   old_one file closes = inl (bank_of form generation body records records old.seen file settled.file good closes)
 
-  more : (file : List ℕ) → ClosesAfter (whole form generation body records ++ OPEN ∷ record_body form ds) file → IsBank form file generation body (records ++ ds ∷ [])
-  more file closes =
-      bank_of form generation body (records ++ ds ∷ []) records old.seen file settled.file (all_with (IsRecord form) records ds good one) (subst (λ l. ClosesAfter l file) (whole_with form generation body records ds) closes)
+  with_all : (file : List ℕ) → ClosesAfter (whole form generation body records ++ OPEN ∷ behind) file → IsBank form file generation body (records ++ more)
+  with_all file closes =
+      bank_of form generation body (records ++ more) records old.seen file settled.file (All-append (IsRecord form) records more good are_good) (subst (λ l. ClosesAfter l file) (whole_with form generation body records more behind starts) closes)
 
-  either_one : (file : List ℕ) → IsClosedOrOpened (whole form generation body records) (record_body form ds) file → IsOldOrMore form generation body records ds file
+  either_one : (file : List ℕ) → IsClosedOrOpened (whole form generation body records) behind file → IsOldOrAll form generation body records ds file
   either_one file (inl closes) = old_one file closes
-  either_one file (inr closes) = inr (more file closes)
+  either_one file (inr closes) = inr (more, are, with_all file closes)
 
-  -- While the record is written.
-  pub staging : (mid : View) → LeavesOnly old mid (ClosesAfter (whole form generation body records)) → LeavesOnly old mid (IsOldOrMore form generation body records ds)
-  staging mid run = weaker old mid (ClosesAfter (whole form generation body records)) (IsOldOrMore form generation body records ds) run old_one
+  -- While the records are written.
+  pub staging : (mid : View) → LeavesOnly old mid (ClosesAfter (whole form generation body records)) → LeavesOnly old mid (IsOldOrAll form generation body records ds)
+  staging mid run = weaker old mid (ClosesAfter (whole form generation body records)) (IsOldOrAll form generation body records ds) run old_one
 
-  -- And while its gate is opened.
-  pub opening : (mid new : View) → LeavesOnly old mid (ClosesAfter (whole form generation body records)) → LeavesOnly mid new (IsClosedOrOpened (whole form generation body records) (record_body form ds)) → LeavesOnly old new (IsOldOrMore form generation body records ds)
+  -- And while the first gate is opened.
+  pub opening : (mid new : View) → LeavesOnly old mid (ClosesAfter (whole form generation body records)) → LeavesOnly mid new (IsClosedOrOpened (whole form generation body records) behind) → LeavesOnly old new (IsOldOrAll form generation body records ds)
   opening mid new first second =
-      joined old mid new (ClosesAfter (whole form generation body records)) (IsClosedOrOpened (whole form generation body records) (record_body form ds)) (IsOldOrMore form generation body records ds) first second old_one either_one
+      joined old mid new (ClosesAfter (whole form generation body records)) (IsClosedOrOpened (whole form generation body records) behind) (IsOldOrAll form generation body records ds) first second old_one either_one
 
   -- When it is open.
-  pub settled_with : (new : View) (new_end : ℕ) → new_end ≡ end + length (spell_record form ds) → IsShut (whole form generation body records ++ OPEN ∷ record_body form ds) (end + 1 + length (record_body form ds)) new → IsSettled form generation body (records ++ ds ∷ []) new_end new
+  pub settled_with : (new : View) (new_end : ℕ) → new_end ≡ end + length (spell_records form more) → IsShut (whole form generation body records ++ OPEN ∷ behind) (end + 1 + length behind) new → IsSettledWithAll form generation body records ds new_end new
   settled_with new new_end end_is shut =
-      let place : length (whole form generation body (records ++ ds ∷ [])) ≡ new_end = sym (ap length (whole_with form generation body records ds)) ∙ shut.place ∙ sum end (length (record_body form ds)) ∙ sym end_is in
+      let long : length (spell_records form more) ≡ suc (length behind) = ap length starts in
+      let place : length (whole form generation body (records ++ more)) ≡ new_end = sym (ap length (whole_with form generation body records more behind starts)) ∙ shut.place ∙ sum end (length behind) ∙ ap (λ n. end + n) (sym long) ∙ sym end_is in
       record {
-        file = more new.seen shut.file;
-        place = sym (length-append (head form generation body) (spell_records form (records ++ ds ∷ []))) ∙ place;
-        durable = shut.durable;
+        more = more;
+        are = are;
+        settled = record {
+          file = with_all new.seen shut.file;
+          place = sym (length-append (head form generation body) (spell_records form (records ++ more))) ∙ place;
+          durable = shut.durable;
+        };
       }
     where
       sum : (e k : ℕ) → e + 1 + k ≡ e + suc k

@@ -7,7 +7,7 @@ use Rattle.linda_store_state.specs.declared.deed.Deed.{Deed}
 use Rattle.linda_disk.specs.View.{View, IsDurable}
 use Rattle.linda_journal.specs.declared.kinds.TheConstants.{OPEN}
 use Rattle.linda_journal.specs.declared.limits.TheConstants.{MIN_BYTES}
-use Rattle.linda_journal.specs.Records.{spell_records}
+use Rattle.linda_journal.specs.Records.{spell_records, AreIn}
 use Rattle.linda_journal.specs.Journal.{IsJournal}
 
 -- The digit 1 or 2 of the form.
@@ -64,3 +64,19 @@ abbrev pub IsOldOrMore : Form → ℕ → List ℕ → List (List Deed) → List
 IsOldOrMore form generation body records deeds file =
     IsBank form file generation body records
     ⊎ IsBank form file generation body (records ++ deeds ∷ [])
+
+-- The bytes are the bank with the old records, or with those of these deeds behind them: with all
+-- of these, or none.
+abbrev pub IsOldOrAll : Form → ℕ → List ℕ → List (List Deed) → List Deed → List ℕ → Type 0
+IsOldOrAll form generation body records deeds file =
+    IsBank form file generation body records
+    ⊎ ((more : List (List Deed)) × AreIn deeds more
+    × IsBank form file generation body (records ++ more))
+
+-- The disk holds the bank with the records of these deeds behind the old ones, and a crash now
+-- leaves it so.
+pub record IsSettledWithAll (form : Form) (generation : ℕ) (body : List ℕ)
+    (records : List (List Deed)) (deeds : List Deed) (end : ℕ) (v : View) : Type 0 where
+  pub more : List (List Deed)
+  pub are : AreIn deeds more
+  pub settled : IsSettled form generation body (records ++ more) end v

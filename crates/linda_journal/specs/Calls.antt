@@ -13,9 +13,10 @@ use Rattle.linda_journal.specs.declared.limits.TheConstants.{MIN_BYTES}
 use Rattle.linda_journal.specs.declared.record.Record.{Record}
 use Rattle.linda_journal.specs.declared.fault.BankFault.{BankFault}
 use Rattle.linda_journal.specs.declared.fault.BankFault.TheVariants as faults
-use Rattle.linda_journal.specs.Records.{spell_record, SuitsForm, IsUnspelled}
+use Rattle.linda_journal.specs.Records.{spell_record, payload, SuitsForm, IsUnspelled}
+use Rattle.linda_journal.specs.Records.{records_for, bytes_for}
 use Rattle.linda_journal.specs.Journal.{AreAt, deeds_of}
-use Rattle.linda_journal.specs.Bank.{IsBank, IsSettled, IsOldOrMore}
+use Rattle.linda_journal.specs.Bank.{IsBank, IsSettled, IsSettledWithAll, IsOldOrMore, IsOldOrAll}
 use Rattle.linda_journal.specs.Image.{IsFaultOfBank}
 
 module _ {D : Type 0} {g : Ghosts D} where
@@ -82,6 +83,48 @@ module _ {D : Type 0} {g : Ghosts D} where
         (λ fault. TellsFailures faults.Disk fault (g.failures old.disk) (g.failures new.disk))
     pub steady : OnOk result (g.failures new.disk ≡ g.failures old.disk)
     -- It is four device calls that change or sync the disk.
+    pub clock : g.honest old.disk
+        → OnOk result ((g.view new.disk).moment ≡ (g.view old.disk).moment + 4)
+    pub off : IsErrOf result faults.Disk → new.is_spent ≡ true
+    -- Want of memory before the first device call changes nothing; after it the bank is spent.
+    pub memory : IsErrOf result faults.Memory → (new ≡ old) ⊎ (new.is_spent ≡ true)
+    pub known : (IsErrOf result faults.NoBank → ⊥)
+        × ((offset : ℕ) → IsErrOf result (faults.Damaged offset) → ⊥)
+    pub same : (new.form ≡ old.form) × (new.generation ≡ old.generation) × (new.limit ≡ old.limit)
+    pub honest : g.honest old.disk ↔ g.honest new.disk
+
+  -- The records of these deeds were added to the bank's journal, or none of them (`append_all`).
+  pub record AppendsAll (old : Bank D g) (deeds : List Deed) (result : Result (Unit {0}) BankFault)
+      (new : Bank D g) : Type 0 where
+    -- At no moment a crash leaves anything but the old records, or these and all of the new ones;
+    pub any_moment : (body : List ℕ) (records : List (List Deed)) → g.honest old.disk
+        → IsSettled old.form old.generation body records old.end (g.view old.disk)
+        → LeavesOnly (g.view old.disk) (g.view new.disk)
+        (IsOldOrAll old.form old.generation body records deeds)
+    -- at Ok it leaves the new ones.
+    pub done : (body : List ℕ) (records : List (List Deed)) → g.honest old.disk
+        → IsSettled old.form old.generation body records old.end (g.view old.disk)
+        → OnOk result (IsSettledWithAll new.form new.generation body records deeds new.end
+        (g.view new.disk))
+    pub place : OnOk result
+        (new.end ≡ old.end + bytes_for (length deeds) (length (payload old.form deeds)))
+    pub count : OnOk result (new.records ≡ old.records + records_for (length deeds))
+    pub ready : OnOk result (new.is_spent ≡ false)
+    -- It is Full exactly where one of the deeds has no spelling in the bank's form, or the closed
+    -- gate after the new records would pass the limit; nothing changed then.
+    pub fits : OnOk result (All (SuitsForm old.form) deeds)
+    pub room : OnOk result (new.end < new.limit)
+    pub full : IsErrOf result faults.Full ↔ (old.is_spent ≡ false)
+        × (IsUnspelled old.form deeds
+        ⊎ (old.limit ≤ old.end + bytes_for (length deeds) (length (payload old.form deeds))))
+    pub unfilled : IsErrOf result faults.Full → new ≡ old
+    pub spent : IsErrOf result faults.Spent ↔ (old.is_spent ≡ true)
+    pub unspent : old.is_spent ≡ true → new ≡ old
+    -- The count of failures rises where the device is reported to have failed, and there alone.
+    pub cause : IfErr result
+        (λ fault. TellsFailures faults.Disk fault (g.failures old.disk) (g.failures new.disk))
+    pub steady : OnOk result (g.failures new.disk ≡ g.failures old.disk)
+    -- However many records these are, it is four device calls that change or sync the disk.
     pub clock : g.honest old.disk
         → OnOk result ((g.view new.disk).moment ≡ (g.view old.disk).moment + 4)
     pub off : IsErrOf result faults.Disk → new.is_spent ≡ true

@@ -2,13 +2,14 @@
 //! form in which it spells values: one that is made is in `BANK_FORM`, one that is opened stays in
 //! its own.
 
-ghost use Rattle.std.specs.Prelude.{◌≡◌, ◌<◌, ◌≤◌, ◌+◌, ◌^◌, [], ◌↔◌, ℕ, List, length, IfOk, IfErr};
-ghost use Rattle.std.specs.Prelude.{true, false};
+ghost use Rattle.std.specs.Prelude.{◌≡◌, ◌<◌, ◌≤◌, ◌+◌, ◌*◌, ◌^◌, [], ◌↔◌, ℕ, List, length};
+ghost use Rattle.std.specs.Prelude.{IfOk, IfErr, true, false};
 ghost use Rattle.linda_store_state.specs.DeedFormat.{written};
 ghost use Rattle.linda_disk.specs.View.{IsDurable};
 ghost use Rattle.linda_disk.specs.Disk.{TellsFailures};
 ghost use Rattle.linda_disk.specs.Run.{LeavesOnly};
-ghost use Rattle.linda_journal.specs.declared.limits.TheConstants.{MAX_DEEDS, MIN_BYTES};
+ghost use Rattle.linda_journal.specs.declared.limits.TheConstants.{MAX_DEEDS, MAX_RECORDS};
+ghost use Rattle.linda_journal.specs.declared.limits.TheConstants.{MIN_BYTES};
 ghost use Rattle.linda_journal.specs.Bank.{IsSettled, IsNoneOrNew};
 ghost use Rattle.linda_journal.specs.Renewal.{IsWhole};
 
@@ -18,8 +19,8 @@ use crate::limits::MIN_BYTES;
 use crate::making::{inscribe, spell_front};
 use crate::opening::load;
 use crate::payload::deeds_fit;
-use crate::record::{Record, spell_body};
-use crate::size::record_len;
+use crate::record::{Record, behind_gate, spell_all};
+use crate::size::{records_for, records_len};
 use crate::whole::Whole;
 use linda_disk::{Disk, DiskFault, MemDisk};
 use linda_store_state::{BANK_FORM, Deed};
@@ -41,7 +42,7 @@ pub struct Bank<D: Disk> {
 }
 
 impl<D: Disk> Bank<D> {
-    ghost use Rattle.linda_journal.specs.Calls.{Opens, Appends};
+    ghost use Rattle.linda_journal.specs.Calls.{Opens, Appends, AppendsAll};
 
     /// The form in which the bank spells values, which its first letters tell.
     pub fn form(&self) -> Form
@@ -228,19 +229,35 @@ impl<D: Disk> Bank<D> {
         requires few { length deeds.now ≤ MAX_DEEDS }
         ensures { Appends self.old deeds.now result self.new }
     {
+        self.append_all(alloc, deeds)
+    }
+
+    /// Adds the records of these deeds to the journal, as many as they take, each but the last of
+    /// as many as a record may have: a write of all of them after the closed gate at the end, a
+    /// sync, a write that opens the first gate, a sync. So a crash leaves all of them or none.
+    ///
+    /// # Errors
+    ///
+    /// As those of `append`; after `Disk`, and `Memory` where the disk found none, all of the
+    /// records are there or none is.
+    pub fn append_all(&mut self, alloc: Global, deeds: &[Deed]) -> Result<(), BankFault>
+        requires some { 1 ≤ length deeds.now }
+        requires few { length deeds.now ≤ MAX_DEEDS * MAX_RECORDS }
+        ensures { AppendsAll self.old deeds.now result self.new }
+    {
         if self.is_spent {
             return Err(BankFault::Spent);
         }
-        let len = record_len(self.form, deeds);
+        let len = records_len(self.form, deeds);
         if !deeds_fit(self.form, deeds) || !has_room(self.limit, self.end, len) {
             return Err(BankFault::Full);
         }
-        let bytes = spell_body(alloc, self.form, deeds, len)?;
+        let bytes = spell_all(alloc, self.form, deeds, len)?;
         self.is_spent = true;
-        stage(&mut self.disk, self.end, &bytes)?;
+        stage(&mut self.disk, self.end, behind_gate(&bytes))?;
         open_gate(&mut self.disk, self.end)?;
         self.end += len;
-        self.records += 1;
+        self.records += records_for(deeds.len());
         self.is_spent = false;
         Ok(())
     }

@@ -5,6 +5,9 @@ use linda_codec::{NUMBER_BYTES, SHORT_NUMBER_BYTES};
 /// The most deeds of one record.
 pub const MAX_DEEDS: usize = linda_store_state::MAX_DEEDS;
 
+/// The most records that come onto a bank at once.
+pub const MAX_RECORDS: usize = 64;
+
 /// The bytes of a gate.
 pub const GATE_BYTES: usize = 1;
 

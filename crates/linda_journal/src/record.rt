@@ -1,17 +1,17 @@
 //! A record: one deed or more that were done together, after one gate, in a form.
 
-ghost use Rattle.std.specs.Prelude.{◌≡◌, ◌∷◌, [], ◌++◌, ◌<◌, ◌≤◌, ◌^◌, ℕ, List, All, length, IfOk};
+ghost use Rattle.std.specs.Prelude.{◌≡◌, ◌++◌, ◌<◌, ◌≤◌, ◌^◌, ℕ, List, All, length, drop, IfOk};
 ghost use Rattle.std.specs.Prelude.{IfSome, IfNone, OnOk};
 ghost use Rattle.linda_store_state.specs.declared.deed.Deed as deed;
-ghost use Rattle.linda_journal.specs.declared.kinds.TheConstants.{CLOSED};
 ghost use Rattle.linda_journal.specs.declared.limits.TheConstants.{MAX_DEEDS};
 ghost use Rattle.linda_journal.specs.Records.{FitsDeed, IsRecord, record_body, spell_record};
+ghost use Rattle.linda_journal.specs.Records.{payload, AreSpelled};
 ghost use Rattle.linda_journal.specs.Journal.{IsNoRecord};
 
-use crate::kinds::CLOSED;
-use crate::limits::RECORD_HEAD;
+use crate::kinds::{CLOSED, OPEN};
+use crate::limits::MAX_DEEDS;
 use crate::payload::read_payload;
-use linda_codec::{push_list, read_u32};
+use linda_codec::{list_len, push_list, read_u32};
 use linda_store_state::Deed;
 use linda_tuple::Form;
 use std::alloc::{AllocError, Global};
@@ -52,27 +52,68 @@ pub(crate) fn read_record(
     }
 }
 
-/// What is to stand after the gate of the record of these deeds, with a closed gate at its end: as
-/// many bytes as the record has, which are these.
-pub(crate) fn spell_body(
+/// The records of these deeds, each but the last of as many as a record may have, and a closed gate
+/// after them. Their first gate is open, and stands first. The bytes of the records are counted
+/// before, so that memory is taken once.
+pub(crate) fn spell_all(
     alloc: Global,
     form: Form,
     deeds: &[Deed],
     len: usize,
 ) -> Result<Vec<u8>, AllocError>
     requires some { 1 ≤ length deeds.now }
-    requires few { length deeds.now ≤ MAX_DEEDS }
     requires fits { All (FitsDeed form) deeds.now }
-    requires long { len ≡ length (spell_record form deeds.now) }
-    requires short { len < 2 ^ 32 }
-    ensures bytes { IfOk result (λ v. v.items ≡ record_body form deeds.now ++ CLOSED ∷ []) }
-    ensures good { OnOk result (IsRecord form deeds.now) }
+    requires short { len < 2 ^ 40 }
+    ensures { IfOk result (λ v. AreSpelled form deeds.now v.items) }
 {
-    let mut out = Vec::with_capacity(alloc, len)?;
-    out.extend_from_slice(&as_length(len - RECORD_HEAD).to_be_bytes())?;
-    push_list(form, &mut out, deeds)?;
+    let mut out = Vec::with_capacity(alloc, len + 1)?;
+    let mut rest = deeds;
+    while !rest.is_empty() {
+        let (batch, after) = rest.split_at(first_of(rest.len()));
+        push_record(form, &mut out, batch)?;
+        rest = after;
+    }
     out.push(CLOSED)?;
     Ok(out)
+}
+
+/// What stands behind the gate with which the bytes begin.
+pub(crate) fn behind_gate(bytes: &[u8]) -> &[u8]
+    ensures { result.now ≡ drop 1 bytes.now }
+{
+    match bytes {
+        [_, behind @ ..] => behind,
+        [] => bytes,
+    }
+}
+
+// How many of so many deeds the next record has.
+fn first_of(count: usize) -> usize
+    ensures some { 0 < count → 0 < result }
+    ensures within { result ≤ count }
+    ensures few { result ≤ MAX_DEEDS }
+    ensures all { result < MAX_DEEDS → result ≡ count }
+{
+    if count < MAX_DEEDS { count } else { MAX_DEEDS }
+}
+
+// Pushes the record of these deeds.
+fn push_record(form: Form, out: &mut Vec<u8>, deeds: &[Deed]) -> Result<(), AllocError>
+    requires { IsRecord form deeds.now }
+    ensures { OnOk result (out.new.items ≡ out.old.items ++ spell_record form deeds.now) }
+{
+    out.push(OPEN)?;
+    out.extend_from_slice(&payload_len(form, deeds).to_be_bytes())?;
+    push_list(form, out, deeds)?;
+    Ok(())
+}
+
+// How many bytes the payload of a record has.
+fn payload_len(form: Form, deeds: &[Deed]) -> u32
+    requires { IsRecord form deeds.now }
+    ensures { result ≡ length (payload form deeds.now) }
+{
+    as_length(list_len(form, deeds))
 }
 
 pub(crate) fn as_length(len: usize) -> u32

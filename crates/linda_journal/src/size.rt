@@ -1,19 +1,30 @@
-//! How many bytes a record spells in a form, counted without spelling it.
+//! How many records deeds take, and how many bytes these spell in a form, counted without spelling
+//! them.
 
-ghost use Rattle.std.specs.Prelude.{◌≡◌, ◌<◌, ◌≤◌, ◌^◌, length};
-ghost use Rattle.linda_journal.specs.declared.limits.TheConstants.{MAX_DEEDS};
+ghost use Rattle.std.specs.Prelude.{◌≡◌, ◌<◌, ◌≤◌, ◌*◌, ◌^◌, length};
+ghost use Rattle.linda_journal.specs.declared.limits.TheConstants.{MAX_DEEDS, MAX_RECORDS};
 ghost use Rattle.linda_journal.specs.Records as format;
 
-use crate::limits::RECORD_HEAD;
+use crate::limits::{MAX_DEEDS, RECORD_HEAD};
 use linda_codec::list_len;
 use linda_store_state::Deed;
 use linda_tuple::Form;
 
-/// How many bytes the record of these deeds spells, its gate among them.
-pub(crate) fn record_len(form: Form, deeds: &[Deed]) -> usize
-    requires { length deeds.now ≤ MAX_DEEDS }
-    ensures exact { result ≡ length (format.spell_record form deeds.now) }
-    ensures short { result < 2 ^ 32 }
+/// How many records so many deeds take, if each but the last has as many as a record may have.
+pub fn records_for(deeds: usize) -> usize
+    requires { deeds ≤ MAX_DEEDS * MAX_RECORDS }
+    ensures exact { result ≡ format.records_for deeds }
+    ensures few { result ≤ MAX_RECORDS }
 {
-    RECORD_HEAD + list_len(form, deeds)
+    (deeds + (MAX_DEEDS - 1)) / MAX_DEEDS
+}
+
+/// How many bytes the records of these deeds spell, their gates among them.
+pub(crate) fn records_len(form: Form, deeds: &[Deed]) -> usize
+    requires { length deeds.now ≤ MAX_DEEDS * MAX_RECORDS }
+    ensures exact { result ≡ format.bytes_for (length deeds.now)
+        (length (format.payload form deeds.now)) }
+    ensures short { result < 2 ^ 40 }
+{
+    RECORD_HEAD * records_for(deeds.len()) + list_len(form, deeds)
 }

@@ -61,4 +61,5 @@ no_tally = record {
   late = 0;
   groups = 0;
   messages = 0;
+  took = 0;
 }

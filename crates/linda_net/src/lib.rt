@@ -11,6 +11,7 @@
 mod coming;
 mod frames;
 mod limits;
+mod listeners;
 mod loops;
 mod marks;
 mod reader;
@@ -27,9 +28,12 @@ pub use linda_net_proxy::{
     Arrival, FIRST_TRIES, Inbox, Link, MAX_TRIES, Proxy, ProxyFault, end, send,
 };
 pub use linda_net_pump::{Intake, pump};
-pub use linda_shared::{Gauge, Shared, SharedFault};
+pub use linda_shared::{
+    ClientPage, Gauge, ListedClient, ListedTuple, Shared, SharedFault, TuplePage, TupleQuery,
+};
+pub use listeners::Listeners;
 pub use marks::Tally;
 pub use refusals::{Refused, Why};
 pub use serving::{serve, serve_loop, serve_watched};
-pub use status::{Status, Teller};
+pub use status::{Asked, Status, Teller, Told};
 pub use watching::{Notice, Watcher};

@@ -21,8 +21,9 @@ mod relay;
 mod relays;
 mod running;
 mod sessions;
+mod stream;
+mod took;
 mod turns;
 
-pub(crate) use lease::Lease;
 pub(crate) use relays::Relays;
 pub(crate) use running::Loops;

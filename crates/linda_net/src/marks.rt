@@ -32,6 +32,8 @@ pub struct Tally {
     pub groups: u64,
     /// How many messages those had.
     pub messages: u64,
+    /// For how many microseconds the loops waited for the server and served those groups.
+    pub took: u64,
 }
 
 impl Tally {
@@ -49,6 +51,7 @@ impl Tally {
             late: 0,
             groups: 0,
             messages: 0,
+            took: 0,
         }
     }
 }
@@ -65,6 +68,7 @@ pub(crate) struct Marks {
     late: AtomicU64,
     groups: AtomicU64,
     messages: AtomicU64,
+    took: AtomicU64,
     // What came of the last snapshot, until it is reported.
     snapshot: Mutex<Option<Notice>>,
 }
@@ -82,6 +86,7 @@ impl Marks {
             late: AtomicU64::new(0),
             groups: AtomicU64::new(0),
             messages: AtomicU64::new(0),
+            took: AtomicU64::new(0),
             snapshot: Mutex::new(None),
         }
     }
@@ -117,6 +122,11 @@ impl Marks {
         let _ = self.messages.fetch_add(count as u64, Ordering::SeqCst);
     }
 
+    /// A group took so many microseconds.
+    pub(crate) fn spends(&self, micros: u64) {
+        let _ = self.took.fetch_add(micros, Ordering::SeqCst);
+    }
+
     /// This reply goes out: if it says that the bank is full, or refuses its client for what an
     /// operator may mend, that is counted.
     pub(crate) fn sends(&self, reply: &Reply) {
@@ -150,6 +160,7 @@ impl Marks {
             late: self.late.load(Ordering::SeqCst),
             groups: self.groups.load(Ordering::SeqCst),
             messages: self.messages.load(Ordering::SeqCst),
+            took: self.took.load(Ordering::SeqCst),
         }
     }
 }

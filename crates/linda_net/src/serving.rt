@@ -6,6 +6,7 @@ ghost use Rattle.std.specs.Duration.{as_nanos};
 
 use crate::coming::{REST, one_less};
 use crate::limits::Limits;
+use crate::listeners::Listeners;
 use crate::loops::{Loops, Relays};
 use crate::marks::{Marks, Tally};
 use crate::reader::read_messages;
@@ -109,8 +110,8 @@ fn serve_beside<
 /// in a thread of its own, read what came and write what is sent. A loop takes what its connections
 /// have to the server as one group, those messages first of which no deed comes. An idle connection
 /// costs no thread. A client that holds a tuple and says nothing for longer than the limits allow
-/// has its connection ended. If the system has no room for a loop, and there is no such limit, it
-/// serves as `serve_watched` does.
+/// has its connection ended. If the system has no room for a loop, and there is neither such a
+/// limit nor a unix socket, it serves as `serve_watched` does.
 ///
 /// # Errors
 ///
@@ -124,20 +125,20 @@ pub fn serve_loop<
 >(
     rt: &R,
     alloc: Global,
-    listener: TcpListener,
+    listeners: Listeners,
     shared: &Shared<D, L>,
     limits: Limits,
     watcher: &Mutex<T>,
     status: Option<Status<A>>,
 ) -> (Result<(), SharedFault>, Tally) {
     let Ok((loops, relays)) = Loops::begin(rt, alloc) else {
-        return serve_plainly(rt, alloc, &listener, shared, limits, watcher, status);
+        return serve_plainly(rt, alloc, &listeners, shared, limits, watcher, status);
     };
-    if listener.set_nonblocking(true).is_err() {
-        return serve_plainly(rt, alloc, &listener, shared, limits, watcher, status);
+    if listeners.hurry().is_err() {
+        return serve_plainly(rt, alloc, &listeners, shared, limits, watcher, status);
     }
     let mut loops = loops;
-    if loops.open(listener, limits).is_err() {
+    if loops.open(listeners, limits).is_err() {
         return (Err(SharedFault::NoThread), Tally::none());
     }
     let station = opened(rt, alloc, status);
@@ -168,7 +169,8 @@ fn run_loops<D: Disk + Send, L: Ledger + Send + Sync, R: Threads + Wait + Clock 
     }
 }
 
-// Serves by threads if there is no room for loops: unless a limit is set that threads do not keep.
+// Serves by threads if there is no room for loops: unless a limit is set that threads do not keep,
+// or connections come from elsewhere than a port.
 fn serve_plainly<
     D: Disk + Send,
     L: Ledger + Send + Sync,
@@ -178,15 +180,18 @@ fn serve_plainly<
 >(
     rt: &R,
     alloc: Global,
-    listener: &TcpListener,
+    listeners: &Listeners,
     shared: &Shared<D, L>,
     limits: Limits,
     watcher: &Mutex<T>,
     status: Option<Status<A>>,
 ) -> (Result<(), SharedFault>, Tally) {
-    if limits.lease.is_some() {
+    if limits.lease.is_some() || listeners.socket.is_some() {
         return (Err(SharedFault::NoThread), Tally::none());
     }
+    let Some(listener) = &listeners.port else {
+        return (Err(SharedFault::NoThread), Tally::none());
+    };
     serve_watched(
         rt,
         alloc,

@@ -1,36 +1,36 @@
 //! What a server says of itself over HTTP, beside the connections that it serves.
 //!
-//! - A `Teller` has the pages, which it spells from the numbers of the server.
-//! - A `Station` has a listener and some connections, each of which asks once and is answered
-//!   (`Caller`). It waits for none of them.
-//! - What a connection asks for is read by `read_head`, and what goes before a page is an `Answer`.
+//! - A `Teller` has the pages, which it spells from the server and what happened at it.
+//! - A `Station` is the `HttpServer` of linda_net_http that answers by them.
 
-mod answer;
-mod caller;
-mod head;
 mod station;
 
 use crate::marks::Tally;
-use linda_shared::Gauge;
+use linda_disk::Disk;
+pub use linda_net_http::{Asked, Told};
+use linda_shared::Shared;
 pub(crate) use station::Station;
 use std::alloc::AllocError;
 use std::net::TcpListener;
+use std::sync::Wait;
+use std::sync::ledger::Ledger;
 
 /// Who has the pages that are asked for.
 pub trait Teller {
-    /// Writes the page of this path behind what is there. Returns of which kind it is, or nothing
-    /// if there is no such page.
+    /// Writes the page that is asked for behind what is there, and returns of which kind it is; or
+    /// why there is none.
     ///
     /// # Errors
     ///
     /// Memory ran out: some of the page may be there.
-    fn spell(
+    fn spell<D: Disk, L: Ledger, R: Wait>(
         &self,
-        path: &[u8],
-        gauge: &Gauge,
+        rt: &R,
+        shared: &Shared<D, L>,
         tally: &Tally,
+        asked: Asked<'_>,
         page: &mut String,
-    ) -> Result<Option<&'static str>, AllocError>;
+    ) -> Result<Told, AllocError>;
 }
 
 /// Where it is asked how the server does, and who has the pages.
@@ -45,13 +45,14 @@ pub struct Status<A: Teller> {
 pub(crate) struct Unasked;
 
 impl Teller for Unasked {
-    fn spell(
+    fn spell<D: Disk, L: Ledger, R: Wait>(
         &self,
-        _path: &[u8],
-        _gauge: &Gauge,
+        _rt: &R,
+        _shared: &Shared<D, L>,
         _tally: &Tally,
+        _asked: Asked<'_>,
         _page: &mut String,
-    ) -> Result<Option<&'static str>, AllocError> {
-        Ok(None)
+    ) -> Result<Told, AllocError> {
+        Ok(Told::Nothing)
     }
 }

@@ -1,6 +1,6 @@
 //! The connection of a client to one of its servers, greeted again where it was lost.
 
-ghost use Rattle.std.specs.Prelude.{◌≡◌};
+ghost use Rattle.std.specs.Prelude.{◌≡◌, None, Some};
 
 use crate::arrivals::Arrival;
 use crate::course::{Course, Next, arrival_of};
@@ -23,6 +23,8 @@ const LOOK: u64 = 10;
 pub struct Link {
     server: u32,
     port: u16,
+    // Where the server listens in place of a port: on a unix socket at this path.
+    path: Option<String>,
     client: u32,
     // The client was never used before.
     fresh: bool,
@@ -46,17 +48,31 @@ impl Link {
     pub fn new(server: u32, port: u16, client: u32, fresh: bool) -> Link
         ensures server { result.server ≡ server }
         ensures port { result.port ≡ port }
+        ensures path { result.path ≡ None }
         ensures client { result.client ≡ client }
         ensures fresh { result.fresh ≡ fresh }
     {
         Link {
             server,
             port,
+            path: None,
             client,
             fresh,
             connection: Mutex::new(None),
             retries: Mutex::new(false),
         }
+    }
+
+    /// As `new` makes it, to a server that listens on the unix socket at this path.
+    pub fn at(server: u32, path: String, client: u32, fresh: bool) -> Link
+        ensures server { result.server ≡ server }
+        ensures path { result.path ≡ Some path }
+        ensures client { result.client ≡ client }
+        ensures fresh { result.fresh ≡ fresh }
+    {
+        let mut link = Link::new(server, 0, client, fresh);
+        link.path = Some(path);
+        link
     }
 
     /// Has the server tried again that was given up for want of a connection.
@@ -206,7 +222,7 @@ impl Link {
         inbox: &Inbox,
         fresh: bool,
     ) -> Result<Proxy, ProxyFault> {
-        let mut proxy = Proxy::connect(rt, alloc, self.port)?;
+        let mut proxy = self.connect(rt, alloc)?;
         let stream = proxy.sender()?;
         *self.connection.lock(rt) = Some(Connection {
             stream,
@@ -219,6 +235,18 @@ impl Link {
         self.welcome(rt);
         inbox.bring(rt, self.server, Arrival::Greeted(last));
         Ok(proxy)
+    }
+
+    // A connection to where the server listens.
+    fn connect<R: Net<Stream = TcpStream>>(
+        &self,
+        rt: &R,
+        alloc: Global,
+    ) -> Result<Proxy, ProxyFault> {
+        match &self.path {
+            Some(path) => Proxy::connect_at(rt, alloc, path.as_str()),
+            None => Proxy::connect(rt, alloc, self.port),
+        }
     }
 
     // What is sent goes out from now on.

@@ -12,6 +12,8 @@ use linda_wire::{FrameFault, Message, Reply, ReplyFeed, encode_message};
 use std::alloc::Global;
 use std::io::{Read, Write};
 use std::net::{Ipv4Addr, Net, Shutdown, SocketAddr, TcpStream};
+use std::os::fd::OwnedFd;
+use std::os::unix::net::UnixStream;
 
 /// The most bytes that are read at once.
 const PIECE: usize = 4096;
@@ -19,7 +21,8 @@ const PIECE: usize = 4096;
 /// The most reads for one reply. Each that does not end the connection gives a byte at least.
 const MAX_READS: u32 = 4_294_967_295;
 
-/// A connection to a server. It is of use once the server has welcomed its client.
+/// A connection to a server. It is of use once the server has welcomed its client. Its stream may
+/// be one of a unix socket: the system reads, writes and ends both alike.
 #[derive(Drop)]
 pub struct Proxy {
     stream: TcpStream,
@@ -42,6 +45,25 @@ impl Proxy {
             return Err(ProxyFault::Unreachable);
         };
         let _ = stream.set_nodelay(true);
+        let feed = ReplyFeed::new(alloc);
+        Ok(Proxy { stream, feed })
+    }
+
+    /// Connects to the server that listens on the unix socket at this path. Nothing is said to it
+    /// yet.
+    ///
+    /// # Errors
+    ///
+    /// `Unreachable`, also if this user may not connect.
+    pub fn connect_at<R: Net<Stream = TcpStream>>(
+        rt: &R,
+        alloc: Global,
+        path: &str,
+    ) -> Result<Proxy, ProxyFault> {
+        let Ok(stream) = UnixStream::connect(rt, path) else {
+            return Err(ProxyFault::Unreachable);
+        };
+        let stream = TcpStream::from(OwnedFd::from(stream));
         let feed = ReplyFeed::new(alloc);
         Ok(Proxy { stream, feed })
     }

@@ -14,3 +14,7 @@ IsOfThisMachine (V6 a) port = ⊥
 -- `ready PORT`, as a line
 abbrev pub ready_line : ℕ → List ℕ
 ready_line port = codes "ready " ++ decimal port ++ 10 ∷ []
+
+-- `ready PATH`, as a line
+abbrev pub ready_line_at : List ℕ → List ℕ
+ready_line_at path = codes "ready " ++ path ++ 10 ∷ []

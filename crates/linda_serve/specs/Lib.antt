@@ -2,3 +2,4 @@ pub mod Faults
 pub mod Address
 pub mod Minutes
 pub mod Status
+pub mod Listed

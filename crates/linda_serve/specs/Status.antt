@@ -1,5 +1,6 @@
 -- What a server says of itself over HTTP.
-use Rattle.std.specs.Prelude.{◌++◌, ◌-◌, ℕ, List, [], ◌∷◌, codes, if◌then◌else◌, Bool, true, false}
+use Rattle.std.specs.Prelude.{◌++◌, ◌-◌, ◌/◌, ◌%◌, ℕ, List, [], ◌∷◌, codes, if◌then◌else◌, Bool}
+use Rattle.std.specs.Prelude.{true, false}
 use Rattle.std.specs.Prelude.{Option, Some, None}
 use Rattle.std.specs.Fmt.{decimal}
 use Rattle.std.specs.Str.{bytes_eq}
@@ -17,7 +18,9 @@ form_at path =
     if bytes_eq path (codes "/") then Some forms.Page
     else (if bytes_eq path (codes "/metrics") then Some forms.Metrics
     else (if bytes_eq path (codes "/status.json") then Some forms.Json
-    else None))
+    else (if bytes_eq path (codes "/tuples") then Some forms.Tuples
+    else (if bytes_eq path (codes "/clients") then Some forms.Clients
+    else None))))
 
 -- 1 if the server is up, 0 if it is down
 abbrev pub is_up : Bool → ℕ
@@ -47,10 +50,25 @@ value_of figures.Unserved gauge tally = unserved tally
 value_of figures.Late gauge tally = tally.late
 value_of figures.Groups gauge tally = tally.groups
 value_of figures.Messages gauge tally = tally.messages
+value_of figures.Took gauge tally = tally.took
 
 -- A number of a metric, as a line: its name with its label, a blank, and its digits.
 abbrev pub sample : List ℕ → List ℕ → ℕ → List ℕ
 sample metric label value = metric ++ label ++ codes " " ++ decimal value ++ 10 ∷ []
+
+-- the last three digits of a number
+abbrev pub digits : ℕ → List ℕ
+digits n = decimal (n / 100 % 10) ++ decimal (n / 10 % 10) ++ decimal (n % 10)
+
+-- So many microseconds in seconds: a point, and six digits behind it.
+abbrev pub seconds : ℕ → List ℕ
+seconds micros =
+    decimal (micros / 1_000_000) ++ codes "."
+    ++ digits (micros % 1_000_000 / 1_000) ++ digits (micros % 1_000_000 % 1_000)
+
+-- A time, as a line.
+abbrev pub time_sample : List ℕ → List ℕ → ℕ → List ℕ
+time_sample metric label micros = metric ++ label ++ codes " " ++ seconds micros ++ 10 ∷ []
 
 -- the mark before and after a name in JSON, `"`
 abbrev pub quote : ℕ
@@ -59,3 +77,7 @@ quote = 34
 -- A member of an object of JSON: its name in quotes, a colon, and its digits.
 abbrev pub member : List ℕ → ℕ → List ℕ
 member key value = quote ∷ key ++ quote ∷ codes ":" ++ decimal value
+
+-- A member whose value is a time.
+abbrev pub time_member : List ℕ → ℕ → List ℕ
+time_member key micros = quote ∷ key ++ quote ∷ codes ":" ++ seconds micros

@@ -1,10 +1,12 @@
-//! `linda serve`: the store in a folder, for clients that connect to a port of this machine.
+//! `linda serve`: the store in a folder, for clients that connect to a port of this machine, or to
+//! a unix socket.
 
 mod address;
 mod fault;
 mod heap;
 mod log;
 mod minutes;
+mod socket;
 mod stamp;
 mod status;
 mod store;
@@ -12,16 +14,18 @@ mod store;
 ghost use Rattle.std.specs.Prelude.{◌≡◌, ◌<◌, false, IfOk, OnErr, OnOk};
 ghost use Rattle.linda_shared_accounts.specs.declared.limits.TheConstants.{PARTS};
 
-use address::{of_this_machine, ready_line};
+use address::{of_this_machine, ready_line, ready_line_at};
 pub use fault::ServingFault;
 use fault::served;
 use heap::keep_heap;
 use linda_disk::FileDisk;
-use linda_net::{Limits, Shared, SharedFault, Status, Tally, serve_loop, serve_watched};
+use linda_net::{Limits, Listeners, Shared, SharedFault, Status, Tally, serve_loop, serve_watched};
 use linda_server::Durable;
 pub use linda_server::InUse;
 use linda_shared_accounts::PARTS;
 pub use log::{Cause, Log};
+pub use socket::Place;
+use socket::{listen_at, remove};
 pub use stamp::stamp_of;
 use status::Numbers;
 use std::alloc::Global;
@@ -30,6 +34,7 @@ use std::hash::RandomState;
 use std::io::Write;
 use std::marker::Brand;
 use std::net::{Net, TcpListener, TcpStream};
+use std::os::unix::net::UnixListener;
 use std::random::RandomSource;
 use std::sync::ledger::{Blank, Ledger};
 use std::sync::{Mutex, Wait};
@@ -42,8 +47,10 @@ use store::{give_back, open_folder};
 /// What is served, where, and for how long.
 #[derive(Clone, Copy, Debug)]
 pub struct Plan<'a> {
-    /// The port of this machine, or 0 for any that is free.
-    pub port: u16,
+    /// The port of this machine, or 0 for any that is free, if it listens on one.
+    pub port: Option<u16>,
+    /// The unix socket, if it listens on one; only loops serve it.
+    pub socket: Option<Place<'a>>,
     /// The folder of the store.
     pub folder: &'a str,
     /// After how many connections it ends, if it does.
@@ -57,10 +64,14 @@ pub struct Plan<'a> {
     pub status: Option<u16>,
 }
 
-/// Serves the store in a folder to clients that connect to a port of this machine, and writes
-/// `ready PORT` once it listens. If there is a sink, it gets a log, as docs/OPERATING.md has it; a
-/// line that cannot be written there is lost. If there is a port for it, the server says there how
-/// it does, as docs/OPERATING.md has it too.
+/// Serves the store in a folder to clients that connect to a port of this machine, to a unix
+/// socket, or to either, and writes `ready PORT` once it listens; without a port `ready PATH`. If
+/// there is a sink, it gets a log, as docs/OPERATING.md has it; a line that cannot be written there
+/// is lost. If there is a port for it, the server says there how it does, as docs/OPERATING.md has
+/// it too.
+///
+/// The socket's file has its mode from the first moment on. One that is left of a server that was
+/// killed is replaced, and it is removed at the end. Anything else at its path stays.
 ///
 /// If the last snapshot was cut off, its room is given back. The next one is put off until there
 /// are as many records more as make one due, unless the bank in use is in the old form or a deed is
@@ -68,10 +79,11 @@ pub struct Plan<'a> {
 ///
 /// # Errors
 ///
-/// As `open_store` returns them, and then `Io` if a port cannot be listened on, or the output
-/// fails. `Down` if the server went down, at the next connection or at the end. `Memory`.
+/// As `open_store` returns them, and then `Io` if a port or a socket cannot be listened on, or
+/// there is neither, or the output fails. `Down` if the server went down, at the next connection or
+/// at the end. `Memory`.
 pub fn serve_folder<
-    F: Files<File = File>,
+    F: Files<File = File> + Net,
     S: Net<Listener = TcpListener, Stream = TcpStream>
         + Threads
         + Wait
@@ -91,7 +103,9 @@ pub fn serve_folder<
     let (mut server, bank) = open_to_serve(files, alloc, plan.folder)?;
     choose_keys(rt, &mut server);
     let log = Log::new(alloc, sink)?;
-    listen_and_serve::<Brand, S, W, E>(
+    let listeners = listen(files, rt, alloc, plan)?;
+    let kept = kept_open(&listeners);
+    let ended = tell_and_serve::<Brand, S, W, E>(
         rt,
         alloc,
         writer,
@@ -99,8 +113,38 @@ pub fn serve_folder<
         bank,
         server,
         Blank::new(PARTS),
+        listeners,
         plan,
-    )
+    );
+    if let Some(socket) = plan.socket {
+        remove(files, socket);
+    }
+    drop(kept);
+    ended
+}
+
+// Listens on the port and on the socket of the plan.
+fn listen<F: Files<File = File> + Net, S: Net<Listener = TcpListener, Stream = TcpStream>>(
+    files: &F,
+    rt: &S,
+    alloc: Global,
+    plan: &Plan<'_>,
+) -> Result<Listeners, ServingFault> {
+    let port = match plan.port {
+        Some(port) => Some(listen_on(rt, port)?),
+        None => None,
+    };
+    let socket = match plan.socket {
+        Some(socket) => Some(listen_at(files, alloc, socket)?),
+        None => None,
+    };
+    Ok(Listeners { port, socket })
+}
+
+// Keeps the socket open until its file is removed, so that nobody replaces it before.
+fn kept_open(listeners: &Listeners) -> Option<UnixListener> {
+    let socket = listeners.socket.as_ref()?;
+    socket.try_clone().ok()
 }
 
 // Opens the store in a folder to serve it, and gives back the room of a snapshot that was cut off;
@@ -149,8 +193,8 @@ fn share<L: Ledger, R: Wait>(
     Ok(shared)
 }
 
-// Listens, says so, and serves.
-fn listen_and_serve<
+// Says where it listens, and serves.
+fn tell_and_serve<
     L: Ledger + Send + Sync,
     S: Net<Listener = TcpListener, Stream = TcpStream> + Threads + Wait + Clock + Sync,
     W: Write,
@@ -163,6 +207,7 @@ fn listen_and_serve<
     bank: Option<InUse>,
     server: Durable<FileDisk>,
     blank: Blank,
+    listeners: Listeners,
     plan: &Plan<'_>,
 ) -> Result<(), ServingFault>
     requires up { server.down ≡ false }
@@ -171,29 +216,39 @@ fn listen_and_serve<
     let mut log = log;
     let shared: Shared<FileDisk, L> = share(rt, alloc, server, blank)?;
     keep_heap(alloc);
-    let listener = listen(rt, plan.port)?;
-    let status = listen_for_status(rt, plan.status)?;
-    log.tell_opened(rt, port_of(&listener)?, bank, &shared.gauge(rt));
-    tell_ready(alloc, writer, &listener)?;
+    let status = listen_for_status(rt, alloc, plan.status)?;
+    let port = port_of(&listeners)?;
+    let path = plan.socket.map(|socket| socket.path);
+    log.tell_opened(rt, port, path, bank, &shared.gauge(rt));
+    tell_ready(alloc, writer, port, path)?;
     let watcher = Mutex::new(log);
-    let (ended, tally) = if plan.by_threads {
-        serve_watched(
+    let (ended, tally) = match by_threads(&listeners, plan) {
+        Some(listener) => serve_watched(
             rt,
             alloc,
-            &listener,
+            listener,
             &shared,
             plan.sessions,
             &watcher,
             status,
-        )
-    } else {
-        let limits = Limits {
-            sessions: plan.sessions,
-            lease: plan.lease,
-        };
-        serve_loop(rt, alloc, listener, &shared, limits, &watcher, status)
+        ),
+        None => {
+            let limits = Limits {
+                sessions: plan.sessions,
+                lease: plan.lease,
+            };
+            serve_loop(rt, alloc, listeners, &shared, limits, &watcher, status)
+        }
     };
     tell_end(rt, watcher.into_inner(), shared, ended, &tally)
+}
+
+// The listener of a port whose connections have two threads each, if the plan wants that.
+fn by_threads<'a>(listeners: &'a Listeners, plan: &Plan<'_>) -> Option<&'a TcpListener> {
+    if !plan.by_threads || listeners.socket.is_some() {
+        return None;
+    }
+    listeners.port.as_ref()
 }
 
 // Writes the last line of the log: how it ended, and why.
@@ -239,7 +294,7 @@ fn cause_of(ended: &Result<(), SharedFault>, failures: u64) -> Cause
 }
 
 // Listens on a port of this machine.
-fn listen<S: Net<Listener = TcpListener, Stream = TcpStream>>(
+fn listen_on<S: Net<Listener = TcpListener, Stream = TcpStream>>(
     rt: &S,
     port: u16,
 ) -> Result<TcpListener, ServingFault> {
@@ -252,31 +307,40 @@ fn listen<S: Net<Listener = TcpListener, Stream = TcpStream>>(
 // Listens where it is asked how the server does, if there is a port for that.
 fn listen_for_status<S: Net<Listener = TcpListener, Stream = TcpStream>>(
     rt: &S,
+    alloc: Global,
     port: Option<u16>,
 ) -> Result<Option<Status<Numbers>>, ServingFault> {
     let Some(port) = port else {
         return Ok(None);
     };
-    let listener = listen(rt, port)?;
-    let teller = Numbers;
+    let listener = listen_on(rt, port)?;
+    let teller = Numbers { alloc };
     Ok(Some(Status { listener, teller }))
 }
 
-// On which port it listens.
-fn port_of(listener: &TcpListener) -> Result<u16, ServingFault> {
+// On which port it listens, if it does.
+fn port_of(listeners: &Listeners) -> Result<Option<u16>, ServingFault> {
+    let Some(listener) = &listeners.port else {
+        return Ok(None);
+    };
     match listener.local_addr() {
-        Ok(address) => Ok(address.port()),
+        Ok(address) => Ok(Some(address.port())),
         Err(_) => Err(ServingFault::Io),
     }
 }
 
-// Writes on which port it listens.
+// Writes on which port it listens, or at which path if it listens on none.
 fn tell_ready<W: Write>(
     alloc: Global,
     writer: &mut W,
-    listener: &TcpListener,
+    port: Option<u16>,
+    path: Option<&str>,
 ) -> Result<(), ServingFault> {
-    let line = ready_line(alloc, port_of(listener)?)?;
+    let line = match (port, path) {
+        (Some(port), _) => ready_line(alloc, port)?,
+        (None, Some(path)) => ready_line_at(alloc, path)?,
+        (None, None) => return Err(ServingFault::Io),
+    };
     if writer.write_all(line.as_bytes()).is_err() || writer.flush().is_err() {
         return Err(ServingFault::Io);
     }

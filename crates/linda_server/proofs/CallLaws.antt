@@ -21,7 +21,6 @@ use Rattle.linda_store_step.proofs.HistoryLaws.{happened}
 use Rattle.linda_disk.specs.View.{View, IsTimed}
 use Rattle.linda_store_state.proofs.DeedFormatLaws.{deed_some}
 use Rattle.linda_snap.specs.Stands.{Stands}
-use Rattle.linda_server.specs.declared.limits.TheConstants.{RECORD_BYTES}
 use Rattle.linda_disk.specs.declared.disk.Disk.{Ghosts}
 use Rattle.linda_journal.specs.declared.bank.Bank.{Bank}
 use Rattle.linda_server.specs.declared.disks.Disks.{Disks}
@@ -31,7 +30,7 @@ use Rattle.linda_server.specs.declared.served.Served.{Served}
 use Rattle.linda_server.specs.Pairs.{Both, PairsSince, PairsNow}
 use Rattle.linda_server.specs.Disks.{sides}
 use Rattle.linda_server.specs.Served.{AreAnswered, deeds_of, portion_of, IsServed}
-use Rattle.linda_server.specs.Calls.{LeadTo, IsOldOrNew, IsEither, IsWithOrWithout, StandsAfter, IsBeforeOrAfter, StandsFor, HasHandled, IsTooMuch}
+use Rattle.linda_server.specs.Calls.{LeadTo, IsOldOrNew, IsEither, IsWithOrWithout, StandsAfter, IsBeforeOrAfter, StandsFor, HasHandled, IsTooMuch, room_for}
 use Rattle.linda_server.specs.Node.{shown}
 use Rattle.linda_server.specs.Server.{both_of, BothHonest, IsUpFor, IsKeptFor}
 use Rattle.linda_server.proofs.ServedLaws.{served_happens}
@@ -98,15 +97,15 @@ some_bytes form (d ∷ ds) lt =
     omega (arith, first, all)
 
 -- What a size in a form says of deeds: how many bytes their record has, or that it has none.
-module _ (given form : Form) (same : given ≡ form) (end limit : ℕ) (size : Option ℕ) (ds : List Deed) where
+module _ (given form : Form) (same : given ≡ form) (end limit most : ℕ) (size : Option ℕ) (ds : List Deed) where
   -- They have a record that keeps within the limit,
-  pub room_of : IfSome size (λ s. s ≡ length (payload given ds)) → IfSome size (λ b. 0 < b → end + RECORD_BYTES + b ≤ limit) → is_some size ≡ true
-      → 0 < length (payload form ds) → end + RECORD_BYTES + length (payload form ds) ≤ limit
-  room_of = subst (λ f. IfSome size (λ s. s ≡ length (payload given ds)) → IfSome size (λ b. 0 < b → end + RECORD_BYTES + b ≤ limit) → is_some size ≡ true
-      → 0 < length (payload f ds) → end + RECORD_BYTES + length (payload f ds) ≤ limit) same (by size)
+  pub room_of : IfSome size (λ s. s ≡ length (payload given ds)) → IfSome size (λ b. 0 < b → end + room_for most b ≤ limit) → is_some size ≡ true
+      → 0 < length (payload form ds) → end + room_for most (length (payload form ds)) ≤ limit
+  room_of = subst (λ f. IfSome size (λ s. s ≡ length (payload given ds)) → IfSome size (λ b. 0 < b → end + room_for most b ≤ limit) → is_some size ≡ true
+      → 0 < length (payload f ds) → end + room_for most (length (payload f ds)) ≤ limit) same (by size)
     where
-      by : (o : Option ℕ) → IfSome o (λ s. s ≡ length (payload given ds)) → IfSome o (λ b. 0 < b → end + RECORD_BYTES + b ≤ limit) → is_some o ≡ true
-          → 0 < length (payload given ds) → end + RECORD_BYTES + length (payload given ds) ≤ limit
+      by : (o : Option ℕ) → IfSome o (λ s. s ≡ length (payload given ds)) → IfSome o (λ b. 0 < b → end + room_for most b ≤ limit) → is_some o ≡ true
+          → 0 < length (payload given ds) → end + room_for most (length (payload given ds)) ≤ limit
       by None bytes room there some = absurd (true≢false (sym there))
       by (Some b) bytes room there some = let fits = room (omega (arith, bytes, some)) in omega (arith, fits, bytes)
 
@@ -120,19 +119,23 @@ module _ (given form : Form) (same : given ≡ form) (end limit : ℕ) (size : O
 
   -- or they are too much.
   pub too_much : IfSome size (λ s. s ≡ length (payload given ds)) → IfNone size (IsUnspelled given ds)
-      → IfSome size (λ b. (0 < b) × (limit < end + RECORD_BYTES + b)) → IsTooMuch form end limit ds
+      → IfSome size (λ b. (0 < b) × (limit < end + room_for most b)) → IsTooMuch form end limit most ds
   too_much = subst (λ f. IfSome size (λ s. s ≡ length (payload given ds)) → IfNone size (IsUnspelled given ds)
-      → IfSome size (λ b. (0 < b) × (limit < end + RECORD_BYTES + b)) → IsTooMuch f end limit ds) same (by size)
+      → IfSome size (λ b. (0 < b) × (limit < end + room_for most b)) → IsTooMuch f end limit most ds) same (by size)
     where
       by : (o : Option ℕ) → IfSome o (λ s. s ≡ length (payload given ds)) → IfNone o (IsUnspelled given ds)
-          → IfSome o (λ b. (0 < b) × (limit < end + RECORD_BYTES + b)) → IsTooMuch given end limit ds
+          → IfSome o (λ b. (0 < b) × (limit < end + room_for most b)) → IsTooMuch given end limit most ds
       by None bytes none past = inl none
       by (Some b) bytes none past = inr (let some = past.0 in omega (arith, some, bytes), let over = past.1 in omega (arith, over, bytes))
 
   pub not_too_much : IfSome size (λ s. s ≡ length (payload given ds)) → IfSome size (λ s. All (SuitsForm given) ds)
-      → IfSome size (λ b. 0 < b → end + RECORD_BYTES + b ≤ limit) → is_some size ≡ true → IsTooMuch form end limit ds → ⊥
+      → IfSome size (λ b. 0 < b → end + room_for most b ≤ limit) → is_some size ≡ true → IsTooMuch form end limit most ds → ⊥
   not_too_much bytes suit room there (inl unspelled) = unspelled (suit_of suit there)
   not_too_much bytes suit room there (inr past) = let some = past.0 in let over = past.1 in let fits = room_of bytes room there some in omega (arith, fits, over)
+
+-- Fewer deeds take no more room.
+pub room_less : (count most bytes : ℕ) → count ≤ most → room_for count bytes ≤ room_for most bytes
+room_less count most bytes le = omega (arith, le)
 
 pub handled : (old new : Store) (ms : List (ℕ × Message)) (told : Served) → IsServed old.state old.soft ms told new.state new.soft → HasHandled old (comings ms) told.sends.items new
 handled old new ms told served = record {

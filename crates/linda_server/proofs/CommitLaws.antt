@@ -1,14 +1,13 @@
 -- What a bank's fault says to a server that asked for room first.
 use Rattle.std.proofs.Common.{◌≡◌, ◌≢◌, ℕ, ◌+◌, ◌<◌, ◌≤◌, ◌⊎◌, inl, inr, Bool, true, false, not, ◌==◌, List, [], ◌∷◌, All, length, Result, Err, refl, sym, ap, ◌∙◌, true≢false, length-append, arith}
 use Rattle.linda_tuple.specs.declared.form.Form.{Form}
-use Rattle.linda_codec.specs.Formats.{short_number}
 use Rattle.linda_store_state.specs.declared.deed.Deed.{Deed}
 use Rattle.linda_store_state.specs.DeedFormat.{payload, SuitsForm, IsUnspelled}
 use Rattle.linda_disk.specs.Disk.{TellsFailures}
 use Rattle.linda_journal.specs.declared.fault.BankFault.{BankFault}
 use Rattle.linda_journal.specs.declared.fault.BankFault.TheVariants as banks
-use Rattle.linda_journal.specs.Records.{spell_record}
-use Rattle.linda_server.specs.declared.limits.TheConstants.{RECORD_BYTES}
+use Rattle.linda_journal.specs.Records.{bytes_for}
+use Rattle.linda_server.specs.Calls.{room_for}
 use Rattle.linda_server.specs.declared.fault.ServeFault.{ServeFault}
 use Rattle.linda_server.specs.declared.fault.ServeFault.TheVariants as serves
 
@@ -27,22 +26,22 @@ only_disk banks.Memory none damaged full spent memory = absurd (memory refl)
 only_disk banks.Disk none damaged full spent memory = refl
 
 -- Deeds that suit the bank's form and have room are not refused as too much.
-never_full : (form : Form) (ds : List Deed) (end limit : ℕ) → All (SuitsForm form) ds → end + RECORD_BYTES + length (payload form ds) ≤ limit
-    → IsUnspelled form ds ⊎ (limit ≤ end + length (spell_record form ds)) → ⊥
+never_full : (form : Form) (ds : List Deed) (end limit : ℕ) → All (SuitsForm form) ds → end + room_for (length ds) (length (payload form ds)) ≤ limit
+    → IsUnspelled form ds ⊎ (limit ≤ end + bytes_for (length ds) (length (payload form ds))) → ⊥
 never_full form ds end limit suit room (inl unspelled) = unspelled suit
 never_full form ds end limit suit room (inr past) =
-    absurd (omega (arith, room, past, length-append (short_number.spell (length (payload form ds))) (payload form ds)))
+    absurd (omega (arith, room, past))
 
 -- The answer of an append that came to this fault.
 abbrev told_by : BankFault → Result (Unit {0}) BankFault
 told_by f = Err f
 
 module _ (fault : BankFault) (told : ServeFault) (form : Form) (ds : List Deed) (end limit : ℕ) (is_spent : Bool) (old new other both : ℕ)
-    (ready : not is_spent ≡ true) (suit : All (SuitsForm form) ds) (room : end + RECORD_BYTES + length (payload form ds) ≤ limit) (both_is : both ≡ old + other) where
+    (ready : not is_spent ≡ true) (suit : All (SuitsForm form) ds) (room : end + room_for (length ds) (length (payload form ds)) ≤ limit) (both_is : both ≡ old + other) where
   abbrev Told : BankFault → Type 0
   Told f = told_by fault ≡ told_by f
 
-  pub failure_told : (Told banks.Full → (is_spent ≡ false) × (IsUnspelled form ds ⊎ (limit ≤ end + length (spell_record form ds)))) → (Told banks.Spent → is_spent ≡ true)
+  pub failure_told : (Told banks.Full → (is_spent ≡ false) × (IsUnspelled form ds ⊎ (limit ≤ end + bytes_for (length ds) (length (payload form ds))))) → (Told banks.Spent → is_spent ≡ true)
       → (Told banks.NoBank → ⊥) → ((offset : ℕ) → Told (banks.Damaged offset) → ⊥)
       → (told ≡ serves.Disk → fault ≢ banks.Memory) → (told ≢ serves.Disk → fault ≢ banks.Disk)
       → TellsFailures banks.Disk fault old new → TellsFailures serves.Disk told both (new + other)

@@ -7,7 +7,8 @@ use Rattle.linda_store_state.specs.State.{State}
 use Rattle.linda_store_state.specs.Proper.{AreDone}
 use Rattle.linda_disk.specs.View.{View, IsTimed}
 use Rattle.linda_disk.specs.Run.{LeavesOnly}
-use Rattle.linda_journal.specs.Bank.{IsSettled, IsOldOrMore}
+use Rattle.linda_journal.specs.Bank.{IsSettled, IsSettledWithAll, IsOldOrAll}
+use Rattle.linda_journal.specs.Records.{AreIn}
 use Rattle.linda_snap.specs.Snapshot.{spell_state}
 use Rattle.linda_snap.specs.Stands.{deeds_in, StandsOn, IsLesser, IsInUse, IsStored, Stands, IsUp}
 use Rattle.linda_disk.specs.declared.disk.Disk.{Ghosts}
@@ -54,31 +55,31 @@ beside_lesser : (form : Form) (generation end : ℕ) (used other : View) (st : S
 beside_lesser form generation end used other st up timed beside left =
     subst (IsLesser generation) (sym (up.durable beside (timed.only_now beside left))) up.lesser
 
--- ---- one record more
+-- ---- records more
 
-deeds_more : (opening : State) (records : List (List Deed)) (deeds : List Deed) (now : State) → AreDone opening (deeds_in records ++ deeds) now → AreDone opening (deeds_in (records ++ deeds ∷ [])) now
-deeds_more opening records deeds now =
-    subst (λ ds. AreDone opening ds now) (sym (flat_map-append (λ (ds : List Deed). ds) records (deeds ∷ []) ∙ ap (λ l. deeds_in records ++ l) (append-nil deeds)))
+deeds_more : (opening : State) (records : List (List Deed)) (deeds : List Deed) (more : List (List Deed)) (now : State) → AreIn deeds more → AreDone opening (deeds_in records ++ deeds) now → AreDone opening (deeds_in (records ++ more)) now
+deeds_more opening records deeds more now are =
+    subst (λ ds. AreDone opening ds now) (sym (flat_map-append (λ (ds : List Deed). ds) records more ∙ ap (λ l. deeds_in records ++ l) are.all))
 
 module _ (form : Form) (generation end : ℕ) (used other : View) (st now : State) (deeds : List Deed) (up : IsUp form generation end used other st) (leads : LeadTo st deeds now) where
-  done_more : AreDone up.stored.opening (deeds_in (up.stored.records ++ deeds ∷ [])) now
-  done_more =
-      deeds_more up.stored.opening up.stored.records deeds now
+  done_more : (more : List (List Deed)) → AreIn deeds more → AreDone up.stored.opening (deeds_in (up.stored.records ++ more)) now
+  done_more more are =
+      deeds_more up.stored.opening up.stored.records deeds more now are
       (leads up.stored.opening (deeds_in up.stored.records) up.stored.ranges up.stored.done)
 
-  used_for : (image beside : List ℕ) → IsLesser generation beside → IsOldOrMore form generation (spell_state form up.stored.opening) up.stored.records deeds image → IsUsedFor st now image beside
+  used_for : (image beside : List ℕ) → IsLesser generation beside → IsOldOrAll form generation (spell_state form up.stored.opening) up.stored.records deeds image → IsUsedFor st now image beside
   used_for image beside lesser (inl bank) = inl record {
     generation = generation;
     stands = record { form = form; opening = up.stored.opening; ranges = up.stored.ranges; fits = up.stored.fits; records = up.stored.records; bank = bank; done = up.stored.done };
     lesser = lesser;
   }
-  used_for image beside lesser (inr bank) = inr record {
+  used_for image beside lesser (inr new) = inr record {
     generation = generation;
-    stands = record { form = form; opening = up.stored.opening; ranges = up.stored.ranges; fits = up.stored.fits; records = up.stored.records ++ deeds ∷ []; bank = bank; done = done_more };
+    stands = record { form = form; opening = up.stored.opening; ranges = up.stored.ranges; fits = up.stored.fits; records = up.stored.records ++ new.0; bank = new.2; done = done_more new.0 new.1 };
     lesser = lesser;
   }
 
-  one_more : (is_right : Bool) (new : View) → IsTimed other → LeavesOnly used new (IsOldOrMore form generation (spell_state form up.stored.opening) up.stored.records deeds)
+  one_more : (is_right : Bool) (new : View) → IsTimed other → LeavesOnly used new (IsOldOrAll form generation (spell_state form up.stored.opening) up.stored.records deeds)
       → PairsSince (sides is_right used other) (sides is_right new other) (IsOldOrNew st now)
   one_more is_right new timed run =
       on_sides is_right used new other (IsUsedFor st now) (IsOldOrNew st now) run.later
@@ -96,18 +97,18 @@ stored_same form generation end used st now leads stored = record {
   done = subst (λ ds. AreDone stored.opening ds now) (append-nil (deeds_in stored.records)) (leads stored.opening (deeds_in stored.records) stored.ranges stored.done);
 }
 
--- One record more.
+-- Records more.
 pub stored_more : (form : Form) (generation end : ℕ) (used : View) (st now : State) (deeds : List Deed) → (stored : IsStored form generation end used st) → LeadTo st deeds now
-    → (new_form : Form) (new_generation new_end : ℕ) (new : View) → new_form ≡ form → IsSettled new_form new_generation (spell_state form stored.opening) (stored.records ++ deeds ∷ []) new_end new
+    → (new_form : Form) (new_generation new_end : ℕ) (new : View) → new_form ≡ form → IsSettledWithAll new_form new_generation (spell_state form stored.opening) stored.records deeds new_end new
     → IsStored new_form new_generation new_end new now
-stored_more form generation end used st now deeds stored leads new_form new_generation new_end new same settled =
+stored_more form generation end used st now deeds stored leads new_form new_generation new_end new same with_all =
     subst (λ f. IsStored f new_generation new_end new now) (sym same) (record {
       opening = stored.opening;
       ranges = stored.ranges;
       fits = stored.fits;
-      records = stored.records ++ deeds ∷ [];
-      settled = subst (λ f. IsSettled f new_generation (spell_state form stored.opening) (stored.records ++ deeds ∷ []) new_end new) same settled;
-      done = deeds_more stored.opening stored.records deeds now (leads stored.opening (deeds_in stored.records) stored.ranges stored.done);
+      records = stored.records ++ with_all.more;
+      settled = subst (λ f. IsSettled f new_generation (spell_state form stored.opening) (stored.records ++ with_all.more) new_end new) same with_all.settled;
+      done = deeds_more stored.opening stored.records deeds with_all.more now with_all.are (leads stored.opening (deeds_in stored.records) stored.ranges stored.done);
     })
 
 -- What stands now.
@@ -177,7 +178,7 @@ module _ {D : Type 0} {g : Ghosts D} (timed : (d : D) → g.honest d → IsTimed
   -- Deeds go onto the bank in use.
   pub put_on : (disks : Disks (Bank D g) D) (pair : Pair (Bank D g) D) (new : View) (deeds : List Deed) → disks ≡ InUse pair
       → ((body : List ℕ) (records : List (List Deed)) → g.honest pair.bank.disk → IsSettled pair.bank.form pair.bank.generation body records pair.bank.end (g.view pair.bank.disk)
-      → LeavesOnly (g.view pair.bank.disk) new (IsOldOrMore pair.bank.form pair.bank.generation body records deeds))
+      → LeavesOnly (g.view pair.bank.disk) new (IsOldOrAll pair.bank.form pair.bank.generation body records deeds))
       → (st now : State) → BothHonest disks → IsUpFor disks st → LeadTo st deeds now
       → PairsSince (both_of disks) (sides pair.is_right new (g.view pair.other)) (IsOldOrNew st now)
   put_on disks pair new deeds is any_moment st now are up leads =
@@ -191,7 +192,7 @@ module _ {D : Type 0} {g : Ghosts D} (timed : (d : D) → g.honest d → IsTimed
       → new_form ≡ pair.bank.form → new_generation ≡ pair.bank.generation
       → (is_new_honest → g.honest pair.bank.disk)
       → ((body : List ℕ) (records : List (List Deed)) → g.honest pair.bank.disk → IsSettled pair.bank.form pair.bank.generation body records pair.bank.end (g.view pair.bank.disk)
-      → IsSettled new_form new_generation body (records ++ deeds ∷ []) new_end new)
+      → IsSettledWithAll new_form new_generation body records deeds new_end new)
       → (st now : State) → IsKeptFor disks st → LeadTo st deeds now
       → IsKept is_new_honest (g.honest pair.other) new_form new_generation new_end new (g.view pair.other) now
   kept_on disks pair is_new_honest new_form new_generation new_end new deeds is same_form same was done st now kept leads =

@@ -11,7 +11,9 @@ use Rattle.linda_store_step.specs.History.{Coming, History, Happens, Answers, hi
 use Rattle.linda_store_step.specs.Store.{Store}
 use Rattle.linda_journal.specs.Renewal.{IsNoBank}
 use Rattle.linda_snap.specs.Stands.{Stands}
-use Rattle.linda_server.specs.declared.limits.TheConstants.{RECORD_BYTES, MIN_LIMIT, MAX_LIMIT}
+use Rattle.linda_journal.specs.declared.limits.TheConstants.{GATE_BYTES}
+use Rattle.linda_journal.specs.Records.{bytes_for}
+use Rattle.linda_server.specs.declared.limits.TheConstants.{MIN_LIMIT, MAX_LIMIT}
 
 -- These deeds lead from the one state to the other: whatever proper list led to the one, leads with
 -- them to the other.
@@ -63,18 +65,25 @@ StandsFor st left right = ∥ Stands left right st ∥₁
 abbrev pub IsNothingOr : State → List ℕ → List ℕ → Type 0
 IsNothingOr st left right = (IsNoBank left × IsNoBank right) ⊎ Stands left right st
 
--- The deeds have no record on a bank in this form: one of them has no spelling there; or there are
--- some, and their record, after this end, would pass the limit.
-abbrev pub IsTooMuch : Form → ℕ → ℕ → List Deed → Type 0
-IsTooMuch form end limit deeds =
+-- How many bytes the records of so many deeds take, whose spellings have so many, and the closed
+-- gate after them.
+abbrev pub room_for : ℕ → ℕ → ℕ
+room_for count bytes = bytes_for count bytes + GATE_BYTES
+
+-- The deeds, so many at most, have no room on a bank in this form: one of them has no spelling
+-- there; or there are some, and as many records as so many deeds take, after this end, would pass
+-- the limit.
+abbrev pub IsTooMuch : Form → ℕ → ℕ → ℕ → List Deed → Type 0
+IsTooMuch form end limit most deeds =
     IsUnspelled form deeds
     ⊎ ((0 < length (payload form deeds))
-    × (limit < end + RECORD_BYTES + length (payload form deeds)))
+    × (limit < end + room_for most (length (payload form deeds))))
 
--- The deeds that the messages would do have no record there.
+-- The deeds that the messages would do have no room there. Up to 64 messages need one record.
 abbrev pub HasNoRoom : Store → List (ℕ × Message) → Form → ℕ → ℕ → Type 0
 HasNoRoom old ms form end limit =
-    (all : History) → Answers old.state old.soft ms all → IsTooMuch form end limit all.deeds
+    (all : History) → Answers old.state old.soft ms all
+    → IsTooMuch form end limit (length ms) all.deeds
 
 -- The limit is one that a bank may have.
 abbrev pub IsLimit : ℕ → Type 0

@@ -27,8 +27,8 @@ use Rattle.linda_server.specs.Server.{failures_of}
 use Rattle.linda_server.specs.Server.{IsPutOn, AlwaysLeave, StandNow}
 
 module _ {D : Type 0} {g : Ghosts D} where
-  -- The deeds that the messages would do have no record on the bank in use: one of them has no
-  -- spelling in its form, or their record, and the gate after it, would pass the limit.
+  -- The deeds that the messages would do have no room on the bank in use: one of them has no
+  -- spelling in its form, or their records, and the gate after them, would pass the limit.
   abbrev pub HasNoRoomFor : Durable D g → List (ℕ × Message) → Type 0
   HasNoRoomFor s ms = HasNoRoom s.store ms (form_in_use s.disks) (end_in_use s.disks) s.limit
 
@@ -57,7 +57,7 @@ module _ {D : Type 0} {g : Ghosts D} where
     pub each : IfOk result (λ served. vec_len served.portions ≡ length ms)
     pub now : OnOk result (StandNow new.disks new.store.state)
     pub up : OnOk result ((old.down ≡ false) × (new.down ≡ false))
-    -- It is Full exactly where the deeds have no record on the bank in use; nothing changed then.
+    -- It is Full exactly where the deeds have no room on the bank in use; nothing changed then.
     pub full : IsErrOf result faults.Full → (new ≡ old) × HasNoRoomFor old ms
     pub room : OnOk result (HasNoRoomFor old ms → ⊥)
     -- It is down exactly where it was, and goes down only where a device failed or memory ran out.

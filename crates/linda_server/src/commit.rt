@@ -5,14 +5,13 @@ ghost use Rattle.std.specs.Prelude.{IfErr, OnOk, IsErrOf};
 ghost use Rattle.linda_store_state.specs.DeedFormat.{payload, SuitsForm};
 ghost use Rattle.linda_store_state.specs.State as state;
 ghost use Rattle.linda_disk.specs.Disk.{TellsFailures};
-ghost use Rattle.linda_store_step.specs.declared.size.TheConstants.{MAX_BATCH};
-ghost use Rattle.linda_server.specs.declared.limits.TheConstants.{RECORD_BYTES};
+ghost use Rattle.linda_store_step.specs.declared.size.TheConstants.{MAX_GROUP};
 ghost use Rattle.linda_server.specs.Pairs.{PairsSince};
 ghost use Rattle.linda_server.specs.Server.{both_of, is_usable, form_in_use, end_in_use};
 ghost use Rattle.linda_server.specs.Server.{limit_in_use};
 ghost use Rattle.linda_server.specs.Server.{BothHonest, failures_of, IsUpFor, IsKeptFor, IsPutOn};
 ghost use Rattle.linda_server.specs.Disks.{is_there};
-ghost use Rattle.linda_server.specs.Calls.{LeadTo, IsOldOrNew};
+ghost use Rattle.linda_server.specs.Calls.{LeadTo, IsOldOrNew, room_for};
 
 use crate::disks::{Disks, Pair};
 use crate::fault::ServeFault;
@@ -21,23 +20,24 @@ use linda_journal::{Bank, BankFault};
 use linda_store_state::Deed;
 use std::alloc::Global;
 
-/// Puts the deeds, if there are any, onto the bank in use as one record.
+/// Puts the deeds, if there are any, onto the bank in use, all at once, in as many records as they
+/// take.
 ///
 /// # Errors
 ///
-/// `Disk` where the device failed, and `Memory`: the record is there or it is not, and the bank is
+/// `Disk` where the device failed, and `Memory`: all records are there or none is, and the bank is
 /// not to be used.
 pub(crate) fn commit<D: Disk>(
     disks: &mut Disks<Bank<D>, D>,
     alloc: Global,
     deeds: &[Deed],
 ) -> Result<(), ServeFault>
-    requires few { length deeds.now ≤ MAX_BATCH }
+    requires few { length deeds.now ≤ MAX_GROUP }
     requires ready { is_usable disks.old ≡ true }
     requires suit { All (SuitsForm (form_in_use disks.old)) deeds.now }
     requires room { 0 < length deeds.now
-        → end_in_use disks.old + RECORD_BYTES
-        + length (payload (form_in_use disks.old) deeds.now)
+        → end_in_use disks.old
+        + room_for (length deeds.now) (length (payload (form_in_use disks.old) deeds.now))
         ≤ limit_in_use disks.old }
     // At no moment crashes leave anything but the old state, or the one after all of these deeds;
     ensures any_moment { (st new : state.State)
@@ -67,7 +67,7 @@ pub(crate) fn commit<D: Disk>(
         return Ok(());
     }
     match disks {
-        Disks::InUse(pair) => match pair.bank.append(alloc, deeds) {
+        Disks::InUse(pair) => match pair.bank.append_all(alloc, deeds) {
             Ok(()) => Ok(()),
             Err(fault) => Err(told(fault)),
         },

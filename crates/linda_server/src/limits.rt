@@ -1,6 +1,6 @@
 //! The limits of a server.
 
-use linda_journal::{GATE_BYTES, MIN_BYTES, RECORD_HEAD};
+use linda_journal::{GATE_BYTES, MIN_BYTES};
 use linda_snap::EMPTY_STATE_BYTES;
 
 /// The fewest bytes that a bank may be limited to: those of a new one, whose body is a snapshot of
@@ -12,6 +12,3 @@ pub const MAX_LIMIT: usize = 1_073_741_824;
 
 /// So many records after a snapshot ask for the next one.
 pub const SNAPSHOT_RECORDS: usize = 1024;
-
-/// The bytes of a record but for its deeds, and of the closed gate after it.
-pub(crate) const RECORD_BYTES: usize = RECORD_HEAD + GATE_BYTES;

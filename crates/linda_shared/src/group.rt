@@ -4,21 +4,21 @@ ghost use Rattle.std.specs.Prelude.{◌≡◌, ◌+◌, ◌<◌, ◌==◌, ◌&&
 ghost use Rattle.std.specs.Prelude.{IfOk, IfSome, IfNone};
 ghost use Rattle.linda_shared_accounts.specs.Account.{account_of};
 ghost use Rattle.linda_shared_accounts.specs.declared.limits.TheConstants.{MOST_ASKED};
-ghost use Rattle.linda_store_step.specs.declared.size.TheConstants.{MAX_BATCH};
+ghost use Rattle.linda_store_step.specs.declared.size.TheConstants.{MAX_GROUP};
 ghost use Rattle.linda_shared.specs.Group.{group_of};
 
 use crate::sender::Sender;
 use linda_disk::Disk;
 use linda_shared_accounts::{Account, Answered, Asked};
 use linda_shared_held::Held;
-use linda_store_step::MAX_BATCH;
+use linda_store_step::MAX_GROUP;
 use linda_wire::Message;
 use std::alloc::{AllocError, Global};
 use std::marker::Model;
 use std::sync::ledger::Ledger;
 
 /// Messages of several sessions, each with its sender and its part of the ledger; once they were
-/// served, the answers. There is room for a batch, so nothing that it does takes memory. A message
+/// served, the answers. There is room for all, so nothing that it does takes memory. A message
 /// is done as that of the client of the account that asked it. Contracts see how many are asked,
 /// and how many are answered.
 #[derive(Drop)]
@@ -31,7 +31,7 @@ pub struct Group<L: Ledger> {
 
 impl<L: Ledger> Model for Group<L> {
     ghost use Rattle.std.specs.Prelude.{◌≡◌, ◌≤◌, ◌++◌, map, vec_len, vec_capacity};
-    ghost use Rattle.linda_store_step.specs.declared.size.TheConstants.{MAX_BATCH};
+    ghost use Rattle.linda_store_step.specs.declared.size.TheConstants.{MAX_GROUP};
     ghost use Rattle.linda_shared.specs.Group as seen;
     ghost use Rattle.linda_shared.specs.Group.{group_of};
 
@@ -41,13 +41,13 @@ impl<L: Ledger> Model for Group<L> {
 
     ghost invariant = { λ g. (map (λ m. m.0) g.messages.items
         ≡ map (λ a. a.address.client) g.asked.items ++ map (λ a. a.address.client) g.answered.items)
-        × (vec_len g.messages ≤ MAX_BATCH)
-        × (MAX_BATCH ≤ vec_capacity g.messages) × (MAX_BATCH ≤ vec_capacity g.asked)
-        × (MAX_BATCH ≤ vec_capacity g.answered) };
+        × (vec_len g.messages ≤ MAX_GROUP)
+        × (MAX_GROUP ≤ vec_capacity g.messages) × (MAX_GROUP ≤ vec_capacity g.asked)
+        × (MAX_GROUP ≤ vec_capacity g.answered) };
 }
 
 impl<L: Ledger> Group<L> {
-    /// Nothing is asked, and there is room for a batch.
+    /// Nothing is asked, and there is room for 1,024 messages.
     ///
     /// # Errors
     ///
@@ -55,9 +55,9 @@ impl<L: Ledger> Group<L> {
     pub fn new(alloc: Global) -> Result<Group<L>, AllocError>
         ensures { IfOk result (λ g. g ≡ group_of 0 0) }
     {
-        let messages = Vec::with_capacity(alloc, MAX_BATCH)?;
-        let asked = Vec::with_capacity(alloc, MAX_BATCH)?;
-        let answered = Vec::with_capacity(alloc, MAX_BATCH)?;
+        let messages = Vec::with_capacity(alloc, MAX_GROUP)?;
+        let asked = Vec::with_capacity(alloc, MAX_GROUP)?;
+        let answered = Vec::with_capacity(alloc, MAX_GROUP)?;
         Ok(Group {
             messages,
             asked,
@@ -74,16 +74,16 @@ impl<L: Ledger> Group<L> {
 
     /// Whether there is room for one message more, and no answer waits to be heard.
     pub fn has_room(&self) -> bool
-        ensures is { result ≡ ((self.now.answered == 0) && nat_lt self.now.asked MAX_BATCH) }
-        ensures room { result ≡ true → self.now.asked < MAX_BATCH }
+        ensures is { result ≡ ((self.now.answered == 0) && nat_lt self.now.asked MAX_GROUP) }
+        ensures room { result ≡ true → self.now.asked < MAX_GROUP }
         ensures none { result ≡ true → self.now.answered ≡ 0 }
     {
-        self.answered.is_empty() && self.asked.len() < MAX_BATCH
+        self.answered.is_empty() && self.asked.len() < MAX_GROUP
     }
 
     /// A message of this account goes on its way. Its answer comes back with this key.
     pub fn ask(&mut self, account: &mut Account<L>, key: usize, message: Message)
-        requires room { self.old.asked < MAX_BATCH }
+        requires room { self.old.asked < MAX_GROUP }
         requires none { self.old.answered ≡ 0 }
         requires few { account.old.asked < MOST_ASKED }
         ensures account { account.new ≡ account_of account.old.client account.old.deeds

@@ -6,6 +6,7 @@ mod greet;
 mod group;
 mod lead;
 mod leave;
+mod list;
 mod submit;
 
 ghost use Rattle.std.specs.Prelude.{◌≡◌, false};

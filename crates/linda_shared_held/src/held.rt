@@ -8,6 +8,7 @@ mod finish;
 mod give_up;
 mod greet;
 mod leave;
+mod list;
 mod measure;
 mod recall;
 mod serve;
@@ -18,7 +19,7 @@ ghost use Rattle.std.specs.Prelude.{◌≡◌, ◌⊎◌, ℕ, ◌+◌, ◌^◌,
 ghost use Rattle.std.specs.Prelude.{map, reverse};
 ghost use Rattle.std.specs.Prelude.{replicate};
 ghost use Rattle.std.specs.Prelude.{vec_len, vec_capacity, None, IfErr, OnOk, OnErr, IsErrOf};
-ghost use Rattle.linda_store_step.specs.declared.size.TheConstants.{MAX_BATCH};
+ghost use Rattle.linda_store_step.specs.declared.size.TheConstants.{MAX_GROUP};
 ghost use Rattle.linda_shared_held.specs.Order.{known, IsInOrder};
 ghost use Rattle.linda_shared_held.specs.Covered.{BoxesCovered};
 ghost use Rattle.linda_shared_held.specs.Pace.{pace_from, refused_for_room};
@@ -114,7 +115,7 @@ impl<D: Disk, L: Ledger> Held<D, L> {
         asked: &mut Vec<Asked<A, L>>,
         answered: &mut Vec<Answered<A, L>>,
     ) -> Result<(), SharedFault>
-        requires few { length messages.now ≤ MAX_BATCH }
+        requires few { length messages.now ≤ MAX_GROUP }
         requires one_each { length messages.now ≡ vec_len asked.old }
         requires room { vec_len answered.old + vec_len asked.old ≤ vec_capacity answered.old }
         ensures asked { (vec_len asked.new ≡ 0)

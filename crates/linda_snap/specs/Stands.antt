@@ -1,6 +1,5 @@
 -- Which state stands on two banks.
 use Rattle.std.specs.Prelude.{ℕ, ◌<◌, ◌⊎◌, List}
-use Rattle.std.specs.List.{flat_map}
 use Rattle.linda_tuple.specs.declared.form.Form.{Form}
 use Rattle.linda_store_state.specs.declared.deed.Deed.{Deed}
 use Rattle.linda_store_state.specs.State.{State, IsState}
@@ -9,12 +8,9 @@ use Rattle.linda_disk.specs.View.{View, IsDurable}
 use Rattle.linda_journal.specs.declared.heading.Heading.TheVariants as headings
 use Rattle.linda_journal.specs.Heading.{IsHeading}
 use Rattle.linda_journal.specs.Bank.{IsBank, IsSettled}
+pub use Rattle.linda_journal.specs.Records.{deeds_in}
 use Rattle.linda_journal.specs.Renewal.{IsNoBank}
 use Rattle.linda_snap.specs.Snapshot.{spell_state, FitsState}
-
--- The deeds of all records, in order.
-abbrev pub deeds_in : List (List Deed) → List Deed
-deeds_in records = flat_map (λ ds. ds) records
 
 -- The bytes are a bank of this generation, in either form, with a snapshot of a state from which
 -- the deeds of its records lead to that one.

@@ -18,8 +18,12 @@ use linda_store_state::{HEAD_BYTES, ID_BYTES, State, has_leaves, tuple_len};
 use linda_tuple::{Form, fits};
 use linda_wire::Message;
 
-/// How many messages one call takes at most: as many as there may be deeds of one record.
+/// How many messages one call of a node takes at most: as many as there may be deeds of one record.
 pub const MAX_BATCH: usize = linda_store_state::MAX_DEEDS;
+
+/// How many messages are served together at most, those of many clients, whose deeds may take
+/// several records.
+pub const MAX_GROUP: usize = 1024;
 
 /// How many bytes the deeds of the messages spell in the form, each of its client, one after
 /// another; None where one of them has no spelling there.
@@ -29,13 +33,13 @@ pub(crate) fn bytes_of<B: Bag>(
     messages: &[(u32, Message)],
 ) -> Option<usize>
     requires ranges { IsState state.now }
-    requires few { length messages.now ≤ MAX_BATCH }
+    requires few { length messages.now ≤ MAX_GROUP }
     ensures bytes { IfSome result (λ bytes.
         bytes ≡ bytes_from form (numbers_of state.now) messages.now) }
     ensures suit { IfSome result (λ bytes. AllSuit form (numbers_of state.now) messages.now) }
     ensures none { IfNone result (AllSuit form (numbers_of state.now) messages.now → ⊥) }
 {
-    let mut lasts = [(0, (0, false)); MAX_BATCH];
+    let mut lasts = [(0, (0, false)); MAX_GROUP];
     let mut count = 0;
     let mut clients = state.book.len();
     let mut next = state.next;

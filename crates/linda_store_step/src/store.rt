@@ -11,7 +11,7 @@ ghost use Rattle.linda_store_step.specs.Answer.{IsStep};
 ghost use Rattle.linda_store_step.specs.History.{History, Answers, IsOneMore, says, history_of};
 ghost use Rattle.linda_store_step.specs.Store.{IsOrderly};
 
-use crate::size::{self, MAX_BATCH};
+use crate::size::{self, MAX_GROUP};
 use crate::soft::Soft;
 use crate::step::{Step, Steps, answer_message};
 use linda_bag::{Bag, Starts};
@@ -174,7 +174,7 @@ impl<B: Bag> Store<B> {
     /// `step_all` does them; None where one of them will have no spelling there. Takes no memory,
     /// and changes nothing.
     pub fn size_of(&self, form: Form, messages: &[(u32, Message)]) -> Option<u64>
-        requires { length messages.now ≤ MAX_BATCH }
+        requires { length messages.now ≤ MAX_GROUP }
         ensures bytes { (all : History) → Answers self.now.state self.now.soft messages.now all
             → IfSome result (λ size. size ≡ length (payload form all.deeds)) }
         ensures suit { (all : History) → Answers self.now.state self.now.soft messages.now all

@@ -45,7 +45,7 @@ fn serves_a_folder_that_keeps_what_was_done(rt: HostRuntime) -> io::Result<()> {
 
 // What is told while the folder is served, and of what it keeps after that.
 fn served_and_kept<
-    F: Files<File = File>,
+    F: Files<File = File> + Net,
     S: Net<Listener = TcpListener, Stream = TcpStream>
         + Threads
         + Wait
@@ -61,7 +61,7 @@ fn served_and_kept<
 
 // What a call prints to a server on the folder, which ends after it, and how both end.
 fn served<
-    F: Files<File = File>,
+    F: Files<File = File> + Net,
     S: Net<Listener = TcpListener, Stream = TcpStream>
         + Threads
         + Wait
@@ -100,7 +100,7 @@ fn tell_fault(fault: &ServingFault, told: &mut String) -> Result<(), AllocError>
 
 // Serves the folder on this port, while a thread calls the server.
 fn serve_and_call<
-    F: Files<File = File>,
+    F: Files<File = File> + Net,
     S: Net<Listener = TcpListener, Stream = TcpStream>
         + Threads
         + Wait
@@ -121,7 +121,8 @@ fn serve_and_call<
             .spawn(move || call_server(rt, alloc, port, printed))
             .is_err();
         let plan = Plan {
-            port,
+            port: Some(port),
+            socket: None,
             folder: FOLDER,
             sessions: Some(1),
             lease: None,

@@ -1,3 +1,4 @@
+mod groups;
 mod memory;
 mod script;
 mod words;

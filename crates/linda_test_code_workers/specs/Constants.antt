@@ -2,6 +2,7 @@
 use Rattle.std.specs.Prelude.{◌≡◌, ◌^◌, refl}
 use Rattle.linda_store_state.specs.declared.limits.TheConstants as state
 use Rattle.linda_store_step.specs.declared.size.TheConstants as step
+use Rattle.linda_journal.specs.declared.limits.TheConstants as journal
 use Rattle.linda_server.specs.declared.limits.TheConstants as server
 use Rattle.linda_shared_accounts.specs.declared.limits.TheConstants as receipt
 use Rattle.linda_shared_held.specs.declared.limits.TheConstants as locked
@@ -11,9 +12,16 @@ use Rattle.linda_shared.specs.declared.worker.TheConstants as shared
 deeds_of_a_record : state.MAX_DEEDS ≡ 64
 deeds_of_a_record = refl
 
--- the most messages of a batch
+-- the most records that come onto a bank at once
+records_at_once : journal.MAX_RECORDS ≡ 64
+records_at_once = refl
+
+-- the most messages of a batch, and of a group
 messages_of_a_batch : step.MAX_BATCH ≡ 64
 messages_of_a_batch = refl
+
+messages_of_a_group : step.MAX_GROUP ≡ 1024
+messages_of_a_group = refl
 
 -- records, and bytes of them (32 MiB), that ask for a snapshot
 records_before_a_snapshot : server.SNAPSHOT_RECORDS ≡ 1024

@@ -39,6 +39,7 @@ const TALLY: Tally = Tally {
     late: 5,
     groups: 0,
     messages: 0,
+    took: 0,
 };
 
 /// What the system says where a device is full.
@@ -162,7 +163,8 @@ fn tell_event<C: Clock>(
 ) -> Result<(), WordsFault> {
     let (word, rest) = split_word(words);
     match word {
-        "opened" => log.tell_opened(clock, 7000, bank_of(rest)?, &GAUGE),
+        "opened" => log.tell_opened(clock, Some(7000), None, bank_of(rest)?, &GAUGE),
+        "socket" => log.tell_opened(clock, None, Some("a b/s"), bank_of(rest)?, &GAUGE),
         "end" => log.tell_end(clock, cause_of(rest)?, TALLY.came, &GAUGE),
         "failed" => log.tell_failed(clock, "left", &trouble_of(rest)?),
         _ => log.tell(clock, notice_of(word, rest)?, &GAUGE, &TALLY),

@@ -27,7 +27,7 @@ const TEN: u8 = b'a';
 /// # Errors
 ///
 /// `AllocError` where memory runs out; a part of it may then be there.
-pub(super) fn push_tuple(out: &mut Vec<u8>, tuple: &Tuple) -> Result<(), AllocError>
+pub fn push_tuple(out: &mut Vec<u8>, tuple: &Tuple) -> Result<(), AllocError>
     ensures { OnOk result (IsPushed out.old out.new (json_tuple tuple.now)) }
 {
     out.push(b'[')?;
@@ -81,15 +81,23 @@ fn push_number(out: &mut Vec<u8>, number: u64) -> Result<(), AllocError>
 }
 
 /// Appends a name, as it is, and a number.
-pub(super) fn push_member(out: &mut Vec<u8>, name: &[u8], number: u64) -> Result<(), AllocError>
+///
+/// # Errors
+///
+/// `AllocError` where memory runs out; a part of it may then be there.
+pub fn push_member(out: &mut Vec<u8>, name: &[u8], number: u64) -> Result<(), AllocError>
     ensures { OnOk result (IsPushed out.old out.new (json_member name.now number)) }
 {
     out.extend_from_slice(name)?;
     push_number(out, number)
 }
 
-// The bytes of a text between quotes.
-fn push_string(out: &mut Vec<u8>, bytes: &[u8]) -> Result<(), AllocError>
+/// Appends the bytes of a text, between quotes.
+///
+/// # Errors
+///
+/// `AllocError` where memory runs out; a part of it may then be there.
+pub fn push_string(out: &mut Vec<u8>, bytes: &[u8]) -> Result<(), AllocError>
     ensures { OnOk result (IsPushed out.old out.new (json_string bytes.now)) }
 {
     out.push(QUOTE)?;

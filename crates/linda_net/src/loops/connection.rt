@@ -8,14 +8,13 @@ ghost use Rattle.linda_wire.specs.Refusal.{refused};
 ghost use Rattle.linda_store.specs.Conversation.{detail_of};
 ghost use Rattle.linda_net.specs.Talk.{ended_by, last_word};
 
+use super::stream::Stream;
 use crate::marks::Marks;
 use linda_disk::Disk;
 use linda_shared::{Account, Shared, SharedFault};
 use linda_wire::{Feed, FrameFault, Message, Refusal, Reply, encode_reply};
-use mio::net::TcpStream;
 use std::alloc::Global;
-use std::io::{ErrorKind, Read, Write};
-use std::net::Shutdown;
+use std::io::ErrorKind;
 use std::sync::Wait;
 use std::sync::ledger::Ledger;
 
@@ -45,7 +44,7 @@ pub(super) enum Next {
 #[derive(Drop)]
 pub(super) struct Connection<L: Ledger> {
     alloc: Global,
-    stream: TcpStream,
+    stream: Stream,
     feed: Feed,
     // A message that was read and could not go yet.
     held: Option<Message>,
@@ -79,7 +78,7 @@ pub(super) struct Connection<L: Ledger> {
 
 impl<L: Ledger> Connection<L> {
     /// A connection that sent nothing yet, or that was not looked at.
-    pub(super) fn new(alloc: Global, stream: TcpStream) -> Connection<L> {
+    pub(super) fn new(alloc: Global, stream: Stream) -> Connection<L> {
         Connection {
             alloc,
             stream,
@@ -103,7 +102,7 @@ impl<L: Ledger> Connection<L> {
     }
 
     /// The socket.
-    pub(super) fn stream(&mut self) -> &mut TcpStream {
+    pub(super) fn stream(&mut self) -> &mut Stream {
         &mut self.stream
     }
 
@@ -320,7 +319,7 @@ impl<L: Ledger> Connection<L> {
 
     /// Its socket is shut.
     pub(super) fn shut(&self) {
-        let _ = self.stream.shutdown(Shutdown::Both);
+        self.stream.shut();
     }
 }
 

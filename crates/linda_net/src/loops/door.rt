@@ -1,25 +1,30 @@
 //! Where connections come in.
 
 use super::relays::Relays;
+use super::stream::Stream;
 use crate::coming::one_less;
-use mio::net::TcpListener;
+use crate::listeners::Listeners;
+use mio::net::{TcpListener, UnixListener};
 use mio::{Interest, Registry, Token};
 use std::io;
 use std::io::ErrorKind;
 use std::sync::Wait;
 
-/// The token of the listener.
+/// The token of the listeners.
 pub(super) const DOOR: usize = 0;
 
 /// How many connections are let in before others are looked at.
 const MOST_NEW: u32 = 64;
 
-/// A listener that does not wait, and how many more connections are let in.
+/// Listeners that do not wait, and how many more connections are let in.
 #[derive(Drop)]
 pub(super) struct Door {
-    listener: TcpListener,
+    port: Option<TcpListener>,
+    socket: Option<UnixListener>,
+    // The port was asked first the last time: they take turns.
+    is_ports_turn: bool,
     left: Option<u32>,
-    // More may wait at the listener.
+    // More may wait at a listener.
     may_accept: bool,
     // The last one could not be had.
     has_missed: bool,
@@ -31,9 +36,12 @@ pub(super) struct Door {
 
 impl Door {
     /// So many connections are let in, if a number is given.
-    pub(super) fn new(listener: TcpListener, sessions: Option<u32>) -> Door {
+    pub(super) fn new(listeners: Listeners, sessions: Option<u32>) -> Door {
+        let Listeners { port, socket } = listeners;
         Door {
-            listener,
+            port: port.map(TcpListener::from_std),
+            socket: socket.map(UnixListener::from_std),
+            is_ports_turn: false,
             left: sessions,
             may_accept: true,
             has_missed: false,
@@ -42,9 +50,15 @@ impl Door {
         }
     }
 
-    /// Has the listener looked at when a connection comes.
+    /// Has the listeners looked at when a connection comes.
     pub(super) fn register(&mut self, registry: &Registry) -> io::Result<()> {
-        registry.register(&mut self.listener, Token(DOOR), Interest::READABLE)
+        if let Some(port) = &mut self.port {
+            registry.register(port, Token(DOOR), Interest::READABLE)?;
+        }
+        if let Some(socket) = &mut self.socket {
+            registry.register(socket, Token(DOOR), Interest::READABLE)?;
+        }
+        Ok(())
     }
 
     /// A connection may have come.
@@ -52,7 +66,7 @@ impl Door {
         self.may_accept = true;
     }
 
-    /// Whether more may wait at the listener, and none was missed: then nobody waits before
+    /// Whether more may wait at a listener, and none was missed: then nobody waits before
     /// looking.
     pub(super) fn has_more(&self) -> bool {
         self.may_accept && !self.has_missed
@@ -88,8 +102,8 @@ impl Door {
                 self.may_accept = false;
                 return;
             }
-            match self.listener.accept() {
-                Ok((stream, _)) => {
+            match self.next() {
+                Ok(stream) => {
                     if is_down {
                         self.is_refused = true;
                         return;
@@ -112,4 +126,49 @@ impl Door {
             }
         }
     }
+
+    // The next connection, of the listener whose turn it is, or else of the other.
+    fn next(&mut self) -> io::Result<Stream> {
+        self.is_ports_turn = !self.is_ports_turn;
+        if self.is_ports_turn {
+            let found = next_of_port(&self.port);
+            return if is_none_there(&found) {
+                next_of_socket(&self.socket)
+            } else {
+                found
+            };
+        }
+        let found = next_of_socket(&self.socket);
+        if is_none_there(&found) {
+            next_of_port(&self.port)
+        } else {
+            found
+        }
+    }
+}
+
+// Whether no connection waits there.
+fn is_none_there(found: &io::Result<Stream>) -> bool {
+    match found {
+        Ok(_) => false,
+        Err(error) => error.kind() == ErrorKind::WouldBlock,
+    }
+}
+
+// The next connection to a port, if there is one.
+fn next_of_port(port: &Option<TcpListener>) -> io::Result<Stream> {
+    let Some(port) = port else {
+        return Err(io::Error::from(ErrorKind::WouldBlock));
+    };
+    let (stream, _) = port.accept()?;
+    Ok(Stream::Tcp(stream))
+}
+
+// The next connection to a unix socket, if there is one.
+fn next_of_socket(socket: &Option<UnixListener>) -> io::Result<Stream> {
+    let Some(socket) = socket else {
+        return Err(io::Error::from(ErrorKind::WouldBlock));
+    };
+    let (stream, _) = socket.accept()?;
+    Ok(Stream::Unix(stream))
 }

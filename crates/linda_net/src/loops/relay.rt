@@ -1,8 +1,8 @@
 //! What others hand to a loop.
 
+use super::stream::Stream;
 use linda_shared::Sent;
 use mio::Waker;
-use mio::net::TcpStream;
 use std::alloc::Global;
 use std::sync::atomic::{AtomicU64, Ordering};
 use std::sync::{Mutex, Wait};
@@ -10,7 +10,7 @@ use std::sync::{Mutex, Wait};
 /// Connections that came and replies to clients of the loop, and how the loop stands.
 #[derive(Drop)]
 struct Inbox {
-    streams: Vec<TcpStream>,
+    streams: Vec<Stream>,
     sent: Vec<Sent>,
     // The loop waits, or is about to: it has to be woken.
     is_asleep: bool,
@@ -80,7 +80,7 @@ impl Relay {
     }
 
     /// Hands over a connection. Says whether that was possible; else it is dropped.
-    pub(super) fn hand<R: Wait>(&self, rt: &R, stream: TcpStream) -> bool {
+    pub(super) fn hand<R: Wait>(&self, rt: &R, stream: Stream) -> bool {
         let mut inbox = self.inbox.lock(rt);
         let is_kept = inbox.streams.push(stream).is_ok();
         let wakes = inbox.is_asleep;
@@ -133,7 +133,7 @@ impl Relay {
     }
 
     /// Takes the connections that came, for room for as many. The loop waits no more.
-    pub(super) fn take_streams<R: Wait>(&self, rt: &R, streams: &mut Vec<TcpStream>) -> News {
+    pub(super) fn take_streams<R: Wait>(&self, rt: &R, streams: &mut Vec<Stream>) -> News {
         let mut inbox = self.inbox.lock(rt);
         inbox.is_asleep = false;
         if !inbox.streams.is_empty() {

@@ -4,9 +4,9 @@ ghost use Rattle.std.specs.Prelude.{◌≡◌};
 ghost use Rattle.linda_net.specs.Placing.{lighter};
 
 use super::relay::Relay;
+use super::stream::Stream;
 use crate::marks::Marks;
 use linda_shared::Sent;
-use mio::net::TcpStream;
 use std::alloc::{AllocError, Global};
 use std::collections::BTreeMap;
 use std::sync::{Mutex, Wait};
@@ -98,7 +98,7 @@ impl Relays {
 
     /// Hands a connection that came to the loop that has the fewest. Says whether that was
     /// possible.
-    pub(super) fn hand<R: Wait>(&self, rt: &R, stream: TcpStream) -> bool {
+    pub(super) fn hand<R: Wait>(&self, rt: &R, stream: Stream) -> bool {
         let Some(relay) = self.relays.get(self.least()) else {
             return false;
         };

@@ -1,13 +1,14 @@
-//! The loops of a listener, each in a thread of its own.
+//! The loops of listeners, each in a thread of its own.
 
 use super::door::Door;
 use super::relays::Relays;
 use super::turns::{Loop, begin_loop, turn};
 use crate::limits::Limits;
+use crate::listeners::Listeners;
 use linda_disk::Disk;
 use linda_shared::Shared;
 use std::alloc::Global;
-use std::net::{Net, TcpListener};
+use std::net::Net;
 use std::sync::Wait;
 use std::sync::ledger::Ledger;
 use std::thread::{Scope, Threads};
@@ -18,7 +19,7 @@ use std::{io, thread};
 /// too.
 const LOOPS: usize = 2;
 
-/// The loops of a listener, of which the first lets connections in.
+/// The loops of listeners, of which the first lets connections in.
 #[derive(Drop)]
 pub(crate) struct Loops<L: Ledger> {
     first: Loop<L>,
@@ -45,20 +46,19 @@ impl<L: Ledger> Loops<L> {
         Ok((loops, Relays::new(alloc, relays)))
     }
 
-    /// Connections come from this listener, which does not wait, as far as they are limited.
+    /// Connections come from these listeners, which do not wait, as far as they are limited.
     ///
     /// # Errors
     ///
-    /// The system does not look at the listener.
-    pub(crate) fn open(&mut self, listener: TcpListener, limits: Limits) -> io::Result<()> {
+    /// The system does not look at a listener.
+    pub(crate) fn open(&mut self, listeners: Listeners, limits: Limits) -> io::Result<()> {
         if let Some(seconds) = limits.lease {
             self.first.limit(seconds);
             for one in self.rest.iter_mut() {
                 one.limit(seconds);
             }
         }
-        let listener = mio::net::TcpListener::from_std(listener);
-        self.first.open(Door::new(listener, limits.sessions))
+        self.first.open(Door::new(listeners, limits.sessions))
     }
 
     /// Runs the loops until all connections are over, the first one in this thread. A loop for

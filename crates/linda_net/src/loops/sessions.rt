@@ -5,6 +5,7 @@ use super::connection::{Connection, Next};
 use super::lease::Lease;
 use super::place::place;
 use super::relays::Relays;
+use super::stream::Stream;
 use crate::marks::Marks;
 use linda_disk::Disk;
 use linda_shared::{
@@ -12,8 +13,7 @@ use linda_shared::{
 };
 use linda_wire::{Message, Reply};
 use mio::event::Event;
-use mio::net::TcpStream;
-use mio::{Interest, Registry, Token};
+use mio::{Registry, Token};
 use slab::Slab;
 use std::alloc::{AllocError, Global};
 use std::collections::{BTreeMap, VecDeque};
@@ -88,8 +88,8 @@ impl<L: Ledger> Sessions<L> {
     }
 
     /// Lets a connection in. Says whether that was possible; else it is closed.
-    pub(super) fn let_in(&mut self, registry: &Registry, stream: TcpStream) -> bool {
-        let _ = stream.set_nodelay(true);
+    pub(super) fn let_in(&mut self, registry: &Registry, stream: Stream) -> bool {
+        stream.hurry();
         if self.make_room().is_err() {
             return false;
         }
@@ -118,8 +118,7 @@ impl<L: Ledger> Sessions<L> {
             return false;
         };
         let token = Token(key.saturating_add(FIRST));
-        let both = Interest::READABLE | Interest::WRITABLE;
-        registry.register(connection.stream(), token, both).is_ok()
+        connection.stream().register(registry, token).is_ok()
     }
 
     /// Something happened at a connection.

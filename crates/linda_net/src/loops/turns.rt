@@ -7,17 +7,18 @@ use super::posting::Posting;
 use super::relay::Relay;
 use super::relays::Relays;
 use super::sessions::Sessions;
+use super::stream::Stream;
+use super::took::micros_since;
 use crate::coming::REST;
 use linda_disk::Disk;
 use linda_shared::{Group, Shared, SharedFault};
-use mio::net::TcpStream;
 use mio::{Events, Poll, Token, Waker};
 use std::alloc::Global;
 use std::io;
 use std::net::Net;
 use std::sync::Wait;
 use std::sync::ledger::Ledger;
-use std::time::{Clock, Duration};
+use std::time::{Clock, Duration, Instant};
 
 /// The token of the bell.
 const BELL: usize = 1;
@@ -47,7 +48,7 @@ pub(super) struct Loop<L: Ledger> {
     sessions: Sessions<L>,
     batch: Batch<L>,
     // Where connections are put that were handed to it.
-    streams: Vec<TcpStream>,
+    streams: Vec<Stream>,
     // Where connections come in, if that is here.
     door: Option<Door>,
     // No connection is handed to it any more.
@@ -218,7 +219,12 @@ impl<L: Ledger> Loop<L> {
 
     // Takes what is ready and serves it: first what makes no deed, and then the rest, as one group
     // with what is ready by then. Says whether the server is up.
-    fn pass<D: Disk, R: Wait>(&mut self, rt: &R, shared: &Shared<D, L>, relays: &Relays) -> bool {
+    fn pass<D: Disk, R: Wait + Clock>(
+        &mut self,
+        rt: &R,
+        shared: &Shared<D, L>,
+        relays: &Relays,
+    ) -> bool {
         let mut is_up = self.serve_asks(rt, shared, relays);
         for _ in 0..MOST_LOOKS {
             let count = self.batch.doing.len();
@@ -236,7 +242,7 @@ impl<L: Ledger> Loop<L> {
 
     // Takes what is ready, and serves what makes no deed, and clients that come and go. Says
     // whether the server is up.
-    fn serve_asks<D: Disk, R: Wait>(
+    fn serve_asks<D: Disk, R: Wait + Clock>(
         &mut self,
         rt: &R,
         shared: &Shared<D, L>,
@@ -266,7 +272,7 @@ impl<L: Ledger> Loop<L> {
     }
 
     // Serves the rest as one group. Says whether the server is up.
-    fn serve_deeds<D: Disk, R: Wait>(
+    fn serve_deeds<D: Disk, R: Wait + Clock>(
         &mut self,
         rt: &R,
         shared: &Shared<D, L>,
@@ -313,7 +319,7 @@ fn serve_calls<D: Disk, L: Ledger, R: Wait>(
 }
 
 // Serves a group of the sessions. Says whether the server is up.
-fn serve<D: Disk, L: Ledger, R: Wait>(
+fn serve<D: Disk, L: Ledger, R: Wait + Clock>(
     rt: &R,
     shared: &Shared<D, L>,
     relays: &Relays,
@@ -323,7 +329,9 @@ fn serve<D: Disk, L: Ledger, R: Wait>(
 ) -> bool {
     let mut posting = posting(sessions, relays);
     relays.marks.serves(group.len());
+    let begin = Instant::now(rt).ok();
     let is_up = shared.serve_group(rt, group, &mut posting);
+    relays.marks.spends(micros_since(rt, begin));
     ring(rt, &posting);
     sessions.hear_all(group, are_deeds);
     is_up

@@ -43,15 +43,16 @@ impl<'a, W: Write> Log<'a, W> {
         })
     }
 
-    /// The server was opened, and listens on this port.
+    /// The server was opened, and listens on this port, at this path, or on both.
     pub fn tell_opened<C: Clock>(
         &mut self,
         clock: &C,
-        port: u16,
+        port: Option<u16>,
+        path: Option<&str>,
         bank: Option<InUse>,
         gauge: &Gauge,
     ) {
-        let told = self.spell_opened(clock, port, bank, gauge);
+        let told = self.spell_opened(clock, port, path, bank, gauge);
         self.send(told);
     }
 
@@ -69,15 +70,20 @@ impl<'a, W: Write> Log<'a, W> {
 
     // Each line is spelled whole before it goes out.
 
+    // A path is the last of its line: it may have blanks.
     fn spell_opened<C: Clock>(
         &mut self,
         clock: &C,
-        port: u16,
+        port: Option<u16>,
+        path: Option<&str>,
         bank: Option<InUse>,
         gauge: &Gauge,
     ) -> Result<(), AllocError> {
         self.begin(clock, "opened")?;
-        self.number("port", u64::from(port))?;
+        match port {
+            Some(port) => self.number("port", u64::from(port))?,
+            None => self.word("port", "none")?,
+        }
         match bank {
             Some(
                 InUse {
@@ -91,7 +97,11 @@ impl<'a, W: Write> Log<'a, W> {
             None => self.word("bank", "unknown")?,
         }
         self.state(gauge)?;
-        self.bank(gauge)
+        self.bank(gauge)?;
+        match path {
+            Some(path) => self.word("socket", path),
+            None => Ok(()),
+        }
     }
 
     // The error is the last of the line: the words of the system have blanks.

@@ -1,19 +1,30 @@
-//! What a server says of itself over HTTP: its numbers, in three forms.
+//! What a server says of itself over HTTP: its numbers, in three forms, and what it keeps.
 
 ghost use Rattle.std.specs.Prelude.{◌≡◌};
 ghost use Rattle.linda_serve.specs.Status.{form_at};
 
 mod figure;
 mod json;
+mod listed;
+mod lists;
 mod metrics;
 mod page;
+mod part;
 mod row;
+mod seconds;
 
 use json::spell_json;
-use linda_net::{Gauge, Tally, Teller};
+use linda_disk::Disk;
+use linda_net::{Asked, Shared, Tally, Teller, Told};
+use lists::{spell_clients, spell_tuples};
 use metrics::spell_metrics;
 use page::PAGE;
-use std::alloc::AllocError;
+use std::alloc::{AllocError, Global};
+use std::sync::Wait;
+use std::sync::ledger::Ledger;
+
+/// The kind of an object of JSON.
+const JSON: &str = "application/json";
 
 /// What is at a path.
 #[derive(Clone, Copy)]
@@ -24,29 +35,38 @@ enum Form {
     Metrics,
     /// One object of JSON.
     Json,
+    /// Some of the tuples, in one object of JSON.
+    Tuples,
+    /// Some of the clients, in one object of JSON.
+    Clients,
 }
 
 /// Has the pages of a server.
 #[derive(Clone, Copy)]
-pub(super) struct Numbers;
+pub(super) struct Numbers {
+    pub(super) alloc: Global,
+}
 
 impl Teller for Numbers {
-    fn spell(
+    fn spell<D: Disk, L: Ledger, R: Wait>(
         &self,
-        path: &[u8],
-        gauge: &Gauge,
+        rt: &R,
+        shared: &Shared<D, L>,
         tally: &Tally,
+        asked: Asked<'_>,
         page: &mut String,
-    ) -> Result<Option<&'static str>, AllocError> {
-        let Some(form) = form_at(path) else {
-            return Ok(None);
+    ) -> Result<Told, AllocError> {
+        let Some(form) = form_at(asked.path) else {
+            return Ok(Told::Nothing);
         };
         match form {
             Form::Page => page.push_str(PAGE)?,
-            Form::Metrics => spell_metrics(page, gauge, tally)?,
-            Form::Json => spell_json(page, gauge, tally)?,
+            Form::Metrics => spell_metrics(page, &shared.gauge(rt), tally)?,
+            Form::Json => spell_json(page, &shared.gauge(rt), tally)?,
+            Form::Tuples => return spell_tuples(rt, self.alloc, shared, asked.query, page),
+            Form::Clients => return spell_clients(rt, self.alloc, shared, asked.query, page),
         }
-        Ok(Some(kind_of(form)))
+        Ok(Told::Page(kind_of(form)))
     }
 }
 
@@ -60,6 +80,10 @@ fn form_at(path: &[u8]) -> Option<Form>
         Some(Form::Metrics)
     } else if path == b"/status.json".as_slice() {
         Some(Form::Json)
+    } else if path == b"/tuples".as_slice() {
+        Some(Form::Tuples)
+    } else if path == b"/clients".as_slice() {
+        Some(Form::Clients)
     } else {
         None
     }
@@ -70,6 +94,8 @@ fn kind_of(form: Form) -> &'static str {
     match form {
         Form::Page => "text/html; charset=utf-8",
         Form::Metrics => "text/plain; version=0.0.4",
-        Form::Json => "application/json",
+        Form::Json => JSON,
+        Form::Tuples => JSON,
+        Form::Clients => JSON,
     }
 }

@@ -5,7 +5,8 @@ ghost use Rattle.std.specs.Prelude.{true, false, length, All, IfOk, IfErr, IfSom
 ghost use Rattle.std.specs.Prelude.{OnErr};
 ghost use Rattle.std.specs.Prelude.{IsErrOf, is_some};
 ghost use Rattle.linda_disk.specs.Disk.{TellsFailures};
-ghost use Rattle.linda_server.specs.declared.limits.TheConstants.{RECORD_BYTES};
+ghost use Rattle.linda_store_step.specs.declared.size.TheConstants.{MAX_GROUP};
+ghost use Rattle.linda_server.specs.Calls.{room_for};
 ghost use Rattle.linda_server.specs.Server.{is_usable, form_in_use, end_in_use, limit_in_use};
 ghost use Rattle.linda_server.specs.Server.{BothHonest};
 ghost use Rattle.linda_server.specs.Server.{failures_of, IsKeptFor, IsPutOn, AlwaysLeave};
@@ -13,10 +14,10 @@ ghost use Rattle.linda_server.specs.Server.{failures_of, IsKeptFor, IsPutOn, Alw
 use super::Durable;
 use crate::commit::commit;
 use crate::fault::ServeFault;
-use crate::limits::RECORD_BYTES;
 use crate::served::Served;
-use crate::serving::{Batch, serve};
+use crate::serving::{Batch, count_of, serve};
 use linda_disk::Disk;
+use linda_journal::{GATE_BYTES, RECORD_HEAD, records_for};
 use linda_moment::Moment;
 use linda_wire::Message;
 use std::alloc::Global;
@@ -24,7 +25,7 @@ use std::alloc::Global;
 impl<D: Disk> Durable<D> {
     ghost use Rattle.linda_store_state.specs.State.{IsState};
     ghost use Rattle.linda_store_state.specs.DeedFormat.{payload, SuitsForm, IsUnspelled};
-    ghost use Rattle.linda_store_step.specs.declared.size.TheConstants.{MAX_BATCH};
+    ghost use Rattle.linda_store_step.specs.declared.size.TheConstants.{MAX_GROUP};
     ghost use Rattle.linda_store_step.specs.History.{History, Answers};
     ghost use Rattle.linda_store_step.specs.Store.{IsOrderly};
     ghost use Rattle.linda_server.specs.Served.{messages_of};
@@ -32,8 +33,8 @@ impl<D: Disk> Durable<D> {
     ghost use Rattle.linda_server.specs.Handled.{Serves};
 
     /// Does what the messages ask, one after another, each of its client, and says for each of
-    /// them which deed it did and what is sent. All deeds come onto the bank in use as one record;
-    /// where there are none, no device call is made.
+    /// them which deed it did and what is sent. All deeds come onto the bank in use at once, 64 of
+    /// them in a record; if there are none, no device call is made.
     ///
     /// # Errors
     ///
@@ -44,7 +45,7 @@ impl<D: Disk> Durable<D> {
         alloc: Global,
         messages: &[(u32, Message)],
     ) -> Result<Served, ServeFault>
-        requires { length messages.now ≤ MAX_BATCH }
+        requires { length messages.now ≤ MAX_GROUP }
         ensures { Serves self.old messages.now result self.new }
     {
         self.serve_batch(alloc, Batch::Many(messages))
@@ -68,11 +69,12 @@ impl<D: Disk> Durable<D> {
 
     // Does what the messages of the batch ask.
     fn serve_batch(&mut self, alloc: Global, batch: Batch<'_>) -> Result<Served, ServeFault>
-        requires { length (messages_of batch) ≤ MAX_BATCH }
+        requires { length (messages_of batch) ≤ MAX_GROUP }
         ensures { Serves self.old (messages_of batch.entry) result self.new }
     {
         let size = self.size_of(batch);
-        self.admit(size)?;
+        let count = count_of(batch);
+        self.admit(size, count)?;
         self.begin();
         let Ok(served) = serve(&mut self.store, alloc, batch) else {
             return Err(ServeFault::Memory);
@@ -83,7 +85,7 @@ impl<D: Disk> Durable<D> {
     // How many bytes the deeds of the messages will spell in the form of the bank in use; None
     // where one of them will have no spelling there.
     fn size_of(&self, batch: Batch<'_>) -> Option<u64>
-        requires { length (messages_of batch) ≤ MAX_BATCH }
+        requires { length (messages_of batch) ≤ MAX_GROUP }
         ensures bytes { (all : History)
             → Answers self.now.store.state self.now.store.soft (messages_of batch.entry) all
             → IfSome result (λ size.
@@ -103,14 +105,15 @@ impl<D: Disk> Durable<D> {
         }
     }
 
-    // Whether it may do deeds of this size, which is None where one of them has no spelling in the
-    // form of the bank in use.
-    fn admit(&self, size: Option<u64>) -> Result<(), ServeFault>
+    // Whether it may do deeds of this size, so many at most; the size is None if one of them has
+    // no spelling in the form of the bank in use.
+    fn admit(&self, size: Option<u64>, most: usize) -> Result<(), ServeFault>
+        requires { most ≤ MAX_GROUP }
         ensures was_down { IsErrOf result ServeFault.Down ↔ (self.now.down ≡ true) }
         ensures full { IsErrOf result ServeFault.Full → IfSome size (λ bytes. (0 < bytes)
-            × (self.now.limit < end_in_use self.now.disks + RECORD_BYTES + bytes)) }
+            × (self.now.limit < end_in_use self.now.disks + room_for most bytes)) }
         ensures room { OnOk result (IfSome size (λ bytes. 0 < bytes
-            → end_in_use self.now.disks + RECORD_BYTES + bytes ≤ self.now.limit)) }
+            → end_in_use self.now.disks + room_for most bytes ≤ self.now.limit)) }
         ensures spelled { OnOk result (is_some size ≡ true) }
         ensures known { (IsErrOf result ServeFault.Disk → ⊥)
             × (IsErrOf result ServeFault.Memory → ⊥) }
@@ -121,7 +124,7 @@ impl<D: Disk> Durable<D> {
         let Some(size) = size else {
             return Err(ServeFault::Full);
         };
-        if !has_room(self.limit, self.disks.end(), size) {
+        if !has_room(self.limit, self.disks.end(), most, size) {
             return Err(ServeFault::Full);
         }
         Ok(())
@@ -155,11 +158,11 @@ impl<D: Disk> Durable<D> {
         requires limited { limit_in_use self.old.disks ≡ self.old.limit }
         requires kept { ∥ IsKeptFor self.old.disks self.old.before.value ∥₁ }
         requires leads { LeadTo self.old.before.value served.deeds.items self.old.store.state }
-        requires few { length served.deeds.items ≤ MAX_BATCH }
+        requires few { length served.deeds.items ≤ MAX_GROUP }
         requires suit { All (SuitsForm (form_in_use self.old.disks)) served.deeds.items }
         requires room { 0 < length served.deeds.items
-            → end_in_use self.old.disks + RECORD_BYTES
-            + length (payload (form_in_use self.old.disks) served.deeds.items) ≤ self.old.limit }
+            → end_in_use self.old.disks + room_for (length served.deeds.items)
+            (length (payload (form_in_use self.old.disks) served.deeds.items)) ≤ self.old.limit }
         ensures any_moment { AlwaysLeave self.old.disks self.new.disks
             (IsEither self.old.before.value self.old.store.state) }
         ensures done { IfOk result (λ s. s ≡ served) }
@@ -190,16 +193,18 @@ impl<D: Disk> Durable<D> {
     }
 }
 
-// Whether a record of deeds of this size, and the gate after it, keep within the limit, where
-// there are deeds.
-fn has_room(limit: usize, end: usize, size: u64) -> bool
-    ensures yes { result ≡ true → 0 < size → end + RECORD_BYTES + size ≤ limit }
-    ensures no { result ≡ false → (0 < size) × (limit < end + RECORD_BYTES + size) }
+// Whether as many records as so many deeds take, of this size, and the gate after them, keep within
+// the limit, if there are deeds.
+fn has_room(limit: usize, end: usize, most: usize, size: u64) -> bool
+    requires { most ≤ MAX_GROUP }
+    ensures yes { result ≡ true → 0 < size → end + room_for most size ≤ limit }
+    ensures no { result ≡ false → (0 < size) × (limit < end + room_for most size) }
 {
     if size == 0 {
         return true;
     }
-    let Some(start) = end.checked_add(RECORD_BYTES) else {
+    let heads = RECORD_HEAD * records_for(most) + GATE_BYTES;
+    let Some(start) = end.checked_add(heads) else {
         return false;
     };
     start <= limit && size <= (limit - start) as u64

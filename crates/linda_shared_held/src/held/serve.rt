@@ -4,7 +4,7 @@
 ghost use Rattle.std.specs.Prelude.{◌≡◌, ◌⊎◌, ◌+◌, ◌<◌, ◌≤◌, ◌++◌, [], false, true, ℕ, length};
 ghost use Rattle.std.specs.Prelude.{vec_len, vec_capacity, IfOk, IfErr, OnOk, OnErr, IsErrOf};
 ghost use Rattle.linda_store_state.specs.State as states;
-ghost use Rattle.linda_store_step.specs.declared.size.TheConstants.{MAX_BATCH};
+ghost use Rattle.linda_store_step.specs.declared.size.TheConstants.{MAX_GROUP};
 ghost use Rattle.linda_server.specs.Served.{IsServed};
 ghost use Rattle.linda_server.specs.Handled.{HasNoRoomFor};
 ghost use Rattle.linda_server.specs.Server.{IsPutOn};
@@ -34,7 +34,7 @@ pub(super) fn serve<D: Disk>(
     alloc: Global,
     messages: &[(u32, Message)],
 ) -> Result<Vec<Option<SharedReceipt>>, SharedFault>
-    requires few { length messages.now ≤ MAX_BATCH }
+    requires few { length messages.now ≤ MAX_GROUP }
     // At Ok each is told what its answer says, and what is sent is posted;
     ensures done { IfOk result (λ told.
         HasPosted server.old.store.state server.old.store.soft messages.now
@@ -127,7 +127,7 @@ fn take_all<D: Disk>(
     alloc: Global,
     messages: &[(u32, Message)],
 ) -> Result<Served, SharedFault>
-    requires few { length messages.now ≤ MAX_BATCH }
+    requires few { length messages.now ≤ MAX_GROUP }
     ensures done { IfOk result (λ served. IsServed server.old.store.state server.old.store.soft
         messages.now served server.new.store.state server.new.store.soft) }
     ensures up { OnOk result ((server.old.down ≡ false) × (server.new.down ≡ false)) }

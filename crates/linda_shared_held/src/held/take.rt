@@ -4,7 +4,7 @@ ghost use Rattle.std.specs.Prelude.{◌≡◌, ◌⊎◌, true, false, ◌+◌, 
 ghost use Rattle.std.specs.Prelude.{vec_len};
 ghost use Rattle.std.specs.Prelude.{IfOk, IfErr, OnOk, OnErr, IsErrOf};
 ghost use Rattle.linda_store_state.specs.State as states;
-ghost use Rattle.linda_store_step.specs.declared.size.TheConstants.{MAX_BATCH};
+ghost use Rattle.linda_store_step.specs.declared.size.TheConstants.{MAX_GROUP};
 ghost use Rattle.linda_server.specs.Handled.{HasNoRoomFor};
 ghost use Rattle.linda_shared_outbox.specs.Waiting.{waits_for};
 ghost use Rattle.linda_shared_held.specs.Order.{known, IsInOrder};
@@ -40,7 +40,7 @@ pub(super) fn take<D: Disk>(
     count: u64,
     messages: &[(u32, Message)],
 ) -> Result<Vec<Option<SharedReceipt>>, SharedFault>
-    requires few { length messages.now ≤ MAX_BATCH }
+    requires few { length messages.now ≤ MAX_GROUP }
     ensures done { IfOk result (λ told. WereTaken server.old count messages.now
         told.items (waits_for boxes.old) (waits_for boxes.new) server.new) }
     ensures receipts { IfOk result (λ told.

@@ -9,4 +9,6 @@ returns c =
     let fourth = c.with_arg-fourth.ensures _ _ third c.flag.ensures.rule c.flag.ensures.own in
     let fifth = c.with_arg-fifth.ensures _ _ fourth c.lease_option.ensures.rule c.lease_option.ensures.own in
     let sixth = c.with_arg-sixth.ensures _ _ fifth c.flag-2.ensures.rule c.flag-2.ensures.own in
-    c.with_arg.ensures _ _ sixth c.status_option.ensures.rule c.status_option.ensures.own
+    let seventh = c.with_arg-seventh.ensures _ _ sixth c.status_option.ensures.rule c.status_option.ensures.own in
+    let eighth = c.with_arg-eighth.ensures _ _ seventh c.option.ensures.rule c.option.ensures.own in
+    c.with_arg.ensures _ _ eighth c.option-2.ensures.rule c.option-2.ensures.own

@@ -32,9 +32,16 @@ pub(super) enum Figure {
     Late,
     Groups,
     Messages,
+    /// Microseconds.
+    Took,
 }
 
 impl Figure {
+    /// Whether it is a time, in microseconds, which is written in seconds.
+    pub(super) fn is_time(self) -> bool {
+        matches!(self, Figure::Took)
+    }
+
     /// What it comes to.
     pub(super) fn value(self, gauge: &Gauge, tally: &Tally) -> u64
         ensures { result ≡ value_of self gauge.now tally.now }
@@ -61,6 +68,7 @@ impl Figure {
             Figure::Late => tally.late,
             Figure::Groups => tally.groups,
             Figure::Messages => tally.messages,
+            Figure::Took => tally.took,
         }
     }
 }

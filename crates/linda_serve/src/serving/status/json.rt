@@ -2,9 +2,10 @@
 
 ghost use Rattle.std.specs.Prelude.{◌≡◌, ◌++◌, IfOk};
 ghost use Rattle.std.specs.String.{string_bytes};
-ghost use Rattle.linda_serve.specs.Status.{member};
+ghost use Rattle.linda_serve.specs.Status.{member, time_member};
 
 use super::row::ROWS;
+use super::seconds::push_seconds;
 use linda_net::{Gauge, Tally};
 use std::alloc::AllocError;
 
@@ -16,7 +17,12 @@ pub(super) fn spell_json(
 ) -> Result<(), AllocError> {
     let mut before = "{";
     for row in ROWS {
-        spell_member(page, before, row.key, row.figure.value(gauge, tally))?;
+        let value = row.figure.value(gauge, tally);
+        if row.figure.is_time() {
+            spell_time(page, before, row.key, value)?;
+        } else {
+            spell_member(page, before, row.key, value)?;
+        }
         before = ",";
     }
     page.push_str("}\n")
@@ -28,4 +34,13 @@ fn spell_member(page: &mut String, before: &str, key: &str, value: u64) -> Resul
         ≡ string_bytes page.old ++ before.now ++ member key.now value) }
 {
     write!(page, "{before}\"{key}\":{value}")
+}
+
+// Writes a time with its name, behind what is before it.
+fn spell_time(page: &mut String, before: &str, key: &str, micros: u64) -> Result<(), AllocError>
+    ensures { IfOk result (λ _. string_bytes page.new
+        ≡ string_bytes page.old ++ before.now ++ time_member key.now micros) }
+{
+    write!(page, "{before}\"{key}\":")?;
+    push_seconds(page, micros)
 }

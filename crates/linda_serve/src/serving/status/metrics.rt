@@ -2,9 +2,10 @@
 
 ghost use Rattle.std.specs.Prelude.{◌≡◌, ◌++◌, ◌∷◌, [], codes, IfOk};
 ghost use Rattle.std.specs.String.{string_bytes};
-ghost use Rattle.linda_serve.specs.Status.{sample};
+ghost use Rattle.linda_serve.specs.Status.{sample, time_sample};
 
 use super::row::{ROWS, Row};
+use super::seconds::push_seconds;
 use linda_net::{Gauge, Tally};
 use std::alloc::AllocError;
 
@@ -18,7 +19,12 @@ pub(super) fn spell_metrics(
         if !row.help.is_empty() {
             spell_head(page, &row)?;
         }
-        spell_sample(page, row.metric, row.label, row.figure.value(gauge, tally))?;
+        let value = row.figure.value(gauge, tally);
+        if row.figure.is_time() {
+            spell_time(page, row.metric, row.label, value)?;
+        } else {
+            spell_sample(page, row.metric, row.label, value)?;
+        }
     }
     Ok(())
 }
@@ -35,4 +41,14 @@ fn spell_sample(page: &mut String, metric: &str, label: &str, value: u64) -> Res
         ≡ string_bytes page.old ++ sample metric.now label.now value) }
 {
     write!(page, "{metric}{label} {value}\n")
+}
+
+// Writes a time, as a line.
+fn spell_time(page: &mut String, metric: &str, label: &str, micros: u64) -> Result<(), AllocError>
+    ensures { IfOk result (λ _. string_bytes page.new
+        ≡ string_bytes page.old ++ time_sample metric.now label.now micros) }
+{
+    write!(page, "{metric}{label} ")?;
+    push_seconds(page, micros)?;
+    page.push_str("\n")
 }

@@ -23,7 +23,7 @@ pub(super) struct Row {
 }
 
 /// All of them, in their order.
-pub(super) const ROWS: [Row; 21] = [
+pub(super) const ROWS: [Row; 22] = [
     Row {
         figure: Figure::Up,
         metric: "linda_up",
@@ -191,5 +191,13 @@ pub(super) const ROWS: [Row; 21] = [
         key: "group_messages_total",
         kind: COUNTER,
         help: "Messages in those groups.",
+    },
+    Row {
+        figure: Figure::Took,
+        metric: "linda_group_seconds_total",
+        label: "",
+        key: "group_seconds_total",
+        kind: COUNTER,
+        help: "Seconds for which the loops waited for the server and served those groups.",
     },
 ];

@@ -1,168 +1,44 @@
-use Rattle.std.proofs.Common.{◌+◌, ◌∙◌, All, length, Err, rules, ap, refl, inl, inr}
-use Rattle.linda_store_state.specs.DeedFormat.{SuitsForm}
-use Rattle.linda_journal.specs.Records.{record_body, spell_record}
-use Rattle.linda_journal.proofs.BankLaws.{whole, shut_of, staging, opening, settled_with}
-use Rattle.linda_journal.specs.declared.fault.BankFault.TheVariants as banks
-use Rattle.std.proofs.lemmas.Result.{err_from_is_err_and}
-use Rattle.linda_journal.proofs.CauseLaws.{device_told, none_told, memory_fails_none, device_fills_none, no_memory_fills_none, is_admitted}
+-- Deeds of one record, as all that are added.
+use Rattle.std.proofs.Common.{◌+◌, ◌∙◌, ap, length}
+use Rattle.linda_disk.proofs.RunLaws.{weaker}
+use Rattle.linda_journal.specs.Bank.{IsOldOrMore, IsOldOrAll}
+use Rattle.linda_journal.proofs.AppendLaws.{old_or_one, settled_with_one, on_ok, past_one, past_one_back}
+use Rattle.linda_journal.proofs.SpellLaws.{one_count, one_long}
 use Rattle.linda_journal.proofs.bank.Bank.append.Goals as goal
-
-pub returns-in_err-bytes : goal.returns-in_err-bytes
-returns-in_err-bytes g c =
-    record {
-      any_moment = search rules;
-      done = search rules;
-      place = search rules;
-      count = search rules;
-      ready = search rules;
-      fits = search rules;
-      room = search rules;
-      full =
-          let p = err_from_is_err_and c.from_residual.result c.from_residual.ensures.1 in
-          let s = c.args.self.now in
-          let ds = c.args.deeds.now in
-          let fits = c.if-not-deeds_fit.ensures.exact.0 (search rules) in
-          let room = c.if-not-has_room.ensures.yes (search rules) in (
-            λ is. absurd (no_memory_fills_none c.from_residual.result (p.1 ∙ ap (λ y. Err y) p.2) is),
-            λ full. absurd (is_admitted (All (SuitsForm s.form) ds) s.limit s.end c.record_len-len.result (length (spell_record s.form ds)) fits c.record_len-len.ensures.exact room full.1),
-          );
-      unfilled = search rules;
-      spent = search rules;
-      unspent = search rules;
-      cause =
-          let p = err_from_is_err_and c.from_residual.result c.from_residual.ensures.1 in
-          let count = g.D.Disk.failures in
-          rw (p.1, p.2) (none_told banks.Memory (count c.args.self.now.disk) (count c.args.self.now.disk) memory_fails_none refl);
-      steady = search rules;
-      clock = search rules;
-      off = search rules;
-      memory = λ is. inl refl;
-      known = search rules;
-      same = search rules;
-      honest = search rules;
-    }
-
-pub returns-in_err-stage : goal.returns-in_err-stage
-returns-in_err-stage g c =
-    record {
-      any_moment = λ body records honest settled.
-          let bank = c.args.self.now in
-          let old = g.D.Disk.view bank.disk in
-          let mid = g.D.Disk.view c.stage.new.disk in
-          staging bank.form bank.generation body records c.args.deeds.now bank.end old settled c.in_ok-bytes.ensures.good mid
-          (c.stage.ensures.any_moment (whole bank.form bank.generation body records) honest (shut_of bank.form bank.generation body records bank.end old settled));
-      done = search rules;
-      place = search rules;
-      count = search rules;
-      ready = search rules;
-      fits = search rules;
-      room = search rules;
-      full =
-          let p = err_from_is_err_and c.from_residual-in_err-stage.result c.from_residual-in_err-stage.ensures.1 in
-          let s = c.args.self.now in
-          let ds = c.args.deeds.now in
-          let fits = c.if-not-deeds_fit.ensures.exact.0 (search rules) in
-          let room = c.if-not-has_room.ensures.yes (search rules) in (
-            λ is. absurd (device_fills_none c.from_residual-in_err-stage.result c.in_err-stage.field-0.0 (p.1 ∙ ap (λ y. Err y) p.2) is),
-            λ full. absurd (is_admitted (All (SuitsForm s.form) ds) s.limit s.end c.record_len-len.result (length (spell_record s.form ds)) fits c.record_len-len.ensures.exact room full.1),
-          );
-      unfilled = search rules;
-      spent = search rules;
-      unspent = search rules;
-      cause =
-          let p = err_from_is_err_and c.from_residual-in_err-stage.result c.from_residual-in_err-stage.ensures.1 in
-          let count = g.D.Disk.failures in
-          rw (p.1, p.2) (device_told c.in_err-stage.field-0.0 (count c.args.self.now.disk) (count c.args.self.now.disk) (count c.stage.new.disk) refl c.in_err-stage.ensures.cause);
-      steady = search rules;
-      clock = search rules;
-      off = search rules;
-      memory = λ is. inr refl;
-      known = search rules;
-      same = search rules;
-      honest = search rules;
-    }
-
-pub returns-in_err-open_gate : goal.returns-in_err-open_gate
-returns-in_err-open_gate g c =
-    record {
-      any_moment = λ body records honest settled.
-          let bank = c.args.self.now in
-          let old = g.D.Disk.view bank.disk in
-          let mid = g.D.Disk.view c.stage.new.disk in
-          let front = whole bank.form bank.generation body records in
-          let shut = shut_of bank.form bank.generation body records bank.end old settled in
-          let ready = c.in_ok-stage.ensures.ready front (record_body bank.form c.args.deeds.now) (c.deref.ensures.value ∙ c.in_ok-bytes.ensures.bytes) honest shut in
-          opening bank.form bank.generation body records c.args.deeds.now bank.end old settled c.in_ok-bytes.ensures.good mid (g.D.Disk.view c.open_gate.new.disk)
-          (c.stage.ensures.any_moment front honest shut)
-          (c.open_gate.ensures.any_moment front (record_body bank.form c.args.deeds.now) (c.stage.ensures.honest.0 honest) ready);
-      done = search rules;
-      place = search rules;
-      count = search rules;
-      ready = search rules;
-      fits = search rules;
-      room = search rules;
-      full =
-          let p = err_from_is_err_and c.from_residual-in_err-open_gate.result c.from_residual-in_err-open_gate.ensures.1 in
-          let s = c.args.self.now in
-          let ds = c.args.deeds.now in
-          let fits = c.if-not-deeds_fit.ensures.exact.0 (search rules) in
-          let room = c.if-not-has_room.ensures.yes (search rules) in (
-            λ is. absurd (device_fills_none c.from_residual-in_err-open_gate.result c.in_err-open_gate.field-0.0 (p.1 ∙ ap (λ y. Err y) p.2) is),
-            λ full. absurd (is_admitted (All (SuitsForm s.form) ds) s.limit s.end c.record_len-len.result (length (spell_record s.form ds)) fits c.record_len-len.ensures.exact room full.1),
-          );
-      unfilled = search rules;
-      spent = search rules;
-      unspent = search rules;
-      cause =
-          let p = err_from_is_err_and c.from_residual-in_err-open_gate.result c.from_residual-in_err-open_gate.ensures.1 in
-          let count = g.D.Disk.failures in
-          rw (p.1, p.2) (device_told c.in_err-open_gate.field-0.0 (count c.args.self.now.disk) (count c.stage.new.disk) (count c.open_gate.new.disk) c.in_ok-stage.ensures.cause.ok c.in_err-open_gate.ensures.cause);
-      steady = search rules;
-      clock = search rules;
-      off = search rules;
-      memory = λ is. inr refl;
-      known = search rules;
-      same = search rules;
-      honest = search rules;
-    }
 
 pub returns : goal.returns
 returns g c =
+    let old = c.args.self.now in
+    let new = c.append_all.new.self in
+    let ds = c.args.deeds.now in
+    let some = c.requires.some in
+    let few = c.requires.few in
+    let all = c.append_all.ensures in
+    let long = one_long old.form ds some few in
     record {
       any_moment = λ body records honest settled.
-          let bank = c.args.self.now in
-          let old = g.D.Disk.view bank.disk in
-          let mid = g.D.Disk.view c.stage.new.disk in
-          let front = whole bank.form bank.generation body records in
-          let shut = shut_of bank.form bank.generation body records bank.end old settled in
-          let ready = c.in_ok-stage.ensures.ready front (record_body bank.form c.args.deeds.now) (c.deref.ensures.value ∙ c.in_ok-bytes.ensures.bytes) honest shut in
-          opening bank.form bank.generation body records c.args.deeds.now bank.end old settled c.in_ok-bytes.ensures.good mid (g.D.Disk.view c.open_gate.new.disk)
-          (c.stage.ensures.any_moment front honest shut)
-          (c.open_gate.ensures.any_moment front (record_body bank.form c.args.deeds.now) (c.stage.ensures.honest.0 honest) ready);
+          weaker (g.D.Disk.view old.disk) (g.D.Disk.view new.disk) (IsOldOrAll old.form old.generation body records ds) (IsOldOrMore old.form old.generation body records ds)
+          (all.any_moment body records honest settled) (old_or_one old.form old.generation body records ds some few);
       done = λ body records honest settled.
-          let bank = c.args.self.now in
-          let old = g.D.Disk.view bank.disk in
-          let front = whole bank.form bank.generation body records in
-          let shut = shut_of bank.form bank.generation body records bank.end old settled in
-          let ready = c.in_ok-stage.ensures.ready front (record_body bank.form c.args.deeds.now) (c.deref.ensures.value ∙ c.in_ok-bytes.ensures.bytes) honest shut in
-          let opened = c.in_ok-open_gate.ensures.opened front (record_body bank.form c.args.deeds.now) (c.stage.ensures.honest.0 honest) ready in
-          settled_with bank.form bank.generation body records c.args.deeds.now bank.end old settled c.in_ok-bytes.ensures.good (g.D.Disk.view c.open_gate.new.disk) _
-          (ap (λ n. bank.end + n) c.record_len-len.ensures.exact) opened;
-      place = search rules;
-      count = search rules;
-      ready = search rules;
-      fits = search rules;
-      room = search rules;
-      full = search rules;
-      unfilled = search rules;
-      spent = search rules;
-      unspent = search rules;
-      cause = search rules;
-      steady = search rules;
-      clock = search rules;
-      off = search rules;
-      memory = search rules;
-      known = search rules;
-      same = search rules;
-      honest = search rules;
+          on_ok c.append_all.result _ _ (settled_with_one new.form new.generation body records ds some few new.end (g.D.Disk.view new.disk)) (all.done body records honest settled);
+      place = on_ok c.append_all.result _ _ (λ e. e ∙ ap (λ n. old.end + n) long) all.place;
+      count = on_ok c.append_all.result _ _ (λ e. e ∙ ap (λ n. old.records + n) (one_count (length ds) some few)) all.count;
+      ready = all.ready;
+      fits = all.fits;
+      room = all.room;
+      full = (
+        λ is. let f = all.full.0 is in (f.0, past_one old.form ds old.end old.limit some few f.1),
+        λ f. all.full.1 (f.0, past_one_back old.form ds old.end old.limit some few f.1),
+      );
+      unfilled = all.unfilled;
+      spent = all.spent;
+      unspent = all.unspent;
+      cause = all.cause;
+      steady = all.steady;
+      clock = all.clock;
+      off = all.off;
+      memory = all.memory;
+      known = all.known;
+      same = all.same;
+      honest = all.honest;
     }

@@ -1,32 +1,39 @@
 -- What was served is put onto the bank in use, or nothing is touched.
-use Rattle.std.proofs.Common.{◌≡◌, ◌<◌, ◌∙◌, [], inl, inr, Err, Result, false, IfOk, IfSome, ◌+◌, length, refl, sym, subst, ap, arith, rules}
+use Rattle.std.proofs.Common.{◌≡◌, ℕ, ◌<◌, ◌≤◌, ◌∙◌, [], inl, inr, Err, Result, Option, false, IfOk, IfSome, ◌+◌, length, refl, sym, subst, ap, arith, rules}
 use Rattle.std.specs.Vec.{vec_len}
 use Rattle.std.proofs.lemmas.Result.{err_from_is_err_and}
+use Rattle.linda_store_state.specs.DeedFormat.{payload}
 use Rattle.linda_store_state.proofs.DoneLaws.{on_ok}
-use Rattle.linda_store_step.specs.declared.size.TheConstants.{MAX_BATCH}
+use Rattle.linda_store_step.specs.declared.size.TheConstants.{MAX_GROUP}
 use Rattle.linda_store_step.specs.Store.{Store}
 use Rattle.linda_store_step.specs.History.{comings, history_of}
-use Rattle.linda_server.specs.declared.limits.TheConstants.{RECORD_BYTES}
 use Rattle.linda_server.specs.declared.served.Served.{Served}
 use Rattle.linda_server.specs.Served.{messages_of, IsServed}
 use Rattle.linda_server.specs.Pairs.{PairsSince}
 use Rattle.linda_server.specs.Server.{both_of, form_in_use, end_in_use, IsPutOn}
-use Rattle.linda_server.specs.Calls.{LeadTo, IsBeforeOrAfter}
+use Rattle.linda_server.specs.Calls.{LeadTo, IsBeforeOrAfter, room_for}
 use Rattle.linda_server.specs.Node.{shown}
 use Rattle.linda_server.proofs.ServedLaws.{served_happens}
-use Rattle.linda_server.proofs.CallLaws.{leads_to, few, some_bytes, room_of, suit_of, too_much, not_too_much, still_before, served_since, stands_so, none_remains, all_remains_up, at_fault, each_share, told_so}
+use Rattle.linda_server.proofs.CallLaws.{leads_to, few, some_bytes, room_of, suit_of, too_much, not_too_much, still_before, served_since, stands_so, none_remains, all_remains_up, at_fault, each_share, told_so, room_less}
 use Rattle.linda_server.specs.declared.fault.ServeFault.{ServeFault}
 use Rattle.linda_server.specs.declared.fault.ServeFault.TheVariants.{Memory}
 use Rattle.linda_server.specs.Lives.{GoesOn}
 use Rattle.linda_server.proofs.LivesLaws.{cut_at_work, goes_on_still, serves_on}
 use Rattle.linda_server.proofs.durable.Durable.serve_batch.Goals as goal
 
+-- What is admitted, for so many messages.
+admitted_for : (size : Option ℕ) (end limit count most : ℕ) → count ≡ most → IfSome size (λ b. 0 < b → end + room_for count b ≤ limit) → IfSome size (λ b. 0 < b → end + room_for most b ≤ limit)
+admitted_for size end limit count most same = subst (λ n. IfSome size (λ b. 0 < b → end + room_for n b ≤ limit)) same
+
+within : (end limit more less new_end new_limit : ℕ) → end + more ≤ limit → less ≤ more → new_end ≡ end → new_limit ≡ limit → new_end + less ≤ new_limit
+within end limit more less new_end new_limit fits fewer end_is limit_is = omega (arith, fits, fewer, end_is, limit_is)
+
 pub settle-requires-clause-few : goal.settle-requires-clause-few
 settle-requires-clause-few g c =
     let ms = messages_of c.args.batch in
     let s = c.args.self.now.store in
     let after = c.serve.new.store in
-    few s.state s.soft ms c.in-Ok.served after.state after.soft MAX_BATCH c.requires (subst (λ (st : Store). IsServed st.state st.soft ms c.in-Ok.served c.serve.new.store.state c.serve.new.store.soft) c.begin.ensures.same.0 c.in-Ok.ensures.ok)
+    few s.state s.soft ms c.in-Ok.served after.state after.soft MAX_GROUP c.requires (subst (λ (st : Store). IsServed st.state st.soft ms c.in-Ok.served c.serve.new.store.state c.serve.new.store.soft) c.begin.ensures.same.0 c.in-Ok.ensures.ok)
 
 pub settle-requires-clause-leads : goal.settle-requires-clause-leads
 settle-requires-clause-leads g c =
@@ -52,9 +59,10 @@ settle-requires-clause-room g c some =
     let limited = c.begin.ensures.same.2 in
     let end = ap (end_in_use) disks in
     let fits =
-    room_of (form_in_use c.args.self.now.disks) form is_form (end_in_use c.args.self.now.disks) c.args.self.now.limit c.size_of-size.result served.deeds.items
-    (c.size_of-size.ensures.bytes all happens) c.in_ok-admit.ensures.room c.in_ok-admit.ensures.spelled there in
-    omega (arith, fits, limited, end)
+    room_of (form_in_use c.args.self.now.disks) form is_form (end_in_use c.args.self.now.disks) c.args.self.now.limit (length ms) c.size_of-size.result served.deeds.items
+    (c.size_of-size.ensures.bytes all happens) (admitted_for c.size_of-size.result (end_in_use c.args.self.now.disks) c.args.self.now.limit _ _ c.count_of-count.ensures c.in_ok-admit.ensures.room) c.in_ok-admit.ensures.spelled there in
+    let count = few s.state s.soft ms served after.state after.soft (length ms) (omega arith) (subst (λ (st : Store). IsServed st.state st.soft ms served after.state after.soft) c.begin.ensures.same.0 c.in-Ok.ensures.ok) in
+    within _ _ _ _ _ _ fits (room_less (length served.deeds.items) (length ms) (length (payload form served.deeds.items)) count) end limited
 
 pub settle-requires-clause-suit : goal.settle-requires-clause-suit
 settle-requires-clause-suit g c =
@@ -65,7 +73,7 @@ settle-requires-clause-suit g c =
     let all = history_of after.state after.soft served.deeds.items served.sends.items in
     let happens = served_happens s.state s.soft ms served after.state after.soft (subst (λ (st : Store). IsServed st.state st.soft ms c.in-Ok.served c.serve.new.store.state c.serve.new.store.soft) c.begin.ensures.same.0 c.in-Ok.ensures.ok) in
     suit_of (form_in_use c.args.self.now.disks) (form_in_use c.begin.new.self.disks) (ap (form_in_use) (sym c.begin.ensures.same.1))
-    (end_in_use c.args.self.now.disks) c.args.self.now.limit c.size_of-size.result served.deeds.items
+    (end_in_use c.args.self.now.disks) c.args.self.now.limit (length ms) c.size_of-size.result served.deeds.items
     (c.size_of-size.ensures.suit all happens) c.in_ok-admit.ensures.spelled
 
 pub returns-in_err-admit : goal.returns-in_err-admit
@@ -80,11 +88,12 @@ returns-in_err-admit g c =
       now = search rules;
       up = search rules;
       full = λ full.
-          let past : IfSome c.size_of-size.result (λ b. (0 < b) × (s.limit < end_in_use s.disks + RECORD_BYTES + b)) = search (rules, full) in (
+          let past : IfSome c.size_of-size.result (λ b. (0 < b) × (s.limit < end_in_use s.disks + room_for c.count_of-count.result b)) = search (rules, full) in (
             refl,
             λ all happens.
-                too_much (form_in_use s.disks) (form_in_use s.disks) refl (end_in_use s.disks) s.limit c.size_of-size.result all.deeds
-                (c.size_of-size.ensures.bytes all happens) (c.size_of-size.ensures.none all happens) past,
+                too_much (form_in_use s.disks) (form_in_use s.disks) refl (end_in_use s.disks) s.limit (length ms) c.size_of-size.result all.deeds
+                (c.size_of-size.ensures.bytes all happens) (c.size_of-size.ensures.none all happens)
+                (subst (λ n. IfSome c.size_of-size.result (λ b. (0 < b) × (s.limit < end_in_use s.disks + room_for n b))) c.count_of-count.ensures past),
           );
       room = search rules;
       was_down = search rules;
@@ -165,8 +174,9 @@ returns g c =
       full = λ full. search (rules, full);
       room =
           on_ok _ _ c.settle.result (λ is_up full.
-          not_too_much (form_in_use s.disks) (form_in_use s.disks) refl (end_in_use s.disks) s.limit c.size_of-size.result served.deeds.items
-          (c.size_of-size.ensures.bytes all happens) (c.size_of-size.ensures.suit all happens) c.in_ok-admit.ensures.room c.in_ok-admit.ensures.spelled (full all happens)) c.settle.ensures.up;
+          not_too_much (form_in_use s.disks) (form_in_use s.disks) refl (end_in_use s.disks) s.limit (length ms) c.size_of-size.result served.deeds.items
+          (c.size_of-size.ensures.bytes all happens) (c.size_of-size.ensures.suit all happens)
+          (admitted_for c.size_of-size.result (end_in_use s.disks) s.limit _ _ c.count_of-count.ensures c.in_ok-admit.ensures.room) c.in_ok-admit.ensures.spelled (full all happens)) c.settle.ensures.up;
       was_down = search rules;
       stays_down = search rules;
       goes_down = search rules;

@@ -7,8 +7,10 @@ const PLAIN: &str = "text/plain";
 
 /// How it is answered.
 #[derive(Clone, Copy)]
-pub(super) enum Code {
+pub(crate) enum Code {
     Found,
+    Wrong,
+    NotNow,
     Malformed,
     Missing,
     OnlyRead,
@@ -16,16 +18,16 @@ pub(super) enum Code {
 
 /// An answer, before its page.
 #[derive(Clone, Copy)]
-pub(super) struct Answer {
+pub(crate) struct Answer {
     code: Code,
     kind: &'static str,
     /// Whether the page follows.
-    pub(super) is_whole: bool,
+    pub(crate) is_whole: bool,
 }
 
 impl Answer {
     /// There is a page of this kind, which follows or does not.
-    pub(super) fn found(kind: &'static str, is_whole: bool) -> Answer {
+    pub(crate) fn found(kind: &'static str, is_whole: bool) -> Answer {
         Answer {
             code: Code::Found,
             kind,
@@ -33,8 +35,26 @@ impl Answer {
         }
     }
 
+    /// There is such a page, but not for this query; why follows or does not.
+    pub(crate) fn wrong(is_whole: bool) -> Answer {
+        Answer {
+            code: Code::Wrong,
+            kind: PLAIN,
+            is_whole,
+        }
+    }
+
+    /// There is such a page, but not now; why follows or does not.
+    pub(crate) fn not_now(is_whole: bool) -> Answer {
+        Answer {
+            code: Code::NotNow,
+            kind: PLAIN,
+            is_whole,
+        }
+    }
+
     /// There is no such page.
-    pub(super) fn missing(is_whole: bool) -> Answer {
+    pub(crate) fn missing(is_whole: bool) -> Answer {
         Answer {
             code: Code::Missing,
             kind: PLAIN,
@@ -43,7 +63,7 @@ impl Answer {
     }
 
     /// Nothing else can be asked for than pages.
-    pub(super) fn only_read() -> Answer {
+    pub(crate) fn only_read() -> Answer {
         Answer {
             code: Code::OnlyRead,
             kind: PLAIN,
@@ -52,7 +72,7 @@ impl Answer {
     }
 
     /// What was sent is no head.
-    pub(super) fn malformed() -> Answer {
+    pub(crate) fn malformed() -> Answer {
         Answer {
             code: Code::Malformed,
             kind: PLAIN,
@@ -60,10 +80,12 @@ impl Answer {
         }
     }
 
-    /// The text in place of a page, if there is none.
-    pub(super) fn text(&self) -> &'static str {
+    /// The text in place of a page, if there is none and none was spelled.
+    pub(crate) fn text(&self) -> &'static str {
         match self.code {
             Code::Found => "",
+            Code::Wrong => "",
+            Code::NotNow => "",
             Code::Malformed => "no request of HTTP/1\n",
             Code::Missing => "no such page\n",
             Code::OnlyRead => "only GET and HEAD\n",
@@ -71,7 +93,7 @@ impl Answer {
     }
 
     /// Writes it behind what is there, with a page of so many bytes.
-    pub(super) fn spell(&self, out: &mut String, length: usize) -> Result<(), AllocError> {
+    pub(crate) fn spell(&self, out: &mut String, length: usize) -> Result<(), AllocError> {
         out.push_str("HTTP/1.1 ")?;
         out.push_str(line_of(self.code))?;
         write!(out, "\r\nContent-Type: {}", self.kind)?;
@@ -84,6 +106,8 @@ impl Answer {
 fn line_of(code: Code) -> &'static str {
     match code {
         Code::Found => "200 OK",
+        Code::Wrong => "400 Bad Request",
+        Code::NotNow => "503 Service Unavailable",
         Code::Malformed => "400 Bad Request",
         Code::Missing => "404 Not Found",
         Code::OnlyRead => "405 Method Not Allowed\r\nAllow: GET, HEAD",

@@ -2,18 +2,22 @@
 
 ghost use Rattle.std.specs.Prelude.{◌≤◌, vec_len};
 
-use super::answer::Answer;
+use crate::answer::Answer;
 use mio::net::TcpStream;
 use std::alloc::Global;
 use std::io::{ErrorKind, Read, Write};
 use std::net::Shutdown;
+use std::time::{Duration, Instant};
 
 /// How many bytes are read of one connection at most: those behind its head are not looked at.
 const MOST_TAKEN: usize = 65_536;
 
+/// For how many seconds a connection is there at most.
+const MOST_SECONDS: u64 = 10;
+
 /// One connection: it asks once, is answered, and ends.
 #[derive(Drop)]
-pub(super) struct Caller {
+pub(crate) struct Caller {
     stream: TcpStream,
     // What it sent, until it is answered.
     head: Vec<u8>,
@@ -21,10 +25,10 @@ pub(super) struct Caller {
     taken: usize,
     out: Vec<u8>,
     sent: usize,
-    /// How many seconds it is there.
-    pub(super) age: u32,
+    // Since when it is there, if the clock said so.
+    came: Option<Instant>,
     /// Something happened at it.
-    pub(super) is_awake: bool,
+    pub(crate) is_awake: bool,
     is_answered: bool,
     // It sends no more.
     is_shut: bool,
@@ -35,14 +39,14 @@ pub(super) struct Caller {
 
 impl Caller {
     /// A connection that was not looked at.
-    pub(super) fn new(alloc: Global, stream: TcpStream) -> Caller {
+    pub(crate) fn new(alloc: Global, stream: TcpStream, came: Option<Instant>) -> Caller {
         Caller {
             stream,
             head: Vec::new(alloc),
             taken: 0,
             out: Vec::new(alloc),
             sent: 0,
-            age: 0,
+            came,
             is_awake: true,
             is_answered: false,
             is_shut: false,
@@ -51,12 +55,12 @@ impl Caller {
     }
 
     /// The socket.
-    pub(super) fn stream(&mut self) -> &mut TcpStream {
+    pub(crate) fn stream(&mut self) -> &mut TcpStream {
         &mut self.stream
     }
 
     /// What it sent, if it was not answered.
-    pub(super) fn head(&self) -> Option<&[u8]> {
+    pub(crate) fn head(&self) -> Option<&[u8]> {
         if self.is_answered || self.is_broken {
             return None;
         }
@@ -65,8 +69,16 @@ impl Caller {
 
     /// Whether it is over: it can be neither read nor written, sent too much, or sends no more and
     /// has its answer, if there is one.
-    pub(super) fn is_over(&self) -> bool {
+    pub(crate) fn is_over(&self) -> bool {
         self.is_broken || self.taken > MOST_TAKEN || (self.is_shut && !self.has_unsent())
+    }
+
+    /// Whether it is there for too long.
+    pub(crate) fn is_late(&self, now: Instant) -> bool {
+        match self.came {
+            Some(came) => now.duration_since(came) >= Duration::from_secs(MOST_SECONDS),
+            None => false,
+        }
     }
 
     // Whether some of its answer is still to be written.
@@ -75,7 +87,7 @@ impl Caller {
     }
 
     /// Reads some of what is there. Says whether there may be more.
-    pub(super) fn read(&mut self, buffer: &mut [u8]) -> bool {
+    pub(crate) fn read(&mut self, buffer: &mut [u8]) -> bool {
         match self.stream.read(buffer) {
             Ok(0) => self.is_shut = true,
             Ok(len) => {
@@ -95,7 +107,7 @@ impl Caller {
     }
 
     /// It is answered so, with this page.
-    pub(super) fn answer(&mut self, answer: &Answer, page: &str, text: &mut String) {
+    pub(crate) fn answer(&mut self, answer: &Answer, page: &str, text: &mut String) {
         self.is_answered = true;
         text.clear();
         let spelled = answer.spell(text, page.len());
@@ -112,12 +124,12 @@ impl Caller {
     }
 
     /// It cannot be answered.
-    pub(super) fn fail(&mut self) {
+    pub(crate) fn fail(&mut self) {
         self.is_broken = true;
     }
 
     /// Writes what it can take. Once all is written it is said that no more comes.
-    pub(super) fn flush(&mut self) {
+    pub(crate) fn flush(&mut self) {
         if self.is_broken || !self.has_unsent() {
             return;
         }

@@ -1,0 +1,132 @@
+//! A unix socket that a command line names: where a server listens, and who may connect.
+
+ghost use Rattle.std.specs.Prelude.{◌≡◌, ◌<◌, ◌^◌, true, map, IfOk, IfSome};
+ghost use Rattle.std.specs.String.{string_bytes};
+ghost use Rattle.linda_args.specs.Commands.{IsAfterCall, IsAfterServe};
+
+use clap::ArgMatches;
+use std::alloc::{AllocError, Global};
+
+/// The option that names a unix socket.
+pub(super) const SOCKET: &str = "socket";
+
+/// The option that says who may connect to it.
+pub(super) const MODE: &str = "mode";
+
+/// Who may connect if that is not said: the owner.
+const OWNER: u32 = 0o600;
+
+/// A unix socket where a server listens: its path, and the mode of its file.
+#[derive(Debug, Drop)]
+pub struct Socket {
+    /// Its path, which has one byte at least.
+    pub path: String,
+    /// The mode of its file: nine bits, as those of `chmod`.
+    pub mode: u32,
+}
+
+impl Socket {
+    /// The socket that the parser found, if there is one.
+    ///
+    /// # Errors
+    ///
+    /// `AllocError` where memory runs out.
+    pub(super) fn found(alloc: Global, matches: &ArgMatches) -> Result<Option<Socket>, AllocError>
+        ensures { IfOk result (λ found. IfSome found (λ socket. socket.mode < 2 ^ 9)) }
+    {
+        let Some(path) = matches.get_str(SOCKET) else {
+            return Ok(None);
+        };
+        let Some(mode) = mode_found(matches) else {
+            return Ok(None);
+        };
+        let path = String::from_str(alloc, path)?;
+        Ok(Some(Socket { path, mode }))
+    }
+}
+
+/// The mode that the parser found, or that of the owner; none if it is no mode.
+pub(super) fn mode_found(matches: &ArgMatches) -> Option<u32>
+    ensures { IfSome result (λ mode. mode < 2 ^ 9) }
+{
+    match matches.get_str(MODE) {
+        Some(text) => mode_of(text),
+        None => Some(OWNER),
+    }
+}
+
+// The mode that three octal digits spell.
+fn mode_of(text: &str) -> Option<u32>
+    ensures { IfSome result (λ mode. mode < 2 ^ 9) }
+{
+    match text.as_bytes() {
+        [owner, group, others] => {
+            let owner = octal(*owner)?;
+            let group = octal(*group)?;
+            let others = octal(*others)?;
+            Some(owner * 64 + group * 8 + others)
+        }
+        _ => None,
+    }
+}
+
+// The number that an octal digit stands for.
+fn octal(digit: u8) -> Option<u32>
+    ensures { IfSome result (λ n. n < 8) }
+{
+    if digit < b'0' || digit > b'7' {
+        return None;
+    }
+    Some(u32::from(digit - b'0'))
+}
+
+/// Whether the words of the command line, of which the first names the program, are to serve, and
+/// one of the options of a socket is among them.
+pub(super) fn serves_at_socket(words: &[String]) -> bool
+    ensures yes { result ≡ true → IsAfterServe (map string_bytes words.now) }
+{
+    match words {
+        [_, command, later @ ..] => command.as_str() == "serve" && has_option(later),
+        _ => false,
+    }
+}
+
+/// Whether the words of the command line are a call, and the option of a socket is among them.
+pub(super) fn calls_at_sockets(words: &[String]) -> bool
+    ensures yes { result ≡ true → IsAfterCall (map string_bytes words.now) }
+{
+    match words {
+        [_, command, later @ ..] => command.as_str() == "call" && has_socket(later),
+        _ => false,
+    }
+}
+
+// Whether one of the words is the option of a socket.
+fn has_socket(words: &[String]) -> bool {
+    for word in words {
+        if is_socket(word.as_str()) {
+            return true;
+        }
+    }
+    false
+}
+
+// Whether the word is the option of a socket, with its value or without.
+fn is_socket(word: &str) -> bool {
+    word == "--socket" || word.starts_with("--socket=")
+}
+
+// Whether one of the words is an option of a socket.
+fn has_option(words: &[String]) -> bool {
+    for word in words {
+        if is_option(word.as_str()) {
+            return true;
+        }
+    }
+    false
+}
+
+// Whether the word is an option of a socket, with its value or without.
+fn is_option(word: &str) -> bool {
+    is_socket(word) || word == "--mode" || word.starts_with("--mode=")
+}

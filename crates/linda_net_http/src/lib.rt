@@ -1,0 +1,16 @@
+//! Pages over HTTP, for whoever asks how a server does.
+//!
+//! - `Pages` has the pages, which it spells when they are asked for.
+//! - An `HttpServer` has a listener and some connections, each of which asks once and is answered
+//!   (`Caller`). It waits for none of them.
+//! - What a connection asks for is read by `read_head`, and what goes before a page is an `Answer`.
+#![tactic(auto)]
+
+mod answer;
+mod caller;
+mod head;
+mod pages;
+mod server;
+
+pub use pages::{Asked, Pages, Told};
+pub use server::HttpServer;

@@ -1,0 +1,41 @@
+//! Who has the pages that are asked for.
+
+use std::alloc::AllocError;
+use std::sync::Wait;
+
+/// Which page is asked for: what is before the first question mark, and what is behind it, as it
+/// was sent. Both are any bytes.
+#[derive(Clone, Copy)]
+pub struct Asked<'a> {
+    pub path: &'a [u8],
+    pub query: &'a [u8],
+}
+
+/// What was said to somebody who asked for a page.
+#[derive(Clone, Copy)]
+pub enum Told {
+    /// The page, which is of this kind.
+    Page(&'static str),
+    /// There is such a page, but not for this query: what was spelled says why.
+    Wrong,
+    /// There is such a page, but not now: what was spelled says why.
+    NotNow,
+    /// There is no such page.
+    Nothing,
+}
+
+/// Who has the pages that are asked for.
+pub trait Pages {
+    /// Writes the page that is asked for behind what is there, and returns of which kind it is; or
+    /// why there is none.
+    ///
+    /// # Errors
+    ///
+    /// Memory ran out: some of the page may be there.
+    fn spell<R: Wait>(
+        &self,
+        rt: &R,
+        asked: Asked<'_>,
+        page: &mut String,
+    ) -> Result<Told, AllocError>;
+}

@@ -1,0 +1,258 @@
+//! A listener where pages are asked for, and the connections that ask.
+
+use crate::answer::Answer;
+use crate::caller::Caller;
+use crate::head::{Head, read_head};
+use crate::pages::{Pages, Told};
+use mio::net::{TcpListener, TcpStream};
+use mio::{Events, Interest, Poll, Registry, Token};
+use std::alloc::{AllocError, Global};
+use std::io;
+use std::io::ErrorKind;
+use std::net::Net;
+use std::sync::{Mutex, Wait};
+use std::time::{Clock, Duration, Instant};
+
+/// The token of the listener. That of a connection is the number of its place and one more.
+const DOOR: usize = 0;
+
+/// How many connections are there at most: more are closed at once.
+const PLACES: usize = 64;
+
+/// How many events are taken at once.
+const EVENTS: usize = 128;
+
+/// How many connections are let in before others are looked at.
+const MOST_NEW: u32 = 64;
+
+/// How often one connection is read before others are looked at.
+const MOST_READS: u32 = 16;
+
+/// How many bytes are read at once.
+const PIECE: usize = 8_192;
+
+/// How many bytes a page has at first.
+const PAGE: usize = 8_192;
+
+/// How long is waited if nothing happens, in milliseconds: then it is looked whether it is over.
+const QUIET: u64 = 100;
+
+/// Where pages are asked for, and who asks. At most 64 connections are there, each for ten seconds
+/// and a tenth of one at most if the clock does not fail; none is waited for.
+#[derive(Drop)]
+pub struct HttpServer {
+    alloc: Global,
+    poll: Poll,
+    events: Events,
+    listener: TcpListener,
+    // More may wait at the listener.
+    may_accept: bool,
+    // The last one could not be had.
+    has_missed: bool,
+    places: Vec<Option<Caller>>,
+    room: Room,
+}
+
+/// Where a page is spelled, and what goes before it.
+#[derive(Drop)]
+struct Room {
+    page: String,
+    head: String,
+    buffer: Vec<u8>,
+}
+
+impl HttpServer {
+    /// Nobody asked yet.
+    ///
+    /// # Errors
+    ///
+    /// The system has no room for it, or there is no memory.
+    pub fn open<R: Net>(
+        rt: &R,
+        alloc: Global,
+        listener: std::net::TcpListener,
+    ) -> io::Result<HttpServer> {
+        listener.set_nonblocking(true)?;
+        let poll = Poll::new(rt)?;
+        let mut listener = TcpListener::from_std(listener);
+        poll.registry()
+            .register(&mut listener, Token(DOOR), Interest::READABLE)?;
+        let mut places = Vec::new(alloc);
+        for _ in 0..PLACES {
+            places.push(None)?;
+        }
+        Ok(HttpServer {
+            alloc,
+            poll,
+            events: Events::with_capacity(alloc, EVENTS)?,
+            listener,
+            may_accept: true,
+            has_missed: false,
+            places,
+            room: Room {
+                page: String::with_capacity(alloc, PAGE)?,
+                head: String::new(alloc),
+                buffer: Vec::from_elem(alloc, 0u8, PIECE)?,
+            },
+        })
+    }
+
+    /// Answers by these pages until it is over.
+    pub fn run<R: Wait + Clock, P: Pages>(self, rt: &R, pages: &P, is_over: &Mutex<bool>) {
+        let mut server = self;
+        for _ in rt.forever() {
+            if *is_over.lock(rt) {
+                return;
+            }
+            server.look();
+            let now = Instant::now(rt).ok();
+            server.accept(now);
+            for place in server.places.iter_mut() {
+                serve_place(rt, pages, &mut server.room, place);
+                end_if_late(place, now);
+            }
+        }
+    }
+
+    // Waits until something happens, and notes what.
+    fn look(&mut self) {
+        let millis = if self.may_accept && !self.has_missed {
+            0
+        } else {
+            QUIET
+        };
+        let timeout = Some(Duration::from_millis(millis));
+        if self.poll.poll(&mut self.events, timeout).is_err() {
+            return;
+        }
+        for event in self.events.iter() {
+            let token = event.token().0;
+            if token == DOOR {
+                self.may_accept = true;
+            } else if let Some(Some(caller)) = self.places.get_mut(token - 1) {
+                caller.is_awake = true;
+            }
+        }
+    }
+
+    // Lets in connections that wait at the listener.
+    fn accept(&mut self, now: Option<Instant>) {
+        self.has_missed = false;
+        if !self.may_accept {
+            return;
+        }
+        for _ in 0..MOST_NEW {
+            match self.listener.accept() {
+                Ok((stream, _)) => {
+                    let registry = self.poll.registry();
+                    let_in(self.alloc, registry, &mut self.places, stream, now);
+                }
+                Err(error) => {
+                    if error.kind() == ErrorKind::WouldBlock {
+                        self.may_accept = false;
+                    } else {
+                        self.has_missed = true;
+                    }
+                    return;
+                }
+            }
+        }
+    }
+}
+
+// Lets a connection in, if there is a place for it; else it is closed.
+fn let_in(
+    alloc: Global,
+    registry: &Registry,
+    places: &mut [Option<Caller>],
+    stream: TcpStream,
+    now: Option<Instant>,
+) {
+    for (index, place) in places.iter_mut().enumerate() {
+        if place.is_none() {
+            let mut caller = Caller::new(alloc, stream, now);
+            let token = Token(index.saturating_add(1));
+            let both = Interest::READABLE | Interest::WRITABLE;
+            if registry.register(caller.stream(), token, both).is_ok() {
+                *place = Some(caller);
+            }
+            return;
+        }
+    }
+}
+
+// A connection that is there for too long ends.
+fn end_if_late(place: &mut Option<Caller>, now: Option<Instant>) {
+    let Some(caller) = place else {
+        return;
+    };
+    let Some(now) = now else {
+        return;
+    };
+    if caller.is_late(now) {
+        *place = None;
+    }
+}
+
+// Serves the connection in this place, if something happened at it.
+fn serve_place<R: Wait, P: Pages>(rt: &R, pages: &P, room: &mut Room, place: &mut Option<Caller>) {
+    let Some(caller) = place else {
+        return;
+    };
+    if !caller.is_awake {
+        return;
+    }
+    caller.is_awake = false;
+    serve(rt, pages, room, caller);
+    if caller.is_over() {
+        *place = None;
+    }
+}
+
+// Reads what the connection sent, answers it, and writes what it can take.
+fn serve<R: Wait, P: Pages>(rt: &R, pages: &P, room: &mut Room, caller: &mut Caller) {
+    caller.is_awake = true;
+    for _ in 0..MOST_READS {
+        if !caller.read(&mut room.buffer) {
+            caller.is_awake = false;
+            break;
+        }
+        answer(rt, pages, room, caller);
+    }
+    caller.flush();
+}
+
+// Answers the connection, once its head is there.
+fn answer<R: Wait, P: Pages>(rt: &R, pages: &P, room: &mut Room, caller: &mut Caller) {
+    let Some(head) = caller.head() else {
+        return;
+    };
+    match judge(rt, pages, &mut room.page, head) {
+        Ok(Some(answer)) => caller.answer(&answer, &room.page, &mut room.head),
+        Ok(None) => {}
+        Err(_) => caller.fail(),
+    }
+}
+
+// The answer to what was sent, with its page; none as long as the head is not whole.
+fn judge<R: Wait, P: Pages>(
+    rt: &R,
+    pages: &P,
+    page: &mut String,
+    head: &[u8],
+) -> Result<Option<Answer>, AllocError> {
+    page.clear();
+    let answer = match read_head(head) {
+        Head::Partly => return Ok(None),
+        Head::Page { asked, is_whole } => match pages.spell(rt, asked, page)? {
+            Told::Page(kind) => Answer::found(kind, is_whole),
+            Told::Wrong => Answer::wrong(is_whole),
+            Told::NotNow => Answer::not_now(is_whole),
+            Told::Nothing => Answer::missing(is_whole),
+        },
+        Head::Other => Answer::only_read(),
+        Head::Nothing => Answer::malformed(),
+    };
+    page.push_str(answer.text())?;
+    Ok(Some(answer))
+}

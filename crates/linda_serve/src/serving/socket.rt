@@ -1,0 +1,122 @@
+//! A unix socket where a server listens: who may connect, and what was at its path before.
+
+use super::fault::ServingFault;
+use mio::net::UnixStream;
+use std::alloc::Global;
+use std::fs;
+use std::fs::{DirBuilder, Files, Permissions};
+use std::io::ErrorKind;
+use std::net::Net;
+use std::os::unix::fs::{DirBuilderExt, FileTypeExt, PermissionsExt};
+use std::os::unix::net::UnixListener;
+
+/// How many names are tried for the folder in which a socket is made.
+const TRIES: u32 = 10;
+
+/// Who may go into that folder: its owner.
+const PRIVATE: u32 = 0o700;
+
+/// A unix socket: its path, and the mode of its file, which says who may connect.
+#[derive(Clone, Copy, Debug)]
+pub struct Place<'a> {
+    /// Its path.
+    pub path: &'a str,
+    /// The mode of its file: nine bits, as those of `chmod`.
+    pub mode: u32,
+}
+
+/// Listens on a unix socket. It is made in a folder that nobody else may go into, and gets its mode
+/// there, and then its path: so nobody connects whom the mode keeps out. What is left at the path
+/// of a server that was killed is replaced. All else that is there stays.
+///
+/// # Errors
+///
+/// `Io`: somebody listens there, or something else is there; the path has too many bytes, or its
+/// folder is missing or cannot be written. `Memory`.
+pub(super) fn listen_at<R: Files + Net>(
+    rt: &R,
+    alloc: Global,
+    socket: Place<'_>,
+) -> Result<UnixListener, ServingFault> {
+    make_way(rt, socket.path)?;
+    let folder = private_folder(rt, alloc, socket.path)?;
+    let made = format!(in alloc; "{folder}/s")?;
+    let listener = listen_in(rt, &made, socket);
+    let _ = fs::remove_file(rt, made.as_str()).is_err();
+    let _ = fs::remove_dir(rt, folder.as_str()).is_err();
+    listener
+}
+
+/// Removes the file of a socket that a server listens on no more.
+pub(super) fn remove<R: Files>(rt: &R, socket: Place<'_>) {
+    let _ = fs::remove_file(rt, socket.path).is_err();
+}
+
+// Listens on a socket of this name, and gives it its mode, and then its path.
+fn listen_in<R: Files + Net>(
+    rt: &R,
+    made: &str,
+    socket: Place<'_>,
+) -> Result<UnixListener, ServingFault> {
+    let Ok(listener) = UnixListener::bind(rt, made) else {
+        return Err(ServingFault::Io);
+    };
+    let permissions = Permissions::from_mode(socket.mode);
+    if fs::set_permissions(rt, made, permissions).is_err() {
+        return Err(ServingFault::Io);
+    }
+    if fs::hard_link(rt, made, socket.path).is_err() {
+        return Err(ServingFault::Io);
+    }
+    Ok(listener)
+}
+
+// A new folder beside the path, which only its owner may go into.
+fn private_folder<R: Files>(rt: &R, alloc: Global, path: &str) -> Result<String, ServingFault> {
+    for number in 0..TRIES {
+        let folder = format!(in alloc; "{path}.{number}")?;
+        match DirBuilder::new().mode(PRIVATE).create(rt, folder.as_str()) {
+            Ok(()) => return Ok(folder),
+            Err(error) => {
+                if error.kind() != ErrorKind::AlreadyExists {
+                    return Err(ServingFault::Io);
+                }
+            }
+        }
+    }
+    Err(ServingFault::Io)
+}
+
+// Removes a socket at the path on which nobody listens. All else there is refused.
+fn make_way<R: Files + Net>(rt: &R, path: &str) -> Result<(), ServingFault> {
+    match fs::symlink_metadata(rt, path) {
+        Ok(found) => {
+            if found.file_type().is_socket() && is_left(rt, path) {
+                return removed(rt, path);
+            }
+            Err(ServingFault::Io)
+        }
+        Err(error) => {
+            if error.kind() == ErrorKind::NotFound {
+                return Ok(());
+            }
+            Err(ServingFault::Io)
+        }
+    }
+}
+
+// Whether nobody listens on the socket at the path.
+fn is_left<R: Net>(rt: &R, path: &str) -> bool {
+    match UnixStream::connect(rt, path) {
+        Ok(_) => false,
+        Err(error) => error.kind() == ErrorKind::ConnectionRefused,
+    }
+}
+
+// Removes what is at the path.
+fn removed<R: Files>(rt: &R, path: &str) -> Result<(), ServingFault> {
+    match fs::remove_file(rt, path) {
+        Ok(()) => Ok(()),
+        Err(_) => Err(ServingFault::Io),
+    }
+}

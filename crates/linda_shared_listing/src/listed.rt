@@ -1,0 +1,94 @@
+//! What is asked for, and what it comes to.
+
+ghost use Rattle.std.specs.Prelude.{◌≡◌, ◌≤◌, max};
+
+use linda_hold::Request;
+use linda_tuple::{Atom, Tuple};
+
+/// Which tuples are asked for: those of some ids, and of a tag if there is one.
+#[derive(Drop)]
+pub struct TupleQuery {
+    from: u64,
+    tag: Option<Atom>,
+    limit: usize,
+    ghost some: { 1 ≤ limit },
+}
+
+impl TupleQuery {
+    /// Those of the id `from` and of greater ones, and of the tag if there is one: at most so many,
+    /// and one if that is none.
+    pub fn new(from: u64, tag: Option<Atom>, limit: usize) -> TupleQuery
+        ensures { (result.from ≡ from) × (result.tag ≡ tag) × (result.limit ≡ max limit 1) }
+    {
+        TupleQuery {
+            from,
+            tag,
+            limit: limit.max(1),
+        }
+    }
+
+    /// The least id that is asked for.
+    pub fn from(&self) -> u64
+        ensures { result ≡ self.now.from }
+    {
+        self.from
+    }
+
+    /// The tag, if one is asked for.
+    pub fn tag(&self) -> &Option<Atom>
+        ensures { result.now ≡ self.now.tag }
+    {
+        &self.tag
+    }
+
+    /// How many are asked for at most.
+    pub fn limit(&self) -> usize
+        ensures is { result ≡ self.now.limit }
+        ensures some { 1 ≤ result }
+    {
+        self.limit
+    }
+}
+
+/// A tuple, as it was at one moment.
+#[derive(Drop)]
+pub struct ListedTuple {
+    pub id: u64,
+    pub tuple: Tuple,
+    /// For whom it is held, if it is.
+    pub held: Option<Request>,
+}
+
+/// Some of the tuples that are asked for, as they were at one moment.
+#[derive(Drop)]
+pub struct TuplePage {
+    /// They stand in rising order of ids.
+    pub rows: Vec<ListedTuple>,
+    /// The id of the first tuple that was not looked at: the next page is from there on. Nothing if
+    /// there is none.
+    pub next: Option<u64>,
+}
+
+/// A client, as it was at one moment.
+#[derive(Clone, Copy, Debug, PartialEq, Eq)]
+pub struct ListedClient {
+    pub client: u32,
+    /// The number of its last message of which a deed came.
+    pub number: u64,
+    /// Whether it has a connection.
+    pub is_connected: bool,
+    /// How many tuples are held for it.
+    pub holds: usize,
+    /// How many of its asks wait.
+    pub waits: usize,
+}
+
+/// Some of the clients, as they were at one moment.
+#[derive(Drop)]
+pub struct ClientPage {
+    /// They stand in rising order of their numbers.
+    pub rows: Vec<ListedClient>,
+    /// The first client that was not looked at: the next page is from there on. Nothing if there is
+    /// none.
+    pub next: Option<u32>,
+}
