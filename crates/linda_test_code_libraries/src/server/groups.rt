@@ -57,7 +57,7 @@ fn serve_group(
 fn left_by(alloc: Global, count: u64, at: u64, torn: Torn) -> Result<(bool, usize), AllocError> {
     let (mut left, right) = with_one(alloc, LIMIT)?.into_disks();
     // (an opening syncs the disk once)
-    left.fuse(1 + at);
+    left.fuse(at.saturating_add(1));
     let Ok(mut server) = Durable::open(alloc, left, right, LIMIT) else {
         return Err(AllocError);
     };
