@@ -63,7 +63,7 @@ pub(super) struct Connection<L: Ledger> {
     may_read: bool,
     // What was read may have a whole message at its front.
     may_have: bool,
-    // How many times it grew silent since its last message, or the last reply to it.
+    // How many times it grew silent since its last message, while it holds a tuple.
     silent: u32,
     // The peer sends no more: what is there is read to its end.
     is_shut: bool,
@@ -144,13 +144,18 @@ impl<L: Ledger> Connection<L> {
         self.may_give() && (self.held.is_some() || self.may_read || self.may_have)
     }
 
-    /// A second went by. How many there were since its last message, or the last reply to it, of
-    /// those in which nothing of it was on its way or may be there to be read.
+    /// A second went by. How many there were since its last message, of those in which nothing of
+    /// it was on its way or may be there to be read.
     pub(super) fn grow_silent(&mut self) -> u32 {
         if !self.is_ending && !self.is_waiting() && !self.has_more() {
             self.silent = self.silent.saturating_add(1);
         }
         self.silent
+    }
+
+    /// A second went by in which it holds nothing: none of them counts.
+    pub(super) fn rest(&mut self) {
+        self.silent = 0;
     }
 
     // Whether anything is taken from it now.
@@ -217,13 +222,11 @@ impl<L: Ledger> Connection<L> {
         self.held = Some(message);
     }
 
-    /// It is told this, after all that came before, which is counted. What it is told gives it time
-    /// as a message of its own does: else one that waited long would be late once it is offered.
+    /// It is told this, after all that came before, which is counted.
     pub(super) fn tell(&mut self, marks: &Marks, reply: &Reply) {
         if self.is_broken {
             return;
         }
-        self.silent = 0;
         marks.sends(reply);
         if self.out.capacity() == 0 {
             // If there is no memory for so much, the reply may still find some.

@@ -351,7 +351,9 @@ impl<L: Ledger> Sessions<L> {
         self.make_ready(key);
     }
 
-    /// A second went by. The connection of each client ends that holds a tuple and is late.
+    /// A second went by. The connection of each client ends that holds a tuple and is late. Seconds
+    /// in which it held nothing are not counted: so one that waited long has all of the lease for
+    /// what it is offered.
     pub(super) fn end_late<D: Disk, R: Wait>(
         &mut self,
         rt: &R,
@@ -361,7 +363,9 @@ impl<L: Ledger> Sessions<L> {
     ) {
         for key in 0..self.connections.capacity() {
             if let Some(connection) = self.connections.get_mut(key) {
-                if lease.has_run_out(connection.grow_silent()) && connection.holds_any(rt, shared) {
+                if !connection.holds_any(rt, shared) {
+                    connection.rest();
+                } else if lease.has_run_out(connection.grow_silent()) {
                     connection.end_with(None);
                     marks.lapses();
                     self.touch(key);
