@@ -22,6 +22,7 @@ A request is a put or a take that was acknowledged; the Ask of a take does not c
 - The server's processor time and the voluntary and involuntary context switches of all its threads, from the first
   message to the last reply, for each request. Then the part of one processor that the driver used in that time: if it
   is near 1, the driver limits the cell and not the server.
+- For `scraped` how often another process had /metrics in a second meanwhile: a thousand times, if it gets them.
 - For `wake` the time from the moment that a put is sent until a waiting client has the offer, and until it has the
   tuple, the median of all; and how many appends and syncs of the loop fit into the latter.
 
@@ -41,9 +42,11 @@ out, with a line that says so.
 """
 
 import argparse
+import multiprocessing
 import os
 import re
 import resource
+import socket
 import statistics
 import subprocess
 import sys
@@ -51,6 +54,7 @@ import tempfile
 import time
 from collections import defaultdict
 from dataclasses import dataclass, field
+from multiprocessing.sharedctypes import Synchronized
 from pathlib import Path
 from typing import Callable
 
@@ -74,9 +78,12 @@ LOADS = {
     "put and take, 256 clients": ["pair", "256", "0"],
     "put and take, 1,000 clients": ["pair", "1000", "0"],
     "put and take, 64 clients of 10,000": ["pair", "64", "9936"],
+    "put and take, 64 clients, scraped": ["pair", "64", "0"],
     "wake, 1 waits": ["wake", "1"],
     "wake, 64 wait": ["wake", "64"],
 }
+# While this is played, the numbers of the server are asked for so many times a second over HTTP.
+SCRAPED, SCRAPES = "put and take, 64 clients, scraped", 1_000
 IDLE = {"idle connections, 1,000": 1_000, "idle connections, 10,000": 10_000}
 START, PAUSE = "start with 1,000,000 tuples", "snapshot of 500,000 tuples"
 STARTED, SAVED = 1_000_000, 500_000
@@ -153,13 +160,29 @@ class Bench:
                 (Path(folder) / "left.bank").write_bytes(bank)
                 (Path(folder) / "right.bank").write_bytes(b"")
             words = (*way.words, "--log") if name == PAUSE else way.words
+            status = free_port()
+            words = (*words, "--status", str(status)) if name == SCRAPED else words
             began = time.monotonic()
             with Server(Path(folder), program=way.program, words=words) as server:
                 if name == START:
                     return {"seconds": time.monotonic() - began, "peak": server.use().most / 1024}
                 if name == PAUSE:
                     return self.pause(server)
+                if name == SCRAPED:
+                    return self.scraped(server, status, *LOADS[name])
                 return self.hold(server, IDLE[name]) if name in IDLE else self.load(server, *LOADS[name])
+
+    def scraped(self, server: Server, status: int, kind: str, *words: str) -> Measures:
+        """As load, while another process asks for the numbers; and how often it had them in a second."""
+        count = multiprocessing.Value("L", 0)
+        asking = multiprocessing.Process(target=scrape, args=(status, count), daemon=True)
+        asking.start()
+        began = time.monotonic()
+        found = self.load(server, kind, *words)
+        found["scrapes"] = count.value / (time.monotonic() - began)
+        asking.terminate()
+        asking.join()
+        return found
 
     def load(self, server: Server, kind: str, *words: str) -> Measures:
         need(sum(map(int, words[:2])))
@@ -201,6 +224,23 @@ class Bench:
         if len(taken) != 1:
             raise Missing(f"{len(taken)} snapshots in {PAUSE_SECONDS} s")
         return {"gap": lines["gap"][0][0] / 1e6, "log": float(taken[0])}
+
+
+def free_port() -> int:
+    with socket.create_server(("127.0.0.1", 0)) as probe:
+        return probe.getsockname()[1]
+
+
+def scrape(port: int, count: Synchronized) -> None:
+    """Asks for the numbers until it is ended, each time over a connection of its own, at an even pace."""
+    began = time.monotonic()
+    while True:
+        with socket.create_connection(("127.0.0.1", port)) as stream:
+            stream.sendall(b"GET /metrics HTTP/1.1\r\nHost: 127.0.0.1\r\n\r\n")
+            while stream.recv(65_536):
+                pass
+        count.value += 1
+        time.sleep(max(0.0, began + count.value / SCRAPES - time.monotonic()))
 
 
 def need(connections: int) -> None:
@@ -275,6 +315,7 @@ TABLES: list[tuple[str, str, Callable[[Found], str]]] = [
      lambda found: ", ".join(middle(found[name]) for name in ("half", "99", "99.9"))),
     ("the server, a request: us of processor; voluntary; involuntary switches; the driver's part of one", "processor",
      lambda found: "; ".join(middle(found[name]) for name in ("processor", "voluntary", "involuntary", "driver"))),
+    ("answers to /metrics a second", "scrapes", lambda found: limits(found["scrapes"])),
     ("us until the offer; until the tuple; appends and syncs in that time", "offer", wake),
     ("memory of a connection; of the server without and with all; its threads", "each", idle),
     ("seconds until it is ready; most memory in MiB", "seconds",

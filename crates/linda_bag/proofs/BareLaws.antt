@@ -51,7 +51,7 @@ module _ {K S T : Type 0} (cmp : K → K → Ordering) (itself : (k : K) → is_
   none_shelf o rows none known = subst (λ s. IsShelved Has s rows) none known
 
   module _ (key_of : T → K) where
-    own_key : (o : Option T) → ((q : K) → row_at cmp q (placed (λ row. Some (key_of row)) o) ≡ None) → o ≡ None
+    pub own_key : (o : Option T) → ((q : K) → row_at cmp q (placed (λ row. Some (key_of row)) o) ≡ None) → o ≡ None
     own_key None none = refl
     own_key (Some row) none = absurd (true≢false (ap is_some (sym (ap (λ b. cond b (Some row) None) (itself (key_of row))) ∙ none (key_of row))))
 

@@ -1,6 +1,8 @@
+pub mod BytesLaws
 pub mod TreeLaws
 pub mod TuplesLaws
 pub mod FilingLaws
+pub mod HeadLaws
 pub mod OrderLaws
 pub mod BareLaws
 pub mod NotedLaws

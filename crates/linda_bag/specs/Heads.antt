@@ -1,6 +1,9 @@
 -- Rows that are filed under their heads: under the tag and, there, under the number of fields.
-use Rattle.std.specs.Prelude.{ℕ, Some}
+use Rattle.std.specs.Prelude.{◌≡◌, ◌<◌, ◌⊎◌, ⊤, ℕ, Option, None, Some}
+use Rattle.std.specs.declared.cmp.Ordering.{Ordering}
 use Rattle.std.specs.Ordering.{nat_cmp}
+use Rattle.std.specs.Borrow.{Bor}
+use Rattle.std.specs.BTreeMap.Range.{IsLtBy}
 use Rattle.linda_tuple.specs.declared.atom.Atom.{Atom}
 use Rattle.linda_tuple.specs.contracts.atom.AtomOrd.TheImpl as atom_ord
 use Rattle.linda_bag.specs.declared.heads.Heads.{Heads}
@@ -24,3 +27,18 @@ module _ {T : Type 0} (tag_of : T → Atom) (count_of : T → ℕ) where
   with_head tag count rows =
       rows_at nat_cmp (λ row. Some (count_of row)) count
       (rows_at atom_ord.ghosts.cmp (λ row. Some (tag_of row)) tag rows)
+
+-- The key is after the last one, if there is a last one.
+abbrev pub IsAfter : {K : Type 0} → (K → K → Ordering) → Option (Bor K) → K → Type 0
+IsAfter cmp None key = ⊤
+IsAfter cmp (Some last) key = IsLtBy cmp last.now key
+
+-- The first head is before the second: its tag is, or it has the same tag and fewer fields.
+abbrev pub IsBefore : Atom → ℕ → Atom → ℕ → Type 0
+IsBefore tag count later more =
+    IsLtBy atom_ord.ghosts.cmp tag later ⊎ ((tag ≡ later) × (count < more))
+
+-- The head is after the last one, if there is a last one.
+abbrev pub IsPast : Option (Bor Atom × ℕ) → Atom → ℕ → Type 0
+IsPast None tag count = ⊤
+IsPast (Some last) tag count = IsBefore last.0.now last.1 tag count

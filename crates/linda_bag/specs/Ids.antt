@@ -1,5 +1,7 @@
 -- A set of ids that has a place for a single one.
-use Rattle.std.specs.Prelude.{◌≡◌, ℕ, Bool, false, ◌||◌, Option, None, Some}
+use Rattle.std.specs.Prelude.{◌≡◌, ℕ, Bool, false, ◌||◌, List, Option, None, Some, length}
+use Rattle.std.specs.List.{list_any}
+use Rattle.std.specs.List.Sorted.{IsStrictlySortedBy}
 use Rattle.std.specs.Ordering.{is_eq, nat_cmp}
 use Rattle.std.specs.Option.{is_some}
 use Rattle.std.specs.BTreeSet.{BTreeSet, contains}
@@ -26,3 +28,10 @@ HasPair one other both =
 abbrev pub has_any : Option Ids → ℕ → Bool
 has_any None id = false
 has_any (Some set) id = has_id set id
+
+-- As many rows there are: so long is the list of their ids, which has each once.
+pub record IsCount {T : Type 0} (rows : Rows T) (n : ℕ) : Type 0 where
+  pub ids : List ℕ
+  pub ascending : IsStrictlySortedBy nat_cmp ids
+  pub each : (id : ℕ) → list_any (λ k. is_eq (nat_cmp id k)) ids ≡ is_some (rows id)
+  pub long : length ids ≡ n

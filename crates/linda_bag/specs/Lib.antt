@@ -1,3 +1,4 @@
+pub mod Bytes
 pub mod FreeMatch
 pub mod Filing
 pub mod Heads

@@ -1,12 +1,13 @@
 //! What a bag promises, however it keeps its tuples.
 
-ghost use Rattle.std.specs.Prelude.{◌≡◌, ◌≤◌, ◌<◌, ℕ, None, Some, IfNone, IfSome, IsSome};
+ghost use Rattle.std.specs.Prelude.{◌≡◌, ◌≤◌, ◌<◌, ◌+◌, ℕ, None, Some, IfNone, IfSome, IsSome};
 ghost use Rattle.std.specs.Prelude.{OnOk, OnErr};
 ghost use Rattle.std.specs.Prelude.{option_copied};
 ghost use Rattle.std.specs.Ordering.{nat_cmp};
 ghost use Rattle.std.specs.BTreeSet.{contains};
 ghost use Rattle.std.specs.FinMap as map;
 ghost use Rattle.linda_tuple.specs.Tuple.{Tuple};
+ghost use Rattle.linda_bag.specs.Bytes.{bytes_of};
 ghost use Rattle.linda_bag.specs.FreeMatch.{IsFreeMatch};
 
 use crate::id_set::IdSet;
@@ -74,6 +75,12 @@ pub trait Bag: Drop {
     /// How many tuples there are.
     fn len(&self) -> usize
         ensures { result ≡ map.len (contents self.now) };
+
+    /// What is left of so many bytes once all tuples are spelled in them, in the second form and
+    /// without their ids; nothing if they spell more.
+    fn room_after(&self, room: usize) -> Option<usize>
+        ensures some { IfSome result (λ left. left + bytes_of (contents self.now) ≡ room) }
+        ensures none { IfNone result (room < bytes_of (contents self.now)) };
 
     /// The least id of the bag that is not below `id`; nothing only where there is none.
     fn next_from(&self, id: u64) -> Option<u64>

@@ -4,7 +4,8 @@
 ghost use Rattle.std.specs.Prelude.{◌≡◌, ℕ, true, IfOk};
 ghost use Rattle.std.specs.Ordering.{nat_cmp};
 ghost use Rattle.std.specs.BTreeSet.{contains};
-ghost use Rattle.linda_bag.specs.Ids.{HasPair};
+ghost use Rattle.linda_bag.specs.Filing.{Rows};
+ghost use Rattle.linda_bag.specs.Ids.{IsOf, IsCount, HasPair};
 
 use crate::shelf::Shelf;
 use std::alloc::{AllocError, Global};
@@ -17,6 +18,19 @@ pub enum Ids {
     Nothing,
     One(u64),
     Many(Box<BTreeSet<u64>>),
+}
+
+impl Ids {
+    /// How many ids there are. Takes no walk over them.
+    pub fn len<T>(&self) -> usize
+        ensures { (rows : Rows T) → IsOf self.now rows → IsCount rows result }
+    {
+        match self {
+            Ids::Nothing => 0,
+            Ids::One(_) => 1,
+            Ids::Many(ids) => ids.len(),
+        }
+    }
 }
 
 impl<T> Shelf<T> for Ids {

@@ -3,8 +3,9 @@
 
 ghost use Rattle.std.specs.Prelude.{◌≡◌, Some};
 ghost use Rattle.std.specs.Option.{option_copied};
-ghost use Rattle.linda_bag.specs.Filing.{FindsShelf, IsShelved};
-ghost use Rattle.linda_bag.specs.Ids.{IsOf};
+ghost use Rattle.linda_tuple.specs.Tuple.{Tuple};
+ghost use Rattle.linda_bag.specs.Filing.{Rows, FindsShelf, IsShelved};
+ghost use Rattle.linda_bag.specs.Ids.{IsOf, IsCount};
 ghost use Rattle.linda_bag.specs.Candidates.{first_of, first_value, with_first, candidates};
 ghost use Rattle.linda_bag.specs.Firsts.{HasFirsts};
 
@@ -47,6 +48,16 @@ impl Group {
             Some(first) => self.firsts.get::<Tuple>(first),
             None => Some(&self.ids),
         }
+    }
+}
+
+impl Group {
+    /// How many ids there are.
+    pub(crate) fn len(&self) -> usize
+        ensures { (rows : Rows Tuple) → ⟦<Group as Shelf<Tuple>>⟧.has self.now rows
+            → IsCount rows result }
+    {
+        self.ids.len::<Tuple>()
     }
 }
 

@@ -14,16 +14,23 @@ use crate::ids::Ids;
 use crate::index::{Index, candidates};
 use crate::shelf::Shelf;
 use crate::tuples::Tuples;
-use linda_tuple::{Template, Tuple};
+use linda_codec::tuple_len;
+use linda_tuple::{Form, Template, Tuple};
 use std::alloc::{AllocError, Global};
 use std::collections::BTreeSet;
 use std::marker::Model;
+
+mod kind;
+
+pub use kind::Kind;
 
 /// A bag that keeps, beside its tuples in the order of their ids, an index of the ids by tag,
 /// number of fields and first field.
 pub struct IndexBag {
     alloc: Global,
     tuples: Tuples,
+    // How many bytes they spell.
+    bytes: usize,
     index: Index,
 }
 
@@ -32,17 +39,20 @@ impl Drop for IndexBag {
         let IndexBag {
             alloc: _,
             tuples: _,
+            bytes: _,
             index: _,
         } = self;
     }
 }
 
 impl Model for IndexBag {
+    ghost use Rattle.std.specs.Prelude.{◌≡◌};
     ghost use Rattle.std.specs.Coded.{coded_ℕ};
     ghost use Rattle.std.specs.Ordering.{nat_cmp};
     ghost use Rattle.std.specs.FinMap as map;
     ghost use Rattle.linda_tuple.specs.Tuple.{Tuple};
     ghost use Rattle.linda_tuple.specs.Codes.{tuple_code};
+    ghost use Rattle.linda_bag.specs.Bytes.{bytes_of};
 
     ghost Value = { map.FinMap nat_cmp Tuple };
 
@@ -50,7 +60,8 @@ impl Model for IndexBag {
 
     ghost view = { λ b. b.tuples };
 
-    ghost invariant = { λ b. ⟦<Index as Shelf<Tuple>>⟧.has b.index (map.get b.tuples) };
+    ghost invariant = { λ b. ⟦<Index as Shelf<Tuple>>⟧.has b.index (map.get b.tuples)
+        × (b.bytes ≡ bytes_of b.tuples) };
 }
 
 impl IndexBag {
@@ -61,6 +72,7 @@ impl IndexBag {
         IndexBag {
             alloc,
             tuples: Tuples::new(alloc),
+            bytes: 0,
             index: Shelf::<Tuple>::empty(alloc),
         }
     }
@@ -74,13 +86,20 @@ impl Bag for IndexBag {
     }
 
     fn insert(&mut self, id: u64, tuple: Tuple) -> Result<(), AllocError> {
+        // As many bytes as a number counts have no room in memory.
+        let Some(bytes) = self.bytes.checked_add(tuple_len(Form::Two, &tuple)) else {
+            return Err(AllocError);
+        };
         let tuple = Box::new(self.alloc, tuple)?;
-        self.tuples.insert(self.alloc, &mut self.index, id, tuple)
+        let freed = self.tuples.insert(self.alloc, &mut self.index, id, tuple)?;
+        self.bytes = bytes - freed;
+        Ok(())
     }
 
     fn remove(&mut self, id: u64) -> Option<Tuple> {
         let tuple = self.tuples.remove(id)?;
         self.index.remove(id, &tuple);
+        self.bytes -= tuple_len(Form::Two, &tuple);
         Some(tuple)
     }
 
@@ -114,6 +133,10 @@ impl Bag for IndexBag {
 
     fn len(&self) -> usize {
         self.tuples.len()
+    }
+
+    fn room_after(&self, room: usize) -> Option<usize> {
+        room.checked_sub(self.bytes)
     }
 
     fn next_from(&self, id: u64) -> Option<u64> {

@@ -32,7 +32,7 @@ pub use firsts::Firsts;
 pub use heads::{Headed, Heads, alike};
 pub use id_set::IdSet;
 pub use ids::Ids;
-pub use index_bag::IndexBag;
+pub use index_bag::{IndexBag, Kind};
 pub use list_bag::ListBag;
 pub use shelf::{Key, Shelf, refile, unfile};
 pub use starts::Starts;

@@ -7,7 +7,8 @@ ghost use Rattle.std.specs.FinMap as map;
 use crate::bag::{Bag, Found};
 use crate::free_match::{is_free_match, next_entry, next_id};
 use crate::id_set::IdSet;
-use linda_tuple::{Template, Tuple};
+use linda_codec::tuple_len;
+use linda_tuple::{Form, Template, Tuple};
 use std::alloc::{AllocError, Global};
 use std::collections::{BTreeMap, BTreeSet};
 
@@ -82,6 +83,14 @@ impl Bag for ListBag {
     #[tactic(auto, using(crate::proofs::TreeLaws::len_entries))]
     fn len(&self) -> usize {
         self.tuples.len()
+    }
+
+    fn room_after(&self, room: usize) -> Option<usize> {
+        let mut left = room;
+        for (_, tuple) in &self.tuples {
+            left = left.checked_sub(tuple_len(Form::Two, tuple))?;
+        }
+        Some(left)
     }
 
     fn next_from(&self, id: u64) -> Option<u64> {

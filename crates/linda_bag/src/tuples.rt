@@ -2,14 +2,16 @@
 //! little.
 
 ghost use Rattle.std.specs.Prelude.{◌≡◌, ◌≤◌, ◌<◌, ℕ, None, Some, IfNone, IfSome, IsSome, OnOk};
-ghost use Rattle.std.specs.Prelude.{OnErr};
+ghost use Rattle.std.specs.Prelude.{OnErr, IfOk};
 ghost use Rattle.std.specs.Option.{option_copied};
 ghost use Rattle.std.specs.FinMap as map;
+ghost use Rattle.linda_bag.specs.Bytes.{tuple_bytes, bytes_at};
 ghost use Rattle.linda_bag.specs.Filing.{Refiles};
 
 use crate::free_match::{next_entry, next_id};
 use crate::shelf::Shelf;
-use linda_tuple::Tuple;
+use linda_codec::tuple_len;
+use linda_tuple::{Form, Tuple};
 use std::alloc::{AllocError, Global};
 use std::collections::BTreeMap;
 use std::collections::btree_map::Entry;
@@ -47,7 +49,8 @@ impl Tuples {
     }
 
     /// Puts the tuple under the id, in place of one that was there, which is dropped, and files the
-    /// id on the shelf by it, where it was filed by that one.
+    /// id on the shelf by it, where it was filed by that one. Returns how many bytes that one
+    /// spelled in the second form, 0 if there was none.
     ///
     /// # Errors
     ///
@@ -58,7 +61,8 @@ impl Tuples {
         shelf: &mut S,
         id: u64,
         tuple: Box<Tuple>,
-    ) -> Result<(), AllocError>
+    ) -> Result<usize, AllocError>
+        ensures freed { IfOk result (λ freed. freed ≡ bytes_at (map.get self.old id)) }
         ensures ok { OnOk result (self.new ≡ map.insert self.old id tuple.value) }
         ensures filed { OnOk result (Refiles (S.has shelf.old) (S.has shelf.new)
             id (map.get self.old id) (Some tuple.value)) }
@@ -70,7 +74,7 @@ impl Tuples {
             Ok(Entry::Vacant(place)) => {
                 let kept = place.insert(tuple);
                 match shelf.put(alloc, id, None, &**kept) {
-                    Ok(()) => Ok(()),
+                    Ok(()) => Ok(0),
                     Err(error) => {
                         self.by_id.remove(&id);
                         Err(error)
@@ -132,14 +136,15 @@ impl Tuples {
 }
 
 // Puts the tuple in the place of the one that is kept, and files the id by it; where memory runs
-// out all stays as it is.
+// out all stays as it is. Returns how many bytes that one spelled.
 fn replace<S: Shelf<Tuple>>(
     kept: &mut Box<Tuple>,
     shelf: &mut S,
     alloc: Global,
     id: u64,
     tuple: Box<Tuple>,
-) -> Result<(), AllocError>
+) -> Result<usize, AllocError>
+    ensures freed { IfOk result (λ freed. freed ≡ tuple_bytes kept.old.value) }
     ensures ok { OnOk result (kept.new.value ≡ tuple.value) }
     ensures filed { OnOk result (Refiles (S.has shelf.old) (S.has shelf.new)
         id (Some kept.old.value) (Some tuple.value)) }
@@ -148,6 +153,7 @@ fn replace<S: Shelf<Tuple>>(
         id (Some kept.old.value) (Some kept.old.value)) }
 {
     shelf.put(alloc, id, Some(&**kept), &*tuple)?;
+    let freed = tuple_len(Form::Two, &**kept);
     *kept = tuple;
-    Ok(())
+    Ok(freed)
 }

@@ -7,6 +7,7 @@ ghost use Rattle.std.specs.FinMap as map;
 ghost use Rattle.std.specs.BTreeSet as set;
 ghost use Rattle.linda_hold.specs.Holds.{IsHeldAt, IsOneEach, held_in};
 
+use crate::ages::Ages;
 use crate::names::Names;
 use crate::request::Request;
 use linda_bag::IdSet;
@@ -20,6 +21,8 @@ pub struct Holds {
     alloc: Global,
     by_id: BTreeMap<u64, Request>,
     names: Names,
+    // Since when tuples are held, by their ids.
+    ages: Ages,
 }
 
 impl Drop for Holds {
@@ -28,6 +31,7 @@ impl Drop for Holds {
             alloc: _,
             by_id: _,
             names: _,
+            ages: _,
         } = self;
     }
 }
@@ -60,7 +64,26 @@ impl Holds {
             alloc,
             by_id: BTreeMap::new(alloc),
             names: Names::empty(alloc),
+            ages: Ages::none(alloc),
         }
+    }
+
+    /// Sets the present second: what is held from now on is noted as held since then. Seconds never
+    /// fall; until one is set nothing is noted.
+    pub fn set_second(&mut self, second: u64)
+        ensures { self.new ≡ self.old }
+    {
+        self.ages.set_second(second);
+    }
+
+    /// For how many seconds the tuple is held; nothing if it is not, or if that was not noted.
+    pub fn age(&self, id: u64) -> Option<u64> {
+        self.ages.age(id)
+    }
+
+    /// For how many seconds the tuple is held that is held for longest. It walks over none of them.
+    pub fn oldest(&self) -> Option<u64> {
+        self.ages.oldest()
     }
 
     /// The request that the tuple is held for.
@@ -135,6 +158,7 @@ impl Holds {
         self.names.put(self.alloc, id, request)?;
         match self.by_id.insert(id, request) {
             Ok(old) => {
+                self.ages.note(id);
                 if let Some(old) = old {
                     self.names.remove(old);
                 }
@@ -154,6 +178,7 @@ impl Holds {
     {
         if let Some(request) = self.by_id.remove(&id) {
             self.names.remove(request);
+            self.ages.forget(id);
         }
     }
 }

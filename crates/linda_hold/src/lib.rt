@@ -10,6 +10,7 @@
 //! A call that may take memory has a fault for that; no other call takes any.
 #![tactic(auto)]
 
+mod ages;
 mod arrivals;
 mod asked;
 mod awaiting;

@@ -9,6 +9,7 @@ ghost use Rattle.linda_hold.specs.Numbered.{wait_at};
 ghost use Rattle.linda_hold.specs.Waits.{AreDistinct, is_awaited, is_waiting, longest, readers};
 ghost use Rattle.linda_hold.specs.Waits.{waits_of, without, without_client, without_readers};
 
+use crate::ages::Ages;
 use crate::asked::Asked;
 use crate::awaiting::{Awaiting, awaiting_among, first_input, is_answering_one};
 use crate::heads::{Wait, arrivals};
@@ -39,6 +40,8 @@ pub struct Waits {
     by_arrival: IndexMap<u64, Wait, Keys>,
     next: u64,
     index: Index,
+    // Since when requests wait, by their numbers.
+    ages: Ages,
 }
 
 impl Drop for Waits {
@@ -48,6 +51,7 @@ impl Drop for Waits {
             by_arrival: _,
             next: _,
             index: _,
+            ages: _,
         } = self;
     }
 }
@@ -77,7 +81,21 @@ impl Waits {
             by_arrival: IndexMap::with_hasher(alloc, Keys::Fixed),
             next: 0,
             index: Index::empty(alloc),
+            ages: Ages::none(alloc),
         }
+    }
+
+    /// Sets the present second: those that begin to wait from now on are noted as waiting since
+    /// then. Seconds never fall; until one is set nothing is noted.
+    pub fn set_second(&mut self, second: u64)
+        ensures { self.new ≡ self.old }
+    {
+        self.ages.set_second(second);
+    }
+
+    /// For how many seconds the request waits that waits for longest. It walks over none of them.
+    pub fn oldest(&self) -> Option<u64> {
+        self.ages.oldest()
     }
 
     /// Lets the numbers be hashed by random keys, which no client knows. If a request waits
@@ -123,6 +141,7 @@ impl Waits {
         match self.by_arrival.insert(number, wait) {
             Ok(_) => {
                 self.next = next;
+                self.ages.note(number);
                 Ok(())
             }
             Err(refused) => {
@@ -140,6 +159,7 @@ impl Waits {
         if let Some(number) = self.index.names.number_of(request) {
             if let Some(wait) = take_out(&mut self.by_arrival, number) {
                 self.index.remove(number, &wait);
+                self.ages.forget(number);
             }
         }
     }

@@ -29,7 +29,8 @@ use std::alloc::{AllocError, Global};
 use std::io::Write;
 use value::push_member;
 pub use value::{
-    push_member as push_json_member, push_string as push_json_string, push_tuple as push_json_tuple,
+    push_atom as push_json_atom, push_member as push_json_member, push_string as push_json_string,
+    push_tuple as push_json_tuple,
 };
 
 /// Writes what `write_report` reports, as one JSON object.

@@ -17,6 +17,6 @@ mod side;
 mod whole;
 
 pub use fault::{InspectFault, OutputFault};
-pub use json::{push_json_member, push_json_string, push_json_tuple, write_json};
+pub use json::{push_json_atom, push_json_member, push_json_string, push_json_tuple, write_json};
 pub use listing::Lists;
 pub use report::write_report;

@@ -8,5 +8,6 @@ pub mod GateLaws
 pub mod BankLaws
 pub mod ImageLaws
 pub mod RenewalLaws
+pub mod FillingLaws
 pub mod AppendLaws
 mod CauseLaws

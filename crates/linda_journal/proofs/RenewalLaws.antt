@@ -50,7 +50,7 @@ pub closes_of : (file : List ℕ) → IsClosed file → ClosesAfter [] file
 closes_of [] closed = absurd (omega (arith, closed.0))
 closes_of (b ∷ rest) closed = record { gate = b; rest = rest; parts = refl; closed = λ e. closed.1 rest (ap (λ g. g ∷ rest) e) }
 
-torn_later : (at n : ℕ) (old image : List ℕ) → 1 ≤ at → ClosesAfter [] old → TornWrite at n old image → ClosesAfter [] image
+pub torn_later : (at n : ℕ) (old image : List ℕ) → 1 ≤ at → ClosesAfter [] old → TornWrite at n old image → ClosesAfter [] image
 torn_later zero n old image le closes torn = absurd (omega (arith, le))
 torn_later (suc k) n old image le closes torn = by image (torn.before ∙ ap (take (suc k)) closes.parts) torn.no_shorter
   where

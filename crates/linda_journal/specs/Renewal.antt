@@ -1,12 +1,15 @@
 -- How a disk that is not in use becomes a new bank: its gate is closed, then all stands after it,
 -- then it opens.
-use Rattle.std.specs.Prelude.{◌≡◌, ℕ, ◌+◌, ◌-◌, ◌/◌, ◌<◌, ◌≤◌, ◌^◌, ◌⊎◌, List, [], ◌∷◌, length}
+use Rattle.std.specs.Prelude.{◌≡◌, ◌≢◌, ℕ, ◌+◌, ◌-◌, ◌/◌, ◌<◌, ◌≤◌, ◌^◌, ◌⊎◌, List, [], ◌∷◌}
+use Rattle.std.specs.Prelude.{◌++◌, All, length}
 use Rattle.linda_tuple.specs.declared.form.Form.{Form}
-use Rattle.linda_disk.specs.View.{View}
+use Rattle.linda_store_state.specs.declared.deed.Deed.{Deed}
+use Rattle.linda_disk.specs.View.{View, IsDurable}
 use Rattle.linda_journal.specs.declared.kinds.TheConstants.{OPEN}
 use Rattle.linda_journal.specs.declared.limits.TheConstants.{MIN_BYTES, PIECE}
 use Rattle.linda_journal.specs.Gate.{IsReady}
-use Rattle.linda_journal.specs.Bank.{IsCandidate, behind_gate}
+use Rattle.linda_journal.specs.Records.{IsRecord, spell_records}
+use Rattle.linda_journal.specs.Bank.{IsCandidate, IsBank, behind_gate}
 
 -- Bytes that are no bank.
 abbrev pub IsNoBank : List ℕ → Type 0
@@ -34,6 +37,32 @@ pub record IsWhole (form : Form) (generation : ℕ) (body : List ℕ) (end : ℕ
   pub short : length body < 2 ^ 32
   pub place : end ≡ MIN_BYTES + length body
   pub ready : IsReady [] 0 (behind_gate form generation body) v
+
+-- After a first gate that is closed stand these bytes of a new bank, up to this offset; and a crash
+-- now leaves it so.
+pub record IsFilled (front : List ℕ) (at : ℕ) (v : View) : Type 0 where
+  pub gate : ℕ
+  pub rest : List ℕ
+  pub parts : v.seen ≡ gate ∷ (front ++ rest)
+  pub closed : gate ≢ OPEN
+  pub place : at ≡ 1 + length front
+  pub durable : IsDurable v
+
+-- The same with records: after a first gate that is still closed stands all of the new bank, with
+-- these records in its journal, up to the closed gate at this offset.
+pub record IsWholeWith (form : Form) (generation : ℕ) (body : List ℕ) (records : List (List Deed))
+    (end : ℕ) (v : View) : Type 0 where
+  pub low : 1 ≤ generation
+  pub fits : generation < 2 ^ 64
+  pub short : length body < 2 ^ 32
+  pub good : All (IsRecord form) records
+  pub place : end ≡ MIN_BYTES + length body + length (spell_records form records)
+  pub ready : IsReady [] 0 (behind_gate form generation body ++ spell_records form records) v
+
+-- Bytes that are no bank, or the new one with these records.
+abbrev pub IsNoneOrNewWith : Form → ℕ → List ℕ → List (List Deed) → List ℕ → Type 0
+IsNoneOrNewWith form generation body records file =
+    IsNoBank file ⊎ IsBank form file generation body records
 
 -- In how many pieces so many bytes are written: all are whole but the last one, which has a byte
 -- where there is any.

@@ -11,7 +11,8 @@ ghost use Rattle.linda_disk.specs.Run.{LeavesOnly};
 ghost use Rattle.linda_journal.specs.declared.limits.TheConstants.{MAX_DEEDS, MAX_RECORDS};
 ghost use Rattle.linda_journal.specs.declared.limits.TheConstants.{MIN_BYTES};
 ghost use Rattle.linda_journal.specs.Bank.{IsSettled, IsNoneOrNew};
-ghost use Rattle.linda_journal.specs.Renewal.{IsWhole};
+ghost use Rattle.linda_journal.specs.Renewal.{IsWhole, IsWholeWith, IsNoneOrNewWith};
+ghost use Rattle.linda_store_state.specs.declared.deed.Deed.{Deed};
 
 use crate::fault::BankFault;
 use crate::gate::{open_gate, stage};
@@ -327,6 +328,58 @@ pub fn unlock<D: Disk>(whole: Whole<D>, limit: usize) -> Result<Bank<D>, (DiskFa
             limit,
             end,
             records: 0,
+            is_spent: false,
+        }),
+    }
+}
+
+/// The same for a disk on which a new bank of this generation was written in steps, with so many
+/// records in its journal, which ends at this offset.
+///
+/// # Errors
+///
+/// `Device` if the device failed, `Memory` if the disk found none; each hands the disk back.
+pub(crate) fn unlock_with<D: Disk>(
+    disk: D,
+    generation: u64,
+    limit: usize,
+    end: usize,
+    records: usize,
+) -> Result<Bank<D>, (DiskFault, D)>
+    requires inside { D.honest disk → end < length (D.view disk).seen }
+    requires counted { records ≤ end }
+    ensures done { (body : List ℕ) (rs : List (List Deed)) → D.honest disk
+        → IsWholeWith written generation body rs end (D.view disk)
+        → IfOk result (λ b. IsSettled written generation body rs b.end (D.view b.disk)) }
+    ensures new { IfOk result (λ b. (b.form ≡ written) × (b.generation ≡ generation)
+        × (b.limit ≡ limit)
+        × (b.end ≡ end) × (b.records ≡ records) × (b.is_spent ≡ false)) }
+    // At no moment a crash leaves another bank than the whole new one.
+    ensures any_moment { (body : List ℕ) (rs : List (List Deed)) → D.honest disk
+        → IsWholeWith written generation body rs end (D.view disk)
+        → IfOk result (λ b. LeavesOnly (D.view disk) (D.view b.disk)
+        (IsNoneOrNewWith written generation body rs))
+        × IfErr result (λ e. LeavesOnly (D.view disk) (D.view e.1)
+        (IsNoneOrNewWith written generation body rs)) }
+    ensures honest { IfOk result (λ b. D.honest disk ↔ D.honest b.disk)
+        × IfErr result (λ e. D.honest disk ↔ D.honest e.1) }
+    ensures cause { IfErr result (λ e. TellsFailures DiskFault.Device e.0
+        (D.failures disk) (D.failures e.1)) }
+    ensures steady { IfOk result (λ b. D.failures b.disk ≡ D.failures disk) }
+    // It is a write and a sync.
+    ensures clock { D.honest disk
+        → IfOk result (λ b. (D.view b.disk).moment ≡ (D.view disk).moment + 2) }
+{
+    let mut disk = disk;
+    match open_gate(&mut disk, 0) {
+        Err(fault) => Err((fault, disk)),
+        Ok(()) => Ok(Bank {
+            disk,
+            form: BANK_FORM,
+            generation,
+            limit,
+            end,
+            records,
             is_spent: false,
         }),
     }

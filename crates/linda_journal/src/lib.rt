@@ -6,6 +6,7 @@
 mod bank;
 mod closed;
 mod fault;
+mod filling;
 mod gate;
 mod heading;
 mod image;
@@ -22,6 +23,7 @@ mod whole;
 pub use bank::{Bank, unlock};
 pub use closed::{Closed, shut};
 pub use fault::BankFault;
+pub use filling::Filling;
 pub use gate::lay_gate;
 pub use heading::{Heading, read_heading};
 pub use journal::{Journal, JournalFault, read_journal};

@@ -16,6 +16,7 @@ mod loops;
 mod marks;
 mod reader;
 mod refusals;
+mod seconds;
 mod seen;
 mod serving;
 mod status;
@@ -29,7 +30,8 @@ pub use linda_net_proxy::{
 };
 pub use linda_net_pump::{Intake, pump};
 pub use linda_shared::{
-    ClientPage, Gauge, ListedClient, ListedTuple, Shared, SharedFault, TuplePage, TupleQuery,
+    ClientPage, Gauge, KindPage, ListedClient, ListedKind, ListedTuple, MOST_KINDS, Shared,
+    SharedFault, TuplePage, TupleQuery,
 };
 pub use listeners::Listeners;
 pub use marks::Tally;

@@ -10,6 +10,7 @@ use crate::listeners::Listeners;
 use crate::loops::{Loops, Relays};
 use crate::marks::{Marks, Tally};
 use crate::reader::read_messages;
+use crate::seconds::Seconds;
 use crate::status::{Station, Status, Teller, Unasked};
 use crate::watching::{Notice, Silent, Watcher, take_snapshot, tell, watch};
 use crate::writer::{Writer, write_news};
@@ -97,8 +98,9 @@ fn serve_beside<
     let over = &is_over;
     let counts = Marks::new();
     let marks = &counts;
+    let seconds = Seconds::begin(rt, shared, station.is_some());
     thread::scope(thread::scope_env(), rt, |scope| {
-        begin_beside(scope, rt, shared, over, marks, watcher);
+        begin_beside(scope, rt, shared, over, marks, watcher, seconds);
         begin_station(scope, rt, shared, over, marks, watcher, station);
         accept_all(rt, alloc, listener, shared, marks, sessions);
         *over.lock(rt) = true;
@@ -147,8 +149,9 @@ pub fn serve_loop<
     let is_over = Mutex::new(false);
     let over = &is_over;
     let lent = &relays;
+    let seconds = Seconds::begin(rt, shared, station.is_some());
     thread::scope(thread::scope_env(), rt, |scope| {
-        begin_beside(scope, rt, shared, over, &lent.marks, watcher);
+        begin_beside(scope, rt, shared, over, &lent.marks, watcher, seconds);
         begin_station(scope, rt, shared, over, &lent.marks, watcher, station);
         run_loops(rt, shared, lent, all);
         *over.lock(rt) = true;
@@ -219,8 +222,9 @@ fn begin_beside<
     over: &'s Mutex<bool>,
     marks: &'s Marks,
     watcher: &'s Mutex<T>,
+    seconds: Seconds,
 ) {
-    let watches = scope.spawn(move || watch(rt, shared, over, marks, watcher));
+    let watches = scope.spawn(move || watch(rt, shared, over, marks, watcher, seconds));
     if watches.is_err() {
         tell(rt, shared, marks, watcher, Notice::Unwatched);
     }

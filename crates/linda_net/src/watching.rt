@@ -6,6 +6,7 @@ ghost use Rattle.linda_net.specs.Troubles.{notice_of_snapshot};
 
 use crate::marks::{Marks, Tally};
 use crate::refusals::Why;
+use crate::seconds::Seconds;
 use crate::seen::Seen;
 use crate::serving::look;
 use linda_disk::Disk;
@@ -63,19 +64,22 @@ impl Watcher for Silent {
     fn tell<C: Clock>(&mut self, _clock: &C, _notice: Notice, _gauge: &Gauge, _tally: &Tally) {}
 }
 
-/// Looks ten times a second until it is over, and then once more, and reports what happened. Only
-/// this thread waits where whoever is told does not go on.
+/// Looks ten times a second until it is over, and then once more, reports what happened, and says
+/// to the server which second it is. Only this thread waits if who is told does not go on.
 pub(crate) fn watch<D: Disk, L: Ledger, R: Wait + Clock, T: Watcher>(
     rt: &R,
     shared: &Shared<D, L>,
     is_over: &Mutex<bool>,
     marks: &Marks,
     watcher: &Mutex<T>,
+    seconds: Seconds,
 ) {
+    let mut seconds = seconds;
     let mut seen = Seen::new();
     let mut begin = Instant::now(rt).ok();
     for _ in rt.forever() {
         let over = *is_over.lock(rt);
+        seconds.pass(rt, shared);
         if let Some(notice) = marks.take_snapshot(rt) {
             tell(rt, shared, marks, watcher, notice);
         }

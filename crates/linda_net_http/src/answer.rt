@@ -14,6 +14,7 @@ pub(crate) enum Code {
     Malformed,
     Missing,
     OnlyRead,
+    Foreign,
 }
 
 /// An answer, before its page.
@@ -71,6 +72,15 @@ impl Answer {
         }
     }
 
+    /// Nothing is asked for under the name of another machine.
+    pub(crate) fn foreign() -> Answer {
+        Answer {
+            code: Code::Foreign,
+            kind: PLAIN,
+            is_whole: true,
+        }
+    }
+
     /// What was sent is no head.
     pub(crate) fn malformed() -> Answer {
         Answer {
@@ -89,6 +99,7 @@ impl Answer {
             Code::Malformed => "no request of HTTP/1\n",
             Code::Missing => "no such page\n",
             Code::OnlyRead => "only GET and HEAD\n",
+            Code::Foreign => "only for the hosts 127.0.0.1, localhost and [::1]\n",
         }
     }
 
@@ -111,5 +122,6 @@ fn line_of(code: Code) -> &'static str {
         Code::Malformed => "400 Bad Request",
         Code::Missing => "404 Not Found",
         Code::OnlyRead => "405 Method Not Allowed\r\nAllow: GET, HEAD",
+        Code::Foreign => "403 Forbidden",
     }
 }

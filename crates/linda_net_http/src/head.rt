@@ -1,5 +1,6 @@
 //! What a connection asks for.
 
+use crate::host::is_for_us;
 use crate::pages::Asked;
 use httparse::Status;
 use httparse::spans::{EMPTY_HEADER_SPAN, parse_request};
@@ -19,6 +20,8 @@ pub(crate) enum Head<'a> {
     Page { asked: Asked<'a>, is_whole: bool },
     /// It asks for something else than a page.
     Other,
+    /// It asks under the name of another machine.
+    Foreign,
     /// It is no head, or too long.
     Nothing,
 }
@@ -28,7 +31,13 @@ pub(crate) fn read_head(bytes: &[u8]) -> Head<'_> {
     let front = &bytes[..bytes.len().min(MOST_HEAD)];
     let mut fields = [EMPTY_HEADER_SPAN; MOST_FIELDS];
     match parse_request(front, &mut fields) {
-        Ok(Status::Complete(head)) => head_of(head.method.of(front), head.path.of(front)),
+        Ok(Status::Complete(head)) => {
+            if is_for_us(front, &fields[..head.headers.min(MOST_FIELDS)]) {
+                head_of(head.method.of(front), head.path.of(front))
+            } else {
+                Head::Foreign
+            }
+        }
         Ok(Status::Partial) => {
             if front.len() == MOST_HEAD {
                 Head::Nothing

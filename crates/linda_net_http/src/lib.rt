@@ -4,11 +4,13 @@
 //! - An `HttpServer` has a listener and some connections, each of which asks once and is answered
 //!   (`Caller`). It waits for none of them.
 //! - What a connection asks for is read by `read_head`, and what goes before a page is an `Answer`.
+//! - Who asks under the name of another machine gets no page (`is_for_us`).
 #![tactic(auto)]
 
 mod answer;
 mod caller;
 mod head;
+mod host;
 mod pages;
 mod server;
 

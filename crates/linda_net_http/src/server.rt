@@ -251,6 +251,7 @@ fn judge<R: Wait, P: Pages>(
             Told::Nothing => Answer::missing(is_whole),
         },
         Head::Other => Answer::only_read(),
+        Head::Foreign => Answer::foreign(),
         Head::Nothing => Answer::malformed(),
     };
     page.push_str(answer.text())?;

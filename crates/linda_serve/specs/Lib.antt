@@ -3,3 +3,4 @@ pub mod Address
 pub mod Minutes
 pub mod Status
 pub mod Listed
+pub mod Tags

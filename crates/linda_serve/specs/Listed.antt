@@ -27,23 +27,37 @@ json_placed id tuple = json_member (codes "{\"id\":") id ++ codes ",\"tuple\":" 
 unfoldable pub json_text : Tuple → List ℕ
 json_text tuple = codes ",\"text\":" ++ json_string (written_tuple tuple)
 
--- The ticket of the request that a tuple is held for, and the end of its row.
-unfoldable pub json_ticket : ℕ → List ℕ
-json_ticket ticket = json_member (codes ",\"ticket\":") ticket ++ codes "}}"
+-- For how many seconds something is so, after this name; nothing if that is not known.
+unfoldable pub json_age : List ℕ → Option ℕ → List ℕ
+json_age name None = name ++ codes "null"
+json_age name (Some seconds) = json_member name seconds
 
--- That request, up to the end of the row.
+-- The ticket of the request that a tuple is held for.
+unfoldable pub json_ticket : ℕ → List ℕ
+json_ticket ticket = json_member (codes ",\"ticket\":") ticket ++ codes "}"
+
+-- That request.
 unfoldable pub json_holder : ℕ → ℕ → List ℕ
 json_holder client ticket =
     json_member (codes ",\"held\":{\"client\":") client ++ json_ticket ticket
 
--- For whom a tuple is held, up to the end of its row.
+-- For whom a tuple is held.
 unfoldable pub json_held : Option Request → List ℕ
-json_held None = codes ",\"held\":null}"
+json_held None = codes ",\"held\":null"
 json_held (Some request) = json_holder request.client request.ticket
 
--- A tuple: its id, itself, its text, and for whom it is held.
+-- For how many seconds a tuple is held, up to the end of its row.
+unfoldable pub json_held_for : Option ℕ → List ℕ
+json_held_for seconds = json_age (codes ",\"held_seconds\":") seconds ++ codes "}"
+
+-- For whom a tuple is held and for how long, up to the end of its row.
+unfoldable pub json_holding : Option Request → Option ℕ → List ℕ
+json_holding held seconds = json_held held ++ json_held_for seconds
+
+-- A tuple: its id, itself, its text, for whom it is held and for how long.
 unfoldable pub json_row : ListedTuple → List ℕ
-json_row row = json_placed row.id row.tuple ++ json_text row.tuple ++ json_held row.held
+json_row row =
+    json_placed row.id row.tuple ++ json_text row.tuple ++ json_holding row.held row.held_for
 
 -- A tuple after a comma.
 unfoldable pub json_later_row : ListedTuple → List ℕ
@@ -73,6 +87,11 @@ unfoldable pub json_connected : Bool → List ℕ
 json_connected true = codes ",\"connected\":true"
 json_connected false = codes ",\"connected\":false"
 
+-- Whether a client has a connection, and for how many seconds.
+unfoldable pub json_connection : Bool → Option ℕ → List ℕ
+json_connection is_connected seconds =
+    json_connected is_connected ++ json_age (codes ",\"connected_seconds\":") seconds
+
 -- How many tuples are held for a client, and how many of its asks wait, up to the end of its row.
 unfoldable pub json_counts : ℕ → ℕ → List ℕ
 json_counts holds waits =
@@ -81,7 +100,8 @@ json_counts holds waits =
 -- A client.
 unfoldable pub json_client : ListedClient → List ℕ
 json_client row =
-    json_named row.client row.number ++ json_connected row.is_connected
+    json_named row.client row.number
+    ++ json_connection row.is_connected row.connected_for
     ++ json_counts row.holds row.waits
 
 -- A client after a comma.

@@ -20,7 +20,8 @@ form_at path =
     else (if bytes_eq path (codes "/status.json") then Some forms.Json
     else (if bytes_eq path (codes "/tuples") then Some forms.Tuples
     else (if bytes_eq path (codes "/clients") then Some forms.Clients
-    else None))))
+    else (if bytes_eq path (codes "/tags") then Some forms.Tags
+    else None)))))
 
 -- 1 if the server is up, 0 if it is down
 abbrev pub is_up : Bool → ℕ
@@ -32,7 +33,9 @@ abbrev pub value_of : Figure → Gauge → Tally → ℕ
 value_of figures.Up gauge tally = is_up gauge.is_down
 value_of figures.Tuples gauge tally = gauge.tuples
 value_of figures.Waits gauge tally = gauge.waits
+value_of figures.OldestWait gauge tally = gauge.oldest_wait
 value_of figures.Holds gauge tally = gauge.holds
+value_of figures.OldestHold gauge tally = gauge.oldest_hold
 value_of figures.Clients gauge tally = gauge.clients
 value_of figures.Connections gauge tally = tally.came - tally.over
 value_of figures.Came gauge tally = tally.came

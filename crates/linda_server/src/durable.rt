@@ -96,6 +96,19 @@ impl<D: Disk> Durable<D> {
         self.store.choose_keys(keys);
     }
 
+    /// Sets the present second, from which on `Holds` and `Waits` count how long a tuple is held
+    /// and a request waits. Seconds never fall; until one is set nothing is noted. Nothing changes
+    /// that a call answers.
+    pub fn set_second(&mut self, second: u64)
+        ensures store { self.new.store ≡ self.old.store }
+        ensures disks { (self.new.disks ≡ self.old.disks) × (self.new.limit ≡ self.old.limit) }
+        ensures down { (self.new.down ≡ self.old.down)
+            × (self.new.before.value ≡ self.old.before.value)
+            × (self.new.lost.items ≡ self.old.lost.items) }
+    {
+        self.store.set_second(second);
+    }
+
     /// Whether the server is down. While it is not, it is in order, and crashes now leave its
     /// state.
     pub fn is_down(&self) -> bool

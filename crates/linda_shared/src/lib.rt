@@ -30,7 +30,9 @@ pub use greeted::Greeted;
 pub use group::Group;
 pub use linda_shared_accounts::{Account, Answered, MOST_ASKED, Receipt, SharedFault};
 pub use linda_shared_held::{Gauge, Report};
-pub use linda_shared_listing::{ClientPage, ListedClient, ListedTuple, TuplePage, TupleQuery};
+pub use linda_shared_listing::{
+    ClientPage, KindPage, ListedClient, ListedKind, ListedTuple, MOST_KINDS, TuplePage, TupleQuery,
+};
 pub use linda_shared_outbox::Sent;
 pub use linda_shared_queue::{Outlet, hear_answer};
 pub use seat::Seat;

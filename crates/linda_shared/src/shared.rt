@@ -4,6 +4,7 @@ mod batch;
 mod end;
 mod greet;
 mod group;
+mod kinds;
 mod lead;
 mod leave;
 mod list;
@@ -98,6 +99,12 @@ impl<D: Disk, L: Ledger> Shared<D, L> {
     /// memory.
     pub fn gauge<R: Wait>(&self, rt: &R) -> Gauge {
         self.locked.lock(rt).held.gauge()
+    }
+
+    /// Sets the present second, from which on it is counted how long a tuple is held, an ask waits
+    /// and a client is here. Seconds never fall; until one is set nothing is noted.
+    pub fn set_second<R: Wait>(&self, rt: &R, second: u64) {
+        self.locked.lock(rt).held.set_second(second);
     }
 
     /// How many tuples are held for the client now.

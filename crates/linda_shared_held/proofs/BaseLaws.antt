@@ -15,6 +15,9 @@ use Rattle.linda_store_state.specs.Numbers.{kept_sum}
 use Rattle.linda_store_state.proofs.SumLaws.{sum_done}
 use Rattle.linda_store_state.proofs.JoinLaws.{joined_done}
 use Rattle.linda_shared_held.specs.Covered.{BoxesCovered}
+use Rattle.linda_disk.specs.declared.disk.Disk.{Ghosts}
+use Rattle.linda_server.specs.declared.durable.Durable.{Durable}
+use Rattle.linda_shared_held.specs.Kept.{known_of}
 use Rattle.linda_shared_held.proofs.OrderLaws.{base_is, told_all}
 use Rattle.linda_shared_held.proofs.LostLaws.{boxes_behind}
 
@@ -45,15 +48,14 @@ moves_base opening base rs count st so =
       counted = omega (arith, many);
     }
 
--- The base is the state now, and no receipt is kept, for a server that is given by its fields.
-pub base_moved : (opening base new_base : State) (rs new_rs : List Receipt) (count : ℕ) (was_down is_down : Bool) (before0 before1 : State) (store0 store1 : Store)
-    → was_down ≡ false → is_down ≡ false → store1 ≡ store0 → new_base ≡ store1.state → new_rs ≡ [] → IsInOrder opening base rs count was_down (known before0 store0 was_down)
-    → IsInOrder opening new_base new_rs count is_down (known before1 store1 is_down)
-base_moved opening base new_base rs new_rs count true is_down before0 before1 store0 store1 was is same new_is none so = absurd (true≢false was)
-base_moved opening base new_base rs new_rs count false true before0 before1 store0 store1 was is same new_is none so = absurd (true≢false is)
-base_moved opening base new_base rs new_rs count false false before0 before1 store0 store1 was is same new_is none so =
-    let there : IsInOrder opening store1.state [] count false store1.state = moves_base opening base rs count store1.state (subst (λ (s : Store). IsInOrder opening base rs count false s.state) (sym same) so) in
-    subst (λ s. IsInOrder opening s new_rs count false store1.state) (sym new_is) (subst (λ l. IsInOrder opening store1.state l count false store1.state) (sym none) there)
+-- The base is the state now, and no receipt is kept, for a server that stays up with its store.
+pub base_moved : {D : Type 0} {g : Ghosts D} (s t : Durable D g) {opening base new_base : State} {rs new_rs : List Receipt} {count : ℕ} → IsInOrder opening base rs count s.down (known_of s)
+    → (s.down ≡ false) × (t.down ≡ false) → t.store ≡ s.store → new_base ≡ t.store.state → new_rs ≡ [] → IsInOrder opening new_base new_rs count t.down (known_of t)
+base_moved s t {opening} {base} {new_base} {rs} {new_rs} {count} so up same new_is none =
+    let was : IsInOrder opening base rs count false s.store.state = subst (λ b. IsInOrder opening base rs count b (known s.before.value s.store b)) up.0 so in
+    let there : IsInOrder opening t.store.state [] count false t.store.state = moves_base opening base rs count t.store.state (subst (λ (x : Store). IsInOrder opening base rs count false x.state) (sym same) was) in
+    subst (λ b. IsInOrder opening new_base new_rs count b (known t.before.value t.store b)) (sym up.1)
+    (subst (λ x. IsInOrder opening x new_rs count false t.store.state) (sym new_is) (subst (λ l. IsInOrder opening t.store.state l count false t.store.state) (sym none) there))
 
 -- While the server is up.
 pub is_replayed : (opening base : State) (rs : List Receipt) (count : ℕ) (is_down : Bool) (before : State) (store : Store) → is_down ≡ false → IsInOrder opening base rs count is_down (known before store is_down)

@@ -17,7 +17,11 @@ use Rattle.linda_server.proofs.ServedLaws.{served_happens}
 use Rattle.linda_shared_outbox.specs.Replies.{replies_to, with_more}
 use Rattle.linda_shared_accounts.specs.declared.receipt.Receipt.{Receipt}
 use Rattle.linda_shared_held.specs.Order.{known, IsInOrder}
+use Rattle.linda_shared_outbox.specs.declared.outboxes.Outboxes.{Outboxes}
+use Rattle.linda_shared_outbox.specs.Waiting.{waits_for}
 use Rattle.linda_shared_held.specs.Covered.{BoxesCovered}
+use Rattle.linda_shared_held.specs.Kept.{KeepCovered}
+use Rattle.linda_shared_held.specs.Posted.{HasClosed}
 use Rattle.linda_shared_held.proofs.OrderLaws.{state_is}
 
 -- ---- outboxes
@@ -67,29 +71,9 @@ boxes_but st client waits0 waits1 empty others covered c =
     at (Some rs) some = subst (All (λ (r : Reply). IsCovered st (client, r))) (sym some) (All-nil (λ (r : Reply). IsCovered st (client, r)))
 
 -- What a close sends reports no deed that is not kept.
-pub closes_covered : (st : State) (bag : Bagged) (client : ℕ) (old soft : Soft) (sends : List (ℕ × Reply)) → record { sends = sends; soft = soft } ≡ on_close bag client old → All (IsCovered st) sends
+closes_covered : (st : State) (bag : Bagged) (client : ℕ) (old soft : Soft) (sends : List (ℕ × Reply)) → record { sends = sends; soft = soft } ≡ on_close bag client old → All (IsCovered st) sends
 closes_covered st bag client old soft sends closed = subst (All (IsCovered st)) (sym (ap (λ s. s.sends) closed)) (close_sends st bag client old)
 
--- ---- the laws above, for a server that is given by its fields
-
-pub posts : (opening base : State) (rs : List Receipt) (count : ℕ) (was_down is_down : Bool) (before0 before1 : State) (store0 store1 : Store) (ms : List (ℕ × Message)) (served : Served) (posted0 posted1 : ℕ → Option (List Reply)) (sends : List (ℕ × Reply))
-    → was_down ≡ false → is_down ≡ false → IsServed store0.state store0.soft ms served store1.state store1.soft → sends ≡ served.sends.items → ((c : ℕ) → posted1 c ≡ with_more (replies_to c sends) (posted0 c))
-    → IsInOrder opening base rs count was_down (known before0 store0 was_down) → BoxesCovered (known before0 store0 was_down) posted0 → BoxesCovered (known before1 store1 is_down) posted1
-posts opening base rs count true is_down before0 before1 store0 store1 ms served posted0 posted1 sends was is has sends_is posted_is so covered = absurd (true≢false was)
-posts opening base rs count false true before0 before1 store0 store1 ms served posted0 posted1 sends was is has sends_is posted_is so covered = absurd (true≢false is)
-posts opening base rs count false false before0 before1 store0 store1 ms served posted0 posted1 sends was is has sends_is posted_is so covered =
-    let all = all_covered (comings ms) store0.state store0.soft (history_of store1.state store1.soft served.deeds.items served.sends.items) (state_is opening base rs count store0.state so) (served_happens store0.state store0.soft ms served store1.state store1.soft has) in
-    boxes_more store0.state store1.state sends posted0 posted1 all.0 (subst (All (IsCovered store1.state)) (sym sends_is) all.1) posted_is covered
-
-pub posts_nothing : (opening base : State) (rs : List Receipt) (count : ℕ) (was_down is_down : Bool) (before0 before2 : State) (store0 store1 store2 : Store) (ms : List (ℕ × Message)) (served : Served) (posted0 posted1 : ℕ → Option (List Reply))
-    → was_down ≡ false → is_down ≡ true → before2 ≡ store1.state → IsServed store0.state store0.soft ms served store1.state store1.soft → ((c : ℕ) → posted1 c ≡ posted0 c)
-    → IsInOrder opening base rs count was_down (known before0 store0 was_down) → BoxesCovered (known before0 store0 was_down) posted0 → BoxesCovered (known before2 store2 is_down) posted1
-posts_nothing opening base rs count true is_down before0 before2 store0 store1 store2 ms served posted0 posted1 was is before_is has posted_is so covered = absurd (true≢false was)
-posts_nothing opening base rs count false false before0 before2 store0 store1 store2 ms served posted0 posted1 was is before_is has posted_is so covered = absurd (true≢false (sym is))
-posts_nothing opening base rs count false true before0 before2 store0 store1 store2 ms served posted0 posted1 was is before_is has posted_is so covered =
-    let all = all_covered (comings ms) store0.state store0.soft (history_of store1.state store1.soft served.deeds.items served.sends.items) (state_is opening base rs count store0.state so) (served_happens store0.state store0.soft ms served store1.state store1.soft has) in
-    subst (λ s. BoxesCovered s posted1) (sym before_is) (boxes_same store0.state store1.state posted0 posted1 all.0 posted_is covered)
-
--- What is known stays, and so do the replies.
-pub stays_covered : (old new : State) (posted0 posted1 : ℕ → Option (List Reply)) → new ≡ old → ((c : ℕ) → posted1 c ≡ posted0 c) → BoxesCovered old posted0 → BoxesCovered new posted1
-stays_covered old new posted0 posted1 same posted_is covered = subst (λ s. BoxesCovered s posted1) (sym same) (boxes_same old old posted0 posted1 (λ send is. is) posted_is covered)
+pub close_keeps : {bag : Bagged} {client : ℕ} {was soft : Soft} (old new : Outboxes) → HasClosed bag client was (λ q. waits_for old q) (λ q. waits_for new q) soft → KeepCovered old new
+close_keeps {bag} {client} {was} {soft} old new closes st covered =
+    boxes_more st st closes.sends (λ q. waits_for old q) (λ q. waits_for new q) (λ send is. is) (closes_covered st bag client was soft closes.sends closes.closed) closes.posted_is covered

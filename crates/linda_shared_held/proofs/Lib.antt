@@ -8,3 +8,4 @@ pub mod AloneLaws
 pub mod GreetLaws
 pub mod AccountsLaws
 pub mod ParkedLaws
+pub mod KeptLaws

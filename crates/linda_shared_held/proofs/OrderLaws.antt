@@ -107,35 +107,6 @@ deeds_told st soft ms served new then told is has told_is =
     let same = told_of_served st new soft then ms served told told_is is has in
     has.tells.deeds ∙ (sym good.deeds ∙ sym (ap (λ l. deeds_in (receipts_in l)) same))
 
--- ---- the laws above, for a server that is given by its fields
-
--- Those who asked are told.
-pub goes_on : (opening base : State) (rs0 rs1 rs2 : List Receipt) (count : ℕ) (was_down is_down : Bool) (before0 before1 : State) (store0 store1 : Store) (ms : List (ℕ × Message)) (served : Served) (told : List (Option Receipt))
-    → rs1 ≡ rs0 → rs2 ≡ rs1 ++ receipts_in told → was_down ≡ false → is_down ≡ false
-    → told ≡ told_by served.portions.items served.deeds.items served.sends.items
-    → IsServed store0.state store0.soft ms served store1.state store1.soft → IsInOrder opening base rs0 count was_down (known before0 store0 was_down)
-    → IsInOrder opening base rs2 (count + length (receipts_in told)) is_down (known before1 store1 is_down)
-goes_on opening base rs0 rs1 rs2 count true is_down before0 before1 store0 store1 ms served told rs1_is rs2_is was is told_is done so = absurd (true≢false was)
-goes_on opening base rs0 rs1 rs2 count false true before0 before1 store0 store1 ms served told rs1_is rs2_is was is told_is done so = absurd (true≢false is)
-goes_on opening base rs0 rs1 rs2 count false false before0 before1 store0 store1 ms served told rs1_is rs2_is was is told_is done so =
-    let st_is : IsState store0.state = state_is opening base rs0 count store0.state so in
-    let has = has_told store0.state store1.state store0.soft store1.soft ms served told told_is st_is done in
-    let all : rs2 ≡ rs0 ++ receipts_in told = rs2_is ∙ ap (λ l. l ++ receipts_in told) rs1_is in
-    subst (λ l. IsInOrder opening base l (count + length (receipts_in told)) false store1.state) (sym all)
-    (told_more opening base rs0 count store0.state store0.soft ms told served.sends.items store1.state store1.soft so has)
-
--- Nobody is told, and the server is taken down.
-pub gives_up : (opening base : State) (rs0 rs1 : List Receipt) (count : ℕ) (was_down is_down : Bool) (before0 before2 : State) (store0 store1 store2 : Store) (ms : List (ℕ × Message)) (served : Served)
-    → rs1 ≡ rs0 → was_down ≡ false → is_down ≡ true → before2 ≡ store1.state
-    → IsServed store0.state store0.soft ms served store1.state store1.soft → IsInOrder opening base rs0 count was_down (known before0 store0 was_down)
-    → IsInOrder opening base rs1 count is_down (known before2 store2 is_down)
-gives_up opening base rs0 rs1 count true is_down before0 before2 store0 store1 store2 ms served rs_is was is before_is done so = absurd (true≢false was)
-gives_up opening base rs0 rs1 count false false before0 before2 store0 store1 store2 ms served rs_is was is before_is done so = absurd (true≢false (sym is))
-gives_up opening base rs0 rs1 count false true before0 before2 store0 store1 store2 ms served rs_is was is before_is done so =
-    subst (λ l. IsInOrder opening base l count true before2) (sym rs_is)
-    (subst (IsInOrder opening base rs0 count true) (sym before_is)
-    (told_nobody opening base rs0 count store0.state store0.soft ms served store1.state store1.soft so done))
-
 -- It begins.
 pub begins : (opening base : State) (rs : List Receipt) (is_down : Bool) (before : State) (store : Store) → is_down ≡ false → opening ≡ store.state → base ≡ store.state → rs ≡ [] → IsState store.state
     → IsInOrder opening base rs 0 is_down (known before store is_down)

@@ -1,6 +1,12 @@
 pub mod Posted
 pub mod Order
 pub mod Covered
+pub mod Kept
 pub mod Greeting
 pub mod Pace
 pub mod Parked
+pub mod Closing
+pub mod Snapshot
+pub mod Seating
+pub mod Draining
+pub mod Reporting

@@ -13,6 +13,11 @@ pub record IsParked (old : Accounts) (a : Account) (new : Accounts) : Type 0 whe
   pub is : new ≡ accounts_of old.total
       (with_place old.places a.client (place_for (account_of a.client a.deeds 0 ring) false))
 
+-- The account comes back for its client's next session, if it belongs there; else it is lost.
+pub record ComesToPark (old : Accounts) (a : Account) (new : Accounts) : Type 0 where
+  pub parked : ComesBack old.places a → IsParked old a new
+  pub lost : (ComesBack old.places a → ⊥) → new ≡ old
+
 -- The account comes back for good, if it belongs there; else it is lost.
 pub record IsBack (old : Accounts) (a : Account) (new : Accounts) : Type 0 where
   pub parked : ComesBack old.places a

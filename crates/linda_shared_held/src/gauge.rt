@@ -7,8 +7,14 @@ pub struct Gauge {
     pub tuples: usize,
     /// How many of them are held for a client.
     pub holds: usize,
+    /// For how many seconds the tuple is held that is held for longest; 0 if none is, or if that is
+    /// not known.
+    pub oldest_hold: u64,
     /// How many asks wait for a tuple.
     pub waits: usize,
+    /// For how many seconds the ask waits that waits for longest; 0 if none does, or that is not
+    /// known.
+    pub oldest_wait: u64,
     /// For how many clients it keeps a reply.
     pub clients: usize,
     /// The id that the next tuple gets.

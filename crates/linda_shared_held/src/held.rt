@@ -1,5 +1,6 @@
 //! What stands under the server's lock, and the group commit of several sessions.
 
+mod age;
 mod alone;
 mod base;
 mod drain;
@@ -7,6 +8,7 @@ mod end;
 mod finish;
 mod give_up;
 mod greet;
+mod kinds;
 mod leave;
 mod list;
 mod measure;
@@ -22,10 +24,10 @@ ghost use Rattle.std.specs.Prelude.{vec_len, vec_capacity, None, IfErr, OnOk, On
 ghost use Rattle.linda_store_step.specs.declared.size.TheConstants.{MAX_GROUP};
 ghost use Rattle.linda_shared_held.specs.Order.{known, IsInOrder};
 ghost use Rattle.linda_shared_held.specs.Covered.{BoxesCovered};
-ghost use Rattle.linda_shared_held.specs.Pace.{pace_from, refused_for_room};
+ghost use Rattle.linda_shared_held.specs.Kept.{kept, Asks, Fails};
+ghost use Rattle.linda_shared_held.specs.Pace.{pace_from};
 ghost use Rattle.linda_shared_held.specs.Posted.{IsHandled, WentSome};
 ghost use Rattle.linda_shared_outbox.specs.Waiting.{waits_for};
-ghost use Rattle.linda_server.specs.Handled.{HasNoRoomFor};
 ghost use Rattle.linda_server.specs.Server.{end_in_use};
 ghost use Rattle.linda_shared_accounts.specs.Accounts.{accounts_of};
 ghost use Rattle.linda_shared_accounts.specs.declared.limits.TheConstants.{PARTS};
@@ -140,14 +142,8 @@ impl<D: Disk, L: Ledger> Held<D, L> {
             (waits_for self.old.boxes) (waits_for self.new.boxes)) }
         // It is down exactly where the server is, and that before all else; where memory ran out
         // nothing changed.
-        ensures up { OnOk result ((self.old.server.down ≡ false) × (self.new.server.down ≡ false)) }
-        ensures down { IsErrOf result SharedFault.Down → self.new.server.down ≡ true }
-        ensures first { self.old.server.down ≡ true → IsErrOf result SharedFault.Down
-            × (self.new.server ≡ self.old.server) × (self.new.boxes ≡ self.old.boxes) }
-        ensures memory { IsErrOf result SharedFault.Memory → (self.new.server ≡ self.old.server)
-            × (self.new.boxes ≡ self.old.boxes) × (self.old.server.down ≡ false) }
-        ensures fault { IfErr result (λ fault. (fault ≡ SharedFault.Down)
-            ⊎ (fault ≡ SharedFault.Memory)) }
+        ensures fails { Fails (kept self.old.server self.old.receipts self.old.boxes) result
+            (kept self.new.server self.new.receipts self.new.boxes) }
         ensures failed { IfErr result (λ fault. map (λ a. a.told) answered.new.items
             ≡ map (λ a. a.told) answered.old.items
             ++ replicate (vec_len asked.old) (Effect.Failed fault)) }
@@ -158,12 +154,8 @@ impl<D: Disk, L: Ledger> Held<D, L> {
         ensures recall { self.new.recall ≡ self.old.recall }
         // Where the server has no room for all of them, a snapshot is tried once there is a record
         // that the last try did not find.
-        ensures lacks { OnOk result (self.old.count + length messages.now < 2 ^ 64
-            → HasNoRoomFor self.old.server messages.now → self.new.pace.lacks_room ≡ true) }
-        ensures pace { (self.new.pace ≡ self.old.pace)
-            ⊎ (self.new.pace ≡ refused_for_room self.old.pace) }
-        ensures unasked { (HasNoRoomFor self.old.server messages.now → ⊥)
-            → self.new.pace ≡ self.old.pace }
+        ensures asks { Asks self.old.server self.old.count messages.now self.old.pace result
+            self.new.pace }
     {
         let _ = self.is_down();
         let Held {

@@ -12,7 +12,11 @@ use Rattle.linda_snap.specs.Rising.{entries_from}
 use Rattle.linda_shared_listing.specs.declared.limits.TheConstants.{MOST_LOOKED}
 use Rattle.linda_shared_listing.specs.declared.listed.ListedClient.{ListedClient}
 use Rattle.linda_shared_listing.specs.declared.listed.ClientPage.{ClientPage}
-use Rattle.linda_shared_listing.specs.Clients.{client_of, clients_of, first_client, IsClientPage}
+use Rattle.linda_shared_listing.specs.Clients.{client_of, clients_of, first_client, timeless, IsClientPage}
+
+-- One row is put after others.
+pub pushed : (old new : List ListedClient) (row seen : ListedClient) → new ≡ old ++ row ∷ [] → timeless row ≡ seen → map timeless new ≡ map timeless old ++ seen ∷ []
+pushed old new row seen put is = ap (map timeless) put ∙ map-append timeless old (row ∷ []) ∙ ap (λ r. map timeless old ++ r ∷ []) is
 
 module _ (book : FinMap nat_cmp Entry) (holds : HeldFor) (waits : List Wait) (boxes : ℕ → Option (List Reply)) where
   -- So many clients were looked at, those before `from`, and the rows have them.
@@ -37,7 +41,7 @@ module _ (book : FinMap nat_cmp Entry) (holds : HeldFor) (waits : List Wait) (bo
   }
 
   pub page_so_far : (first limit from count : ℕ) (page : ClientPage)
-      → AreSoFar first from count page.rows.items
+      → AreSoFar first from count (map timeless page.rows.items)
       → count ≤ MOST_LOOKED
       → page.next ≡ first_client (entries_from from book)
       → length page.rows.items ≤ max limit 1

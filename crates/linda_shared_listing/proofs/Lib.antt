@@ -1,2 +1,3 @@
 pub mod ListingLaws
 pub mod ClientLaws
+pub mod KindLaws

@@ -14,7 +14,7 @@ use Rattle.linda_shared_listing.specs.declared.limits.TheConstants.{MOST_LOOKED}
 use Rattle.linda_shared_listing.specs.declared.listed.ListedTuple.{ListedTuple}
 use Rattle.linda_shared_listing.specs.declared.listed.TupleQuery.{TupleQuery}
 use Rattle.linda_shared_listing.specs.declared.listed.TuplePage.{TuplePage}
-use Rattle.linda_shared_listing.specs.Listing.{is_asked, row_of, rows_of, first_id, IsPage}
+use Rattle.linda_shared_listing.specs.Listing.{is_asked, row_of, rows_of, first_id, timeless, IsPage}
 
 module _ (bag : FinMap nat_cmp Tuple) (holds : HeldFor) (tag : Option Atom) where
   -- So many tuples were looked at, those before `from`, and the rows have those that are asked for.
@@ -44,7 +44,7 @@ module _ (bag : FinMap nat_cmp Tuple) (holds : HeldFor) (tag : Option Atom) wher
   }
 
 pub page_so_far : (bag : FinMap nat_cmp Tuple) (holds : HeldFor) (query : TupleQuery) (from count : ℕ) (page : TuplePage)
-    → IsSoFar bag holds query.tag query.from from count page.rows.items
+    → IsSoFar bag holds query.tag query.from from count (map timeless page.rows.items)
     → count ≤ MOST_LOOKED
     → page.next ≡ first_id (entries_from from bag)
     → length page.rows.items ≤ query.limit

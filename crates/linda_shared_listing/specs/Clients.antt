@@ -13,6 +13,10 @@ use Rattle.linda_shared_listing.specs.declared.limits.TheConstants.{MOST_LOOKED}
 use Rattle.linda_shared_listing.specs.declared.listed.ListedClient.{ListedClient}
 use Rattle.linda_shared_listing.specs.declared.listed.ClientPage.{ClientPage}
 
+-- A client as it is listed, but for how long it has a connection: contracts do not see time.
+abbrev pub timeless : ListedClient → ListedClient
+timeless row = record row { connected_for = None }
+
 -- A client of this number as it is listed: whether it has an outbox, and how many tuples are held
 -- for it and asks of it wait.
 abbrev pub client_of : HeldFor → List Wait → (ℕ → Option (List Reply)) → ℕ → ℕ → ListedClient
@@ -20,6 +24,7 @@ client_of holds waits boxes client number = record {
   client = client;
   number = number;
   is_connected = is_some (boxes client);
+  connected_for = None;
   holds = length (held_in client (fin.entries holds));
   waits = length (waits_of client waits);
 }
@@ -43,7 +48,7 @@ pub record IsClientPage (book : fin.FinMap nat_cmp Entry) (holds : HeldFor) (wai
   pub later : List (ℕ × Entry)
   pub parts : looked ++ later ≡ entries_from from book
   pub few : length looked ≤ MOST_LOOKED
-  pub rows : page.rows.items ≡ clients_of holds waits boxes looked
+  pub rows : map timeless page.rows.items ≡ clients_of holds waits boxes looked
   pub within : length page.rows.items ≤ max limit 1
   pub next : page.next ≡ first_client later
   pub onward : IfSome page.next (λ client. from < client)

@@ -18,9 +18,13 @@ abbrev pub is_asked : Option Atom → Tuple → Bool
 is_asked None tuple = true
 is_asked (Some tag) tuple = same_atom tag tuple.tag
 
+-- A tuple as it is listed, but for how long it is held: contracts do not see time.
+abbrev pub timeless : ListedTuple → ListedTuple
+timeless row = record row { held_for = None }
+
 -- A tuple with its id as it is listed: with the request that it is held for, if it is.
 abbrev pub row_of : HeldFor → ℕ × Tuple → ListedTuple
-row_of holds e = record { id = e.0; tuple = e.1; held = fin.get holds e.0 }
+row_of holds e = record { id = e.0; tuple = e.1; held = fin.get holds e.0; held_for = None }
 
 -- Those of the tuples that are asked for, as they are listed.
 abbrev pub rows_of : HeldFor → Option Atom → List (ℕ × Tuple) → List ListedTuple
@@ -40,7 +44,7 @@ pub record IsPage (bag : fin.FinMap nat_cmp Tuple) (holds : HeldFor) (query : Tu
   pub later : List (ℕ × Tuple)
   pub parts : looked ++ later ≡ entries_from query.from bag
   pub few : length looked ≤ MOST_LOOKED
-  pub rows : page.rows.items ≡ rows_of holds query.tag looked
+  pub rows : map timeless page.rows.items ≡ rows_of holds query.tag looked
   pub within : length page.rows.items ≤ query.limit
   pub next : page.next ≡ first_id later
   pub onward : IfSome page.next (λ id. query.from < id)

@@ -5,7 +5,8 @@ ghost use Rattle.std.specs.Prelude.{ℕ, suc, Some, None};
 ghost use Rattle.std.specs.FinMap as maps;
 ghost use Rattle.linda_snap.specs.Rising.{entries_from, first_after};
 ghost use Rattle.linda_shared_outbox.specs.Waiting.{waits_for};
-ghost use Rattle.linda_shared_listing.specs.Clients.{first_client, client_of, IsClientPage};
+ghost use Rattle.linda_shared_listing.specs.Clients.{first_client, client_of, timeless};
+ghost use Rattle.linda_shared_listing.specs.Clients.{IsClientPage};
 
 use crate::limits::MOST_LOOKED;
 use crate::listed::{ClientPage, ListedClient};
@@ -110,12 +111,13 @@ fn client_of(
     client: u32,
     number: u64,
 ) -> ListedClient
-    ensures { result ≡ client_of holds.now waits.now (waits_for boxes.now) client number }
+    ensures { timeless result ≡ client_of holds.now waits.now (waits_for boxes.now) client number }
 {
     ListedClient {
         client,
         number,
         is_connected: boxes.has(client),
+        connected_for: boxes.age(client),
         holds: holds.count_of(client),
         waits: waits.count_of(client),
     }

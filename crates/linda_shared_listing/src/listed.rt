@@ -57,6 +57,8 @@ pub struct ListedTuple {
     pub tuple: Tuple,
     /// For whom it is held, if it is.
     pub held: Option<Request>,
+    /// For how many seconds it is held, if that is known. No contract says it.
+    pub held_for: Option<u64>,
 }
 
 /// Some of the tuples that are asked for, as they were at one moment.
@@ -77,6 +79,8 @@ pub struct ListedClient {
     pub number: u64,
     /// Whether it has a connection.
     pub is_connected: bool,
+    /// For how many seconds it has it, if that is known. No contract says it.
+    pub connected_for: Option<u64>,
     /// How many tuples are held for it.
     pub holds: usize,
     /// How many of its asks wait.

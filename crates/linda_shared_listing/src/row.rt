@@ -1,7 +1,7 @@
 //! One tuple that was looked at.
 
-ghost use Rattle.std.specs.Prelude.{◌≡◌, ◌≤◌, ◌+◌, ◌++◌, ◌∷◌, [], OnOk, IfOk, vec_len};
-ghost use Rattle.linda_shared_listing.specs.Listing.{is_asked, row_of, rows_of};
+ghost use Rattle.std.specs.Prelude.{◌≡◌, ◌≤◌, ◌+◌, ◌++◌, ◌∷◌, [], OnOk, IfOk, vec_len, map};
+ghost use Rattle.linda_shared_listing.specs.Listing.{is_asked, row_of, rows_of, timeless};
 
 use crate::listed::ListedTuple;
 use linda_codec::tuple_len;
@@ -23,8 +23,8 @@ pub(crate) fn note(
     id: u64,
     tuple: &Tuple,
 ) -> Result<usize, AllocError>
-    ensures rows { OnOk result (rows.new.items
-        ≡ rows.old.items ++ rows_of holds.now tag.now ((id, tuple.now) ∷ [])) }
+    ensures rows { OnOk result (map timeless rows.new.items
+        ≡ map timeless rows.old.items ++ rows_of holds.now tag.now ((id, tuple.now) ∷ [])) }
     ensures one { OnOk result (vec_len rows.new ≤ vec_len rows.old + 1) }
 {
     if !is_asked(tag, tuple) {
@@ -47,11 +47,12 @@ fn is_asked(tag: &Option<Atom>, tuple: &Tuple) -> bool
 
 // A copy of the tuple, with its id and for whom it is held.
 fn row_of(alloc: Global, holds: &Holds, id: u64, tuple: &Tuple) -> Result<ListedTuple, AllocError>
-    ensures { IfOk result (λ row. row ≡ row_of holds.now (id, tuple.now)) }
+    ensures { IfOk result (λ row. timeless row ≡ row_of holds.now (id, tuple.now)) }
 {
     Ok(ListedTuple {
         id,
         tuple: tuple.try_clone(alloc)?,
         held: holds.get(id),
+        held_for: holds.age(id),
     })
 }

@@ -10,6 +10,7 @@ ghost use Rattle.linda_shared_outbox.specs.Boxes.{TakesMore};
 ghost use Rattle.linda_shared_outbox.specs.Replies.{replies_to, opened, with_more, emptied};
 ghost use Rattle.linda_shared_outbox.specs.Replies.{handed_out};
 
+use crate::opened::Opened;
 use crate::outbox::{Outbox, make_place, put, take_out, unlist};
 use crate::sent::Sent;
 use linda_wire::Reply;
@@ -23,6 +24,7 @@ pub struct Outboxes {
     keys: BTreeMap<u32, usize>,
     boxes: Slab<Outbox>,
     waiting: Vec<u32>,
+    opened: Opened,
     ghost taken: { AllTaken keys boxes },
     ghost owned: { AllOwned keys boxes },
     ghost apart: { AreApart keys },
@@ -40,7 +42,22 @@ impl Outboxes {
             keys: BTreeMap::new(alloc),
             boxes: Slab::new(alloc),
             waiting: Vec::new(alloc),
+            opened: Opened::none(alloc),
         }
+    }
+
+    /// Sets the present second: outboxes are noted as opened in it. Seconds never fall; until one
+    /// is set nothing is noted.
+    pub fn set_second(&mut self, second: u64)
+        ensures { waits_for self.new ≡ waits_for self.old }
+    {
+        self.opened.set_second(second);
+    }
+
+    /// For how many seconds the client has its outbox; nothing if it has none, or if that was not
+    /// noted.
+    pub fn age(&self, client: u32) -> Option<u64> {
+        self.opened.age(client)
     }
 
     /// Whether the client has an outbox.
@@ -70,6 +87,7 @@ impl Outboxes {
             replies: Vec::new(alloc),
             is_listed: false,
         });
+        self.opened.note(client);
         Ok(())
     }
 
@@ -80,6 +98,7 @@ impl Outboxes {
     {
         if let Some(key) = self.keys.remove(&client) {
             self.boxes.try_remove(key);
+            self.opened.forget(client);
         }
     }
 

@@ -7,4 +7,5 @@ pub mod StandsLaws
 pub mod ReplayLaws
 pub mod ChoiceLaws
 pub mod AppendLaws
+pub mod DraftLaws
 mod CauseLaws

@@ -1,11 +1,16 @@
 -- Writing entries one after the other, and counting their bytes.
-use Rattle.std.proofs.Common.{◌≡◌, ℕ, ◌+◌, ◌^◌, ◌<◌, ◌≤◌, List, [], ◌∷◌, ◌++◌, All, length, sym, ap, subst, ◌∙◌, append_assoc, append-nil, length-append, arith}
-use Rattle.std.specs.List.{flat_map, AllByRecursion}
+use Rattle.std.proofs.Common.{◌≡◌, ℕ, ◌+◌, ◌*◌, ◌^◌, ◌<◌, ◌≤◌, List, [], ◌∷◌, ◌++◌, All, length, refl, sym, ap, subst, ◌∙◌, append_assoc, append-nil, length-append, arith}
+use Rattle.std.specs.List.{flat_map, sum_by, AllByRecursion}
+use Rattle.std.specs.Map.{values_of}
 use Rattle.std.specs.Ordering.{nat_cmp}
-use Rattle.std.specs.FinMap.{FinMap, entries}
+use Rattle.std.specs.FinMap.{FinMap, entries, len, len-entries}
 use Rattle.std.proofs.lemmas.List.Elements.{All-from_recursion}
+use Rattle.std.proofs.lemmas.List.Sums.{sum_by-cons}
 use Rattle.linda_store_state.specs.DeedFormat.{written}
-use Rattle.linda_codec.specs.Formats.{Format, short_number}
+use Rattle.linda_tuple.specs.Tuple.{Tuple}
+use Rattle.linda_codec.specs.Formats.{Format, number, short_number}
+use Rattle.linda_codec.specs.Values as value
+use Rattle.linda_bag.specs.Bytes.{tuple_bytes, bytes_of}
 use Rattle.linda_store_state.specs.State.{State}
 use Rattle.linda_snap.specs.Snapshot as format
 use Rattle.linda_snap.specs.Snapshot.{listed, spell_state}
@@ -73,6 +78,20 @@ module _ {X : Type 0} (f : Format (ℕ × X)) (m : FinMap nat_cmp X) where
   -- A turn more leaves fewer entries to come.
   pub fewer : (from next : ℕ) (e : ℕ × X) → entries_from from m ≡ e ∷ entries_from next m → length (entries_from next m) < length (entries_from from m)
   fewer from next e first = omega (arith, ap length first)
+
+-- ---- the bytes of all tuples
+
+-- Tuples with their ids spell eight bytes for each id, and what the tuples spell.
+placed_bytes : (es : List (ℕ × Tuple)) → length (flat_map (format.placed written).spell es) ≡ 8 * length es + sum_by tuple_bytes (values_of es)
+placed_bytes [] = refl
+placed_bytes (e ∷ es) =
+    let all = length-append ((format.placed written).spell e) (flat_map (format.placed written).spell es) in
+    let one = length-append (number.spell e.0) ((value.tuple written).spell e.1) in
+    omega (arith, all, one, placed_bytes es, sum_by-cons tuple_bytes e.1 (values_of es))
+
+-- So the bytes of the tuples in a snapshot follow from how many there are, and from the bytes that the bag keeps.
+pub all_placed : (m : FinMap nat_cmp Tuple) → length ((listed (format.placed written)).spell (entries m)) ≡ 4 + 8 * len m + bytes_of m
+all_placed m = omega (arith, placed_bytes (entries m), len-entries m)
 
 -- ---- a whole state
 

@@ -5,3 +5,4 @@ pub mod Stands
 pub mod Switch
 pub mod Replay
 pub mod Choice
+pub mod Draft

@@ -4,10 +4,8 @@
 ghost use Rattle.std.specs.Prelude.{◌≡◌, ◌++◌, ◌≤◌, ◌+◌, length, OnOk};
 ghost use Rattle.linda_codec.specs.declared.limits.TheConstants.{NUMBER_BYTES};
 ghost use Rattle.linda_codec.specs.Steps.{Gives};
-ghost use Rattle.linda_codec.specs.Values as value;
 ghost use Rattle.linda_store_state.specs.DeedFormat.{written};
 ghost use Rattle.linda_snap.specs.declared.entry.TheConstants.{CLIENT_BYTES, MAX_KEPT_BYTES};
-ghost use Rattle.linda_snap.specs.declared.entry.TheConstants.{MAX_PLACED_BYTES};
 ghost use Rattle.linda_snap.specs.Snapshot as format;
 
 use linda_book::KeptReply;
@@ -100,14 +98,6 @@ fn push_reply(out: &mut Vec<u8>, reply: &KeptReply) -> Result<(), AllocError>
     // Every reply has a spelling in the form of new banks, too.
     let _fits = reply.fits(BANK_FORM);
     reply.push(BANK_FORM, out)
-}
-
-/// How many bytes an id and the tuple spell.
-pub(crate) fn placed_len(tuple: &Tuple) -> usize
-    ensures exact { result ≡ NUMBER_BYTES + length ((value.tuple written).spell tuple.now) }
-    ensures short { result ≤ MAX_PLACED_BYTES }
-{
-    NUMBER_BYTES + tuple.len(BANK_FORM)
 }
 
 /// How many bytes a client, its last number, and the reply to it spell.

@@ -14,6 +14,7 @@
 
 mod choice;
 mod cursor;
+mod draft;
 mod entry;
 mod laws;
 mod putting;
@@ -22,6 +23,7 @@ mod renewal;
 mod replay;
 
 pub use choice::{ChoiceFault, Chosen, choose, choose_bank};
+pub use draft::{Draft, STEP_TUPLES};
 pub use laws::{an_append_leaves_the_old_state_or_the_new, two_banks_stand_for_one_state};
 pub use linda_journal::{Closed, Whole, fill, shut, unlock};
 pub use putting::{EMPTY_STATE_BYTES, put_state};

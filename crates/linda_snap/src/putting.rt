@@ -11,7 +11,7 @@ ghost use Rattle.linda_snap.specs.Snapshot as format;
 ghost use Rattle.linda_snap.specs.Snapshot.{listed, spell_state, FitsState};
 
 use crate::cursor::{kept_after, tuple_from};
-use crate::entry::{kept_len, placed_len, push_kept, push_placed};
+use crate::entry::{kept_len, push_kept, push_placed};
 use linda_bag::Bag;
 use linda_book::Book;
 use linda_codec::{NUMBER_BYTES, SHORT_NUMBER_BYTES};
@@ -59,7 +59,7 @@ fn push_tuples<B: Bag>(out: &mut Vec<u8>, state: &State<B>) -> Result<(), AllocE
 }
 
 // Appends the count of the clients, and each with its number and reply; likewise.
-fn push_book(out: &mut Vec<u8>, book: &Book) -> Result<(), AllocError>
+pub(crate) fn push_book(out: &mut Vec<u8>, book: &Book) -> Result<(), AllocError>
     requires { length (entries book.now) < 2 ^ 32 }
     ensures ok { OnOk result (out.new.items
         ≡ out.old.items ++ (listed (format.kept written)).spell (entries book.now)) }
@@ -75,7 +75,7 @@ fn push_book(out: &mut Vec<u8>, book: &Book) -> Result<(), AllocError>
 }
 
 // Appends a count.
-fn push_count(out: &mut Vec<u8>, count: usize) -> Result<(), AllocError>
+pub(crate) fn push_count(out: &mut Vec<u8>, count: usize) -> Result<(), AllocError>
     requires { count < 2 ^ 32 }
     ensures { OnOk result (out.new.items ≡ out.old.items ++ short_number.spell count) }
 {
@@ -84,7 +84,7 @@ fn push_count(out: &mut Vec<u8>, count: usize) -> Result<(), AllocError>
 }
 
 /// What is left of so many bytes once the state is spelled in them; None where it spells more. No
-/// memory is taken.
+/// memory is taken. It walks over the clients, and not over the tuples: the bag keeps their bytes.
 pub(crate) fn room_after<B: Bag>(state: &State<B>, room: usize) -> Option<usize>
     requires { IsState state.now }
     ensures some { IfSome result (λ left. left + length (spell_state written state.now) ≡ room) }
@@ -96,6 +96,7 @@ pub(crate) fn room_after<B: Bag>(state: &State<B>, room: usize) -> Option<usize>
 }
 
 // The same of the tuples with their count.
+#[tactic(auto, using(crate::proofs::PuttingLaws::all_placed))]
 fn room_after_tuples<B: Bag>(state: &State<B>, room: usize) -> Option<usize>
     requires { IsState state.now }
     ensures some { IfSome result (λ left.
@@ -103,13 +104,10 @@ fn room_after_tuples<B: Bag>(state: &State<B>, room: usize) -> Option<usize>
     ensures none { IfNone result (room
         < length ((listed (format.placed written)).spell (entries state.now.bag))) }
 {
-    let mut left = room.checked_sub(SHORT_NUMBER_BYTES)?;
-    let mut from = 0;
-    while let Some((id, tuple)) = tuple_from(state, from) {
-        left = left.checked_sub(placed_len(tuple))?;
-        from = id + 1;
-    }
-    Some(left)
+    let left = room.checked_sub(SHORT_NUMBER_BYTES)?;
+    let ids = state.bag.len().checked_mul(NUMBER_BYTES)?;
+    let left = left.checked_sub(ids)?;
+    state.bag.room_after(left)
 }
 
 // The same of the book.

@@ -185,7 +185,7 @@ fn renew<D: Disk>(
 }
 
 // How many bytes the state spells; nothing if a new bank for it would be longer than the limit.
-fn len_within<B: Bag>(state: &State<B>, limit: usize) -> Option<usize>
+pub(crate) fn len_within<B: Bag>(state: &State<B>, limit: usize) -> Option<usize>
     requires { IsState state.now }
     ensures exact { IfSome result (λ len. len ≡ length (spell_state written state.now)) }
     ensures fits { OnSome result (MIN_BYTES + 1 + length (spell_state written state.now) ≤ limit) }

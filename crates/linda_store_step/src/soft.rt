@@ -59,6 +59,14 @@ impl Soft {
         self.waits.choose_keys(keys);
     }
 
+    /// Sets the present second: what is held, and who waits, from now on is noted so.
+    pub(crate) fn set_second(&mut self, second: u64)
+        ensures { self.new ≡ self.old }
+    {
+        self.holds.set_second(second);
+        self.waits.set_second(second);
+    }
+
     /// The tuple is new or free: the reads that wait for it are answered and wait no more, then it
     /// is offered to the input that has waited longest for it, and held for that.
     ///

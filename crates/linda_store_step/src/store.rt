@@ -92,6 +92,15 @@ impl<B: Bag> Store<B> {
         self.soft.choose_keys(keys);
     }
 
+    /// Sets the present second, from which on `Holds` and `Waits` count how long a tuple is held
+    /// and a request waits. Seconds never fall; until one is set nothing is noted. Nothing changes
+    /// that a call answers.
+    pub fn set_second(&mut self, second: u64)
+        ensures { self.new ≡ self.old }
+    {
+        self.soft.set_second(second);
+    }
+
     /// Does what the message of the client asks, and answers it. No greeting is asked before.
     ///
     /// # Errors

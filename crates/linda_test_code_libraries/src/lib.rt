@@ -11,6 +11,8 @@ mod messages;
 #[cfg(test)]
 mod server;
 #[cfg(test)]
+mod snap;
+#[cfg(test)]
 mod step;
 #[cfg(test)]
 mod store;

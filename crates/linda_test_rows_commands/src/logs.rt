@@ -13,7 +13,9 @@ use std::time::Clock;
 const GAUGE: Gauge = Gauge {
     tuples: 3,
     holds: 0,
+    oldest_hold: 0,
     waits: 0,
+    oldest_wait: 0,
     clients: 2,
     next: 9,
     deeds: 13,

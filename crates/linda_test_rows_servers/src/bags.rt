@@ -2,9 +2,9 @@
 
 use crate::told::{done, tell};
 use crate::typed::{template_of, tuple_of};
-use linda_bag::{Bag, IndexBag, ListBag};
+use linda_bag::{Bag, IndexBag, Kind, ListBag};
 use linda_test_script::{WordsFault, read_number, split_number, split_word};
-use linda_text::write_tuple;
+use linda_text::{write_atom, write_tuple};
 use linda_tuple::Tuple;
 use std::alloc::{AllocError, Global};
 use std::collections::BTreeSet;
@@ -42,6 +42,7 @@ impl Bags {
                 Ok(())
             }
             "takes" => self.take_all(alloc, rest, came),
+            "kinds" => tell_kinds(alloc, &self.index, came),
             _ => self.do_both(alloc, words, came),
         }
     }
@@ -93,6 +94,30 @@ impl Bags {
         let (plain, index) = self.both(alloc, &words)?;
         tell_unlike(came, &words, &plain, &index)
     }
+}
+
+// Writes how many tuples the bag has of each tag and number of fields, in their order.
+fn tell_kinds(alloc: Global, bag: &IndexBag, came: &mut String) -> Result<(), WordsFault> {
+    let mut last = None;
+    for _ in 0..=bag.len() {
+        let Some(kind) = bag.kind_after(last) else {
+            return done(writeln!(came, "> no more"));
+        };
+        tell_kind(alloc, kind, came)?;
+        last = Some((kind.tag, kind.fields));
+    }
+    done(writeln!(came, "> more than there are tuples"))
+}
+
+// Writes a tag and a number of fields, with how many tuples have both.
+fn tell_kind(alloc: Global, kind: Kind<'_>, came: &mut String) -> Result<(), WordsFault> {
+    let Kind {
+        tag,
+        fields,
+        tuples,
+    } = kind;
+    let tag = write_atom(alloc, tag)?;
+    done(writeln!(came, "> {tag} with {fields}: {tuples}"))
 }
 
 // Writes what came of both, or of each where they differ; nothing comes of what has nothing to

@@ -20,6 +20,10 @@ pub(crate) fn play_holds(
             holds.remove(read_number(rest)?);
             Ok(())
         }
+        "second" => {
+            holds.set_second(read_number(rest)?);
+            Ok(())
+        }
         _ => show(alloc, holds, word, rest, came),
     }
 }
@@ -49,6 +53,15 @@ fn show(
         "held" => tell_found(came, holds.find(read_request(which)?)),
         "client" => done(tell_held(alloc, holds, read_small_number(which)?, came)),
         "ids" => done(tell_ids(alloc, holds, came)),
+        _ => show_age(holds, what, which, came),
+    }
+}
+
+// Shows for how long a tuple is held, or the one that is held for longest.
+fn show_age(holds: &Holds, what: &str, which: &str, came: &mut String) -> Result<(), WordsFault> {
+    match what {
+        "age" => tell_found(came, holds.age(read_number(which)?)),
+        "oldest" => tell_found(came, holds.oldest()),
         _ => Err(WordsFault::Unknown),
     }
 }

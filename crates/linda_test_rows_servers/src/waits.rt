@@ -1,6 +1,6 @@
 //! The requests that wait, in order of arrival.
 
-use crate::told::{done, tell, tell_two};
+use crate::told::{done, tell, tell_found, tell_two};
 use crate::typed::{template_of, tuple_of};
 use linda_hold::{Asked, Request, Waits};
 use linda_test_script::{
@@ -24,6 +24,10 @@ pub(crate) fn play_waits(
         }
         "leaves" => {
             waits.remove_client(read_small_number(rest)?);
+            Ok(())
+        }
+        "second" => {
+            waits.set_second(read_number(rest)?);
             Ok(())
         }
         "readers" => take_readers(alloc, waits, rest, came),
@@ -105,6 +109,7 @@ fn show(
         "waits" => tell_whether(waits.contains(read_request(which)?), came),
         "count" => tell(came, waits.len()),
         "of" => tell(came, waits.count_of(read_small_number(which)?)),
+        "oldest" => tell_found(came, waits.oldest()),
         _ => show_awaiting(alloc, waits, what, which, came),
     }
 }

@@ -48,8 +48,8 @@ fn push_fields(out: &mut Vec<u8>, fields: &[Atom]) -> Result<(), AllocError>
     Ok(())
 }
 
-// An integer as a number, a text as a string, a truth value as such.
-fn push_atom(out: &mut Vec<u8>, atom: &Atom) -> Result<(), AllocError>
+/// An integer as a number, a text as a string, a truth value as such.
+pub fn push_atom(out: &mut Vec<u8>, atom: &Atom) -> Result<(), AllocError>
     ensures { OnOk result (IsPushed out.old out.new (json_atom atom.now)) }
 {
     match atom {

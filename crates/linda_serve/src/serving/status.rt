@@ -12,6 +12,7 @@ mod page;
 mod part;
 mod row;
 mod seconds;
+mod tags;
 
 use json::spell_json;
 use linda_disk::Disk;
@@ -22,6 +23,7 @@ use page::PAGE;
 use std::alloc::{AllocError, Global};
 use std::sync::Wait;
 use std::sync::ledger::Ledger;
+use tags::spell_tags;
 
 /// The kind of an object of JSON.
 const JSON: &str = "application/json";
@@ -39,6 +41,8 @@ enum Form {
     Tuples,
     /// Some of the clients, in one object of JSON.
     Clients,
+    /// How many tuples there are of each tag, in one object of JSON.
+    Tags,
 }
 
 /// Has the pages of a server.
@@ -65,6 +69,7 @@ impl Teller for Numbers {
             Form::Json => spell_json(page, &shared.gauge(rt), tally)?,
             Form::Tuples => return spell_tuples(rt, self.alloc, shared, asked.query, page),
             Form::Clients => return spell_clients(rt, self.alloc, shared, asked.query, page),
+            Form::Tags => return spell_tags(rt, self.alloc, shared, asked.query, page),
         }
         Ok(Told::Page(kind_of(form)))
     }
@@ -84,6 +89,8 @@ fn form_at(path: &[u8]) -> Option<Form>
         Some(Form::Tuples)
     } else if path == b"/clients".as_slice() {
         Some(Form::Clients)
+    } else if path == b"/tags".as_slice() {
+        Some(Form::Tags)
     } else {
         None
     }
@@ -97,5 +104,6 @@ fn kind_of(form: Form) -> &'static str {
         Form::Json => JSON,
         Form::Tuples => JSON,
         Form::Clients => JSON,
+        Form::Tags => JSON,
     }
 }

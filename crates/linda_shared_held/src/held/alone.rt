@@ -1,20 +1,15 @@
 //! Messages one by one, where they do not go in one step: what finds no room is refused, and so is
 //! what the count of deeds has no room for.
 
-ghost use Rattle.std.specs.Prelude.{◌≡◌, ◌+◌, ◌<◌, ◌^◌, ◌++◌, ◌∷◌, [], false, true, ℕ, length};
-ghost use Rattle.std.specs.Prelude.{vec_len};
-ghost use Rattle.std.specs.Prelude.{◌⊎◌, IfOk, IfErr, OnOk, OnErr, IsErrOf};
-ghost use Rattle.linda_wire.specs.Refusal.{refused};
-ghost use Rattle.linda_store_state.specs.State as states;
+ghost use Rattle.std.specs.Prelude.{◌≡◌, ◌∷◌, [], ℕ, length, vec_len, IfOk, OnOk, OnErr};
 ghost use Rattle.linda_store_step.specs.Answer.{last_number};
 ghost use Rattle.linda_store_step.specs.Reported as steps;
 ghost use Rattle.linda_store_step.specs.Reported.{number_of_message};
 ghost use Rattle.linda_shared_outbox.specs.Waiting.{waits_for};
 ghost use Rattle.linda_shared_outbox.specs.Replies.{replies_to, with_more};
-ghost use Rattle.linda_shared_held.specs.Order.{known, IsInOrder};
 ghost use Rattle.linda_shared_accounts.specs.Telling.{receipts_in};
-ghost use Rattle.linda_shared_held.specs.Posted.{GoesAlone, WentAlone, WentSome};
-ghost use Rattle.linda_shared_held.specs.Covered.{BoxesCovered};
+ghost use Rattle.linda_shared_held.specs.Kept.{kept, TakesAll, TakesOne, TurnsAway, WaitsSame};
+ghost use Rattle.linda_shared_held.specs.Posted.{WentAlone};
 
 use super::serve::serve;
 use linda_bag::IndexBag;
@@ -41,39 +36,11 @@ pub(super) fn serve_each<D: Disk>(
     count: u64,
     messages: &[(u32, Message)],
 ) -> Result<Vec<Option<SharedReceipt>>, SharedFault>
+    ensures takes { TakesAll (kept server.old receipts.old boxes.old) count messages.now result
+        (kept server.new receipts.new boxes.new) }
     ensures done { IfOk result (λ told. WentAlone server.old count (waits_for boxes.old)
         messages.now told.items (waits_for boxes.new) server.new) }
-    ensures receipts { IfOk result (λ told.
-        receipts.new.items ≡ receipts.old.items ++ receipts_in told.items) }
-    ensures one_each { IfOk result (λ told. vec_len told ≡ length messages.now) }
-    ensures countable { IfOk result (λ told. count + length (receipts_in told.items) < 2 ^ 64) }
-    ensures err { OnErr result (receipts.new.items ≡ receipts.old.items) }
-    ensures down { IsErrOf result SharedFault.Down → server.new.down ≡ true }
-    ensures memory { IsErrOf result SharedFault.Memory
-        → (server.new ≡ server.old) × (boxes.new ≡ boxes.old) }
-    ensures fault { IfErr result (λ fault. (fault ≡ SharedFault.Down)
-        ⊎ (fault ≡ SharedFault.Memory)) }
     ensures still { OnOk result (server.new.down ≡ server.old.down) }
-    ensures some { OnErr result (WentSome server.old count messages.now
-        (waits_for boxes.old) (waits_for boxes.new)) }
-    ensures ok_order { (opening base : states.State) (count : ℕ)
-        → IsInOrder opening base receipts.old.items count server.old.down
-        (known server.old.before.value server.old.store server.old.down)
-        → IfOk result (λ told. IsInOrder opening base receipts.new.items
-        (count + length (receipts_in told.items)) server.new.down
-        (known server.new.before.value server.new.store server.new.down)) }
-    ensures err_order { (opening base : states.State) (count : ℕ)
-        → IsInOrder opening base receipts.old.items count server.old.down
-        (known server.old.before.value server.old.store server.old.down)
-        → OnErr result (IsInOrder opening base receipts.new.items count server.new.down
-        (known server.new.before.value server.new.store server.new.down)) }
-    ensures covered { (opening base : states.State) (count : ℕ)
-        → IsInOrder opening base receipts.old.items count server.old.down
-        (known server.old.before.value server.old.store server.old.down)
-        → BoxesCovered (known server.old.before.value server.old.store server.old.down)
-        (waits_for boxes.old)
-        → BoxesCovered (known server.new.before.value server.new.store server.new.down)
-        (waits_for boxes.new) }
 {
     let Ok(mut told) = Vec::with_capacity(alloc, messages.len()) else {
         return Err(SharedFault::Memory);
@@ -104,32 +71,8 @@ fn take_one<D: Disk>(
     count: u64,
     message: &(u32, Message),
 ) -> Result<Option<SharedReceipt>, SharedFault>
-    ensures done { IfOk result (λ one. GoesAlone server.old count message.now
-        (waits_for boxes.old) one (waits_for boxes.new) server.new) }
-    ensures receipts { IfOk result (λ one.
-        receipts.new.items ≡ receipts.old.items ++ receipts_in (one ∷ [])) }
-    ensures countable { IfOk result (λ one. count + length (receipts_in (one ∷ [])) < 2 ^ 64) }
-    ensures still { OnOk result (server.new.down ≡ server.old.down) }
-    ensures err { OnErr result ((receipts.new.items ≡ receipts.old.items) × (server.new.down ≡ true)
-        × ((c : ℕ) → waits_for boxes.new c ≡ waits_for boxes.old c)) }
-    ensures ok_order { (opening base : states.State) (count : ℕ)
-        → IsInOrder opening base receipts.old.items count server.old.down
-        (known server.old.before.value server.old.store server.old.down)
-        → IfOk result (λ one. IsInOrder opening base receipts.new.items
-        (count + length (receipts_in (one ∷ []))) server.new.down
-        (known server.new.before.value server.new.store server.new.down)) }
-    ensures err_order { (opening base : states.State) (count : ℕ)
-        → IsInOrder opening base receipts.old.items count server.old.down
-        (known server.old.before.value server.old.store server.old.down)
-        → OnErr result (IsInOrder opening base receipts.new.items count server.new.down
-        (known server.new.before.value server.new.store server.new.down)) }
-    ensures covered { (opening base : states.State) (count : ℕ)
-        → IsInOrder opening base receipts.old.items count server.old.down
-        (known server.old.before.value server.old.store server.old.down)
-        → BoxesCovered (known server.old.before.value server.old.store server.old.down)
-        (waits_for boxes.old)
-        → BoxesCovered (known server.new.before.value server.new.store server.new.down)
-        (waits_for boxes.new) }
+    ensures { TakesOne (kept server.old receipts.old boxes.old) count message.now result
+        (kept server.new receipts.new boxes.new) }
 {
     if count == u64::MAX && comes_next(server.state(), message.0, &message.1) {
         if server.is_down() {
@@ -195,16 +138,7 @@ fn turn_away<D: Disk>(
     client: u32,
     refusal: Refusal,
 ) -> Result<(), SharedFault>
-    ensures posted { OnOk result ((c : ℕ) → waits_for boxes.new c
-        ≡ with_more (replies_to c ((client, refused refusal) ∷ [])) (waits_for boxes.old c)) }
-    ensures same { OnOk result (server.new ≡ server.old) }
-    ensures err { OnErr result ((c : ℕ) → waits_for boxes.new c ≡ waits_for boxes.old c) }
-    ensures down { OnErr result (server.new.down ≡ true) }
-    ensures known { (known server.new.before.value server.new.store server.new.down
-        ≡ known server.old.before.value server.old.store server.old.down)
-        × (server.new.down ≡ false → server.old.down ≡ false) }
-    ensures covered { (st : states.State) → BoxesCovered st (waits_for boxes.old)
-        → BoxesCovered st (waits_for boxes.new) }
+    ensures { TurnsAway server.old boxes.old client refusal result server.new boxes.new }
 {
     match post_one(boxes, alloc, client, refusal.reply()) {
         Ok(()) => Ok(()),
@@ -224,7 +158,7 @@ fn post_one(
 ) -> Result<(), AllocError>
     ensures posted { OnOk result ((c : ℕ) → waits_for boxes.new c
         ≡ with_more (replies_to c ((client, reply) ∷ [])) (waits_for boxes.old c)) }
-    ensures err { OnErr result ((c : ℕ) → waits_for boxes.new c ≡ waits_for boxes.old c) }
+    ensures err { OnErr result (WaitsSame boxes.old boxes.new) }
 {
     let mut sends = Vec::with_capacity(alloc, 1)?;
     sends.push_reserved((client, reply));

@@ -1,21 +1,20 @@
 //! What is always so, and the base, which a snapshot moves.
 
-ghost use Rattle.std.specs.Prelude.{◌≡◌, ◌+◌, ◌||◌, ◌⊎◌, nat_le, [], false, true, OnOk, IfErr};
-ghost use Rattle.std.specs.Prelude.{OnErr, IsErrOf};
+ghost use Rattle.std.specs.Prelude.{◌≡◌, ◌+◌, ◌||◌, ◌⊎◌, nat_le, [], false, true, OnOk};
+ghost use Rattle.std.specs.Prelude.{OnErr};
 ghost use Rattle.linda_store_step.specs.Store.{IsOrderly};
 ghost use Rattle.linda_server.specs.declared.limits.TheConstants.{SNAPSHOT_RECORDS};
 ghost use Rattle.linda_server.specs.Disks.{is_old};
-ghost use Rattle.linda_server.specs.Handled.{HasNoNextBank};
 ghost use Rattle.linda_server.specs.Pairs.{PairsNow};
 ghost use Rattle.linda_server.specs.Server.{both_of, form_in_use, end_in_use, records_in_use};
 ghost use Rattle.linda_server.specs.Server.{BothHonest, StandNow};
-ghost use Rattle.linda_server.specs.Switch.{IsSwitched};
 ghost use Rattle.linda_shared_held.specs.Order.{known, IsReplayed, CountsDeeds, StandsBehind};
 ghost use Rattle.linda_shared_outbox.specs.Waiting.{waits_for};
 ghost use Rattle.linda_shared_accounts.specs.Accounts.{AreShortened};
 ghost use Rattle.linda_shared_held.specs.Pace.{is_due, pace_from, put_off_at, tried_at};
 ghost use Rattle.linda_store_state.specs.Numbers.{kept_sum};
 ghost use Rattle.linda_shared_held.specs.Covered.{BoxesCovered};
+ghost use Rattle.linda_shared_held.specs.Snapshot.{TakesSnapshot};
 
 use super::Held;
 use super::recall::begin_anew;
@@ -121,20 +120,7 @@ impl<D: Disk, L: Ledger> Held<D, L> {
             × (self.new.receipts.items ≡ [])) }
         ensures kept { OnErr result ((self.new.base.value ≡ self.old.base.value)
             × (self.new.receipts.items ≡ self.old.receipts.items)) }
-        ensures store { self.new.server.store ≡ self.old.server.store }
-        // At Ok the other disk holds the bank in use, of the next generation and without a record.
-        ensures switched { OnOk result (IsSwitched self.old.server.disks self.new.server.disks) }
-        // It is Full exactly where there is no next bank for the state, and Down exactly where the
-        // server is, and that before all else.
-        ensures full { IsErrOf result SharedFault.Full
-            → (self.new.server ≡ self.old.server) × HasNoNextBank self.old.server }
-        ensures room { OnOk result (HasNoNextBank self.old.server → ⊥) }
-        ensures up { OnOk result ((self.old.server.down ≡ false) × (self.new.server.down ≡ false)) }
-        ensures down { IsErrOf result SharedFault.Down → self.new.server.down ≡ true }
-        ensures first { self.old.server.down ≡ true
-            → IsErrOf result SharedFault.Down × (self.new.server ≡ self.old.server) }
-        ensures fault { IfErr result (λ fault. (fault ≡ SharedFault.Full)
-            ⊎ (fault ≡ SharedFault.Down)) }
+        ensures takes { TakesSnapshot self.old.server result self.new.server }
         ensures same { (self.new.opening.value ≡ self.old.opening.value)
             × (self.new.count ≡ self.old.count)
             × (self.new.boxes ≡ self.old.boxes) × (self.new.server.limit ≡ self.old.server.limit) }
@@ -168,22 +154,7 @@ impl<D: Disk, L: Ledger> Held<D, L> {
 
 // Takes a snapshot. What is known of a server that did not is as before.
 fn take_snapshot<D: Disk>(server: &mut Durable<D>, alloc: Global) -> Result<(), SharedFault>
-    ensures up { OnOk result ((server.old.down ≡ false) × (server.new.down ≡ false)) }
-    ensures store { server.new.store ≡ server.old.store }
-    ensures switched { OnOk result (IsSwitched server.old.disks server.new.disks) }
-    ensures full { IsErrOf result SharedFault.Full
-        → (server.new ≡ server.old) × HasNoNextBank server.old }
-    ensures room { OnOk result (HasNoNextBank server.old → ⊥) }
-    ensures first { server.old.down ≡ true
-        → IsErrOf result SharedFault.Down × (server.new ≡ server.old) }
-    ensures fault { IfErr result (λ fault. (fault ≡ SharedFault.Full)
-        ⊎ (fault ≡ SharedFault.Down)) }
-    ensures limit { server.new.limit ≡ server.old.limit }
-    ensures down { IsErrOf result SharedFault.Down → server.new.down ≡ true }
-    ensures known { OnErr result
-        ((known server.new.before.value server.new.store server.new.down
-        ≡ known server.old.before.value server.old.store server.old.down)
-        × (server.new.down ≡ false → server.old.down ≡ false)) }
+    ensures { TakesSnapshot server.old result server.new }
 {
     match server.snapshot(alloc) {
         Ok(()) => Ok(()),

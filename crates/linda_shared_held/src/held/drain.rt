@@ -1,10 +1,10 @@
 //! Draining: what waits in the outboxes is handed out.
 
-ghost use Rattle.std.specs.Prelude.{◌≡◌, ◌≢◌, ℕ, [], Some, IfSome, IfNone};
+ghost use Rattle.std.specs.Prelude.{◌≡◌, ◌≢◌, ℕ};
 ghost use Rattle.linda_shared_outbox.specs.Waiting.{waits_for};
 ghost use Rattle.linda_shared_outbox.specs.Replies.{handed_out, emptied};
-ghost use Rattle.linda_store_state.specs.State.{State};
-ghost use Rattle.linda_shared_held.specs.Covered.{BoxesCovered};
+ghost use Rattle.linda_shared_held.specs.Draining.{HandsOutNext};
+ghost use Rattle.linda_shared_held.specs.Kept.{KeepCovered};
 
 use super::Held;
 use linda_disk::Disk;
@@ -34,15 +34,7 @@ impl<D: Disk, L: Ledger> Held<D, L> {
     /// anybody. Its outbox is empty then, and nothing else changes. Looks at those alone that
     /// something was posted to.
     pub fn drain_next(&mut self, alloc: Global) -> Option<Sent>
-        ensures out { IfSome result (λ next.
-            waits_for self.old.boxes next.client ≡ Some next.replies.items) }
-        ensures some { IfSome result (λ next. next.replies.items ≢ []) }
-        ensures empty { IfSome result (λ next. waits_for self.new.boxes next.client ≡ Some []) }
-        ensures others { IfSome result (λ next. (c : ℕ) → c ≢ next.client
-            → waits_for self.new.boxes c ≡ waits_for self.old.boxes c) }
-        ensures none { IfNone result ((c : ℕ) → handed_out (waits_for self.old.boxes c) ≡ []) }
-        ensures none_changes { IfNone result ((c : ℕ)
-            → waits_for self.new.boxes c ≡ waits_for self.old.boxes c) }
+        ensures next { HandsOutNext self.old.boxes result self.new.boxes }
         ensures same { (self.new.opening.value ≡ self.old.opening.value)
             × (self.new.base.value ≡ self.old.base.value)
             × (self.new.receipts.items ≡ self.old.receipts.items)
@@ -55,16 +47,8 @@ impl<D: Disk, L: Ledger> Held<D, L> {
 
 // What waits for some client. What is left is covered as before.
 fn drain_some(boxes: &mut Outboxes, alloc: Global) -> Option<Sent>
-    ensures out { IfSome result (λ next.
-        waits_for boxes.old next.client ≡ Some next.replies.items) }
-    ensures some { IfSome result (λ next. next.replies.items ≢ []) }
-    ensures empty { IfSome result (λ next. waits_for boxes.new next.client ≡ Some []) }
-    ensures others { IfSome result (λ next. (c : ℕ) → c ≢ next.client
-        → waits_for boxes.new c ≡ waits_for boxes.old c) }
-    ensures none { IfNone result ((c : ℕ) → handed_out (waits_for boxes.old c) ≡ []) }
-    ensures none_changes { IfNone result ((c : ℕ) → waits_for boxes.new c ≡ waits_for boxes.old c) }
-    ensures covered { (st : State) → BoxesCovered st (waits_for boxes.old)
-        → BoxesCovered st (waits_for boxes.new) }
+    ensures next { HandsOutNext boxes.old result boxes.new }
+    ensures covered { KeepCovered boxes.old boxes.new }
 {
     match boxes.drain_next(alloc) {
         Some(next) => Some(next),

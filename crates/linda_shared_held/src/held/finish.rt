@@ -1,11 +1,8 @@
 //! The end: all seats are back, and what they were told is what was stored.
 
-ghost use Rattle.std.specs.Prelude.{◌≡◌, ◌+◌, ◌<◌, ◌⊎◌, ℕ, true, false, All, OnOk, IfOk, IfErr};
-ghost use Rattle.std.specs.Prelude.{IsErrOf};
-ghost use Rattle.std.specs.FinMap as map;
-ghost use Rattle.linda_shared_accounts.specs.Accounts.{deeds_back, seats_out, receipts_at};
-ghost use Rattle.linda_shared_accounts.specs.Compare.{IsToldSo, LastIsKept, Names};
+ghost use Rattle.std.specs.Prelude.{◌≡◌};
 ghost use Rattle.linda_shared_held.specs.Parked.{AreBack};
+ghost use Rattle.linda_shared_held.specs.Reporting.{Reports};
 
 use super::Held;
 use super::leave::put_back_for_good;
@@ -33,30 +30,10 @@ impl<D: Disk, L: Ledger> Held<D, L> {
     /// `Down` exactly where the server is down, then `SeatMissing` exactly where a seat is out,
     /// then `Receipt` where that one differs. The given seats stay parked.
     pub fn finish(&mut self, given: Vec<Account<L>>) -> Result<Report, SharedFault>
-        ensures deeds { IfOk result (λ r. (r.deeds ≡ deeds_back self.new.accounts.places)
-            × (r.deeds ≡ self.old.count)) }
-        ensures back { OnOk result (seats_out self.new.accounts.places ≡ 0) }
-        ensures ids { IfOk result (λ r. r.ids + 1 ≡ self.old.server.store.state.next) }
-        ensures told { OnOk result (All (IsToldSo self.new.accounts.places)
-            self.old.receipts.items) }
-        ensures kept { OnOk result ((c : ℕ)
-            → LastIsKept self.old.server.store.state
-            (receipts_at (map.get self.new.accounts.places c))) }
+        ensures reports { Reports self.old.server self.old.count self.old.receipts.items result
+            self.new.accounts.places }
         // Whatever it reports, the given seats are back for good.
         ensures parked { AreBack self.old.accounts given.items self.new.accounts }
-        // It is down exactly where the server is, and that before all else; then a seat is missing
-        // exactly where one is out.
-        ensures up { OnOk result (self.old.server.down ≡ false) }
-        ensures down { IsErrOf result SharedFault.Down → self.old.server.down ≡ true }
-        ensures first { self.old.server.down ≡ true → IsErrOf result SharedFault.Down }
-        ensures missing { IsErrOf result SharedFault.SeatMissing
-            → 0 < seats_out self.new.accounts.places }
-        ensures out { self.old.server.down ≡ false → 0 < seats_out self.new.accounts.places
-            → IsErrOf result SharedFault.SeatMissing }
-        ensures fault { IfErr result (λ fault. (fault ≡ SharedFault.Down)
-            ⊎ ((fault ≡ SharedFault.SeatMissing)
-            ⊎ Names self.new.accounts.places self.old.server.store.state
-            self.old.receipts.items fault)) }
         ensures same { (self.new.opening.value ≡ self.old.opening.value)
             × (self.new.base.value ≡ self.old.base.value)
             × (self.new.receipts.items ≡ self.old.receipts.items)

@@ -1,7 +1,7 @@
 //! Giving up: the server goes down in the state that it has.
 
 ghost use Rattle.std.specs.Prelude.{◌≡◌, true};
-ghost use Rattle.linda_shared_held.specs.Order.{known};
+ghost use Rattle.linda_shared_held.specs.Kept.{IsKnownStill};
 
 use super::Held;
 use linda_disk::Disk;
@@ -32,8 +32,7 @@ fn fall<D: Disk>(server: &mut Durable<D>)
     ensures down { server.new.down ≡ true }
     ensures store { server.new.store ≡ server.old.store }
     ensures disks { (server.new.disks ≡ server.old.disks) × (server.new.limit ≡ server.old.limit) }
-    ensures known { known server.new.before.value server.new.store server.new.down
-        ≡ known server.old.before.value server.old.store server.old.down }
+    ensures still { IsKnownStill server.old server.new }
 {
     server.give_up();
 }

@@ -5,18 +5,16 @@ ghost use Rattle.std.specs.Prelude.{vec_len};
 ghost use Rattle.std.specs.Prelude.{IfOk, IfErr, OnOk, OnErr, IsErrOf, IfSome, IfNone};
 ghost use Rattle.std.specs.FinMap as map;
 ghost use Rattle.linda_wire.specs.declared.reply.Reply as wire;
-ghost use Rattle.linda_store_state.specs.State as states;
 ghost use Rattle.linda_store_step.specs.Answer.{greeting};
 ghost use Rattle.linda_shared_outbox.specs.Waiting.{waits_for};
 ghost use Rattle.linda_shared_outbox.specs.Replies.{opened};
 ghost use Rattle.linda_shared_accounts.specs.declared.limits.TheConstants.{ACCOUNT_PARTS, PARTS};
-ghost use Rattle.linda_shared_accounts.specs.declared.place.Place.TheVariants as places;
-ghost use Rattle.linda_shared_accounts.specs.Accounts.{is_away, account_at, seats_out, accounts_of};
-ghost use Rattle.linda_shared_held.specs.Order.{known};
+ghost use Rattle.linda_shared_accounts.specs.Accounts.{is_away, account_at, seats_out};
 ghost use Rattle.linda_shared_held.specs.Greeting as spec;
 ghost use Rattle.linda_shared_held.specs.Greeting.{IsGreeted, IsAdmitted, IsGreetingReply};
 ghost use Rattle.linda_shared_held.specs.Greeting.{OnNoSeat};
-ghost use Rattle.linda_shared_held.specs.Covered.{BoxesCovered};
+ghost use Rattle.linda_shared_held.specs.Kept.{KeepCovered};
+ghost use Rattle.linda_shared_held.specs.Seating.{Admits, Greets, GoesOut, IsAsked, NoneGoesOut};
 
 use super::Held;
 use linda_disk::Disk;
@@ -50,34 +48,14 @@ impl<D: Disk, L: Ledger> Held<D, L> {
     ) -> Result<Result<(Account<L>, u64), (u8, u64)>, SharedFault>
         ensures greeted { IfOk result
             (IsGreeted self.old.server.store.state self.old.accounts.places message.now) }
-        ensures server { OnOk result ((self.new.server.store.state ≡ self.old.server.store.state)
-            × (self.new.server.store.soft ≡ self.old.server.store.soft)
-            × (self.new.server.disks ≡ self.old.server.disks)) }
         // Whoever is welcome has its seat, which is out, and an outbox;
-        ensures out { IfOk result (λ answer. IfOk answer (λ got. self.new.accounts
-            ≡ accounts_of self.old.accounts.total
-            (map.insert self.old.accounts.places got.0.client places.Out))) }
-        ensures opened { IfOk result (λ answer.
-            IfOk answer (λ got. waits_for self.new.boxes got.0.client
-            ≡ opened (waits_for self.old.boxes got.0.client))) }
-        ensures others { IfOk result (λ answer. IfOk answer (λ got. (c : ℕ) → c ≢ got.0.client
-            → waits_for self.new.boxes c ≡ waits_for self.old.boxes c)) }
-        // It is down exactly where the server is, and that before all else.
-        ensures up { OnOk result ((self.old.server.down ≡ false) × (self.new.server.down ≡ false)) }
-        ensures down { IsErrOf result SharedFault.Down → self.new.server.down ≡ true }
-        ensures first { self.old.server.down ≡ true
-            → IsErrOf result SharedFault.Down × (self.new.server ≡ self.old.server) }
-        ensures fault { IfErr result (λ fault. (fault ≡ SharedFault.Down)
-            ⊎ (fault ≡ SharedFault.Memory)) }
-        // Where it gives no seat none is out but those of before, and what waits is as it was;
-        ensures none { OnNoSeat result ((self.new.accounts ≡ self.old.accounts)
-            × ((c : ℕ) → waits_for self.new.boxes c ≡ waits_for self.old.boxes c)) }
-        // where memory ran out the server did not change, so a second greeting is answered as this
-        // one was to be.
-        ensures memory { IsErrOf result SharedFault.Memory → (self.new.server.down ≡ false)
-            × (self.new.server.store.state ≡ self.old.server.store.state)
-            × (self.new.server.store.soft ≡ self.old.server.store.soft)
-            × (self.new.server.disks ≡ self.old.server.disks) }
+        ensures out { IfOk result (λ answer. IfOk answer (λ got.
+            GoesOut self.old.accounts self.old.boxes got.0.client self.new.accounts
+            self.new.boxes)) }
+        // where it gives no seat none is out but those of before, and what waits is as it was.
+        ensures none { OnNoSeat result (NoneGoesOut self.old.accounts self.old.boxes
+            self.new.accounts self.new.boxes) }
+        ensures greets { Greets self.old.server result self.new.server }
         ensures same { (self.new.opening.value ≡ self.old.opening.value)
             × (self.new.base.value ≡ self.old.base.value)
             × (self.new.receipts.items ≡ self.old.receipts.items)
@@ -132,32 +110,13 @@ fn admit<D: Disk, L: Ledger>(
     requires { is_away (map.get accounts.old.places client) ≡ false }
     ensures admitted { IfOk result
         (IsAdmitted server.old.store.state accounts.old.places client fresh) }
-    ensures out { IfOk result (λ answer. IfOk answer (λ got. accounts.new
-        ≡ accounts_of accounts.old.total
-        (map.insert accounts.old.places got.0.client places.Out))) }
-    ensures opened { IfOk result (λ answer. IfOk answer (λ got. waits_for boxes.new got.0.client
-        ≡ opened (waits_for boxes.old got.0.client))) }
-    ensures others { IfOk result (λ answer. IfOk answer (λ got. (c : ℕ) → c ≢ got.0.client
-        → waits_for boxes.new c ≡ waits_for boxes.old c)) }
-    ensures up { OnOk result (server.new.down ≡ false) }
-    ensures down { IsErrOf result SharedFault.Down → server.new.down ≡ true }
-    ensures fault { IfErr result (λ fault. (fault ≡ SharedFault.Down)
-        ⊎ (fault ≡ SharedFault.Memory)) }
+    ensures out { IfOk result (λ answer. IfOk answer (λ got.
+        GoesOut accounts.old boxes.old got.0.client accounts.new boxes.new)) }
+    ensures none { OnNoSeat result
+        (NoneGoesOut accounts.old boxes.old accounts.new boxes.new) }
+    ensures admits { Admits server.old result server.new }
     ensures total { accounts.new.total ≡ accounts.old.total }
-    ensures server { OnOk result ((server.new.store.state ≡ server.old.store.state)
-        × (server.new.store.soft ≡ server.old.store.soft) × (server.new.disks ≡ server.old.disks)) }
-    ensures limit { server.new.limit ≡ server.old.limit }
-    ensures none { OnNoSeat result ((accounts.new ≡ accounts.old)
-        × ((c : ℕ) → waits_for boxes.new c ≡ waits_for boxes.old c)) }
-    ensures memory { IsErrOf result SharedFault.Memory → (server.new.down ≡ false)
-        × (server.new.store.state ≡ server.old.store.state)
-        × (server.new.store.soft ≡ server.old.store.soft)
-        × (server.new.disks ≡ server.old.disks) }
-    ensures known { (known server.new.before.value server.new.store server.new.down
-        ≡ known server.old.before.value server.old.store server.old.down)
-        × (server.new.down ≡ false → server.old.down ≡ false) }
-    ensures covered { (st : states.State) → BoxesCovered st (waits_for boxes.old)
-        → BoxesCovered st (waits_for boxes.new) }
+    ensures covered { KeepCovered boxes.old boxes.new }
 {
     match hello(server, alloc, client, fresh)? {
         Err(why) => Ok(Err(why)),
@@ -179,22 +138,16 @@ fn seat<L: Ledger>(
     requires { is_away (map.get accounts.old.places client) ≡ false }
     ensures account { IfOk result (λ found. IfSome found (λ a.
         a ≡ account_at client (map.get accounts.old.places client))) }
-    ensures out { IfOk result (λ found. IfSome found (λ a. accounts.new
-        ≡ accounts_of accounts.old.total (map.insert accounts.old.places a.client places.Out))) }
-    ensures opened { IfOk result (λ found. IfSome found (λ a. waits_for boxes.new a.client
-        ≡ opened (waits_for boxes.old a.client))) }
-    ensures others { IfOk result (λ found. IfSome found (λ a. (c : ℕ) → c ≢ a.client
-        → waits_for boxes.new c ≡ waits_for boxes.old c)) }
+    ensures out { IfOk result (λ found. IfSome found (λ a.
+        GoesOut accounts.old boxes.old a.client accounts.new boxes.new)) }
     ensures only_memory { IfErr result (λ fault. fault ≡ SharedFault.Memory) }
     ensures none { IfOk result (λ found.
         IfNone found (PARTS < ACCOUNT_PARTS * (seats_out accounts.old.places + 1))) }
-    ensures no_seat { IfOk result (λ found. IfNone found ((accounts.new ≡ accounts.old)
-        × ((c : ℕ) → waits_for boxes.new c ≡ waits_for boxes.old c))) }
-    ensures err { OnErr result ((accounts.new ≡ accounts.old)
-        × ((c : ℕ) → waits_for boxes.new c ≡ waits_for boxes.old c)) }
+    ensures no_seat { IfOk result (λ found. IfNone found
+        (NoneGoesOut accounts.old boxes.old accounts.new boxes.new)) }
+    ensures err { OnErr result (NoneGoesOut accounts.old boxes.old accounts.new boxes.new) }
     ensures total { accounts.new.total ≡ accounts.old.total }
-    ensures covered { (st : states.State) → BoxesCovered st (waits_for boxes.old)
-        → BoxesCovered st (waits_for boxes.new) }
+    ensures covered { KeepCovered boxes.old boxes.new }
 {
     let had_one = boxes.has(client);
     if !open(boxes, alloc, client) {
@@ -218,8 +171,7 @@ fn open(boxes: &mut Outboxes, alloc: Global, client: u32) -> bool
     ensures at { result ≡ true → waits_for boxes.new client ≡ opened (waits_for boxes.old client) }
     ensures others { (c : ℕ) → c ≢ client → waits_for boxes.new c ≡ waits_for boxes.old c }
     ensures err { result ≡ false → (c : ℕ) → waits_for boxes.new c ≡ waits_for boxes.old c }
-    ensures covered { (st : states.State) → BoxesCovered st (waits_for boxes.old)
-        → BoxesCovered st (waits_for boxes.new) }
+    ensures covered { KeepCovered boxes.old boxes.new }
 {
     match boxes.open(alloc, client) {
         Ok(()) => true,
@@ -232,8 +184,7 @@ fn take_back(boxes: &mut Outboxes, client: u32, had_one: bool)
     ensures kept { had_one ≡ true → waits_for boxes.new client ≡ waits_for boxes.old client }
     ensures shut { had_one ≡ false → waits_for boxes.new client ≡ None }
     ensures others { (c : ℕ) → c ≢ client → waits_for boxes.new c ≡ waits_for boxes.old c }
-    ensures covered { (st : states.State) → BoxesCovered st (waits_for boxes.old)
-        → BoxesCovered st (waits_for boxes.new) }
+    ensures covered { KeepCovered boxes.old boxes.new }
 {
     if !had_one {
         boxes.shut(client);
@@ -252,16 +203,7 @@ fn hello<D: Disk>(
         greeting server.old.store.state client VERSION fresh ≡ Reply.Welcome last)) }
     ensures refused { IfOk result (λ answer. IfErr answer (λ why.
         greeting server.old.store.state client VERSION fresh ≡ Reply.Refused why.0 why.1)) }
-    ensures server { OnOk result ((server.new.down ≡ false)
-        × (server.new.store.state ≡ server.old.store.state)
-        × (server.new.store.soft ≡ server.old.store.soft)
-        × (server.new.disks ≡ server.old.disks)) }
-    ensures limit { server.new.limit ≡ server.old.limit }
-    ensures only_down { IfErr result (λ fault. fault ≡ SharedFault.Down) }
-    ensures down { IsErrOf result SharedFault.Down → server.new.down ≡ true }
-    ensures known { (known server.new.before.value server.new.store server.new.down
-        ≡ known server.old.before.value server.old.store server.old.down)
-        × (server.new.down ≡ false → server.old.down ≡ false) }
+    ensures asked { IsAsked server.old result server.new }
 {
     match ask(server, alloc, client, fresh)? {
         Reply::Welcome { last } => Ok(Ok(last)),
@@ -284,16 +226,7 @@ fn ask<D: Disk>(
 ) -> Result<Reply, SharedFault>
     ensures reply { IfOk result (λ r. r ≡ greeting server.old.store.state client VERSION fresh) }
     ensures kind { IfOk result IsGreetingReply }
-    ensures server { OnOk result ((server.new.down ≡ false)
-        × (server.new.store.state ≡ server.old.store.state)
-        × (server.new.store.soft ≡ server.old.store.soft)
-        × (server.new.disks ≡ server.old.disks)) }
-    ensures limit { server.new.limit ≡ server.old.limit }
-    ensures only_down { IfErr result (λ fault. fault ≡ SharedFault.Down) }
-    ensures down { IsErrOf result SharedFault.Down → server.new.down ≡ true }
-    ensures known { (known server.new.before.value server.new.store server.new.down
-        ≡ known server.old.before.value server.old.store server.old.down)
-        × (server.new.down ≡ false → server.old.down ≡ false) }
+    ensures asked { IsAsked server.old result server.new }
 {
     let _ = server.is_down();
     let message = Message::Hello {

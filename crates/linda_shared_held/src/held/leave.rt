@@ -1,16 +1,8 @@
 //! A session ends: what its client asked is given up, and its seat is parked.
 
-ghost use Rattle.std.specs.Prelude.{◌≡◌, ◌≢◌, ℕ, false, true, None, IfOk, IfErr, OnOk, OnErr};
-ghost use Rattle.std.specs.Prelude.{IsErrOf};
-ghost use Rattle.linda_store_step.specs.Dispatch.{on_close};
-ghost use Rattle.linda_shared_outbox.specs.Waiting.{waits_for};
-ghost use Rattle.linda_shared_accounts.specs.Accounts.{accounts_of, with_place, place_for};
-ghost use Rattle.linda_shared_accounts.specs.Accounts.{ComesBack};
-ghost use Rattle.linda_shared_held.specs.Order.{known};
-ghost use Rattle.linda_shared_held.specs.Parked.{IsParked};
-ghost use Rattle.linda_shared_held.specs.Posted.{HasClosed, HasLeft};
-ghost use Rattle.linda_shared_held.specs.Covered.{BoxesCovered};
-ghost use Rattle.linda_store_state.specs.State.{State};
+ghost use Rattle.std.specs.Prelude.{◌≡◌};
+ghost use Rattle.linda_shared_held.specs.Closing.{Closes, ClosesAndPosts, Departs};
+ghost use Rattle.linda_shared_held.specs.Parked.{ComesToPark, IsBack};
 
 use super::Held;
 use super::recall::{Recall, put_back};
@@ -30,19 +22,8 @@ impl<D: Disk, L: Ledger> Held<D, L> {
     ///
     /// `Down` exactly where the server is down: one that was down is as before.
     pub fn close(&mut self, alloc: Global, client: u32) -> Result<(), SharedFault>
-        ensures done { OnOk result
-            (HasClosed self.old.server.store.state.bag client self.old.server.store.soft
-            (waits_for self.old.boxes) (waits_for self.new.boxes) self.new.server.store.soft) }
-        ensures state { OnOk result (self.new.server.store.state ≡ self.old.server.store.state) }
-        ensures up { OnOk result ((self.old.server.down ≡ false) × (self.new.server.down ≡ false)) }
-        ensures down { OnErr result (self.new.server.down ≡ true) }
-        ensures first { self.old.server.down ≡ true
-            → IsErrOf result SharedFault.Down × (self.new.server ≡ self.old.server) }
-        ensures fault { IfErr result (λ fault. fault ≡ SharedFault.Down) }
-        ensures err { OnErr result ((c : ℕ)
-            → waits_for self.new.boxes c ≡ waits_for self.old.boxes c) }
-        ensures disks { (self.new.server.disks ≡ self.old.server.disks)
-            × (self.new.server.limit ≡ self.old.server.limit) }
+        ensures closes { ClosesAndPosts self.old.server self.old.boxes client result
+            self.new.server self.new.boxes }
         ensures same { (self.new.opening.value ≡ self.old.opening.value)
             × (self.new.base.value ≡ self.old.base.value)
             × (self.new.receipts.items ≡ self.old.receipts.items)
@@ -56,10 +37,7 @@ impl<D: Disk, L: Ledger> Held<D, L> {
     /// The client's seat comes back, for its next session: with the receipts that are younger than
     /// the base, and its last one.
     pub fn park(&mut self, account: Account<L>)
-        ensures parked { ComesBack self.old.accounts.places account
-            → IsParked self.old.accounts account self.new.accounts }
-        ensures lost { (ComesBack self.old.accounts.places account → ⊥)
-            → self.new.accounts ≡ self.old.accounts }
+        ensures back { ComesToPark self.old.accounts account self.new.accounts }
         ensures same { (self.new.opening.value ≡ self.old.opening.value)
             × (self.new.base.value ≡ self.old.base.value)
             × (self.new.receipts.items ≡ self.old.receipts.items)
@@ -72,11 +50,7 @@ impl<D: Disk, L: Ledger> Held<D, L> {
 
     /// The client's seat comes back for good: it goes out no more. Takes no memory.
     pub fn park_for_good(&mut self, account: Account<L>)
-        ensures parked { ComesBack self.old.accounts.places account → self.new.accounts
-            ≡ accounts_of self.old.accounts.total
-            (with_place self.old.accounts.places account.client (place_for account true)) }
-        ensures lost { (ComesBack self.old.accounts.places account → ⊥)
-            → self.new.accounts ≡ self.old.accounts }
+        ensures back { IsBack self.old.accounts account self.new.accounts }
         ensures same { (self.new.opening.value ≡ self.old.opening.value)
             × (self.new.base.value ≡ self.old.base.value)
             × (self.new.receipts.items ≡ self.old.receipts.items)
@@ -94,29 +68,10 @@ impl<D: Disk, L: Ledger> Held<D, L> {
     ///
     /// `Down` exactly where the server is down: one that was down is as before.
     pub fn leave(&mut self, alloc: Global, account: Account<L>) -> Result<(), SharedFault>
-        ensures done { OnOk result (HasLeft self.old.server.store.state.bag account.client
-            self.old.server.store.soft (waits_for self.old.boxes) (waits_for self.new.boxes)
-            self.new.server.store.soft) }
-        ensures soft { OnOk result (self.new.server.store.soft
-            ≡ (on_close self.old.server.store.state.bag account.client
-            self.old.server.store.soft).soft) }
-        ensures state { OnOk result (self.new.server.store.state ≡ self.old.server.store.state) }
-        ensures up { OnOk result ((self.old.server.down ≡ false) × (self.new.server.down ≡ false)) }
-        ensures down { OnErr result (self.new.server.down ≡ true) }
-        ensures first { self.old.server.down ≡ true
-            → IsErrOf result SharedFault.Down × (self.new.server ≡ self.old.server) }
-        ensures fault { IfErr result (λ fault. fault ≡ SharedFault.Down) }
-        // Whatever it reports, its seat is back, and it has no outbox; what waits for the others is
-        // as it was, with what is sent to them now.
-        ensures parked { ComesBack self.old.accounts.places account
-            → IsParked self.old.accounts account self.new.accounts }
-        ensures lost { (ComesBack self.old.accounts.places account → ⊥)
-            → self.new.accounts ≡ self.old.accounts }
-        ensures shut { waits_for self.new.boxes account.client ≡ None }
-        ensures err { OnErr result ((c : ℕ) → c ≢ account.client
-            → waits_for self.new.boxes c ≡ waits_for self.old.boxes c) }
-        ensures disks { (self.new.server.disks ≡ self.old.server.disks)
-            × (self.new.server.limit ≡ self.old.server.limit) }
+        ensures departs { Departs self.old.server self.old.boxes account.client result
+            self.new.server self.new.boxes }
+        // Whatever it reports, its seat is back.
+        ensures back { ComesToPark self.old.accounts account self.new.accounts }
         ensures same { (self.new.opening.value ≡ self.old.opening.value)
             × (self.new.base.value ≡ self.old.base.value)
             × (self.new.receipts.items ≡ self.old.receipts.items)
@@ -143,30 +98,9 @@ fn depart<D: Disk, L: Ledger>(
     alloc: Global,
     account: Account<L>,
 ) -> Result<(), SharedFault>
-    ensures done { OnOk result
-        (HasLeft server.old.store.state.bag account.client server.old.store.soft
-        (waits_for boxes.old) (waits_for boxes.new) server.new.store.soft) }
-    ensures soft { OnOk result (server.new.store.soft
-        ≡ (on_close server.old.store.state.bag account.client server.old.store.soft).soft) }
-    ensures state { OnOk result (server.new.store.state ≡ server.old.store.state) }
-    ensures up { OnOk result ((server.old.down ≡ false) × (server.new.down ≡ false)) }
-    ensures down { OnErr result (server.new.down ≡ true) }
-    ensures first { server.old.down ≡ true
-        → IsErrOf result SharedFault.Down × (server.new ≡ server.old) }
-    ensures fault { IfErr result (λ fault. fault ≡ SharedFault.Down) }
-    ensures disks { (server.new.disks ≡ server.old.disks) × (server.new.limit ≡ server.old.limit) }
-    ensures parked { ComesBack accounts.old.places account
-        → IsParked accounts.old account accounts.new }
-    ensures lost { (ComesBack accounts.old.places account → ⊥) → accounts.new ≡ accounts.old }
-    ensures shut { waits_for boxes.new account.client ≡ None }
-    ensures err { OnErr result ((c : ℕ) → c ≢ account.client
-        → waits_for boxes.new c ≡ waits_for boxes.old c) }
+    ensures departs { Departs server.old boxes.old account.client result server.new boxes.new }
+    ensures back { ComesToPark accounts.old account accounts.new }
     ensures total { accounts.new.total ≡ accounts.old.total }
-    ensures known { (known server.new.before.value server.new.store server.new.down
-        ≡ known server.old.before.value server.old.store server.old.down)
-        × (server.new.down ≡ false → server.old.down ≡ false) }
-    ensures covered { (st : State) → BoxesCovered st (waits_for boxes.old)
-        → BoxesCovered st (waits_for boxes.new) }
 {
     let client = account.client();
     let answer = close_and_post(server, boxes, alloc, client);
@@ -177,10 +111,7 @@ fn depart<D: Disk, L: Ledger>(
 
 /// The account comes back to its client's place for good. In all as much was told as before.
 pub(super) fn put_back_for_good<L: Ledger>(accounts: &mut Accounts<L>, account: Account<L>)
-    ensures parked { ComesBack accounts.old.places account → accounts.new
-        ≡ accounts_of accounts.old.total
-        (with_place accounts.old.places account.client (place_for account true)) }
-    ensures lost { (ComesBack accounts.old.places account → ⊥) → accounts.new ≡ accounts.old }
+    ensures back { IsBack accounts.old account accounts.new }
     ensures total { accounts.new.total ≡ accounts.old.total }
 {
     accounts.park(account, true);
@@ -193,22 +124,7 @@ fn close_and_post<D: Disk>(
     alloc: Global,
     client: u32,
 ) -> Result<(), SharedFault>
-    ensures done { OnOk result (HasClosed server.old.store.state.bag client server.old.store.soft
-        (waits_for boxes.old) (waits_for boxes.new) server.new.store.soft) }
-    ensures state { OnOk result (server.new.store.state ≡ server.old.store.state) }
-    ensures up { OnOk result ((server.old.down ≡ false) × (server.new.down ≡ false)) }
-    ensures down { OnErr result (server.new.down ≡ true) }
-    ensures first { server.old.down ≡ true
-        → IsErrOf result SharedFault.Down × (server.new ≡ server.old) }
-    ensures fault { IfErr result (λ fault. fault ≡ SharedFault.Down) }
-    ensures disks { (server.new.disks ≡ server.old.disks) × (server.new.limit ≡ server.old.limit) }
-    ensures err { OnErr result ((c : ℕ) → waits_for boxes.new c ≡ waits_for boxes.old c) }
-    ensures known { (known server.new.before.value server.new.store server.new.down
-        ≡ known server.old.before.value server.old.store server.old.down)
-        × (server.new.down ≡ false → server.old.down ≡ false) }
-    // What is covered stays so, whatever the state: what is sent reports no deed that is not kept.
-    ensures covered { (st : State) → BoxesCovered st (waits_for boxes.old)
-        → BoxesCovered st (waits_for boxes.new) }
+    ensures { ClosesAndPosts server.old boxes.old client result server.new boxes.new }
 {
     let sends = close_client(server, alloc, client)?;
     let Ok(()) = boxes.make_places(&sends) else {
@@ -225,19 +141,7 @@ fn close_client<D: Disk>(
     alloc: Global,
     client: u32,
 ) -> Result<Vec<(u32, Reply)>, SharedFault>
-    ensures done { IfOk result (λ sends.
-        record { sends = sends.items; soft = server.new.store.soft }
-        ≡ on_close server.old.store.state.bag client server.old.store.soft) }
-    ensures state { server.new.store.state ≡ server.old.store.state }
-    ensures up { OnOk result ((server.old.down ≡ false) × (server.new.down ≡ false)) }
-    ensures down { OnErr result (server.new.down ≡ true) }
-    ensures first { server.old.down ≡ true
-        → IsErrOf result SharedFault.Down × (server.new ≡ server.old) }
-    ensures fault { IfErr result (λ fault. fault ≡ SharedFault.Down) }
-    ensures disks { (server.new.disks ≡ server.old.disks) × (server.new.limit ≡ server.old.limit) }
-    ensures known { (known server.new.before.value server.new.store server.new.down
-        ≡ known server.old.before.value server.old.store server.old.down)
-        × (server.new.down ≡ false → server.old.down ≡ false) }
+    ensures { Closes server.old client result server.new }
 {
     match server.close(alloc, client) {
         Ok(sends) => Ok(sends),

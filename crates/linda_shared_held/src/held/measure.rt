@@ -31,7 +31,9 @@ impl<D: Disk, L: Ledger> Held<D, L> {
         Gauge {
             tuples: state.bag.len(),
             holds: server.holds().len(),
+            oldest_hold: server.holds().oldest().unwrap_or(0),
             waits: server.waits().len(),
+            oldest_wait: server.waits().oldest().unwrap_or(0),
             clients: state.book.len(),
             next: state.next,
             deeds: self.count,

@@ -7,8 +7,8 @@
 //! one before keep their last receipt alone.
 
 ghost use Rattle.std.specs.Prelude.{◌≡◌};
-ghost use Rattle.linda_shared_accounts.specs.Accounts.{AreShortened, ComesBack};
-ghost use Rattle.linda_shared_held.specs.Parked.{IsParked};
+ghost use Rattle.linda_shared_accounts.specs.Accounts.{AreShortened};
+ghost use Rattle.linda_shared_held.specs.Parked.{ComesToPark};
 
 use linda_bag::IndexBag;
 use linda_shared_accounts::{Account, Accounts};
@@ -59,9 +59,7 @@ pub(super) fn put_back<L: Ledger>(
     recall: &mut Recall,
     account: Account<L>,
 )
-    ensures parked { ComesBack accounts.old.places account
-        → IsParked accounts.old account accounts.new }
-    ensures lost { (ComesBack accounts.old.places account → ⊥) → accounts.new ≡ accounts.old }
+    ensures back { ComesToPark accounts.old account accounts.new }
     ensures total { accounts.new.total ≡ accounts.old.total }
 {
     let mut account = account;

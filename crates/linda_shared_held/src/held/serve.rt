@@ -1,18 +1,11 @@
 //! Several messages in one step of the server: its deeds get their receipts, and what it sends is
 //! posted.
 
-ghost use Rattle.std.specs.Prelude.{◌≡◌, ◌⊎◌, ◌+◌, ◌<◌, ◌≤◌, ◌++◌, [], false, true, ℕ, length};
-ghost use Rattle.std.specs.Prelude.{vec_len, vec_capacity, IfOk, IfErr, OnOk, OnErr, IsErrOf};
-ghost use Rattle.linda_store_state.specs.State as states;
+ghost use Rattle.std.specs.Prelude.{◌≡◌, ◌⊎◌, ◌+◌, ◌≤◌, ◌++◌, length, vec_len, vec_capacity};
+ghost use Rattle.std.specs.Prelude.{IfErr, OnOk, OnErr};
 ghost use Rattle.linda_store_step.specs.declared.size.TheConstants.{MAX_GROUP};
-ghost use Rattle.linda_server.specs.Served.{IsServed};
-ghost use Rattle.linda_server.specs.Handled.{HasNoRoomFor};
-ghost use Rattle.linda_server.specs.Server.{IsPutOn};
-ghost use Rattle.linda_shared_held.specs.Order.{known, IsInOrder};
 ghost use Rattle.linda_shared_accounts.specs.Telling.{receipts_in};
-ghost use Rattle.linda_shared_held.specs.Posted.{HasPosted};
-ghost use Rattle.linda_shared_held.specs.Covered.{BoxesCovered};
-ghost use Rattle.linda_shared_outbox.specs.Waiting.{waits_for};
+ghost use Rattle.linda_shared_held.specs.Kept.{kept, Attempts, ServesAll};
 
 use linda_disk::Disk;
 use linda_server::{Durable, ServeFault, Served};
@@ -35,60 +28,8 @@ pub(super) fn serve<D: Disk>(
     messages: &[(u32, Message)],
 ) -> Result<Vec<Option<SharedReceipt>>, SharedFault>
     requires few { length messages.now ≤ MAX_GROUP }
-    // At Ok each is told what its answer says, and what is sent is posted;
-    ensures done { IfOk result (λ told.
-        HasPosted server.old.store.state server.old.store.soft messages.now
-        told.items (waits_for boxes.old) (waits_for boxes.new)
-        server.new.store.state server.new.store.soft) }
-    ensures receipts { IfOk result (λ told.
-        receipts.new.items ≡ receipts.old.items ++ receipts_in told.items) }
-    ensures one_each { IfOk result (λ told. vec_len told ≡ length messages.now) }
-    ensures up { OnOk result ((server.old.down ≡ false) × (server.new.down ≡ false)) }
-    // for all deeds together four device calls were made on the bank in use, and where there are
-    // none no disk was touched;
-    ensures idle { IfOk result (λ told. receipts_in told.items ≡ []
-        → server.new.disks ≡ server.old.disks) }
-    ensures clock { IfOk result (λ told. 0 < length (receipts_in told.items)
-        → IsPutOn server.old.disks server.new.disks) }
-    // else nobody is told anything, and nothing is posted; where it is Full nothing changed.
-    ensures err { OnErr result ((receipts.new.items ≡ receipts.old.items)
-        × ((c : ℕ) → waits_for boxes.new c ≡ waits_for boxes.old c)) }
-    ensures full { IsErrOf result SharedFault.Full
-        → (server.new ≡ server.old) × (boxes.new ≡ boxes.old)
-        × HasNoRoomFor server.old messages.now }
-    ensures room { OnOk result (HasNoRoomFor server.old messages.now → ⊥) }
-    ensures down { IsErrOf result SharedFault.Down → server.new.down ≡ true }
-    ensures memory { IsErrOf result SharedFault.Memory
-        → (server.new ≡ server.old) × (boxes.new ≡ boxes.old) }
-    ensures fault { IfErr result (λ fault. (fault ≡ SharedFault.Full)
-        ⊎ ((fault ≡ SharedFault.Down) ⊎ (fault ≡ SharedFault.Memory))) }
-    ensures ok_order { (opening base : states.State) (count : ℕ)
-        → IsInOrder opening base receipts.old.items count server.old.down
-        (known server.old.before.value server.old.store server.old.down)
-        → IfOk result (λ told. IsInOrder opening base receipts.new.items
-        (count + length (receipts_in told.items)) server.new.down
-        (known server.new.before.value server.new.store server.new.down)) }
-    ensures err_order { (opening base : states.State) (count : ℕ)
-        → IsInOrder opening base receipts.old.items count server.old.down
-        (known server.old.before.value server.old.store server.old.down)
-        → OnErr result (IsInOrder opening base receipts.new.items count server.new.down
-        (known server.new.before.value server.new.store server.new.down)) }
-    // What is posted is covered by what is known of the server.
-    ensures ok_covered { (opening base : states.State) (count : ℕ)
-        → IsInOrder opening base receipts.old.items count server.old.down
-        (known server.old.before.value server.old.store server.old.down)
-        → BoxesCovered (known server.old.before.value server.old.store server.old.down)
-        (waits_for boxes.old)
-        → OnOk result (BoxesCovered (known server.new.before.value server.new.store server.new.down)
-        (waits_for boxes.new)) }
-    ensures err_covered { (opening base : states.State) (count : ℕ)
-        → IsInOrder opening base receipts.old.items count server.old.down
-        (known server.old.before.value server.old.store server.old.down)
-        → BoxesCovered (known server.old.before.value server.old.store server.old.down)
-        (waits_for boxes.old)
-        → OnErr result (BoxesCovered
-        (known server.new.before.value server.new.store server.new.down)
-        (waits_for boxes.new)) }
+    ensures { ServesAll (kept server.old receipts.old boxes.old) messages.now result
+        (kept server.new receipts.new boxes.new) }
 {
     let _ = server.is_down();
     make_room(receipts, messages.len())?;
@@ -128,23 +69,7 @@ fn take_all<D: Disk>(
     messages: &[(u32, Message)],
 ) -> Result<Served, SharedFault>
     requires few { length messages.now ≤ MAX_GROUP }
-    ensures done { IfOk result (λ served. IsServed server.old.store.state server.old.store.soft
-        messages.now served server.new.store.state server.new.store.soft) }
-    ensures up { OnOk result ((server.old.down ≡ false) × (server.new.down ≡ false)) }
-    ensures idle { IfOk result (λ served. served.deeds.items ≡ []
-        → server.new.disks ≡ server.old.disks) }
-    ensures clock { IfOk result (λ served. 0 < length served.deeds.items
-        → IsPutOn server.old.disks server.new.disks) }
-    ensures fault { IfErr result (λ fault. (fault ≡ SharedFault.Full)
-        ⊎ (fault ≡ SharedFault.Down)) }
-    ensures full { IsErrOf result SharedFault.Full → (server.new ≡ server.old)
-        × HasNoRoomFor server.old messages.now }
-    ensures room { OnOk result (HasNoRoomFor server.old messages.now → ⊥) }
-    ensures down { IsErrOf result SharedFault.Down → server.new.down ≡ true }
-    ensures known { OnErr result
-        ((known server.new.before.value server.new.store server.new.down
-        ≡ known server.old.before.value server.old.store server.old.down)
-        × (server.new.down ≡ false → server.old.down ≡ false)) }
+    ensures { Attempts server.old messages.now result server.new }
 {
     match server.serve_all(alloc, messages) {
         Ok(served) => Ok(served),

@@ -1,17 +1,10 @@
 //! Messages of several clients: in one step where that may be, else one by one.
 
-ghost use Rattle.std.specs.Prelude.{◌≡◌, ◌⊎◌, true, false, ◌+◌, ◌≤◌, ◌<◌, ◌^◌, ◌++◌, ℕ, length};
-ghost use Rattle.std.specs.Prelude.{vec_len};
-ghost use Rattle.std.specs.Prelude.{IfOk, IfErr, OnOk, OnErr, IsErrOf};
-ghost use Rattle.linda_store_state.specs.State as states;
+ghost use Rattle.std.specs.Prelude.{◌≡◌, true, false, ◌+◌, ◌≤◌, ◌<◌, ◌^◌, length, IfOk};
 ghost use Rattle.linda_store_step.specs.declared.size.TheConstants.{MAX_GROUP};
-ghost use Rattle.linda_server.specs.Handled.{HasNoRoomFor};
 ghost use Rattle.linda_shared_outbox.specs.Waiting.{waits_for};
-ghost use Rattle.linda_shared_held.specs.Order.{known, IsInOrder};
-ghost use Rattle.linda_shared_held.specs.Pace.{refused_for_room};
-ghost use Rattle.linda_shared_accounts.specs.Telling.{receipts_in};
-ghost use Rattle.linda_shared_held.specs.Posted.{WereTaken, WentSome};
-ghost use Rattle.linda_shared_held.specs.Covered.{BoxesCovered};
+ghost use Rattle.linda_shared_held.specs.Kept.{kept, Asks, Fails, TakesAll};
+ghost use Rattle.linda_shared_held.specs.Posted.{WereTaken};
 
 use super::alone::serve_each;
 use super::serve::serve;
@@ -41,50 +34,13 @@ pub(super) fn take<D: Disk>(
     messages: &[(u32, Message)],
 ) -> Result<Vec<Option<SharedReceipt>>, SharedFault>
     requires few { length messages.now ≤ MAX_GROUP }
+    ensures takes { TakesAll (kept server.old receipts.old boxes.old) count messages.now result
+        (kept server.new receipts.new boxes.new) }
     ensures done { IfOk result (λ told. WereTaken server.old count messages.now
         told.items (waits_for boxes.old) (waits_for boxes.new) server.new) }
-    ensures receipts { IfOk result (λ told.
-        receipts.new.items ≡ receipts.old.items ++ receipts_in told.items) }
-    ensures one_each { IfOk result (λ told. vec_len told ≡ length messages.now) }
-    ensures countable { IfOk result (λ told. count + length (receipts_in told.items) < 2 ^ 64) }
-    ensures err { OnErr result (receipts.new.items ≡ receipts.old.items) }
-    ensures up { OnOk result ((server.old.down ≡ false) × (server.new.down ≡ false)) }
-    ensures down { IsErrOf result SharedFault.Down → server.new.down ≡ true }
-    ensures memory { IsErrOf result SharedFault.Memory
-        → (server.new ≡ server.old) × (boxes.new ≡ boxes.old)
-        × (server.old.down ≡ false) }
-    ensures fault { IfErr result (λ fault. (fault ≡ SharedFault.Down)
-        ⊎ (fault ≡ SharedFault.Memory)) }
-    ensures first { server.old.down ≡ true
-        → IsErrOf result SharedFault.Down × (server.new ≡ server.old)
-        × (boxes.new ≡ boxes.old) × (pace.new ≡ pace.old) }
-    ensures some { OnErr result (WentSome server.old count messages.now
-        (waits_for boxes.old) (waits_for boxes.new)) }
-    ensures ok_order { (opening base : states.State) (count : ℕ)
-        → IsInOrder opening base receipts.old.items count server.old.down
-        (known server.old.before.value server.old.store server.old.down)
-        → IfOk result (λ told. IsInOrder opening base receipts.new.items
-        (count + length (receipts_in told.items)) server.new.down
-        (known server.new.before.value server.new.store server.new.down)) }
-    ensures err_order { (opening base : states.State) (count : ℕ)
-        → IsInOrder opening base receipts.old.items count server.old.down
-        (known server.old.before.value server.old.store server.old.down)
-        → OnErr result (IsInOrder opening base receipts.new.items count server.new.down
-        (known server.new.before.value server.new.store server.new.down)) }
-    ensures covered { (opening base : states.State) (count : ℕ)
-        → IsInOrder opening base receipts.old.items count server.old.down
-        (known server.old.before.value server.old.store server.old.down)
-        → BoxesCovered (known server.old.before.value server.old.store server.old.down)
-        (waits_for boxes.old)
-        → BoxesCovered (known server.new.before.value server.new.store server.new.down)
-        (waits_for boxes.new) }
-    // Where the server has no room for all of them a snapshot is asked for; nothing else of the
-    // pace changes.
-    ensures lacks { OnOk result (count + length messages.now < 2 ^ 64
-        → HasNoRoomFor server.old messages.now
-        → pace.new.lacks_room ≡ true) }
-    ensures pace { (pace.new ≡ pace.old) ⊎ (pace.new ≡ refused_for_room pace.old) }
-    ensures unasked { (HasNoRoomFor server.old messages.now → ⊥) → pace.new ≡ pace.old }
+    ensures fails { Fails (kept server.old receipts.old boxes.old) result
+        (kept server.new receipts.new boxes.new) }
+    ensures asks { Asks server.old count messages.now pace.old result pace.new }
 {
     if server.is_down() {
         return Err(SharedFault::Down);

@@ -13,7 +13,11 @@ pub(super) enum Figure {
     Up,
     Tuples,
     Waits,
+    /// Seconds.
+    OldestWait,
     Holds,
+    /// Seconds.
+    OldestHold,
     Clients,
     Connections,
     /// How many connections came.
@@ -50,7 +54,9 @@ impl Figure {
             Figure::Up => u64::from(!gauge.is_down),
             Figure::Tuples => gauge.tuples as u64,
             Figure::Waits => gauge.waits as u64,
+            Figure::OldestWait => gauge.oldest_wait,
             Figure::Holds => gauge.holds as u64,
+            Figure::OldestHold => gauge.oldest_hold,
             Figure::Clients => gauge.clients as u64,
             Figure::Connections => connected(tally),
             Figure::Came => tally.came,

@@ -5,10 +5,12 @@ ghost use Rattle.std.specs.List.{flat_map};
 ghost use Rattle.linda_inspect.specs.Json.{IsPushed};
 ghost use Rattle.linda_serve.specs.Listed.{json_begun, json_client, json_client_page};
 ghost use Rattle.linda_serve.specs.Listed.{json_clients, json_connected, json_counts, json_held};
-ghost use Rattle.linda_serve.specs.Listed.{json_later_client, json_later_row, json_named, json_next};
+ghost use Rattle.linda_serve.specs.Listed.{json_later_client, json_later_row, json_named};
+ghost use Rattle.linda_serve.specs.Listed.{json_next};
 ghost use Rattle.linda_serve.specs.Listed.{json_placed, json_row, json_rows, json_text};
 ghost use Rattle.linda_serve.specs.Listed.{json_clients_to_end, json_holder, json_rows_to_end};
-ghost use Rattle.linda_serve.specs.Listed.{json_ticket};
+ghost use Rattle.linda_serve.specs.Listed.{json_age, json_connection, json_held_for};
+ghost use Rattle.linda_serve.specs.Listed.{json_holding, json_ticket};
 ghost use Rattle.linda_serve.specs.Listed.{json_tuple_page};
 
 use linda_hold::Request;
@@ -123,14 +125,14 @@ fn push_later_row(alloc: Global, out: &mut Vec<u8>, row: &ListedTuple) -> Result
     push_row(alloc, out, row)
 }
 
-// A tuple with its id, its text, and for whom it is held.
+// A tuple with its id, its text, for whom it is held and for how long.
 #[tactic(auto, unfolding(crate::specs::Listed::json_row))]
 fn push_row(alloc: Global, out: &mut Vec<u8>, row: &ListedTuple) -> Result<(), AllocError>
     ensures { OnOk result (IsPushed out.old out.new (json_row row.now)) }
 {
     push_placed(out, row.id, &row.tuple)?;
     push_text(alloc, out, &row.tuple)?;
-    push_held(out, row.held)
+    push_holding(out, row.held, row.held_for)
 }
 
 // A tuple with its id.
@@ -153,18 +155,54 @@ fn push_text(alloc: Global, out: &mut Vec<u8>, tuple: &Tuple) -> Result<(), Allo
     push_json_string(out, text.as_bytes())
 }
 
-// For whom a tuple is held, and the end of its row.
+// For whom a tuple is held and for how long, and the end of its row.
+#[tactic(auto, unfolding(crate::specs::Listed::json_holding))]
+fn push_holding(
+    out: &mut Vec<u8>,
+    held: Option<Request>,
+    seconds: Option<u64>,
+) -> Result<(), AllocError>
+    ensures { OnOk result (IsPushed out.old out.new (json_holding held seconds)) }
+{
+    push_held(out, held)?;
+    push_held_for(out, seconds)
+}
+
+// For how long a tuple is held, and the end of its row.
+#[tactic(auto, unfolding(crate::specs::Listed::json_held_for))]
+fn push_held_for(out: &mut Vec<u8>, seconds: Option<u64>) -> Result<(), AllocError>
+    ensures { OnOk result (IsPushed out.old out.new (json_held_for seconds)) }
+{
+    push_age(out, b",\"held_seconds\":", seconds)?;
+    out.extend_from_slice(b"}")
+}
+
+// For how many seconds something is so, after its name.
+#[tactic(auto, unfolding(crate::specs::Listed::json_age))]
+fn push_age(out: &mut Vec<u8>, name: &[u8], seconds: Option<u64>) -> Result<(), AllocError>
+    ensures { OnOk result (IsPushed out.old out.new (json_age name.now seconds)) }
+{
+    match seconds {
+        Some(seconds) => push_json_member(out, name, seconds),
+        None => {
+            out.extend_from_slice(name)?;
+            out.extend_from_slice(b"null")
+        }
+    }
+}
+
+// For whom a tuple is held.
 #[tactic(auto, unfolding(crate::specs::Listed::json_held))]
 fn push_held(out: &mut Vec<u8>, held: Option<Request>) -> Result<(), AllocError>
     ensures { OnOk result (IsPushed out.old out.new (json_held held)) }
 {
     match held {
         Some(request) => push_holder(out, request.client, request.ticket),
-        None => out.extend_from_slice(b",\"held\":null}"),
+        None => out.extend_from_slice(b",\"held\":null"),
     }
 }
 
-// The request that a tuple is held for, and the end of its row.
+// The request that a tuple is held for.
 #[tactic(auto, unfolding(crate::specs::Listed::json_holder))]
 fn push_holder(out: &mut Vec<u8>, client: u32, ticket: u64) -> Result<(), AllocError>
     ensures { OnOk result (IsPushed out.old out.new (json_holder client ticket)) }
@@ -173,13 +211,13 @@ fn push_holder(out: &mut Vec<u8>, client: u32, ticket: u64) -> Result<(), AllocE
     push_ticket(out, ticket)
 }
 
-// The ticket of that request, and the end of the row.
+// The ticket of that request.
 #[tactic(auto, unfolding(crate::specs::Listed::json_ticket))]
 fn push_ticket(out: &mut Vec<u8>, ticket: u64) -> Result<(), AllocError>
     ensures { OnOk result (IsPushed out.old out.new (json_ticket ticket)) }
 {
     push_json_member(out, b",\"ticket\":", ticket)?;
-    out.extend_from_slice(b"}}")
+    out.extend_from_slice(b"}")
 }
 
 // Each client, and the end of the object.
@@ -229,7 +267,7 @@ fn push_client(out: &mut Vec<u8>, row: &ListedClient) -> Result<(), AllocError>
     ensures { OnOk result (IsPushed out.old out.new (json_client row.now)) }
 {
     push_named(out, row.client, row.number)?;
-    push_connected(out, row.is_connected)?;
+    push_connection(out, row.is_connected, row.connected_for)?;
     push_counts(out, row.holds, row.waits)
 }
 
@@ -240,6 +278,19 @@ fn push_named(out: &mut Vec<u8>, client: u32, number: u64) -> Result<(), AllocEr
 {
     push_json_member(out, b"{\"client\":", u64::from(client))?;
     push_json_member(out, b",\"number\":", number)
+}
+
+// Whether a client has a connection, and for how long.
+#[tactic(auto, unfolding(crate::specs::Listed::json_connection))]
+fn push_connection(
+    out: &mut Vec<u8>,
+    is_connected: bool,
+    seconds: Option<u64>,
+) -> Result<(), AllocError>
+    ensures { OnOk result (IsPushed out.old out.new (json_connection is_connected seconds)) }
+{
+    push_connected(out, is_connected)?;
+    push_age(out, b",\"connected_seconds\":", seconds)
 }
 
 // Whether a client has a connection.

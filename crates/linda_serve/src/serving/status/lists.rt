@@ -82,21 +82,21 @@ fn spell_client_page<D: Disk, L: Ledger, R: Wait>(
     spell_bytes(&out, page)
 }
 
-// Writes that the server is down.
-fn spell_down(page: &mut String) -> Result<Told, AllocError> {
+/// Writes that the server is down.
+pub(super) fn spell_down(page: &mut String) -> Result<Told, AllocError> {
     page.push_str("the server is down\n")?;
     Ok(Told::NotNow)
 }
 
-// Writes which parameter is wrong, and why.
-fn spell_wrong(wrong: Wrong, page: &mut String) -> Result<Told, AllocError> {
+/// Writes which parameter is wrong, and why.
+pub(super) fn spell_wrong(wrong: Wrong, page: &mut String) -> Result<Told, AllocError> {
     let Wrong { number, why } = wrong;
     write!(page, "parameter {number}: {why}\n")?;
     Ok(Told::Wrong)
 }
 
-// Writes the bytes of an object of JSON, which are UTF-8.
-fn spell_bytes(bytes: &[u8], page: &mut String) -> Result<Told, AllocError> {
+/// Writes the bytes of an object of JSON, which are UTF-8.
+pub(super) fn spell_bytes(bytes: &[u8], page: &mut String) -> Result<Told, AllocError> {
     let Ok(text) = std::str::from_utf8(bytes) else {
         return Err(AllocError);
     };

@@ -1,7 +1,8 @@
 //! The page that people read.
 
-/// It asks for the numbers once a second, shows them, and draws the last minutes of some. Nothing
-/// of it comes from elsewhere.
+/// It asks for the numbers once a second, shows them, and draws the last minutes of some. It shows
+/// the ten tags of which there are most tuples, for which it asks every five seconds. Nothing of it
+/// comes from elsewhere.
 pub(super) const PAGE: &str = r##"<!DOCTYPE html>
 <html lang="en">
 <head>
@@ -37,7 +38,7 @@ svg path { stroke: var(--line); stroke-width: 1.5; fill: none; vector-effect: no
 svg path + path { stroke: none; fill: var(--fill); }
 .foot { display: flex; justify-content: space-between; color: var(--soft); font-size: .8rem; }
 dl { display: grid; grid-template-columns: 1fr auto; gap: .25rem 1rem; margin: .5rem 0 0; }
-dt { color: var(--soft); }
+dt { color: var(--soft); overflow-wrap: anywhere; }
 dd { margin: 0; text-align: right; }
 section { margin-top: .75rem; }
 </style>
@@ -56,7 +57,8 @@ const CHARTS = [["rate", "Deeds a second"], ["tuples", "Tuples"], ["waits", "Ask
 const LISTS = [
   ["Clients", { clients: "Clients known", connections: "Connections open",
     connections_total: "Connections that came", unserved_total: "Connections not served",
-    late_total: "Leases run out" }],
+    late_total: "Leases run out", oldest_hold_seconds: "Oldest hold, seconds",
+    oldest_wait_seconds: "Oldest wait, seconds" }],
   ["Store", { deeds_total: "Deeds", records: "Records", next_id: "Next id",
     bank_bytes: "Bytes used", bank_limit_bytes: "Bytes at most" }],
   ["Refused", { refusals_full: "Bank full", refusals_busy: "Number in use",
@@ -104,6 +106,27 @@ for (const [title, rows] of LISTS) {
   }
 }
 
+const card = add(byId("lists"), "div");
+card.className = "card";
+add(card, "h2", "Most tuples, by tag and number of fields");
+const tags = add(card, "dl");
+
+function showTags(found) {
+  tags.replaceChildren();
+  for (const row of found.tags) {
+    const tag = JSON.stringify(row.tag);
+    add(tags, "dt", (tag.length > 40 ? tag.slice(0, 40) + "…" : tag) + ", " + row.fields);
+    add(tags, "dd", text(row.tuples));
+  }
+  if (!found.whole) add(tags, "dt", "and others");
+}
+
+async function get(path) {
+  const got = await fetch(path, { cache: "no-store" });
+  if (!got.ok) throw new Error(got.statusText);
+  return got.json();
+}
+
 function draw(chart, value) {
   const past = chart.past;
   past.push(value);
@@ -120,7 +143,7 @@ function draw(chart, value) {
   chart.svg.setAttribute("aria-label", chart.title + ": " + text(value) + " now");
 }
 
-let before = null;
+let before = null, turn = 0;
 function show(now) {
   const at = performance.now();
   now.rate = before ? Math.max(now.deeds_total - before.deeds, 0) * 1000 / (at - before.at) : 0;
@@ -137,12 +160,11 @@ function say(word, kind) {
 
 async function ask() {
   try {
-    const got = await fetch("/status.json", { cache: "no-store" });
-    if (!got.ok) throw new Error(got.statusText);
-    const now = await got.json();
+    const now = await get("/status.json");
     show(now);
     if (now.up) say("up", "up");
     else say("down", "down");
+    if (turn++ % 5 === 0) showTags(await get("/tags?limit=10"));
   } catch {
     before = null;
     say("no answer", "down");

@@ -118,6 +118,8 @@ const NO_NAME: &str = "its name is none of from, limit, tag";
 
 const NO_NAME_HERE: &str = "its name is none of from, limit";
 
+const NO_NAME_BUT_LIMIT: &str = "its name is not limit";
+
 /// The part that is asked for, or what is wrong with the first parameter that is.
 ///
 /// # Errors
@@ -138,6 +140,33 @@ pub(super) fn read_part(
         }
     }
     Ok(Ok(part))
+}
+
+/// How many rows are asked for, if nothing else can be asked for; or what is wrong with the first
+/// parameter that is.
+///
+/// # Errors
+///
+/// `AllocError` if memory runs out.
+pub(super) fn read_limit(alloc: Global, query: &[u8]) -> Result<Result<usize, Wrong>, AllocError> {
+    let mut limit = None;
+    let mut number: u64 = 0;
+    for pair in parse(alloc, query) {
+        let (name, value) = pair?;
+        number = number.saturating_add(1);
+        if let Some(why) = set_limit(&mut limit, name.as_bytes(), &value) {
+            return Ok(Err(Wrong { number, why }));
+        }
+    }
+    Ok(Ok(limit.unwrap_or(ROWS) as usize))
+}
+
+// Takes in how many are asked for. Returns what is wrong with it, if anything is.
+fn set_limit(limit: &mut Option<u64>, name: &[u8], value: &str) -> Option<&'static str> {
+    if name == b"limit".as_slice() {
+        return set(limit, number_within(value, 1, MOST_ROWS), NO_LIMIT);
+    }
+    Some(NO_NAME_BUT_LIMIT)
 }
 
 // Puts the value there, if there is one and none was there. Returns what is wrong, if anything is.

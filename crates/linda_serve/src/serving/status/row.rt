@@ -23,7 +23,7 @@ pub(super) struct Row {
 }
 
 /// All of them, in their order.
-pub(super) const ROWS: [Row; 22] = [
+pub(super) const ROWS: [Row; 24] = [
     Row {
         figure: Figure::Up,
         metric: "linda_up",
@@ -49,12 +49,28 @@ pub(super) const ROWS: [Row; 22] = [
         help: "Asks that wait for a tuple.",
     },
     Row {
+        figure: Figure::OldestWait,
+        metric: "linda_oldest_wait_seconds",
+        label: "",
+        key: "oldest_wait_seconds",
+        kind: GAUGE,
+        help: "Seconds for which the oldest of them waits.",
+    },
+    Row {
         figure: Figure::Holds,
         metric: "linda_holds",
         label: "",
         key: "holds",
         kind: GAUGE,
         help: "Tuples that are held for a client.",
+    },
+    Row {
+        figure: Figure::OldestHold,
+        metric: "linda_oldest_hold_seconds",
+        label: "",
+        key: "oldest_hold_seconds",
+        kind: GAUGE,
+        help: "Seconds for which the oldest of them is held.",
     },
     Row {
         figure: Figure::Clients,

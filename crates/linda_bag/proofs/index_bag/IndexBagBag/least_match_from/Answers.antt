@@ -10,20 +10,20 @@ pub returns-in-None-clause-none : goal.returns-in-None-clause-none
 returns-in-None-clause-none g c = IfNone_any c.nothing_found.result.id (λ k from free.
     none_found c.args.template.now (get c.self.inside.tuples) c.args.self.now (g.P.IdSet.has c.args.passed.now)
     (λ q. ap (λ m. get m q) c.self.view_is)
-    (c.in-None.ensures (get c.self.inside.tuples) c.self.invariant) k free)
+    (c.in-None.ensures (get c.self.inside.tuples) c.self.invariant.0) k free)
 
 pub returns-in-Some-Nothing-clause-none : goal.returns-in-Some-Nothing-clause-none
 returns-in-Some-Nothing-clause-none g c = IfNone_any c.nothing_found-in-Some-Nothing.result.id (λ k from free.
     nothing_free c.args.template.now (get c.self.inside.tuples) c.args.self.now (g.P.IdSet.has c.args.passed.now)
     (λ q. ap (λ m. get m q) c.self.view_is)
-    c.in-Some-Nothing.field-0.now (c.in-Some-Nothing.ensures (get c.self.inside.tuples) c.self.invariant).0 c.in-Some-Nothing.field-0-is k free)
+    c.in-Some-Nothing.field-0.now (c.in-Some-Nothing.ensures (get c.self.inside.tuples) c.self.invariant.0).0 c.in-Some-Nothing.field-0-is k free)
 
 pub returns-then-id-from-clause-none : goal.returns-then-id-from-clause-none
 returns-then-id-from-clause-none g c = IfNone_any c.nothing_found-then-id-from.result.id (λ k from free.
     let same =
     one_free c.args.template.now (get c.self.inside.tuples) c.args.self.now (g.P.IdSet.has c.args.passed.now)
     (λ q. ap (λ m. get m q) c.self.view_is)
-    c.in-Some-One.field-0.now (c.in-Some-One.ensures (get c.self.inside.tuples) c.self.invariant).0 c.in-Some-One.id c.in-Some-One.field-0-is k free in
+    c.in-Some-One.field-0.now (c.in-Some-One.ensures (get c.self.inside.tuples) c.self.invariant.0).0 c.in-Some-One.id c.in-Some-One.field-0-is k free in
     let under = c.if-id-from.true in
     omega arith)
 
@@ -32,7 +32,7 @@ returns-then-is_free-clause-least g c = λ k from below free.
     let same =
     one_free c.args.template.now (get c.self.inside.tuples) c.args.self.now (g.P.IdSet.has c.args.passed.now)
     (λ q. ap (λ m. get m q) c.self.view_is)
-    c.in-Some-One.field-0.now (c.in-Some-One.ensures (get c.self.inside.tuples) c.self.invariant).0 c.in-Some-One.id c.in-Some-One.field-0-is k free in
+    c.in-Some-One.field-0.now (c.in-Some-One.ensures (get c.self.inside.tuples) c.self.invariant.0).0 c.in-Some-One.id c.in-Some-One.field-0-is k free in
     omega arith
 
 pub returns-else-is_free-clause-none : goal.returns-else-is_free-clause-none
@@ -41,7 +41,7 @@ returns-else-is_free-clause-none g c = IfNone_any c.nothing_found-in-Some-One.re
     let same =
     one_free c.args.template.now (get c.self.inside.tuples) c.args.self.now (g.P.IdSet.has c.args.passed.now)
     (λ q. ap (λ m. get m q) c.self.view_is)
-    c.in-Some-One.field-0.now (c.in-Some-One.ensures (get c.self.inside.tuples) c.self.invariant).0 c.in-Some-One.id c.in-Some-One.field-0-is k free in
+    c.in-Some-One.field-0.now (c.in-Some-One.ensures (get c.self.inside.tuples) c.self.invariant.0).0 c.in-Some-One.id c.in-Some-One.field-0-is k free in
     true≢false (sym (told.1 (subst (IsFreeMatch c.args.self.now c.args.template.now (g.P.IdSet.has c.args.passed.now)) same free)) ∙ c.if-is_free.false))
 
 pub returns-in-Some-Many-clause-least : goal.returns-in-Some-Many-clause-least
@@ -50,7 +50,7 @@ returns-in-Some-Many-clause-least g c =
     least k from below
     (rw c.deref.ensures (many_free c.args.template.now (get c.self.inside.tuples) c.args.self.now (g.P.IdSet.has c.args.passed.now)
     (λ q. ap (λ m. get m q) c.self.view_is)
-    c.in-Some-Many.field-0.now (c.in-Some-Many.ensures (get c.self.inside.tuples) c.self.invariant).0 c.in-Some-Many.ids c.in-Some-Many.field-0-is k free))
+    c.in-Some-Many.field-0.now (c.in-Some-Many.ensures (get c.self.inside.tuples) c.self.invariant.0).0 c.in-Some-Many.ids c.in-Some-Many.field-0-is k free))
     free)
 
 pub returns-in-Some-Many-clause-none : goal.returns-in-Some-Many-clause-none
@@ -59,5 +59,5 @@ returns-in-Some-Many-clause-none g c =
     none k from
     (rw c.deref.ensures (many_free c.args.template.now (get c.self.inside.tuples) c.args.self.now (g.P.IdSet.has c.args.passed.now)
     (λ q. ap (λ m. get m q) c.self.view_is)
-    c.in-Some-Many.field-0.now (c.in-Some-Many.ensures (get c.self.inside.tuples) c.self.invariant).0 c.in-Some-Many.ids c.in-Some-Many.field-0-is k free))
+    c.in-Some-Many.field-0.now (c.in-Some-Many.ensures (get c.self.inside.tuples) c.self.invariant.0).0 c.in-Some-Many.ids c.in-Some-Many.field-0-is k free))
     free)

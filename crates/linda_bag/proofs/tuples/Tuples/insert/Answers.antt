@@ -1,7 +1,8 @@
 use Rattle.std.proofs.Common.{None, Some, sym, ap, subst, ◌∙◌, nat_cmp}
 use Rattle.std.specs.FinMap as map
-use Rattle.std.proofs.lemmas.Result.{on_ok_weaker, on_err_weaker}
+use Rattle.std.proofs.lemmas.Result.{IfOk-weaker, on_ok_weaker, on_err_weaker}
 use Rattle.std.specs.BTreeMap.{Updates}
+use Rattle.linda_bag.specs.Bytes.{bytes_at}
 use Rattle.linda_bag.specs.Filing.{Refiles}
 use Rattle.linda_bag.proofs.TuplesLaws.{behind, seen_behind, put_behind, undone_behind, again_behind}
 use Rattle.linda_bag.proofs.tuples.Tuples.insert.Goals as goal
@@ -69,3 +70,14 @@ returns-in-Ok-Occupied-clause-unfiled g c =
     on_err_weaker c.replace.result
     (λ kept. subst (λ b. Refiles (g.S.Shelf.has c.args.shelf.now) (g.S.Shelf.has c.replace.new.shelf) c.args.id b b) there kept)
     c.replace.ensures.unfiled
+
+pub returns-in-Ok-clause-freed : goal.returns-in-Ok-clause-freed
+returns-in-Ok-clause-freed g c =
+    let hereV = rw c.in-Ok-Vacant.field-0-is at c.in-Ok-Vacant.ensures in
+    ap bytes_at (ap behind (sym hereV.found) ∙ seen_behind c.self.inside.by_id c.args.self.now c.self.view_is c.args.id)
+
+pub returns-in-Ok-Occupied-clause-freed : goal.returns-in-Ok-Occupied-clause-freed
+returns-in-Ok-Occupied-clause-freed g c =
+    let hereO = rw c.in-Ok-Occupied.field-0-is at c.in-Ok-Occupied.ensures in
+    let there = ap behind (sym c.into_mut.ensures.value ∙ hereO.value) ∙ seen_behind c.self.inside.by_id c.args.self.now c.self.view_is c.args.id in
+    IfOk-weaker c.replace.result _ _ (λ freed is. is ∙ ap bytes_at there) c.replace.ensures.freed

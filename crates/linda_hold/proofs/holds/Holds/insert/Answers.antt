@@ -24,8 +24,8 @@ invariant_of-self-in-Some c =
           c.self.invariant.1,
     )
 
-pub invariant_of-self-in-Ok : goal.invariant_of-self-in-Ok
-invariant_of-self-in-Ok c =
+pub invariant_of-self-in_default : goal.invariant_of-self-in_default
+invariant_of-self-in_default c =
     let none = not_found c.self.inside.by_id c.args.self.now c.self.view_is c.self.invariant.1.0 c.args.request c.requires in (
       c.insert.ensures.ordered,
       as_after (HasNames c.self.inside.names) (HasNames c.put.new.self) (tree.get nat_cmp c.self.inside.by_id) _ (tree.get nat_cmp c.insert.new.self) _ _

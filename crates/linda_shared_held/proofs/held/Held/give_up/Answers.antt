@@ -1,19 +1,13 @@
-use Rattle.std.proofs.Common.{sym, subst, true≢false, ◌∙◌}
 use Rattle.std.proofs.Math.Logic.{∥∥₁_map}
-use Rattle.linda_shared_held.specs.Order.{known}
-use Rattle.linda_shared_held.proofs.OrderLaws.{stays_so}
-use Rattle.linda_shared_held.specs.Covered.{BoxesCovered}
-use Rattle.linda_shared_outbox.specs.Waiting.{waits_for}
+use Rattle.linda_shared_held.proofs.KeptLaws.{still_order, still_covered}
 use Rattle.linda_shared_held.proofs.held.Held.give_up.Goals as goal
 
 pub invariant_of-self : goal.invariant_of-self
 invariant_of-self g c =
     let h = c.args.self.now in
-    let s = c.fall.new.server in
-    let still = c.fall.ensures.known in
+    let still = c.fall.ensures.still in
     record {
-      in_order = ∥∥₁_map h.in_order (λ so.
-          stays_so h.opening.value h.base.value h.receipts.items h.count h.server.down s.down (known h.server.before.value h.server.store h.server.down) (known s.before.value s.store s.down) still (λ is. absurd (true≢false (sym c.fall.ensures.down ∙ is))) so);
+      in_order = ∥∥₁_map h.in_order (still_order h.server c.fall.new.server still);
       counted = h.counted;
-      covered = ∥∥₁_map h.covered (λ covered. subst (λ st. BoxesCovered st (λ q. waits_for h.boxes q)) (sym still) covered);
+      covered = ∥∥₁_map h.covered (still_covered h.server c.fall.new.server h.boxes h.boxes still (λ st covered. covered));
     }

@@ -1,37 +1,35 @@
 -- Each message is taken after those before it; where one takes the server down, their receipts are told to nobody.
-use Rattle.std.proofs.Common.{◌≡◌, ℕ, ◌+◌, List, [], ◌∷◌, ◌++◌, Option, length, take, suc, vec_len, refl, sym, ap, ◌∙◌, subst, append-nil, append_assoc, length-append, arith}
+use Rattle.std.proofs.Common.{◌≡◌, ℕ, ◌+◌, List, [], ◌∷◌, ◌++◌, Option, length, take, suc, vec_len, refl, sym, ap, ◌∙◌, subst, length-append, arith, rules, inl}
 use Rattle.std.proofs.Math.Seq.{take-length, take-suc, take-append_seam}
 use Rattle.linda_wire.specs.declared.message.Message.{Message}
 use Rattle.linda_wire.specs.declared.reply.Reply.{Reply}
 use Rattle.linda_shared_outbox.specs.Waiting.{waits_for}
 use Rattle.linda_shared_accounts.specs.declared.receipt.Receipt.{Receipt}
 use Rattle.linda_shared_accounts.specs.Telling.{receipts_in}
-use Rattle.linda_shared_held.specs.Order.{known, IsInOrder}
 use Rattle.linda_shared_held.specs.Posted.{GoesAlone, WentAlone, none, more}
-use Rattle.linda_shared_held.proofs.AloneLaws.{receipts_more, took_back}
+use Rattle.linda_shared_held.proofs.AloneLaws.{receipts_more, keeps_none, keeps_more, keeps_back}
+use Rattle.linda_shared_held.proofs.KeptLaws.{is_still, keeps_memory}
 use Rattle.linda_shared_held.proofs.held.alone.serve_each.Goals as goal
 
-pub returns-in_default-clause-some : goal.returns-in_default-clause-some
-returns-in_default-clause-some g c = record {
-  many = 0;
-  told = [];
-  mid = c.args.server.now;
-  went = none (λ q. waits_for c.args.boxes.now q) (λ q. refl);
+pub returns-in_default-clause-takes : goal.returns-in_default-clause-takes
+returns-in_default-clause-takes g c = record {
+  keeps = keeps_memory;
+  one_each = tt;
+  countable = tt;
+  some = record { many = 0; told = []; mid = c.args.server.now; went = none (λ q. waits_for c.args.boxes.now q) (λ q. refl) };
+  fault = search rules;
 }
 
 pub loop-message-init : goal.loop-message-init
 loop-message-init g c =
     let s = c.args.server.now in
-    let rs : List Receipt = c.args.receipts.now.items in
     let e : c.in-Ok.told.items ≡ [] = c.in-Ok.ensures.items in
     let zero : length (receipts_in c.in-Ok.told.items) ≡ 0 = ap (λ l. length (receipts_in l)) e in (
       subst (λ (l : List (Option Receipt)). WentAlone s c.args.count (λ q. waits_for c.args.boxes.now q) [] l (λ q. waits_for c.args.boxes.now q) s) (sym e) (none (λ q. waits_for c.args.boxes.now q) (λ q. refl)),
-      subst (λ (l : List (Option Receipt)). rs ≡ rs ++ receipts_in l) (sym e) (sym (append-nil rs)),
+      keeps_none e,
       c.in-Ok.ensures.len,
       c.in-Ok.ensures.capacity,
       omega (arith, zero),
-      λ opening base count so. subst (λ n. IsInOrder opening base rs n s.down (known s.before.value s.store s.down)) (omega (arith, zero)) so,
-      λ opening base count so covered. covered,
       refl,
     )
 
@@ -43,7 +41,6 @@ loop-message-preserved g c =
     let ms : List (ℕ × Message) = c.args.messages.now in
     let m : ℕ × Message = c.message-item.result in
     let o : Option Receipt = c.in-Ok-take_one.receipt in
-    let rs : List Receipt = c.args.receipts.now.items in
     let before : List (Option Receipt) = l.told.items in
     let told : List (Option Receipt) = c.push_reserved.new.self.items in
     let new = c.take_one.new.server in
@@ -51,8 +48,7 @@ loop-message-preserved g c =
     let one_more : i + 1 ≡ suc i = omega arith in
     let next : take (i + 1) ms ≡ take i ms ++ m ∷ [] = ap (λ k. take k ms) one_more ∙ (take-suc ms i m c.loop-message-test.true ∙ ap (λ (x : ℕ × Message). take i ms ++ x ∷ []) (sym c.message-item.is)) in
     let all : told ≡ before ++ o ∷ [] = c.push_reserved.ensures.items in
-    let receipts : receipts_in told ≡ receipts_in before ++ receipts_in (o ∷ []) = ap receipts_in all ∙ receipts_more before o in
-    let long : length (receipts_in told) ≡ length (receipts_in before) + length (receipts_in (o ∷ [])) = ap length receipts ∙ length-append (receipts_in before) (receipts_in (o ∷ [])) in
+    let long : length (receipts_in told) ≡ length (receipts_in before) + length (receipts_in (o ∷ [])) = ap (λ t. length (receipts_in t)) all ∙ (ap length (receipts_more before o) ∙ length-append (receipts_in before) (receipts_in (o ∷ []))) in
     let weighed = c.weigh-made.ensures in
     let len = c.push_reserved.ensures.len in
     let capacity = c.push_reserved.ensures.capacity in
@@ -62,44 +58,40 @@ loop-message-preserved g c =
       subst (λ (k : List (ℕ × Message)). WentAlone s c.args.count (λ q. waits_for c.args.boxes.now q) k told (λ q. waits_for c.take_one.new.boxes q) new) (sym next)
           (subst (λ (t : List (Option Receipt)). WentAlone s c.args.count (λ q. waits_for c.args.boxes.now q) (take i ms ++ m ∷ []) t (λ q. waits_for c.take_one.new.boxes q) new) (sym all)
           (more (take i ms) before l.server (λ q. waits_for l.boxes q) m o (λ q. waits_for c.take_one.new.boxes q) new l.invariant.0 (subst (λ n. GoesAlone l.server n m (λ q. waits_for l.boxes q) o (λ q. waits_for c.take_one.new.boxes q) new) made step.done))),
-      step.receipts ∙ (ap (λ x. x ++ receipts_in (o ∷ [])) l.invariant.1 ∙ (append_assoc rs (receipts_in before) (receipts_in (o ∷ [])) ∙ ap (λ x. rs ++ x) (sym receipts))),
+      keeps_more l.invariant.1 step.keeps all,
       omega (arith, len, many),
       omega (arith, capacity, room),
       omega (arith, made, weighed, long),
-      λ opening base count so. subst (λ n. IsInOrder opening base c.take_one.new.receipts.items n new.down (known new.before.value new.store new.down)) (omega (arith, long))
-          (step.ok_order opening base (count + length (receipts_in before)) (l.invariant.5 opening base count so)),
-      λ opening base count so covered. step.covered opening base (count + length (receipts_in before)) (l.invariant.5 opening base count so) (l.invariant.6 opening base count so covered),
-      step.still ∙ l.invariant.7,
+      step.still ∙ l.invariant.5,
     )
 
-pub returns-in-Err-clause-some : goal.returns-in-Err-clause-some
-returns-in-Err-clause-some g c =
+pub returns-in-Err-clause-takes : goal.returns-in-Err-clause-takes
+returns-in-Err-clause-takes g c =
     let s = c.args.server.now in
-    let l = c.loop-message in
-    record {
-      many = l.message-index;
-      told = l.told.items;
-      mid = l.server;
-      went = subst (λ (w : ℕ → Option (List Reply)). WentAlone s c.args.count (λ q. waits_for c.args.boxes.now q) (take l.message-index c.args.messages.now) l.told.items w l.server)
-          (λ i q. sym (c.in-Err.ensures.err.2 q) i) l.invariant.0;
-    }
-
-pub returns-in-Err-clause-err_order : goal.returns-in-Err-clause-err_order
-returns-in-Err-clause-err_order g c opening base count so =
     let l = c.loop-message in
     let rs : List Receipt = c.args.receipts.now.items in
     let qs : List Receipt = receipts_in l.told.items in
-    let new = c.take_one.new.server in
-    let all : c.take_one.new.receipts.items ≡ rs ++ qs = c.in-Err.ensures.err.0 ∙ l.invariant.1 in
+    let all : c.take_one.new.receipts.items ≡ rs ++ qs = c.in-Err.ensures.keeps.err ∙ l.invariant.1.receipts in
     let many : vec_len c.args.receipts.now ≡ length rs = c.args.receipts.now.ok.0 in
-    took_back opening base rs c.take_one.new.receipts.items c.truncate.new.self.items qs count new.down (known new.before.value new.store new.down) c.in-Err.ensures.err.1 all
-    (c.truncate.ensures.items ∙ (ap (λ n. take n c.take_one.new.receipts.items) (c.len-before.ensures ∙ many) ∙ (ap (take (length rs)) all ∙ take-append_seam rs qs)))
-    (c.in-Err.ensures.err_order opening base (count + length qs) (l.invariant.5 opening base count so))
+    let back : c.truncate.new.self.items ≡ rs = c.truncate.ensures.items ∙ (ap (λ n. take n c.take_one.new.receipts.items) (c.len-before.ensures ∙ many) ∙ (ap (take (length rs)) all ∙ take-append_seam rs qs)) in
+    record {
+      keeps = keeps_back l.invariant.1 c.in-Err.ensures refl refl back;
+      one_each = tt;
+      countable = tt;
+      some = record {
+        many = l.message-index;
+        told = l.told.items;
+        mid = l.server;
+        went = subst (λ (w : ℕ → Option (List Reply)). WentAlone s c.args.count (λ q. waits_for c.args.boxes.now q) (take l.message-index c.args.messages.now) l.told.items w l.server)
+            (λ i q. sym (c.in-Err.ensures.err.1 q) i) l.invariant.0;
+      };
+      fault = inl refl;
+    }
 
-pub returns-in-Err-clause-covered : goal.returns-in-Err-clause-covered
-returns-in-Err-clause-covered g c opening base count so covered =
+pub returns-clause-takes : goal.returns-clause-takes
+returns-clause-takes g c =
     let l = c.loop-message in
-    c.in-Err.ensures.covered opening base (count + length (receipts_in l.told.items)) (l.invariant.5 opening base count so) (l.invariant.6 opening base count so covered)
+    record { keeps = l.invariant.1; one_each = search rules; countable = search rules; some = tt; fault = tt }
 
 pub returns-clause-done : goal.returns-clause-done
 returns-clause-done g c =

@@ -10,6 +10,5 @@ pub loop-account-preserved : goal.loop-account-preserved
 loop-account-preserved g c =
     let l = c.loop-account in (
       c.put_back_for_good.ensures.total ∙ l.invariant.0,
-      more_back l.yielded l.accounts c.in-Some.account c.put_back_for_good.new.accounts l.invariant.1
-          (record { parked = c.put_back_for_good.ensures.parked; lost = c.put_back_for_good.ensures.lost }),
+      more_back l.yielded l.accounts c.in-Some.account c.put_back_for_good.new.accounts l.invariant.1 c.put_back_for_good.ensures.back,
     )

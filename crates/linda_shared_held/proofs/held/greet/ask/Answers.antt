@@ -1,5 +1,5 @@
 -- A Hello changes nothing, and its answer is the greeting.
-use Rattle.std.proofs.Common.{Err, length, sym, ap, ◌∙◌, subst, arith}
+use Rattle.std.proofs.Common.{Err, length, sym, ap, ◌∙◌, subst, arith, rules}
 use Rattle.linda_wire.specs.declared.limits.TheConstants.{VERSION}
 use Rattle.linda_store_step.specs.Answer.{greeting}
 use Rattle.linda_shared_held.specs.Greeting.{IsGreetingReply}
@@ -31,21 +31,20 @@ returns-in-Ok-clause-kind g c =
     subst IsGreetingReply (sym (c.first_of.ensures c.args.client (greeting old.state c.args.client VERSION c.args.fresh) (ap (λ v. v.items) c.into_sends.ensures ∙ is.sends_are)))
     (greets old.state c.args.client VERSION c.args.fresh)
 
-pub returns-in-Ok-clause-server : goal.returns-in-Ok-clause-server
-returns-in-Ok-clause-server g c =
-    let old = c.args.server.now.store in
-    let new = c.serve.new.self.store in
-    let is = hello_served old.state old.soft c.args.client c.args.client VERSION c.args.fresh c.in-Ok.served new.state new.soft c.is_down.ensures.orderly.state_is c.in-Ok.ensures.done in
-    let none = hello_does_nothing old.state old.soft c.args.client c.args.client VERSION c.args.fresh c.in-Ok.served new.state new.soft c.in-Ok.ensures.done in
-    (c.in-Ok.ensures.up.1, is.state_is, is.soft_is, c.in-Ok.ensures.idle none)
-
-pub returns-in-Ok-clause-known : goal.returns-in-Ok-clause-known
-returns-in-Ok-clause-known g c =
+pub returns-in-Ok-clause-asked : goal.returns-in-Ok-clause-asked
+returns-in-Ok-clause-asked g c =
     let old = c.args.server.now in
     let new = c.serve.new.self in
     let up = c.in-Ok.ensures.up in
     let is = hello_served old.store.state old.store.soft c.args.client c.args.client VERSION c.args.fresh c.in-Ok.served new.store.state new.store.soft c.is_down.ensures.orderly.state_is c.in-Ok.ensures.done in
-    (still_up old.before.value new.before.value old.store new.store old.down new.down up.0 up.1 is.state_is, λ _. up.0)
+    let none = hello_does_nothing old.store.state old.store.soft c.args.client c.args.client VERSION c.args.fresh c.in-Ok.served new.store.state new.store.soft c.in-Ok.ensures.done in
+    record {
+      same = (up.1, (is.state_is, is.soft_is, c.in-Ok.ensures.idle none));
+      limit = c.serve.ensures.limit;
+      only_down = tt;
+      down = search rules;
+      still = still_up old new up.0 up.1 is.state_is;
+    }
 
 pub unreachable-requires : goal.unreachable-requires
 unreachable-requires g c =

@@ -4,13 +4,11 @@ use Rattle.linda_shared_held.proofs.AccountsLaws.{either_way}
 use Rattle.linda_shared_held.proofs.ParkedLaws.{parks, loses}
 use Rattle.linda_shared_held.proofs.held.recall.put_back.Goals as goal
 
-pub returns-clause-parked : goal.returns-clause-parked
-returns-clause-parked g c comes =
-    parks c.args.accounts.now c.park.new.self c.args.account c.forget.new.self c.forget.ensures.account c.forget.ensures.cut c.park.ensures.parked comes
-
-pub returns-clause-lost : goal.returns-clause-lost
-returns-clause-lost g c out =
-    loses c.args.accounts.now c.park.new.self c.args.account c.forget.new.self c.forget.ensures.account c.park.ensures.lost out
+pub returns-clause-back : goal.returns-clause-back
+returns-clause-back g c = record {
+  parked = parks c.args.accounts.now c.park.new.self c.args.account c.forget.new.self c.forget.ensures.account c.forget.ensures.cut c.park.ensures.parked;
+  lost = loses c.args.accounts.now c.park.new.self c.args.account c.forget.new.self c.forget.ensures.account c.park.ensures.lost;
+}
 
 pub returns-clause-total : goal.returns-clause-total
 returns-clause-total g c =

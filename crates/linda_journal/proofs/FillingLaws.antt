@@ -1,0 +1,94 @@
+-- A new bank that is written in steps: what it has, and what a crash may leave of it.
+use Rattle.std.proofs.Common.{◌≡◌, ◌≢◌, ℕ, ◌+◌, ◌<◌, ◌≤◌, ◌^◌, inl, inr, List, [], ◌∷◌, ◌++◌, length, take, drop, refl, sym, ap, subst, ◌∙◌, append_assoc, length-append, arith, ◌⊎◌}
+use Rattle.std.specs.Prelude.{Result}
+use Rattle.std.proofs.lemmas.List.{take_at}
+use Rattle.linda_tuple.specs.declared.form.Form.{Form}
+use Rattle.linda_store_state.specs.declared.deed.Deed.{Deed}
+use Rattle.linda_disk.specs.declared.fault.DiskFault.{DiskFault}
+use Rattle.linda_disk.specs.View.{View, IsDurable, IsTimed}
+use Rattle.linda_disk.specs.Image.{overlay, TornWrite}
+use Rattle.linda_disk.specs.Disk.{Writes}
+use Rattle.linda_disk.specs.Run.{LeavesOnly}
+use Rattle.linda_disk.proofs.RunLaws.{wrote, weaker}
+use Rattle.linda_journal.specs.declared.kinds.TheConstants.{OPEN, CLOSED}
+use Rattle.linda_journal.specs.declared.limits.TheConstants.{MIN_BYTES}
+use Rattle.linda_journal.specs.Records.{spell_records}
+use Rattle.linda_journal.specs.Gate.{ClosesAfter, IsShut, IsReady, IsClosedOrOpened}
+use Rattle.linda_journal.specs.Bank.{behind_gate, head, IsBank, IsSettled}
+use Rattle.linda_journal.specs.Renewal.{IsNoBank, IsClosed, IsFilled, IsWholeWith, IsNoneOrNewWith}
+use Rattle.linda_journal.proofs.BankLaws.{no_candidate}
+use Rattle.linda_journal.proofs.RenewalLaws.{torn_later, closes_of}
+
+-- ---- a step
+
+filled_closes : (front : List ℕ) (at : ℕ) (v : View) → IsFilled front at v → ClosesAfter [] v.seen
+filled_closes front at v filled = record { gate = filled.gate; rest = front ++ filled.rest; parts = filled.parts; closed = filled.closed }
+
+pub step_within : (front : List ℕ) (at : ℕ) (v : View) → IsFilled front at v → at ≤ length v.seen
+step_within front at v filled = omega (arith, filled.place, ap length filled.parts, length-append front filled.rest)
+
+-- Behind a closed first gate there is nothing yet.
+pub none_filled : (v : View) → IsClosed v.seen → IsDurable v → IsFilled [] 1 v
+none_filled v closed durable =
+    let closes = closes_of v.seen closed in
+    record { gate = closes.gate; rest = closes.rest; parts = closes.parts; closed = closes.closed; place = refl; durable = durable }
+
+-- At no moment of the write a crash leaves a bank.
+pub step_run : {T : Type 0} (front : List ℕ) (at : ℕ) (bytes : List ℕ) (result : Result T DiskFault) (old new : View) → IsTimed old → IsFilled front at old → Writes at bytes result old new → LeavesOnly old new IsNoBank
+step_run front at bytes result old new timed filled writes =
+    let closes = filled_closes front at old filled in
+    weaker old new (ClosesAfter []) IsNoBank
+    (wrote at bytes result old new (ClosesAfter []) writes timed filled.durable closes (λ image torn. torn_later at (length bytes) old.seen image (omega (arith, filled.place)) closes torn))
+    no_candidate
+
+-- What was written is behind what there was.
+pub step_filled : (front : List ℕ) (at : ℕ) (bytes : List ℕ) (old mid new : View) → IsFilled front at old → mid.seen ≡ overlay at bytes old.seen → new.seen ≡ mid.seen → IsDurable new → IsFilled (front ++ bytes) (at + length bytes) new
+step_filled front at bytes old mid new filled written same durable =
+    let before : take at old.seen ≡ filled.gate ∷ front =
+    ap (take at) filled.parts ∙ ap (λ n. take n (filled.gate ∷ (front ++ filled.rest))) filled.place ∙ take_at (filled.gate ∷ front) filled.rest (1 + length front) (omega arith)
+    in record {
+      gate = filled.gate;
+      rest = drop (at + length bytes) old.seen;
+      parts = same ∙ written ∙ ap (λ l. (l ++ bytes) ++ drop (at + length bytes) old.seen) before;
+      closed = filled.closed;
+      place = omega (arith, filled.place, length-append front bytes);
+      durable = durable;
+    }
+
+-- With a closed gate at its end the body is ready behind the first gate.
+pub filled_ready : (body : List ℕ) (at : ℕ) (v : View) → IsFilled (body ++ CLOSED ∷ []) at v → IsReady [] 0 body v
+filled_ready body at v filled = record {
+  place = refl;
+  value = filled.gate;
+  rest = filled.rest;
+  parts = filled.parts ∙ ap (λ l. filled.gate ∷ l) (append_assoc body (CLOSED ∷ []) filled.rest);
+  closed = filled.closed;
+  durable = filled.durable;
+}
+
+-- ---- the first gate opens
+
+module _ (form : Form) (generation : ℕ) (body : List ℕ) (rs : List (List Deed)) (end : ℕ) (old : View) (whole : IsWholeWith form generation body rs end old) where
+  new_with : (file : List ℕ) → ClosesAfter (OPEN ∷ (behind_gate form generation body ++ spell_records form rs)) file → IsBank form file generation body rs
+  new_with file closes = record {
+    low = whole.low;
+    fits = whole.fits;
+    short = whole.short;
+    rest = spell_records form rs ++ closes.gate ∷ closes.rest;
+    parts = closes.parts ∙ append_assoc (head form generation body) (spell_records form rs) (closes.gate ∷ closes.rest);
+    journal = record { gate = closes.gate; rest = closes.rest; parts = refl; closed = closes.closed; good = whole.good };
+  }
+
+  none_or_with : (file : List ℕ) → IsClosedOrOpened [] (behind_gate form generation body ++ spell_records form rs) file → IsNoneOrNewWith form generation body rs file
+  none_or_with file (inl closes) = inl (no_candidate file closes)
+  none_or_with file (inr closes) = inr (new_with file closes)
+
+  pub unlocking_with : (new : View) → LeavesOnly old new (IsClosedOrOpened [] (behind_gate form generation body ++ spell_records form rs)) → LeavesOnly old new (IsNoneOrNewWith form generation body rs)
+  unlocking_with new run = weaker old new (IsClosedOrOpened [] (behind_gate form generation body ++ spell_records form rs)) (IsNoneOrNewWith form generation body rs) run none_or_with
+
+  pub unlocked_with : (new : View) → IsShut (OPEN ∷ (behind_gate form generation body ++ spell_records form rs)) (1 + length (behind_gate form generation body ++ spell_records form rs)) new → IsSettled form generation body rs end new
+  unlocked_with new shut = record {
+    file = new_with new.seen shut.file;
+    place = omega (arith, whole.place);
+    durable = shut.durable;
+  }

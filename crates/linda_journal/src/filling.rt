@@ -1,0 +1,155 @@
+//! A new bank that is written in steps, behind a first gate that is closed. Each step ends synced,
+//! and whatever a crash leaves in between is no bank. Once all is there, the gate is opened.
+
+ghost use Rattle.std.specs.Prelude.{◌≡◌, ◌∷◌, [], ◌++◌, ◌<◌, ◌≤◌, ◌+◌, ◌^◌, ◌↔◌, ℕ, List, length};
+ghost use Rattle.std.specs.Prelude.{◌-◌, min, false, IfOk, IfErr, OnOk};
+ghost use Rattle.linda_store_state.specs.declared.deed.Deed.{Deed};
+ghost use Rattle.linda_store_state.specs.DeedFormat.{written};
+ghost use Rattle.linda_disk.specs.Disk.{CountsFailure, TellsFailures};
+ghost use Rattle.linda_disk.specs.Run.{LeavesOnly};
+ghost use Rattle.linda_journal.specs.Bank.{IsSettled};
+ghost use Rattle.linda_journal.specs.Renewal.{IsNoBank, IsFilled, IsWholeWith, IsNoneOrNewWith};
+
+use crate::bank::{Bank, unlock_with};
+use crate::closed::Closed;
+use linda_disk::{Disk, DiskFault};
+
+/// A disk that is not in use, on which a new bank is written in steps behind a first gate that is
+/// closed.
+#[derive(Drop)]
+pub struct Filling<D: Disk> {
+    disk: D,
+    // Where the next bytes go.
+    at: usize,
+    ghost behind: { 1 ≤ at },
+    ghost within: { D.honest disk → at ≤ length (D.view disk).seen },
+}
+
+impl<D: Disk> Filling<D> {
+    /// Begins a new bank. No device call is made.
+    pub fn begin(closed: Closed<D>) -> Filling<D>
+        ensures same { (result.disk ≡ closed.disk) × (result.at ≡ 1) }
+        ensures filled { D.honest result.disk → IsFilled [] 1 (D.view result.disk) }
+    {
+        let disk = closed.into_disk();
+        Filling { disk, at: 1 }
+    }
+
+    /// Goes on with a disk on which a new bank is written up to this offset. No device call is
+    /// made.
+    pub fn resume(disk: D, at: usize) -> Filling<D>
+        requires behind { 1 ≤ at }
+        requires within { D.honest disk → at ≤ length (D.view disk).seen }
+        ensures { (result.disk ≡ disk) × (result.at ≡ at) }
+    {
+        Filling { disk, at }
+    }
+
+    /// The offset behind what is written.
+    pub fn at(&self) -> usize
+        ensures { result ≡ self.now.at }
+    {
+        self.at
+    }
+
+    /// The disk, whose first gate is closed.
+    pub fn into_disk(self) -> D
+        ensures { result ≡ self.disk }
+    {
+        let Filling { disk, .. } = self;
+        disk
+    }
+
+    /// Writes these bytes behind those before, and then sees to it that they are on the disk: a
+    /// write and a sync.
+    ///
+    /// # Errors
+    ///
+    /// `Device` if the device failed, `Memory` if the disk found none, or has no offset for so many
+    /// bytes; each hands the disk back.
+    pub fn add(self, bytes: &[u8]) -> Result<Filling<D>, (DiskFault, D)>
+        ensures filled { (front : List ℕ) → D.honest self.disk
+            → IsFilled front self.at (D.view self.disk)
+            → IfOk result (λ f. IsFilled (front ++ bytes.now) f.at (D.view f.disk)) }
+        ensures place { IfOk result (λ f. f.at ≡ self.at + length bytes.now) }
+        // At no moment a crash leaves a bank.
+        ensures any_moment { (front : List ℕ) → D.honest self.disk
+            → IsFilled front self.at (D.view self.disk)
+            → IfOk result (λ f. LeavesOnly (D.view self.disk) (D.view f.disk) IsNoBank)
+            × IfErr result (λ e. LeavesOnly (D.view self.disk) (D.view e.1) IsNoBank) }
+        ensures honest { IfOk result (λ f. D.honest self.disk ↔ D.honest f.disk)
+            × IfErr result (λ e. D.honest self.disk ↔ D.honest e.1) }
+        ensures cause { IfErr result (λ e. TellsFailures DiskFault.Device e.0
+            (D.failures self.disk) (D.failures e.1)) }
+        ensures steady { IfOk result (λ f. D.failures f.disk ≡ D.failures self.disk) }
+        ensures clock { D.honest self.disk
+            → IfOk result (λ f. (D.view f.disk).moment ≡ (D.view self.disk).moment + 2) }
+    {
+        let Filling { mut disk, at, .. } = self;
+        let Some(next) = at.checked_add(bytes.len()) else {
+            return Err((DiskFault::Memory, disk));
+        };
+        match fill_more(&mut disk, at, bytes) {
+            Err(fault) => Err((fault, disk)),
+            Ok(()) => Ok(Filling { disk, at: next }),
+        }
+    }
+
+    /// Opens the first gate of a bank that is there to the closed gate at its end, with so many
+    /// records in its journal: a write and a sync.
+    ///
+    /// # Errors
+    ///
+    /// `Device` if the device failed, `Memory` if the disk found none; each hands the disk back.
+    pub fn unlock(
+        self,
+        generation: u64,
+        limit: usize,
+        records: usize,
+    ) -> Result<Bank<D>, (DiskFault, D)>
+        ensures done { (body : List ℕ) (rs : List (List Deed)) → D.honest self.disk
+            → IsWholeWith written generation body rs (self.at - 1) (D.view self.disk)
+            → IfOk result (λ b. IsSettled written generation body rs b.end (D.view b.disk)) }
+        ensures new { IfOk result (λ b. (b.form ≡ written) × (b.generation ≡ generation)
+            × (b.limit ≡ limit) × (b.end ≡ self.at - 1) × (b.is_spent ≡ false)) }
+        ensures records { IfOk result (λ b. b.records ≡ min records (self.at - 1)) }
+        // At no moment a crash leaves another bank than the whole new one.
+        ensures any_moment { (body : List ℕ) (rs : List (List Deed)) → D.honest self.disk
+            → IsWholeWith written generation body rs (self.at - 1) (D.view self.disk)
+            → IfOk result (λ b. LeavesOnly (D.view self.disk) (D.view b.disk)
+            (IsNoneOrNewWith written generation body rs))
+            × IfErr result (λ e. LeavesOnly (D.view self.disk) (D.view e.1)
+            (IsNoneOrNewWith written generation body rs)) }
+        ensures honest { IfOk result (λ b. D.honest self.disk ↔ D.honest b.disk)
+            × IfErr result (λ e. D.honest self.disk ↔ D.honest e.1) }
+        ensures cause { IfErr result (λ e. TellsFailures DiskFault.Device e.0
+            (D.failures self.disk) (D.failures e.1)) }
+        ensures steady { IfOk result (λ b. D.failures b.disk ≡ D.failures self.disk) }
+        ensures clock { D.honest self.disk
+            → IfOk result (λ b. (D.view b.disk).moment ≡ (D.view self.disk).moment + 2) }
+    {
+        let Filling { disk, at, .. } = self;
+        let end = at - 1;
+        // (each record has bytes before the end)
+        unlock_with(disk, generation, limit, end, records.min(end))
+    }
+}
+
+// Writes these bytes behind those that end at this offset.
+fn fill_more<D: Disk>(disk: &mut D, at: usize, bytes: &[u8]) -> Result<(), DiskFault>
+    requires within { D.honest disk.old → at ≤ length (D.view disk.old).seen }
+    ensures filled { (front : List ℕ) → D.honest disk.old → IsFilled front at (D.view disk.old)
+        → OnOk result (IsFilled (front ++ bytes.now) (at + length bytes.now) (D.view disk.new)) }
+    ensures any_moment { (front : List ℕ) → D.honest disk.old → IsFilled front at (D.view disk.old)
+        → LeavesOnly (D.view disk.old) (D.view disk.new) IsNoBank }
+    ensures long { D.honest disk.old
+        → OnOk result (at + length bytes.now ≤ length (D.view disk.new).seen) }
+    ensures honest { D.honest disk.old ↔ D.honest disk.new }
+    ensures cause { CountsFailure result (D.failures disk.old) (D.failures disk.new) }
+    ensures clock { D.honest disk.old
+        → OnOk result ((D.view disk.new).moment ≡ (D.view disk.old).moment + 2) }
+{
+    disk.write_at(at, bytes)?;
+    disk.sync()?;
+    Ok(())
+}

@@ -1,0 +1,215 @@
+-- What a snapshot owes while tuples come and go, and how its steps write it.
+use Rattle.std.proofs.Common.{◌≡◌, ◌≢◌, ℕ, suc, ◌+◌, ◌<◌, ◌≤◌, ◌==◌, Bool, true, false, cond, List, [], ◌∷◌, ◌++◌, length, Option, Some, None, refl, sym, ap, subst, ◌∙◌, nat_cmp, true≢false, ◌⊎◌, inl, inr, append_assoc, append-nil, arith}
+use Rattle.std.specs.Prelude.{IfSome, is_none}
+use Rattle.std.specs.Borrow.{Bor}
+use Rattle.std.specs.Global.{Vec}
+use Rattle.std.specs.Cmp.{unsigned_Decides}
+use Rattle.std.specs.List.{flat_map}
+use Rattle.std.specs.FinMap.{FinMap, get, insert, remove, entries}
+use Rattle.std.proofs.lemmas.Bool.{cases_lt, le-ltb, lt-ltb}
+use Rattle.linda_tuple.specs.Tuple.{Tuple}
+use Rattle.linda_maps.proofs.MapLaws.{get_same, get_other, get_removed_other, get_removed_same}
+use Rattle.linda_codec.specs.Formats.{number, short_number}
+use Rattle.linda_store_state.specs.DeedFormat.{written}
+use Rattle.linda_store_state.specs.State.{State, IsState}
+use Rattle.linda_snap.specs.declared.draft.Draft.{Draft}
+use Rattle.linda_snap.specs.Rising.{entries_from}
+use Rattle.linda_snap.specs.Snapshot.{listed, placed, kept, spell_state}
+use Rattle.linda_snap.specs.Draft.{Tuples, Owes, IsThrough, IsFirst, IsFirstOwed, aside_of, first_of, owed_at, earlier_of, seen}
+use Rattle.linda_snap.proofs.RisingLaws.{first_is, none_is, all_is}
+
+module _ (draft : Draft) (now : Tuples) where
+  owed_below : (id : ℕ) → id < draft.next → owed_at draft now id ≡ first_of (get now id) (get (aside_of draft) id)
+  owed_below id lt = ap (λ b. cond b (first_of (get now id) (get (aside_of draft) id)) None) (lt-ltb id draft.next lt)
+
+  owed_beyond : (id : ℕ) → draft.next ≤ id → owed_at draft now id ≡ None
+  owed_beyond id le = ap (λ b. cond b (first_of (get now id) (get (aside_of draft) id)) None) (le-ltb id draft.next le)
+
+  neither : (id : ℕ) → get now id ≡ None → get (aside_of draft) id ≡ None → owed_at draft now id ≡ None
+  neither id gone none =
+      elim (cases_lt id draft.next) [
+        | inl lt ↦ owed_below id lt ∙ ap (λ o. first_of o (get (aside_of draft) id)) gone ∙ none
+        | inr le ↦ owed_beyond id le
+      ]
+
+  none_owed : (from id : ℕ) → from ≤ id → ((k : ℕ) → from ≤ k → k < draft.next → get now k ≡ None) → ((k : ℕ) → from ≤ k → k < draft.next → get (aside_of draft) k ≡ None) → owed_at draft now id ≡ None
+  none_owed from id le gone none =
+      elim (cases_lt id draft.next) [
+        | inl lt ↦ owed_below id lt ∙ ap (λ o. first_of o (get (aside_of draft) id)) (gone id le lt) ∙ none id le lt
+        | inr beyond ↦ owed_beyond id beyond
+      ]
+
+  -- The earlier of the first tuple that is there and the first one that is aside is the first one that is owed.
+  pub merged : (from : ℕ) (one other : Option (ℕ × Tuple)) → IsFirst now from draft.next one → IsFirst (aside_of draft) from draft.next other → IsFirstOwed draft now from (earlier_of one other)
+  merged from None None h a = record { there = tt; above = tt; below = tt; least = tt; none = λ k le. none_owed from k le h.none a.none }
+  merged from None (Some e) h a = record {
+    there = owed_below e.0 a.below ∙ ap (λ o. first_of o (get (aside_of draft) e.0)) (h.none e.0 a.above a.below) ∙ a.there;
+    above = a.above;
+    below = a.below;
+    least = λ k le lt. neither k (h.none k le (omega (arith, lt, a.below))) (a.least k le lt);
+    none = tt;
+  }
+  merged from (Some e) None h a = record {
+    there = owed_below e.0 h.below ∙ ap (λ o. first_of o (get (aside_of draft) e.0)) h.there;
+    above = h.above;
+    below = h.below;
+    least = λ k le lt. neither k (h.least k le lt) (a.none k le (omega (arith, lt, h.below)));
+    none = tt;
+  }
+  merged from (Some e) (Some f) h a =
+      elim (cases_lt f.0 e.0) [
+        | inl lt ↦ subst (IsFirstOwed draft now from) (sym (ap (λ b. cond b (Some f) (Some e)) (lt-ltb f.0 e.0 lt))) record {
+          there = owed_below f.0 a.below ∙ ap (λ o. first_of o (get (aside_of draft) f.0)) (h.least f.0 a.above lt) ∙ a.there;
+          above = a.above;
+          below = a.below;
+          least = λ k le less. neither k (h.least k le (omega (arith, less, lt))) (a.least k le less);
+          none = tt;
+        }
+        | inr le ↦ subst (IsFirstOwed draft now from) (sym (ap (λ b. cond b (Some f) (Some e)) (le-ltb f.0 e.0 le))) record {
+          there = owed_below e.0 h.below ∙ ap (λ o. first_of o (get (aside_of draft) e.0)) h.there;
+          above = h.above;
+          below = h.below;
+          least = λ k low less. neither k (h.least k low less) (a.least k low (omega (arith, less, le)));
+          none = tt;
+        }
+      ]
+
+-- ---- the course of a snapshot
+
+-- It once all tuples below that id are written.
+abbrev pub moved : ℕ → Draft → Draft
+moved from draft = record { from = from; next = draft.next; aside = draft.aside; book = draft.book; len = draft.len }
+
+pub one_more : (begun : State) (draft : Draft) (bytes piece : List ℕ) (now : Tuples) (e : ℕ × Tuple) → Owes begun draft bytes now → IsFirstOwed draft now draft.from (Some e) → piece ≡ (placed written).spell e → Owes begun (moved (suc e.0) draft) (bytes ++ piece) now
+one_more begun draft bytes piece now e owes first is =
+    let spell = (placed written).spell in
+    let next : entries_from draft.from begun.bag ≡ e ∷ entries_from (suc e.0) begun.bag =
+    first_is begun.bag draft.from e.0 e.1 (owes.owed e.0 first.above ∙ first.there) first.above (λ k low high. owes.owed k low ∙ first.least k low high)
+    in record {
+      parts =
+          append_assoc bytes piece (flat_map spell (entries_from (suc e.0) begun.bag))
+          ∙ ap (λ p. bytes ++ (p ++ flat_map spell (entries_from (suc e.0) begun.bag))) is
+          ∙ ap (λ es. bytes ++ flat_map spell es) (sym next)
+          ∙ owes.parts;
+      owed = λ id le. owes.owed id (omega (arith, le, first.above));
+      clients = owes.clients;
+    }
+
+pub no_more : (begun : State) (draft : Draft) (bytes : List ℕ) (now : Tuples) → Owes begun draft bytes now → IsFirstOwed draft now draft.from None → IsThrough begun draft
+no_more begun draft bytes now owes first = none_is begun.bag draft.from (λ k le. owes.owed k le ∙ first.none k le)
+
+-- What is owed does not depend on what is written.
+same_first : (at : ℕ) (draft : Draft) (now : Tuples) (from : ℕ) (found : Option (ℕ × Tuple)) → IsFirstOwed draft now from found → IsFirstOwed (moved at draft) now from found
+same_first at draft now from found first = record { there = first.there; above = first.above; below = first.below; least = first.least; none = first.none }
+
+-- One tuple more behind those that were spelled before.
+pub step_more : (begun : State) (draft : Draft) (bytes old new : List ℕ) (now : Tuples) (from next : ℕ) (e : ℕ × Tuple) → Owes begun (moved from draft) (bytes ++ old) now → IsFirstOwed draft now from (Some e) → new ≡ old ++ (placed written).spell e → next ≡ suc e.0 → Owes begun (moved next draft) (bytes ++ new) now
+step_more begun draft bytes old new now from next e owes first is at =
+    let more : Owes begun (moved (suc e.0) draft) ((bytes ++ old) ++ (placed written).spell e) now =
+    one_more begun (moved from draft) (bytes ++ old) ((placed written).spell e) now e owes (same_first from draft now from (Some e) first) refl in
+    subst (λ n. Owes begun (moved n draft) (bytes ++ new) now) (sym at)
+    (subst (λ b. Owes begun (moved (suc e.0) draft) b now) (append_assoc bytes old ((placed written).spell e) ∙ ap (λ b. bytes ++ b) (sym is)) more)
+
+pub through_if_none : (begun : State) (draft : Draft) (bytes : List ℕ) (now : Tuples) (found : Option (ℕ × Bor Tuple)) → Owes begun draft bytes now → is_none found ≡ true → IsFirstOwed draft now draft.from (seen found) → IsThrough begun draft
+through_if_none begun draft bytes now None owes none first = no_more begun draft bytes now owes first
+through_if_none begun draft bytes now (Some e) owes none first = absurd (true≢false (sym none))
+
+-- What is written and what is kept for clients is the whole snapshot, once all tuples are written.
+pub all_written : (begun : State) (draft : Draft) (bytes : List ℕ) (now : Tuples) → Owes begun draft bytes now → IsThrough begun draft → bytes ++ draft.book.items ≡ spell_state written begun
+all_written begun draft bytes now owes through =
+    let spell = (placed written).spell in
+    let tuples = (listed (placed written)).spell (entries begun.bag) in
+    let is : bytes ≡ number.spell begun.next ++ tuples = sym (append-nil bytes) ∙ ap (λ es. bytes ++ flat_map spell es) (sym through) ∙ owes.parts in
+    ap (λ b. b ++ draft.book.items) is
+    ∙ ap (λ b. (number.spell begun.next ++ tuples) ++ b) owes.clients
+    ∙ append_assoc (number.spell begun.next) tuples ((listed (kept written)).spell (entries begun.book))
+
+-- ---- what happens meanwhile
+
+owed_as : (draft other : Draft) (now new : Tuples) (id : ℕ) → other.next ≡ draft.next → (id < draft.next → first_of (get now id) (get (aside_of draft) id) ≡ first_of (get new id) (get (aside_of other) id)) → owed_at draft now id ≡ owed_at other new id
+owed_as draft other now new id next same =
+    elim (cases_lt id draft.next) [
+      | inl lt ↦ owed_below draft now id lt ∙ same lt ∙ sym (owed_below other new id (omega (arith, next, lt)))
+      | inr le ↦ owed_beyond draft now id le ∙ sym (owed_beyond other new id (omega (arith, next, le)))
+    ]
+
+-- A new tuple is not of it.
+pub put_later : (begun : State) (draft : Draft) (bytes : List ℕ) (now : Tuples) (id : ℕ) (row : Tuple) → Owes begun draft bytes now → draft.next ≤ id → Owes begun draft bytes (insert now id row)
+put_later begun draft bytes now id row owes le = record {
+  parts = owes.parts;
+  owed = λ q low. owes.owed q low ∙ owed_as draft draft now (insert now id row) q refl
+      (λ lt. ap (λ o. first_of o (get (aside_of draft) q)) (sym (get_other now id row q (λ same. omega (arith, same, lt, le)))));
+  clients = owes.clients;
+}
+
+-- A tuple that is written, or that is not of it, may go.
+pub gone_unowed : (begun : State) (draft : Draft) (bytes : List ℕ) (now : Tuples) (id : ℕ) → Owes begun draft bytes now → (id < draft.from) ⊎ (draft.next ≤ id) → Owes begun draft bytes (remove now id)
+gone_unowed begun draft bytes now id owes apart = record {
+  parts = owes.parts;
+  owed = λ q low. owes.owed q low ∙ owed_as draft draft now (remove now id) q refl
+      (λ lt. ap (λ o. first_of o (get (aside_of draft) q)) (sym (get_removed_other now id q (λ same. away apart q same low lt))));
+  clients = owes.clients;
+}
+  where
+    away : (id < draft.from) ⊎ (draft.next ≤ id) → (q : ℕ) → q ≡ id → draft.from ≤ q → q < draft.next → ⊥
+    away (inl lt) q same low high = omega (arith, lt, same, low)
+    away (inr le) q same low high = omega (arith, le, same, high)
+
+-- A tuple may go once it is put aside.
+pub gone_aside : (begun : State) (draft other : Draft) (bytes : List ℕ) (now : Tuples) (id : ℕ) (row : Tuple) → Owes begun draft bytes now → get now id ≡ Some row → other.from ≡ draft.from → other.next ≡ draft.next → other.book ≡ draft.book → aside_of other ≡ insert (aside_of draft) id row → Owes begun other bytes (remove now id)
+gone_aside begun draft other bytes now id row owes there from next book aside = record {
+  parts = ap (λ n. bytes ++ flat_map (placed written).spell (entries_from n begun.bag)) from ∙ owes.parts;
+  owed = λ q low. owes.owed q (omega (arith, from, low)) ∙ owed_as draft other now (remove now id) q next (λ lt. same q);
+  clients = ap (λ (b : Vec ℕ). b.items) book ∙ owes.clients;
+}
+  where
+    same : (q : ℕ) → first_of (get now q) (get (aside_of draft) q) ≡ first_of (get (remove now id) q) (get (aside_of other) q)
+    same q =
+        elim (q == id) as (λ b. (q == id) ≡ b → first_of (get now q) (get (aside_of draft) q) ≡ first_of (get (remove now id) q) (get (aside_of other) q)) [
+          | true ↦ λ is. here q ((unsigned_Decides q id).0 is)
+          | false ↦ λ is. there_still q (λ e. true≢false (sym ((unsigned_Decides q id).1 e) ∙ is))
+        ] refl
+      where
+        here : (q : ℕ) → q ≡ id → first_of (get now q) (get (aside_of draft) q) ≡ first_of (get (remove now id) q) (get (aside_of other) q)
+        here q e =
+            ap (λ k. first_of (get now k) (get (aside_of draft) k)) e
+            ∙ ap (λ o. first_of o (get (aside_of draft) id)) there
+            ∙ sym (get_same (aside_of draft) id row)
+            ∙ ap (λ m. get m id) (sym aside)
+            ∙ ap (λ o. first_of o (get (aside_of other) id)) (sym (get_removed_same now id))
+            ∙ ap (λ k. first_of (get (remove now id) k) (get (aside_of other) k)) (sym e)
+
+        there_still : (q : ℕ) → q ≢ id → first_of (get now q) (get (aside_of draft) q) ≡ first_of (get (remove now id) q) (get (aside_of other) q)
+        there_still q apart =
+            ap (λ o. first_of o (get (aside_of draft) q)) (sym (get_removed_other now id q apart))
+            ∙ ap (λ o. first_of (get (remove now id) q) o) (sym (get_other (aside_of draft) id row q apart) ∙ ap (λ m. get m q) (sym aside))
+
+-- ---- its beginning
+
+beyond : (st : State) → IsState st → (id : ℕ) → st.next ≤ id → get st.bag id ≡ None
+beyond st ranges id le = by (get st.bag id) (ranges.ids id)
+  where
+    by : (o : Option Tuple) → IfSome o (λ _. (1 ≤ id) × (id < st.next)) → o ≡ None
+    by None low = refl
+    by (Some row) low = absurd (omega (arith, low.1, le))
+
+pub begun : (st : State) (draft : Draft) (bytes : List ℕ) → IsState st → draft.from ≡ 0 → draft.next ≡ st.next → ((id : ℕ) → get (aside_of draft) id ≡ None) → draft.book.items ≡ (listed (kept written)).spell (entries st.book) → bytes ≡ number.spell st.next ++ short_number.spell (length (entries st.bag)) → Owes st draft bytes st.bag
+begun st draft bytes ranges from next none clients is =
+    let spell = (placed written).spell in
+    let count = short_number.spell (length (entries st.bag)) in record {
+      parts =
+          ap (λ n. bytes ++ flat_map spell (entries_from n st.bag)) from
+          ∙ ap (λ es. bytes ++ flat_map spell es) (all_is st.bag)
+          ∙ ap (λ b. b ++ flat_map spell (entries st.bag)) is
+          ∙ append_assoc (number.spell st.next) count (flat_map spell (entries st.bag));
+      owed = λ id low.
+          elim (cases_lt id draft.next) [
+            | inl lt ↦ sym (owed_below draft st.bag id lt ∙ ap (λ o. first_of (get st.bag id) o) (none id) ∙ itself (get st.bag id))
+            | inr le ↦ beyond st ranges id (omega (arith, next, le)) ∙ sym (owed_beyond draft st.bag id le)
+          ];
+      clients = clients;
+    }
+  where
+    itself : (o : Option Tuple) → first_of o None ≡ o
+    itself None = refl
+    itself (Some row) = refl

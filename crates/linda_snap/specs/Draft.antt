@@ -1,0 +1,79 @@
+-- A snapshot that is written in steps while the server goes on: what it has written, and what it
+-- owes.
+use Rattle.std.specs.Prelude.{◌≡◌, ◌≤◌, ◌<◌, ◌++◌, ℕ, nat_lt, List, [], Option, None, Some}
+use Rattle.std.specs.Prelude.{if◌then◌else◌, IfSome, IfNone}
+use Rattle.std.specs.Borrow.{Bor}
+use Rattle.std.specs.List.{flat_map}
+use Rattle.std.specs.Ordering.{nat_cmp}
+use Rattle.std.specs.FinMap.{FinMap, get, entries, from_entries}
+use Rattle.linda_tuple.specs.Tuple.{Tuple}
+use Rattle.linda_codec.specs.Formats.{number}
+use Rattle.linda_store_state.specs.DeedFormat.{written}
+use Rattle.linda_store_state.specs.State.{State}
+use Rattle.linda_snap.specs.declared.draft.Draft.{Draft}
+use Rattle.linda_snap.specs.Rising.{entries_from}
+use Rattle.linda_snap.specs.Snapshot.{listed, placed, kept}
+
+-- tuples by id
+abbrev pub Tuples : Type 0
+Tuples = FinMap nat_cmp Tuple
+
+-- the tuples that were put aside
+abbrev pub aside_of : Draft → Tuples
+aside_of draft = from_entries {R = nat_cmp} draft.aside.tuples.entries
+
+-- the first one, if there is one, else the other
+abbrev pub first_of : Option Tuple → Option Tuple → Option Tuple
+first_of (Some row) other = Some row
+first_of None other = other
+
+-- Of an id that was given by the beginning: the tuple that is there now, else the one that was put
+-- aside.
+abbrev pub owed_at : Draft → Tuples → ℕ → Option Tuple
+owed_at draft now id =
+    if nat_lt id draft.next then first_of (get now id) (get (aside_of draft) id) else None
+
+-- The snapshot began with the state `begun`, these bytes of it are written, and these tuples are
+-- there now:
+pub record Owes (begun : State) (draft : Draft) (bytes : List ℕ) (now : Tuples) : Type 0 where
+  -- what is written, and the tuples from the id `from` on, are the next id and all its tuples;
+  pub parts : bytes ++ flat_map (placed written).spell (entries_from draft.from begun.bag)
+      ≡ number.spell begun.next ++ (listed (placed written)).spell (entries begun.bag)
+  -- each of those tuples is there still, or was put aside;
+  pub owed : (id : ℕ) → draft.from ≤ id → get begun.bag id ≡ owed_at draft now id
+  -- its clients are spelled already, to be written last.
+  pub clients : draft.book.items ≡ (listed (kept written)).spell (entries begun.book)
+
+-- All its tuples are written.
+abbrev pub IsThrough : State → Draft → Type 0
+IsThrough begun draft = entries_from draft.from begun.bag ≡ []
+
+-- ---- its next tuple
+
+-- a tuple with its id that is lent
+abbrev pub seen : Option (ℕ × Bor Tuple) → Option (ℕ × Tuple)
+seen None = None
+seen (Some e) = Some (e.0, e.1.now)
+
+-- This is the first of the tuples from an id on and below another one; nothing if there is none.
+pub record IsFirst (rows : Tuples) (from next : ℕ) (found : Option (ℕ × Tuple)) : Type 0 where
+  pub there : IfSome found (λ e. get rows e.0 ≡ Some e.1)
+  pub above : IfSome found (λ e. from ≤ e.0)
+  pub below : IfSome found (λ e. e.0 < next)
+  pub least : IfSome found (λ e. (k : ℕ) → from ≤ k → k < e.0 → get rows k ≡ None)
+  pub none : IfNone found ((k : ℕ) → from ≤ k → k < next → get rows k ≡ None)
+
+-- This is the first of the tuples that the snapshot owes from an id on; nothing if it owes none.
+pub record IsFirstOwed (draft : Draft) (now : Tuples) (from : ℕ) (found : Option (ℕ × Tuple))
+    : Type 0 where
+  pub there : IfSome found (λ e. owed_at draft now e.0 ≡ Some e.1)
+  pub above : IfSome found (λ e. from ≤ e.0)
+  pub below : IfSome found (λ e. e.0 < draft.next)
+  pub least : IfSome found (λ e. (k : ℕ) → from ≤ k → k < e.0 → owed_at draft now k ≡ None)
+  pub none : IfNone found ((k : ℕ) → from ≤ k → owed_at draft now k ≡ None)
+
+-- that of the lesser id, and the first one if both have the same
+abbrev pub earlier_of : Option (ℕ × Tuple) → Option (ℕ × Tuple) → Option (ℕ × Tuple)
+earlier_of None other = other
+earlier_of (Some one) None = Some one
+earlier_of (Some one) (Some other) = if nat_lt other.0 one.0 then Some other else Some one

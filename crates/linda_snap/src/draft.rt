@@ -1,0 +1,215 @@
+//! A snapshot that is written in steps, while the server goes on between them.
+//!
+//! It is one of the state at its beginning. Tuples are written by rising id: one that is taken
+//! before its turn is put aside, and new tuples have greater ids and are not of it. What is kept
+//! for clients is spelled at the beginning, and written last. `specs/Draft` says what it has
+//! written, and what it owes.
+
+ghost use Rattle.std.specs.Prelude.{◌≡◌, ◌≤◌, ◌<◌, ◌^◌, ◌++◌, ℕ, List, [], length, None, Some};
+ghost use Rattle.std.specs.Prelude.{◌+◌, ◌⊎◌, OnOk, OnErr, IfOk, IfErr, IsErrOf, IfSome, IfNone};
+ghost use Rattle.linda_journal.specs.declared.limits.TheConstants.{MIN_BYTES};
+ghost use Rattle.std.specs.FinMap.{get, remove};
+ghost use Rattle.linda_store_state.specs.State as states;
+ghost use Rattle.linda_store_state.specs.State.{IsState};
+ghost use Rattle.linda_store_state.specs.DeedFormat.{written};
+ghost use Rattle.linda_snap.specs.Draft.{Tuples, Owes, IsThrough, IsFirst, IsFirstOwed};
+ghost use Rattle.linda_snap.specs.Draft.{seen, earlier_of};
+ghost use Rattle.linda_snap.specs.Snapshot.{spell_state};
+
+use crate::entry::push_placed;
+use crate::putting::{push_book, push_count};
+use crate::renewal::{SwitchFault, len_within};
+use linda_bag::{Bag, ListBag};
+use linda_store_state::State;
+use linda_tuple::Tuple;
+use std::alloc::{AllocError, Global};
+
+/// How many tuples a step looks at, at most.
+pub const STEP_TUPLES: u32 = 4_096;
+
+/// A snapshot that is begun.
+#[derive(Drop)]
+pub struct Draft {
+    // All tuples of lesser ids are written.
+    from: u64,
+    // The next id at its beginning.
+    next: u64,
+    // Tuples that were taken since, before their turn.
+    aside: ListBag,
+    // The spelling of what was kept for clients.
+    book: Vec<u8>,
+    // How many bytes all of it has.
+    len: usize,
+}
+
+impl Draft {
+    /// Begins a snapshot of the state, for a bank of this limit. Returns it with its first bytes,
+    /// which are to be written. It walks over the clients, and over no tuple.
+    ///
+    /// # Errors
+    ///
+    /// `BankFull` exactly if a bank with this snapshot would be longer than the limit; else
+    /// `Memory` if memory runs out.
+    pub fn begin<B: Bag>(
+        alloc: Global,
+        state: &State<B>,
+        limit: usize,
+    ) -> Result<(Draft, Vec<u8>), SwitchFault>
+        requires ranges { IsState state.now }
+        requires short { limit < 2 ^ 32 }
+        ensures begun { IfOk result (λ d. Owes state.now d.0 d.1.items state.now.bag) }
+        ensures len { IfOk result (λ d. d.0.len ≡ length (spell_state written state.now)) }
+        ensures room { OnOk result (MIN_BYTES + 1 + length (spell_state written state.now)
+            ≤ limit) }
+        ensures full { IsErrOf result SwitchFault.BankFull
+            → limit < MIN_BYTES + 1 + length (spell_state written state.now) }
+        ensures fault { IfErr result (λ fault. (fault ≡ SwitchFault.BankFull)
+            ⊎ (fault ≡ SwitchFault.Memory)) }
+    {
+        let Some(len) = len_within(state, limit) else {
+            return Err(SwitchFault::BankFull);
+        };
+        match spell_first(alloc, state, len) {
+            Ok(begun) => Ok(begun),
+            Err(_) => Err(SwitchFault::Memory),
+        }
+    }
+
+    /// How many bytes the whole snapshot has.
+    pub fn len(&self) -> usize
+        ensures { result ≡ self.now.len }
+    {
+        self.len
+    }
+
+    /// Puts aside a copy of a tuple that is taken, if its turn is still to come.
+    ///
+    /// # Errors
+    ///
+    /// `AllocError` if memory runs out: then the snapshot cannot go on once the tuple is taken.
+    pub fn keep(&mut self, id: u64, tuple: Tuple) -> Result<(), AllocError>
+        ensures { (begun : states.State) (bytes : List ℕ) (now : Tuples)
+            → Owes begun self.old bytes now → get now id ≡ Some tuple
+            → OnOk result (Owes begun self.new bytes (remove now id)) }
+    {
+        if self.from <= id && id < self.next {
+            self.aside.insert(id, tuple)?;
+        }
+        Ok(())
+    }
+
+    /// Spells the next tuples, until they have so many bytes, or there are 4,096 of them. Returns
+    /// their bytes, which are to be written behind those before; nothing if all are written.
+    ///
+    /// # Errors
+    ///
+    /// `AllocError` if memory runs out; nothing changed.
+    pub fn spell_next<B: Bag>(
+        &mut self,
+        alloc: Global,
+        state: &State<B>,
+        most: usize,
+    ) -> Result<Option<Vec<u8>>, AllocError>
+        ensures goes_on { (begun : states.State) (bytes : List ℕ)
+            → Owes begun self.old bytes state.now.bag
+            → IfOk result (λ step. IfSome step (λ more.
+            Owes begun self.new (bytes ++ more.items) state.now.bag)) }
+        ensures through { (begun : states.State) (bytes : List ℕ)
+            → Owes begun self.old bytes state.now.bag
+            → IfOk result (λ step. IfNone step (IsThrough begun self.new)) }
+        ensures ended { IfOk result (λ step. IfNone step (self.new ≡ self.old)) }
+        ensures err { OnErr result (self.new ≡ self.old) }
+    {
+        if self.owed_from(state, self.from).is_none() {
+            return Ok(None);
+        }
+        let mut more = Vec::new(alloc);
+        let mut from = self.from;
+        for _ in 0..STEP_TUPLES {
+            if more.len() >= most {
+                break;
+            }
+            let Some((id, tuple)) = self.owed_from(state, from) else {
+                break;
+            };
+            push_placed(&mut more, id, tuple)?;
+            from = id + 1;
+        }
+        self.from = from;
+        Ok(Some(more))
+    }
+
+    /// What is written last, behind all tuples: its clients.
+    pub fn book(&self) -> &[u8]
+        ensures { (begun : states.State) (bytes : List ℕ) (now : Tuples)
+            → Owes begun self.now bytes now → IsThrough begun self.now
+            → bytes ++ result.now ≡ spell_state written begun }
+    {
+        &self.book
+    }
+
+    // The first tuple that it owes, from this id on.
+    fn owed_from<'a, B: Bag>(&'a self, state: &'a State<B>, from: u64) -> Option<(u64, &'a Tuple)>
+        ensures { IsFirstOwed self.now state.now.bag from (seen result) }
+    {
+        let there = first_below(&state.bag, from, self.next);
+        let aside = first_below(&self.aside, from, self.next);
+        earlier(there, aside)
+    }
+}
+
+// A snapshot of so many bytes, and its first ones: the next id and the count of tuples.
+fn spell_first<B: Bag>(
+    alloc: Global,
+    state: &State<B>,
+    len: usize,
+) -> Result<(Draft, Vec<u8>), AllocError>
+    requires ranges { IsState state.now }
+    requires short { length (spell_state written state.now) < 2 ^ 32 }
+    ensures begun { IfOk result (λ d. Owes state.now d.0 d.1.items state.now.bag) }
+    ensures len { IfOk result (λ d. d.0.len ≡ len) }
+{
+    let mut book = Vec::new(alloc);
+    push_book(&mut book, &state.book)?;
+    let mut bytes = Vec::new(alloc);
+    bytes.extend_from_slice(&state.next.to_be_bytes())?;
+    push_count(&mut bytes, state.bag.len())?;
+    let draft = Draft {
+        from: 0,
+        next: state.next,
+        aside: ListBag::new(alloc),
+        book,
+        len,
+    };
+    Ok((draft, bytes))
+}
+
+// The first tuple of the bag from an id on and below another one.
+fn first_below<B: Bag>(bag: &B, from: u64, next: u64) -> Option<(u64, &Tuple)>
+    ensures { IsFirst (B.contents bag.now) from next (seen result) }
+{
+    let Some((id, tuple)) = bag.entry_from(from) else {
+        return None;
+    };
+    if id < next { Some((id, tuple)) } else { None }
+}
+
+// That of the lesser id, and the first one if both have the same.
+fn earlier<'a>(
+    one: Option<(u64, &'a Tuple)>,
+    other: Option<(u64, &'a Tuple)>,
+) -> Option<(u64, &'a Tuple)>
+    ensures { seen result ≡ earlier_of (seen one.entry) (seen other.entry) }
+{
+    match (one, other) {
+        (None, other) => other,
+        (Some(one), None) => Some(one),
+        (Some(one), Some(other)) => {
+            if other.0 < one.0 {
+                Some(other)
+            } else {
+                Some(one)
+            }
+        }
+    }
+}
