@@ -152,7 +152,11 @@ fn write(
         Ok(closed) => closed,
         Err((_, disk)) => return Ok((false, disk)),
     };
-    let mut bytes = spell_heading(alloc, 2, scene.draft.len())?;
+    let len = scene.draft.len();
+    if len > LIMIT {
+        return Err(AllocError);
+    }
+    let mut bytes = spell_heading(alloc, 2, len)?;
     bytes.extend_from_slice(first)?;
     let mut filling = match Filling::begin(closed).add(&bytes) {
         Ok(filling) => filling,
