@@ -1,21 +1,24 @@
 -- What a snapshot owes while tuples come and go, and how its steps write it.
 use Rattle.std.proofs.Common.{◌≡◌, ◌≢◌, ℕ, suc, ◌+◌, ◌<◌, ◌≤◌, ◌==◌, Bool, true, false, cond, List, [], ◌∷◌, ◌++◌, length, Option, Some, None, refl, sym, ap, subst, ◌∙◌, nat_cmp, true≢false, ◌⊎◌, inl, inr, append_assoc, append-nil, arith}
-use Rattle.std.specs.Prelude.{IfSome, is_none}
+use Rattle.std.specs.Prelude.{IfSome, is_none, nat_lt, ◌-◌, if◌then◌else◌}
 use Rattle.std.specs.Borrow.{Bor}
 use Rattle.std.specs.Global.{Vec}
 use Rattle.std.specs.Cmp.{unsigned_Decides}
-use Rattle.std.specs.List.{flat_map}
+use Rattle.std.specs.List.{flat_map, slice_get}
 use Rattle.std.specs.FinMap.{FinMap, get, insert, remove, entries}
 use Rattle.std.proofs.lemmas.Bool.{cases_lt, le-ltb, lt-ltb}
 use Rattle.linda_tuple.specs.Tuple.{Tuple}
 use Rattle.linda_maps.proofs.MapLaws.{get_same, get_other, get_removed_other, get_removed_same}
 use Rattle.linda_codec.specs.Formats.{number, short_number}
 use Rattle.linda_store_state.specs.DeedFormat.{written}
+use Rattle.linda_store_state.specs.declared.deed.Deed.{Deed}
+use Rattle.linda_store_state.specs.Deed.{is_taken, outs_of}
+use Rattle.linda_store_state.specs.After.{IsAfter}
 use Rattle.linda_store_state.specs.State.{State, IsState}
 use Rattle.linda_snap.specs.declared.draft.Draft.{Draft}
 use Rattle.linda_snap.specs.Rising.{entries_from}
 use Rattle.linda_snap.specs.Snapshot.{listed, placed, kept, spell_state}
-use Rattle.linda_snap.specs.Draft.{Tuples, Owes, IsThrough, IsFirst, IsFirstOwed, aside_of, first_of, owed_at, earlier_of, seen}
+use Rattle.linda_snap.specs.Draft.{Tuples, Owes, IsThrough, IsFirst, IsFirstOwed, IsSafe, aside_of, first_of, owed_at, earlier_of, seen}
 use Rattle.linda_snap.proofs.RisingLaws.{first_is, none_is, all_is}
 
 module _ (draft : Draft) (now : Tuples) where
@@ -183,6 +186,83 @@ gone_aside begun draft other bytes now id row owes there from next book aside = 
         there_still q apart =
             ap (λ o. first_of o (get (aside_of draft) q)) (sym (get_removed_other now id q apart))
             ∙ ap (λ o. first_of (get (remove now id) q) o) (sym (get_other (aside_of draft) id row q apart) ∙ ap (λ m. get m q) (sym aside))
+
+-- ---- a list of deeds
+
+-- Deeds take only tuples that are safe, so what was owed is owed still.
+pub owes_after : (begun : State) (draft : Draft) (bytes : List ℕ) (st : State) (ds : List Deed) (new : State) → Owes begun draft bytes st.bag → draft.next ≤ st.next → IsAfter st ds new → ((id : ℕ) → is_taken id ds ≡ true → IsSafe draft st.bag id) → Owes begun draft bytes new.bag
+owes_after begun draft bytes st ds new owes le after safe = record {
+  parts = owes.parts;
+  owed = λ q low. owes.owed q low ∙ owed_as draft draft st.bag new.bag q refl (λ lt. same q low lt);
+  clients = owes.clients;
+}
+  where
+    gone : (q : ℕ) → draft.from ≤ q → q < draft.next → IsSafe draft st.bag q → (o : Option Tuple) → get st.bag q ≡ o → first_of o (get (aside_of draft) q) ≡ get (aside_of draft) q
+    gone q low lt is None there = refl
+    gone q low lt is (Some row) there = sym (is low lt row there)
+
+    same : (q : ℕ) → draft.from ≤ q → q < draft.next → first_of (get st.bag q) (get (aside_of draft) q) ≡ first_of (get new.bag q) (get (aside_of draft) q)
+    same q low lt =
+        elim (is_taken q ds) as (λ b. is_taken q ds ≡ b → first_of (get st.bag q) (get (aside_of draft) q) ≡ first_of (get new.bag q) (get (aside_of draft) q)) [
+          | true ↦ λ is.
+              gone q low lt (safe q is) (get st.bag q) refl
+              ∙ ap (λ o. first_of o (get (aside_of draft) q)) (sym (after.bag q ∙ ap (λ b. cond b None (if nat_lt q st.next then get st.bag q else slice_get (outs_of ds) (q - st.next))) is))
+          | false ↦ λ is.
+              ap (λ o. first_of o (get (aside_of draft) q))
+              (sym (after.bag q
+              ∙ ap (λ b. cond b None (if nat_lt q st.next then get st.bag q else slice_get (outs_of ds) (q - st.next))) is
+              ∙ ap (λ b. cond b (get st.bag q) (slice_get (outs_of ds) (q - st.next))) (lt-ltb q st.next (omega (arith, lt, le)))))
+        ] refl
+
+-- A tuple that is there may be put aside too: what is owed is the same.
+pub aside_too : (begun : State) (draft other : Draft) (bytes : List ℕ) (now : Tuples) (id : ℕ) (row : Tuple) → Owes begun draft bytes now → get now id ≡ Some row → other.from ≡ draft.from → other.next ≡ draft.next → other.book ≡ draft.book → aside_of other ≡ insert (aside_of draft) id row → Owes begun other bytes now
+aside_too begun draft other bytes now id row owes there from next book aside = record {
+  parts = ap (λ n. bytes ++ flat_map (placed written).spell (entries_from n begun.bag)) from ∙ owes.parts;
+  owed = λ q low. owes.owed q (omega (arith, from, low)) ∙ owed_as draft other now now q next (λ lt. same q);
+  clients = ap (λ (b : Vec ℕ). b.items) book ∙ owes.clients;
+}
+  where
+    same : (q : ℕ) → first_of (get now q) (get (aside_of draft) q) ≡ first_of (get now q) (get (aside_of other) q)
+    same q =
+        elim (q == id) as (λ b. (q == id) ≡ b → first_of (get now q) (get (aside_of draft) q) ≡ first_of (get now q) (get (aside_of other) q)) [
+          | true ↦ λ is. here q ((unsigned_Decides q id).0 is)
+          | false ↦ λ is.
+              ap (λ o. first_of (get now q) o)
+              (sym (get_other (aside_of draft) id row q (λ e. true≢false (sym ((unsigned_Decides q id).1 e) ∙ is))) ∙ ap (λ m. get m q) (sym aside))
+        ] refl
+      where
+        here : (q : ℕ) → q ≡ id → first_of (get now q) (get (aside_of draft) q) ≡ first_of (get now q) (get (aside_of other) q)
+        here q e =
+            ap (λ k. first_of (get now k) (get (aside_of draft) k)) e
+            ∙ ap (λ o. first_of o (get (aside_of draft) id)) there
+            ∙ ap (λ o. first_of o (get (aside_of other) id)) (sym there)
+            ∙ ap (λ k. first_of (get now k) (get (aside_of other) k)) (sym e)
+
+-- What is owed goes by what is aside.
+pub same_aside : (begun : State) (draft other : Draft) (bytes : List ℕ) (now : Tuples) → Owes begun draft bytes now → other.from ≡ draft.from → other.next ≡ draft.next → other.book ≡ draft.book → aside_of other ≡ aside_of draft → Owes begun other bytes now
+same_aside begun draft other bytes now owes from next book aside = record {
+  parts = ap (λ n. bytes ++ flat_map (placed written).spell (entries_from n begun.bag)) from ∙ owes.parts;
+  owed = λ q low. owes.owed q (omega (arith, from, low)) ∙ owed_as draft other now now q next (λ lt. ap (λ m. first_of (get now q) (get m q)) (sym aside));
+  clients = ap (λ (b : Vec ℕ). b.items) book ∙ owes.clients;
+}
+
+-- What is put aside is safe, and what was safe is safe still.
+pub safe_now : (draft other : Draft) (now : Tuples) (id : ℕ) (row : Tuple) → get now id ≡ Some row → aside_of other ≡ insert (aside_of draft) id row → IsSafe other now id
+safe_now draft other now id row there aside low lt v is =
+    ap (λ m. get m id) aside ∙ get_same (aside_of draft) id row ∙ sym there ∙ is
+
+pub safe_still : (draft other : Draft) (now : Tuples) (id : ℕ) (row : Tuple) (q : ℕ) → get now id ≡ Some row → other.from ≡ draft.from → other.next ≡ draft.next → aside_of other ≡ insert (aside_of draft) id row → IsSafe draft now q → IsSafe other now q
+safe_still draft other now id row q there from next aside safe low lt v is =
+    elim (q == id) as (λ b. (q == id) ≡ b → get (aside_of other) q ≡ Some v) [
+      | true ↦ λ e. subst (λ k. get now k ≡ Some v → get (aside_of other) k ≡ Some v) (sym ((unsigned_Decides q id).0 e)) (safe_now draft other now id row there aside (low_at ((unsigned_Decides q id).0 e)) (lt_at ((unsigned_Decides q id).0 e)) v) is
+      | false ↦ λ e. ap (λ m. get m q) aside ∙ get_other (aside_of draft) id row q (λ same. true≢false (sym ((unsigned_Decides q id).1 same) ∙ e)) ∙ safe (omega (arith, from, low)) (omega (arith, next, lt)) v is
+    ] refl
+  where
+    low_at : q ≡ id → other.from ≤ id
+    low_at same = omega (arith, same, low)
+
+    lt_at : q ≡ id → id < other.next
+    lt_at same = omega (arith, same, lt)
 
 -- ---- its beginning
 

@@ -44,6 +44,12 @@ pub record Owes (begun : State) (draft : Draft) (bytes : List ℕ) (now : Tuples
   -- its clients are spelled already, to be written last.
   pub clients : draft.book.items ≡ (listed (kept written)).spell (entries begun.book)
 
+-- The tuple of this id may be taken: it is written, or not of the snapshot, or put aside.
+abbrev pub IsSafe : Draft → Tuples → ℕ → Type 0
+IsSafe draft now id =
+    draft.from ≤ id → id < draft.next
+    → (row : Tuple) → get now id ≡ Some row → get (aside_of draft) id ≡ Some row
+
 -- All its tuples are written.
 abbrev pub IsThrough : State → Draft → Type 0
 IsThrough begun draft = entries_from draft.from begun.bag ≡ []

@@ -13,7 +13,7 @@ ghost use Rattle.linda_store_state.specs.State as states;
 ghost use Rattle.linda_store_state.specs.State.{IsState};
 ghost use Rattle.linda_store_state.specs.DeedFormat.{written};
 ghost use Rattle.linda_snap.specs.Draft.{Tuples, Owes, IsThrough, IsFirst, IsFirstOwed};
-ghost use Rattle.linda_snap.specs.Draft.{seen, earlier_of};
+ghost use Rattle.linda_snap.specs.Draft.{seen, earlier_of, IsSafe};
 ghost use Rattle.linda_snap.specs.Snapshot.{spell_state};
 
 use crate::entry::push_placed;
@@ -95,6 +95,36 @@ impl Draft {
         if self.from <= id && id < self.next {
             self.aside.insert(id, tuple)?;
         }
+        Ok(())
+    }
+
+    /// Puts aside a copy of the tuple of this id, if it is there and its turn is still to come: then
+    /// it may be taken.
+    ///
+    /// # Errors
+    ///
+    /// `AllocError` if memory runs out; nothing changed.
+    pub fn put_aside<B: Bag>(
+        &mut self,
+        alloc: Global,
+        state: &State<B>,
+        id: u64,
+    ) -> Result<(), AllocError>
+        ensures owes { (begun : states.State) (bytes : List ℕ)
+            → Owes begun self.old bytes state.now.bag → Owes begun self.new bytes state.now.bag }
+        ensures aside { OnOk result (IsSafe self.new state.now.bag id) }
+        ensures others { (q : ℕ) → IsSafe self.old state.now.bag q → IsSafe self.new state.now.bag q }
+        ensures same { (self.new.from ≡ self.old.from) × (self.new.next ≡ self.old.next)
+            × (self.new.len ≡ self.old.len) }
+    {
+        if id < self.from || id >= self.next {
+            return Ok(());
+        }
+        let Some(tuple) = state.bag.get(id) else {
+            return Ok(());
+        };
+        let copy = tuple.try_clone(alloc)?;
+        self.aside.insert(id, copy)?;
         Ok(())
     }
 
