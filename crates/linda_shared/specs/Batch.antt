@@ -2,22 +2,22 @@
 use Rattle.std.specs.Prelude.{ℕ, Bool, true, List, [], ◌∷◌, ◌&&◌, is_some}
 use Rattle.linda_wire.specs.declared.message.Message.{Message}
 use Rattle.linda_shared_queue.specs.declared.address.Address.{Address}
-use Rattle.linda_shared_queue.specs.declared.delivery.Delivery.{Delivery}
+use Rattle.linda_shared_queue.specs.declared.answer.Answer.{Answer}
 
--- The messages, each with its client, and of each delivery whether it has its copy.
+-- The messages, each with its client, and of each answer whether it has its copy.
 pub record Batch : Type 0 where
   pub messages : List (ℕ × Message)
-  pub deliveries : List Bool
+  pub answers : List Bool
 
 abbrev pub batch_of : List (ℕ × Message) → List Bool → Batch
-batch_of messages deliveries = record { messages = messages; deliveries = deliveries }
+batch_of messages answers = record { messages = messages; answers = answers }
 
 -- a message that waits, as it is in hand: with the client whose mailbox its answer goes to
 abbrev pub parcel : {L : Type 0} → Message × Address L × ℕ → ℕ × Message
 parcel m = (m.1.client, m.0)
 
-abbrev pub has_copy : {L : Type 0} → Delivery L → Bool
-has_copy delivery = is_some delivery.answer.copy
+abbrev pub has_copy : {L : Type 0} → Answer (Address L) L → Bool
+has_copy answer = is_some answer.copy
 
 -- whether all of these are so
 abbrev pub all_true : List Bool → Bool

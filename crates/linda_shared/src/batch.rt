@@ -12,7 +12,7 @@ use crate::given::settle;
 use linda_disk::Disk;
 use linda_shared_accounts::{Answered, Asked};
 use linda_shared_held::Held;
-use linda_shared_queue::{Address, Delivery, Queue, Router, Waiting};
+use linda_shared_queue::{Address, Answer, Queue, Router, Waiting};
 use linda_store_step::MAX_BATCH;
 use linda_wire::Message;
 use std::alloc::{AllocError, Global};
@@ -20,15 +20,15 @@ use std::marker::Model;
 use std::sync::Wait;
 use std::sync::ledger::Ledger;
 
-/// The messages in hand, each with its client and its part of the ledger, and the deliveries that
-/// answer them. Contracts see the messages with their clients, in order, and of each delivery
-/// whether it has a copy. The client of a message is the one that its answer goes to.
+/// The messages in hand, each with its client and its part of the ledger, and the answers that go
+/// out. Contracts see the messages with their clients, in order, and of each answer whether it has
+/// a copy. The client of a message is the one that its answer goes to.
 #[derive(Drop)]
 pub(crate) struct Batch<L: Ledger> {
     messages: Vec<(u32, Message)>,
     asked: Vec<Asked<Address<L>, L>>,
     answered: Vec<Answered<Address<L>, L>>,
-    pub(crate) deliveries: Vec<Delivery<L>>,
+    pub(crate) answers: Vec<Answer<Address<L>, L>>,
 }
 
 impl<L: Ledger> Model for Batch<L> {
@@ -39,14 +39,14 @@ impl<L: Ledger> Model for Batch<L> {
 
     ghost Value = { seen.Batch };
 
-    ghost view = { λ t. batch_of t.messages.items (map has_copy t.deliveries.items) };
+    ghost view = { λ t. batch_of t.messages.items (map has_copy t.answers.items) };
 
     ghost invariant = { λ t. (map (λ m. m.0) t.messages.items
         ≡ map (λ a. a.address.client) t.asked.items)
         × (vec_len t.messages ≡ vec_len t.asked) × (vec_len t.answered ≡ 0)
-        × (vec_len t.asked + vec_len t.deliveries ≤ MAX_BATCH)
+        × (vec_len t.asked + vec_len t.answers ≤ MAX_BATCH)
         × (MAX_BATCH ≤ vec_capacity t.messages) × (MAX_BATCH ≤ vec_capacity t.asked)
-        × (MAX_BATCH ≤ vec_capacity t.answered) × (MAX_BATCH ≤ vec_capacity t.deliveries) };
+        × (MAX_BATCH ≤ vec_capacity t.answered) × (MAX_BATCH ≤ vec_capacity t.answers) };
 }
 
 impl<L: Ledger> Batch<L> {
@@ -57,12 +57,12 @@ impl<L: Ledger> Batch<L> {
         let messages = Vec::with_capacity(alloc, MAX_BATCH)?;
         let asked = Vec::with_capacity(alloc, MAX_BATCH)?;
         let answered = Vec::with_capacity(alloc, MAX_BATCH)?;
-        let deliveries = Vec::with_capacity(alloc, MAX_BATCH)?;
+        let answers = Vec::with_capacity(alloc, MAX_BATCH)?;
         Ok(Batch {
             messages,
             asked,
             answered,
-            deliveries,
+            answers,
         })
     }
 
@@ -74,13 +74,13 @@ impl<L: Ledger> Batch<L> {
         ensures taken { self.new.messages ++ map parcel (line queue.new.has_asked queue.new)
             ≡ self.old.messages ++ map parcel (line queue.new.has_asked queue.old) }
         // and no call of those that wait fits any more.
-        ensures full { fits (MAX_BATCH - length self.new.messages - length self.new.deliveries)
+        ensures full { fits (MAX_BATCH - length self.new.messages - length self.new.answers)
             (line queue.new.has_asked queue.new) ≡ false }
-        ensures deliveries { self.new.deliveries ≡ self.old.deliveries }
+        ensures answers { self.new.answers ≡ self.old.answers }
     {
         queue.begin();
         for _ in 0..MAX_BATCH {
-            let room = MAX_BATCH - self.asked.len() - self.deliveries.len();
+            let room = MAX_BATCH - self.asked.len() - self.answers.len();
             let Some(waiting) = queue.next(room) else {
                 break;
             };
@@ -91,42 +91,42 @@ impl<L: Ledger> Batch<L> {
         }
     }
 
-    /// Serves all that was asked, and writes a delivery for each. Where there is no memory for all
-    /// of these the server is given up, and they are lost.
+    /// Serves all that was asked, and writes an answer with a copy for each. Where there is no memory
+    /// for all copies the server is given up, and the answers are lost.
     pub(crate) fn serve<D: Disk>(&mut self, alloc: Global, held: &mut Held<D, L>) -> bool
         ensures served { self.new.messages ≡ [] }
-        ensures each { length self.new.deliveries
-            ≡ length self.old.messages + length self.old.deliveries }
-        ensures kept { result ≡ true → All IsTrue self.new.deliveries }
+        ensures each { length self.new.answers
+            ≡ length self.old.messages + length self.old.answers }
+        ensures kept { result ≡ true → All IsTrue self.new.answers }
         ensures down { result ≡ false → held.new.server.down ≡ true }
     {
         let _ = held.handle_all(alloc, &self.messages, &mut self.asked, &mut self.answered);
         self.messages.clear();
-        write_all(alloc, &mut self.answered, &mut self.deliveries);
-        settle(&mut self.deliveries, held)
+        write_all(alloc, &mut self.answered, &mut self.answers);
+        settle(&mut self.answers, held)
     }
 
-    /// The deliveries, for room to write as many again.
+    /// The answers, for room to write as many again.
     pub(crate) fn hand_over<R: Wait>(&mut self, rt: &R, router: &mut Router<L>)
         ensures { self.new ≡ batch_of self.old.messages [] }
     {
-        router.take_deliveries(rt, &mut self.deliveries);
+        router.take_answers(rt, &mut self.answers);
     }
 }
 
-// Writes a delivery for each answer.
+// Writes each answer with a copy.
 fn write_all<L: Ledger>(
     alloc: Global,
     answered: &mut Vec<Answered<Address<L>, L>>,
-    deliveries: &mut Vec<Delivery<L>>,
+    answers: &mut Vec<Answer<Address<L>, L>>,
 )
-    requires { vec_len deliveries.old + vec_len answered.old ≤ vec_capacity deliveries.old }
+    requires { vec_len answers.old + vec_len answered.old ≤ vec_capacity answers.old }
     ensures answered { (vec_len answered.new ≡ 0)
         × (vec_capacity answered.new ≡ vec_capacity answered.old) }
-    ensures deliveries { (vec_len deliveries.new ≡ vec_len deliveries.old + vec_len answered.old)
-        × (vec_capacity deliveries.new ≡ vec_capacity deliveries.old) }
+    ensures answers { (vec_len answers.new ≡ vec_len answers.old + vec_len answered.old)
+        × (vec_capacity answers.new ≡ vec_capacity answers.old) }
 {
     while let Some(one) = answered.pop() {
-        deliveries.push_reserved(Delivery::of(alloc, one));
+        answers.push_reserved(Answer::of(alloc, one));
     }
 }

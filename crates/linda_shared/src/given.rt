@@ -1,39 +1,39 @@
-//! What becomes of a group's deliveries.
+//! What becomes of a group's answers.
 
 ghost use Rattle.std.specs.Prelude.{◌≡◌, true, false, not, All, IsTrue, map, vec_len, vec_capacity};
 ghost use Rattle.linda_shared.specs.Batch.{has_copy, all_true};
 
 use linda_disk::Disk;
 use linda_shared_held::Held;
-use linda_shared_queue::Delivery;
+use linda_shared_queue::{Address, Answer};
 use std::sync::ledger::Ledger;
 
-/// Whether all deliveries have their copies, and so may go out. Else the server is given up, and
+/// Whether all answers have their copies, and so may go out. Else the server is given up, and
 /// all are lost.
 pub(crate) fn settle<D: Disk, L: Ledger>(
-    deliveries: &mut Vec<Delivery<L>>,
+    answers: &mut Vec<Answer<Address<L>, L>>,
     held: &mut Held<D, L>,
 ) -> bool
-    ensures is { result ≡ all_true (map has_copy deliveries.old.items) }
-    ensures kept { result ≡ true → (deliveries.new.items ≡ deliveries.old.items)
+    ensures is { result ≡ all_true (map has_copy answers.old.items) }
+    ensures kept { result ≡ true → (answers.new.items ≡ answers.old.items)
         × (held.new ≡ held.old) }
     ensures down { result ≡ false → held.new.server.down ≡ true }
-    ensures each { (vec_len deliveries.new ≡ vec_len deliveries.old)
-        × (vec_capacity deliveries.new ≡ vec_capacity deliveries.old) }
+    ensures each { (vec_len answers.new ≡ vec_len answers.old)
+        × (vec_capacity answers.new ≡ vec_capacity answers.old) }
 {
-    if !has_lost(deliveries) {
+    if !has_lost(answers) {
         return true;
     }
     held.give_up();
-    lose_all(deliveries);
+    lose_all(answers);
     false
 }
 
 // Whether one of these is lost.
-fn has_lost<L: Ledger>(deliveries: &[Delivery<L>]) -> bool
-    ensures { result ≡ not (all_true (map has_copy deliveries.now)) }
+fn has_lost<L: Ledger>(answers: &[Answer<Address<L>, L>]) -> bool
+    ensures { result ≡ not (all_true (map has_copy answers.now)) }
 {
-    let mut rest = deliveries;
+    let mut rest = answers;
     while let [first, others @ ..] = rest {
         if first.is_lost() {
             return true;
@@ -44,11 +44,11 @@ fn has_lost<L: Ledger>(deliveries: &[Delivery<L>]) -> bool
 }
 
 // All of these are lost.
-fn lose_all<L: Ledger>(deliveries: &mut Vec<Delivery<L>>)
-    ensures { (vec_len deliveries.new ≡ vec_len deliveries.old)
-        × (vec_capacity deliveries.new ≡ vec_capacity deliveries.old) }
+fn lose_all<L: Ledger>(answers: &mut Vec<Answer<Address<L>, L>>)
+    ensures { (vec_len answers.new ≡ vec_len answers.old)
+        × (vec_capacity answers.new ≡ vec_capacity answers.old) }
 {
-    for index in 0..deliveries.len() {
-        deliveries[index].lose();
+    for index in 0..answers.len() {
+        answers[index].lose();
     }
 }

@@ -28,7 +28,7 @@ impl<D: Disk, L: Ledger> Locked<D, L> {
     pub(crate) fn serve(&mut self, alloc: Global)
         ensures served { self.new.batch.messages ≡ [] }
         // Unless the server was given up, each answer has its copy;
-        ensures kept { self.new.is_given_up ≡ false → All IsTrue self.new.batch.deliveries }
+        ensures kept { self.new.is_given_up ≡ false → All IsTrue self.new.batch.answers }
         // and once it was it is for good.
         ensures stays { self.old.is_given_up ≡ true → self.new.is_given_up ≡ true }
         ensures down { self.old.is_given_up ≡ false → self.new.is_given_up ≡ true
@@ -45,7 +45,7 @@ impl<D: Disk, L: Ledger> Locked<D, L> {
         ensures all { self.old.is_given_up ≡ false
             → (c : ℕ) → handed_out (waits_for self.new.held.boxes c) ≡ [] }
         ensures none { self.old.is_given_up ≡ true → router.new ≡ router.old }
-        ensures deliveries { router.new.deliveries ≡ router.old.deliveries }
+        ensures answers { router.new.answers ≡ router.old.answers }
         ensures same { self.new.is_given_up ≡ self.old.is_given_up }
     {
         for _ in rt.forever() {

@@ -101,7 +101,7 @@ impl<L: Ledger> Account<L> {
     }
 
     /// An answer comes back.
-    pub fn hear<A: Drop>(&mut self, answered: Answered<A, L>) -> (A, Effect)
+    pub fn hear<A: Drop>(&mut self, answered: Answered<A, L>) -> (A, Effect<SharedReceipt>)
         requires { 0 < self.old.asked }
         ensures account { self.new
             ≡ account_of self.old.client (self.old.deeds + weight answered.told)

@@ -4,22 +4,22 @@ ghost use Rattle.std.specs.Prelude.{◌≡◌, ◌≤◌};
 ghost use Rattle.linda_shared_accounts.specs.Effect as spec;
 
 use crate::fault::SharedFault;
-use crate::shared_receipt::SharedReceipt;
 
-/// What one message led to.
+/// What one message led to. A deed has its receipt: one that several share, or one with memory of
+/// its own.
 #[derive(Debug, Drop)]
-pub enum Effect {
+pub enum Effect<R> {
     /// A deed.
-    Deed(SharedReceipt),
+    Deed(R),
     /// No deed.
     NoDeed,
     /// Nothing was done.
     Failed(SharedFault),
 }
 
-impl Effect {
+impl<R> Effect<R> {
     /// What is told of a message, given the receipt of its deed, if it made one.
-    pub fn of(receipt: Option<SharedReceipt>) -> Effect
+    pub fn of(receipt: Option<R>) -> Effect<R>
         ensures { result ≡ spec.told_of receipt }
     {
         match receipt {

@@ -6,6 +6,7 @@ ghost use Rattle.linda_shared_accounts.specs.Effect.{weight};
 
 use crate::accounts::Accounts;
 use crate::effect::Effect;
+use crate::shared_receipt::SharedReceipt;
 use std::sync::ledger::{Ledger, Share};
 
 /// A message on its way to the server: nothing is told yet. The address says where the answer is to
@@ -22,7 +23,7 @@ pub struct Asked<A: Drop, L: Ledger> {
 #[derive(Drop)]
 pub struct Answered<A: Drop, L: Ledger> {
     pub(crate) address: A,
-    pub(crate) told: Effect,
+    pub(crate) told: Effect<SharedReceipt>,
     pub(crate) part: Share<L>,
     ghost one: { part.parts ≡ 1 },
     ghost counted: { part.amount ≡ weight told },
@@ -37,7 +38,7 @@ impl<A: Drop, L: Ledger> Asked<A, L> {
     }
 
     /// Writes what is told into the ledger. There is no other way back.
-    pub fn answered(self, accounts: &mut Accounts<L>, told: Effect) -> Answered<A, L>
+    pub fn answered(self, accounts: &mut Accounts<L>, told: Effect<SharedReceipt>) -> Answered<A, L>
         requires { accounts.old.total + weight told < 2 ^ 64 }
         ensures accounts { accounts.new ≡ accounts_of (accounts.old.total + weight told)
             accounts.old.places }
@@ -68,7 +69,7 @@ impl<A: Drop, L: Ledger> Answered<A, L> {
     }
 
     /// What is told.
-    pub fn told(&self) -> &Effect
+    pub fn told(&self) -> &Effect<SharedReceipt>
         ensures { result.now ≡ self.now.told }
     {
         &self.told

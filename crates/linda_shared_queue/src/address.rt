@@ -4,6 +4,7 @@ ghost use Rattle.std.specs.Prelude.{◌≡◌};
 ghost use Rattle.std.specs.Arc.{arc_value};
 
 use crate::mailbox::Mailbox;
+use crate::recipient::Recipient;
 use std::alloc::Global;
 use std::sync::ledger::Ledger;
 use std::sync::{Arc, Wait};
@@ -37,11 +38,11 @@ impl<L: Ledger> Address<L> {
         self.client
     }
 
-    /// Which place it is.
-    pub(crate) fn place(&self) -> usize
-        ensures { result ≡ self.now.place }
+    /// Who waits there.
+    pub(crate) fn recipient(&self) -> Recipient
+        ensures { (result.client ≡ self.now.client) × (result.place ≡ self.now.place) }
     {
-        self.place
+        Recipient::new(self.client, self.place)
     }
 
     /// The mailbox by itself.

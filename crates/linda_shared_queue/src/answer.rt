@@ -2,57 +2,43 @@
 
 ghost use Rattle.std.specs.Prelude.{◌≡◌, None, is_none, IfSome};
 ghost use Rattle.std.specs.Option.{ForSome};
-ghost use Rattle.linda_shared_queue.specs.Copied.{effect_of};
 
-use crate::copied::Copied;
-use linda_shared_accounts::Answered;
+use linda_shared_accounts::{Answered, Effect, Receipt, SharedReceipt};
 use std::alloc::Global;
 use std::sync::ledger::Ledger;
 
 /// What is told of a client's message, with a second copy of it: one stays with the session, the
-/// other is for whoever submitted. It knows the place where it is waited for. An answer without a
-/// copy is lost: memory ran out, and the message counts as one of a server that went down.
+/// other is for the caller that submitted, and has memory of its own. On its way it has the address
+/// of its message, and in the mailbox the recipient that waits for it. An answer without a copy is
+/// lost: memory ran out, and the message counts as one of a server that went down.
 #[derive(Drop)]
-pub struct Answer<L: Ledger> {
-    client: u32,
-    place: usize,
+pub struct Answer<A: Drop, L: Ledger> {
+    address: A,
     answered: Answered<(), L>,
-    copy: Option<Copied>,
-    ghost same: { ForSome copy (λ told. effect_of told ≡ answered.told) },
+    copy: Option<Effect<Receipt>>,
+    ghost same: { ForSome copy (λ told. told ≡ answered.told) },
 }
 
-impl<L: Ledger> Answer<L> {
+impl<A: Drop, L: Ledger> Answer<A, L> {
     /// The answer with a copy, where there is memory for one.
-    pub(crate) fn of(
-        alloc: Global,
-        client: u32,
-        place: usize,
-        answered: Answered<(), L>,
-    ) -> Answer<L>
-        ensures to { (result.client ≡ client) × (result.place ≡ place) }
+    pub fn of(alloc: Global, answered: Answered<A, L>) -> Answer<A, L>
+        ensures to { result.address ≡ answered.address }
         ensures told { result.answered.told ≡ answered.told }
     {
-        let copy = Copied::of(alloc, answered.told());
+        let (address, answered) = answered.detach();
+        let copy = copy_of(alloc, answered.told());
         Answer {
-            client,
-            place,
+            address,
             answered,
             copy,
         }
     }
 
-    /// The client that sent the message.
-    pub fn client(&self) -> u32
-        ensures { result ≡ self.now.client }
+    /// Where it goes.
+    pub fn address(&self) -> &A
+        ensures { result.now ≡ self.now.address }
     {
-        self.client
-    }
-
-    /// The place where it is waited for.
-    pub fn place(&self) -> usize
-        ensures { result ≡ self.now.place }
-    {
-        self.place
+        &self.address
     }
 
     /// Whether it has no copy.
@@ -65,18 +51,52 @@ impl<L: Ledger> Answer<L> {
     /// Loses it.
     pub fn lose(&mut self)
         ensures lost { self.new.copy ≡ None }
-        ensures same { (self.new.client ≡ self.old.client) × (self.new.place ≡ self.old.place)
+        ensures same { (self.new.address ≡ self.old.address)
             × (self.new.answered.told ≡ self.old.answered.told) }
     {
         self.copy = None;
     }
 
+    /// The address by itself, and the answer for this recipient.
+    pub(crate) fn hand_to<B: Drop>(self, recipient: B) -> (A, Answer<B, L>)
+        ensures to { (result.0 ≡ self.address) × (result.1.address ≡ recipient) }
+        ensures same { (result.1.answered.told ≡ self.answered.told)
+            × (result.1.copy ≡ self.copy) }
+    {
+        let Answer {
+            address,
+            answered,
+            copy,
+            ..
+        } = self;
+        let answer = Answer {
+            address: recipient,
+            answered,
+            copy,
+        };
+        (address, answer)
+    }
+
     /// The answer and its copy.
-    pub fn into_parts(self) -> (Answered<(), L>, Option<Copied>)
-        ensures same { IfSome result.1 (λ told. effect_of told ≡ result.0.told) }
+    pub fn into_parts(self) -> (Answered<(), L>, Option<Effect<Receipt>>)
+        ensures same { IfSome result.1 (λ told. told ≡ result.0.told) }
         ensures parts { (result.0.told ≡ self.answered.told) × (result.1 ≡ self.copy) }
     {
         let Answer { answered, copy, .. } = self;
         (answered, copy)
+    }
+}
+
+// A copy of what is told, where there is memory for one.
+fn copy_of(alloc: Global, told: &Effect<SharedReceipt>) -> Option<Effect<Receipt>>
+    ensures { IfSome result (λ copy. copy ≡ told.now) }
+{
+    match told {
+        Effect::Deed(receipt) => match receipt.get().try_clone(alloc) {
+            Ok(copy) => Some(Effect::Deed(copy)),
+            Err(_) => None,
+        },
+        Effect::NoDeed => Some(Effect::NoDeed),
+        Effect::Failed(fault) => Some(Effect::Failed(*fault)),
     }
 }

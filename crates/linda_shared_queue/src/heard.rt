@@ -39,7 +39,12 @@ impl Heard {
     }
 
     /// The account hears the answer to its next message.
-    pub fn add<L: Ledger>(&mut self, account: &mut Account<L>, message: &Message, answer: Answer<L>)
+    pub fn add<A: Drop, L: Ledger>(
+        &mut self,
+        account: &mut Account<L>,
+        message: &Message,
+        answer: Answer<A, L>,
+    )
         requires asked { 0 < account.old.asked }
         requires room { vec_len self.old.told < vec_capacity self.old.told }
         ensures so { (before : accounts.Account) (ms : List messages.Message)

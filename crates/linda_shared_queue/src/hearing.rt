@@ -10,7 +10,6 @@ ghost use Rattle.linda_shared_queue.specs.Hearing.{IsHeard, IsAnswered};
 ghost use Rattle.linda_shared_queue.specs.Seat.{with_told, back, IsLeft, IsLost, IsToldOf};
 
 use crate::answer::Answer;
-use crate::copied::Copied;
 use linda_shared_accounts::{
     Account, Answered, Effect, Receipt, SharedFault, SharedReceipt, is_deed_of,
 };
@@ -24,10 +23,10 @@ use std::sync::ledger::Ledger;
 /// `Receipt`: the account was told of a deed that the message does not ask for, or of one that it
 /// was told before.
 /// `Down`: the copy was lost. Else what the server said, and nothing was done.
-pub fn hear<L: Ledger>(
+pub fn hear<A: Drop, L: Ledger>(
     account: &mut Account<L>,
     message: &Message,
-    answer: Answer<L>,
+    answer: Answer<A, L>,
 ) -> Result<Option<Receipt>, SharedFault>
     requires { 0 < account.old.asked }
     ensures ok { IfOk result (λ r. account.new ≡ with_told (back account.old) r) }
@@ -43,9 +42,9 @@ pub fn hear<L: Ledger>(
         Effect::Deed(receipt) => {
             note(account, message, receipt)?;
             match copy {
-                Some(Copied::Deed(copy)) => Ok(Some(copy)),
-                Some(Copied::NoDeed) => unreachable!(),
-                Some(Copied::Failed(_)) => unreachable!(),
+                Some(Effect::Deed(copy)) => Ok(Some(copy)),
+                Some(Effect::NoDeed) => unreachable!(),
+                Some(Effect::Failed(_)) => unreachable!(),
                 None => Err(SharedFault::Down),
             }
         }

@@ -6,8 +6,8 @@
 //! - The `Queue` has the messages that wait to be served, those of which no deed comes in a line of
 //!   their own, and says
 //!   who is to serve the next group.
-//! - An `Answer` is what is told of a message, with a second copy of it. A `Delivery` is one on its
-//!   way to a mailbox.
+//! - An `Answer` is what is told of a message, with a second copy of it. On its way it has the
+//!   `Address` of its message, and in the mailbox the `Recipient` that waits for it.
 //! - `hear` is what an account hears of its answer, and `Heard` what it hears of a batch;
 //!   `hear_answer` is for an answer
 //!   that is not copied, since whoever serves a group gives it to the session itself.
@@ -20,8 +20,6 @@
 
 mod address;
 mod answer;
-mod copied;
-mod delivery;
 mod heard;
 mod hearing;
 mod mail;
@@ -29,18 +27,17 @@ mod mailbox;
 mod mailboxes;
 mod outlet;
 mod queue;
+mod recipient;
 mod router;
 mod send;
 
 pub use address::Address;
 pub use answer::Answer;
-pub use copied::Copied;
-pub use delivery::Delivery;
 pub use heard::Heard;
 pub use hearing::{hear, hear_answer};
-pub use mail::Turn;
 pub use mailbox::Mailbox;
 pub use outlet::Outlet;
 pub use queue::{Queue, Waiting};
+pub use recipient::Recipient;
 pub use router::Router;
 pub use send::{mailbox_crosses, outlet_crosses, queue_crosses, router_crosses};

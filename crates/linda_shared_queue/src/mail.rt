@@ -5,28 +5,18 @@ ghost use Rattle.std.specs.Prelude.{Some, vec_len, slice_get, slice_set, OnOk, O
 ghost use Rattle.linda_shared_queue.specs.Turns.{GivesFrom, IsThere};
 
 use crate::answer::Answer;
+use crate::recipient::Recipient;
 use linda_shared_outbox::Sent;
 use linda_wire::Reply;
 use std::alloc::{AllocError, Global};
 use std::sync::ledger::Ledger;
-
-/// How the messages in hand of a session stand.
-#[derive(Drop)]
-pub enum Turn<L: Ledger> {
-    /// The answer asked for is not there.
-    None,
-    /// The session is to serve the next group.
-    Leads,
-    /// The answer.
-    Served(Answer<L>),
-}
 
 /// The contents of a mailbox.
 #[derive(Drop)]
 pub(crate) struct Mail<L: Ledger> {
     replies: Vec<Reply>,
     // A place for the answer to each message in hand, and how many are still to come.
-    places: Vec<Option<Answer<L>>>,
+    places: Vec<Option<Answer<Recipient, L>>>,
     due: usize,
     leads: bool,
     // No reply comes any more: the server is down, the seat was given up, or a reply could not be
@@ -100,12 +90,12 @@ impl<L: Ledger> Mail<L> {
     }
 
     /// Puts an answer into its own place.
-    pub(crate) fn put(&mut self, answer: Answer<L>)
+    pub(crate) fn put(&mut self, answer: Answer<Recipient, L>)
         ensures places { self.new.places.items
-            ≡ slice_set self.old.places.items answer.place (Some answer) }
+            ≡ slice_set self.old.places.items answer.address.place (Some answer) }
         ensures due { self.new.due ≡ self.old.due - 1 }
     {
-        let place = answer.place();
+        let place = answer.address().place();
         if place < self.places.len() {
             self.places[place] = Some(answer);
         }
@@ -148,25 +138,25 @@ impl<L: Ledger> Mail<L> {
         std::mem::replace(&mut self.replies, Vec::new(alloc))
     }
 
-    /// Whether the session is to lead, before all; else the answer of this place, which is there no
-    /// more.
-    pub(crate) fn turn(&mut self, place: usize) -> Turn<L>
-        ensures gives { GivesFrom self.old.leads (slice_get self.old.places.items place) result }
-        ensures leads { self.new.leads ≡ false }
+    /// Whether the session is to lead, before all; if not, the answer of this place, which is there
+    /// no more.
+    pub(crate) fn turn(&mut self, place: usize) -> (bool, Option<Answer<Recipient, L>>)
+        ensures gives { GivesFrom self.old.leads (slice_get self.old.places.items place) result.1 }
+        ensures leads { (result.0 ≡ self.old.leads) × (self.new.leads ≡ false) }
     {
         if self.leads {
             self.leads = false;
-            return Turn::Leads;
+            return (true, None);
         }
-        match collect(&mut self.places, place) {
-            Some(answer) => Turn::Served(answer),
-            None => Turn::None,
-        }
+        (false, collect(&mut self.places, place))
     }
 }
 
 // Takes the answer out of this place.
-fn collect<L: Ledger>(places: &mut Vec<Option<Answer<L>>>, place: usize) -> Option<Answer<L>>
+fn collect<L: Ledger>(
+    places: &mut Vec<Option<Answer<Recipient, L>>>,
+    place: usize,
+) -> Option<Answer<Recipient, L>>
     ensures { IsThere result (slice_get places.old.items place) }
 {
     if place < places.len() {

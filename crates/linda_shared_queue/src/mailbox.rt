@@ -3,7 +3,8 @@
 ghost use Rattle.std.specs.Prelude.{◌≡◌};
 
 use crate::answer::Answer;
-use crate::mail::{Mail, Turn};
+use crate::mail::Mail;
+use crate::recipient::Recipient;
 use linda_shared_outbox::Sent;
 use linda_wire::Reply;
 use std::alloc::{AllocError, Global};
@@ -80,8 +81,8 @@ impl<L: Ledger> Mailbox<L> {
     }
 
     /// Puts an answer to its client into its place. With the last one whoever submitted is woken.
-    pub(crate) fn put<R: Wait>(&self, rt: &R, answer: Answer<L>)
-        requires { answer.client ≡ self.now.client }
+    pub(crate) fn put<R: Wait>(&self, rt: &R, answer: Answer<Recipient, L>)
+        requires { answer.address.client ≡ self.now.client }
     {
         let mut mail = self.mail.lock(rt);
         mail.put(answer);
@@ -109,9 +110,9 @@ impl<L: Ledger> Mailbox<L> {
         self.news.notify_all();
     }
 
-    /// Waits until all answers are there, or the session is to lead; takes the answer of this
-    /// place.
-    pub fn wait_turn<R: Wait>(&self, rt: &R, place: usize) -> Turn<L> {
+    /// Waits until all answers are there, or the session is to lead. Says whether it is to lead; if
+    /// not, takes the answer of this place.
+    pub fn wait_turn<R: Wait>(&self, rt: &R, place: usize) -> (bool, Option<Answer<Recipient, L>>) {
         let mut mail = self
             .turned
             .wait_while(rt, self.mail.lock(rt), |mail| mail.is_idle());

@@ -2,7 +2,7 @@
 
 use super::Shared;
 use linda_disk::Disk;
-use linda_shared_queue::{Answer, Mailbox, Turn};
+use linda_shared_queue::{Answer, Mailbox, Recipient};
 use std::sync::Wait;
 use std::sync::ledger::Ledger;
 
@@ -14,17 +14,17 @@ impl<D: Disk, L: Ledger> Shared<D, L> {
         mailbox: &Mailbox<L>,
         place: usize,
         leads: bool,
-    ) -> Answer<L> {
+    ) -> Answer<Recipient, L> {
         let mut leads = leads;
         for _ in rt.forever() {
             if leads {
                 self.lead(rt);
             }
-            match mailbox.wait_turn(rt, place) {
-                Turn::Served(answer) => return answer,
-                Turn::Leads => leads = true,
-                Turn::None => leads = false,
+            let (is_to_lead, answer) = mailbox.wait_turn(rt, place);
+            if let Some(answer) = answer {
+                return answer;
             }
+            leads = is_to_lead;
         }
         unreachable!()
     }

@@ -3,8 +3,8 @@ use Rattle.linda_shared.proofs.batch.write_all.Given as goal
 
 abbrev pub invariant-loop-one : goal.invariant-loop-one
 invariant-loop-one g l =
-    (vec_len l.deliveries + vec_len l.answered ≡ vec_len l.fn.deliveries + vec_len l.fn.answered)
-    × (vec_capacity l.deliveries ≡ vec_capacity l.fn.deliveries)
+    (vec_len l.answers + vec_len l.answered ≡ vec_len l.fn.answers + vec_len l.fn.answered)
+    × (vec_capacity l.answers ≡ vec_capacity l.fn.answers)
     × (vec_capacity l.answered ≡ vec_capacity l.fn.answered)
 
 abbrev pub decreases-loop-one : goal.decreases-loop-one

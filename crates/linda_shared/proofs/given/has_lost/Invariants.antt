@@ -3,7 +3,7 @@ use Rattle.linda_shared.specs.Batch.{has_copy, all_true}
 use Rattle.linda_shared.proofs.given.has_lost.Given as goal
 
 abbrev pub invariant-loop-rest : goal.invariant-loop-rest
-invariant-loop-rest g l = all_true (map has_copy l.rest) ≡ all_true (map has_copy l.fn.deliveries)
+invariant-loop-rest g l = all_true (map has_copy l.rest) ≡ all_true (map has_copy l.fn.answers)
 
 abbrev pub decreases-loop-rest : goal.decreases-loop-rest
 decreases-loop-rest g l = length l.rest

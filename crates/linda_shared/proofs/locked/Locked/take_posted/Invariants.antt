@@ -6,4 +6,4 @@ invariant-loop g l =
     (goal.iterator-loop g).can_next l.iterator' × (goal.iterator-loop g).is_finite l.iterator'
     × (l.self.is_given_up ≡ l.fn.self.is_given_up)
     × (l.fn.self.is_given_up ≡ true → l.router ≡ l.fn.router)
-    × (l.router.deliveries ≡ l.fn.router.deliveries)
+    × (l.router.answers ≡ l.fn.router.answers)
