@@ -1,21 +1,21 @@
-//! What goes between sessions and the one that serves them.
+//! What goes between sessions and the one that serves them. What is put into a mailbox is its
+//! client's.
 //!
 //! - A `Mailbox` is a session's own: its replies, and a place for the answer to each message that
 //!   it has on its way.
-//! - `Outlet` is where its replies come out; whoever reads there never asks for the server.
+//! - `Outlet` is where its replies come out; a thread that reads there never asks for the server.
 //! - The `Queue` has the messages that wait to be served, those of which no deed comes in a line of
-//!   their own, and says
-//!   who is to serve the next group.
+//!   their own. It says who is to serve the next group.
 //! - An `Answer` is what is told of a message, with a second copy of it. On its way it has the
 //!   `Address` of its message, and in the mailbox the `Recipient` that waits for it.
-//! - `hear` is what an account hears of its answer, and `Heard` what it hears of a batch;
-//!   `hear_answer` is for an answer
-//!   that is not copied, since whoever serves a group gives it to the session itself.
+//! - `hear` is what an account hears of its answer, and `Heard` what it hears of a batch.
+//!   `hear_answer` is for an answer that is not copied, since the thread that serves a group gives
+//!   it to the session itself.
 //! - The `Router` has the mailbox of each session, and gives out what a group came to, while the
 //!   next one is served.
 //!
-//! Order of locks: the router's, the queue's, a mailbox's. Whoever has a mailbox's lock asks for no
-//! other.
+//! Order of locks: the router's, the queue's, a mailbox's. A thread that has a mailbox's lock asks
+//! for no other.
 #![tactic(auto)]
 
 mod address;
