@@ -31,7 +31,7 @@ The other cells, with each program:
   them, and its threads. What the kernel has for sockets and threads is not counted.
 - A start with 1,000,000 tuples `("job", i)` in a snapshot, which the system still has in memory: the time until
   `ready`, and the most memory in use. `tools/large` measures large tuples, `bench/durable` an opening without a server.
-- A snapshot of 500,000 such tuples while 64 clients put: the greatest time between two acknowledgements, whoever had
+- A snapshot of 1,000,000 such tuples while 16 clients put: the greatest time between two acknowledgements, whoever had
   them, and the time that the log says.
 
 With --realtime server, driver and loop run in a real-time class (which takes root), ahead of all else on the machine.
@@ -85,9 +85,9 @@ LOADS = {
 # While this is played, the numbers of the server are asked for so many times a second over HTTP.
 SCRAPED, SCRAPES = "put and take, 64 clients, scraped", 1_000
 IDLE = {"idle connections, 1,000": 1_000, "idle connections, 10,000": 10_000}
-START, PAUSE = "start with 1,000,000 tuples", "snapshot of 500,000 tuples"
-STARTED, SAVED = 1_000_000, 500_000
-PROBE_SECONDS, PAUSE_SECONDS = "0.5", "2"
+START, PAUSE = "start with 1,000,000 tuples", "snapshot of 1,000,000 tuples"
+STARTED = SAVED = 1_000_000
+PROBE_SECONDS, PAUSE_SECONDS = "0.5", "6"
 # The log looks for events ten times a second.
 LOG_SECONDS = 0.5
 # So many open files of a process are no connections, at most.
@@ -215,15 +215,16 @@ class Bench:
                 "threads": threads}
 
     def pause(self, server: Server) -> Measures:
-        """The greatest time between two acknowledgements around a snapshot, and the time in the log, in ms."""
-        lines = self.run("put", server.port, server.process.pid, "64", "0", "1", PAUSE_SECONDS)
+        """The greatest time between two acknowledgements around a snapshot, the time in the log, in ms, and the most memory."""
+        lines = self.run("put", server.port, server.process.pid, "16", "0", "1", PAUSE_SECONDS)
         time.sleep(LOG_SECONDS)
+        most = server.use().most
         server.process.kill()
         assert server.process.stderr
         taken = SNAPSHOT_TAKEN.findall(server.process.stderr.read())
         if len(taken) != 1:
             raise Missing(f"{len(taken)} snapshots in {PAUSE_SECONDS} s")
-        return {"gap": lines["gap"][0][0] / 1e6, "log": float(taken[0])}
+        return {"gap": lines["gap"][0][0] / 1e6, "log": float(taken[0]), "most": most / 1024}
 
 
 def free_port() -> int:
@@ -320,8 +321,8 @@ TABLES: list[tuple[str, str, Callable[[Found], str]]] = [
     ("memory of a connection; of the server without and with all; its threads", "each", idle),
     ("seconds until it is ready; most memory in MiB", "seconds",
      lambda found: f"{spread(found['seconds'])}; {middle(found['peak'])}"),
-    ("ms between two acknowledgements at most; of the snapshot by the log", "gap",
-     lambda found: f"{limits(found['gap'])}; {limits(found['log'])}"),
+    ("ms between two acknowledgements at most; of the snapshot by the log; most memory in MiB", "gap",
+     lambda found: f"{limits(found['gap'])}; {limits(found['log'])}; {middle(found['most'])}"),
 ]
 
 

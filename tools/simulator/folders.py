@@ -15,8 +15,9 @@ from simulator.clients import JOB
 from simulator.wire import Fault, lines_of
 
 PATIENCE = 60.0
-# So many tuples and records an earlier server left at most.
+# So many tuples and records an earlier server left at most; and so many tuples a large store has at least, whose snapshots are written in steps.
 MOST_TUPLES, MOST_RECORDS = 20, 40
+LARGE = 4_200
 SLOW_CP = '#!/bin/sh\n/bin/cp "$1" "$3"\nsleep 0.3\n/bin/cp "$2" "$3"\n'
 
 
@@ -29,7 +30,7 @@ def earlier_bank(client: int, dice: random.Random) -> bytes:
     def spelled(place: int) -> bytes:
         return frames.spell_items(JOB, (client, place, ""))
 
-    last = dice.randint(0, MOST_TUPLES)
+    last = dice.randint(0, MOST_TUPLES) + (LARGE if dice.random() < 0.25 else 0)
     book = {client: (last, ("Stored", last))} if last else {}
     state = banks.State(last + 1, {place: spelled(place) for place in range(1, last + 1)}, book)
     data, following = banks.spell_bank(dice.randint(2, 1_000), state)[:-1], last + 1

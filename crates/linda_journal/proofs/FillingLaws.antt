@@ -1,23 +1,24 @@
 -- A new bank that is written in steps: what it has, and what a crash may leave of it.
-use Rattle.std.proofs.Common.{◌≡◌, ◌≢◌, ℕ, ◌+◌, ◌<◌, ◌≤◌, ◌^◌, inl, inr, List, [], ◌∷◌, ◌++◌, length, take, drop, refl, sym, ap, subst, ◌∙◌, append_assoc, length-append, arith, ◌⊎◌}
+use Rattle.std.proofs.Common.{◌≡◌, ℕ, ◌+◌, ◌≤◌, inl, inr, List, [], ◌∷◌, ◌++◌, length, take, drop, refl, ap, subst, ◌∙◌, append_assoc, length-append, arith}
 use Rattle.std.specs.Prelude.{Result}
 use Rattle.std.proofs.lemmas.List.{take_at}
 use Rattle.linda_tuple.specs.declared.form.Form.{Form}
+use Rattle.linda_store_state.specs.DeedFormat.{written}
 use Rattle.linda_store_state.specs.declared.deed.Deed.{Deed}
 use Rattle.linda_disk.specs.declared.fault.DiskFault.{DiskFault}
 use Rattle.linda_disk.specs.View.{View, IsDurable, IsTimed}
-use Rattle.linda_disk.specs.Image.{overlay, TornWrite}
+use Rattle.linda_disk.specs.Image.{overlay}
 use Rattle.linda_disk.specs.Disk.{Writes}
 use Rattle.linda_disk.specs.Run.{LeavesOnly}
-use Rattle.linda_disk.proofs.RunLaws.{wrote, weaker}
+use Rattle.linda_disk.proofs.RunLaws.{wrote, weaker, joined}
 use Rattle.linda_journal.specs.declared.kinds.TheConstants.{OPEN, CLOSED}
 use Rattle.linda_journal.specs.declared.limits.TheConstants.{MIN_BYTES}
 use Rattle.linda_journal.specs.Records.{spell_records}
 use Rattle.linda_journal.specs.Gate.{ClosesAfter, IsShut, IsReady, IsClosedOrOpened}
 use Rattle.linda_journal.specs.Bank.{behind_gate, head, IsBank, IsSettled}
-use Rattle.linda_journal.specs.Renewal.{IsNoBank, IsClosed, IsFilled, IsWholeWith, IsNoneOrNewWith}
+use Rattle.linda_journal.specs.Renewal.{IsNoBank, IsClosed, IsFilled, IsLast, IsWholeWith, IsNoneOrNewWith}
 use Rattle.linda_journal.proofs.BankLaws.{no_candidate}
-use Rattle.linda_journal.proofs.RenewalLaws.{torn_later, closes_of}
+use Rattle.linda_journal.proofs.RenewalLaws.{torn_later, closes_of, front_length}
 
 -- ---- a step
 
@@ -92,3 +93,28 @@ module _ (form : Form) (generation : ℕ) (body : List ℕ) (rs : List (List Dee
     place = omega (arith, whole.place);
     durable = shut.durable;
   }
+
+-- ---- the last bytes
+
+-- Behind its closed first gate the new bank is whole then.
+pub last_whole : (generation : ℕ) (body : List ℕ) (rs : List (List Deed)) (front bytes : List ℕ) (at end : ℕ) (v : View) → IsLast generation body rs front bytes → IsFilled (front ++ bytes) at v → end + 1 ≡ at → IsWholeWith written generation body rs end v
+last_whole generation body rs front bytes at end v last filled end_is =
+    let all = behind_gate written generation body ++ spell_records written rs in
+    let long : length (front ++ bytes) ≡ length all + 1 = ap length last.parts ∙ length-append all (CLOSED ∷ []) in
+    let behind : length (behind_gate written generation body ++ spell_records written rs) ≡ length (behind_gate written generation body) + length (spell_records written rs) = length-append (behind_gate written generation body) (spell_records written rs) in
+    let head : length (behind_gate written generation body) + 1 ≡ MIN_BYTES + length body = omega (arith, front_length written generation body, length-append (behind_gate written generation body) (CLOSED ∷ [])) in
+    record {
+      low = last.low;
+      fits = last.fits;
+      short = last.short;
+      good = last.good;
+      place = omega (arith, end_is, filled.place, long, behind, head);
+      ready = filled_ready all at v (subst (λ l. IsFilled l at v) last.parts filled);
+    }
+
+pub finishing : (generation : ℕ) (body : List ℕ) (rs : List (List Deed)) (old mid new : View) → LeavesOnly old mid IsNoBank → LeavesOnly mid new (IsNoneOrNewWith written generation body rs) → LeavesOnly old new (IsNoneOrNewWith written generation body rs)
+finishing generation body rs old mid new first second =
+    joined old mid new IsNoBank (IsNoneOrNewWith written generation body rs) (IsNoneOrNewWith written generation body rs) first second (λ image none. inl none) (λ image is. is)
+
+pub filling_only : (generation : ℕ) (body : List ℕ) (rs : List (List Deed)) (old new : View) → LeavesOnly old new IsNoBank → LeavesOnly old new (IsNoneOrNewWith written generation body rs)
+filling_only generation body rs old new run = weaker old new IsNoBank (IsNoneOrNewWith written generation body rs) run (λ image none. inl none)

@@ -10,4 +10,4 @@ pub mod ImageLaws
 pub mod RenewalLaws
 pub mod FillingLaws
 pub mod AppendLaws
-mod CauseLaws
+pub mod CauseLaws

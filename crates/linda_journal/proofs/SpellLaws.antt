@@ -9,7 +9,7 @@ use Rattle.linda_tuple.specs.declared.form.Form.{Form}
 use Rattle.linda_store_state.specs.declared.deed.Deed.{Deed}
 use Rattle.linda_journal.specs.declared.kinds.TheConstants.{CLOSED}
 use Rattle.linda_journal.specs.declared.limits.TheConstants.{MAX_DEEDS, RECORD_HEAD}
-use Rattle.linda_journal.specs.Records.{spell_deed, FitsDeed, IsRecord, payload, record_body, spell_record, spell_records, deeds_in, records_for, bytes_for, AreIn, AreSpelled}
+use Rattle.linda_journal.specs.Records.{spell_deed, FitsDeed, IsRecord, payload, record_body, spell_record, spell_records, deeds_in, records_for, bytes_for, AreIn, AreRecords, AreSpelled}
 use Rattle.linda_journal.proofs.PayloadLaws.{all_with}
 
 -- ---- while records are spelled
@@ -79,18 +79,29 @@ one_more_spelled form ds out rest batch after n new so_far front left is all new
 
 -- ---- once all are spelled
 
-pub all_spelled : (form : Form) (ds : List Deed) (out : List ℕ) (rest : List Deed) (bytes : List ℕ) → AreSpelledTo form ds out rest → 0 < length ds → length rest ≡ 0 → bytes ≡ out ++ CLOSED ∷ [] → AreSpelled form ds bytes
-all_spelled form ds out rest bytes so_far some none bytes_are = by so_far.records so_far.good so_far.out_is so_far.count (same rest none so_far.parts)
+pub each_spelled : (form : Form) (ds : List Deed) (out : List ℕ) (rest : List Deed) → AreSpelledTo form ds out rest → length rest ≡ 0 → AreRecords form ds out
+each_spelled form ds out rest so_far none =
+    let all : ds ≡ deeds_in so_far.records = same rest none so_far.parts in
+    record {
+      records = so_far.records;
+      are = record { all = sym all; count = so_far.count ∙ ap (λ l. records_for (length l)) (sym all) };
+      good = so_far.good;
+      bytes_are = so_far.out_is;
+    }
   where
     same : (rest : List Deed) → length rest ≡ 0 → ds ≡ deeds_in so_far.records ++ rest → ds ≡ deeds_in so_far.records
     same [] none parts = parts ∙ append-nil (deeds_in so_far.records)
     same (d ∷ rest) none parts = absurd (omega (arith, none))
 
-    by : (records : List (List Deed)) → All (IsRecord form) records → out ≡ spell_records form records → length records ≡ records_for (length (deeds_in records)) → ds ≡ deeds_in records → AreSpelled form ds bytes
-    by [] good out_is count all = absurd (let n : length ds ≡ 0 = ap length all in omega (arith, n, some))
-    by (r ∷ rs) good out_is count all = record {
+-- With a closed gate behind them they are what is appended.
+pub all_spelled : (form : Form) (ds : List Deed) (out bytes : List ℕ) → AreRecords form ds out → 1 ≤ length ds → bytes ≡ out ++ CLOSED ∷ [] → AreSpelled form ds bytes
+all_spelled form ds out bytes is some bytes_are = by is.records is.are is.good is.bytes_are
+  where
+    by : (records : List (List Deed)) → AreIn ds records → All (IsRecord form) records → out ≡ spell_records form records → AreSpelled form ds bytes
+    by [] are good out_is = absurd (let n : 0 ≡ length ds = ap length are.all in omega (arith, n, some))
+    by (r ∷ rs) are good out_is = record {
       records = r ∷ rs;
-      are = record { all = sym all; count = count ∙ ap (λ l. records_for (length l)) (sym all) };
+      are = are;
       good = good;
       behind = record_body form r ++ spell_records form rs;
       starts = refl;

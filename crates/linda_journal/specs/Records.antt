@@ -65,6 +65,13 @@ pub record AreIn (ds : List Deed) (rs : List (List Deed)) : Type 0 where
 abbrev pub bytes_for : ℕ → ℕ → ℕ
 bytes_for count bytes = RECORD_HEAD * records_for count + bytes
 
+-- The bytes are records of these deeds.
+pub record AreRecords (form : Form) (ds : List Deed) (bytes : List ℕ) : Type 0 where
+  pub records : List (List Deed)
+  pub are : AreIn ds records
+  pub good : All (IsRecord form) records
+  pub bytes_are : bytes ≡ spell_records form records
+
 -- The bytes are an open gate and what stands behind it of records of these deeds, and a closed
 -- gate.
 pub record AreSpelled (form : Form) (ds : List Deed) (bytes : List ℕ) : Type 0 where

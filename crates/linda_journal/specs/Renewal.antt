@@ -4,8 +4,9 @@ use Rattle.std.specs.Prelude.{◌≡◌, ◌≢◌, ℕ, ◌+◌, ◌-◌, ◌/�
 use Rattle.std.specs.Prelude.{◌++◌, All, length}
 use Rattle.linda_tuple.specs.declared.form.Form.{Form}
 use Rattle.linda_store_state.specs.declared.deed.Deed.{Deed}
+use Rattle.linda_store_state.specs.DeedFormat.{written}
 use Rattle.linda_disk.specs.View.{View, IsDurable}
-use Rattle.linda_journal.specs.declared.kinds.TheConstants.{OPEN}
+use Rattle.linda_journal.specs.declared.kinds.TheConstants.{OPEN, CLOSED}
 use Rattle.linda_journal.specs.declared.limits.TheConstants.{MIN_BYTES, PIECE}
 use Rattle.linda_journal.specs.Gate.{IsReady}
 use Rattle.linda_journal.specs.Records.{IsRecord, spell_records}
@@ -58,6 +59,17 @@ pub record IsWholeWith (form : Form) (generation : ℕ) (body : List ℕ) (recor
   pub good : All (IsRecord form) records
   pub place : end ≡ MIN_BYTES + length body + length (spell_records form records)
   pub ready : IsReady [] 0 (behind_gate form generation body ++ spell_records form records) v
+
+-- With these last bytes behind what is written all of the new bank is there: its body, these
+-- records and the closed gate.
+pub record IsLast (generation : ℕ) (body : List ℕ) (records : List (List Deed))
+    (front bytes : List ℕ) : Type 0 where
+  pub low : 1 ≤ generation
+  pub fits : generation < 2 ^ 64
+  pub short : length body < 2 ^ 32
+  pub good : All (IsRecord written) records
+  pub parts : front ++ bytes
+      ≡ (behind_gate written generation body ++ spell_records written records) ++ CLOSED ∷ []
 
 -- Bytes that are no bank, or the new one with these records.
 abbrev pub IsNoneOrNewWith : Form → ℕ → List ℕ → List (List Deed) → List ℕ → Type 0

@@ -8,7 +8,8 @@ ghost use Rattle.linda_store_state.specs.DeedFormat.{written};
 ghost use Rattle.linda_disk.specs.Disk.{CountsFailure, TellsFailures};
 ghost use Rattle.linda_disk.specs.Run.{LeavesOnly};
 ghost use Rattle.linda_journal.specs.Bank.{IsSettled};
-ghost use Rattle.linda_journal.specs.Renewal.{IsNoBank, IsFilled, IsWholeWith, IsNoneOrNewWith};
+ghost use Rattle.linda_journal.specs.Renewal.{IsNoBank, IsFilled, IsLast, IsWholeWith};
+ghost use Rattle.linda_journal.specs.Renewal.{IsNoneOrNewWith};
 
 use crate::bank::{Bank, unlock_with};
 use crate::closed::Closed;
@@ -132,6 +133,51 @@ impl<D: Disk> Filling<D> {
         let end = at - 1;
         // (each record has bytes before the end)
         unlock_with(disk, generation, limit, end, records.min(end))
+    }
+
+    /// Writes the last bytes of the new bank behind those before, and then opens its first gate, as
+    /// `add` and `unlock` do.
+    ///
+    /// # Errors
+    ///
+    /// `Device` if the device failed, `Memory` if the disk found none, or has no offset for so many
+    /// bytes; each hands the disk back.
+    pub fn finish(
+        self,
+        bytes: &[u8],
+        generation: u64,
+        limit: usize,
+        records: usize,
+    ) -> Result<Bank<D>, (DiskFault, D)>
+        ensures done { (front body : List ℕ) (rs : List (List Deed)) → D.honest self.disk
+            → IsFilled front self.at (D.view self.disk)
+            → IsLast generation body rs front bytes.now
+            → IfOk result (λ b. IsSettled written generation body rs b.end (D.view b.disk)) }
+        ensures new { IfOk result (λ b. (b.form ≡ written) × (b.generation ≡ generation)
+            × (b.limit ≡ limit) × (b.is_spent ≡ false)) }
+        // At no moment a crash leaves another bank than the whole new one.
+        ensures any_moment { (front body : List ℕ) (rs : List (List Deed)) → D.honest self.disk
+            → IsFilled front self.at (D.view self.disk)
+            → IsLast generation body rs front bytes.now
+            → IfOk result (λ b. LeavesOnly (D.view self.disk) (D.view b.disk)
+            (IsNoneOrNewWith written generation body rs))
+            × IfErr result (λ e. LeavesOnly (D.view self.disk) (D.view e.1)
+            (IsNoneOrNewWith written generation body rs)) }
+        ensures honest { IfOk result (λ b. D.honest self.disk ↔ D.honest b.disk)
+            × IfErr result (λ e. D.honest self.disk ↔ D.honest e.1) }
+        ensures cause { IfErr result (λ e. TellsFailures DiskFault.Device e.0
+            (D.failures self.disk) (D.failures e.1)) }
+        ensures steady { IfOk result (λ b. D.failures b.disk ≡ D.failures self.disk) }
+        ensures clock { D.honest self.disk
+            → IfOk result (λ b. (D.view b.disk).moment ≡ (D.view self.disk).moment + 4) }
+    {
+        match self.add(bytes) {
+            Err((fault, disk)) => Err((fault, disk)),
+            Ok(whole) => match whole.unlock(generation, limit, records) {
+                Err((fault, disk)) => Err((fault, disk)),
+                Ok(bank) => Ok(bank),
+            },
+        }
     }
 }
 

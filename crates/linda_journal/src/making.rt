@@ -46,19 +46,24 @@ pub fn spell_heading(alloc: Global, generation: u64, len: usize) -> Result<Vec<u
         ≡ magic written ++ (number.spell generation ++ short_number.spell len)) }
 {
     let mut out = Vec::with_capacity(alloc, MIN_BYTES + len)?;
-    push_heading(BANK_FORM, &mut out, generation)?;
-    out.extend_from_slice(&as_length(len).to_be_bytes())?;
+    push_heading(&mut out, generation, len)?;
     Ok(out)
 }
 
-// Appends the letters of the form and the generation. Where memory runs out, a part of them may
-// stand there.
-fn push_heading(form: Form, out: &mut Vec<u8>, generation: u64) -> Result<(), AllocError>
-    ensures { OnOk result (out.new.items
-        ≡ out.old.items ++ (magic form ++ number.spell generation)) }
+/// Appends what a new bank, which is in `BANK_FORM`, has between its first gate and a body of so
+/// many bytes. If memory runs out, a part of it may stand behind the old bytes.
+///
+/// # Errors
+///
+/// `AllocError` if memory runs out.
+pub fn push_heading(out: &mut Vec<u8>, generation: u64, len: usize) -> Result<(), AllocError>
+    requires { len < 2 ^ 32 }
+    ensures { OnOk result (out.new.items ≡ out.old.items
+        ++ (magic written ++ (number.spell generation ++ short_number.spell len))) }
 {
-    out.extend_from_slice(&letters(form))?;
-    out.extend_from_slice(&generation.to_be_bytes())
+    out.extend_from_slice(&letters(BANK_FORM))?;
+    out.extend_from_slice(&generation.to_be_bytes())?;
+    out.extend_from_slice(&as_length(len).to_be_bytes())
 }
 
 // The letters that a bank in this form has after its first gate.

@@ -1,16 +1,17 @@
 //! A record: one deed or more that were done together, after one gate, in a form.
 
-ghost use Rattle.std.specs.Prelude.{◌≡◌, ◌++◌, ◌<◌, ◌≤◌, ◌^◌, ℕ, List, All, length, drop, IfOk};
+ghost use Rattle.std.specs.Prelude.{◌≡◌, ◌++◌, ◌<◌, ◌≤◌, ◌*◌, ◌^◌, ℕ, List, All, length, drop, IfOk};
 ghost use Rattle.std.specs.Prelude.{IfSome, IfNone, OnOk};
 ghost use Rattle.linda_store_state.specs.declared.deed.Deed as deed;
-ghost use Rattle.linda_journal.specs.declared.limits.TheConstants.{MAX_DEEDS};
+ghost use Rattle.linda_journal.specs.declared.limits.TheConstants.{MAX_DEEDS, MAX_RECORDS};
 ghost use Rattle.linda_journal.specs.Records.{FitsDeed, IsRecord, record_body, spell_record};
-ghost use Rattle.linda_journal.specs.Records.{payload, AreSpelled};
+ghost use Rattle.linda_journal.specs.Records.{payload, AreRecords, AreSpelled};
 ghost use Rattle.linda_journal.specs.Journal.{IsNoRecord};
 
 use crate::kinds::{CLOSED, OPEN};
 use crate::limits::MAX_DEEDS;
-use crate::payload::read_payload;
+use crate::payload::{deeds_fit, read_payload};
+use crate::size::records_len;
 use linda_codec::{list_len, push_list, read_u32};
 use linda_store_state::Deed;
 use linda_tuple::Form;
@@ -66,6 +67,34 @@ pub(crate) fn spell_all(
     requires short { len < 2 ^ 40 }
     ensures { IfOk result (λ v. AreSpelled form deeds.now v.items) }
 {
+    let mut out = spell_each(alloc, form, deeds, len)?;
+    out.push(CLOSED)?;
+    Ok(out)
+}
+
+/// The records of these deeds in the form, as a bank's journal has them, without the closed gate
+/// after them; `None` if one of the deeds has no spelling in the form.
+///
+/// # Errors
+///
+/// `AllocError` if memory runs out.
+pub fn spell_deeds(alloc: Global, form: Form, deeds: &[Deed]) -> Result<Option<Vec<u8>>, AllocError>
+    requires { length deeds.now ≤ MAX_DEEDS * MAX_RECORDS }
+    ensures { IfOk result (λ o. IfSome o (λ v. AreRecords form deeds.now v.items)) }
+{
+    if !deeds_fit(form, deeds) {
+        return Ok(None);
+    }
+    let len = records_len(form, deeds);
+    Ok(Some(spell_each(alloc, form, deeds, len)?))
+}
+
+// The records of these deeds, and room for so many bytes and one more.
+fn spell_each(alloc: Global, form: Form, deeds: &[Deed], len: usize) -> Result<Vec<u8>, AllocError>
+    requires fits { All (FitsDeed form) deeds.now }
+    requires short { len < 2 ^ 40 }
+    ensures { IfOk result (λ v. AreRecords form deeds.now v.items) }
+{
     let mut out = Vec::with_capacity(alloc, len + 1)?;
     let mut rest = deeds;
     while !rest.is_empty() {
@@ -73,7 +102,6 @@ pub(crate) fn spell_all(
         push_record(form, &mut out, batch)?;
         rest = after;
     }
-    out.push(CLOSED)?;
     Ok(out)
 }
 

@@ -19,6 +19,7 @@ mod refusals;
 mod seconds;
 mod seen;
 mod serving;
+mod snapshots;
 mod status;
 mod troubles;
 mod watching;

@@ -373,7 +373,7 @@ fn converse<D: Disk + Send, L: Ledger + Send + Sync, R: Threads + Wait + Clock +
     marks.ends();
 }
 
-// Takes a snapshot whenever one is to be taken, until it is over.
+// Takes a snapshot whenever one is to be taken, and has receipts forgotten, until it is over.
 fn take_snapshots<D: Disk, L: Ledger, R: Wait + Clock>(
     rt: &R,
     shared: &Shared<D, L>,
@@ -385,9 +385,10 @@ fn take_snapshots<D: Disk, L: Ledger, R: Wait + Clock>(
         if *is_over.lock(rt) {
             return;
         }
+        shared.forget(rt);
         pause = match left_of(pause) {
             Some(left) => left,
-            None if shared.pays(rt) => pause_after(take_snapshot(rt, shared, marks)),
+            None if shared.pays(rt) => pause_after(take_snapshot(rt, shared, marks, is_over)),
             None => 0,
         };
         thread::sleep(rt, look());

@@ -9,6 +9,7 @@ use crate::refusals::Why;
 use crate::seconds::Seconds;
 use crate::seen::Seen;
 use crate::serving::look;
+use crate::snapshots::snapshot;
 use linda_disk::Disk;
 use linda_shared::{Gauge, Shared, SharedFault};
 use std::sync::ledger::Ledger;
@@ -97,18 +98,21 @@ pub(crate) fn watch<D: Disk, L: Ledger, R: Wait + Clock, T: Watcher>(
     }
 }
 
-/// Takes a snapshot, and notes what came of it, unless the server is down. Returns how many
-/// milliseconds it took.
+/// Takes a snapshot, and notes what came of it, unless the server is down or it is over. Returns how
+/// many milliseconds it took.
 pub(crate) fn take_snapshot<D: Disk, L: Ledger, R: Wait + Clock>(
     rt: &R,
     shared: &Shared<D, L>,
     marks: &Marks,
+    is_over: &Mutex<bool>,
 ) -> u64 {
     let begin = Instant::now(rt).ok();
-    let taken = shared.snapshot(rt);
+    let taken = snapshot(rt, shared, is_over);
     let millis = millis_since(rt, begin);
-    if let Some(notice) = notice_of(&taken, millis) {
-        marks.keep_snapshot(rt, notice);
+    if let Some(taken) = taken {
+        if let Some(notice) = notice_of(&taken, millis) {
+            marks.keep_snapshot(rt, notice);
+        }
     }
     millis
 }

@@ -175,7 +175,7 @@ at_fault (Err e) b P good bad is = bad
 
 -- ---- truncated facts
 
-at_most : (m n : ℕ) → ∥ m ≤ n ∥₁ → m ≤ n
+pub at_most : (m n : ℕ) → ∥ m ≤ n ∥₁ → m ≤ n
 at_most m n some =
     elim (cases_lt n m) [
       | inl lt ↦ absurd (not_there some (λ le. omega (arith, lt, le)))

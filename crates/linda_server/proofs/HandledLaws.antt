@@ -24,7 +24,7 @@ pub record IsToldAs (fault : ServeFault) (told : NodeFault) : Type 0 where
   pub full : (told ≡ nodes.Full) ↔ (fault ≡ faults.Full)
   pub down : (told ≡ nodes.Down) ↔ (fault ≢ faults.Full)
 
-same_fault : {A E : Type 0} (e f : E) → IsErrOf {T = A} (Err e) f → e ≡ f
+pub same_fault : {A E : Type 0} (e f : E) → IsErrOf {T = A} (Err e) f → e ≡ f
 same_fault e f is = search (rules, is)
 
 module _ {D : Type 0} {g : Ghosts D} (old new : Durable D g) (fault : ServeFault) (told : NodeFault) (told_as : IsToldAs fault told) where
@@ -98,26 +98,26 @@ module _ {D : Type 0} {g : Ghosts D} (timed : (d : D) → g.honest d → IsTimed
 
   -- ---- the same state, written anew
 
-  pub rewrites_well : Rewrites {E = ServeFault} old (Ok tt) new → Rewrites {E = NodeFault} old (Ok tt) new
-  rewrites_well so = record { any_moment = so.any_moment; now = so.now; same = so.same; up = so.up; lost = so.lost; honest = so.honest }
+  pub rewrites_well : {T : Type 0} (done : T) → Rewrites {E = ServeFault} old (Ok done) new → Rewrites {E = NodeFault} old (Ok done) new
+  rewrites_well done so = record { any_moment = so.any_moment; now = so.now; same = so.same; up = so.up; lost = so.lost; honest = so.honest }
 
-  pub rewrites_not : (fault : ServeFault) (told : NodeFault) → Rewrites old (Err fault) new → Rewrites old (Err told) new
+  pub rewrites_not : {T : Type 0} (fault : ServeFault) (told : NodeFault) → Rewrites {T = T} old (Err fault) new → Rewrites {T = T} old (Err told) new
   rewrites_not fault told so = record { any_moment = so.any_moment; now = tt; same = so.same; up = tt; lost = so.lost; honest = so.honest }
 
-  pub falls_not_at_all : Rewrites {E = ServeFault} old (Ok tt) new → Falls old (Ok tt) new
-  falls_not_at_all so = record {
+  pub falls_not_at_all : {T : Type 0} (done : T) → Rewrites {E = ServeFault} old (Ok done) new → Falls old (Ok done) new
+  falls_not_at_all {T = T} done so = record {
     down = λ e. search (rules, e);
     stays_down = λ down. absurd (true≢false (sym down ∙ so.up.0));
-    life = goes_on_well timed (λ done. []) old new [] tt so.up.0 so.up.1 (rewrites so.same.0) (λ up orderly. ([], amid_rest (so.any_moment up)));
+    life = goes_on_well timed (λ (x : T). []) old new [] done so.up.0 so.up.1 (rewrites so.same.0) (λ up orderly. ([], amid_rest (so.any_moment up)));
   }
 
-  pub falls_so : (fault : ServeFault) (told : NodeFault) → IsToldAs fault told → Rewrites old (Err fault) new → Fails old (Err fault) new
-      → (IsErrOf {T = Unit {0}} (Err fault) faults.Full → new ≡ old) → Falls old (Err told) new
-  falls_so fault told told_as so fails full = record {
+  pub falls_so : {T : Type 0} (fault : ServeFault) (told : NodeFault) → IsToldAs fault told → Rewrites {T = T} old (Err fault) new → Fails {T = T} old (Err fault) new
+      → (IsErrOf {T = T} (Err fault) faults.Full → new ≡ old) → Falls {T = T} old (Err told) new
+  falls_so {T = T} fault told told_as so fails full = record {
     down = λ e. went_down old new fault told told_as fails.was_down fails.stays_down fails.goes_down (told_as.down.0 (same_fault told nodes.Down e));
     stays_down = λ down. (still_down old new fault told told_as fails.was_down down, fails.stays_down down);
     life =
-        goes_on_still timed (λ done. []) old new told
+        goes_on_still timed (λ (x : T). []) old new told
         (how_of old new fault full fails.was_down fails.stays_down fails.goes_down (λ not_full up down. let fell = so.lost up down in at_rest fell.0 fell.1))
         (λ up orderly. ([], amid_rest (so.any_moment up)));
   }

@@ -5,6 +5,8 @@ pub mod EmptyLaws
 pub mod OpeningLaws
 mod ReopeningLaws
 mod SwitchLaws
+mod NextLaws
+mod SteppingLaws
 mod SameLaws
 pub mod NodeLaws
 pub mod FallenLaws

@@ -7,6 +7,7 @@ use Rattle.linda_server.specs.declared.disks.Disks.{Disks}
 use Rattle.linda_server.specs.declared.durable.Durable.{Durable}
 use Rattle.linda_server.specs.Pairs.{PairsNow}
 use Rattle.linda_server.specs.Disks.{is_there}
+use Rattle.linda_server.specs.Next.{IsNextFor}
 use Rattle.linda_server.specs.Calls.{IsLimit, IsWithOrWithout}
 use Rattle.linda_server.specs.Server.{both_of, is_usable, limit_in_use, BothHonest, IsKeptFor}
 
@@ -20,6 +21,7 @@ module _ (D : Type 0) (g : Ghosts D) (s : Durable D g) where
     pub limited : s.down ≡ false → limit_in_use disks ≡ s.limit
     pub none_lost : s.down ≡ false → s.lost.items ≡ []
     pub kept : s.down ≡ false → ∥ IsKeptFor disks s.store.state ∥₁
+    pub begun : s.down ≡ false → ∥ IsNextFor s.next disks s.store.state ∥₁
     pub fallen : s.down ≡ true → BothHonest disks → PairsNow (both_of disks) (IsWithOrWithout s.before.value s.lost.items)
 
   abbrev pub with_disks : (disks : Disks (Bank D g) D) → Keeps disks → Durable D g
@@ -30,6 +32,7 @@ module _ (D : Type 0) (g : Ghosts D) (s : Durable D g) where
     down = s.down;
     before = s.before;
     lost = s.lost;
+    next = s.next;
     there = k.there;
     bounded = k.bounded;
     live = k.live;
@@ -37,6 +40,7 @@ module _ (D : Type 0) (g : Ghosts D) (s : Durable D g) where
     limited = k.limited;
     none_lost = k.none_lost;
     kept = k.kept;
+    begun = k.begun;
     fallen = k.fallen;
   }
 
@@ -50,6 +54,7 @@ module _ (D : Type 0) (g : Ghosts D) (s : Durable D g) where
     limited = one_limited k.limited l.limited i;
     none_lost = one_lost k.none_lost l.none_lost i;
     kept = one_kept k.kept l.kept i;
+    begun = one_begun k.begun l.begun i;
     fallen = one_fallen k.fallen l.fallen i;
   }
     where
@@ -74,11 +79,14 @@ module _ (D : Type 0) (g : Ghosts D) (s : Durable D g) where
       one_kept : IsProp (s.down ≡ false → ∥ IsKeptFor disks s.store.state ∥₁)
       one_kept = hlevel props
 
+      one_begun : IsProp (s.down ≡ false → ∥ IsNextFor s.next disks s.store.state ∥₁)
+      one_begun = hlevel props
+
       one_fallen : IsProp (s.down ≡ true → BothHonest disks → PairsNow (both_of disks) (IsWithOrWithout s.before.value s.lost.items))
       one_fallen = hlevel props
 
   abbrev kept_here : Keeps s.disks
-  kept_here = record { there = s.there; bounded = s.bounded; live = s.live; ready = s.ready; limited = s.limited; none_lost = s.none_lost; kept = s.kept; fallen = s.fallen }
+  kept_here = record { there = s.there; bounded = s.bounded; live = s.live; ready = s.ready; limited = s.limited; none_lost = s.none_lost; kept = s.kept; begun = s.begun; fallen = s.fallen }
 
   -- With the same disks it is the same server.
   pub same_server : (disks : Disks (Bank D g) D) → s.disks ≡ disks → (k : Keeps disks) → with_disks disks k ≡ s

@@ -99,8 +99,9 @@ module _ {D : Type 0} {g : Ghosts D} where
     -- Every life of the server goes on by it.
     pub life : GoesOn (λ (sends : Vec (ℕ × Reply)). sends.items) old result new
 
-  -- It wrote the same state anew, or a part of it (`renew`, `clear`, `snapshot`, `trim`).
-  pub record Rewrites {E : Type 0} (old : Durable D g) (result : Result (Unit {0}) E)
+  -- It wrote the same state anew, or a part of it (`renew`, `clear`, `snapshot`, `trim`,
+  -- `begin_steps`, `step`).
+  pub record Rewrites {T E : Type 0} (old : Durable D g) (result : Result T E)
       (new : Durable D g) : Type 0 where
     -- At no moment crashes leave anything but the state.
     pub any_moment : old.down ≡ false → AlwaysLeave old.disks new.disks (StandsFor old.store.state)
@@ -114,8 +115,8 @@ module _ {D : Type 0} {g : Ghosts D} where
 
   -- It is down exactly where it was, and goes down only where a device failed or memory ran out
   -- (`renew`, `clear`).
-  pub record Fails (old : Durable D g) (result : Result (Unit {0}) ServeFault) (new : Durable D g)
-      : Type 0 where
+  pub record Fails {T : Type 0} (old : Durable D g) (result : Result T ServeFault)
+      (new : Durable D g) : Type 0 where
     pub was_down : IsErrOf result faults.Down ↔ (old.down ≡ true)
     pub stays_down : old.down ≡ true → new ≡ old
     pub goes_down : (IsErrOf result faults.Disk → new.down ≡ true)
@@ -124,10 +125,9 @@ module _ {D : Type 0} {g : Ghosts D} where
         (λ fault. TellsFailures faults.Disk fault (failures_of old.disks) (failures_of new.disks))
 
   -- It is down where it says so, and says so where it was, as a node does; and every life goes on
-  -- by it (`snapshot`,
-  -- `trim`).
-  pub record Falls (old : Durable D g) (result : Result (Unit {0}) NodeFault) (new : Durable D g)
-      : Type 0 where
+  -- by it (`snapshot`, `trim`, `begin_steps`, `step`).
+  pub record Falls {T : Type 0} (old : Durable D g) (result : Result T NodeFault)
+      (new : Durable D g) : Type 0 where
     pub down : IsErrOf result nodes.Down → new.down ≡ true
     pub stays_down : old.down ≡ true → IsErrOf result nodes.Down × (new ≡ old)
-    pub life : GoesOn (λ (done : Unit {0}). []) old result new
+    pub life : GoesOn (λ (done : T). []) old result new

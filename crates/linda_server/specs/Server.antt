@@ -72,6 +72,10 @@ module _ {D : Type 0} {g : Ghosts D} where
       AreRelated (λ b c. g.honest b.disk → (g.view c.disk).moment ≡ (g.view b.disk).moment + 4)
       (λ d e. e ≡ d) old new
 
+  -- The bank in use has its generation still, and the other disk is as it was.
+  abbrev pub IsBesideStill : Disks (Bank D g) D → Disks (Bank D g) D → Type 0
+  IsBesideStill old new = AreRelated (λ b c. c.generation ≡ b.generation) (λ d e. e ≡ d) old new
+
   -- So many calls changed or synced the disk that was not in use, if it is honest, and two more
   -- where it was to be closed first; it is in use now, and the other one is as it was.
   abbrev pub IsRenewedBy : ℕ → Disks (Bank D g) D → Disks (Bank D g) D → Type 0

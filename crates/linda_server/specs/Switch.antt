@@ -42,6 +42,17 @@ module _ {D : Type 0} {g : Ghosts D} where
   IsSwitched (Shut left right) new = ⊥
   IsSwitched Away new = ⊥
 
+  -- The two have changed places: the bank in use is in the form of new banks and of the next
+  -- generation, and the disk of the bank that was in use is the other one, as it was.
+  abbrev pub IsTakenOver : Disks (Bank D g) D → Disks (Bank D g) D → Type 0
+  IsTakenOver (InUse old) (InUse new) =
+      (new.is_right ≡ not old.is_right) × (new.bank.form ≡ written)
+      × (new.bank.generation ≡ old.bank.generation + 1) × (new.other ≡ old.bank.disk)
+  IsTakenOver (InUse old) (Shut left right) = ⊥
+  IsTakenOver (InUse old) Away = ⊥
+  IsTakenOver (Shut left right) new = ⊥
+  IsTakenOver Away new = ⊥
+
   -- The bank in use is as it was, and the other disk holds one byte, if it is honest, which is no
   -- open gate.
   abbrev pub IsTrimmed : Disks (Bank D g) D → Disks (Bank D g) D → Type 0

@@ -10,6 +10,7 @@ ghost use Rattle.linda_server.specs.Pairs.{PairsSince};
 ghost use Rattle.linda_server.specs.Server.{both_of, is_usable, form_in_use, end_in_use};
 ghost use Rattle.linda_server.specs.Server.{limit_in_use};
 ghost use Rattle.linda_server.specs.Server.{BothHonest, failures_of, IsUpFor, IsKeptFor, IsPutOn};
+ghost use Rattle.linda_server.specs.Server.{IsBesideStill};
 ghost use Rattle.linda_server.specs.Disks.{is_there};
 ghost use Rattle.linda_server.specs.Calls.{LeadTo, IsOldOrNew, room_for};
 
@@ -58,6 +59,7 @@ pub(crate) fn commit<D: Disk>(
     // Else four calls change or sync the disk of the bank in use, and the other disk is not
     // touched.
     ensures clock { 0 < length deeds.now → OnOk result (IsPutOn disks.old disks.new) }
+    ensures beside { OnOk result (IsBesideStill disks.old disks.new) }
     ensures honest { BothHonest disks.old ↔ BothHonest disks.new }
     ensures cause { IfErr result (λ fault. TellsFailures ServeFault.Disk fault
         (failures_of disks.old) (failures_of disks.new)) }

@@ -6,6 +6,7 @@ mod handle;
 mod open;
 mod serve;
 mod snapshot;
+mod steps;
 mod stop;
 mod trim;
 
@@ -18,9 +19,11 @@ ghost use Rattle.linda_server.specs.Server.{end_in_use};
 ghost use Rattle.linda_server.specs.Server.{records_in_use, limit_in_use, BothHonest, IsKeptFor};
 ghost use Rattle.linda_server.specs.Server.{StandNow};
 ghost use Rattle.linda_server.specs.Calls.{IsLimit, IsWithOrWithout};
+ghost use Rattle.linda_server.specs.Next.{IsNextFor};
 
 use crate::disks::{Disks, InUse, is_old};
 use crate::limits::SNAPSHOT_RECORDS;
+use crate::next::NextBank;
 use linda_bag::IndexBag;
 use linda_disk::Disk;
 use linda_hold::{Holds, Waits};
@@ -36,6 +39,9 @@ use std::hash::RandomState;
 /// While it is up its store is not spent, its bank has room to be used, and the state stands on the
 /// two disks. While it is down, what stands on them is the state before the call in which it went
 /// down, or the one after the deeds of that call.
+///
+/// A snapshot may be written in steps, while the server goes on: then the other disk has a part of
+/// the next bank behind a first gate that is closed, and that bank follows the state.
 #[derive(Drop)]
 pub struct Durable<D: Disk> {
     store: Store<IndexBag>,
@@ -46,6 +52,8 @@ pub struct Durable<D: Disk> {
     before: Moment<State<IndexBag>>,
     // The deeds of that call, which may be on the disks.
     lost: Vec<Deed>,
+    // The next bank, while a snapshot is written in steps.
+    next: Option<NextBank>,
     ghost there: { is_there disks ≡ true },
     ghost bounded: { IsLimit limit },
     ghost live: { down ≡ false → store.is_spent ≡ false },
@@ -53,6 +61,7 @@ pub struct Durable<D: Disk> {
     ghost limited: { down ≡ false → limit_in_use disks ≡ limit },
     ghost none_lost: { down ≡ false → lost.items ≡ [] },
     ghost kept: { down ≡ false → ∥ IsKeptFor disks store.state ∥₁ },
+    ghost begun: { down ≡ false → ∥ IsNextFor next disks store.state ∥₁ },
     ghost fallen: { down ≡ true → BothHonest disks
         → PairsNow (both_of disks)
         (IsWithOrWithout before.value lost.items) },

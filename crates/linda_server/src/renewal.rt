@@ -86,7 +86,7 @@ pub(crate) fn renew<B: Bag, D: Disk>(
                         other,
                         is_right,
                     });
-                    Err(told(fault))
+                    Err(of_switch(fault))
                 }
             }
         }
@@ -94,8 +94,8 @@ pub(crate) fn renew<B: Bag, D: Disk>(
     }
 }
 
-// What a server returns for a switch that was not made.
-fn told(fault: SwitchFault) -> ServeFault
+/// What a server returns for a switch that was not made.
+pub(crate) fn of_switch(fault: SwitchFault) -> ServeFault
     ensures full { result ≡ ServeFault.Full
         ↔ (fault ≡ SwitchFault.BankFull) ⊎ (fault ≡ SwitchFault.GenerationsSpent) }
     ensures disk { result ≡ ServeFault.Disk ↔ fault ≡ SwitchFault.Disk }

@@ -29,7 +29,7 @@ pub use gate::Gate;
 pub use greeted::Greeted;
 pub use group::Group;
 pub use linda_shared_accounts::{Account, Answered, MOST_ASKED, Receipt, SharedFault};
-pub use linda_shared_held::{Gauge, Report};
+pub use linda_shared_held::{Gauge, Progress, Report};
 pub use linda_shared_listing::{
     ClientPage, KindPage, ListedClient, ListedKind, ListedTuple, MOST_KINDS, TuplePage, TupleQuery,
 };

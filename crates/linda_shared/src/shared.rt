@@ -18,7 +18,7 @@ use crate::locked::Locked;
 pub use group::Post;
 use linda_disk::Disk;
 use linda_shared_accounts::SharedFault;
-use linda_shared_held::{Durable, Gauge, Held};
+use linda_shared_held::{Durable, Gauge, Held, Progress};
 use linda_shared_queue::{Outlet, Queue, Router};
 use linda_wire::Reply;
 use std::alloc::{AllocError, Global};
@@ -129,6 +129,40 @@ impl<D: Disk, L: Ledger> Shared<D, L> {
         drop(guard);
         self.end_where(rt, is_down);
         answer
+    }
+
+    /// Begins a snapshot in steps, between which sessions go on.
+    ///
+    /// # Errors
+    ///
+    /// `Down`: the server is down. `Full`: nothing changed.
+    pub fn begin_steps<R: Wait>(&self, rt: &R) -> Result<(), SharedFault> {
+        let mut guard = self.locked.lock(rt);
+        let answer = guard.held.begin_steps(self.alloc);
+        let is_down = guard.held.is_down();
+        drop(guard);
+        self.end_where(rt, is_down);
+        answer
+    }
+
+    /// Takes the next step of a snapshot, which writes about so many bytes at most.
+    ///
+    /// # Errors
+    ///
+    /// `Down`: the server is down.
+    pub fn step<R: Wait>(&self, rt: &R, most: usize) -> Result<Progress, SharedFault> {
+        let mut guard = self.locked.lock(rt);
+        let answer = guard.held.step(self.alloc, most);
+        let is_down = guard.held.is_down();
+        drop(guard);
+        self.end_where(rt, is_down);
+        answer
+    }
+
+    /// Forgets the receipts of deeds that were told, if there are many: for a program that serves,
+    /// and never calls `finish`. Nothing changes that a session sees.
+    pub fn forget<R: Wait>(&self, rt: &R) {
+        self.locked.lock(rt).held.forget(self.alloc);
     }
 
     // Where the server is down no reply comes any more.

@@ -1,10 +1,12 @@
 -- What is known of a server that did not do what it was asked.
-use Rattle.std.proofs.Common.{◌≡◌, Bool, true, false, true≢false, refl, sym, ◌∙◌}
+use Rattle.std.proofs.Common.{◌≡◌, Bool, true, false, true≢false, Result, Ok, Err, refl, sym, ap, ◌∙◌}
+use Rattle.std.specs.Prelude.{OnOk, OnErr}
 use Rattle.std.proofs.lemmas.Bool.{cond-true, cond-false}
 use Rattle.linda_store_state.specs.State.{State}
 use Rattle.linda_store_step.specs.Store.{Store}
 use Rattle.linda_disk.specs.declared.disk.Disk.{Ghosts}
 use Rattle.linda_server.specs.declared.durable.Durable.{Durable}
+use Rattle.linda_shared_accounts.specs.declared.fault.SharedFault.{SharedFault}
 use Rattle.linda_shared_held.specs.Order.{known}
 use Rattle.linda_shared_held.specs.Kept.{known_of, IsKnownStill}
 
@@ -27,3 +29,8 @@ module _ {D : Type 0} {g : Ghosts D} where
   -- First the one, and then the other.
   pub still_both : (r s t : Durable D g) → IsKnownStill r s → IsKnownStill s t → IsKnownStill r t
   still_both r s t first second = (second.0 ∙ first.0, λ up. first.1 (second.1 up))
+
+  -- So it is of one that took a step or a snapshot, or did not.
+  pub still_taken : (s t : Durable D g) {T : Type 0} (r : Result T SharedFault) → OnErr r (IsKnownStill s t) → OnOk r ((s.down ≡ false) × (t.down ≡ false)) → t.store ≡ s.store → IsKnownStill s t
+  still_taken s t (Ok done) still up store = still_up s t up.0 up.1 (ap (λ (x : Store). x.state) store)
+  still_taken s t (Err fault) still up store = still

@@ -26,3 +26,16 @@ module _ {D : Type 0} {g : Ghosts D} where
     pub fault : IfErr result (λ fault. (fault ≡ faults.Full) ⊎ (fault ≡ faults.Down))
     -- What is known of a server that took none is as before.
     pub still : OnErr result (IsKnownStill old new)
+
+  -- The server takes a step of a snapshot (`begin_steps`, `step`).
+  pub record TakesStep {T : Type 0} (old : Durable D g) (result : Result T SharedFault)
+      (new : Durable D g) : Type 0 where
+    pub store : new.store ≡ old.store
+    pub limit : new.limit ≡ old.limit
+    pub up : OnOk result ((old.down ≡ false) × (new.down ≡ false))
+    -- It is Down exactly where the server is, and that before all else.
+    pub down : IsErrOf result faults.Down → new.down ≡ true
+    pub first : old.down ≡ true → IsErrOf result faults.Down × (new ≡ old)
+    pub fault : IfErr result (λ fault. (fault ≡ faults.Full) ⊎ (fault ≡ faults.Down))
+    -- What is known of a server that took none is as before.
+    pub still : OnErr result (IsKnownStill old new)

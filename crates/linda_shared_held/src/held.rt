@@ -14,6 +14,7 @@ mod list;
 mod measure;
 mod recall;
 mod serve;
+mod steps;
 mod take;
 mod tell;
 

@@ -15,5 +15,5 @@ mod send;
 
 pub use gauge::Gauge;
 pub use held::{Held, Report};
-pub use limits::SNAPSHOT_BYTES;
-pub use linda_server::Durable;
+pub use limits::{MANY_RECEIPTS, SNAPSHOT_BYTES};
+pub use linda_server::{Durable, Progress};

@@ -1,5 +1,5 @@
 -- What a fault says of the counts of failures, of one disk and of two.
-use Rattle.std.proofs.Common.{◌≡◌, ◌≢◌, ℕ, ◌<◌, ◌≤◌, ◌↔◌, inl, inr, Bool, List, Err, refl, subst, ◌∙◌, arith}
+use Rattle.std.proofs.Common.{◌≡◌, ◌≢◌, ℕ, ◌<◌, ◌≤◌, ◌↔◌, inl, inr, Bool, List, Err, refl, subst, arith}
 use Rattle.linda_tuple.specs.declared.form.Form.{Form}
 use Rattle.linda_disk.specs.declared.fault.DiskFault.{DiskFault}
 use Rattle.linda_disk.specs.declared.fault.DiskFault.TheVariants.{Device, Memory}
@@ -21,10 +21,6 @@ device_told Device old new counts = record {
   others = λ not. absurd (not refl);
 }
 device_told Memory old new counts = record { cause = λ is. cc; others = λ _. counts.memory refl }
-
--- What tells of a count goes on from one that stayed.
-pub tells_on : {F : Type 0} (device told : F) (old mid new : ℕ) → mid ≡ old → TellsFailures device told mid new → TellsFailures device told old new
-tells_on device told old mid new same tells = subst (λ n. TellsFailures device told n new) same tells
 
 -- A fault of no device tells that the count stayed.
 pub none_told : {F : Type 0} (device told : F) (old new : ℕ) → told ≢ device → new ≡ old → TellsFailures device told old new

@@ -1,14 +1,15 @@
 -- What a snapshot owes while tuples come and go, and how its steps write it.
-use Rattle.std.proofs.Common.{◌≡◌, ◌≢◌, ℕ, suc, ◌+◌, ◌<◌, ◌≤◌, ◌==◌, Bool, true, false, cond, List, [], ◌∷◌, ◌++◌, length, Option, Some, None, refl, sym, ap, subst, ◌∙◌, nat_cmp, true≢false, ◌⊎◌, inl, inr, append_assoc, append-nil, arith}
+use Rattle.std.proofs.Common.{◌≡◌, ℕ, suc, ◌<◌, ◌≤◌, ◌^◌, ◌==◌, true, false, cond, List, ◌∷◌, ◌++◌, length, Option, Some, None, refl, sym, ap, subst, ◌∙◌, true≢false, ◌⊎◌, inl, inr, append_assoc, append-nil, arith}
 use Rattle.std.specs.Prelude.{IfSome, is_none, nat_lt, ◌-◌, if◌then◌else◌}
 use Rattle.std.specs.Borrow.{Bor}
 use Rattle.std.specs.Global.{Vec}
 use Rattle.std.specs.Cmp.{unsigned_Decides}
 use Rattle.std.specs.List.{flat_map, slice_get}
-use Rattle.std.specs.FinMap.{FinMap, get, insert, remove, entries}
+use Rattle.std.specs.FinMap.{get, insert, entries}
 use Rattle.std.proofs.lemmas.Bool.{cases_lt, le-ltb, lt-ltb}
+use Rattle.std.proofs.lemmas.List.Elements.{All-from_recursion}
 use Rattle.linda_tuple.specs.Tuple.{Tuple}
-use Rattle.linda_maps.proofs.MapLaws.{get_same, get_other, get_removed_other, get_removed_same}
+use Rattle.linda_maps.proofs.MapLaws.{get_same, get_other}
 use Rattle.linda_codec.specs.Formats.{number, short_number}
 use Rattle.linda_store_state.specs.DeedFormat.{written}
 use Rattle.linda_store_state.specs.declared.deed.Deed.{Deed}
@@ -17,9 +18,10 @@ use Rattle.linda_store_state.specs.After.{IsAfter}
 use Rattle.linda_store_state.specs.State.{State, IsState}
 use Rattle.linda_snap.specs.declared.draft.Draft.{Draft}
 use Rattle.linda_snap.specs.Rising.{entries_from}
-use Rattle.linda_snap.specs.Snapshot.{listed, placed, kept, spell_state}
+use Rattle.linda_snap.specs.Snapshot.{listed, placed, kept, spell_state, FitsState}
 use Rattle.linda_snap.specs.Draft.{Tuples, Owes, IsThrough, IsFirst, IsFirstOwed, IsSafe, aside_of, first_of, owed_at, earlier_of, seen}
-use Rattle.linda_snap.proofs.RisingLaws.{first_is, none_is, all_is}
+use Rattle.linda_snap.proofs.PuttingLaws.{few_tuples}
+use Rattle.linda_snap.proofs.RisingLaws.{first_is, none_is, all_is, all_got}
 
 module _ (draft : Draft) (now : Tuples) where
   owed_below : (id : ℕ) → id < draft.next → owed_at draft now id ≡ first_of (get now id) (get (aside_of draft) id)
@@ -83,8 +85,8 @@ module _ (draft : Draft) (now : Tuples) where
 abbrev pub moved : ℕ → Draft → Draft
 moved from draft = record { from = from; next = draft.next; aside = draft.aside; book = draft.book; len = draft.len }
 
-pub one_more : (begun : State) (draft : Draft) (bytes piece : List ℕ) (now : Tuples) (e : ℕ × Tuple) → Owes begun draft bytes now → IsFirstOwed draft now draft.from (Some e) → piece ≡ (placed written).spell e → Owes begun (moved (suc e.0) draft) (bytes ++ piece) now
-one_more begun draft bytes piece now e owes first is =
+pub one_more : (begun : State) (draft : Draft) (bytes piece : List ℕ) (now : Tuples) (e : ℕ × Tuple) → Owes begun draft bytes now → IsFirstOwed draft now draft.from (Some e) → piece ≡ (placed written).spell e → (placed written).Fits e → Owes begun (moved (suc e.0) draft) (bytes ++ piece) now
+one_more begun draft bytes piece now e owes first is fits =
     let spell = (placed written).spell in
     let next : entries_from draft.from begun.bag ≡ e ∷ entries_from (suc e.0) begun.bag =
     first_is begun.bag draft.from e.0 e.1 (owes.owed e.0 first.above ∙ first.there) first.above (λ k low high. owes.owed k low ∙ first.least k low high)
@@ -96,20 +98,30 @@ one_more begun draft bytes piece now e owes first is =
           ∙ owes.parts;
       owed = λ id le. owes.owed id (omega (arith, le, first.above));
       clients = owes.clients;
+      fits = λ id lt. fit id (cases_lt id draft.from) (cases_lt id e.0) lt;
+      known = owes.known;
     }
+  where
+    fit : (id : ℕ) → (id < draft.from) ⊎ (draft.from ≤ id) → (id < e.0) ⊎ (e.0 ≤ id) → id < suc e.0 → IfSome (get begun.bag id) (λ row. (placed written).Fits (id, row))
+    fit id (inl low) which lt = owes.fits id low
+    fit id (inr from) (inl low) lt = subst (λ o. IfSome o (λ row. (placed written).Fits (id, row))) (sym (owes.owed id from ∙ first.least id from low)) tt
+    fit id (inr from) (inr le) lt =
+        let same : e.0 ≡ id = omega (arith, le, lt) in
+        subst (λ k. IfSome (get begun.bag k) (λ row. (placed written).Fits (k, row))) same
+        (subst (λ o. IfSome o (λ row. (placed written).Fits (e.0, row))) (sym (owes.owed e.0 first.above ∙ first.there)) fits)
 
 pub no_more : (begun : State) (draft : Draft) (bytes : List ℕ) (now : Tuples) → Owes begun draft bytes now → IsFirstOwed draft now draft.from None → IsThrough begun draft
-no_more begun draft bytes now owes first = none_is begun.bag draft.from (λ k le. owes.owed k le ∙ first.none k le)
+no_more begun draft bytes now owes first = λ k le. owes.owed k le ∙ first.none k le
 
 -- What is owed does not depend on what is written.
 same_first : (at : ℕ) (draft : Draft) (now : Tuples) (from : ℕ) (found : Option (ℕ × Tuple)) → IsFirstOwed draft now from found → IsFirstOwed (moved at draft) now from found
 same_first at draft now from found first = record { there = first.there; above = first.above; below = first.below; least = first.least; none = first.none }
 
 -- One tuple more behind those that were spelled before.
-pub step_more : (begun : State) (draft : Draft) (bytes old new : List ℕ) (now : Tuples) (from next : ℕ) (e : ℕ × Tuple) → Owes begun (moved from draft) (bytes ++ old) now → IsFirstOwed draft now from (Some e) → new ≡ old ++ (placed written).spell e → next ≡ suc e.0 → Owes begun (moved next draft) (bytes ++ new) now
-step_more begun draft bytes old new now from next e owes first is at =
+pub step_more : (begun : State) (draft : Draft) (bytes old new : List ℕ) (now : Tuples) (from next : ℕ) (e : ℕ × Tuple) → Owes begun (moved from draft) (bytes ++ old) now → IsFirstOwed draft now from (Some e) → new ≡ old ++ (placed written).spell e → (placed written).Fits e → next ≡ suc e.0 → Owes begun (moved next draft) (bytes ++ new) now
+step_more begun draft bytes old new now from next e owes first is fits at =
     let more : Owes begun (moved (suc e.0) draft) ((bytes ++ old) ++ (placed written).spell e) now =
-    one_more begun (moved from draft) (bytes ++ old) ((placed written).spell e) now e owes (same_first from draft now from (Some e) first) refl in
+    one_more begun (moved from draft) (bytes ++ old) ((placed written).spell e) now e owes (same_first from draft now from (Some e) first) refl fits in
     subst (λ n. Owes begun (moved n draft) (bytes ++ new) now) (sym at)
     (subst (λ b. Owes begun (moved (suc e.0) draft) b now) (append_assoc bytes old ((placed written).spell e) ∙ ap (λ b. bytes ++ b) (sym is)) more)
 
@@ -122,10 +134,22 @@ pub all_written : (begun : State) (draft : Draft) (bytes : List ℕ) (now : Tupl
 all_written begun draft bytes now owes through =
     let spell = (placed written).spell in
     let tuples = (listed (placed written)).spell (entries begun.bag) in
-    let is : bytes ≡ number.spell begun.next ++ tuples = sym (append-nil bytes) ∙ ap (λ es. bytes ++ flat_map spell es) (sym through) ∙ owes.parts in
+    let is : bytes ≡ number.spell begun.next ++ tuples = sym (append-nil bytes) ∙ ap (λ es. bytes ++ flat_map spell es) (sym (none_is begun.bag draft.from through)) ∙ owes.parts in
     ap (λ b. b ++ draft.book.items) is
     ∙ ap (λ b. (number.spell begun.next ++ tuples) ++ b) owes.clients
     ∙ append_assoc (number.spell begun.next) tuples ((listed (kept written)).spell (entries begun.book))
+
+-- It has a spelling then.
+pub all_fit : (begun : State) (draft : Draft) (bytes : List ℕ) (now : Tuples) → Owes begun draft bytes now → IsThrough begun draft → length (spell_state written begun) < 2 ^ 32 → FitsState written begun
+all_fit begun draft bytes now owes through short =
+    (owes.known.0, ((few_tuples begun short, All-from_recursion (placed written).Fits (entries begun.bag) (all_got (placed written).Fits begun.bag each)), owes.known.1))
+  where
+    each : (id : ℕ) → IfSome (get begun.bag id) (λ row. (placed written).Fits (id, row))
+    each id =
+        elim (cases_lt id draft.from) [
+          | inl lt ↦ owes.fits id lt
+          | inr le ↦ subst (λ o. IfSome o (λ row. (placed written).Fits (id, row))) (sym (through id le)) tt
+        ]
 
 -- ---- what happens meanwhile
 
@@ -136,57 +160,6 @@ owed_as draft other now new id next same =
       | inr le ↦ owed_beyond draft now id le ∙ sym (owed_beyond other new id (omega (arith, next, le)))
     ]
 
--- A new tuple is not of it.
-pub put_later : (begun : State) (draft : Draft) (bytes : List ℕ) (now : Tuples) (id : ℕ) (row : Tuple) → Owes begun draft bytes now → draft.next ≤ id → Owes begun draft bytes (insert now id row)
-put_later begun draft bytes now id row owes le = record {
-  parts = owes.parts;
-  owed = λ q low. owes.owed q low ∙ owed_as draft draft now (insert now id row) q refl
-      (λ lt. ap (λ o. first_of o (get (aside_of draft) q)) (sym (get_other now id row q (λ same. omega (arith, same, lt, le)))));
-  clients = owes.clients;
-}
-
--- A tuple that is written, or that is not of it, may go.
-pub gone_unowed : (begun : State) (draft : Draft) (bytes : List ℕ) (now : Tuples) (id : ℕ) → Owes begun draft bytes now → (id < draft.from) ⊎ (draft.next ≤ id) → Owes begun draft bytes (remove now id)
-gone_unowed begun draft bytes now id owes apart = record {
-  parts = owes.parts;
-  owed = λ q low. owes.owed q low ∙ owed_as draft draft now (remove now id) q refl
-      (λ lt. ap (λ o. first_of o (get (aside_of draft) q)) (sym (get_removed_other now id q (λ same. away apart q same low lt))));
-  clients = owes.clients;
-}
-  where
-    away : (id < draft.from) ⊎ (draft.next ≤ id) → (q : ℕ) → q ≡ id → draft.from ≤ q → q < draft.next → ⊥
-    away (inl lt) q same low high = omega (arith, lt, same, low)
-    away (inr le) q same low high = omega (arith, le, same, high)
-
--- A tuple may go once it is put aside.
-pub gone_aside : (begun : State) (draft other : Draft) (bytes : List ℕ) (now : Tuples) (id : ℕ) (row : Tuple) → Owes begun draft bytes now → get now id ≡ Some row → other.from ≡ draft.from → other.next ≡ draft.next → other.book ≡ draft.book → aside_of other ≡ insert (aside_of draft) id row → Owes begun other bytes (remove now id)
-gone_aside begun draft other bytes now id row owes there from next book aside = record {
-  parts = ap (λ n. bytes ++ flat_map (placed written).spell (entries_from n begun.bag)) from ∙ owes.parts;
-  owed = λ q low. owes.owed q (omega (arith, from, low)) ∙ owed_as draft other now (remove now id) q next (λ lt. same q);
-  clients = ap (λ (b : Vec ℕ). b.items) book ∙ owes.clients;
-}
-  where
-    same : (q : ℕ) → first_of (get now q) (get (aside_of draft) q) ≡ first_of (get (remove now id) q) (get (aside_of other) q)
-    same q =
-        elim (q == id) as (λ b. (q == id) ≡ b → first_of (get now q) (get (aside_of draft) q) ≡ first_of (get (remove now id) q) (get (aside_of other) q)) [
-          | true ↦ λ is. here q ((unsigned_Decides q id).0 is)
-          | false ↦ λ is. there_still q (λ e. true≢false (sym ((unsigned_Decides q id).1 e) ∙ is))
-        ] refl
-      where
-        here : (q : ℕ) → q ≡ id → first_of (get now q) (get (aside_of draft) q) ≡ first_of (get (remove now id) q) (get (aside_of other) q)
-        here q e =
-            ap (λ k. first_of (get now k) (get (aside_of draft) k)) e
-            ∙ ap (λ o. first_of o (get (aside_of draft) id)) there
-            ∙ sym (get_same (aside_of draft) id row)
-            ∙ ap (λ m. get m id) (sym aside)
-            ∙ ap (λ o. first_of o (get (aside_of other) id)) (sym (get_removed_same now id))
-            ∙ ap (λ k. first_of (get (remove now id) k) (get (aside_of other) k)) (sym e)
-
-        there_still : (q : ℕ) → q ≢ id → first_of (get now q) (get (aside_of draft) q) ≡ first_of (get (remove now id) q) (get (aside_of other) q)
-        there_still q apart =
-            ap (λ o. first_of o (get (aside_of draft) q)) (sym (get_removed_other now id q apart))
-            ∙ ap (λ o. first_of (get (remove now id) q) o) (sym (get_other (aside_of draft) id row q apart) ∙ ap (λ m. get m q) (sym aside))
-
 -- ---- a list of deeds
 
 -- Deeds take only tuples that are safe, so what was owed is owed still.
@@ -195,6 +168,8 @@ owes_after begun draft bytes st ds new owes le after safe = record {
   parts = owes.parts;
   owed = λ q low. owes.owed q low ∙ owed_as draft draft st.bag new.bag q refl (λ lt. same q low lt);
   clients = owes.clients;
+  fits = owes.fits;
+  known = owes.known;
 }
   where
     gone : (q : ℕ) → draft.from ≤ q → q < draft.next → IsSafe draft st.bag q → (o : Option Tuple) → get st.bag q ≡ o → first_of o (get (aside_of draft) q) ≡ get (aside_of draft) q
@@ -220,6 +195,8 @@ aside_too begun draft other bytes now id row owes there from next book aside = r
   parts = ap (λ n. bytes ++ flat_map (placed written).spell (entries_from n begun.bag)) from ∙ owes.parts;
   owed = λ q low. owes.owed q (omega (arith, from, low)) ∙ owed_as draft other now now q next (λ lt. same q);
   clients = ap (λ (b : Vec ℕ). b.items) book ∙ owes.clients;
+  fits = λ q low. owes.fits q (omega (arith, from, low));
+  known = owes.known;
 }
   where
     same : (q : ℕ) → first_of (get now q) (get (aside_of draft) q) ≡ first_of (get now q) (get (aside_of other) q)
@@ -244,6 +221,8 @@ same_aside begun draft other bytes now owes from next book aside = record {
   parts = ap (λ n. bytes ++ flat_map (placed written).spell (entries_from n begun.bag)) from ∙ owes.parts;
   owed = λ q low. owes.owed q (omega (arith, from, low)) ∙ owed_as draft other now now q next (λ lt. ap (λ m. first_of (get now q) (get m q)) (sym aside));
   clients = ap (λ (b : Vec ℕ). b.items) book ∙ owes.clients;
+  fits = λ q low. owes.fits q (omega (arith, from, low));
+  known = owes.known;
 }
 
 -- What is put aside is safe, and what was safe is safe still.
@@ -273,8 +252,8 @@ beyond st ranges id le = by (get st.bag id) (ranges.ids id)
     by None low = refl
     by (Some row) low = absurd (omega (arith, low.1, le))
 
-pub begun : (st : State) (draft : Draft) (bytes : List ℕ) → IsState st → draft.from ≡ 0 → draft.next ≡ st.next → ((id : ℕ) → get (aside_of draft) id ≡ None) → draft.book.items ≡ (listed (kept written)).spell (entries st.book) → bytes ≡ number.spell st.next ++ short_number.spell (length (entries st.bag)) → Owes st draft bytes st.bag
-begun st draft bytes ranges from next none clients is =
+pub begun : (st : State) (draft : Draft) (bytes : List ℕ) → IsState st → draft.from ≡ 0 → draft.next ≡ st.next → ((id : ℕ) → get (aside_of draft) id ≡ None) → draft.book.items ≡ (listed (kept written)).spell (entries st.book) → (listed (kept written)).Fits (entries st.book) → bytes ≡ number.spell st.next ++ short_number.spell (length (entries st.bag)) → Owes st draft bytes st.bag
+begun st draft bytes ranges from next none clients known is =
     let spell = (placed written).spell in
     let count = short_number.spell (length (entries st.bag)) in record {
       parts =
@@ -288,6 +267,8 @@ begun st draft bytes ranges from next none clients is =
             | inr le ↦ beyond st ranges id (omega (arith, next, le)) ∙ sym (owed_beyond draft st.bag id le)
           ];
       clients = clients;
+      fits = λ id lt. absurd (omega (arith, from, lt));
+      known = (omega (arith, ranges.next_high), known);
     }
   where
     itself : (o : Option Tuple) → first_of o None ≡ o

@@ -3,6 +3,7 @@ pub mod RisingLaws
 pub mod PuttingLaws
 pub mod ReadingLaws
 pub mod StateLaws
+pub mod SuccessorLaws
 pub mod StandsLaws
 pub mod ReplayLaws
 pub mod ChoiceLaws

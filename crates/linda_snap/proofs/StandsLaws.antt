@@ -3,6 +3,7 @@ use Rattle.std.proofs.Common.{ℕ, ◌+◌, inl, inr, List, [], sym, subst, arit
 use Rattle.linda_store_state.specs.DeedFormat.{written}
 use Rattle.linda_tuple.specs.declared.form.Form.{Form}
 use Rattle.linda_store_state.specs.State.{State, IsState}
+use Rattle.linda_store_state.specs.Proper.{AreDone}
 use Rattle.linda_store_state.proofs.ProperLaws.{none_done}
 use Rattle.linda_store_state.specs.declared.deed.Deed.{Deed}
 use Rattle.linda_disk.specs.View.{View, IsTimed}
@@ -11,10 +12,10 @@ use Rattle.linda_disk.proofs.RunLaws.{started, weaker, joined}
 use Rattle.linda_journal.specs.declared.heading.Heading.TheVariants as headings
 use Rattle.linda_journal.specs.Heading.{IsHeading}
 use Rattle.linda_journal.specs.Bank.{IsBank, IsSettled, IsNoneOrNew}
-use Rattle.linda_journal.specs.Renewal.{IsNoBank, IsSameOrNone}
+use Rattle.linda_journal.specs.Renewal.{IsNoBank, IsSameOrNone, IsNoneOrNewWith}
 use Rattle.linda_journal.proofs.ImageLaws.{is_candidate}
 use Rattle.linda_snap.specs.Snapshot.{spell_state, FitsState}
-use Rattle.linda_snap.specs.Stands.{StandsOn, IsLesser, IsStored, IsUp, StandsBeside}
+use Rattle.linda_snap.specs.Stands.{StandsOn, IsLesser, IsStored, IsUp, StandsBeside, deeds_in}
 use Rattle.linda_snap.specs.Switch.{IsOldNoneOrNew}
 
 -- ---- the runs of a renewal
@@ -81,3 +82,24 @@ module _ (form : Form) (generation end : ℕ) (used other : View) (st : State) (
     lesser = lesser_next;
     durable = up.stored.settled.durable;
   }
+
+  -- ---- a new bank that was written in steps, with the records of what was done since
+
+  module _ (begun : State) (rs : List (List Deed)) (ranges : IsState begun) (fits : FitsState written begun) (done : AreDone begun (deeds_in rs) st) where
+    stands_in_steps : (image : List ℕ) → IsNoneOrNewWith written (generation + 1) (spell_state written begun) rs image → StandsBeside used.seen st image
+    stands_in_steps image (inl none) = inl record { generation = generation; stands = on_used; lesser = inl none }
+    stands_in_steps image (inr bank) = inr record {
+      generation = generation + 1;
+      stands = record { form = written; opening = begun; ranges = ranges; fits = fits; records = rs; bank = bank; done = done };
+      lesser = lesser_next;
+    }
+
+    pub taking_over : (new : View) → LeavesOnly other new (IsNoneOrNewWith written (generation + 1) (spell_state written begun) rs) → LeavesOnly other new (StandsBeside used.seen st)
+    taking_over new run = weaker other new (IsNoneOrNewWith written (generation + 1) (spell_state written begun) rs) (StandsBeside used.seen st) run stands_in_steps
+
+    pub taken_over : (new_end : ℕ) (new : View) → IsSettled written (generation + 1) (spell_state written begun) rs new_end new → IsUp written (generation + 1) new_end new used st
+    taken_over new_end new settled = record {
+      stored = record { opening = begun; ranges = ranges; fits = fits; records = rs; settled = settled; done = done };
+      lesser = lesser_next;
+      durable = up.stored.settled.durable;
+    }

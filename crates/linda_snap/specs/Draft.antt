@@ -1,6 +1,6 @@
 -- A snapshot that is written in steps while the server goes on: what it has written, and what it
 -- owes.
-use Rattle.std.specs.Prelude.{◌≡◌, ◌≤◌, ◌<◌, ◌++◌, ℕ, nat_lt, List, [], Option, None, Some}
+use Rattle.std.specs.Prelude.{◌≡◌, ◌≤◌, ◌<◌, ◌++◌, ℕ, nat_lt, List, Option, None, Some}
 use Rattle.std.specs.Prelude.{if◌then◌else◌, IfSome, IfNone}
 use Rattle.std.specs.Borrow.{Bor}
 use Rattle.std.specs.List.{flat_map}
@@ -41,8 +41,12 @@ pub record Owes (begun : State) (draft : Draft) (bytes : List ℕ) (now : Tuples
       ≡ number.spell begun.next ++ (listed (placed written)).spell (entries begun.bag)
   -- each of those tuples is there still, or was put aside;
   pub owed : (id : ℕ) → draft.from ≤ id → get begun.bag id ≡ owed_at draft now id
-  -- its clients are spelled already, to be written last.
+  -- its clients are spelled already, to be written last;
   pub clients : draft.book.items ≡ (listed (kept written)).spell (entries begun.book)
+  -- and all that was spelled has a spelling.
+  pub fits : (id : ℕ) → id < draft.from
+      → IfSome (get begun.bag id) (λ row. (placed written).Fits (id, row))
+  pub known : number.Fits begun.next × (listed (kept written)).Fits (entries begun.book)
 
 -- The tuple of this id may be taken: it is written, or not of the snapshot, or put aside.
 abbrev pub IsSafe : Draft → Tuples → ℕ → Type 0
@@ -52,7 +56,7 @@ IsSafe draft now id =
 
 -- All its tuples are written.
 abbrev pub IsThrough : State → Draft → Type 0
-IsThrough begun draft = entries_from draft.from begun.bag ≡ []
+IsThrough begun draft = (id : ℕ) → draft.from ≤ id → get begun.bag id ≡ None
 
 -- ---- its next tuple
 

@@ -6,3 +6,4 @@ pub mod Switch
 pub mod Replay
 pub mod Choice
 pub mod Draft
+pub mod Successor

@@ -8,13 +8,12 @@
 ghost use Rattle.std.specs.Prelude.{◌≡◌, ◌≤◌, ◌<◌, ◌^◌, ◌++◌, ℕ, List, [], length, None, Some};
 ghost use Rattle.std.specs.Prelude.{◌+◌, ◌⊎◌, OnOk, OnErr, IfOk, IfErr, IsErrOf, IfSome, IfNone};
 ghost use Rattle.linda_journal.specs.declared.limits.TheConstants.{MIN_BYTES};
-ghost use Rattle.std.specs.FinMap.{get, remove};
 ghost use Rattle.linda_store_state.specs.State as states;
 ghost use Rattle.linda_store_state.specs.State.{IsState};
 ghost use Rattle.linda_store_state.specs.DeedFormat.{written};
 ghost use Rattle.linda_snap.specs.Draft.{Tuples, Owes, IsThrough, IsFirst, IsFirstOwed};
 ghost use Rattle.linda_snap.specs.Draft.{seen, earlier_of, IsSafe};
-ghost use Rattle.linda_snap.specs.Snapshot.{spell_state};
+ghost use Rattle.linda_snap.specs.Snapshot.{spell_state, FitsState};
 
 use crate::entry::push_placed;
 use crate::putting::{push_book, push_count};
@@ -59,6 +58,7 @@ impl Draft {
         requires short { limit < 2 ^ 32 }
         ensures begun { IfOk result (λ d. Owes state.now d.0 d.1.items state.now.bag) }
         ensures len { IfOk result (λ d. d.0.len ≡ length (spell_state written state.now)) }
+        ensures next { IfOk result (λ d. d.0.next ≡ state.now.next) }
         ensures room { OnOk result (MIN_BYTES + 1 + length (spell_state written state.now)
             ≤ limit) }
         ensures full { IsErrOf result SwitchFault.BankFull
@@ -80,22 +80,6 @@ impl Draft {
         ensures { result ≡ self.now.len }
     {
         self.len
-    }
-
-    /// Puts aside a copy of a tuple that is taken, if its turn is still to come.
-    ///
-    /// # Errors
-    ///
-    /// `AllocError` if memory runs out: then the snapshot cannot go on once the tuple is taken.
-    pub fn keep(&mut self, id: u64, tuple: Tuple) -> Result<(), AllocError>
-        ensures { (begun : states.State) (bytes : List ℕ) (now : Tuples)
-            → Owes begun self.old bytes now → get now id ≡ Some tuple
-            → OnOk result (Owes begun self.new bytes (remove now id)) }
-    {
-        if self.from <= id && id < self.next {
-            self.aside.insert(id, tuple)?;
-        }
-        Ok(())
     }
 
     /// Puts aside a copy of the tuple of this id, if it is there and its turn is still to come: then
@@ -149,6 +133,7 @@ impl Draft {
             → IfOk result (λ step. IfNone step (IsThrough begun self.new)) }
         ensures ended { IfOk result (λ step. IfNone step (self.new ≡ self.old)) }
         ensures err { OnErr result (self.new ≡ self.old) }
+        ensures next { self.new.next ≡ self.old.next }
     {
         if self.owed_from(state, self.from).is_none() {
             return Ok(None);
@@ -170,12 +155,16 @@ impl Draft {
     }
 
     /// What is written last, behind all tuples: its clients.
-    pub fn book(&self) -> &[u8]
-        ensures { (begun : states.State) (bytes : List ℕ) (now : Tuples)
-            → Owes begun self.now bytes now → IsThrough begun self.now
-            → bytes ++ result.now ≡ spell_state written begun }
+    pub fn into_book(self) -> Vec<u8>
+        ensures spelled { (begun : states.State) (bytes : List ℕ) (now : Tuples)
+            → Owes begun self bytes now → IsThrough begun self
+            → bytes ++ result.items ≡ spell_state written begun }
+        ensures fits { (begun : states.State) (bytes : List ℕ) (now : Tuples)
+            → Owes begun self bytes now → IsThrough begun self
+            → length (spell_state written begun) < 2 ^ 32 → FitsState written begun }
     {
-        &self.book
+        let Draft { book, .. } = self;
+        book
     }
 
     // The first tuple that it owes, from this id on.
@@ -198,6 +187,7 @@ fn spell_first<B: Bag>(
     requires short { length (spell_state written state.now) < 2 ^ 32 }
     ensures begun { IfOk result (λ d. Owes state.now d.0 d.1.items state.now.bag) }
     ensures len { IfOk result (λ d. d.0.len ≡ len) }
+    ensures next { IfOk result (λ d. d.0.next ≡ state.now.next) }
 {
     let mut book = Vec::new(alloc);
     push_book(&mut book, &state.book)?;

@@ -21,6 +21,9 @@ mod putting;
 mod reading;
 mod renewal;
 mod replay;
+mod successor;
+mod tail;
+mod takeover;
 
 pub use choice::{ChoiceFault, Chosen, choose, choose_bank};
 pub use draft::{Draft, STEP_TUPLES};
@@ -29,3 +32,5 @@ pub use linda_journal::{Closed, Whole, fill, shut, unlock};
 pub use putting::{EMPTY_STATE_BYTES, put_state};
 pub use reading::{SnapshotFault, get_state};
 pub use renewal::{SwitchFault, switch};
+pub use successor::{Part, Successor};
+pub use takeover::take_over;

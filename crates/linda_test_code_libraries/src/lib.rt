@@ -11,8 +11,6 @@ mod messages;
 #[cfg(test)]
 mod server;
 #[cfg(test)]
-mod snap;
-#[cfg(test)]
 mod step;
 #[cfg(test)]
 mod store;

@@ -1,4 +1,5 @@
 mod groups;
 mod memory;
 mod script;
+mod steps;
 mod words;

@@ -1,8 +1,8 @@
 //! Sessions in one thread, line by line.
 //!
 //! `greet hello 2 7 fresh` greets; `7 out 1 ("a", 3)` submits a message of client 7, and
-//! `all 7 out 1 ("a", 3); 7 cancel 2` several at once; `leave 7`, `pays`, `snapshot`, and `finish 7
-//! 8`, which gives both seats back; `wait 7` waits until client 7 has a reply, or none will come,
+//! `all 7 out 1 ("a", 3); 7 cancel 2` several at once; `leave 7`, `pays`, `snapshot`; `begin` and
+//! `step` for one in steps; and `finish 7 8`, which gives both seats back; `wait 7` waits until client 7 has a reply, or none will come,
 //! and `mailboxes` counts. What comes of a line is written: `7 did 1` of a receipt for message 1,
 //! whether a snapshot pays, a fault in words, and then all replies that are there, session by
 //! session.
@@ -11,7 +11,7 @@ ghost use Rattle.std.specs.Prelude.{◌≡◌, ◌≤◌, ◌<◌, true, length,
 ghost use Rattle.linda_store_step.specs.declared.size.TheConstants.{MAX_BATCH};
 ghost use Rattle.linda_shared_queue.specs.Seat.{IsRequest};
 
-use linda_shared::{Receipt, SharedFault};
+use linda_shared::{Progress, Receipt, SharedFault};
 use linda_store_step::MAX_BATCH;
 use linda_test_script::{
     WordsFault, read_batch, read_message, read_numbered, split_word, write_reply,
@@ -20,6 +20,9 @@ use linda_test_server::{Host, Welcome};
 use linda_wire::{Message, Reply};
 use std::alloc::{AllocError, Global};
 use std::sync::Wait;
+
+/// About so many bytes a step of a snapshot writes at most.
+const MOST: usize = 65_536;
 
 /// A client's seat, and where its replies come out.
 #[derive(Drop)]
@@ -80,6 +83,8 @@ impl<S: Drop, O: Drop, H: Host<S, O>> Sessions<S, O, H> {
             "mailboxes" => self.mailboxes(rt, came),
             "wait" => self.wait(rt, alloc, rest, came),
             "snapshot" => self.snapshot(rt, came),
+            "begin" => self.begin_steps(rt, came),
+            "step" => self.step(rt, came),
             _ => self.submit_one(rt, alloc, line, came),
         }
     }
@@ -268,6 +273,20 @@ impl<S: Drop, O: Drop, H: Host<S, O>> Sessions<S, O, H> {
         }
     }
 
+    fn begin_steps<R: Wait>(&mut self, rt: &R, came: &mut String) -> Result<(), WordsFault> {
+        match self.host.begin_steps(rt) {
+            Ok(()) => Ok(()),
+            Err(fault) => tell_fault(fault, came),
+        }
+    }
+
+    fn step<R: Wait>(&mut self, rt: &R, came: &mut String) -> Result<(), WordsFault> {
+        match self.host.step(rt, MOST) {
+            Ok(progress) => written(came.push_str(word_of(progress))),
+            Err(fault) => tell_fault(fault, came),
+        }
+    }
+
     // Writes the replies that are there, session by session.
     fn tell_replies<R: Wait>(
         &mut self,
@@ -315,6 +334,15 @@ fn outlet_at<S: Drop, O: Drop>(
 // What was written, or the fault that memory ran out.
 fn written(done: Result<(), AllocError>) -> Result<(), WordsFault> {
     Ok(done?)
+}
+
+// How a snapshot in steps went on.
+fn word_of(progress: Progress) -> &'static str {
+    match progress {
+        Progress::Idle => "> idle\n",
+        Progress::Going => "> going\n",
+        Progress::Done => "> done\n",
+    }
 }
 
 // Writes why a call failed.

@@ -14,7 +14,10 @@ const TWO: Kept = (3, 2, 1);
 
 const THREE: Kept = (4, 3, 1);
 
-/// Two deeds in one record, a snapshot, another deed, and another snapshot.
+const FOUR: Kept = (5, 4, 1);
+
+/// Two deeds in one record, a snapshot, another deed, and another snapshot; then one in steps, with a
+/// deed between them.
 const STEPS: &[Step] = &[
     ("greet hello 2 7 fresh", "> 7 welcome 0\n", NEW),
     (
@@ -25,6 +28,12 @@ const STEPS: &[Step] = &[
     ("snapshot", "", TWO),
     ("7 out 3 (\"a\", 5)", "> 7 did 3\n> 7 stored 3 3\n", THREE),
     ("snapshot", "", THREE),
+    ("begin", "", THREE),
+    ("7 out 4 (\"a\", 6)", "> 7 did 4\n> 7 stored 4 4\n", FOUR),
+    ("step", "> going\n", FOUR),
+    ("step", "> going\n", FOUR),
+    ("step", "> done\n", FOUR),
+    ("step", "> idle\n", FOUR),
 ];
 
 /// So many first steps are played, and these banks stand on the disks then.
@@ -52,7 +61,8 @@ impl<R: Wait + Abort> Scene<R> for Standing {
 }
 
 /// The first bank, on the left disk, is of generation 1; each snapshot is a bank without a record,
-/// of the next generation, on the other disk.
+/// of the next generation, on the other disk. One in steps is none until its end, and has a record
+/// for the deed between them.
 const STANDING: &[Standing] = &[
     Standing {
         steps: 2,
@@ -84,6 +94,22 @@ const STANDING: &[Standing] = &[
             is_right: false,
             in_use: (3, 0, THREE),
             other: Some((2, 1, THREE)),
+        },
+    },
+    Standing {
+        steps: 9,
+        banks: Banks {
+            is_right: false,
+            in_use: (3, 1, FOUR),
+            other: None,
+        },
+    },
+    Standing {
+        steps: 11,
+        banks: Banks {
+            is_right: true,
+            in_use: (4, 1, FOUR),
+            other: Some((3, 1, FOUR)),
         },
     },
 ];

@@ -9,7 +9,7 @@ ghost use Rattle.linda_shared_queue.specs.Seat.{IsRequest};
 
 use crate::stand::{Kept, kept};
 use linda_disk::MemDisk;
-use linda_shared::{Greeted, Outlet, Receipt, Report, Seat, Shared, SharedFault};
+use linda_shared::{Greeted, Outlet, Progress, Receipt, Report, Seat, Shared, SharedFault};
 use linda_wire::{Message, Reply};
 use std::alloc::{AllocError, Global};
 use std::sync::Wait;
@@ -80,6 +80,12 @@ pub trait Host<S, O>: Drop {
 
     /// The server writes a snapshot.
     fn snapshot<R: Wait>(&self, rt: &R) -> Result<(), SharedFault>;
+
+    /// The server begins a snapshot in steps.
+    fn begin_steps<R: Wait>(&self, rt: &R) -> Result<(), SharedFault>;
+
+    /// The server takes the next step of a snapshot, which writes about so many bytes at most.
+    fn step<R: Wait>(&self, rt: &R, most: usize) -> Result<Progress, SharedFault>;
 
     /// All seats come back, and the server gives its report.
     fn finish<R: Wait>(&self, rt: &R, seats: Vec<S>) -> Result<Report, SharedFault>;
@@ -160,6 +166,14 @@ impl<L: Ledger> Host<Seat<L>, Outlet<L>> for Shared<MemDisk, L> {
 
     fn snapshot<R: Wait>(&self, rt: &R) -> Result<(), SharedFault> {
         Shared::snapshot(self, rt)
+    }
+
+    fn begin_steps<R: Wait>(&self, rt: &R) -> Result<(), SharedFault> {
+        Shared::begin_steps(self, rt)
+    }
+
+    fn step<R: Wait>(&self, rt: &R, most: usize) -> Result<Progress, SharedFault> {
+        Shared::step(self, rt, most)
     }
 
     fn finish<R: Wait>(&self, rt: &R, seats: Vec<Seat<L>>) -> Result<Report, SharedFault> {

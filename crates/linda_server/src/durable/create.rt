@@ -101,6 +101,7 @@ impl<D: Disk> Durable<D> {
                     down: false,
                     before,
                     lost: Vec::new(alloc),
+                    next: None,
                 })
             }
         }

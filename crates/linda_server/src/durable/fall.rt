@@ -92,6 +92,7 @@ impl<D: Disk> Durable<D> {
                 let Durable { store, disks, .. } = server;
                 self.store = store;
                 self.disks = disks;
+                self.next = None;
                 self.down = false;
                 let lost = mem::replace(&mut self.lost, Vec::new(alloc));
                 if has_done(self.store.state(), &lost) {

@@ -1,7 +1,7 @@
 //! Serving messages: judged, done, and put onto the bank in use before anything is answered.
 
 ghost use Rattle.std.specs.Prelude.{◌≡◌, ◌∷◌, [], ◌<◌, ◌≤◌, ◌+◌, ◌↔◌};
-ghost use Rattle.std.specs.Prelude.{true, false, length, All, IfOk, IfErr, IfSome, IfNone, OnOk};
+ghost use Rattle.std.specs.Prelude.{ℕ, true, false, length, All, IfOk, IfErr, IfSome, IfNone, OnOk};
 ghost use Rattle.std.specs.Prelude.{OnErr};
 ghost use Rattle.std.specs.Prelude.{IsErrOf, is_some};
 ghost use Rattle.linda_disk.specs.Disk.{TellsFailures};
@@ -14,6 +14,7 @@ ghost use Rattle.linda_server.specs.Server.{failures_of, IsKeptFor, IsPutOn, Alw
 use super::Durable;
 use crate::commit::commit;
 use crate::fault::ServeFault;
+use crate::next::{noted, spared};
 use crate::served::Served;
 use crate::serving::{Batch, count_of, serve};
 use linda_disk::Disk;
@@ -21,6 +22,7 @@ use linda_journal::{GATE_BYTES, RECORD_HEAD, records_for};
 use linda_moment::Moment;
 use linda_wire::Message;
 use std::alloc::Global;
+use std::mem;
 
 impl<D: Disk> Durable<D> {
     ghost use Rattle.linda_store_state.specs.State.{IsState};
@@ -31,6 +33,8 @@ impl<D: Disk> Durable<D> {
     ghost use Rattle.linda_server.specs.Served.{messages_of};
     ghost use Rattle.linda_server.specs.Calls.{LeadTo, IsEither};
     ghost use Rattle.linda_server.specs.Handled.{Serves};
+    ghost use Rattle.linda_store_state.specs.Deed.{is_taken};
+    ghost use Rattle.linda_server.specs.Next.{IsNextFor, IsSafeIn};
 
     /// Does what the messages ask, one after another, each of its client, and says for each of
     /// them which deed it did and what is sent. All deeds come onto the bank in use at once, 64 of
@@ -76,6 +80,8 @@ impl<D: Disk> Durable<D> {
         let count = count_of(batch);
         self.admit(size, count)?;
         self.begin();
+        let next = mem::replace(&mut self.next, None);
+        self.next = spared(next, alloc, self.store.state(), batch);
         let Ok(served) = serve(&mut self.store, alloc, batch) else {
             return Err(ServeFault::Memory);
         };
@@ -136,13 +142,15 @@ impl<D: Disk> Durable<D> {
         ensures down { self.new.down ≡ true }
         ensures before { self.new.before.value ≡ self.old.store.state }
         ensures same { (self.new.store ≡ self.old.store) × (self.new.disks ≡ self.old.disks)
-            × (self.new.limit ≡ self.old.limit) × (self.new.lost.items ≡ []) }
+            × (self.new.limit ≡ self.old.limit) × (self.new.lost.items ≡ [])
+            × (self.new.next ≡ self.old.next) }
         // What the type keeps of a server that is up is not lost.
         ensures live { self.new.store.is_spent ≡ false }
         ensures ranges { IsState self.new.store.state }
         ensures ready { is_usable self.new.disks ≡ true }
         ensures limited { limit_in_use self.new.disks ≡ self.new.limit }
         ensures kept { ∥ IsKeptFor self.new.disks self.old.store.state ∥₁ }
+        ensures begun { ∥ IsNextFor self.new.next self.new.disks self.old.store.state ∥₁ }
     {
         self.before = Moment::of(self.store.state());
         self.down = true;
@@ -157,6 +165,9 @@ impl<D: Disk> Durable<D> {
         requires ready { is_usable self.old.disks ≡ true }
         requires limited { limit_in_use self.old.disks ≡ self.old.limit }
         requires kept { ∥ IsKeptFor self.old.disks self.old.before.value ∥₁ }
+        requires begun { ∥ IsNextFor self.old.next self.old.disks self.old.before.value ∥₁ }
+        requires safe { (id : ℕ) → is_taken id served.deeds.items ≡ true
+            → IsSafeIn self.old.next self.old.before.value.bag id }
         requires leads { LeadTo self.old.before.value served.deeds.items self.old.store.state }
         requires few { length served.deeds.items ≤ MAX_GROUP }
         requires suit { All (SuitsForm (form_in_use self.old.disks)) served.deeds.items }
@@ -182,6 +193,8 @@ impl<D: Disk> Durable<D> {
     {
         match commit(&mut self.disks, alloc, &served.deeds) {
             Ok(()) => {
+                let next = mem::replace(&mut self.next, None);
+                self.next = noted(next, alloc, &served.deeds);
                 self.down = false;
                 Ok(served)
             }

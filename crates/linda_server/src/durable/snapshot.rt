@@ -16,8 +16,8 @@ impl<D: Disk> Durable<D> {
     ghost use Rattle.linda_server.specs.Switch.{IsSwitched, snapshot_calls};
 
     /// Writes a snapshot of the state as a new bank onto the disk that is not in use; from then on
-    /// that bank is in use. It is what `snapshot` stands on, and distinguishes a device's failure
-    /// from `Memory`.
+    /// that bank is in use. One that was begun in steps is given up. It is what `snapshot` stands
+    /// on, and distinguishes a device's failure from `Memory`.
     ///
     /// # Errors
     ///
@@ -42,7 +42,10 @@ impl<D: Disk> Durable<D> {
             return Err(ServeFault::Down);
         }
         match renew(&mut self.disks, alloc, self.store.state()) {
-            Ok(()) => Ok(()),
+            Ok(()) => {
+                self.next = None;
+                Ok(())
+            }
             Err(fault) => {
                 if fault == ServeFault::Full {
                     return Err(fault);

@@ -14,8 +14,9 @@ impl<D: Disk> Durable<D> {
     ghost use Rattle.linda_server.specs.Server.{IsClearedBy};
     ghost use Rattle.linda_server.specs.Switch.{IsTrimmed};
 
-    /// Leaves one byte of the disk that is not in use, a closed gate. It is what `trim` stands on,
-    /// and distinguishes a device's failure from `Memory`.
+    /// Leaves one byte of the disk that is not in use, a closed gate. A snapshot that was begun in
+    /// steps is given up. It is what `trim` stands on, and distinguishes a device's failure from
+    /// `Memory`.
     ///
     /// # Errors
     ///
@@ -35,7 +36,10 @@ impl<D: Disk> Durable<D> {
             return Err(ServeFault::Down);
         }
         match clear(&mut self.disks) {
-            Ok(()) => Ok(()),
+            Ok(()) => {
+                self.next = None;
+                Ok(())
+            }
             Err(fault) => {
                 self.before = Moment::of(self.store.state());
                 self.down = true;

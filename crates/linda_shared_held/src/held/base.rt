@@ -18,6 +18,7 @@ ghost use Rattle.linda_shared_held.specs.Snapshot.{TakesSnapshot};
 
 use super::Held;
 use super::recall::begin_anew;
+use crate::limits::MANY_RECEIPTS;
 use crate::pace::Pace;
 use linda_disk::Disk;
 use linda_moment::Moment;
@@ -138,6 +139,45 @@ impl<D: Disk, L: Ledger> Held<D, L> {
     {
         self.pace.tries(self.server.records());
         take_snapshot(&mut self.server, alloc)?;
+        self.move_base(alloc);
+        self.pace = new_pace(&self.server);
+        Ok(())
+    }
+
+    /// Forgets the receipts if there are many: the state now is the base. For a program that serves,
+    /// and never calls `finish`. Nothing changes that a session sees.
+    pub fn forget(&mut self, alloc: Global)
+        ensures same { (self.new.server ≡ self.old.server)
+            × (self.new.opening.value ≡ self.old.opening.value)
+            × (self.new.count ≡ self.old.count) × (self.new.boxes ≡ self.old.boxes)
+            × (self.new.pace ≡ self.old.pace) }
+        // All is as before, or the base is the state now, and no place has a younger receipt.
+        ensures which { ((self.new.base.value ≡ self.old.base.value)
+            × (self.new.receipts.items ≡ self.old.receipts.items)
+            × (self.new.accounts ≡ self.old.accounts))
+            ⊎ ((self.new.base.value ≡ self.new.server.store.state)
+            × (self.new.receipts.items ≡ [])
+            × AreShortened self.old.accounts.places self.new.accounts.places) }
+        ensures total { self.new.accounts.total ≡ self.old.accounts.total }
+    {
+        if self.receipts.len() < MANY_RECEIPTS || self.server.is_down() {
+            return;
+        }
+        self.move_base(alloc);
+    }
+
+    // The state now is the base, from which on the receipts begin anew.
+    pub(super) fn move_base(&mut self, alloc: Global)
+        requires up { self.old.server.down ≡ false }
+        ensures base { (self.new.base.value ≡ self.new.server.store.state)
+            × (self.new.receipts.items ≡ []) }
+        ensures same { (self.new.server ≡ self.old.server)
+            × (self.new.opening.value ≡ self.old.opening.value)
+            × (self.new.count ≡ self.old.count) × (self.new.boxes ≡ self.old.boxes)
+            × (self.new.pace ≡ self.old.pace) }
+        ensures total { self.new.accounts.total ≡ self.old.accounts.total }
+        ensures shortened { AreShortened self.old.accounts.places self.new.accounts.places }
+    {
         self.base = Moment::of(self.server.state());
         self.receipts.clear();
         begin_anew(
@@ -146,10 +186,15 @@ impl<D: Disk, L: Ledger> Held<D, L> {
             alloc,
             self.server.state(),
         );
-        let used = self.server.used();
-        self.pace = Pace::new(used, used);
-        Ok(())
     }
+}
+
+/// The pace of a bank that was taken into use just now.
+pub(super) fn new_pace<D: Disk>(server: &Durable<D>) -> Pace
+    ensures { result ≡ pace_from (end_in_use server.now.disks) (end_in_use server.now.disks) }
+{
+    let used = server.used();
+    Pace::new(used, used)
 }
 
 // Takes a snapshot. What is known of a server that did not is as before.
@@ -162,8 +207,8 @@ fn take_snapshot<D: Disk>(server: &mut Durable<D>, alloc: Global) -> Result<(), 
     }
 }
 
-// What is reported for a snapshot that was not taken.
-fn fault_of(fault: NodeFault) -> SharedFault
+/// What is reported for a snapshot that was not taken.
+pub(super) fn fault_of(fault: NodeFault) -> SharedFault
     ensures full { result ≡ SharedFault.Full → fault ≡ NodeFault.Full }
     ensures down { result ≡ SharedFault.Down → fault ≡ NodeFault.Down }
     ensures known { (result ≡ SharedFault.Full) ⊎ (result ≡ SharedFault.Down) }

@@ -47,6 +47,6 @@ returns-in-Err-clause-cause g c =
     let count = g.D.Disk.failures in
     let pair = c.in-InUse.pair in
     let new = count c.in-Err.bank.disk + count c.in-Err.other in
-    subst (λ d. TellsFailures serves.Disk c.told.result (failures_of d) new) c.in-InUse.ensures.value
-    (beside_told serves.Disk c.told.result (count pair.bank.disk) (count c.in-Err.bank.disk) (count pair.other) (count c.in-Err.other) (ap count c.in-Err.ensures.same.1)
-    (renamed serves.Disk c.told.result switches.Disk c.in-Err.fault (count pair.other) (count c.in-Err.other) c.told.ensures.disk c.in-Err.ensures.cause))
+    subst (λ d. TellsFailures serves.Disk c.of_switch.result (failures_of d) new) c.in-InUse.ensures.value
+    (beside_told serves.Disk c.of_switch.result (count pair.bank.disk) (count c.in-Err.bank.disk) (count pair.other) (count c.in-Err.other) (ap count c.in-Err.ensures.same.1)
+    (renamed serves.Disk c.of_switch.result switches.Disk c.in-Err.fault (count pair.other) (count c.in-Err.other) c.of_switch.ensures.disk c.in-Err.ensures.cause))

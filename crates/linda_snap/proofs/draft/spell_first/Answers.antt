@@ -24,6 +24,10 @@ returns-clause-begun g c =
     begun st _ c.push_count.new.out.items c.requires.ranges refl (ap (λ (s : State). s.next) c.state.view_is)
     (λ id. ap (λ m. get m id) c.new.ensures ∙ get_empty id)
     (c.in_ok-push_book.ensures.ok ∙ ap (λ b. b ++ (listed (kept written)).spell (entries c.state.inside.book)) c.new-book.ensures.items ∙ ap (λ (s : State). (listed (kept written)).spell (entries s.book)) c.state.view_is)
+    (subst (λ b. (listed (kept written)).Fits (entries b)) (ap (λ (s : State). s.book) c.state.view_is) c.in_ok-push_book.ensures.fits)
     (c.in_ok-push_count.ensures
     ∙ ap (λ b. b ++ short_number.spell c.len.result) (c.in_ok-extend_from_slice.ensures.items ∙ ap (λ b. b ++ c.to_be_bytes.result) c.new-bytes.ensures.items ∙ c.to_be_bytes.ensures ∙ ap (λ (s : State). number.spell s.next) c.state.view_is)
     ∙ ap (λ n. number.spell st.next ++ short_number.spell n) count)
+
+pub returns-clause-next : goal.returns-clause-next
+returns-clause-next g c = ap (λ (s : State). s.next) c.state.view_is

@@ -6,7 +6,7 @@ use Rattle.linda_journal.specs.Renewal.{IsWhole, pieces}
 use Rattle.linda_journal.proofs.RenewalLaws.{then_calls}
 use Rattle.linda_snap.proofs.StandsLaws.{filling, opening}
 use Rattle.linda_disk.specs.declared.fault.DiskFault.TheVariants as device
-use Rattle.linda_snap.proofs.CauseLaws.{tells_on}
+use Rattle.linda_journal.proofs.CauseLaws.{tells_on}
 use Rattle.linda_snap.proofs.renewal.renew.Goals as goal
 
 pub returns-in-Err-unlock-clause-any_moment : goal.returns-in-Err-unlock-clause-any_moment

@@ -15,6 +15,9 @@ use Rattle.linda_server.specs.Calls.{LeadTo, IsBeforeOrAfter, room_for}
 use Rattle.linda_server.specs.Node.{shown}
 use Rattle.linda_server.proofs.ServedLaws.{served_happens}
 use Rattle.linda_server.proofs.CallLaws.{leads_to, few, some_bytes, room_of, suit_of, too_much, not_too_much, still_before, served_since, stands_so, none_remains, all_remains_up, at_fault, each_share, told_so, room_less}
+use Rattle.linda_store_state.specs.State.{State}
+use Rattle.linda_server.specs.Next.{IsNextFor, IsSafeIn}
+use Rattle.linda_server.proofs.NextLaws.{next_up, served_safe}
 use Rattle.linda_server.specs.declared.fault.ServeFault.{ServeFault}
 use Rattle.linda_server.specs.declared.fault.ServeFault.TheVariants.{Memory}
 use Rattle.linda_server.specs.Lives.{GoesOn}
@@ -27,6 +30,28 @@ admitted_for size end limit count most same = subst (λ n. IfSome size (λ b. 0 
 
 within : (end limit more less new_end new_limit : ℕ) → end + more ≤ limit → less ≤ more → new_end ≡ end → new_limit ≡ limit → new_end + less ≤ new_limit
 within end limit more less new_end new_limit fits fewer end_is limit_is = omega (arith, fits, fewer, end_is, limit_is)
+
+pub settle-requires-clause-begun : goal.settle-requires-clause-begun
+settle-requires-clause-begun g c =
+    let s = c.args.self.now in
+    let now = c.state.result.now in
+    let disks = c.begin.new.self.disks in
+    let next = c.spared.result in
+    let same : now ≡ s.store.state = c.state.ensures.state ∙ ap (λ (st : Store). st.state) c.begin.ensures.same.0 in
+    subst (λ st. ∥ IsNextFor next disks st ∥₁) (same ∙ sym c.begin.ensures.before)
+    (next_up c.replace-next.result next disks now now c.spared.ensures.follows
+    (subst (λ o. ∥ IsNextFor o disks now ∥₁) (sym c.replace-next.ensures.value) (subst (λ st. ∥ IsNextFor c.begin.new.self.next disks st ∥₁) (sym same) c.begin.ensures.begun)))
+
+pub settle-requires-clause-safe : goal.settle-requires-clause-safe
+settle-requires-clause-safe g c id taken =
+    let s = c.args.self.now in
+    let ms = messages_of c.args.batch in
+    let now = c.state.result.now in
+    let same : now ≡ s.store.state = c.state.ensures.state ∙ ap (λ (st : Store). st.state) c.begin.ensures.same.0 in
+    let old = c.begin.new.self.store in
+    let after = c.serve.new.store in
+    subst (λ (st : State). IsSafeIn c.spared.result st.bag id) (same ∙ sym c.begin.ensures.before)
+    (served_safe c.spared.result now.bag old.state old.soft ms c.in-Ok.served after.state after.soft c.in-Ok.ensures.ok c.spared.ensures.safe id taken)
 
 pub settle-requires-clause-few : goal.settle-requires-clause-few
 settle-requires-clause-few g c =

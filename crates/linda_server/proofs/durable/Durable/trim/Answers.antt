@@ -3,10 +3,10 @@ use Rattle.linda_server.proofs.HandledLaws.{rewrites_well, rewrites_not, falls_n
 use Rattle.linda_server.proofs.durable.Durable.trim.Goals as goal
 
 pub returns-in-Ok-clause-rewrites : goal.returns-in-Ok-clause-rewrites
-returns-in-Ok-clause-rewrites g c = rewrites_well g.met.D.Disk.timed c.args.self.now c.clear.new.self c.in-Ok.ensures.rewrites
+returns-in-Ok-clause-rewrites g c = rewrites_well g.met.D.Disk.timed c.args.self.now c.clear.new.self tt c.in-Ok.ensures.rewrites
 
 pub returns-in-Ok-clause-falls : goal.returns-in-Ok-clause-falls
-returns-in-Ok-clause-falls g c = falls_not_at_all g.met.D.Disk.timed c.args.self.now c.clear.new.self c.in-Ok.ensures.rewrites
+returns-in-Ok-clause-falls g c = falls_not_at_all g.met.D.Disk.timed c.args.self.now c.clear.new.self tt c.in-Ok.ensures.rewrites
 
 pub returns-in-Err-clause-rewrites : goal.returns-in-Err-clause-rewrites
 returns-in-Err-clause-rewrites g c = rewrites_not g.met.D.Disk.timed c.args.self.now c.clear.new.self c.in-Err.fault c.node_fault.result c.in-Err.ensures.rewrites

@@ -9,4 +9,4 @@ returns-then-is_none-clause-through g c begun bytes owes =
 pub loop-preserved : goal.loop-preserved
 loop-preserved g c begun bytes owes =
     step_more begun c.args.self.now bytes c.loop.more.items c.push_placed.new.out.items c.args.state.now.bag c.loop.from _ (c.in-Some.id, c.in-Some.tuple.now)
-    (c.loop.invariant begun bytes owes) c.in-Some.ensures c.in_ok-push_placed.ensures.ok (omega arith)
+    (c.loop.invariant begun bytes owes) c.in-Some.ensures c.in_ok-push_placed.ensures.ok c.in_ok-push_placed.ensures.fits (omega arith)

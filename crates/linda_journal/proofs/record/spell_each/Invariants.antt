@@ -1,6 +1,6 @@
 use Rattle.std.proofs.Common.{length}
 use Rattle.linda_journal.proofs.SpellLaws.{AreSpelledTo}
-use Rattle.linda_journal.proofs.record.spell_all.Given as goal
+use Rattle.linda_journal.proofs.record.spell_each.Given as goal
 
 -- The first deeds are spelled as whole records, and these are left.
 abbrev pub invariant-loop-rest : goal.invariant-loop-rest

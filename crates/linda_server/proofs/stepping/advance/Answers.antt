@@ -1,0 +1,66 @@
+-- The next part is written, and with the last one the bank is taken into use.
+use Rattle.std.proofs.Common.{◌+◌, ◌++◌, ◌∙◌, ap, sym, subst, arith}
+use Rattle.linda_snap.specs.Successor.{Follows, Completes, IsNext}
+use Rattle.linda_server.proofs.PairLaws.{still}
+use Rattle.linda_server.proofs.SteppingLaws.{parts_of, begun_of, low_of, within_of, generation_of}
+use Rattle.linda_server.proofs.stepping.advance.Goals as goal
+
+pub returns-in-Err-clause-any_moment : goal.returns-in-Err-clause-any_moment
+returns-in-Err-clause-any_moment g c are up begun = still g.met.D.Disk.timed c.args.disks.now c.args.state.now are up
+
+pub write_on-requires-clause-behind : goal.write_on-requires-clause-behind
+write_on-requires-clause-behind g c = low_of c.args.next c.args.disks.now c.args.state.now c.requires.begun
+
+pub write_on-requires-clause-within : goal.write_on-requires-clause-within
+write_on-requires-clause-within g c = within_of c.args.next c.args.disks.now c.args.state.now c.requires.begun
+
+pub returns-in-Err-write_on-clause-any_moment : goal.returns-in-Err-write_on-clause-any_moment
+returns-in-Err-write_on-clause-any_moment g c are up begun =
+    let p = parts_of c.args.next c.args.disks.now c.args.state.now begun in
+    c.write_on.ensures.any_moment c.args.state.now p.front are up p.filled
+
+pub returns-in-Ok-More-clause-any_moment : goal.returns-in-Ok-More-clause-any_moment
+returns-in-Ok-More-clause-any_moment g c are up begun =
+    let p = parts_of c.args.next c.args.disks.now c.args.state.now begun in
+    c.write_on.ensures.any_moment c.args.state.now p.front are up p.filled
+
+pub returns-in-Ok-More-clause-kept : goal.returns-in-Ok-More-clause-kept
+returns-in-Ok-More-clause-kept g c begun kept =
+    let p = parts_of c.args.next c.args.disks.now c.args.state.now begun in
+    c.in-Ok.ensures.kept c.args.state.now p.front p.filled kept
+
+pub returns-in-Ok-More-clause-begun : goal.returns-in-Ok-More-clause-begun
+returns-in-Ok-More-clause-begun g c begun =
+    let p = parts_of c.args.next c.args.disks.now c.args.state.now begun in
+    let bytes = c.deref.ensures.value in
+    begun_of _ c.write_on.new.disks c.args.state.now (p.front ++ c.deref.result.now)
+    (subst (λ b. Follows c.next.new.self (p.front ++ b) c.args.state.now) (sym bytes) (subst (λ part. IsNext part c.next.new.self p.front c.args.state.now) c.in-Ok-More.field-0-is (c.in-Ok-More.ensures.next p.front p.follows)))
+    (omega (arith, p.low, c.in-Ok.ensures.place)) (c.in-Ok.ensures.filled p.front p.filled)
+    (c.next.ensures.generation ∙ p.generation ∙ ap (λ n. n + 1) (sym c.in-Ok.ensures.generation))
+
+pub end-requires-clause-behind : goal.end-requires-clause-behind
+end-requires-clause-behind g c = low_of c.args.next c.args.disks.now c.args.state.now c.requires.begun
+
+pub end-requires-clause-within : goal.end-requires-clause-within
+end-requires-clause-within g c = within_of c.args.next c.args.disks.now c.args.state.now c.requires.begun
+
+pub end-requires-clause-generation : goal.end-requires-clause-generation
+end-requires-clause-generation g c = c.next.ensures.generation ∙ generation_of c.args.next c.args.disks.now c.args.state.now c.requires.begun
+
+pub returns-in-Err-end-clause-any_moment : goal.returns-in-Err-end-clause-any_moment
+returns-in-Err-end-clause-any_moment g c are up begun =
+    let p = parts_of c.args.next c.args.disks.now c.args.state.now begun in
+    let st = c.args.state.now in
+    c.end.ensures.any_moment st p.front are up p.filled (subst (λ b. Completes c.next.new.self p.front b st) (sym c.deref-in-Ok-Last.ensures.value) (subst (λ part. IsNext part c.next.new.self p.front st) c.in-Ok-Last.field-0-is (c.in-Ok-Last.ensures.next p.front p.follows)))
+
+pub returns-clause-any_moment : goal.returns-clause-any_moment
+returns-clause-any_moment g c are up begun =
+    let p = parts_of c.args.next c.args.disks.now c.args.state.now begun in
+    let st = c.args.state.now in
+    c.end.ensures.any_moment st p.front are up p.filled (subst (λ b. Completes c.next.new.self p.front b st) (sym c.deref-in-Ok-Last.ensures.value) (subst (λ part. IsNext part c.next.new.self p.front st) c.in-Ok-Last.field-0-is (c.in-Ok-Last.ensures.next p.front p.follows)))
+
+pub returns-clause-kept : goal.returns-clause-kept
+returns-clause-kept g c begun kept =
+    let p = parts_of c.args.next c.args.disks.now c.args.state.now begun in
+    let st = c.args.state.now in
+    c.in-Ok-end.ensures.kept st p.front p.filled (subst (λ b. Completes c.next.new.self p.front b st) (sym c.deref-in-Ok-Last.ensures.value) (subst (λ part. IsNext part c.next.new.self p.front st) c.in-Ok-Last.field-0-is (c.in-Ok-Last.ensures.next p.front p.follows))) kept

@@ -1,0 +1,78 @@
+-- The next bank of a server, while it is written in steps on the disk that is not in use.
+use Rattle.std.specs.Prelude.{◌≡◌, ◌≤◌, ◌+◌, ℕ, List, All, Option, Some, IfSome, length}
+use Rattle.linda_wire.specs.declared.message.Message.{Message}
+use Rattle.linda_wire.specs.declared.message.Message.TheVariants.{Hello, Out, Ask, Accept, Cancel, Leave}
+use Rattle.linda_store_state.specs.State.{State}
+use Rattle.linda_disk.specs.View.{View}
+use Rattle.linda_disk.specs.declared.disk.Disk.{Ghosts}
+use Rattle.linda_journal.specs.declared.bank.Bank.{Bank}
+use Rattle.linda_journal.specs.Renewal.{IsFilled}
+use Rattle.linda_snap.specs.declared.successor.Successor.{Successor}
+use Rattle.linda_snap.specs.Draft.{Tuples}
+use Rattle.linda_snap.specs.Successor.{Follows, IsSafeFor}
+use Rattle.linda_server.specs.declared.disks.Disks.{Disks}
+use Rattle.linda_server.specs.declared.disks.Disks.TheVariants.{InUse, Shut, Away}
+use Rattle.linda_server.specs.declared.next.NextBank.{NextBank}
+
+-- ---- what is on the disk
+
+-- On that disk `front` stands behind a first gate that is closed, and the bank follows the state.
+pub record IsBegun (next : NextBank) (is_honest : Type 0) (other : View) (st : State) : Type 0 where
+  pub front : List ℕ
+  pub follows : Follows next.successor front st
+  pub low : 1 ≤ next.at
+  pub filled : is_honest → IsFilled front next.at other
+
+module _ {D : Type 0} {g : Ghosts D} where
+  -- It is begun so on the disk that is not in use, and is of the next generation.
+  abbrev pub IsBegunOn : NextBank → Disks (Bank D g) D → State → Type 0
+  IsBegunOn next (InUse pair) st = IsBegun next (g.honest pair.other) (g.view pair.other) st
+      × (next.successor.generation ≡ pair.bank.generation + 1)
+  IsBegunOn next (Shut left right) st = ⊥
+  IsBegunOn next Away st = ⊥
+
+  -- If there is one, it is.
+  abbrev pub IsNextFor : Option NextBank → Disks (Bank D g) D → State → Type 0
+  IsNextFor next disks st = IfSome next (λ n. IsBegunOn n disks st)
+
+  -- On the disk that is not in use these bytes stand behind a closed first gate, if it is honest.
+  abbrev pub IsFilledOn : List ℕ → ℕ → Disks (Bank D g) D → Type 0
+  IsFilledOn front at (InUse pair) = g.honest pair.other → IsFilled front at (g.view pair.other)
+  IsFilledOn front at (Shut left right) = ⊥
+  IsFilledOn front at Away = ⊥
+
+  -- That disk has so many bytes, if it is honest.
+  abbrev pub IsWithin : ℕ → Disks (Bank D g) D → Type 0
+  IsWithin at (InUse pair) = g.honest pair.other → at ≤ length (g.view pair.other).seen
+  IsWithin at (Shut left right) = ⊥
+  IsWithin at Away = ⊥
+
+-- ---- what is done meanwhile
+
+-- The tuple of this id may be taken.
+abbrev pub IsSafeIn : Option NextBank → Tuples → ℕ → Type 0
+IsSafeIn next now id = IfSome next (λ n. IsSafeFor n.successor now id)
+
+-- So may the tuple that the message may take.
+abbrev pub IsSpared : Successor → Tuples → Message → Type 0
+IsSpared s now (Hello version client fresh) = Unit {0}
+IsSpared s now (Out n tuple) = Unit {0}
+IsSpared s now (Ask ticket remove shape) = Unit {0}
+IsSpared s now (Accept n ticket id) = IsSafeFor s now id
+IsSpared s now (Cancel ticket) = Unit {0}
+IsSpared s now (Leave n) = Unit {0}
+
+-- So it is for each of these messages.
+abbrev pub AreSpared : Successor → Tuples → List (ℕ × Message) → Type 0
+AreSpared s now ms = All (λ m. IsSpared s now m.1) ms
+
+-- It is the bank of before, of the same generation and at the same place, and what followed the one
+-- state follows the other.
+pub record KeepsUp (old : Option NextBank) (st : State) (next : NextBank) (now : State)
+    : Type 0 where
+  pub was : NextBank
+  pub is : old ≡ Some was
+  pub generation : next.successor.generation ≡ was.successor.generation
+  pub place : next.at ≡ was.at
+  pub follows : (front : List ℕ) → Follows was.successor front st
+      → Follows next.successor front now

@@ -1,0 +1,125 @@
+//! A snapshot in steps, while the server goes on between them.
+
+ghost use Rattle.std.specs.Prelude.{◌≡◌, true, IfOk, IsErrOf};
+
+use super::Durable;
+use crate::fault::{ServeFault, node_fault};
+use crate::progress::Progress;
+use crate::stepping::{advance, start};
+use linda_disk::Disk;
+use linda_moment::Moment;
+use linda_store::NodeFault;
+use std::alloc::Global;
+use std::mem;
+
+impl<D: Disk> Durable<D> {
+    ghost use Rattle.std.specs.Option.{is_some};
+    ghost use Rattle.linda_server.specs.Handled.{Rewrites, Fails, Falls, HasNoNextBank};
+    ghost use Rattle.linda_server.specs.Switch.{IsTakenOver};
+
+    /// Whether a snapshot in steps is begun, and was not given up.
+    pub fn is_stepping(&self) -> bool
+        ensures { result ≡ is_some self.now.next }
+    {
+        self.next.is_some()
+    }
+
+    /// Begins a snapshot in steps: the next bank is laid on the disk that is not in use, behind a
+    /// first gate that is closed. What is done from now on is noted for it; if memory runs out then,
+    /// or the bank would pass its limit, it is given up, and nothing else is. One that was begun
+    /// before is given up. Nothing changes that a client sees.
+    ///
+    /// # Errors
+    ///
+    /// `Full` if the next bank would pass the limit or no generation is left, and nothing changed;
+    /// `Down`: it was down, or it is because a device failed or memory ran out.
+    pub fn begin_steps(&mut self, alloc: Global) -> Result<(), NodeFault>
+        // It goes on for the same state, and it falls as said.
+        ensures rewrites { Rewrites self.old result self.new }
+        ensures falls { Falls self.old result self.new }
+        // It is Full only if there is no next bank for the state; nothing changed then.
+        ensures full { IsErrOf result NodeFault.Full → (self.new ≡ self.old)
+            × HasNoNextBank self.old }
+    {
+        match self.start(alloc) {
+            Ok(()) => Ok(()),
+            Err(fault) => Err(node_fault(fault)),
+        }
+    }
+
+    // The same, which distinguishes a device's failure from `Memory`.
+    fn start(&mut self, alloc: Global) -> Result<(), ServeFault>
+        ensures rewrites { Rewrites self.old result self.new }
+        ensures fails { Fails self.old result self.new }
+        ensures full { IsErrOf result ServeFault.Full → (self.new ≡ self.old)
+            × HasNoNextBank self.old }
+    {
+        if self.down {
+            return Err(ServeFault::Down);
+        }
+        match start(&mut self.disks, alloc, self.store.state()) {
+            Ok(next) => {
+                self.next = Some(next);
+                Ok(())
+            }
+            Err(fault) => {
+                if fault == ServeFault::Full {
+                    return Err(fault);
+                }
+                self.before = Moment::of(self.store.state());
+                self.down = true;
+                Err(fault)
+            }
+        }
+    }
+
+    /// Takes the next step of a snapshot: it writes about so many bytes at most, and ends synced.
+    /// With the last one the new bank is in use: its records are what was done since it was begun.
+    /// Nothing changes that a client sees.
+    ///
+    /// # Errors
+    ///
+    /// `Down`: it was down, or it is because a device failed or memory ran out.
+    pub fn step(&mut self, alloc: Global, most: usize) -> Result<Progress, NodeFault>
+        // It goes on for the same state, and it falls as said.
+        ensures rewrites { Rewrites self.old result self.new }
+        ensures falls { Falls self.old result self.new }
+        ensures never_full { IsErrOf result NodeFault.Full → ⊥ }
+        // At `Done` the other disk holds the bank in use, of the next generation.
+        ensures switched { IfOk result (λ progress. progress ≡ Progress.Done
+            → IsTakenOver self.old.disks self.new.disks) }
+    {
+        match self.advance(alloc, most) {
+            Ok(progress) => Ok(progress),
+            Err(fault) => Err(node_fault(fault)),
+        }
+    }
+
+    // The same, which distinguishes a device's failure from `Memory`.
+    fn advance(&mut self, alloc: Global, most: usize) -> Result<Progress, ServeFault>
+        ensures rewrites { Rewrites self.old result self.new }
+        ensures fails { Fails self.old result self.new }
+        ensures never_full { IsErrOf result ServeFault.Full → ⊥ }
+        ensures switched { IfOk result (λ progress. progress ≡ Progress.Done
+            → IsTakenOver self.old.disks self.new.disks) }
+    {
+        if self.down {
+            return Err(ServeFault::Down);
+        }
+        match mem::replace(&mut self.next, None) {
+            None => Ok(Progress::Idle),
+            Some(next) => match advance(&mut self.disks, alloc, self.store.state(), next, most) {
+                Ok(Some(next)) => {
+                    self.next = Some(next);
+                    Ok(Progress::Going)
+                }
+                Ok(None) => Ok(Progress::Done),
+                Err(fault) => {
+                    self.before = Moment::of(self.store.state());
+                    self.down = true;
+                    Err(fault)
+                }
+            },
+        }
+    }
+}

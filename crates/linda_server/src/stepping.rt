@@ -1,0 +1,316 @@
+//! How the next bank is written in steps on the disk that is not in use, and is taken into use.
+
+ghost use Rattle.std.specs.Prelude.{◌≡◌, ◌≤◌, ◌<◌, ◌+◌, ◌++◌, ◌^◌, ◌↔◌, ℕ, List, true, length};
+ghost use Rattle.std.specs.Prelude.{IfOk, IfErr, OnOk, IfSome, IfNone, IsErrOf};
+ghost use Rattle.linda_store_state.specs.State as states;
+ghost use Rattle.linda_store_state.specs.State.{IsState};
+ghost use Rattle.linda_disk.specs.View.{IsDurable};
+ghost use Rattle.linda_disk.specs.Disk.{TellsFailures};
+ghost use Rattle.linda_disk.specs.Run.{LeavesOnly};
+ghost use Rattle.linda_journal.specs.Renewal.{IsNoBank, IsSameOrNone, IsFilled};
+ghost use Rattle.linda_snap.specs.Stands.{Stands};
+ghost use Rattle.linda_snap.specs.Successor.{Follows, Completes};
+ghost use Rattle.linda_server.specs.Disks.{is_there};
+ghost use Rattle.linda_server.specs.Next.{IsBegun, IsBegunOn, IsFilledOn, IsWithin};
+ghost use Rattle.linda_server.specs.Pairs.{PairsSince};
+ghost use Rattle.linda_server.specs.Server.{both_of, is_usable, generation_in_use, limit_in_use};
+ghost use Rattle.linda_server.specs.Server.{BothHonest, failures_of, IsUpFor, IsKeptFor};
+ghost use Rattle.linda_server.specs.Server.{IsBesideStill};
+ghost use Rattle.linda_server.specs.Switch.{HasNoNext, IsOtherDurable, IsTakenOver};
+
+use crate::disks::{Disks, Pair};
+use crate::fault::{ServeFault, of_disk};
+use crate::next::NextBank;
+use crate::renewal::of_switch;
+use linda_bag::Bag;
+use linda_disk::{Disk, DiskFault};
+use linda_journal::{Bank, Filling, shut};
+use linda_snap::{Part, Successor, take_over};
+use linda_store_state::State;
+use std::alloc::Global;
+use std::mem;
+
+/// Begins the next bank, with a snapshot of the state, on the disk that is not in use: its first
+/// gate is closed, and the first bytes are written behind it.
+///
+/// # Errors
+///
+/// `Full` if the next bank would pass its limit or no generation is left: nothing changed. `Disk` if
+/// the device failed, and `Memory`: neither bank is to be used.
+pub(crate) fn start<B: Bag, D: Disk>(
+    disks: &mut Disks<Bank<D>, D>,
+    alloc: Global,
+    state: &State<B>,
+) -> Result<NextBank, ServeFault>
+    requires ranges { IsState state.now }
+    requires ready { is_usable disks.old ≡ true }
+    requires short { limit_in_use disks.old < 2 ^ 32 }
+    requires durable { IsOtherDurable disks.old }
+    // At no moment crashes leave anything but the state, which is the same.
+    ensures any_moment { (st : states.State)
+        → BothHonest disks.old
+        → IsUpFor disks.old st
+        → PairsSince (both_of disks.old) (both_of disks.new) (λ left right. Stands left right st) }
+    ensures kept { (st : states.State)
+        → IsKeptFor disks.old st
+        → OnOk result (IsKeptFor disks.new st) }
+    ensures begun { IfOk result (λ next. IsBegunOn next disks.new state.now) }
+    ensures there { is_there disks.new ≡ true }
+    ensures ready { OnOk result (is_usable disks.new ≡ true) }
+    ensures limit { OnOk result (limit_in_use disks.new ≡ limit_in_use disks.old) }
+    ensures full { IsErrOf result ServeFault.Full → (disks.new ≡ disks.old)
+        × HasNoNext state.now (limit_in_use disks.old) (generation_in_use disks.old) }
+    ensures honest { BothHonest disks.old ↔ BothHonest disks.new }
+    ensures cause { IfErr result (λ fault. TellsFailures ServeFault.Disk fault
+        (failures_of disks.old) (failures_of disks.new)) }
+    ensures known { IsErrOf result ServeFault.Down → ⊥ }
+{
+    match mem::replace(disks, Disks::Away) {
+        Disks::InUse(pair) => {
+            let Pair {
+                bank,
+                other,
+                is_right,
+            } = pair;
+            let (told, other) = start_on(other, alloc, state, bank.generation(), bank.limit());
+            *disks = Disks::InUse(Pair {
+                bank,
+                other,
+                is_right,
+            });
+            told
+        }
+        Disks::Shut { .. } | Disks::Away => unreachable!(),
+    }
+}
+
+// Begins a bank after this generation and of this limit on the disk.
+fn start_on<B: Bag, D: Disk>(
+    other: D,
+    alloc: Global,
+    state: &State<B>,
+    generation: u64,
+    limit: usize,
+) -> (Result<NextBank, ServeFault>, D)
+    requires ranges { IsState state.now }
+    requires short { limit < 2 ^ 32 }
+    requires durable { D.honest other → IsDurable (D.view other) }
+    ensures any_moment { D.honest other → LeavesOnly (D.view other) (D.view result.1)
+        (IsSameOrNone (D.view other).seen) }
+    ensures none { D.honest other → OnOk result.0 (IsNoBank (D.view result.1).seen) }
+    ensures durable { D.honest other → OnOk result.0 (IsDurable (D.view result.1)) }
+    ensures begun { IfOk result.0 (λ next.
+        IsBegun next (D.honest result.1) (D.view result.1) state.now
+        × (next.successor.generation ≡ generation + 1)) }
+    ensures full { IsErrOf result.0 ServeFault.Full → (result.1 ≡ other)
+        × HasNoNext state.now limit generation }
+    ensures honest { D.honest other ↔ D.honest result.1 }
+    ensures cause { IfErr result.0 (λ fault. TellsFailures ServeFault.Disk fault
+        (D.failures other) (D.failures result.1)) }
+    ensures known { IsErrOf result.0 ServeFault.Down → ⊥ }
+{
+    let Some(generation) = generation.checked_add(1) else {
+        return (Err(ServeFault::Full), other);
+    };
+    match Successor::begin(alloc, state, generation, limit) {
+        Err(fault) => (Err(of_switch(fault)), other),
+        Ok((successor, bytes)) => match lay(other, &bytes) {
+            (Err(fault), other) => (Err(of_disk(fault)), other),
+            (Ok(at), other) => (Ok(NextBank { successor, at }), other),
+        },
+    }
+}
+
+// Closes the first gate of the disk, and writes the bytes behind it. Gives the offset behind them.
+fn lay<D: Disk>(disk: D, bytes: &[u8]) -> (Result<usize, DiskFault>, D)
+    requires { D.honest disk → IsDurable (D.view disk) }
+    ensures any_moment { D.honest disk → LeavesOnly (D.view disk) (D.view result.1)
+        (IsSameOrNone (D.view disk).seen) }
+    ensures filled { D.honest disk
+        → IfOk result.0 (λ at. IsFilled bytes.now at (D.view result.1)) }
+    ensures low { IfOk result.0 (λ at. 1 ≤ at) }
+    ensures honest { D.honest disk ↔ D.honest result.1 }
+    ensures cause { IfErr result.0 (λ fault. TellsFailures DiskFault.Device fault
+        (D.failures disk) (D.failures result.1)) }
+{
+    match shut(disk) {
+        Err((fault, disk)) => (Err(fault), disk),
+        Ok(closed) => match Filling::begin(closed).add(bytes) {
+            Err((fault, disk)) => (Err(fault), disk),
+            Ok(filling) => (Ok(filling.at()), filling.into_disk()),
+        },
+    }
+}
+
+/// Writes the next part of the next bank, about so many bytes at most. Gives it back if more is to
+/// come; else it is in use now.
+///
+/// # Errors
+///
+/// `Disk` if the device failed, and `Memory`: neither bank is to be used.
+pub(crate) fn advance<B: Bag, D: Disk>(
+    disks: &mut Disks<Bank<D>, D>,
+    alloc: Global,
+    state: &State<B>,
+    next: NextBank,
+    most: usize,
+) -> Result<Option<NextBank>, ServeFault>
+    requires ready { is_usable disks.old ≡ true }
+    requires begun { ∥ IsBegunOn next disks.old state.now ∥₁ }
+    // At no moment crashes leave anything but the state;
+    ensures any_moment { BothHonest disks.old
+        → IsUpFor disks.old state.now
+        → IsBegunOn next disks.old state.now
+        → PairsSince (both_of disks.old) (both_of disks.new)
+        (λ left right. Stands left right state.now) }
+    // at Ok the bank in use represents it, whichever it is, and the next one, if more of it is to
+    // come, follows it.
+    ensures kept { IsBegunOn next disks.old state.now
+        → IsKeptFor disks.old state.now
+        → OnOk result (IsKeptFor disks.new state.now) }
+    ensures begun { IsBegunOn next disks.old state.now
+        → IfOk result (λ o. IfSome o (λ n. IsBegunOn n disks.new state.now)) }
+    ensures switched { IfOk result (λ o. IfNone o (IsTakenOver disks.old disks.new)) }
+    ensures there { is_there disks.new ≡ true }
+    ensures ready { OnOk result (is_usable disks.new ≡ true) }
+    ensures limit { OnOk result (limit_in_use disks.new ≡ limit_in_use disks.old) }
+    ensures honest { BothHonest disks.old ↔ BothHonest disks.new }
+    ensures cause { IfErr result (λ fault. TellsFailures ServeFault.Disk fault
+        (failures_of disks.old) (failures_of disks.new)) }
+    ensures known { (IsErrOf result ServeFault.Full → ⊥) × (IsErrOf result ServeFault.Down → ⊥) }
+{
+    let NextBank { mut successor, at } = next;
+    match successor.next(alloc, state, most) {
+        Err(_) => Err(ServeFault::Memory),
+        Ok(Part::More(bytes)) => match write_on(disks, at, &bytes) {
+            Err(fault) => Err(of_disk(fault)),
+            Ok(at) => Ok(Some(NextBank { successor, at })),
+        },
+        Ok(Part::Last(bytes)) => match end(disks, at, &successor, &bytes) {
+            Err(fault) => Err(fault),
+            Ok(()) => Ok(None),
+        },
+    }
+}
+
+// Writes the bytes at this offset of the disk that is not in use. Gives the offset behind them.
+fn write_on<D: Disk>(
+    disks: &mut Disks<Bank<D>, D>,
+    at: usize,
+    bytes: &[u8],
+) -> Result<usize, DiskFault>
+    requires ready { is_usable disks.old ≡ true }
+    requires behind { 1 ≤ at }
+    requires within { IsWithin at disks.old }
+    ensures any_moment { (st : states.State) (front : List ℕ)
+        → BothHonest disks.old
+        → IsUpFor disks.old st
+        → IsFilledOn front at disks.old
+        → PairsSince (both_of disks.old) (both_of disks.new) (λ left right. Stands left right st) }
+    ensures kept { (st : states.State) (front : List ℕ)
+        → IsFilledOn front at disks.old
+        → IsKeptFor disks.old st
+        → OnOk result (IsKeptFor disks.new st) }
+    ensures filled { (front : List ℕ) → IsFilledOn front at disks.old
+        → IfOk result (λ next. IsFilledOn (front ++ bytes.now) next disks.new) }
+    ensures place { IfOk result (λ next. next ≡ at + length bytes.now) }
+    ensures generation { OnOk result (generation_in_use disks.new ≡ generation_in_use disks.old) }
+    ensures there { is_there disks.new ≡ true }
+    ensures ready { OnOk result (is_usable disks.new ≡ true) }
+    ensures limit { OnOk result (limit_in_use disks.new ≡ limit_in_use disks.old) }
+    ensures honest { BothHonest disks.old ↔ BothHonest disks.new }
+    ensures cause { IfErr result (λ fault. TellsFailures DiskFault.Device fault
+        (failures_of disks.old) (failures_of disks.new)) }
+{
+    match mem::replace(disks, Disks::Away) {
+        Disks::InUse(pair) => {
+            let Pair {
+                bank,
+                other,
+                is_right,
+            } = pair;
+            match Filling::resume(other, at).add(bytes) {
+                Err((fault, other)) => {
+                    *disks = Disks::InUse(Pair {
+                        bank,
+                        other,
+                        is_right,
+                    });
+                    Err(fault)
+                }
+                Ok(filling) => {
+                    let next = filling.at();
+                    *disks = Disks::InUse(Pair {
+                        bank,
+                        other: filling.into_disk(),
+                        is_right,
+                    });
+                    Ok(next)
+                }
+            }
+        }
+        Disks::Shut { .. } | Disks::Away => unreachable!(),
+    }
+}
+
+// Writes the last bytes of the next bank at this offset of the disk that is not in use, and takes it
+// into use.
+fn end<D: Disk>(
+    disks: &mut Disks<Bank<D>, D>,
+    at: usize,
+    successor: &Successor,
+    bytes: &[u8],
+) -> Result<(), ServeFault>
+    requires ready { is_usable disks.old ≡ true }
+    requires behind { 1 ≤ at }
+    requires within { IsWithin at disks.old }
+    requires generation { successor.now.generation ≡ generation_in_use disks.old + 1 }
+    ensures any_moment { (st : states.State) (front : List ℕ)
+        → BothHonest disks.old
+        → IsUpFor disks.old st
+        → IsFilledOn front at disks.old
+        → Completes successor.now front bytes.now st
+        → PairsSince (both_of disks.old) (both_of disks.new) (λ left right. Stands left right st) }
+    ensures kept { (st : states.State) (front : List ℕ)
+        → IsFilledOn front at disks.old
+        → Completes successor.now front bytes.now st
+        → IsKeptFor disks.old st
+        → OnOk result (IsKeptFor disks.new st) }
+    ensures switched { OnOk result (IsTakenOver disks.old disks.new) }
+    ensures there { is_there disks.new ≡ true }
+    ensures ready { OnOk result (is_usable disks.new ≡ true) }
+    ensures limit { OnOk result (limit_in_use disks.new ≡ limit_in_use disks.old) }
+    ensures honest { BothHonest disks.old ↔ BothHonest disks.new }
+    ensures cause { IfErr result (λ fault. TellsFailures ServeFault.Disk fault
+        (failures_of disks.old) (failures_of disks.new)) }
+    ensures known { (IsErrOf result ServeFault.Full → ⊥) × (IsErrOf result ServeFault.Down → ⊥) }
+{
+    match mem::replace(disks, Disks::Away) {
+        Disks::InUse(pair) => {
+            let Pair {
+                bank,
+                other,
+                is_right,
+            } = pair;
+            match take_over(bank, Filling::resume(other, at), successor, bytes) {
+                Err((fault, bank, other)) => {
+                    *disks = Disks::InUse(Pair {
+                        bank,
+                        other,
+                        is_right,
+                    });
+                    Err(of_disk(fault))
+                }
+                Ok((bank, other)) => {
+                    *disks = Disks::InUse(Pair {
+                        bank,
+                        other,
+                        is_right: !is_right,
+                    });
+                    Ok(())
+                }
+            }
+        }
+        Disks::Shut { .. } | Disks::Away => unreachable!(),
+    }
+}

@@ -1,0 +1,103 @@
+//! A snapshot in steps, while sessions go on between them. It moves the base once its bank is in
+//! use.
+
+ghost use Rattle.std.specs.Prelude.{◌≡◌, ◌≢◌, ◌⊎◌, [], IfOk, OnErr, IsErrOf};
+ghost use Rattle.linda_server.specs.Handled.{HasNoNextBank};
+ghost use Rattle.linda_server.specs.Server.{records_in_use};
+ghost use Rattle.linda_shared_held.specs.Pace.{tried_at};
+ghost use Rattle.linda_shared_held.specs.Snapshot.{TakesStep};
+
+use super::Held;
+use super::base::{fault_of, new_pace};
+use linda_disk::Disk;
+use linda_server::{Durable, Progress};
+use linda_shared_accounts::SharedFault;
+use std::alloc::Global;
+use std::sync::ledger::Ledger;
+
+impl<D: Disk, L: Ledger> Held<D, L> {
+    /// Begins a snapshot in steps. What is done from now on is noted for it; if that cannot be, it
+    /// is given up.
+    ///
+    /// # Errors
+    ///
+    /// `Down` before all, and exactly where the server is down. `Full`, if there is no next bank
+    /// for its state: nothing changed, but that one was tried.
+    pub fn begin_steps(&mut self, alloc: Global) -> Result<(), SharedFault>
+        ensures takes { TakesStep self.old.server result self.new.server }
+        ensures full { IsErrOf result SharedFault.Full
+            → (self.new.server ≡ self.old.server) × HasNoNextBank self.old.server }
+        ensures same { (self.new.opening.value ≡ self.old.opening.value)
+            × (self.new.base.value ≡ self.old.base.value)
+            × (self.new.receipts.items ≡ self.old.receipts.items)
+            × (self.new.count ≡ self.old.count)
+            × (self.new.accounts ≡ self.old.accounts)
+            × (self.new.boxes ≡ self.old.boxes)
+            × (self.new.recall ≡ self.old.recall) }
+        ensures tried { self.new.pace
+            ≡ tried_at (records_in_use self.old.server.disks) self.old.pace }
+    {
+        self.pace.tries(self.server.records());
+        begin_steps(&mut self.server, alloc)
+    }
+
+    /// Takes the next step of a snapshot, which writes about so many bytes at most. With the last
+    /// one its bank is in use, and the receipts begin anew, as with `snapshot`.
+    ///
+    /// # Errors
+    ///
+    /// `Down` before all, and exactly where the server is down.
+    pub fn step(&mut self, alloc: Global, most: usize) -> Result<Progress, SharedFault>
+        ensures takes { TakesStep self.old.server result self.new.server }
+        ensures never_full { IsErrOf result SharedFault.Full → ⊥ }
+        // At `Done` the base is the state now; else it is as before, and so are the receipts.
+        ensures done { IfOk result (λ progress. progress ≡ Progress.Done
+            → (self.new.base.value ≡ self.new.server.store.state)
+            × (self.new.receipts.items ≡ [])) }
+        ensures going { IfOk result (λ progress. progress ≢ Progress.Done
+            → (self.new.base.value ≡ self.old.base.value)
+            × (self.new.receipts.items ≡ self.old.receipts.items)) }
+        ensures err { OnErr result ((self.new.base.value ≡ self.old.base.value)
+            × (self.new.receipts.items ≡ self.old.receipts.items)) }
+        ensures same { (self.new.opening.value ≡ self.old.opening.value)
+            × (self.new.count ≡ self.old.count) × (self.new.boxes ≡ self.old.boxes) }
+        ensures total { self.new.accounts.total ≡ self.old.accounts.total }
+    {
+        let progress = step(&mut self.server, alloc, most)?;
+        match progress {
+            Progress::Done => {
+                self.move_base(alloc);
+                self.pace = new_pace(&self.server);
+            }
+            Progress::Idle | Progress::Going => {}
+        }
+        Ok(progress)
+    }
+}
+
+// Begins a snapshot. What is known of a server that did not is as before.
+fn begin_steps<D: Disk>(server: &mut Durable<D>, alloc: Global) -> Result<(), SharedFault>
+    ensures takes { TakesStep server.old result server.new }
+    ensures full { IsErrOf result SharedFault.Full
+        → (server.new ≡ server.old) × HasNoNextBank server.old }
+{
+    match server.begin_steps(alloc) {
+        Ok(()) => Ok(()),
+        Err(fault) => Err(fault_of(fault)),
+    }
+}
+
+// Takes a step of one, likewise.
+fn step<D: Disk>(
+    server: &mut Durable<D>,
+    alloc: Global,
+    most: usize,
+) -> Result<Progress, SharedFault>
+    ensures takes { TakesStep server.old result server.new }
+    ensures never_full { IsErrOf result SharedFault.Full → ⊥ }
+{
+    match server.step(alloc, most) {
+        Ok(progress) => Ok(progress),
+        Err(fault) => Err(fault_of(fault)),
+    }
+}

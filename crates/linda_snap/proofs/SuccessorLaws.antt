@@ -1,0 +1,279 @@
+-- How a new bank goes on that is written in steps.
+use Rattle.std.proofs.Common.{◌≡◌, ℕ, ◌+◌, ◌<◌, ◌≤◌, ◌^◌, true, List, [], ◌∷◌, ◌++◌, length, take, drop, Option, Some, None, Result, Ok, Err, refl, sym, ap, subst, ◌∙◌, append_assoc, append-nil, length-append, arith}
+use Rattle.std.specs.Prelude.{IfOk, IfSome, IfNone}
+use Rattle.std.specs.Global.{Vec}
+use Rattle.std.proofs.Math.Seq.{drop-append_seam}
+use Rattle.std.proofs.lemmas.Grind.{flat_map-append}
+use Rattle.std.proofs.lemmas.List.{take-append-drop}
+use Rattle.std.proofs.lemmas.List.Elements.{All-nil, All-append}
+use Rattle.linda_codec.specs.Formats.{number, short_number}
+use Rattle.linda_store_state.specs.DeedFormat.{written}
+use Rattle.linda_store_state.specs.declared.deed.Deed.{Deed}
+use Rattle.linda_store_state.specs.Deed.{is_taken}
+use Rattle.linda_store_state.specs.After.{IsAfter}
+use Rattle.linda_store_state.specs.Proper.{AreDone}
+use Rattle.linda_store_state.specs.State.{State, IsState}
+use Rattle.linda_store_state.proofs.ProperLaws.{none_done}
+use Rattle.linda_journal.specs.declared.kinds.TheConstants.{CLOSED}
+use Rattle.linda_journal.specs.Bank.{magic, behind_gate}
+use Rattle.linda_journal.specs.Records.{IsRecord, AreRecords, spell_record, spell_records}
+use Rattle.linda_snap.specs.declared.draft.Draft.{Draft}
+use Rattle.linda_snap.specs.declared.successor.Successor.{Successor}
+use Rattle.linda_snap.specs.declared.tail.Tail.{Tail}
+use Rattle.linda_snap.specs.Draft.{Tuples, Owes, IsSafe, IsThrough}
+use Rattle.linda_snap.specs.Replay.{GoesOn}
+use Rattle.linda_snap.specs.Snapshot.{spell_state, FitsState}
+use Rattle.linda_snap.specs.Stands.{deeds_in}
+use Rattle.linda_snap.specs.Successor.{Follows, IsBehindTuples, IsSafeFor, Completes, heading}
+use Rattle.linda_snap.proofs.DraftLaws.{owes_after}
+
+-- It with this draft, these records, and so many of them.
+abbrev pub with_draft : Successor → Option Draft → Successor
+with_draft s draft = record { generation = s.generation; limit = s.limit; len = s.len; draft = draft; since = s.since; records = s.records }
+
+abbrev pub with_since : Successor → Tail → ℕ → Successor
+with_since s since records = record { generation = s.generation; limit = s.limit; len = s.len; draft = s.draft; since = since; records = records }
+
+-- What the draft owes of the body, before any record is written.
+abbrev OwesAll : State → List ℕ → List ℕ → State → Draft → Type 0
+OwesAll begun body tail st d = Owes begun d body st.bag × (d.next ≤ st.next) × (tail ≡ [])
+
+-- ---- its beginning
+
+pub begins : (s : Successor) (draft : Draft) (first front : List ℕ) (st : State) → IsState st → s.draft ≡ Some draft → Owes st draft first st.bag → draft.next ≡ st.next → length (spell_state written st) < 2 ^ 32 → 1 ≤ s.generation → s.generation < 2 ^ 64
+    → s.since.bytes.items ≡ [] → s.since.written ≡ 0 → front ≡ heading s.generation (length (spell_state written st)) ++ first → Follows s front st
+begins s draft first front st ranges is owes next short low high none zero front_is = record {
+  begun = st;
+  ranges = ranges;
+  short = short;
+  low = low;
+  high = high;
+  records = [];
+  good = All-nil (IsRecord written);
+  done = none_done st ranges;
+  tail = [];
+  left = [];
+  spelled = none;
+  parts = none;
+  place = zero;
+  body = first;
+  front_is = front_is ∙ ap (λ b. heading s.generation (length (spell_state written st)) ++ b) (sym (append-nil first));
+  owes = subst (λ o. IfSome o (OwesAll st first [] st)) (sym is) (owes, omega (arith, next), refl);
+  whole = subst (λ o. IfNone o ((first ≡ spell_state written st) × FitsState written st)) (sym is) tt;
+}
+
+-- ---- the draft goes on
+
+module _ (s : Successor) (old new : Draft) (front : List ℕ) (st : State) (is : s.draft ≡ Some old) (next : new.next ≡ old.next) (f : Follows s front st) where
+  owed : OwesAll f.begun f.body f.tail st old
+  owed = subst (λ o. IfSome o (OwesAll f.begun f.body f.tail st)) is f.owes
+
+  -- It has written more, or nothing.
+  pub more_written : (more : List ℕ) → Owes f.begun new (f.body ++ more) st.bag → Follows (with_draft s (Some new)) (front ++ more) st
+  more_written more owes = record {
+    begun = f.begun;
+    ranges = f.ranges;
+    short = f.short;
+    low = f.low;
+    high = f.high;
+    records = f.records;
+    good = f.good;
+    done = f.done;
+    tail = f.tail;
+    left = f.left;
+    spelled = f.spelled;
+    parts = f.parts;
+    place = f.place;
+    body = f.body ++ more;
+    front_is =
+        ap (λ l. l ++ more) f.front_is
+        ∙ append_assoc (heading s.generation (length (spell_state written f.begun))) (f.body ++ f.tail) more
+        ∙ ap (λ l. heading s.generation (length (spell_state written f.begun)) ++ l)
+        (ap (λ t. (f.body ++ t) ++ more) owed.2 ∙ ap (λ b. b ++ more) (append-nil f.body) ∙ sym (append-nil (f.body ++ more)) ∙ ap (λ t. (f.body ++ more) ++ t) (sym owed.2));
+    owes = (owes, omega (arith, next, owed.1), owed.2);
+    whole = tt;
+  }
+
+  pub none_written : Owes f.begun new f.body st.bag → Follows (with_draft s (Some new)) front st
+  none_written owes = record {
+    begun = f.begun;
+    ranges = f.ranges;
+    short = f.short;
+    low = f.low;
+    high = f.high;
+    records = f.records;
+    good = f.good;
+    done = f.done;
+    tail = f.tail;
+    left = f.left;
+    spelled = f.spelled;
+    parts = f.parts;
+    place = f.place;
+    body = f.body;
+    front_is = f.front_is;
+    owes = (owes, omega (arith, next, owed.1), owed.2);
+    whole = tt;
+  }
+
+pub put_aside : (s : Successor) (old new : Draft) (front : List ℕ) (st : State) → s.draft ≡ Some old → new.next ≡ old.next
+    → ((begun : State) (bytes : List ℕ) → Owes begun old bytes st.bag → Owes begun new bytes st.bag) → Follows s front st → Follows (with_draft s (Some new)) front st
+put_aside s old new front st is next goes f = none_written s old new front st is next f (goes f.begun f.body (owed s old new front st is next f).0)
+
+-- The next tuples, if there are any.
+pub next_tuples : {E : Type 0} (s : Successor) (old new : Draft) (front : List ℕ) (st : State) (r : Result (Option (Vec ℕ)) E) → s.draft ≡ Some old → new.next ≡ old.next
+    → ((begun : State) (bytes : List ℕ) → Owes begun old bytes st.bag → IfOk r (λ o. IfSome o (λ v. Owes begun new (bytes ++ v.items) st.bag))) → Follows s front st
+    → IfOk r (λ o. IfSome o (λ v. Follows (with_draft s (Some new)) (front ++ v.items) st))
+next_tuples s old new front st (Ok (Some v)) is next goes f = more_written s old new front st is next f v.items (goes f.begun f.body (owed s old new front st is next f).0)
+next_tuples s old new front st (Ok None) is next goes f = tt
+next_tuples s old new front st (Err e) is next goes f = tt
+
+pub no_tuples : {E : Type 0} (s : Successor) (old new : Draft) (front : List ℕ) (st : State) (r : Result (Option (Vec ℕ)) E) → s.draft ≡ Some old → new.next ≡ old.next
+    → IfOk r (λ o. IfNone o (new ≡ old)) → ((begun : State) (bytes : List ℕ) → Owes begun old bytes st.bag → IfOk r (λ o. IfNone o (IsThrough begun new))) → Follows s front st
+    → IfOk r (λ o. IfNone o (IsBehindTuples (with_draft s (Some new)) front st))
+unfolding none_written owed
+no_tuples s old new front st (Ok (Some v)) is next same through f = tt
+no_tuples s old new front st (Ok None) is next same through f =
+    let were = (owed s old new front st is next f).0 in
+    record { follows = none_written s old new front st is next f (subst (λ d. Owes f.begun d f.body st.bag) (sym same) were); through = through f.begun f.body were }
+no_tuples s old new front st (Err e) is next same through f = tt
+
+-- ---- the draft ends
+
+pub ends : (s : Successor) (draft : Draft) (other : Option Draft) (front : List ℕ) (st : State) (book : List ℕ) → s.draft ≡ Some draft → other ≡ None
+    → ((begun : State) (bytes : List ℕ) (now : Tuples) → Owes begun draft bytes now → IsThrough begun draft → bytes ++ book ≡ spell_state written begun)
+    → ((begun : State) (bytes : List ℕ) (now : Tuples) → Owes begun draft bytes now → IsThrough begun draft → length (spell_state written begun) < 2 ^ 32 → FitsState written begun)
+    → IsBehindTuples s front st → Follows (with_draft s other) (front ++ book) st
+ends s draft other front st book is none spelled fits b =
+    let f = b.follows in
+    let was = subst (λ o. IfSome o (OwesAll f.begun f.body f.tail st)) is f.owes in
+    let through = subst (λ o. IfSome o (λ d. IsThrough f.begun d)) is b.through in
+    record {
+      begun = f.begun;
+      ranges = f.ranges;
+      short = f.short;
+      low = f.low;
+      high = f.high;
+      records = f.records;
+      good = f.good;
+      done = f.done;
+      tail = f.tail;
+      left = f.left;
+      spelled = f.spelled;
+      parts = f.parts;
+      place = f.place;
+      body = f.body ++ book;
+      front_is =
+          ap (λ l. l ++ book) f.front_is
+          ∙ append_assoc (heading s.generation (length (spell_state written f.begun))) (f.body ++ f.tail) book
+          ∙ ap (λ l. heading s.generation (length (spell_state written f.begun)) ++ l)
+          (ap (λ t. (f.body ++ t) ++ book) was.2 ∙ ap (λ l. l ++ book) (append-nil f.body) ∙ sym (append-nil (f.body ++ book)) ∙ ap (λ t. (f.body ++ book) ++ t) (sym was.2));
+      owes = subst (λ o. IfSome o (OwesAll f.begun (f.body ++ book) f.tail st)) (sym none) tt;
+      whole = subst (λ o. IfNone o ((f.body ++ book ≡ spell_state written f.begun) × FitsState written f.begun)) (sym none) (spelled f.begun f.body st.bag was.0 through, fits f.begun f.body st.bag was.0 through f.short);
+    }
+
+pub has_ended : (s : Successor) (other : Option Draft) (front : List ℕ) (st : State) → s.draft ≡ None → other ≡ None → IsBehindTuples s front st → Follows (with_draft s other) front st
+has_ended s other front st is none b = subst (λ o. Follows (with_draft s o) front st) (is ∙ sym none) b.follows
+
+-- ---- its records
+
+-- A first piece of those that are left is written.
+pub piece_written : (s : Successor) (since : Tail) (most : ℕ) (left piece front new : List ℕ) (st : State) → s.draft ≡ None → Follows s front st → left ≡ drop s.since.written s.since.bytes.items → piece ≡ take most left → length piece ≡ most
+    → since.bytes ≡ s.since.bytes → since.written ≡ s.since.written + most → new ≡ piece → Follows (with_since s since s.records) (front ++ new) st
+piece_written s since most left piece front new st none f left_is piece_is long bytes passed new_is =
+    let all = heading s.generation (length (spell_state written f.begun)) in
+    let rest : left ≡ f.left = left_is ∙ ap (λ n. drop n s.since.bytes.items) f.place ∙ ap (λ l. drop (length f.tail) l) f.parts ∙ drop-append_seam f.tail f.left in
+    let split : f.left ≡ piece ++ drop most left = sym rest ∙ sym (take-append-drop most left) ∙ ap (λ l. l ++ drop most left) (sym piece_is) in
+    subst (λ l. Follows (with_since s since s.records) (front ++ l) st) (sym new_is) record {
+      begun = f.begun;
+      ranges = f.ranges;
+      short = f.short;
+      low = f.low;
+      high = f.high;
+      records = f.records;
+      good = f.good;
+      done = f.done;
+      tail = f.tail ++ piece;
+      left = drop most left;
+      spelled = ap (λ (v : Vec ℕ). v.items) bytes ∙ f.spelled;
+      parts = ap (λ (v : Vec ℕ). v.items) bytes ∙ f.parts ∙ ap (λ l. f.tail ++ l) split ∙ sym (append_assoc f.tail piece (drop most left));
+      place = omega (arith, passed, f.place, long, length-append f.tail piece);
+      body = f.body;
+      front_is =
+          ap (λ l. l ++ piece) f.front_is
+          ∙ append_assoc all (f.body ++ f.tail) piece
+          ∙ ap (λ l. all ++ l) (append_assoc f.body f.tail piece);
+      owes = subst (λ o. IfSome o (OwesAll f.begun f.body (f.tail ++ piece) st)) (sym none) tt;
+      whole = f.whole;
+    }
+
+-- What stands behind the heading.
+headed : (generation : ℕ) (body rest : List ℕ) → heading generation (length body) ++ (body ++ rest) ≡ behind_gate written generation body ++ rest
+headed generation body rest =
+    let n = number.spell generation in
+    let l = short_number.spell (length body) in
+    append_assoc (magic written) (n ++ l) (body ++ rest)
+    ∙ ap (λ b. magic written ++ b) (append_assoc n l (body ++ rest))
+    ∙ ap (λ b. magic written ++ (n ++ b)) (sym (append_assoc l body rest))
+    ∙ ap (λ b. magic written ++ b) (sym (append_assoc n (l ++ body) rest))
+    ∙ sym (append_assoc (magic written) (n ++ (l ++ body)) rest)
+
+-- The others, and a closed gate, end the bank.
+pub completes : (s : Successor) (left front bytes : List ℕ) (st : State) → s.draft ≡ None → Follows s front st → left ≡ drop s.since.written s.since.bytes.items → bytes ≡ left ++ CLOSED ∷ [] → Completes s front bytes st
+completes s left front bytes st none f left_is bytes_is =
+    let whole = subst (λ o. IfNone o ((f.body ≡ spell_state written f.begun) × FitsState written f.begun)) none f.whole in
+    let body = spell_state written f.begun in
+    let rest : left ≡ f.left = left_is ∙ ap (λ n. drop n s.since.bytes.items) f.place ∙ ap (λ l. drop (length f.tail) l) f.parts ∙ drop-append_seam f.tail f.left in
+    let all : f.tail ++ f.left ≡ spell_records written f.records = sym f.parts ∙ f.spelled in
+    record {
+      begun = f.begun;
+      ranges = f.ranges;
+      fits = whole.1;
+      records = f.records;
+      done = f.done;
+      last = record {
+        low = f.low;
+        fits = f.high;
+        short = f.short;
+        good = f.good;
+        parts =
+            ap (λ l. front ++ l) (bytes_is ∙ ap (λ l. l ++ CLOSED ∷ []) rest)
+            ∙ ap (λ l. l ++ (f.left ++ CLOSED ∷ [])) (f.front_is ∙ ap (λ b. heading s.generation (length body) ++ (b ++ f.tail)) whole.0)
+            ∙ append_assoc (heading s.generation (length body)) (body ++ f.tail) (f.left ++ CLOSED ∷ [])
+            ∙ ap (λ l. heading s.generation (length body) ++ l) (append_assoc body f.tail (f.left ++ CLOSED ∷ []) ∙ ap (λ l. body ++ l) (sym (append_assoc f.tail f.left (CLOSED ∷ [])) ∙ ap (λ l. l ++ CLOSED ∷ []) all))
+            ∙ headed s.generation body (spell_records written f.records ++ CLOSED ∷ [])
+            ∙ sym (append_assoc (behind_gate written s.generation body) (spell_records written f.records) (CLOSED ∷ []));
+      };
+    }
+
+-- ---- what is done meanwhile
+
+-- Deeds that take only safe tuples are noted.
+pub notes : (s : Successor) (since : Tail) (records : ℕ) (front more : List ℕ) (st new : State) (ds : List Deed) → IsState st → GoesOn st ds new → ((id : ℕ) → is_taken id ds ≡ true → IsSafeFor s st.bag id) → Follows s front st
+    → AreRecords written ds more → since.bytes.items ≡ s.since.bytes.items ++ more → since.written ≡ s.since.written → Follows (with_since s since records) front new
+notes s since records front more st new ds ranges goes safe f are bytes passed = record {
+  begun = f.begun;
+  ranges = f.ranges;
+  short = f.short;
+  low = f.low;
+  high = f.high;
+  records = f.records ++ are.records;
+  good = All-append (IsRecord written) f.records are.records f.good are.good;
+  done = subst (λ l. AreDone f.begun l new) (ap (λ l. deeds_in f.records ++ l) (sym are.are.all) ∙ sym (flat_map-append (λ (r : List Deed). r) f.records are.records)) (goes f.begun (deeds_in f.records) f.ranges f.done);
+  tail = f.tail;
+  left = f.left ++ more;
+  spelled = bytes ∙ ap (λ l. l ++ more) f.spelled ∙ ap (λ l. spell_records written f.records ++ l) are.bytes_are ∙ sym (flat_map-append (spell_record written) f.records are.records);
+  parts = bytes ∙ ap (λ l. l ++ more) f.parts ∙ append_assoc f.tail f.left more;
+  place = passed ∙ f.place;
+  body = f.body;
+  front_is = f.front_is;
+  owes = by s.draft f.owes safe;
+  whole = f.whole;
+}
+  where
+    after : IsAfter st ds new
+    after = (goes st [] ranges (none_done st ranges)).after
+
+    by : (o : Option Draft) → IfSome o (OwesAll f.begun f.body f.tail st) → ((id : ℕ) → is_taken id ds ≡ true → IfSome o (λ d. IsSafe d st.bag id))
+        → IfSome o (OwesAll f.begun f.body f.tail new)
+    by None owes safe = tt
+    by (Some d) owes safe = (owes_after f.begun d f.body st ds new owes.0 owes.1 after safe, omega (arith, owes.1, after.next), owes.2)

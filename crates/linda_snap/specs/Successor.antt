@@ -1,0 +1,70 @@
+-- A new bank that is written in steps while its server goes on: what stands behind its first gate,
+-- and what is still to come.
+use Rattle.std.specs.Prelude.{◌≡◌, ◌≤◌, ◌<◌, ◌^◌, ◌++◌, ℕ, List, [], All, length, IfSome, IfNone}
+use Rattle.linda_codec.specs.Formats.{number, short_number}
+use Rattle.linda_store_state.specs.declared.deed.Deed.{Deed}
+use Rattle.linda_store_state.specs.DeedFormat.{written}
+use Rattle.linda_store_state.specs.State.{State, IsState}
+use Rattle.linda_store_state.specs.Proper.{AreDone}
+use Rattle.linda_journal.specs.Bank.{magic}
+use Rattle.linda_journal.specs.Records.{IsRecord, spell_records}
+use Rattle.linda_journal.specs.Renewal.{IsLast}
+use Rattle.linda_snap.specs.declared.successor.Successor.{Successor}
+use Rattle.linda_snap.specs.declared.successor.Part.{Part}
+use Rattle.linda_snap.specs.declared.successor.Part.TheVariants.{More, Last}
+use Rattle.linda_snap.specs.Draft.{Tuples, Owes, IsSafe, IsThrough}
+use Rattle.linda_snap.specs.Snapshot.{spell_state, FitsState}
+use Rattle.linda_snap.specs.Stands.{deeds_in}
+
+-- What is written first: the letters, the generation and the length of the snapshot.
+abbrev pub heading : ℕ → ℕ → List ℕ
+heading generation len = magic written ++ (number.spell generation ++ short_number.spell len)
+
+-- Behind the first gate of the new bank `front` is written, and the server is in the state `st`:
+pub record Follows (s : Successor) (front : List ℕ) (st : State) : Type 0 where
+  -- it began in this state,
+  pub begun : State
+  pub ranges : IsState begun
+  pub short : length (spell_state written begun) < 2 ^ 32
+  pub low : 1 ≤ s.generation
+  pub high : s.generation < 2 ^ 64
+  -- and what was done since is in these records, of whose bytes the `tail` is written.
+  pub records : List (List Deed)
+  pub good : All (IsRecord written) records
+  pub done : AreDone begun (deeds_in records) st
+  pub tail : List ℕ
+  pub left : List ℕ
+  pub spelled : s.since.bytes.items ≡ spell_records written records
+  pub parts : s.since.bytes.items ≡ tail ++ left
+  pub place : s.since.written ≡ length tail
+  -- The heading is written, a body and then the tail.
+  pub body : List ℕ
+  pub front_is : front
+      ≡ heading s.generation (length (spell_state written begun)) ++ (body ++ tail)
+  -- The draft owes the rest of the body; once there is none, the body is the whole snapshot.
+  pub owes : IfSome s.draft (λ d. Owes begun d body st.bag × (d.next ≤ st.next) × (tail ≡ []))
+  pub whole : IfNone s.draft ((body ≡ spell_state written begun) × FitsState written begun)
+
+-- All tuples of the snapshot are written.
+pub record IsBehindTuples (s : Successor) (front : List ℕ) (st : State) : Type 0 where
+  pub follows : Follows s front st
+  pub through : IfSome s.draft (λ d. IsThrough follows.begun d)
+
+-- The tuple of this id may be taken.
+abbrev pub IsSafeFor : Successor → Tuples → ℕ → Type 0
+IsSafeFor s now id = IfSome s.draft (λ d. IsSafe d now id)
+
+-- With these last bytes behind what is written all of the new bank is there, and it stands for the
+-- state.
+pub record Completes (s : Successor) (front bytes : List ℕ) (st : State) : Type 0 where
+  pub begun : State
+  pub ranges : IsState begun
+  pub fits : FitsState written begun
+  pub records : List (List Deed)
+  pub done : AreDone begun (deeds_in records) st
+  pub last : IsLast s.generation (spell_state written begun) records front bytes
+
+-- These bytes are to be written next: more of the bank, or the last ones.
+abbrev pub IsNext : Part → Successor → List ℕ → State → Type 0
+IsNext (More bytes) s front st = Follows s (front ++ bytes.items) st
+IsNext (Last bytes) s front st = Completes s front bytes.items st

@@ -1,0 +1,273 @@
+//! A new bank that is written in steps while its server goes on: a snapshot of the state in which it
+//! began, and behind it the records of what was done since. `specs/Successor` says what is written,
+//! and what is still to come.
+
+ghost use Rattle.std.specs.Prelude.{◌≡◌, ◌≤◌, ◌<◌, ◌^◌, ◌*◌, ◌+◌, ◌++◌, ◌⊎◌, ℕ, List, length, None};
+ghost use Rattle.std.specs.Prelude.{true, OnOk, IfOk, IfErr, IsErrOf, IfSome, IfNone};
+ghost use Rattle.linda_journal.specs.declared.limits.TheConstants.{MIN_BYTES};
+ghost use Rattle.linda_journal.specs.declared.limits.TheConstants.{MAX_DEEDS, MAX_RECORDS};
+ghost use Rattle.linda_store_state.specs.State as states;
+ghost use Rattle.linda_store_state.specs.State.{IsState};
+ghost use Rattle.linda_store_state.specs.Deed.{is_taken};
+ghost use Rattle.linda_store_state.specs.DeedFormat.{written};
+ghost use Rattle.linda_snap.specs.Replay.{GoesOn};
+ghost use Rattle.linda_snap.specs.Snapshot.{spell_state};
+ghost use Rattle.linda_snap.specs.Successor.{Follows, IsBehindTuples, IsSafeFor, IsNext, heading};
+
+use crate::draft::Draft;
+use crate::renewal::SwitchFault;
+use crate::tail::Tail;
+use linda_bag::Bag;
+use linda_journal::{CLOSED, MIN_BYTES, push_heading, records_for, spell_deeds};
+use linda_store_state::{BANK_FORM, Deed, State};
+use std::alloc::{AllocError, Global};
+use std::mem;
+
+/// A new bank that is written in steps.
+#[derive(Drop)]
+pub struct Successor {
+    generation: u64,
+    // The most bytes that the bank may take, and how many its snapshot has.
+    limit: usize,
+    len: usize,
+    // The snapshot, until all of it is written.
+    draft: Option<Draft>,
+    // The records of what was done since it began, and how many they are.
+    since: Tail,
+    records: usize,
+}
+
+/// What is to be written next.
+#[derive(Drop)]
+pub enum Part {
+    /// These bytes, and then more.
+    More(Vec<u8>),
+    /// The last bytes, up to the closed gate of the journal.
+    Last(Vec<u8>),
+}
+
+impl Successor {
+    /// Begins a bank of this generation and limit with a snapshot of the state. Returns it with the
+    /// first bytes behind its first gate, which are to be written. It walks over the clients, and
+    /// over no tuple.
+    ///
+    /// # Errors
+    ///
+    /// `BankFull` exactly if a bank with this snapshot would be longer than the limit; else
+    /// `Memory` if memory runs out.
+    pub fn begin<B: Bag>(
+        alloc: Global,
+        state: &State<B>,
+        generation: u64,
+        limit: usize,
+    ) -> Result<(Successor, Vec<u8>), SwitchFault>
+        requires ranges { IsState state.now }
+        requires low { 1 ≤ generation }
+        requires short { limit < 2 ^ 32 }
+        ensures follows { IfOk result (λ x. Follows x.0 x.1.items state.now) }
+        ensures generation { IfOk result (λ x. x.0.generation ≡ generation) }
+        ensures room { OnOk result (MIN_BYTES + 1 + length (spell_state written state.now)
+            ≤ limit) }
+        ensures full { IsErrOf result SwitchFault.BankFull
+            → limit < MIN_BYTES + 1 + length (spell_state written state.now) }
+        ensures fault { IfErr result (λ fault. (fault ≡ SwitchFault.BankFull)
+            ⊎ (fault ≡ SwitchFault.Memory)) }
+    {
+        match Draft::begin(alloc, state, limit) {
+            Err(fault) => Err(fault),
+            Ok((draft, first)) => {
+                let len = draft.len();
+                match spell_start(alloc, generation, len, &first) {
+                    Err(_) => Err(SwitchFault::Memory),
+                    Ok(bytes) => {
+                        let begun = Successor {
+                            generation,
+                            limit,
+                            len,
+                            draft: Some(draft),
+                            since: Tail::new(alloc),
+                            records: 0,
+                        };
+                        Ok((begun, bytes))
+                    }
+                }
+            }
+        }
+    }
+
+    /// The generation of the bank.
+    pub fn generation(&self) -> u64
+        ensures { result ≡ self.now.generation }
+    {
+        self.generation
+    }
+
+    /// How many records the bank has at its end.
+    pub fn records(&self) -> usize
+        ensures { result ≡ self.now.records }
+    {
+        self.records
+    }
+
+    /// Puts aside a copy of the tuple of this id, if it is there and the snapshot owes it: then it
+    /// may be taken.
+    ///
+    /// # Errors
+    ///
+    /// `AllocError` if memory runs out; nothing changed.
+    pub fn put_aside<B: Bag>(
+        &mut self,
+        alloc: Global,
+        state: &State<B>,
+        id: u64,
+    ) -> Result<(), AllocError>
+        ensures follows { (front : List ℕ)
+            → Follows self.old front state.now → Follows self.new front state.now }
+        ensures aside { OnOk result (IsSafeFor self.new state.now.bag id) }
+        ensures others { (q : ℕ) → IsSafeFor self.old state.now.bag q
+            → IsSafeFor self.new state.now.bag q }
+        ensures generation { self.new.generation ≡ self.old.generation }
+    {
+        match &mut self.draft {
+            None => Ok(()),
+            Some(draft) => draft.put_aside(alloc, state, id),
+        }
+    }
+
+    /// Notes what was done in one call of the server; returns whether that could be noted. It
+    /// cannot if a deed has no spelling in the form of new banks, or if the bank would pass its
+    /// limit.
+    ///
+    /// # Errors
+    ///
+    /// `AllocError` if memory runs out.
+    pub fn note(&mut self, alloc: Global, deeds: &[Deed]) -> Result<bool, AllocError>
+        requires few { length deeds.now ≤ MAX_DEEDS * MAX_RECORDS }
+        ensures noted { (front : List ℕ) (st new : states.State)
+            → IsState st → GoesOn st deeds.now new
+            → ((id : ℕ) → is_taken id deeds.now ≡ true → IsSafeFor self.old st.bag id)
+            → Follows self.old front st
+            → IfOk result (λ is_noted. is_noted ≡ true → Follows self.new front new) }
+        ensures generation { self.new.generation ≡ self.old.generation }
+    {
+        let Some(bytes) = spell_deeds(alloc, BANK_FORM, deeds)? else {
+            return Ok(false);
+        };
+        if !has_room(self.limit, self.len, self.since.len(), bytes.len()) {
+            return Ok(false);
+        }
+        self.since.extend(&bytes)?;
+        self.records = self.records.saturating_add(records_for(deeds.len()));
+        Ok(true)
+    }
+
+    /// The next bytes, about so many at most, which are to be written behind those before.
+    ///
+    /// # Errors
+    ///
+    /// `AllocError` if memory runs out.
+    pub fn next<B: Bag>(
+        &mut self,
+        alloc: Global,
+        state: &State<B>,
+        most: usize,
+    ) -> Result<Part, AllocError>
+        ensures next { (front : List ℕ) → Follows self.old front state.now
+            → IfOk result (λ part. IsNext part self.new front state.now) }
+        ensures generation { self.new.generation ≡ self.old.generation }
+    {
+        match self.next_tuples(alloc, state, most)? {
+            Some(bytes) => Ok(Part::More(bytes)),
+            None => match self.take_clients() {
+                Some(bytes) => Ok(Part::More(bytes)),
+                None => self.next_records(alloc, most),
+            },
+        }
+    }
+
+    // The next tuples of the snapshot; nothing if all are written.
+    fn next_tuples<B: Bag>(
+        &mut self,
+        alloc: Global,
+        state: &State<B>,
+        most: usize,
+    ) -> Result<Option<Vec<u8>>, AllocError>
+        ensures some { (front : List ℕ) → Follows self.old front state.now
+            → IfOk result (λ o. IfSome o (λ bytes.
+            Follows self.new (front ++ bytes.items) state.now)) }
+        ensures none { (front : List ℕ) → Follows self.old front state.now
+            → IfOk result (λ o. IfNone o (IsBehindTuples self.new front state.now)) }
+        ensures generation { self.new.generation ≡ self.old.generation }
+    {
+        match &mut self.draft {
+            None => Ok(None),
+            Some(draft) => draft.spell_next(alloc, state, most),
+        }
+    }
+
+    // The clients of the snapshot, which end it; nothing if it has ended.
+    fn take_clients(&mut self) -> Option<Vec<u8>>
+        ensures some { (front : List ℕ) (st : states.State) → IsBehindTuples self.old front st
+            → IfSome result (λ bytes. Follows self.new (front ++ bytes.items) st) }
+        ensures none { (front : List ℕ) (st : states.State) → IsBehindTuples self.old front st
+            → IfNone result (Follows self.new front st) }
+        ensures ended { self.new.draft ≡ None }
+        ensures generation { self.new.generation ≡ self.old.generation }
+    {
+        match mem::replace(&mut self.draft, None) {
+            None => None,
+            Some(draft) => Some(draft.into_book()),
+        }
+    }
+
+    // The next records, so many bytes of them; with the last ones the closed gate.
+    fn next_records(&mut self, alloc: Global, most: usize) -> Result<Part, AllocError>
+        requires { self.old.draft ≡ None }
+        ensures next { (front : List ℕ) (st : states.State) → Follows self.old front st
+            → IfOk result (λ part. IsNext part self.new front st) }
+        ensures generation { self.new.generation ≡ self.old.generation }
+    {
+        let left = self.since.left();
+        let mut bytes = Vec::new(alloc);
+        if left.len() > most {
+            let (piece, _) = left.split_at(most);
+            bytes.extend_from_slice(piece)?;
+            self.since.pass(most);
+            return Ok(Part::More(bytes));
+        }
+        bytes.extend_from_slice(left)?;
+        bytes.push(CLOSED)?;
+        Ok(Part::Last(bytes))
+    }
+}
+
+// What stands first behind the first gate.
+fn spell_start(
+    alloc: Global,
+    generation: u64,
+    len: usize,
+    first: &[u8],
+) -> Result<Vec<u8>, AllocError>
+    requires { len < 2 ^ 32 }
+    ensures { IfOk result (λ v. v.items ≡ heading generation len ++ first.now) }
+{
+    let mut bytes = Vec::new(alloc);
+    push_heading(&mut bytes, generation, len)?;
+    bytes.extend_from_slice(first)?;
+    Ok(bytes)
+}
+
+// Whether a bank whose snapshot has so many bytes, and its records so many and then so many more,
+// keeps within the limit.
+fn has_room(limit: usize, len: usize, since: usize, more: usize) -> bool {
+    let Some(all) = since.checked_add(more) else {
+        return false;
+    };
+    let Some(all) = all.checked_add(len) else {
+        return false;
+    };
+    let Some(all) = all.checked_add(MIN_BYTES + 1) else {
+        return false;
+    };
+    all <= limit
+}

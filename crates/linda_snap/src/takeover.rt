@@ -1,0 +1,79 @@
+//! The end of a new bank that was written in steps: it is taken into use.
+
+ghost use Rattle.std.specs.Prelude.{◌≡◌, ◌+◌, ◌↔◌, ℕ, List, true, false, IfOk, IfErr};
+ghost use Rattle.linda_store_state.specs.DeedFormat.{written};
+ghost use Rattle.linda_store_state.specs.State as states;
+ghost use Rattle.linda_disk.specs.Disk.{TellsFailures};
+ghost use Rattle.linda_disk.specs.Run.{LeavesOnly};
+ghost use Rattle.linda_journal.specs.Renewal.{IsFilled};
+ghost use Rattle.linda_snap.specs.Stands.{IsStored, IsUp, StandsBeside};
+ghost use Rattle.linda_snap.specs.Successor.{Completes};
+
+use crate::successor::Successor;
+use linda_disk::{Disk, DiskFault};
+use linda_journal::{Bank, Filling};
+
+/// Writes the last bytes of a new bank behind those before, opens its first gate, and gives it,
+/// with the disk of the bank that was in use. That disk is not touched.
+///
+/// # Errors
+///
+/// `Device` if the device failed, and `Memory` if the disk found none: the bank that was in use is
+/// handed back spent, and both disks are to be opened again.
+pub fn take_over<D: Disk>(
+    current: Bank<D>,
+    filling: Filling<D>,
+    next: &Successor,
+    bytes: &[u8],
+) -> Result<(Bank<D>, D), (DiskFault, Bank<D>, D)>
+    requires { next.now.generation ≡ current.generation + 1 }
+    // At no moment a crash leaves anything on the other disk but what stands, beside the bank in
+    // use, for the state;
+    ensures any_moment { (front : List ℕ) (st : states.State)
+        → D.honest current.disk → D.honest filling.disk
+        → IsUp current.form current.generation current.end (D.view current.disk)
+        (D.view filling.disk) st
+        → IsFilled front filling.at (D.view filling.disk)
+        → Completes next.now front bytes.now st
+        → IfOk result (λ x. LeavesOnly (D.view filling.disk) (D.view x.0.disk)
+        (StandsBeside (D.view current.disk).seen st))
+        × IfErr result (λ e. LeavesOnly (D.view filling.disk) (D.view e.2)
+        (StandsBeside (D.view current.disk).seen st)) }
+    // at Ok the new bank is in use, and stands for it,
+    ensures done { (front : List ℕ) (st : states.State)
+        → D.honest current.disk → D.honest filling.disk
+        → IsUp current.form current.generation current.end (D.view current.disk)
+        (D.view filling.disk) st
+        → IsFilled front filling.at (D.view filling.disk)
+        → Completes next.now front bytes.now st
+        → IfOk result (λ x.
+        IsUp x.0.form x.0.generation x.0.end (D.view x.0.disk) (D.view x.1) st) }
+    // on its own disk, whatever the disk is that was in use.
+    ensures stored { (front : List ℕ) (st : states.State)
+        → (D.honest filling.disk → IsFilled front filling.at (D.view filling.disk))
+        → Completes next.now front bytes.now st
+        → IfOk result (λ x. D.honest x.0.disk
+        → IsStored x.0.form x.0.generation x.0.end (D.view x.0.disk) st) }
+    ensures new { IfOk result (λ x. (x.0.form ≡ written) × (x.0.generation ≡ current.generation + 1)
+        × (x.0.limit ≡ current.limit) × (x.0.is_spent ≡ false)) }
+    // The disk that was in use is not touched.
+    ensures same { IfOk result (λ x. x.1 ≡ current.disk)
+        × IfErr result (λ e. e.1.disk ≡ current.disk) }
+    ensures spent { IfErr result (λ e. e.1.is_spent ≡ true) }
+    ensures honest { IfOk result (λ x. D.honest filling.disk ↔ D.honest x.0.disk)
+        × IfErr result (λ e. D.honest filling.disk ↔ D.honest e.2) }
+    // The count of failures rises if the device is reported to have failed, and only then.
+    ensures cause { IfErr result (λ e. TellsFailures DiskFault.Device e.0
+        (D.failures filling.disk) (D.failures e.2)) }
+    ensures steady { IfOk result (λ x. D.failures x.0.disk ≡ D.failures filling.disk) }
+{
+    let limit = current.limit();
+    match filling.finish(bytes, next.generation(), limit, next.records()) {
+        Ok(bank) => Ok((bank, current.into_disk())),
+        Err((fault, other)) => {
+            let mut current = current;
+            current.retire();
+            Err((fault, current, other))
+        }
+    }
+}
