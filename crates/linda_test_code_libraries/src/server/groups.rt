@@ -135,21 +135,23 @@ fn a_record_has_64_deeds_of_a_group(rt: HostRuntime) -> Result<(), AllocError> {
     Ok(())
 }
 
+/// What comes of a group of so many puts at a new server of this limit, and how many tuples there
+/// are then.
+fn served(
+    alloc: Global,
+    limit: usize,
+    count: u64,
+) -> Result<(Result<(), ServeFault>, usize), AllocError> {
+    let mut server = with_one(alloc, limit)?;
+    let told = serve_group(alloc, &mut server, count)?;
+    Ok((told, server.state().bag.len()))
+}
+
 #[test]
 fn a_group_needs_room_for_all_its_records(rt: HostRuntime) -> Result<(), AllocError> {
     // Three records of 130 puts, and the gate behind them, end at 65 + 15 + 3,510 + 1 bytes.
-    let mut server = with_one(rt.alloc(), 3_591)?;
-    let told = serve_group(rt.alloc(), &mut server, 130)?;
-    assert_eq!(rt; told, Ok(()));
-    let mut server = with_one(rt.alloc(), 3_590)?;
-    let told = serve_group(rt.alloc(), &mut server, 130)?;
-    assert_eq!(rt; told, Err(ServeFault::Full));
-    assert_eq!(rt;
-        (server.records(), server.used(), server.state().bag.len()),
-        (1, 65, 1)
-    );
-    let told = serve_group(rt.alloc(), &mut server, 129)?;
-    assert_eq!(rt; told, Ok(()));
-    assert_eq!(rt; server.state().bag.len(), 130);
+    assert_eq!(rt; served(rt.alloc(), 3_591, 130)?, (Ok(()), 131));
+    assert_eq!(rt; served(rt.alloc(), 3_590, 130)?, (Err(ServeFault::Full), 1));
+    assert_eq!(rt; served(rt.alloc(), 3_590, 129)?, (Ok(()), 130));
     Ok(())
 }
