@@ -39,6 +39,24 @@ fn serve(
     }
 }
 
+/// Six tuples of client 1.
+fn put_six(alloc: Global, server: &mut Durable<MemDisk>) -> Result<(), AllocError> {
+    for n in 1..=6 {
+        let message = put(alloc, n, n as i64)?;
+        serve(alloc, server, 1, &message)?;
+    }
+    Ok(())
+}
+
+/// Client 1 is offered the first five of them, in order.
+fn offer_five(alloc: Global, server: &mut Durable<MemDisk>) -> Result<(), AllocError> {
+    for ticket in 1..=5 {
+        let message = ask(alloc, ticket, true, Pattern::Any)?;
+        serve(alloc, server, 1, &message)?;
+    }
+    Ok(())
+}
+
 /// A server with six tuples of client 1, of which it is offered the first five in order. Its right
 /// disk stops inside the call of this number.
 fn with_six(alloc: Global, at: u64) -> Result<Durable<MemDisk>, AllocError> {
@@ -46,19 +64,14 @@ fn with_six(alloc: Global, at: u64) -> Result<Durable<MemDisk>, AllocError> {
     let Ok(mut server) = made else {
         return Err(AllocError);
     };
-    for n in 1..=6 {
-        serve(alloc, &mut server, 1, &put(alloc, n, n as i64)?)?;
-    }
+    put_six(alloc, &mut server)?;
     let (left, mut right) = server.into_disks();
     // (an opening syncs the disk once)
     right.fuse(at.saturating_add(1));
     let Ok(mut server) = Durable::open(alloc, left, right, LIMIT) else {
         return Err(AllocError);
     };
-    for ticket in 1..=5 {
-        let message = ask(alloc, ticket, true, Pattern::Any)?;
-        serve(alloc, &mut server, 1, &message)?;
-    }
+    offer_five(alloc, &mut server)?;
     Ok(server)
 }
 
