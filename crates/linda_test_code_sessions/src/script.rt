@@ -2,10 +2,10 @@
 //!
 //! `greet hello 2 7 fresh` greets; `7 out 1 ("a", 3)` submits a message of client 7, and
 //! `all 7 out 1 ("a", 3); 7 cancel 2` several at once; `leave 7`, `pays`, `snapshot`; `begin` and
-//! `step` for one in steps; and `finish 7 8`, which gives both seats back; `wait 7` waits until client 7 has a reply, or none will come,
-//! and `mailboxes` counts. What comes of a line is written: `7 did 1` of a receipt for message 1,
-//! whether a snapshot pays, a fault in words, and then all replies that are there, session by
-//! session.
+//! `step` for one in steps; and `finish 7 8`, which gives both seats back; `wait 7` waits until
+//! client 7 has a reply, or none will come, and `mailboxes` counts. What comes of a line is written:
+//! `7 did 1` of a receipt for message 1, whether a snapshot pays, a fault in words, and then all
+//! replies that are there, session by session.
 
 ghost use Rattle.std.specs.Prelude.{◌≡◌, ◌≤◌, ◌<◌, true, length, All, IfOk};
 ghost use Rattle.linda_store_step.specs.declared.size.TheConstants.{MAX_BATCH};
